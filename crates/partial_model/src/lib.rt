@@ -8,5 +8,5 @@ pub mod history;
 pub mod sequence;
 
 pub use call::{Answer, Call, Called, Finish, Note, Refused};
-pub use history::{Applied, Opening};
+pub use history::{Applied, Opening, stamp_at, value_at};
 pub use sequence::Sequence;
