@@ -6,11 +6,18 @@ use crate::sequence::Sequence;
 #[derive(Debug, Drop)]
 pub enum Call {
     /// Set one component.
-    Update { component: u32, value: u64 },
+    Update {
+        component: u32,
+        value: u64,
+    },
     /// Read several components as they stood together at one moment. Repeats are allowed.
-    Scan { components: Sequence<u32> },
+    Scan {
+        components: Sequence<u32>,
+    },
     /// Read one component.
-    Read { component: u32 },
+    Read {
+        component: u32,
+    },
     /// Set one component if its stamp is the expected one.
     UpdateIf {
         component: u32,
@@ -34,9 +41,13 @@ pub enum Refused {
 #[derive(Debug, Drop)]
 pub enum Answer {
     /// The update was applied, and its record has this stamp.
-    Applied { stamp: u64 },
+    Applied {
+        stamp: u64,
+    },
     /// The update was overwritten by the one with this stamp before anyone could see it.
-    Lost { by: u64 },
+    Lost {
+        by: u64,
+    },
     /// The values that stood together, in the order of the call's positions, the number of collects
     /// made, and the stamp of the record whose view was borrowed, if one was.
     Scanned {
@@ -45,11 +56,18 @@ pub enum Answer {
         borrowed: Option<u64>,
     },
     /// The component's value and stamp.
-    Read { value: u64, stamp: u64 },
+    Read {
+        value: u64,
+        stamp: u64,
+    },
     /// The call was refused.
-    Refused { cause: Refused },
+    Refused {
+        cause: Refused,
+    },
     /// The component had this stamp in place of the expected one.
-    Changed { by: u64 },
+    Changed {
+        by: u64,
+    },
 }
 
 /// Where in the history a finished call has its place.
