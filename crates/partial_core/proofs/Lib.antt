@@ -1,1 +1,6 @@
+pub mod Frames
+pub mod ListLemmas
+pub mod PartLemmas
+pub mod Rebuild
 pub mod StepCounts
+pub mod StepLaw

@@ -113,7 +113,7 @@ IsStage z (Finished r) = ⊤
 abbrev pub IsPossibleAt : Layout → Stage → ℕ → Type 0
 IsPossibleAt z Idle x = ⊥
 IsPossibleAt z (ReadBegun j) x = IsRecord z x
-IsPossibleAt z (LoadingValue stamp) x = x < 2 ^ 64
+IsPossibleAt z (LoadingValue stamp) x = ⊤
 IsPossibleAt z (UpdateBegun c) x = IsRecord z x
 IsPossibleAt z (LoadingListHead c old) x = x ≡ 0
 IsPossibleAt z (LoadingSlotCounter c old) x = x ≡ 0

@@ -1,5 +1,6 @@
 -- What one entry more does to the last entry for a component.
 use Rattle.std.proofs.Common.{ℕ, zero, suc, ◌≡◌, ◌+◌, ◌-◌, ◌<◌, ◌≤◌, ◌==◌, ◌++◌, ◌⊎◌, Bool, true, false, cond, List, [], ◌∷◌, length, take, get_or, refl, sym, ◌∙◌, ap, inl, inr, Option, Some, None, slice_get, arith}
+use Rattle.std.specs.List.{AllByRecursion}
 use Rattle.std.specs.Option.{option_map_or}
 use Rattle.std.proofs.lemmas.Bool.{eq-eqb, ne_eqb, cases_lt}
 use Rattle.std.proofs.lemmas.Bool.Decides.{eqb_tells}
@@ -115,3 +116,16 @@ overtaken_at o h j a changed =
           behind = elim (cases_lt l.place a) [ inl before ↦ absurd (changed (stamp_found o j h (Some l.entry) last ∙ sym (stamp_found o j (take a h) (Some l.entry) (l.from a before)))) | inr after ↦ after ]
         }
     ]
+
+-- what holds of each entry's stamp and of the initial one holds of a component's stamp
+stamp_all_step : (P : ℕ → Type 0) (first : ℕ) (found : Option Applied) (x : Applied) (b : Bool) → P x.stamp → P (option_map_or (λ (e : Applied). e.stamp) found first) → P (option_map_or (λ (e : Applied). e.stamp) (cond b (Some x) found) first)
+stamp_all_step P first found x true p w = p
+stamp_all_step P first found x false p w = w
+
+stamp_all_from : (P : ℕ → Type 0) (first j : ℕ) (found : Option Applied) (h : List Applied) → AllByRecursion (λ (e : Applied). P e.stamp) h → P (option_map_or (λ (e : Applied). e.stamp) found first) → P (option_map_or (λ (e : Applied). e.stamp) (last_from found j h) first)
+unfolding last_from
+stamp_all_from P first j found [] all w = w
+stamp_all_from P first j found (x ∷ h) all w = stamp_all_from P first j (cond (x.component == j) (Some x) found) h all.1 (stamp_all_step P first found x (x.component == j) all.0 w)
+
+pub stamp_all : (P : ℕ → Type 0) (o : Opening) (j : ℕ) (h : List Applied) → AllByRecursion (λ (e : Applied). P e.stamp) h → P (initial_stamp o j) → P (stamp_of o h j)
+stamp_all P o j h all first = stamp_all_from P (initial_stamp o j) j None h all first

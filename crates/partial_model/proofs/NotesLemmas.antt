@@ -12,7 +12,7 @@ use Rattle.partial_model.specs.declared.call.Answer.TheVariants as answer
 use Rattle.partial_model.specs.declared.call.Note.{Note}
 use Rattle.partial_model.specs.declared.call.Note.TheVariants as note
 use Rattle.partial_model.specs.History.{IsHistory, HaveDistinctStamps, value_of, stamp_of, initial_stamp}
-use Rattle.partial_model.specs.Notes.{Noted, Fits, IsEntryFor, SawTogether, IsTrueOf, IsLegal, LegalNotes, seen_after, place_of, shown_by}
+use Rattle.partial_model.specs.Notes.{Noted, Fits, IsEntryFor, SawTogether, IsTrueOf, IsLegal, LegalNotes, seen_after, seen_by, place_of, shown_by}
 use Rattle.partial_model.proofs.HistoryLemmas.{place_below}
 use Rattle.partial_model.specs.Outcome.{wrote, places_by, places_written}
 
@@ -66,11 +66,6 @@ pub LegalNotes-grows : (o : Opening) (h es : List Applied) (p seen : ℕ) (ns : 
 LegalNotes-grows o h es p seen [] w = w
 LegalNotes-grows o h es p seen (n ∷ ns) w =
     ((w.0.0, legal_note_grows o h es p seen n.call n.answer n.note w.0.1), LegalNotes-grows o h es p (seen_after seen n.note) ns w.1)
-
--- how many entries the notes show, where so many were seen before
-abbrev pub seen_by : ℕ → List Noted → ℕ
-seen_by seen [] = seen
-seen_by seen (n ∷ ns) = seen_by (seen_after seen n.note) ns
 
 pub seen_by-push : (seen : ℕ) (ns : List Noted) (n : Noted) → seen_by seen (ns ++ n ∷ []) ≡ seen_after (seen_by seen ns) n.note
 seen_by-push seen [] n = refl
