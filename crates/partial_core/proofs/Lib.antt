@@ -4,3 +4,5 @@ pub mod PartLemmas
 pub mod Rebuild
 pub mod StepCounts
 pub mod StepLaw
+pub mod StepLoads
+pub mod StepWrites
