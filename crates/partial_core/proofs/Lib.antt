@@ -6,3 +6,4 @@ pub mod StepCounts
 pub mod StepLaw
 pub mod StepLoads
 pub mod StepWrites
+pub mod StepExchange

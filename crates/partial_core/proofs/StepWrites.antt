@@ -39,19 +39,19 @@ use Rattle.partial_core.proofs.StepLaw.{IsGoing, gone, gone_core, known_gone, kn
 use Rattle.partial_core.proofs.StepLoads.{LeadsAt, known_here, tied_here, seen_here, nothing_added, stamp_now, stamp_then, record_now, sizes_here, words_here, stage_here, possible_here, possible_at, stamp_here, leads_here, going_here, knows_here, ends, same_length, written_same}
 
 -- the record of a part whose machine is at that stage
-own_is : (x : Part) (t : CoreState) → core_of x ≡ t → own_of x ≡ own_at t.stage
+pub own_is : (x : Part) (t : CoreState) → core_of x ≡ t → own_of x ≡ own_at t.stage
 own_is x t e = ap (λ (s : CoreState). own_at s.stage) e
 
-own_here : (P : Own → Type 0) (x : Part) (b : Own) → own_of x ≡ Some b → P b → IfSome (own_of x) P
+pub own_here : (P : Own → Type 0) (x : Part) (b : Own) → own_of x ≡ Some b → P b → IfSome (own_of x) P
 own_here P x b e p = subst (λ (f : Option Own). IfSome f P) (sym e) p
 
-blocks_here : (x v : Part) (b : Own) → own_of x ≡ Some b → IfSome (own_of v) (λ a. AreApart b.at a.at) → HaveOtherBlocks x v
+pub blocks_here : (x v : Part) (b : Own) → own_of x ≡ Some b → IfSome (own_of v) (λ a. AreApart b.at a.at) → HaveOtherBlocks x v
 blocks_here x v b e p = own_here (λ (a : Own). IfSome (own_of v) (λ d. AreApart a.at d.at)) x b e p
 
-blocks_of : (x v : Part) (b : Own) → own_of x ≡ Some b → HaveOtherBlocks x v → IfSome (own_of v) (λ a. AreApart b.at a.at)
+pub blocks_of : (x v : Part) (b : Own) → own_of x ≡ Some b → HaveOtherBlocks x v → IfSome (own_of v) (λ a. AreApart b.at a.at)
 blocks_of x v b e h = if_some_at (λ (a : Own). IfSome (own_of v) (λ d. AreApart a.at d.at)) (own_of x) b e h
 
-no_own : (P : Own → Type 0) (x : Part) → own_of x ≡ None → IfSome (own_of x) P
+pub no_own : (P : Own → Type 0) (x : Part) → own_of x ≡ None → IfSome (own_of x) P
 no_own P x e = subst (λ (f : Option Own). IfSome f P) (sym e) tt
 
 module _ (z : Layout) (o : Opening) (words : List ℕ) (before : List Part) (x : Part) (after : List Part) (log : List Applied) (w : Lawful z o words (before ++ x ∷ after) log) where
