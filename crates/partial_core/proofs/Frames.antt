@@ -1,15 +1,15 @@
 -- What a write to one word leaves: chains elsewhere, and the records that other ports write.
-use Rattle.std.proofs.Common.{ℕ, ◌≡◌, ◌≢◌, ◌+◌, ◌*◌, ◌<◌, ◌≤◌, ◌⊎◌, ◌==◌, ◌++◌, Bool, true, false, cond, List, [], ◌∷◌, length, take, get_or, set, Option, Some, None, IfSome, refl, sym, ◌∙◌, ap, subst, inl, inr, arith, get_or-set_other}
+use Rattle.std.proofs.Common.{ℕ, ◌≡◌, ◌≢◌, ◌+◌, ◌*◌, ◌<◌, ◌≤◌, List, length, get_or, set, Option, Some, None, IfSome, refl, sym, ◌∙◌, subst, inl, inr, arith, get_or-set_other}
 use Rattle.std.specs.List.{AllByRecursion}
 use Rattle.partial_model.specs.declared.history.Applied.{Applied}
 use Rattle.partial_model.specs.declared.history.Opening.{Opening}
 use Rattle.partial_model.specs.History.{initial_stamp, stamp_of}
 use Rattle.partial_model.proofs.HistoryLemmas.{stamp_all}
-use Rattle.partial_words.specs.Layout.{Layout, IsLayout, pool_counter, pool_base, pool_end}
+use Rattle.partial_words.specs.Layout.{Layout, pool_counter, pool_base}
 use Rattle.partial_words.specs.Chain.{Agrees, IsChain, chain_of}
 use Rattle.partial_words.proofs.ChainLemmas.{IsElsewhere, chain_kept, chain_all}
 use Rattle.partial_core.specs.Machine.{IsRecord}
-use Rattle.partial_core.specs.Lawful.{Part, Lawful, IsTied, IsOwn, Own, IsEntry, own_of, core_of, AreApart}
+use Rattle.partial_core.specs.Lawful.{Part, Lawful, IsTied, IsOwn, Own, IsEntry, own_of, AreApart}
 use Rattle.partial_core.proofs.ListLemmas.{all_weaker}
 
 -- what holds of the value in an option

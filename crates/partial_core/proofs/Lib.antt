@@ -7,3 +7,5 @@ pub mod StepLaw
 pub mod StepLoads
 pub mod StepWrites
 pub mod StepExchange
+pub mod AllSteps
+pub mod Opened

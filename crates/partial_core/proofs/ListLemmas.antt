@@ -1,5 +1,5 @@
 -- One element of a list in the place of another.
-use Rattle.std.proofs.Common.{ℕ, suc, ◌≡◌, ◌+◌, ◌==◌, ◌++◌, Bool, true, false, cond, List, [], ◌∷◌, length, refl, sym, ◌∙◌, ap, subst, arith}
+use Rattle.std.proofs.Common.{suc, ◌≡◌, ◌++◌, List, [], ◌∷◌, length, refl, ap}
 use Rattle.std.specs.List.{AllByRecursion}
 use Rattle.partial_core.specs.Lawful.{EachTwo}
 

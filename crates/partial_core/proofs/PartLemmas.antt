@@ -1,22 +1,20 @@
 -- What a port knows and writes, as the history grows and other ports make steps.
-use Rattle.std.proofs.Common.{ℕ, zero, suc, ◌≡◌, ◌≢◌, ◌+◌, ◌*◌, ◌<◌, ◌≤◌, ◌⊎◌, ◌==◌, ◌++◌, Bool, true, false, cond, List, [], ◌∷◌, length, take, get_or, set, Option, Some, None, IfSome, refl, sym, ◌∙◌, ap, subst, inl, inr, arith, length-append, length-take, min, get_or-set_other}
-use Rattle.std.specs.List.{AllByRecursion}
+use Rattle.std.proofs.Common.{ℕ, ◌≡◌, ◌+◌, ◌<◌, ◌≤◌, ◌==◌, ◌++◌, Bool, true, false, cond, List, [], ◌∷◌, length, take, Option, Some, None, refl, sym, ◌∙◌, ap, subst, arith, length-append, length-take, min}
 use Rattle.std.proofs.lemmas.Bool.{eqb-false, ltb-true}
 use Rattle.std.proofs.lemmas.List.{take-append-le}
 use Rattle.partial_model.specs.declared.history.Applied.{Applied}
 use Rattle.partial_model.specs.declared.history.Opening.{Opening}
 use Rattle.partial_model.specs.History.{stamp_of}
-use Rattle.partial_model.specs.Notes.{Noted, seen_by}
-use Rattle.partial_model.proofs.NotesLemmas.{LegalNotes-grows, LegalNotes-push, seen_by-push, AllByRecursion-push}
+use Rattle.partial_model.proofs.NotesLemmas.{LegalNotes-grows}
 use Rattle.partial_words.specs.declared.step.Step.{Step}
 use Rattle.partial_words.specs.declared.step.Step.TheVariants.{Load, Store, Exchange, Add}
-use Rattle.partial_words.specs.Layout.{Layout, pool_counter, pool_base, pool_end}
+use Rattle.partial_words.specs.Layout.{Layout, pool_base, pool_end}
 use Rattle.partial_core.specs.declared.stage.Change.{Change}
 use Rattle.partial_core.specs.declared.stage.Reply.TheVariants as reply
 use Rattle.partial_core.specs.declared.stage.Stage.{Stage}
 use Rattle.partial_core.specs.declared.stage.Stage.TheVariants.{Idle, ReadBegun, LoadingValue, UpdateBegun, LoadingListHead, LoadingSlotCounter, ClaimingRecord, StoringRecord, Exchanging, Finished}
 use Rattle.partial_core.specs.Machine.{CoreState, at_stage, advance, advance_at, step_of, step_at, spent, fits_pool, expects, IsStage, IsPossible, IsPossibleAt, IsRecord}
-use Rattle.partial_core.specs.Lawful.{Part, Kept, IsKept, AreKept, IsStampThen, IsKnown, IsTied, IsOwn, Own, own_of, own_at, core_of, port_of, led_by, AreApart, HaveOtherBlocks, HaveOtherPorts, MayBegin, MayBeginAt, is_begun, is_at_rest, first_at}
+use Rattle.partial_core.specs.Lawful.{Part, Kept, AreKept, IsStampThen, IsKnown, core_of, port_of, led_by, MayBegin, MayBeginAt}
 
 -- an answer changes neither the port nor the sizes
 claimed_port : (s : CoreState) (stage : Stage) (b : Bool) → (cond b (at_stage s stage) (spent s)).port ≡ s.port

@@ -1,20 +1,19 @@
 -- A lawful state with one part in the place of another, and with other words.
-use Rattle.std.proofs.Common.{ℕ, suc, ◌≡◌, ◌≢◌, ◌+◌, ◌*◌, ◌<◌, ◌≤◌, ◌⊎◌, ◌==◌, ◌++◌, Bool, true, false, cond, List, [], ◌∷◌, length, take, get_or, set, Option, Some, None, IfSome, refl, sym, ◌∙◌, ap, subst, inl, inr, arith, length-append, append_assoc}
+use Rattle.std.proofs.Common.{ℕ, suc, ◌≡◌, ◌≢◌, ◌+◌, ◌*◌, ◌≤◌, ◌==◌, ◌++◌, Bool, true, false, cond, List, [], ◌∷◌, length, get_or, Option, Some, None, IfSome, refl, sym, ◌∙◌, ap, inl, inr, arith, append_assoc}
 use Rattle.std.specs.List.{AllByRecursion}
 use Rattle.std.proofs.lemmas.Bool.{ne_eqb, eq-eqb}
-use Rattle.std.proofs.lemmas.Bool.Decides.{eqb_tells}
 use Rattle.std.proofs.lemmas.List.{append-nil}
 use Rattle.std.proofs.Math.Nat.{mul-le-mul_left}
 use Rattle.partial_model.specs.declared.history.Applied.{Applied}
 use Rattle.partial_model.specs.declared.history.Opening.{Opening}
 use Rattle.partial_model.specs.History.{IsHistory}
 use Rattle.partial_model.specs.Notes.{Noted}
-use Rattle.partial_model.specs.Outcome.{places_by, places_written, wrote}
-use Rattle.partial_model.proofs.NotesLemmas.{places_written-append, places_by-push}
-use Rattle.partial_words.specs.Layout.{Layout, pool_counter, slot_counter, list_head, pool_base, pool_end, total}
+use Rattle.partial_model.specs.Outcome.{places_by, places_written}
+use Rattle.partial_model.proofs.NotesLemmas.{places_written-append}
+use Rattle.partial_words.specs.Layout.{Layout, pool_counter, slot_counter, list_head, pool_end}
 use Rattle.partial_words.specs.Chain.{Agrees}
-use Rattle.partial_core.specs.Lawful.{Part, Lawful, IsKnown, IsTied, IsOwn, Own, IsEntry, own_of, core_of, port_of, AreApart, EachTwo, HaveOtherBlocks, HaveOtherPorts, notes_by, marked_in}
-use Rattle.partial_core.proofs.ListLemmas.{all_before, all_at, all_after, all_join, all_with, all_weaker, two_before, two_after, two_join, length_same}
+use Rattle.partial_core.specs.Lawful.{Part, Lawful, IsKnown, IsTied, Own, IsEntry, own_of, core_of, port_of, AreApart, HaveOtherBlocks, HaveOtherPorts, notes_by, marked_in}
+use Rattle.partial_core.proofs.ListLemmas.{all_before, all_after, all_join, all_with, all_weaker, two_before, two_after, two_join, length_same}
 
 pub apart_turns : (a b : Option Own) → IfSome a (λ x. IfSome b (λ y. AreApart x.at y.at)) → IfSome b (λ x. IfSome a (λ y. AreApart x.at y.at))
 apart_turns None None w = w
@@ -53,6 +52,7 @@ once_same p before x y after port same =
     picked : (b : Bool) (ms ns : List Noted) → places_written ns ≡ places_written ms → places_written (cond b ns []) ≡ places_written (cond b ms [])
     picked true ms ns e = e
     picked false ms ns e = refl
+
     chosen : (p q r : ℕ) (ms ns : List Noted) → q ≡ r → places_written ns ≡ places_written ms → places_written (cond (q == p) ns []) ≡ places_written (cond (r == p) ms [])
     chosen p q r ms ns port e = ap (λ n. places_written (cond (n == p) ns [])) port ∙ picked (r == p) ms ns e
 

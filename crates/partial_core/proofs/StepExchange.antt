@@ -1,43 +1,37 @@
 -- The exchange of a component word: won, it adds one entry to the history; lost, it changes nothing.
-use Rattle.std.proofs.Common.{ℕ, zero, suc, ◌≡◌, ◌≢◌, ◌+◌, ◌*◌, ◌<◌, ◌≤◌, ◌^◌, ◌%◌, ◌⊎◌, ◌==◌, ◌++◌, Bool, true, false, cond, List, [], ◌∷◌, length, take, get_or, set, Option, Some, None, IfSome, slice_get, refl, sym, ◌∙◌, ap, subst, inl, inr, arith, get_or-set_other, get_or-set_same, length-set, append_assoc, length-append}
+use Rattle.std.proofs.Common.{ℕ, ◌≡◌, ◌≢◌, ◌+◌, ◌*◌, ◌<◌, ◌≤◌, ◌==◌, ◌++◌, Bool, true, false, cond, List, [], ◌∷◌, length, take, get_or, set, Option, Some, None, IfSome, slice_get, refl, sym, ◌∙◌, ap, subst, inl, inr, arith, get_or-set_other, get_or-set_same, length-set}
 use Rattle.std.specs.List.{AllByRecursion}
 use Rattle.std.specs.Option.{option_map_or}
-use Rattle.std.proofs.lemmas.Bool.{eqb-false, eqb-true, ltb-true, ltb-false, false≢true, eq-eqb, ne_eqb, cases_lt}
-use Rattle.std.proofs.lemmas.Bool.Decides.{eqb_tells}
-use Rattle.std.proofs.lemmas.List.{append-nil, take_all, set-get_or, take-append-le, take_at}
+use Rattle.std.proofs.lemmas.Bool.{eqb-false, eqb-true}
+use Rattle.std.proofs.lemmas.List.{append-nil, set-get_or, take_at, length_push}
 use Rattle.partial_model.specs.declared.history.Applied.{Applied}
 use Rattle.partial_model.specs.declared.history.Opening.{Opening}
-use Rattle.partial_model.specs.declared.call.Call.{Call}
 use Rattle.partial_model.specs.declared.call.Call.TheVariants as call
-use Rattle.partial_model.specs.declared.call.Refused.TheVariants as refused
 use Rattle.partial_model.specs.declared.call.Answer.TheVariants as answer
 use Rattle.partial_model.specs.declared.call.Note.TheVariants as note
 use Rattle.partial_model.specs.History.{IsHistory, initial_stamp, stamp_of}
-use Rattle.partial_model.specs.Notes.{Noted, LegalNotes, IsLegal, seen_by, seen_after}
+use Rattle.partial_model.specs.Notes.{Noted, IsLegal, seen_by}
 use Rattle.partial_model.specs.Outcome.{places_by, places_written}
 use Rattle.partial_model.proofs.HistoryLemmas.{overtaken_at, place_below, stamp_of-push}
 use Rattle.partial_model.proofs.NotesLemmas.{seen_by-push, places_written-append, places_by-push, distinct_push, slice_get_last, AllByRecursion-push}
-use Rattle.partial_words.specs.declared.step.Step.{Step}
-use Rattle.partial_words.specs.declared.step.Step.TheVariants.{Load, Store, Exchange, Add}
-use Rattle.partial_words.specs.Layout.{Layout, slot_counter, list_head, pool_counter, pool_base, pool_end, total}
-use Rattle.partial_words.specs.Step.{Answers, answer_of, words_after, word_of}
+use Rattle.partial_words.specs.declared.step.Step.TheVariants.{Exchange}
+use Rattle.partial_words.specs.Layout.{Layout, slot_counter, list_head, pool_counter, pool_end}
 use Rattle.partial_words.specs.Record.{record_block}
-use Rattle.partial_words.specs.Chain.{Agrees, IsChain, chain_of}
+use Rattle.partial_words.specs.Chain.{IsChain, chain_of}
 use Rattle.partial_words.proofs.ChainLemmas.{IsElsewhere, chain_kept, chain_all, chain_cons, links_from-push}
 use Rattle.partial_core.specs.declared.stage.Change.{Change}
 use Rattle.partial_core.specs.declared.stage.Reply.{Reply}
 use Rattle.partial_core.specs.declared.stage.Reply.TheVariants as reply
-use Rattle.partial_core.specs.declared.stage.Stage.{Stage}
-use Rattle.partial_core.specs.declared.stage.Stage.TheVariants.{Idle, ReadBegun, LoadingValue, UpdateBegun, LoadingListHead, LoadingSlotCounter, ClaimingRecord, StoringRecord, Exchanging, Finished}
-use Rattle.partial_core.specs.Machine.{CoreState, at_stage, advance, advance_at, step_of, step_at, reply_of, spent, fits_pool, expects, overtaken, IsStage, IsPossible, IsPossibleAt, IsRecord}
-use Rattle.partial_core.specs.Lawful.{Part, Kept, Lawful, IsKnown, IsTied, IsOwn, Own, IsEntry, IsStampThen, own_of, own_at, core_of, port_of, AreApart, HaveOtherBlocks, HaveOtherPorts, notes_by, marked_in, is_begun, is_at_rest, first_at, added_at, AreNotesOf, IsNoteOf, update_call, call_at}
-use Rattle.partial_core.proofs.ListLemmas.{all_at, all_weaker, two_before, two_after}
-use Rattle.partial_core.proofs.PartLemmas.{port_led, seen_within, known_grows, KnowsAt, KnowsOld}
-use Rattle.partial_core.proofs.Rebuild.{Changes, rebuild, once_same, once_own, once_other, marked_same, marked_more, counter_high, ports_turn, apart_turns}
-use Rattle.partial_core.proofs.Frames.{if_some, if_some_at, agrees_elsewhere, own_moves, tied_moves, initial_elsewhere, entries_elsewhere, apart_elsewhere, apart_words}
-use Rattle.partial_core.proofs.StepLaw.{IsGoing, gone, gone_core, known_gone, known_on, known_end}
-use Rattle.partial_core.proofs.StepLoads.{LeadsAt, known_here, tied_here, seen_here, nothing_added, stamp_now, stamp_then, record_now, sizes_here, words_here, stage_here, possible_here, possible_at, stamp_here, leads_here, going_here, knows_here, ends, same_length, written_same}
-use Rattle.partial_core.proofs.StepWrites.{own_is, own_here, blocks_here, blocks_of, no_own}
+use Rattle.partial_core.specs.declared.stage.Stage.TheVariants.{Exchanging, Finished}
+use Rattle.partial_core.specs.Machine.{CoreState, at_stage, advance, advance_at, overtaken, IsStage, IsRecord}
+use Rattle.partial_core.specs.Lawful.{Part, Lawful, IsKnown, IsOwn, Own, IsEntry, own_of, own_at, core_of, port_of, AreApart, HaveOtherPorts, notes_by, is_at_rest, first_at, AreNotesOf, update_call, call_at}
+use Rattle.partial_core.proofs.ListLemmas.{all_weaker, two_before, two_after}
+use Rattle.partial_core.proofs.PartLemmas.{port_led, known_grows, KnowsOld}
+use Rattle.partial_core.proofs.Rebuild.{rebuild, once_own, once_other, marked_same, ports_turn}
+use Rattle.partial_core.proofs.Frames.{if_some_at, tied_moves, entries_elsewhere}
+use Rattle.partial_core.proofs.StepLaw.{gone, gone_core, known_end}
+use Rattle.partial_core.proofs.StepLoads.{LeadsAt, known_here, tied_here, seen_here, stamp_now, stamp_then, record_now, words_here, stage_here, possible_here, possible_at, stamp_here, leads_here, going_here, knows_here, ends, same_length}
+use Rattle.partial_core.proofs.StepWrites.{own_is, blocks_of, no_own}
 
 module _ (z : Layout) (o : Opening) (words : List ℕ) (before : List Part) (x : Part) (after : List Part) (log : List Applied) (w : Lawful z o words (before ++ x ∷ after) log) (c : Change) (old at : ℕ) (e : (core_of x).stage ≡ Exchanging c old at) where
   found : ℕ
@@ -87,14 +81,18 @@ module _ (z : Layout) (o : Opening) (words : List ℕ) (before : List Part) (x :
       let reply_is : overtaken c a ≡ reply.Lost a = ap (λ (f : Option ℕ). option_map_or (λ _. reply.Changed a) f (reply.Lost a)) is in
       let leads : advance_at (core_of x) (Exchanging c old at) a ≡ at_stage (core_of x) (Finished (reply.Lost a)) = ap (λ (b : Bool). at_stage (core_of x) (Finished (cond b (reply.Applied at) (overtaken c a)))) lost ∙ ap (λ (r : Reply). at_stage (core_of x) (Finished r)) reply_is in
       let within = place_below log (over.place) (over.entry) (over.stands) in
-      let low = low_here in
-      (n,
+      let low = low_here in (
+        n,
         ends z o words before x after log w (Exchanging c old at) (reply.Lost a) a n e leads refl exchange_possible tt (below_values, ((over.entry, over.stands, over.component, over.stamp ∙ sym now), omega (arith, low, over.behind))) (omega (arith, within)),
         subst (λ (r : Reply). AreNotesOf (gone x (log ++ []) a (n ∷ [])) (Some r) (n ∷ [])) (sym reply_is) (record {
-          call = call.Update j c.value; note = note.Lost (over.place); is = refl; made = call_made None is;
+          call = call.Update j c.value;
+          note = note.Lost (over.place);
+          is = refl;
+          made = call_made None is;
           behind = let more = g.more (record { answer = a; at = length (log ++ []) }) in omega (arith, more, over.behind);
           within = let same = same_length z o words before x after log w in omega (arith, same, within);
-        }))
+        }),
+      )
   lost_note (Some s) is lost =
       let j = c.component in
       let a = get_or words j 0 in
@@ -103,14 +101,18 @@ module _ (z : Layout) (o : Opening) (words : List ℕ) (before : List Part) (x :
       let reply_is : overtaken c a ≡ reply.Changed a = ap (λ (f : Option ℕ). option_map_or (λ _. reply.Changed a) f (reply.Lost a)) is in
       let leads : advance_at (core_of x) (Exchanging c old at) a ≡ at_stage (core_of x) (Finished (reply.Changed a)) = ap (λ (b : Bool). at_stage (core_of x) (Finished (cond b (reply.Applied at) (overtaken c a)))) lost ∙ ap (λ (r : Reply). at_stage (core_of x) (Finished r)) reply_is in
       let seen = seen_here z o words before x after log w in
-      let other : a ≢ s = λ same. eqb-false a old lost (same ∙ expected_old s is) in
-      (n,
+      let other : a ≢ s = λ same. eqb-false a old lost (same ∙ expected_old s is) in (
+        n,
         ends z o words before x after log w (Exchanging c old at) (reply.Changed a) a n e leads refl exchange_possible tt (below_values, ((omega arith, sym (stamp_then z o words before x after log w j (sound.0)), other), seen)) (omega arith),
         subst (λ (r : Reply). AreNotesOf (gone x (log ++ []) a (n ∷ [])) (Some r) (n ∷ [])) (sym reply_is) (record {
-          call = call.UpdateIf j s c.value; note = note.Saw (length log); is = refl; made = call_made (Some s) is;
+          call = call.UpdateIf j s c.value;
+          note = note.Saw (length log);
+          is = refl;
+          made = call_made (Some s) is;
           behind = let more = g.more (record { answer = a; at = length (log ++ []) }) in omega (arith, more, g.within);
           within = let same = same_length z o words before x after log w in omega (arith, same);
-        }))
+        }),
+      )
 
   entry : Applied
   entry = record { port = (core_of x).port; component = c.component; value = c.value; stamp = at }
@@ -127,7 +129,7 @@ module _ (z : Layout) (o : Opening) (words : List ℕ) (before : List Part) (x :
         new = both.0 ∷ [];
         noted = subst (λ (b : Bool). AreNotesOf (gone x (log ++ cond b (record { port = (core_of x).port; component = j; value = c.value; stamp = at } ∷ []) []) a (both.0 ∷ [])) (Some (cond b (reply.Applied at) (overtaken c a))) (both.0 ∷ [])) (sym lost) both.2;
         lawful = subst (λ (b : Bool). Lawful z o (set words j (cond b at a)) (before ++ gone x (log ++ cond b (record { port = (core_of x).port; component = j; value = c.value; stamp = at } ∷ []) []) a (both.0 ∷ []) ∷ after) (log ++ cond b (record { port = (core_of x).port; component = j; value = c.value; stamp = at } ∷ []) [])) (sym lost)
-          (subst (λ (l : List ℕ). Lawful z o l (before ++ gone x (log ++ []) a (both.0 ∷ []) ∷ after) (log ++ [])) (sym words_stay) both.1);
+            (subst (λ (l : List ℕ). Lawful z o l (before ++ gone x (log ++ []) a (both.0 ∷ []) ∷ after) (log ++ [])) (sym words_stay) both.1);
       }
 
   -- the exchange is won: the component names the new record
@@ -196,8 +198,10 @@ module _ (z : Layout) (o : Opening) (words : List ℕ) (before : List Part) (x :
     where
       f : Applied
       f = record { port = (core_of x).port; component = c.component; value = c.value; stamp = at }
+
       mine : (core_of x).port ≡ port_of x
       mine = port_led x.begun x.kept
+
       either : (b : Bool) → ((core_of x).port == p) ≡ b → places_by p 0 (log ++ record { port = (core_of x).port; component = c.component; value = c.value; stamp = at } ∷ []) ≡ places_written (notes_by p (before ++ y ∷ after))
       either true h =
           let is : port_of x ≡ p = sym mine ∙ eqb-true (core_of x).port p h in
@@ -215,11 +219,78 @@ module _ (z : Layout) (o : Opening) (words : List ℕ) (before : List Part) (x :
     where
       f : Applied
       f = record { port = (core_of x).port; component = c.component; value = c.value; stamp = at }
+
       stands : slice_get (log ++ record { port = (core_of x).port; component = c.component; value = c.value; stamp = at } ∷ []) (length log) ≡ Some (record { port = port_of x; component = c.component; value = c.value; stamp = at })
       stands = slice_get_last log (record { port = (core_of x).port; component = c.component; value = c.value; stamp = at }) ∙ ap (λ n. Some (record { port = n; component = c.component; value = c.value; stamp = at })) (port_led x.begun x.kept)
+
       legal : (s : Option ℕ) → c.expected ≡ s → IsLegal o (log ++ record { port = (core_of x).port; component = c.component; value = c.value; stamp = at } ∷ []) (port_of x) (seen_by 0 x.notes) (record { call = update_call c.component s c.value; answer = answer.Applied at; note = Some (note.Wrote (length log)) })
       legal None is = (below_values, (stands, seen_here z o words before x after log w))
       legal (Some t) is =
           let front : take (length log) (log ++ record { port = (core_of x).port; component = c.component; value = c.value; stamp = at } ∷ []) ≡ log = take_at log (record { port = (core_of x).port; component = c.component; value = c.value; stamp = at } ∷ []) (length log) refl in
           let stamp : stamp_of o (take (length log) (log ++ record { port = (core_of x).port; component = c.component; value = c.value; stamp = at } ∷ [])) c.component ≡ t = ap (λ (l : List Applied). stamp_of o l c.component) front ∙ sym (stamp_now z o words before x after log w c.component (sound.0)) ∙ won ∙ sym (expected_old t is) in
           (below_values, ((stands, stamp), seen_here z o words before x after log w))
+
+  exchange_won : (found == old) ≡ true → LeadsAt z o words before x after log (core_of x) (Exchanging c old at) (Exchange c.component old at)
+  unfolding found won_words won_log
+  exchange_won won =
+      let j = c.component in
+      let a = get_or words j 0 in
+      let f : Applied = record { port = (core_of x).port; component = j; value = c.value; stamp = at } in
+      let log' = log ++ f ∷ [] in
+      let words' = set words j at in
+      let n : Noted = record { call = update_call j c.expected c.value; answer = answer.Applied at; note = Some (note.Wrote (length log)) } in
+      let y = gone x log' a (n ∷ []) in
+      let is : a ≡ old = eqb-true a old won in
+      let leads : advance_at (core_of x) (Exchanging c old at) a ≡ at_stage (core_of x) (Finished (reply.Applied at)) = ap (λ (b : Bool). at_stage (core_of x) (Finished (cond b (reply.Applied at) (overtaken c a)))) won in
+      let core : core_of y ≡ at_stage (core_of x) (Finished (reply.Applied at)) = gone_core x log' a (n ∷ []) ∙ leads_here z o words before x after log w (Exchanging c old at) a e ∙ leads in
+      let own : own_of y ≡ None = own_is y (at_stage (core_of x) (Finished (reply.Applied at))) core in
+      let mark : (core_of y).pool_spent ≡ (core_of x).pool_spent = ap (λ (s : CoreState). s.pool_spent) core in
+      let marks = marked_same before x y after mark in
+      let mine : own_of x ≡ Some (record { at = at; block = record_block old c.value 0 []; stored = 3 }) = ap own_at e in
+      let below = sound.0 in
+      let same : get_or words' (pool_counter z) 0 ≡ get_or words (pool_counter z) 0 = won_same (pool_counter z) (λ h. omega (arith, below, h)) in
+      let longer : length log' ≡ length log + 1 = length_push log f in
+      let low = low_here in
+      let g = going_here z o words before x after log w (Exchanging c old at) e refl refl in
+      let pushed = seen_by-push 0 x.notes n in
+      let rest : is_at_rest (advance (core_of x) a).stage ≡ true = ap (λ (t : CoreState). is_at_rest t.stage) (leads_here z o words before x after log w (Exchanging c old at) a e ∙ leads) in
+      let known : IsKnown z o log' y = known_end z o log' x a n (known_grows z o log (f ∷ []) x (known_here z o words before x after log w)) (possible_here z o words before x after log w (Exchanging c old at) a e exchange_possible) (stamp_here z o words before x after log w (Exchanging c old at) (record { answer = a; at = length log' }) log' e tt) (won_legal c.expected refl is) (omega (arith, pushed, longer)) rest in
+      let lawful : Lawful z o words' (before ++ y ∷ after) log' = rebuild z o words words' before x y after log log' w (record {
+        port = refl;
+        count = length-set words j at;
+        low = omega (arith, same);
+        history = won_history;
+        agrees = λ i inside. won_agrees_at i is inside (j == i) refl;
+        entries = AllByRecursion-push (IsEntry z words') log f (all_weaker (IsEntry z words) (IsEntry z words') (λ d h. record { above = h.above; within = h.within; below = let b = h.below in omega (arith, same, b) }) log w.entries) (record { above = written.above; within = (sound.2).1; below = let b = written.below in omega (arith, same, b) });
+        once = λ p. won_once p y refl (places_written-append x.notes (n ∷ []));
+        known = known;
+        others_known = λ v h. known_grows z o log (f ∷ []) v h;
+        tied = record { own = no_own (IsOwn z words' log') y own; marked = λ m. let past = (tied_here z o words before x after log w).marked (sym mark ∙ m) in omega (arith, same, past) };
+        others_tied = λ v h other. tied_moves z words words' log log' v (omega (arith, same)) (λ b is' own'. (λ i inside. won_same (b.at + i) (λ s. let above = own'.above in omega (arith, below, above, s)), AllByRecursion-push (λ (d : Applied). AreApart d.stamp b.at) log f own'.apart (if_some_at (λ (d : Own). AreApart at d.at) (own_of v) b is' (blocks_of x v (record { at = at; block = record_block old c.value 0 []; stored = 3 }) mine other)))) h;
+        apart = λ v h other. no_own (λ (d : Own). IfSome (own_of v) (λ b. AreApart d.at b.at)) y own;
+        high = let high = w.pool_high in subst (λ m. get_or words' (pool_counter z) 0 ≤ pool_end z + (4 + 2 * z.m) * m) (sym marks) (omega (arith, same, high));
+        slot_count = won_same (slot_counter z) (λ h. omega (arith, below, h));
+        list = won_same (list_head z) (λ h. omega (arith, below, h));
+      }) in
+      record {
+        answers = record { within = words_here z o words before x after log w j (omega arith); gives = refl };
+        possible = possible_at z o words before x after log w (Exchanging c old at) a exchange_possible;
+        new = n ∷ [];
+        noted = subst (λ (b : Bool). AreNotesOf (gone x (log ++ cond b (f ∷ []) []) a (n ∷ [])) (Some (cond b (reply.Applied at) (overtaken c a))) (n ∷ [])) (sym won) (record {
+          call = update_call j c.expected c.value;
+          note = note.Wrote (length log);
+          is = refl;
+          made = call_made c.expected refl;
+          behind = let more = g.more (record { answer = a; at = length log' }) in omega (arith, more, g.within);
+          within = omega (arith, longer);
+        });
+        lawful = subst (λ (b : Bool). Lawful z o (set words j (cond b at a)) (before ++ gone x (log ++ cond b (f ∷ []) []) a (n ∷ []) ∷ after) (log ++ cond b (f ∷ []) [])) (sym won) lawful;
+      }
+
+  pub record_exchanged : LeadsAt z o words before x after log (core_of x) (Exchanging c old at) (Exchange c.component old at)
+  unfolding found
+  record_exchanged = either (get_or words c.component 0 == old) refl
+    where
+      either : (b : Bool) → (get_or words c.component 0 == old) ≡ b → LeadsAt z o words before x after log (core_of x) (Exchanging c old at) (Exchange c.component old at)
+      either true h = exchange_won h
+      either false h = exchange_lost h

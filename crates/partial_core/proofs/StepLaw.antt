@@ -1,37 +1,17 @@
 -- The law of steps: each due step leads from a lawful state to a lawful one.
-use Rattle.std.proofs.Common.{ℕ, zero, suc, ◌≡◌, ◌≢◌, ◌+◌, ◌*◌, ◌<◌, ◌≤◌, ◌^◌, ◌%◌, ◌⊎◌, ◌==◌, ◌++◌, Bool, true, false, cond, List, [], ◌∷◌, length, take, get_or, set, Option, Some, None, IfSome, refl, sym, ◌∙◌, ap, subst, inl, inr, arith, length-append, get_or-set_other, get_or-set_same, length-set}
-use Rattle.std.specs.List.{AllByRecursion, slice_index}
-use Rattle.std.proofs.lemmas.Bool.{eqb-false, eqb-true, ltb-true, false≢true}
+use Rattle.std.proofs.Common.{ℕ, ◌≡◌, ◌≤◌, ◌++◌, Bool, true, false, List, [], ◌∷◌, length, refl, sym, ◌∙◌, ap, subst, arith}
+use Rattle.std.proofs.lemmas.Bool.{false≢true}
 use Rattle.std.proofs.lemmas.List.{append-nil, take_all}
 use Rattle.partial_model.specs.declared.history.Applied.{Applied}
 use Rattle.partial_model.specs.declared.history.Opening.{Opening}
-use Rattle.partial_model.specs.declared.call.Call.{Call}
-use Rattle.partial_model.specs.declared.call.Call.TheVariants as call
-use Rattle.partial_model.specs.declared.call.Answer.TheVariants as answer
-use Rattle.partial_model.specs.declared.call.Note.TheVariants as note
-use Rattle.partial_model.specs.History.{IsHistory, stamp_of, value_of}
 use Rattle.partial_model.specs.Notes.{Noted, LegalNotes, IsLegal, seen_by}
-use Rattle.partial_model.specs.Outcome.{places_written}
-use Rattle.partial_model.proofs.HistoryLemmas.{overtaken_at}
-use Rattle.partial_model.proofs.NotesLemmas.{LegalNotes-push, seen_by-push, places_written-push}
-use Rattle.partial_words.specs.declared.step.Step.{Step}
-use Rattle.partial_words.specs.declared.step.Step.TheVariants.{Load, Store, Exchange, Add}
-use Rattle.partial_words.specs.Layout.{Layout, IsLayout, slot_counter, list_head, pool_counter, pool_base, pool_end, total}
-use Rattle.partial_words.specs.Step.{Answers, answer_of, words_after, word_of}
-use Rattle.partial_words.specs.Record.{record_block}
-use Rattle.partial_words.specs.Chain.{Agrees}
-use Rattle.partial_words.proofs.ChainLemmas.{value_behind_stamp}
-use Rattle.partial_core.specs.declared.stage.Change.{Change}
-use Rattle.partial_core.specs.declared.stage.Reply.{Reply}
-use Rattle.partial_core.specs.declared.stage.Reply.TheVariants as reply
+use Rattle.partial_model.proofs.NotesLemmas.{LegalNotes-push}
+use Rattle.partial_words.specs.Layout.{Layout}
 use Rattle.partial_core.specs.declared.stage.Stage.{Stage}
 use Rattle.partial_core.specs.declared.stage.Stage.TheVariants.{Idle, ReadBegun, LoadingValue, UpdateBegun, LoadingListHead, LoadingSlotCounter, ClaimingRecord, StoringRecord, Exchanging, Finished}
-use Rattle.partial_core.specs.Machine.{CoreState, at_stage, advance, advance_at, step_of, step_at, reply_of, spent, fits_pool, expects, overtaken, IsStage, IsPossible, IsPossibleAt, IsRecord}
-use Rattle.partial_core.specs.Lawful.{Part, Kept, Lawful, IsKnown, IsTied, IsOwn, Own, IsEntry, IsStampThen, AreKept, own_of, own_at, core_of, port_of, led_by, AreApart, HaveOtherBlocks, notes_by, marked_in, MayBegin, MayBeginAt, is_begun, is_at_rest, first_at, added_at, AreNotesOf, IsNoteOf, update_call, call_at}
-use Rattle.partial_core.proofs.ListLemmas.{all_at}
-use Rattle.partial_core.proofs.PartLemmas.{port_led, sizes_led, led_push, kept_push, known_grows, seen_within, stage_known, KnowsAt, KnowsOld, KnowsStamp, knows_known}
-use Rattle.partial_core.proofs.Rebuild.{Changes, rebuild, once_same, marked_same, counter_high}
-use Rattle.partial_core.proofs.Frames.{stamp_is_record, tied_moves}
+use Rattle.partial_core.specs.Machine.{CoreState, advance, step_of, IsPossible}
+use Rattle.partial_core.specs.Lawful.{Part, Kept, IsKnown, IsStampThen, AreKept, core_of, port_of, led_by, MayBeginAt, is_begun, is_at_rest, first_at}
+use Rattle.partial_core.proofs.PartLemmas.{led_push, kept_push, seen_within, KnowsAt, knows_known}
 
 -- a machine behind its first answer is neither begun nor idle
 no_begin : (z : Layout) (b : Bool) (s : Stage) → MayBeginAt z b s → is_begun s ≡ false → is_at_rest s ≡ false → ⊥

@@ -1,38 +1,33 @@
 -- The steps that change no word: loads, and a lost exchange.
-use Rattle.std.proofs.Common.{ℕ, zero, suc, ◌≡◌, ◌≢◌, ◌+◌, ◌*◌, ◌<◌, ◌≤◌, ◌==◌, ◌++◌, Bool, true, false, cond, List, [], ◌∷◌, length, take, get_or, set, Option, Some, None, IfSome, refl, sym, ◌∙◌, ap, subst, inl, inr, arith}
-use Rattle.std.specs.List.{AllByRecursion}
+use Rattle.std.proofs.Common.{ℕ, ◌≡◌, ◌+◌, ◌*◌, ◌<◌, ◌≤◌, ◌==◌, ◌++◌, Bool, true, false, cond, List, [], ◌∷◌, length, take, get_or, Option, Some, None, IfSome, refl, sym, ◌∙◌, ap, subst, arith}
 use Rattle.std.specs.Option.{option_map_or}
-use Rattle.std.proofs.lemmas.Bool.{eqb-false, eqb-true, false≢true}
+use Rattle.std.proofs.lemmas.Bool.{eqb-false, false≢true}
 use Rattle.std.proofs.lemmas.List.{append-nil, take_all}
 use Rattle.partial_model.specs.declared.history.Applied.{Applied}
 use Rattle.partial_model.specs.declared.history.Opening.{Opening}
-use Rattle.partial_model.specs.declared.call.Call.{Call}
 use Rattle.partial_model.specs.declared.call.Call.TheVariants as call
-use Rattle.partial_model.specs.declared.call.Answer.{Answer}
 use Rattle.partial_model.specs.declared.call.Answer.TheVariants as answer
-use Rattle.partial_model.specs.declared.call.Note.{Note}
 use Rattle.partial_model.specs.declared.call.Note.TheVariants as note
 use Rattle.partial_model.specs.History.{stamp_of, value_of}
-use Rattle.partial_model.specs.Notes.{Noted, LegalNotes, IsLegal, Fits, IsTrueOf, seen_by, seen_after, shown_by, place_of}
+use Rattle.partial_model.specs.Notes.{Noted, IsLegal, seen_by, seen_after}
 use Rattle.partial_model.specs.Outcome.{places_written}
-use Rattle.partial_model.proofs.HistoryLemmas.{overtaken_at, place_below}
 use Rattle.partial_model.proofs.NotesLemmas.{seen_by-push, places_written-append}
 use Rattle.partial_words.specs.declared.step.Step.{Step}
-use Rattle.partial_words.specs.declared.step.Step.TheVariants.{Load, Store, Exchange, Add}
-use Rattle.partial_words.specs.Layout.{Layout, slot_counter, list_head, pool_counter, pool_base, pool_end, total}
-use Rattle.partial_words.specs.Step.{Answers, answer_of, words_after, word_of}
+use Rattle.partial_words.specs.declared.step.Step.TheVariants.{Load}
+use Rattle.partial_words.specs.Layout.{Layout, slot_counter, list_head, pool_counter, pool_end, total}
+use Rattle.partial_words.specs.Step.{Answers, answer_of, words_after}
 use Rattle.partial_words.proofs.ChainLemmas.{value_behind_stamp}
 use Rattle.partial_core.specs.declared.stage.Change.{Change}
 use Rattle.partial_core.specs.declared.stage.Reply.{Reply}
 use Rattle.partial_core.specs.declared.stage.Reply.TheVariants as reply
 use Rattle.partial_core.specs.declared.stage.Stage.{Stage}
-use Rattle.partial_core.specs.declared.stage.Stage.TheVariants.{Idle, ReadBegun, LoadingValue, UpdateBegun, LoadingListHead, LoadingSlotCounter, ClaimingRecord, StoringRecord, Exchanging, Finished}
-use Rattle.partial_core.specs.Machine.{CoreState, at_stage, advance, advance_at, step_of, step_at, reply_of, expects, overtaken, IsStage, IsPossible, IsPossibleAt, IsRecord}
-use Rattle.partial_core.specs.Lawful.{Part, Kept, Lawful, IsKnown, IsTied, IsOwn, Own, IsEntry, IsStampThen, own_of, own_at, core_of, port_of, led_by, AreApart, HaveOtherBlocks, notes_by, marked_in, is_begun, is_at_rest, first_at, added_at, AreNotesOf, IsNoteOf, answer_for, update_call, call_at}
+use Rattle.partial_core.specs.declared.stage.Stage.TheVariants.{ReadBegun, LoadingValue, UpdateBegun, LoadingListHead, LoadingSlotCounter, ClaimingRecord, Finished}
+use Rattle.partial_core.specs.Machine.{CoreState, at_stage, advance, advance_at, step_of, step_at, reply_of, expects, IsStage, IsPossible, IsPossibleAt, IsRecord}
+use Rattle.partial_core.specs.Lawful.{Part, Kept, Lawful, IsKnown, IsTied, IsOwn, Own, IsStampThen, own_of, own_at, core_of, port_of, led_by, AreApart, HaveOtherBlocks, is_begun, is_at_rest, first_at, added_at, AreNotesOf, update_call, call_at}
 use Rattle.partial_core.proofs.ListLemmas.{all_at}
-use Rattle.partial_core.proofs.PartLemmas.{port_led, sizes_led, seen_within, stage_known, KnowsAt, KnowsOld, KnowsStamp}
-use Rattle.partial_core.proofs.Rebuild.{Changes, rebuild, once_same, marked_same}
-use Rattle.partial_core.proofs.Frames.{stamp_is_record, tied_moves}
+use Rattle.partial_core.proofs.PartLemmas.{sizes_led, seen_within, stage_known, KnowsAt, KnowsStamp}
+use Rattle.partial_core.proofs.Rebuild.{rebuild, once_same, marked_same}
+use Rattle.partial_core.proofs.Frames.{stamp_is_record}
 use Rattle.partial_core.proofs.StepLaw.{IsGoing, going, starting, gone, gone_core, known_on, known_end}
 
 -- what a step of the part's machine at a stage leads to
@@ -43,10 +38,10 @@ pub record LeadsAt (z : Layout) (o : Opening) (words : List ℕ) (before : List 
   pub noted : AreNotesOf (gone x (log ++ added_at d.port s (answer_of words step)) (answer_of words step) new) (reply_of (advance_at d s (answer_of words step))) new
   pub lawful : Lawful z o (words_after words step) (before ++ gone x (log ++ added_at d.port s (answer_of words step)) (answer_of words step) new ∷ after) (log ++ added_at d.port s (answer_of words step))
 
-none_some : {A : Type 0} (P : A → Type 0) (found : Option A) → found ≡ None → IfSome found P
+pub none_some : {A : Type 0} (P : A → Type 0) (found : Option A) → found ≡ None → IfSome found P
 none_some P found e = subst (λ (f : Option _). IfSome f P) (sym e) tt
 
-none_two : (x y : Part) → own_of y ≡ None → (v : Part) → HaveOtherBlocks y v
+pub none_two : (x y : Part) → own_of y ≡ None → (v : Part) → HaveOtherBlocks y v
 none_two x y e v = none_some (λ (a : Own). IfSome (own_of v) (λ b. AreApart a.at b.at)) (own_of y) e
 
 -- a note that claims no entry leaves the places that are written
@@ -134,7 +129,7 @@ module _ (z : Layout) (o : Opening) (words : List ℕ) (before : List Part) (x :
   pub goes_on : (s t : Stage) (a : ℕ) → (core_of x).stage ≡ s → advance_at (core_of x) s a ≡ at_stage (core_of x) t → own_at t ≡ None → is_at_rest s ≡ false → IsPossibleAt z s a → IsStampThen o log (step_at z s) (record { answer = a; at = length log }) → Lawful z o words (before ++ gone x (log ++ []) a [] ∷ after) (log ++ [])
   goes_on s t a e leads none rest possible stamp =
       nothing_added words a [] (quiet a [] (at_stage (core_of x) t) (leads_here s a e ∙ leads) none refl refl
-        (known_on z o log x a known_here (ap is_at_rest e ∙ rest) (possible_here s a e possible) (stamp_here s (record { answer = a; at = length log }) log e stamp)))
+      (known_on z o log x a known_here (ap is_at_rest e ∙ rest) (possible_here s a e possible) (stamp_here s (record { answer = a; at = length log }) log e stamp)))
 
   -- a step that ends the call with a note
   pub ends : (s : Stage) (r : Reply) (a : ℕ) (n : Noted) → (core_of x).stage ≡ s → advance_at (core_of x) s a ≡ at_stage (core_of x) (Finished r) → places_written (n ∷ []) ≡ [] → IsPossibleAt z s a → IsStampThen o log (step_at z s) (record { answer = a; at = length log }) → IsLegal o log (port_of x) (seen_by 0 x.notes) n → seen_after (seen_by 0 x.notes) n.note ≤ length log → Lawful z o words (before ++ gone x (log ++ []) a (n ∷ []) ∷ after) (log ++ [])
@@ -142,7 +137,7 @@ module _ (z : Layout) (o : Opening) (words : List ℕ) (before : List Part) (x :
       let core = leads_here s a e ∙ leads in
       let pushed = seen_by-push 0 x.notes n in
       nothing_added words a (n ∷ []) (quiet a (n ∷ []) (at_stage (core_of x) (Finished r)) core refl refl written
-        (known_end z o log x a n known_here (possible_here s a e possible) (stamp_here s (record { answer = a; at = length log }) log e stamp) legal (omega (arith, pushed, shown)) (ap (λ (t : CoreState). is_at_rest t.stage) core)))
+      (known_end z o log x a n known_here (possible_here s a e possible) (stamp_here s (record { answer = a; at = length log }) log e stamp) legal (omega (arith, pushed, shown)) (ap (λ (t : CoreState). is_at_rest t.stage) core)))
 
   pub same_length : length (log ++ []) ≡ length log
   same_length = ap length (append-nil log)
@@ -194,12 +189,15 @@ module _ (z : Layout) (o : Opening) (words : List ℕ) (before : List Part) (x :
         possible = tt;
         new = n ∷ [];
         noted = record {
-          call = call.Read (k.component); note = note.Saw first; is = refl; made = ap call_at k.call;
+          call = call.Read (k.component);
+          note = note.Saw first;
+          is = refl;
+          made = ap call_at k.call;
           behind = omega (arith, g.more (record { answer = a; at = length (log ++ []) }));
           within = omega (arith, same_length, g.within);
         };
         lawful = ends (LoadingValue stamp) (reply.Read a stamp) a n e refl refl tt (λ below. absurd (let base = sound.0 in omega (arith, w.values, below)))
-          (k.below, ((g.within, value, k.found), omega (arith, low, g.behind))) (omega (arith, g.within));
+            (k.below, ((g.within, value, k.found), omega (arith, low, g.behind))) (omega (arith, g.within));
       }
 
   -- an update that finds the stamp that it expects, or expects none
@@ -237,12 +235,15 @@ module _ (z : Layout) (o : Opening) (words : List ℕ) (before : List Part) (x :
         possible = possible_at (UpdateBegun c) a (record_now j below);
         new = n ∷ [];
         noted = subst (λ (t : CoreState). AreNotesOf (gone x (log ++ []) a (n ∷ [])) (reply_of t) (n ∷ [])) (sym leads) (record {
-          call = call.UpdateIf j s c.value; note = note.Saw (length log); is = refl; made = ap call_at begun ∙ ap (λ (f : Option ℕ). Some (update_call j f c.value)) is;
+          call = call.UpdateIf j s c.value;
+          note = note.Saw (length log);
+          is = refl;
+          made = ap call_at begun ∙ ap (λ (f : Option ℕ). Some (update_call j f c.value)) is;
           behind = omega (arith, first, same_length);
           within = omega (arith, same_length);
         });
         lawful = ends (UpdateBegun c) (reply.Changed a) a n e leads refl (record_now j below) (λ _. stamp_then j below)
-          (omega (arith, w.values, below), ((omega arith, sym (stamp_then j below), λ same. eqb-false s a differs (sym same)), seen_here)) (omega arith);
+            (omega (arith, w.values, below), ((omega arith, sym (stamp_then j below), λ same. eqb-false s a differs (sym same)), seen_here)) (omega arith);
       }
 
   pub update_begun : (c : Change) → (core_of x).stage ≡ UpdateBegun c → LeadsAt z o words before x after log (core_of x) (UpdateBegun c) (Load (c.component))

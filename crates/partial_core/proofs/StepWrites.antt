@@ -1,42 +1,25 @@
 -- The steps that change words: the claim of a record, the stores of its words, and the exchange.
-use Rattle.std.proofs.Common.{ℕ, zero, suc, ◌≡◌, ◌≢◌, ◌+◌, ◌*◌, ◌<◌, ◌≤◌, ◌^◌, ◌%◌, ◌⊎◌, ◌==◌, ◌++◌, Bool, true, false, cond, List, [], ◌∷◌, length, take, get_or, set, Option, Some, None, IfSome, refl, sym, ◌∙◌, ap, subst, inl, inr, arith, get_or-set_other, get_or-set_same, length-set, append_assoc, length-append}
-use Rattle.std.specs.List.{AllByRecursion}
-use Rattle.std.specs.Option.{option_map_or}
-use Rattle.std.proofs.lemmas.Bool.{eqb-false, eqb-true, ltb-true, ltb-false, false≢true, eq-eqb, ne_eqb, cases_lt}
-use Rattle.std.proofs.lemmas.Bool.Decides.{eqb_tells}
-use Rattle.std.proofs.lemmas.List.{append-nil, take_all, set-get_or, take-append-le, take_at}
+use Rattle.std.proofs.Common.{ℕ, ◌≡◌, ◌≢◌, ◌+◌, ◌*◌, ◌<◌, ◌≤◌, ◌^◌, ◌%◌, ◌==◌, ◌++◌, Bool, true, false, cond, List, [], ◌∷◌, length, get_or, set, Option, Some, None, IfSome, refl, sym, ◌∙◌, ap, subst, inl, inr, arith, get_or-set_other, get_or-set_same, length-set}
+use Rattle.std.proofs.lemmas.Bool.{eqb-false, eqb-true, ltb-true, ltb-false, cases_lt}
 use Rattle.partial_model.specs.declared.history.Applied.{Applied}
 use Rattle.partial_model.specs.declared.history.Opening.{Opening}
-use Rattle.partial_model.specs.declared.call.Call.{Call}
-use Rattle.partial_model.specs.declared.call.Call.TheVariants as call
-use Rattle.partial_model.specs.declared.call.Refused.TheVariants as refused
-use Rattle.partial_model.specs.declared.call.Answer.TheVariants as answer
-use Rattle.partial_model.specs.declared.call.Note.TheVariants as note
-use Rattle.partial_model.specs.History.{IsHistory, initial_stamp, stamp_of}
-use Rattle.partial_model.specs.Notes.{Noted, LegalNotes, IsLegal, seen_by, seen_after}
-use Rattle.partial_model.specs.Outcome.{places_by, places_written}
-use Rattle.partial_model.proofs.HistoryLemmas.{overtaken_at, place_below, stamp_of-push}
-use Rattle.partial_model.proofs.NotesLemmas.{seen_by-push, places_written-append, places_by-push, distinct_push, slice_get_last, AllByRecursion-push}
-use Rattle.partial_words.specs.declared.step.Step.{Step}
-use Rattle.partial_words.specs.declared.step.Step.TheVariants.{Load, Store, Exchange, Add}
-use Rattle.partial_words.specs.Layout.{Layout, slot_counter, list_head, pool_counter, pool_base, pool_end, total}
-use Rattle.partial_words.specs.Step.{Answers, answer_of, words_after, word_of}
+use Rattle.partial_model.specs.Outcome.{places_written}
+use Rattle.partial_words.specs.declared.step.Step.TheVariants.{Store, Add}
+use Rattle.partial_words.specs.Layout.{Layout, slot_counter, list_head, pool_counter, pool_base, pool_end}
 use Rattle.partial_words.specs.Record.{record_block}
-use Rattle.partial_words.specs.Chain.{Agrees, IsChain, chain_of}
-use Rattle.partial_words.proofs.ChainLemmas.{IsElsewhere, chain_kept, chain_all, chain_cons, links_from-push}
+use Rattle.partial_words.specs.Chain.{Agrees}
+use Rattle.partial_words.proofs.ChainLemmas.{IsElsewhere}
 use Rattle.partial_core.specs.declared.stage.Change.{Change}
-use Rattle.partial_core.specs.declared.stage.Reply.{Reply}
-use Rattle.partial_core.specs.declared.stage.Reply.TheVariants as reply
 use Rattle.partial_core.specs.declared.stage.Stage.{Stage}
-use Rattle.partial_core.specs.declared.stage.Stage.TheVariants.{Idle, ReadBegun, LoadingValue, UpdateBegun, LoadingListHead, LoadingSlotCounter, ClaimingRecord, StoringRecord, Exchanging, Finished}
-use Rattle.partial_core.specs.Machine.{CoreState, at_stage, advance, advance_at, step_of, step_at, reply_of, spent, fits_pool, expects, overtaken, IsStage, IsPossible, IsPossibleAt, IsRecord}
-use Rattle.partial_core.specs.Lawful.{Part, Kept, Lawful, IsKnown, IsTied, IsOwn, Own, IsEntry, IsStampThen, own_of, own_at, core_of, port_of, AreApart, HaveOtherBlocks, HaveOtherPorts, notes_by, marked_in, is_begun, is_at_rest, first_at, added_at, AreNotesOf, IsNoteOf, update_call, call_at}
-use Rattle.partial_core.proofs.ListLemmas.{all_at, all_weaker, two_before, two_after}
-use Rattle.partial_core.proofs.PartLemmas.{port_led, seen_within, known_grows, KnowsAt, KnowsOld}
-use Rattle.partial_core.proofs.Rebuild.{Changes, rebuild, once_same, once_own, once_other, marked_same, marked_more, counter_high, ports_turn, apart_turns}
-use Rattle.partial_core.proofs.Frames.{if_some, if_some_at, agrees_elsewhere, own_moves, tied_moves, initial_elsewhere, entries_elsewhere, apart_elsewhere, apart_words}
-use Rattle.partial_core.proofs.StepLaw.{IsGoing, gone, gone_core, known_gone, known_on, known_end}
-use Rattle.partial_core.proofs.StepLoads.{LeadsAt, known_here, tied_here, seen_here, nothing_added, stamp_now, stamp_then, record_now, sizes_here, words_here, stage_here, possible_here, possible_at, stamp_here, leads_here, going_here, knows_here, ends, same_length, written_same}
+use Rattle.partial_core.specs.declared.stage.Stage.TheVariants.{ClaimingRecord, StoringRecord, Exchanging}
+use Rattle.partial_core.specs.Machine.{CoreState, at_stage, advance_at, reply_of, spent, fits_pool, IsStage}
+use Rattle.partial_core.specs.Lawful.{Part, Lawful, IsKnown, IsTied, IsOwn, Own, IsEntry, own_of, own_at, core_of, port_of, AreApart, HaveOtherBlocks, marked_in, is_at_rest, first_at, AreNotesOf}
+use Rattle.partial_core.proofs.ListLemmas.{all_weaker}
+use Rattle.partial_core.proofs.PartLemmas.{KnowsOld}
+use Rattle.partial_core.proofs.Rebuild.{rebuild, once_same, marked_same, marked_more, counter_high}
+use Rattle.partial_core.proofs.Frames.{if_some, if_some_at, agrees_elsewhere, tied_moves, initial_elsewhere, entries_elsewhere, apart_elsewhere, apart_words}
+use Rattle.partial_core.proofs.StepLaw.{gone, gone_core, known_on}
+use Rattle.partial_core.proofs.StepLoads.{LeadsAt, known_here, tied_here, nothing_added, sizes_here, words_here, stage_here, possible_here, possible_at, stamp_here, leads_here, knows_here, written_same}
 
 -- the record of a part whose machine is at that stage
 pub own_is : (x : Part) (t : CoreState) → core_of x ≡ t → own_of x ≡ own_at t.stage
@@ -121,12 +104,12 @@ module _ (z : Layout) (o : Opening) (words : List ℕ) (before : List Part) (x :
       let mark : (core_of y).pool_spent ≡ (core_of x).pool_spent = ap (λ (s : CoreState). s.pool_spent) core in
       let marks = marked_same before x y after mark in
       claims t y refl core (claim_known c old e claim_possible)
-        (record {
-          own = own_here (IsOwn z claimed log) y b own (record { above = w.pool_low; below = omega (arith, now); few = omega arith; stands = λ i below. absurd (omega arith); apart = all_weaker (IsEntry z words) (λ (f : Applied). AreApart f.stamp counter) (λ f h. inl h.below) log w.entries });
-          marked = λ m. let old' = (tied_here z o words before x after log w).marked (sym mark ∙ m) in omega (arith, now, old');
-        })
-        (λ v h other. blocks_here y v b own (if_some (IsOwn z words log) (λ a. AreApart counter a.at) (own_of v) (λ a f own'. inr own'.below) h.own))
-        (subst (λ n. counter + 3 ≤ pool_end z + (4 + 2 * z.m) * n) (sym marks) (let top = ltb-true (counter + 2) (pool_end (core_of x).sizes) fits in let same = ap pool_end (sizes_here z o words before x after log w) in let room : counter + 3 ≤ pool_end z = omega (arith, top, same) in omega (arith, room)))
+      (record {
+        own = own_here (IsOwn z claimed log) y b own (record { above = w.pool_low; below = omega (arith, now); few = omega arith; stands = λ i below. absurd (omega arith); apart = all_weaker (IsEntry z words) (λ (f : Applied). AreApart f.stamp counter) (λ f h. inl h.below) log w.entries });
+        marked = λ m. let old' = (tied_here z o words before x after log w).marked (sym mark ∙ m) in omega (arith, now, old');
+      })
+      (λ v h other. blocks_here y v b own (if_some (IsOwn z words log) (λ a. AreApart counter a.at) (own_of v) (λ a f own'. inr own'.below) h.own))
+      (subst (λ n. counter + 3 ≤ pool_end z + (4 + 2 * z.m) * n) (sym marks) (let top = ltb-true (counter + 2) (pool_end (core_of x).sizes) fits in let same = ap pool_end (sizes_here z o words before x after log w) in let room : counter + 3 ≤ pool_end z = omega (arith, top, same) in omega (arith, room)))
 
   claim_spent : (c : Change) (old : ℕ) → (core_of x).stage ≡ ClaimingRecord c old → fits_pool (core_of x).sizes counter ≡ false → Lawful z o claimed (before ++ gone x log counter [] ∷ after) log
   unfolding claimed counter
@@ -142,9 +125,9 @@ module _ (z : Layout) (o : Opening) (words : List ℕ) (before : List Part) (x :
       let marks = marked_more before x y after k.unmarked (ap (λ (s : CoreState). s.pool_spent) core) in
       let more : (4 + 2 * z.m) * (1 + marked_in (before ++ x ∷ after)) ≡ (4 + 2 * z.m) + (4 + 2 * z.m) * marked_in (before ++ x ∷ after) = omega arith in
       claims t y refl core (claim_known c old e claim_possible)
-        (record { own = no_own (IsOwn z claimed log) y own; marked = λ m. omega (arith, now, past, same) })
-        (λ v h other. no_own (λ (a : Own). IfSome (own_of v) (λ d. AreApart a.at d.at)) y own)
-        (subst (λ n. counter + 3 ≤ pool_end z + (4 + 2 * z.m) * n) (sym marks) (let high = w.pool_high in omega (arith, more, high)))
+      (record { own = no_own (IsOwn z claimed log) y own; marked = λ m. omega (arith, now, past, same) })
+      (λ v h other. no_own (λ (a : Own). IfSome (own_of v) (λ d. AreApart a.at d.at)) y own)
+      (subst (λ n. counter + 3 ≤ pool_end z + (4 + 2 * z.m) * n) (sym marks) (let high = w.pool_high in omega (arith, more, high)))
 
   -- three words fit below 2 ^ 64
   no_wrap : (counter + 3) % 2 ^ 64 ≡ counter + 3
@@ -164,6 +147,7 @@ module _ (z : Layout) (o : Opening) (words : List ℕ) (before : List Part) (x :
       noted : (b : Bool) → AreNotesOf (gone x (log ++ []) counter []) (reply_of (cond b (at_stage (core_of x) (StoringRecord c old counter 0)) (spent (core_of x)))) []
       noted true = refl
       noted false = refl
+
       either : (b : Bool) → fits_pool (core_of x).sizes counter ≡ b → Lawful z o claimed (before ++ gone x log counter [] ∷ after) log
       either true h = claim_fits c old e h
       either false h = claim_spent c old e h
@@ -193,8 +177,8 @@ module _ (z : Layout) (o : Opening) (words : List ℕ) (before : List Part) (x :
   stored_agrees =
       let above = writing.above in
       agrees_elsewhere o words log (at + k) (get_or (record_block old c.value 0 []) k 0) (omega (arith, w.values, above))
-        (all_weaker (λ (f : Applied). AreApart f.stamp at) (λ (f : Applied). IsElsewhere (at + k) f.stamp) (λ f h. apart_elsewhere at k f.stamp (sound.3) h) log (writing.apart))
-        (λ j below. initial_elsewhere z o (at + k) j w.stamps w.values below (omega (arith, above))) w.agrees
+      (all_weaker (λ (f : Applied). AreApart f.stamp at) (λ (f : Applied). IsElsewhere (at + k) f.stamp) (λ f h. apart_elsewhere at k f.stamp (sound.3) h) log (writing.apart))
+      (λ j below. initial_elsewhere z o (at + k) j w.stamps w.values below (omega (arith, above))) w.agrees
 
   -- the words of the record so far
   own_stored : (n : ℕ) → n ≤ k + 1 → n ≤ 3 → IsOwn z stored_words log (record { at = at; block = record_block old c.value 0 []; stored = n })
@@ -208,7 +192,7 @@ module _ (z : Layout) (o : Opening) (words : List ℕ) (before : List Part) (x :
         below = omega (arith, same, below);
         few = few;
         stands = λ i less. elim (cases_lt i k) [
-          inl before' ↦ stored_same (at + i) (λ h. omega (arith, before', h)) ∙ writing.stands i before'
+          | inl before' ↦ stored_same (at + i) (λ h. omega (arith, before', h)) ∙ writing.stands i before'
           | inr from ↦ let last : i ≡ k = omega (arith, from, less, most) in ap (λ m. get_or stored_words (at + m) 0) last ∙ get_or-set_same words (at + k) (get_or (record_block old c.value 0 []) k 0) 0 store_room ∙ ap (λ m. get_or (record_block old c.value 0 []) m 0) (sym last)
         ];
         apart = writing.apart;
@@ -258,6 +242,7 @@ module _ (z : Layout) (o : Opening) (words : List ℕ) (before : List Part) (x :
       noted : (b : Bool) → AreNotesOf (gone x (log ++ []) 0 []) (reply_of (at_stage (core_of x) (cond b (Exchanging c old at) (StoringRecord c old at (k + 1))))) []
       noted true = refl
       noted false = refl
+
       either : (b : Bool) → (k == 2) ≡ b → Lawful z o stored_words (before ++ gone x log 0 [] ∷ after) log
       either true h = let last = eqb-true k 2 h in store_lawful 3 (Exchanging c old at) (omega (arith, last)) (omega arith) refl (ap (λ (b : Bool). at_stage (core_of x) (cond b (Exchanging c old at) (StoringRecord c old at (k + 1)))) h)
       either false h = let other = eqb-false k 2 h in let few = sound.3 in store_lawful (k + 1) (StoringRecord c old at (k + 1)) (omega arith) (omega (arith, other, few)) refl (ap (λ (b : Bool). at_stage (core_of x) (cond b (Exchanging c old at) (StoringRecord c old at (k + 1)))) h)

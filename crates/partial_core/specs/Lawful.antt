@@ -1,5 +1,5 @@
 -- The lawful state: words, the ports that work on them, and one history of applied updates.
-use Rattle.std.specs.Prelude.{ℕ, ◌≡◌, ◌≢◌, ◌+◌, ◌*◌, ◌<◌, ◌≤◌, ◌^◌, ◌⊎◌, ◌==◌, ⊤, Bool, true, false, List, [], ◌∷◌, ◌++◌, length, take, slice_index, Option, Some, None, IfSome, MatchBool, if◌then◌else◌}
+use Rattle.std.specs.Prelude.{ℕ, ◌≡◌, ◌≢◌, ◌+◌, ◌*◌, ◌<◌, ◌≤◌, ◌⊎◌, ◌==◌, ⊤, Bool, true, false, zero, suc, List, [], ◌∷◌, ◌++◌, length, take, slice_index, Option, Some, None, IfSome, MatchBool, if◌then◌else◌}
 use Rattle.std.specs.List.{AllByRecursion}
 use Rattle.partial_model.specs.declared.history.Applied.{Applied}
 use Rattle.partial_model.specs.declared.history.Opening.{Opening}
@@ -12,17 +12,16 @@ use Rattle.partial_model.specs.History.{IsHistory, stamp_of}
 use Rattle.partial_model.specs.Notes.{Noted, LegalNotes, seen_by, shown_by, place_of}
 use Rattle.partial_model.specs.Outcome.{places_by, places_written}
 use Rattle.partial_words.specs.declared.step.Step.{Step}
-use Rattle.partial_words.specs.declared.step.Step.TheVariants.{Load, Store, Exchange, Add}
-use Rattle.partial_words.specs.Layout.{Layout, IsLayout, slot_counter, list_head, pool_counter, slot_word, pool_base, pool_end, total}
+use Rattle.partial_words.specs.declared.step.Step.TheVariants.{Load}
+use Rattle.partial_words.specs.Layout.{Layout, IsLayout, slot_counter, list_head, pool_counter, pool_base, pool_end, total}
 use Rattle.partial_words.specs.Step.{Answers, answer_of, words_after}
 use Rattle.partial_words.specs.Record.{record_block}
-use Rattle.partial_words.specs.Chain.{Agrees}
-use Rattle.partial_core.specs.declared.stage.Change.{Change}
+use Rattle.partial_words.specs.Chain.{Agrees, OpensWith}
 use Rattle.partial_core.specs.declared.stage.Reply.{Reply}
 use Rattle.partial_core.specs.declared.stage.Reply.TheVariants as reply
 use Rattle.partial_core.specs.declared.stage.Stage.{Stage}
-use Rattle.partial_core.specs.declared.stage.Stage.TheVariants.{Idle, ReadBegun, LoadingValue, UpdateBegun, LoadingListHead, LoadingSlotCounter, ClaimingRecord, StoringRecord, Exchanging, Finished}
-use Rattle.partial_core.specs.Machine.{CoreState, at_stage, advance, step_of, reply_of, IsStage, IsPossible}
+use Rattle.partial_core.specs.declared.stage.Stage.TheVariants.{Idle, ReadBegun, UpdateBegun, StoringRecord, Exchanging, Finished}
+use Rattle.partial_core.specs.Machine.{CoreState, fresh, at_stage, advance, step_of, reply_of, IsPossible}
 
 -- an answer that a port keeps, and how long the history was at that step
 pub record Kept : Type 0 where
@@ -236,12 +235,12 @@ since_with c x = if is_begun c.stage then seen_by 0 x.notes else x.since
 -- The part once the machine's step has this answer: it has seen the whole history.
 abbrev pub moved : CoreState → ℕ → List Applied → List Noted → Part → Part
 moved c a log new x = record {
-    seen = log ++ added c a;
-    notes = x.notes ++ new;
-    begun = begun_with c x;
-    kept = kept_with c x ++ record { answer = a; at = length (log ++ added c a) } ∷ [];
-    since = since_with c x;
-  }
+  seen = log ++ added c a;
+  notes = x.notes ++ new;
+  begun = begun_with c x;
+  kept = kept_with c x ++ record { answer = a; at = length (log ++ added c a) } ∷ [];
+  since = since_with c x;
+}
 
 -- how long the history was at the first of the answers
 abbrev pub first_at : List Kept → ℕ
@@ -275,3 +274,12 @@ pub record LeadsOn (z : Layout) (o : Opening) (words : List ℕ) (before : List 
 abbrev pub StepsStayLawful : Type 0
 StepsStayLawful = (z : Layout) (o : Opening) (words : List ℕ) (before : List Part) (x : Part) (after : List Part) (log : List Applied) (c : CoreState) (step : Step) →
     Lawful z o words (before ++ x ∷ after) log → IsMachineOf c x → step_of c ≡ Some step → LeadsOn z o words before x after log c step
+
+-- the parts of n ports from that port on, none of which has made a call
+abbrev pub fresh_parts : Layout → ℕ → ℕ → List Part
+fresh_parts z port zero = []
+fresh_parts z port (suc n) = record { seen = []; notes = []; begun = fresh z port; kept = []; since = 0 } ∷ fresh_parts z (port + 1) n
+
+-- an opened memory of at most 64 ports is lawful, with nothing applied
+abbrev pub OpensLawful : Type 0
+OpensLawful = (z : Layout) (o : Opening) (words : List ℕ) (n : ℕ) → OpensWith z o words → n ≤ 64 → Lawful z o words (fresh_parts z 0 n) []

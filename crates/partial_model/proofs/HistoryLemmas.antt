@@ -79,9 +79,9 @@ pub last_at : (found : Option Applied) (j : ℕ) (h : List Applied) → ((a : �
 last_at found j [] = inl (last_at_none found j)
 last_at found j (x ∷ h) =
     elim (last_at (cond (x.component == j) (Some x) found) j h) [
-      inr l ↦ inr (record { place = suc l.place; entry = l.entry; stands = l.stands; component = l.component; from = last_at_later found j x h l.place l.entry l.from })
+      | inr l ↦ inr (record { place = suc l.place; entry = l.entry; stands = l.stands; component = l.component; from = last_at_later found j x h l.place l.entry l.from })
       | inl all ↦ elim (eqb_tells x.component j) [
-        inl t ↦ inr (record { place = 0; entry = x; stands = refl; component = t.1; from = last_at_first found j x h (ap (λ b. cond b (Some x) found) t.0) all })
+        | inl t ↦ inr (record { place = 0; entry = x; stands = refl; component = t.1; from = last_at_first found j x h (ap (λ b. cond b (Some x) found) t.0) all })
         | inr t ↦ inl (last_at_kept found j x h (ap (λ b. cond b (Some x) found) t.0) all)
       ]
     ]
@@ -107,14 +107,17 @@ pub overtaken_at : (o : Opening) (h : List Applied) (j a : ℕ) → (stamp_of o 
 overtaken_at o h j a changed =
     let whole : take (length h) h ≡ h = take_all (length h) h (omega arith) in
     elim (last_at None j h) [
-      inl all ↦ absurd (changed (stamp_found o j h None (ap (last_entry j) (sym whole) ∙ all (length h)) ∙ sym (stamp_found o j (take a h) None (all a))))
+      | inl all ↦ absurd (changed (stamp_found o j h None (ap (last_entry j) (sym whole) ∙ all (length h)) ∙ sym (stamp_found o j (take a h) None (all a))))
       | inr l ↦
-        let last : last_entry j h ≡ Some (l.entry) = ap (last_entry j) (sym whole) ∙ l.from (length h) (place_below h l.place l.entry l.stands) in
-        record {
-          place = l.place; entry = l.entry; stands = l.stands; component = l.component;
-          stamp = sym (stamp_found o j h (Some l.entry) last);
-          behind = elim (cases_lt l.place a) [ inl before ↦ absurd (changed (stamp_found o j h (Some l.entry) last ∙ sym (stamp_found o j (take a h) (Some l.entry) (l.from a before)))) | inr after ↦ after ]
-        }
+          let last : last_entry j h ≡ Some (l.entry) = ap (last_entry j) (sym whole) ∙ l.from (length h) (place_below h l.place l.entry l.stands) in
+          record {
+            place = l.place;
+            entry = l.entry;
+            stands = l.stands;
+            component = l.component;
+            stamp = sym (stamp_found o j h (Some l.entry) last);
+            behind = elim (cases_lt l.place a) [ inl before ↦ absurd (changed (stamp_found o j h (Some l.entry) last ∙ sym (stamp_found o j (take a h) (Some l.entry) (l.from a before)))) | inr after ↦ after ];
+          }
     ]
 
 -- what holds of each entry's stamp and of the initial one holds of a component's stamp
