@@ -1,0 +1,14 @@
+//! The plan text and the outcome text: each is read or written exactly.
+#![tactic(auto)]
+
+mod calls;
+mod device;
+mod fault;
+mod fields;
+mod lines;
+mod number;
+mod pieces;
+mod turns;
+
+pub use device::Device;
+pub use fault::{Cause, OutcomeError, PlanError};
