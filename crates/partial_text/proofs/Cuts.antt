@@ -3,7 +3,7 @@ use Rattle.std.proofs.Common.{◌≡◌, ℕ, suc, ◌+◌, ◌<◌, ◌≤◌, 
 use Rattle.std.proofs.lemmas.List.{append-nil, at_drop_more, at_drop_all, take_more, take_all}
 use Rattle.std.proofs.Math.Dec.{eqb-suc-zero}
 use Rattle.partial_text.specs.Pieces.{until, from, onto_first, pieces, pieces_behind}
-use Rattle.partial_text.specs.Judging.{is_nil}
+use Rattle.partial_text.specs.Judging.{is_nil, is_end}
 
 cut_step : (b : Bool) (c x : ℕ) (xs : List ℕ) → pieces c xs ≡ until c xs ∷ pieces_behind c (from c xs)
     → cond b ([] ∷ pieces c xs) (onto_first x (pieces c xs)) ≡ cond b [] (x ∷ until c xs) ∷ pieces_behind c (cond b (x ∷ xs) (from c xs))
@@ -62,3 +62,15 @@ some_length x xs = eqb-suc-zero (length xs)
 pub is_nil_behind : (c : ℕ) (xs : List ℕ) → is_nil (pieces_behind c xs) ≡ eqb (length xs) 0
 is_nil_behind c [] = refl
 is_nil_behind c (x ∷ xs) = rw pieces-cut (sym (some_length x xs))
+
+first_some : (b : Bool) (x : ℕ) (ps qs : List (List ℕ)) → 0 < length ps → is_end (cond b ([] ∷ ps) (onto_first x qs)) ≡ false
+first_some true x [] qs h = absurd (omega arith)
+first_some true x (p ∷ ps) qs h = refl
+first_some false x ps [] h = refl
+first_some false x ps (q ∷ []) h = refl
+first_some false x ps (q ∷ r ∷ qs) h = refl
+
+-- nothing stands behind a line where no byte does
+pub is_end_pieces : (c : ℕ) (xs : List ℕ) → is_end (pieces c xs) ≡ eqb (length xs) 0
+is_end_pieces c [] = refl
+is_end_pieces c (x ∷ xs) = first_some (eqb x c) x (pieces c xs) (pieces c xs) (pieces_some c xs) ∙ sym (some_length x xs)

@@ -166,9 +166,9 @@ line_at line [] = Err (plan.Line line cause.End)
 line_at line (l ∷ []) = Err (plan.Line line cause.End)
 line_at line (l ∷ k ∷ ls) = Ok (l, k ∷ ls)
 
--- the ports with that of one more line
-unfoldable pub one_more_port : ℕ → List (List Call) → List ℕ → Result (List (List Call)) PlanError
-one_more_port line found l = if nat_lt (length found) 64 then (port_at line (from 32 l) >>= λ cs. Ok (found ++ cs ∷ [])) else Err plan.Ports
+-- the ports with one more, of which these are the bytes behind the word
+unfoldable pub more_ports : ℕ → List (List Call) → List ℕ → Result (List (List Call)) PlanError
+more_ports line found calls = if nat_lt (length found) 64 then (port_at line calls >>= λ cs. Ok (found ++ cs ∷ [])) else Err plan.Ports
 
 -- nothing stands behind the last line
 abbrev pub is_end : List (List ℕ) → Bool
@@ -191,7 +191,7 @@ unfoldable pub tail_at : ℕ → List (List Call) → List (List ℕ) → Result
 tail_at line found [] = Err (plan.Line line cause.End)
 tail_at line found (l ∷ []) = Err (plan.Line line cause.End)
 tail_at line found (l ∷ k ∷ ls) =
-    if bytes_eq (until 32 l) (codes "port") then (one_more_port line found l >>= λ ports. tail_at (line + 1) ports (k ∷ ls)) else (last_at line (length found) l (k ∷ ls) >>= λ steps. Ok (record { ports = found; steps = steps.0; rest = steps.1 }))
+    if bytes_eq (until 32 l) (codes "port") then (more_ports line found (from 32 l) >>= λ ports. tail_at (line + 1) ports (k ∷ ls)) else (last_at line (length found) l (k ∷ ls) >>= λ steps. Ok (record { ports = found; steps = steps.0; rest = steps.1 }))
 
 unfoldable pub lines_judged : List (List ℕ) → Result PlanView PlanError
 lines_judged lines = do

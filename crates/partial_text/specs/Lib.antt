@@ -4,3 +4,4 @@ pub mod Fault
 pub mod PlanText
 pub mod Judging
 pub mod DeviceView
+pub mod Seen

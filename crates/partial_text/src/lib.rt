@@ -7,8 +7,12 @@ mod fault;
 mod fields;
 mod lines;
 mod number;
+mod outcome;
 mod pieces;
+mod plan;
 mod turns;
 
 pub use device::Device;
 pub use fault::{Cause, OutcomeError, PlanError};
+pub use outcome::Outcome;
+pub use plan::Plan;
