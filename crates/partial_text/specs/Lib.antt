@@ -5,3 +5,5 @@ pub mod PlanText
 pub mod Judging
 pub mod DeviceView
 pub mod Seen
+pub mod SeenParts
+pub mod OutcomeText
