@@ -1,0 +1,4 @@
+pub mod Cuts
+pub mod CallCuts
+pub mod Steps
+pub mod Bytes
