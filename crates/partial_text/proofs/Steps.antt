@@ -11,7 +11,7 @@ use Rattle.partial_text.specs.Judging.{Tail, line_at, more_ports, last_at, tail_
 -- a step that fails fails the whole
 pub Fails_first : {A B : Type 0} (e : PlanError) (r : Result A PlanError) (f : A → Result B PlanError) (judged : Result B PlanError) → Fails e r → (r >>= f) ≡ judged → Fails e judged
 Fails_first plan.Memory r f judged h e = tt
-Fails_first plan.Read r f judged h e = tt
+Fails_first plan.Read r f judged h e = absurd h
 Fails_first (plan.Size x) r f judged h e = sym e ∙ rw h refl
 Fails_first plan.Ports r f judged h e = sym e ∙ rw h refl
 Fails_first (plan.Line l c) r f judged h e = sym e ∙ rw h refl

@@ -31,15 +31,21 @@ abbrev pub ◌>>=◌ : {A B : Type 0} → Result A PlanError → (A → Result B
 (Ok x) >>= f = f x
 (Err e) >>= f = Err e
 
--- The error is the one that judging gives, unless memory ran out or the reader failed.
+-- The error is the one that judging gives, unless memory ran out. Judging reads nothing.
 abbrev pub Fails : {Y : Type 0} → PlanError → Result Y PlanError → Type 0
 Fails plan.Memory judged = Unit {0}
-Fails plan.Read judged = Unit {0}
+Fails plan.Read judged = ⊥
 Fails (plan.Size e) judged = judged ≡ Err (plan.Size e)
 Fails plan.Ports judged = judged ≡ Err plan.Ports
 Fails (plan.Line l c) judged = judged ≡ Err (plan.Line l c)
 
--- What a function returned, seen by view, is what judging gives, unless memory ran out or the reader failed.
+-- What a function returned, seen by view, is what judging gives, unless memory ran out.
 abbrev pub Gives : {X Y : Type 0} → (X → Y) → Result X PlanError → Result Y PlanError → Type 0
 Gives view (Ok x) judged = judged ≡ Ok (view x)
 Gives view (Err e) judged = Fails e judged
+
+-- what reading the bytes alone may answer
+abbrev pub IsReaderFault : PlanError → Type 0
+IsReaderFault plan.Memory = Unit {0}
+IsReaderFault plan.Read = Unit {0}
+IsReaderFault _ = ⊥

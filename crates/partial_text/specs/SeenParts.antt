@@ -1,5 +1,5 @@
 -- What reading gives, without where it lies in memory.
-use Rattle.partial_text.specs.declared.reading.Parts.{Parts}
+use Rattle.partial_text.specs.declared.plan.Parts.{Parts}
 use Rattle.partial_text.specs.PlanText.{PlanView}
 
 abbrev pub seen_parts : Parts → PlanView

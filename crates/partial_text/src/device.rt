@@ -53,8 +53,8 @@ impl<R: Read> Device<R> {
         requires { 0 < length buffer.old }
         ensures bytes { MatchOption result (self.new.failed ≡ true)
             (λ n. (n ≤ length buffer.new) × (self.new.failed ≡ self.old.failed)
-                × Consumes (R.remaining self.old.inner) (R.remaining self.new.inner) (take n buffer.new)
-                × (n ≡ 0 → IsAtEnd (R.remaining self.new.inner))) }
+            × Consumes (R.remaining self.old.inner) (R.remaining self.new.inner) (take n buffer.new)
+            × (n ≡ 0 → IsAtEnd (R.remaining self.new.inner))) }
     {
         match self.inner.read(buffer) {
             Ok(count) => Some(count),
@@ -72,7 +72,7 @@ impl<W: Write> Device<W> {
         ensures bytes { MatchOption result
             ((self.new.failed ≡ true) × Keeps (W.contents self.old.inner) (W.contents self.new.inner))
             (λ n. (0 < n) × (n ≤ length bytes.now) × (self.new.failed ≡ self.old.failed)
-                × Appends (W.contents self.old.inner) (W.contents self.new.inner) (take n bytes.now)) }
+            × Appends (W.contents self.old.inner) (W.contents self.new.inner) (take n bytes.now)) }
     {
         match self.inner.write(bytes) {
             Ok(count) if 0 < count => Some(count),

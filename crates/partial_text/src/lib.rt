@@ -19,4 +19,4 @@ pub use device::Device;
 pub use fault::{Cause, OutcomeError, PlanError};
 pub use outcome::Outcome;
 pub use plan::Plan;
-pub use writing::write_text;
+pub use writing::{write_outcome, write_text};

@@ -11,7 +11,9 @@ fn extend(number: u64, digit: u8, most: u64) -> Option<u64>
     if !digit.is_ascii_digit() {
         return None;
     }
-    let longer = number.checked_mul(10)?.checked_add(u64::from(digit - b'0'))?;
+    let longer = number
+        .checked_mul(10)?
+        .checked_add(u64::from(digit - b'0'))?;
     if longer <= most { Some(longer) } else { None }
 }
 

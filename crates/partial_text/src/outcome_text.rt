@@ -77,12 +77,158 @@ fn place(note: Option<Note>) -> usize
     }
 }
 
-fn push_applied(text: &mut Vec<u8>, word: &[u8], stamp: u64, place: usize) -> Result<(), AllocError>
+fn push_scanned(
+    text: &mut Vec<u8>,
+    values: &[u64],
+    collects: u32,
+    borrowed: Option<u64>,
+    prefix: usize,
+) -> Result<(), AllocError>
     ensures { OnOk result (text.new.items
-        ≡ text.old.items ++ (word.now ++ number_field stamp ++ codes " place" ++ number_field place)) }
+        ≡ text.old.items ++ answer_text (Answer.Scanned values.now collects borrowed) prefix) }
+{
+    text.extend_from_slice(b" scanned")?;
+    push_numbers(text, values)?;
+    text.extend_from_slice(b" prefix")?;
+    push_number(text, prefix as u64)?;
+    text.extend_from_slice(b" collects")?;
+    push_number(text, u64::from(collects))?;
+    text.extend_from_slice(b" borrowed")?;
+    push_optional(text, borrowed)
+}
+
+fn push_stamp(text: &mut Vec<u8>, word: &[u8], stamp: u64) -> Result<(), AllocError>
+    ensures { OnOk result (text.new.items ≡ text.old.items ++ word.now ++ number_field stamp) }
 {
     text.extend_from_slice(word)?;
-    push_number(text, stamp)?;
-    text.extend_from_slice(b" place")?;
-    push_number(text, place as u64)
+    push_number(text, stamp)
+}
+
+fn push_answer(text: &mut Vec<u8>, answer: &Answer, place: usize) -> Result<(), AllocError>
+    ensures { OnOk result (text.new.items ≡ text.old.items ++ answer_text answer.now place) }
+{
+    match answer {
+        Answer::Applied { stamp } => {
+            push_stamp(text, b" applied", *stamp)?;
+            push_stamp(text, b" place", place as u64)
+        }
+        Answer::Lost { by } => {
+            push_stamp(text, b" lost", *by)?;
+            push_stamp(text, b" place", place as u64)
+        }
+        Answer::Scanned {
+            values,
+            collects,
+            borrowed,
+        } => push_scanned(text, values.as_slice(), *collects, *borrowed, place),
+        Answer::Read { value, stamp } => {
+            push_stamp(text, b" read", *value)?;
+            push_number(text, *stamp)?;
+            push_stamp(text, b" prefix", place as u64)
+        }
+        Answer::Refused { cause } => push_stamp(text, b" refused", u64::from(refusal(*cause))),
+        Answer::Changed { by } => {
+            push_stamp(text, b" changed", *by)?;
+            push_stamp(text, b" prefix", place as u64)
+        }
+    }
+}
+
+fn push_finish(text: &mut Vec<u8>, finish: &Option<Finish>) -> Result<(), AllocError>
+    ensures { OnOk result (text.new.items ≡ text.old.items ++ finish_text finish.now) }
+{
+    match finish {
+        None => text.extend_from_slice(b" unfinished"),
+        Some(finish) => push_answer(text, &finish.answer, place(finish.note)),
+    }
+}
+
+fn ended(finish: &Option<Finish>) -> Option<u64>
+    ensures { result ≡ ended_of finish.now }
+{
+    match finish {
+        None => None,
+        Some(finish) => Some(finish.ended as u64),
+    }
+}
+
+fn push_call(text: &mut Vec<u8>, called: &Called) -> Result<(), AllocError>
+    ensures { OnOk result (text.new.items ≡ text.old.items ++ call_line called.now) }
+{
+    text.extend_from_slice(b"call")?;
+    push_number(text, u64::from(called.port))?;
+    push_number(text, u64::from(called.number))?;
+    push_finish(text, &called.finish)?;
+    push_stamp(text, b" steps", called.steps)?;
+    push_stamp(text, b" span", called.began as u64)?;
+    push_optional(text, ended(&called.finish))?;
+    text.push(b'\n')?;
+    Ok(())
+}
+
+fn push_entries(text: &mut Vec<u8>, history: &[Applied]) -> Result<(), AllocError>
+    ensures { OnOk result (text.new.items ≡ text.old.items ++ entry_lines 0 history.now) }
+{
+    for (place, entry) in history.iter().enumerate() {
+        push_entry(text, place, entry)?;
+    }
+    Ok(())
+}
+
+fn push_calls(text: &mut Vec<u8>, calls: &[Called]) -> Result<(), AllocError>
+    ensures { OnOk result (text.new.items ≡ text.old.items ++ flat_map call_line calls.now) }
+{
+    for called in calls {
+        push_call(text, called)?;
+    }
+    Ok(())
+}
+
+/// The values of the components after the history.
+fn final_values(
+    alloc: Global,
+    opening: &Opening,
+    history: &[Applied],
+) -> Result<Vec<u64>, AllocError>
+    ensures { IfOk result (λ v. v.items ≡ values_of opening.now history.now) }
+{
+    let mut values = Vec::from_slice(alloc, opening.values.as_slice())?;
+    for entry in history {
+        if let Some(value) = values.get_mut(entry.component as usize) {
+            *value = entry.value;
+        }
+    }
+    Ok(values)
+}
+
+/// Writes the line of the values.
+pub fn push_values(text: &mut Vec<u8>, values: &[u64]) -> Result<(), AllocError>
+    ensures { OnOk result (text.new.items ≡ text.old.items ++ values_line values.now) }
+{
+    text.extend_from_slice(b"values")?;
+    push_numbers(text, values)?;
+    text.push(b'\n')?;
+    Ok(())
+}
+
+fn push_total(text: &mut Vec<u8>, steps: u64) -> Result<(), AllocError>
+    ensures { OnOk result (text.new.items ≡ text.old.items ++ total_line steps) }
+{
+    push_stamp(text, b"total", steps)?;
+    text.push(b'\n')?;
+    Ok(())
+}
+
+/// The text of an outcome.
+pub(crate) fn text_of(alloc: Global, outcome: &Outcome) -> Result<Vec<u8>, AllocError>
+    ensures { IfOk result (λ v. v.items ≡ outcome_text outcome.now.opening
+        outcome.now.history.items outcome.now.calls.items outcome.now.steps) }
+{
+    let mut text = Vec::new(alloc);
+    push_entries(&mut text, &outcome.history)?;
+    push_calls(&mut text, &outcome.calls)?;
+    let values = final_values(alloc, &outcome.opening, &outcome.history)?;
+    push_values(&mut text, &values)?;
+    push_total(&mut text, outcome.steps)?;
+    Ok(text)
 }

@@ -27,8 +27,39 @@ impl Model for Plan {
     ghost invariant = { λ p. IsPlan (record { sizes = p.sizes; initial = p.initial.items; ports = p.ports.items; steps = p.steps.items; rest = p.rest }) };
 }
 
+/// What a plan text says.
+#[derive(Drop)]
+pub(crate) struct Parts {
+    pub(crate) sizes: Sizes,
+    pub(crate) initial: Vec<u64>,
+    pub(crate) ports: Vec<Sequence<Call>>,
+    pub(crate) steps: Vec<(u32, u32)>,
+    pub(crate) rest: bool,
+}
+
 impl Plan {
     ghost use Rattle.partial_text.specs.PlanText.{IsPlan};
+    ghost use Rattle.partial_text.specs.SeenParts.{seen_parts};
+
+    pub(crate) fn from_parts(parts: Parts) -> Plan
+        requires { IsPlan (seen_parts parts) }
+        ensures { result ≡ seen_parts parts }
+    {
+        let Parts {
+            sizes,
+            initial,
+            ports,
+            steps,
+            rest,
+        } = parts;
+        Plan {
+            sizes,
+            initial,
+            ports,
+            steps,
+            rest,
+        }
+    }
 
     /// The sizes of the memory.
     pub fn sizes(&self) -> Sizes
