@@ -5,6 +5,8 @@ use Rattle.partial_model.specs.declared.history.Applied.{Applied}
 use Rattle.partial_model.specs.declared.history.Opening.{Opening}
 use Rattle.partial_model.specs.Outcome.{places_written}
 use Rattle.partial_words.specs.declared.step.Step.TheVariants.{Store, Add}
+use Rattle.partial_model.specs.declared.call.Refused.TheVariants as refused
+use Rattle.partial_model.specs.Notes.{MayBeRefused}
 use Rattle.partial_words.specs.Layout.{Layout, slot_counter, list_head, pool_counter, pool_base, pool_end}
 use Rattle.partial_words.specs.Record.{record_block}
 use Rattle.partial_words.specs.Chain.{Agrees}
@@ -13,7 +15,7 @@ use Rattle.partial_core.specs.declared.stage.Change.{Change}
 use Rattle.partial_core.specs.declared.stage.Stage.{Stage}
 use Rattle.partial_core.specs.declared.stage.Stage.TheVariants.{ClaimingRecord, StoringRecord, Exchanging}
 use Rattle.partial_core.specs.Machine.{CoreState, at_stage, advance_at, reply_of, spent, fits_pool, IsStage}
-use Rattle.partial_core.specs.Lawful.{Part, Lawful, IsKnown, IsTied, IsOwn, Own, IsEntry, own_of, own_at, core_of, port_of, AreApart, HaveOtherBlocks, marked_in, is_at_rest, first_at, AreNotesOf}
+use Rattle.partial_core.specs.Lawful.{Part, Lawful, IsKnown, IsTied, IsOwn, Own, IsEntry, own_of, own_at, core_of, port_of, AreApart, HaveOtherBlocks, marked_in, is_at_rest, first_at, AreNotesOf, update_call, call_at}
 use Rattle.partial_core.proofs.ListLemmas.{all_weaker}
 use Rattle.partial_core.proofs.PartLemmas.{KnowsOld}
 use Rattle.partial_core.proofs.Rebuild.{rebuild, once_same, marked_same, marked_more, counter_high}
@@ -144,10 +146,16 @@ module _ (z : Layout) (o : Opening) (words : List ℕ) (before : List Part) (x :
         lawful = subst (λ n. Lawful z o (set words (pool_counter z) n) (before ++ gone x (log ++ []) counter [] ∷ after) (log ++ [])) (sym no_wrap) (nothing_added z o words before x after log w claimed counter [] (either (fits_pool (core_of x).sizes counter) refl));
       }
     where
+      knows : KnowsOld o log (first_at x.kept) x.begun (core_of x).pool_spent c old
+      knows = knows_here z o words before x after log w (ClaimingRecord c old) e refl refl
+      below : c.component < x.begun.sizes.m
+      below = let in' = (stage_here z o words before x after log w (ClaimingRecord c old) e).0 in let same = ap (λ (l : Layout). l.m) ((known_here z o words before x after log w).sizes) in omega (arith, in', same)
+      may : (s : Option ℕ) → MayBeRefused x.begun.sizes.m (update_call c.component s c.value) refused.PoolSpent
+      may None = ((below, tt), tt)
+      may (Some s) = ((below, tt), tt)
       noted : (b : Bool) → AreNotesOf (gone x (log ++ []) counter []) (reply_of (cond b (at_stage (core_of x) (StoringRecord c old counter 0)) (spent (core_of x)))) []
       noted true = refl
-      noted false = refl
-
+      noted false = record { none = refl; call = update_call c.component c.expected c.value; made = ap call_at (knows.call); may = may c.expected }
       either : (b : Bool) → fits_pool (core_of x).sizes counter ≡ b → Lawful z o claimed (before ++ gone x log counter [] ∷ after) log
       either true h = claim_fits c old e h
       either false h = claim_spent c old e h

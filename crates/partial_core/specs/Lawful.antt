@@ -5,11 +5,12 @@ use Rattle.partial_model.specs.declared.history.Applied.{Applied}
 use Rattle.partial_model.specs.declared.history.Opening.{Opening}
 use Rattle.partial_model.specs.declared.call.Call.{Call}
 use Rattle.partial_model.specs.declared.call.Call.TheVariants as call
+use Rattle.partial_model.specs.declared.call.Refused.{Refused}
 use Rattle.partial_model.specs.declared.call.Answer.{Answer}
 use Rattle.partial_model.specs.declared.call.Answer.TheVariants as answer
 use Rattle.partial_model.specs.declared.call.Note.{Note}
 use Rattle.partial_model.specs.History.{IsHistory, stamp_of}
-use Rattle.partial_model.specs.Notes.{Noted, LegalNotes, seen_by, shown_by, place_of}
+use Rattle.partial_model.specs.Notes.{Noted, LegalNotes, MayBeRefused, seen_by, shown_by, place_of}
 use Rattle.partial_model.specs.Outcome.{places_by, places_written}
 use Rattle.partial_words.specs.declared.step.Step.{Step}
 use Rattle.partial_words.specs.declared.step.Step.TheVariants.{Load}
@@ -256,10 +257,17 @@ pub record IsNoteOf (y : Part) (r : Reply) (new : List Noted) : Type 0 where
   pub behind : first_at y.kept ≤ place_of note
   pub within : shown_by note ≤ length y.seen
 
+-- a refused call isn't noted; it is one that may be refused for that cause
+pub record IsRefusal (y : Part) (cause : Refused) (new : List Noted) : Type 0 where
+  pub none : new ≡ []
+  pub call : Call
+  pub made : call_at y.begun.stage ≡ Some call
+  pub may : MayBeRefused y.begun.sizes.m call cause
+
 -- nothing is noted while the call goes on, nor where it is refused
 abbrev pub AreNotesOf : Part → Option Reply → List Noted → Type 0
 AreNotesOf y None new = new ≡ []
-AreNotesOf y (Some (reply.Refused cause)) new = new ≡ []
+AreNotesOf y (Some (reply.Refused cause)) new = IsRefusal y cause new
 AreNotesOf y (Some r) new = IsNoteOf y r new
 
 -- what the due step of a machine leads to, answered by the plain meaning of the step

@@ -43,17 +43,15 @@ impl From<AllocError> for ReplayError {
 ///
 /// `Memory` where a growth was refused: the words, the trace or the calls found no room.
 pub fn replay(alloc: Global, plan: &Plan) -> Result<Outcome, ReplayError> {
-    let sizes = plan.sizes();
     let plans = plan.ports();
-    let mut run = Run::open(alloc, sizes, plan.initial(), plans.len())?;
+    let mut run = Run::open(alloc, plan.sizes(), plan.initial(), plans)?;
     for (p, count) in plan.steps() {
-        let p = *p as usize;
-        run.turns(p, plans[p].as_slice(), *count)?;
+        run.turns(*p as usize, plans, *count)?;
     }
     if plan.rest() {
         for p in 0..plans.len() {
-            run.to_the_end(p, plans[p].as_slice())?;
+            run.to_the_end(p, plans)?;
         }
     }
-    Ok(run.into_outcome(alloc, sizes, plan.initial(), plans)?)
+    Ok(run.into_outcome(alloc, plans)?)
 }

@@ -1,16 +1,24 @@
 //! A replay under way: the words, the ports that work on them, and what has happened so far.
 
+ghost use Rattle.std.specs.Prelude.{◌≡◌, ◌<◌, ◌≤◌, ◌^◌, length, slice_index, IfOk, OnOk};
+ghost use Rattle.std.specs.Bool.{OnTrue};
+ghost use Rattle.partial_words.specs.Layout.{total};
+ghost use Rattle.partial_words.specs.Chain.{AreOpeningWords};
+ghost use Rattle.partial_replay.specs.RunState.{AreFreshPorts};
+
 use partial_core::Core;
 use partial_model::{Applied, Call, Called, Opening, Sequence};
 use partial_text::Outcome;
-use partial_words::{Event, Sizes, Step, value_of};
+use partial_words::{Event, Sizes};
 use std::alloc::{AllocError, Global};
 
-use crate::port::{Port, UnderWay};
+use crate::port::{Port, unfinished};
 
 /// The state of a replay.
 #[derive(Debug, Drop)]
 pub struct Run {
+    pub sizes: Sizes,
+    pub opening: Opening,
     pub words: Vec<u64>,
     pub ports: Vec<Port>,
     pub history: Vec<Applied>,
@@ -18,7 +26,10 @@ pub struct Run {
 }
 
 // The words at opening.
-fn opening_words(alloc: Global, sizes: Sizes, initial: &[u64]) -> Result<Vec<u64>, AllocError> {
+fn opening_words(alloc: Global, sizes: Sizes, initial: &[u64]) -> Result<Vec<u64>, AllocError>
+    requires { length initial.now ≡ sizes.m }
+    ensures { IfOk result (λ words. AreOpeningWords sizes initial.now words.items) }
+{
     let total = sizes.total();
     let mut words = Vec::with_capacity(alloc, total as usize)?;
     for w in 0..total {
@@ -27,8 +38,116 @@ fn opening_words(alloc: Global, sizes: Sizes, initial: &[u64]) -> Result<Vec<u64
     Ok(words)
 }
 
+impl Run {
+    ghost use Rattle.partial_replay.specs.RunState.{ArePlans, IsRun, IsSameOpening, IsNearerEnd};
+
+    /// The replay as it opens, with the ports of a plan.
+    pub fn open(
+        alloc: Global,
+        sizes: Sizes,
+        initial: &[u64],
+        plans: &[Sequence<Call>],
+    ) -> Result<Run, AllocError>
+        requires values { length initial.now ≡ sizes.m }
+        requires ports { length plans.now ≤ 64 }
+        ensures run { IfOk result (IsRun plans.now) }
+        ensures opening { IfOk result (λ run. (run.sizes ≡ sizes) × (run.opening.values ≡ initial.now)) }
+    {
+        let first = u64::from(sizes.pool_base());
+        Ok(Run {
+            sizes,
+            opening: Opening {
+                values: Sequence::from(Vec::from_slice(alloc, initial)?),
+                first,
+            },
+            words: opening_words(alloc, sizes, initial)?,
+            ports: fresh_ports(alloc, sizes, plans.len())?,
+            history: Vec::new(alloc),
+            trace: Vec::new(alloc),
+        })
+    }
+
+    /// One turn of a port: it makes one step, or answers that it has no call left.
+    pub fn turn(&mut self, p: usize, plans: &[Sequence<Call>]) -> Result<bool, AllocError>
+        requires run { IsRun plans.now self.old }
+        requires plans { ArePlans plans.now }
+        requires port { p < length plans.now }
+        ensures run { OnOk result (IsRun plans.now self.new) }
+        ensures same { OnOk result (IsSameOpening self.old self.new) }
+        ensures progress { IfOk result (λ stepped. OnTrue stepped (IsNearerEnd plans.now p self.old self.new)) }
+    {
+        let calls = plans[p].as_slice();
+        let seen = self.history.len();
+        let port = &mut self.ports[p];
+        if port.under_way.is_none() && !port.begin_next(calls, seen)? {
+            return Ok(false);
+        }
+        port.make_step(calls, &mut self.words, &mut self.trace, &mut self.history)?;
+        Ok(true)
+    }
+
+    /// So many turns of a port, or until it has no call left.
+    pub fn turns(&mut self, p: usize, plans: &[Sequence<Call>], count: u32) -> Result<(), AllocError>
+        requires run { IsRun plans.now self.old }
+        requires plans { ArePlans plans.now }
+        requires port { p < length plans.now }
+        ensures run { OnOk result (IsRun plans.now self.new) }
+        ensures same { OnOk result (IsSameOpening self.old self.new) }
+    {
+        for _ in 0..count {
+            if !self.turn(p, plans)? {
+                break;
+            }
+        }
+        Ok(())
+    }
+
+    /// Turns of a port until it has no call left, however many.
+    pub fn to_the_end(&mut self, p: usize, plans: &[Sequence<Call>]) -> Result<(), AllocError>
+        requires run { IsRun plans.now self.old }
+        requires plans { ArePlans plans.now }
+        requires port { p < length plans.now }
+        ensures run { OnOk result (IsRun plans.now self.new) }
+        ensures same { OnOk result (IsSameOpening self.old self.new) }
+    {
+        while self.turn(p, plans)? {}
+        Ok(())
+    }
+
+    /// What came of the replay.
+    pub fn into_outcome(
+        self,
+        alloc: Global,
+        plans: &[Sequence<Call>],
+    ) -> Result<Outcome, AllocError>
+        requires run { IsRun plans.now self }
+        requires plans { ArePlans plans.now }
+    {
+        let Run {
+            sizes: _,
+            opening,
+            words,
+            ports,
+            history,
+            trace,
+        } = self;
+        let steps = trace.len() as u64;
+        Ok(Outcome {
+            opening,
+            history,
+            calls: calls_of(alloc, ports, plans)?,
+            words,
+            trace,
+            steps,
+        })
+    }
+}
+
 // The ports, none of which has made a call.
-fn fresh_ports(alloc: Global, sizes: Sizes, count: usize) -> Result<Vec<Port>, AllocError> {
+fn fresh_ports(alloc: Global, sizes: Sizes, count: usize) -> Result<Vec<Port>, AllocError>
+    requires { count ≤ 64 }
+    ensures { IfOk result (λ ports. AreFreshPorts sizes count ports.items) }
+{
     let mut ports = Vec::with_capacity(alloc, count)?;
     for number in 0..count {
         let number = number as u32;
@@ -40,117 +159,6 @@ fn fresh_ports(alloc: Global, sizes: Sizes, count: usize) -> Result<Vec<Port>, A
         })?;
     }
     Ok(ports)
-}
-
-// The entry that a step adds to the history: a won exchange of a component word adds one.
-fn entry_of(words: &[u64], port: u32, step: Step, answer: u64) -> Option<Applied> {
-    match step {
-        Step::Exchange(component, old, at) if answer == old => Some(Applied {
-            port,
-            component,
-            value: value_of(words, at as usize),
-            stamp: at,
-        }),
-        _ => None,
-    }
-}
-
-impl Run {
-    /// The replay as it opens.
-    pub fn open(
-        alloc: Global,
-        sizes: Sizes,
-        initial: &[u64],
-        ports: usize,
-    ) -> Result<Run, AllocError> {
-        Ok(Run {
-            words: opening_words(alloc, sizes, initial)?,
-            ports: fresh_ports(alloc, sizes, ports)?,
-            history: Vec::new(alloc),
-            trace: Vec::new(alloc),
-        })
-    }
-
-    /// One turn of a port: it makes one step, or answers that it has no call left.
-    pub fn turn(&mut self, p: usize, calls: &[Call]) -> Result<bool, AllocError> {
-        let seen = self.history.len();
-        let port = &mut self.ports[p];
-        if port.under_way.is_none() && !port.begin_next(calls, seen)? {
-            return Ok(false);
-        }
-        self.step(p, calls)?;
-        Ok(true)
-    }
-
-    // The due step of a port with a call under way.
-    fn step(&mut self, p: usize, calls: &[Call]) -> Result<(), AllocError> {
-        let port = &mut self.ports[p];
-        if let (Some(way), Some(step)) = (port.under_way, port.core.step()) {
-            let answer = step.perform(&mut self.words);
-            self.trace.push(Event {
-                port: port.number,
-                step,
-                answer,
-            })?;
-            if let Some(entry) = entry_of(&self.words, port.number, step, answer) {
-                self.history.push(entry)?;
-            }
-            port.core.answer(answer);
-            let way = UnderWay {
-                began: way.began,
-                steps: way.steps + 1,
-            };
-            match port.core.take() {
-                Some(reply) => port.finish(calls, &self.history, way, reply)?,
-                None => port.under_way = Some(way),
-            }
-        }
-        Ok(())
-    }
-
-    /// Turns of a port, until it has no call left.
-    pub fn turns(&mut self, p: usize, calls: &[Call], count: u32) -> Result<(), AllocError> {
-        for _ in 0..count {
-            if !self.turn(p, calls)? {
-                break;
-            }
-        }
-        Ok(())
-    }
-
-    /// Turns of a port until it has no call left, however many.
-    pub fn to_the_end(&mut self, p: usize, calls: &[Call]) -> Result<(), AllocError> {
-        while self.turn(p, calls)? {}
-        Ok(())
-    }
-
-    /// What came of the replay of a plan with these initial values.
-    pub fn into_outcome(
-        self,
-        alloc: Global,
-        sizes: Sizes,
-        initial: &[u64],
-        plans: &[Sequence<Call>],
-    ) -> Result<Outcome, AllocError> {
-        let Run {
-            words,
-            ports,
-            history,
-            trace,
-        } = self;
-        let steps = trace.len() as u64;
-        Ok(Outcome {
-            opening: Opening {
-                values: Sequence::from(Vec::from_slice(alloc, initial)?),
-                first: u64::from(sizes.pool_base()),
-            },
-            history,
-            calls: calls_of(alloc, ports, plans)?,
-            words,
-            trace,
-            steps,
-        })
-    }
 }
 
 // The calls that the ports have begun, by port and then by number.
@@ -165,7 +173,8 @@ fn calls_of(
         let number = port.finished.len();
         calls.append(&mut port.finished)?;
         if let Some(way) = port.under_way {
-            calls.push(port.unfinished(plans[p].as_slice(), number, way))?;
+            let plan = plans[p].as_slice();
+            calls.push(unfinished(port.number, number as u32, &plan[number], way))?;
         }
     }
     Ok(calls)

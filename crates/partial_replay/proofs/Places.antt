@@ -1,0 +1,128 @@
+-- The least place that fits: where a call's note is legal, so is the one that is found from its begin on.
+use Rattle.std.proofs.Common.{ℕ, zero, suc, ◌≡◌, ◌≢◌, ◌+◌, ◌<◌, ◌≤◌, ◌⊎◌, ◌==◌, ◌++◌, Bool, true, false, cond, List, [], ◌∷◌, length, take, get_or, Option, Some, None, IfSome, MatchOption, slice_get, refl, sym, ◌∙◌, ap, subst, inl, inr, arith}
+use Rattle.std.specs.List.{AllByRecursion}
+use Rattle.std.specs.Option.{option_map, option_map_or}
+use Rattle.std.proofs.lemmas.Bool.{cases_lt}
+use Rattle.std.proofs.lemmas.List.{take-take}
+use Rattle.partial_model.specs.declared.history.Applied.{Applied}
+use Rattle.partial_model.specs.declared.history.Opening.{Opening}
+use Rattle.partial_model.specs.declared.call.Call.{Call}
+use Rattle.partial_model.specs.declared.call.Call.TheVariants as call
+use Rattle.partial_model.specs.declared.call.Answer.{Answer}
+use Rattle.partial_model.specs.declared.call.Note.{Note}
+use Rattle.partial_model.specs.declared.call.Note.TheVariants as note
+use Rattle.partial_model.specs.History.{HaveDistinctStamps, IsHistory, last_entry, initial_stamp, stamp_of, value_of}
+use Rattle.partial_model.specs.Notes.{Noted, Fits, IsTrueOf, place_of, shown_by}
+use Rattle.partial_model.specs.Outcome.{wrote}
+use Rattle.partial_model.proofs.HistoryLemmas.{LastAt, last_at, place_below}
+use Rattle.partial_model.proofs.NotesLemmas.{AllByRecursion-get}
+use Rattle.partial_core.specs.declared.stage.Reply.{Reply}
+use Rattle.partial_core.specs.declared.stage.Reply.TheVariants as reply
+use Rattle.partial_core.specs.Lawful.{answer_for}
+use Rattle.partial_replay.specs.Place.{HasNoneFrom, IsPlaceFrom, IsNoteFrom, prefix_from}
+
+-- no two places have one stamp
+pub one_place : (h : List Applied) (i k : ℕ) (a b : Applied) → HaveDistinctStamps h → slice_get h i ≡ Some a → slice_get h k ≡ Some b → a.stamp ≡ b.stamp → i ≡ k
+one_place [] i k a b d x y same = let bad : None ≡ Some a = x in cc
+one_place (e ∷ h) zero zero a b d x y same = refl
+one_place (e ∷ h) zero (suc k) a b d x y same =
+    let is : e ≡ a = cc in absurd (AllByRecursion-get (λ (f : Applied). e.stamp ≢ f.stamp) h k b d.0 y (ap (λ (f : Applied). f.stamp) is ∙ same))
+one_place (e ∷ h) (suc i) zero a b d x y same =
+    let is : e ≡ b = cc in absurd (AllByRecursion-get (λ (f : Applied). e.stamp ≢ f.stamp) h i a d.0 x (ap (λ (f : Applied). f.stamp) is ∙ sym same))
+one_place (e ∷ h) (suc i) (suc k) a b d x y same = ap suc (one_place h i k a b d.1 x y same)
+
+-- an entry of the first n is an entry at that place below n
+front_place : {A : Type 0} (h : List A) (n k : ℕ) (e : A) → slice_get (take n h) k ≡ Some e → (k < n) × (slice_get h k ≡ Some e)
+front_place h zero k e s = let bad : None ≡ Some e = s in cc
+front_place [] (suc n) k e s = let bad : None ≡ Some e = s in cc
+front_place (x ∷ h) (suc n) zero e s = (omega arith, s)
+front_place (x ∷ h) (suc n) (suc k) e s = let both = front_place h n k e s in (omega (arith, both.0), both.1)
+
+-- the least prefix that shows a stamp from the begin on shows the same last entry
+pub record ShowsSame (h : List Applied) (j began n m : ℕ) : Type 0 where
+  pub least : m ≤ n
+  pub behind : began ≤ m
+  pub same : last_entry j (take m h) ≡ last_entry j (take n h)
+
+stamp_behind : (o : Opening) (j : ℕ) (h : List Applied) (found : Option Applied) (s : ℕ) → last_entry j h ≡ found → stamp_of o h j ≡ s → option_map_or (λ (e : Applied). e.stamp) found (initial_stamp o j) ≡ s
+stamp_behind o j h found s is stamp = ap (λ (f : Option Applied). option_map_or (λ (e : Applied). e.stamp) f (initial_stamp o j)) (sym is) ∙ stamp
+
+shows_initial : (o : Opening) (h : List Applied) (j began n s : ℕ) (found : Option ℕ) → IsHistory o h → began ≤ n → j < length o.values → s ≡ initial_stamp o j → ((a : ℕ) → last_entry j (take a (take n h)) ≡ None) → IsPlaceFrom h began s found → ShowsSame h j began n (prefix_from began found)
+shows_initial o h j began n s None hist behind below first all place =
+    let whole : take n (take n h) ≡ take n h = take-take n n h (omega arith) in
+    let front : take began (take n h) ≡ take began h = take-take began n h behind in
+    record { least = behind; behind = omega arith; same = ap (last_entry j) (sym front) ∙ all began ∙ sym (ap (last_entry j) (sym whole) ∙ all n) }
+shows_initial o h j began n s (Some k) hist behind below first all place =
+    let e = place.1.0 in
+    absurd (AllByRecursion-get (λ (f : Applied). (i : ℕ) → i < length o.values → f.stamp ≢ initial_stamp o i) h k e hist.not_initial place.1.1 j below (place.1.2 ∙ first))
+
+shows_entry : (o : Opening) (h : List Applied) (j began n s : ℕ) (found : Option ℕ) (l : LastAt None j (take n h)) → IsHistory o h → began ≤ n → (l.entry).stamp ≡ s → IsPlaceFrom h began s found → ShowsSame h j began n (prefix_from began found)
+shows_entry o h j began n s None l hist behind stamp place =
+    let both = front_place h n (l.place) (l.entry) (l.stands) in
+    let whole : take n (take n h) ≡ take n h = take-take n n h (omega arith) in
+    let front : take began (take n h) ≡ take began h = take-take began n h behind in
+    elim (cases_lt (l.place) began) [
+      inl before ↦ record { least = behind; behind = omega arith; same = ap (last_entry j) (sym front) ∙ l.from began before ∙ sym (ap (last_entry j) (sym whole) ∙ l.from n (omega (arith, before, behind))) }
+      | inr from ↦ absurd (place (l.place) (l.entry) from both.1 stamp)
+    ]
+shows_entry o h j began n s (Some k) l hist behind stamp place =
+    let both = front_place h n (l.place) (l.entry) (l.stands) in
+    let is : l.place ≡ k = one_place h (l.place) k (l.entry) (place.1.0) hist.distinct both.1 place.1.1 (stamp ∙ sym (place.1.2)) in
+    let more : k + 1 ≤ n = omega (arith, is, both.0) in
+    let whole : take n (take n h) ≡ take n h = take-take n n h (omega arith) in
+    let front : take (k + 1) (take n h) ≡ take (k + 1) h = take-take (k + 1) n h more in
+    record { least = more; behind = omega (arith, place.0); same = ap (last_entry j) (sym front) ∙ l.from (k + 1) (omega (arith, is)) ∙ sym (ap (last_entry j) (sym whole) ∙ l.from n (omega (arith, both.0))) }
+
+pub shows_same : (o : Opening) (h : List Applied) (j began n s : ℕ) (found : Option ℕ) → IsHistory o h → began ≤ n → j < length o.values → stamp_of o (take n h) j ≡ s → IsPlaceFrom h began s found → ShowsSame h j began n (prefix_from began found)
+shows_same o h j began n s found hist behind below stamp place =
+    let whole : take n (take n h) ≡ take n h = take-take n n h (omega arith) in
+    elim (last_at None j (take n h)) [
+      inl all ↦ shows_initial o h j began n s found hist behind below (sym (stamp_behind o j (take n h) None s (ap (last_entry j) (sym whole) ∙ all n) stamp)) all place
+      | inr l ↦
+        let both = front_place h n (l.place) (l.entry) (l.stands) in
+        shows_entry o h j began n s found l hist behind (stamp_behind o j (take n h) (Some (l.entry)) s (ap (last_entry j) (sym whole) ∙ l.from n (both.0)) stamp) place
+    ]
+
+-- what the note that is found says of a call whose note of some place is legal
+pub record FindsPlace (o : Opening) (h : List Applied) (p began : ℕ) (c : Call) (a : Answer) (n : Note) (found : Option Note) : Type 0 where
+  pub note : Note
+  pub is : found ≡ Some note
+  pub fits : Fits (length o.values) c a (Some note)
+  pub true' : IsTrueOf o h p c a note
+  pub behind : began ≤ place_of note
+  pub within : shown_by note ≤ shown_by n
+  pub wrote' : wrote (Some note) ≡ wrote (Some n)
+
+-- the place of an entry is found where the entry stands from the begin on
+found_at : (o : Opening) (h : List Applied) (began s k : ℕ) (e : Applied) (found : Option ℕ) → IsHistory o h → began ≤ k → slice_get h k ≡ Some e → e.stamp ≡ s → IsPlaceFrom h began s found → found ≡ Some k
+found_at o h began s k e None hist behind stands stamp place = absurd (place k e behind stands stamp)
+found_at o h began s k e (Some i) hist behind stands stamp place = ap Some (one_place h i k (place.1.0) e hist.distinct place.1.1 stands (place.1.2 ∙ sym stamp))
+
+pub finds_place : (o : Opening) (h : List Applied) (p began : ℕ) (c : Call) (r : Reply) (n : Note) (found : Option Note) → IsHistory o h → Fits (length o.values) c (answer_for r) (Some n) → IsTrueOf o h p c (answer_for r) n → began ≤ place_of n → IsNoteFrom h began r found → FindsPlace o h p began c (answer_for r) n found
+finds_place o h p began (call.Update j v) (reply.Applied s) (note.Wrote k) found hist fits w behind place =
+    let is = found_at o h began s k (record { port = p; component = j; value = v; stamp = s }) (place.0) hist behind w refl place.1 in
+    record { note = note.Wrote k; is = place.2 ∙ ap (option_map note.Wrote) is; fits = fits; true' = w; behind = behind; within = omega arith; wrote' = refl }
+finds_place o h p began (call.Update j v) (reply.Lost by) (note.Lost k) found hist fits w behind place =
+    let is = found_at o h began by k (w.0) (place.0) hist behind (w.1) (w.3) place.1 in
+    record { note = note.Lost k; is = place.2 ∙ ap (option_map note.Lost) is; fits = fits; true' = w; behind = behind; within = omega arith; wrote' = refl }
+finds_place o h p began (call.Read j) (reply.Read v s) (note.Saw n) found hist fits w behind place =
+    let l = shows_same o h j began n s (place.0) hist behind fits (sym (w.2)) place.1 in
+    let m = prefix_from began (place.0) in
+    record {
+      note = note.Saw m; is = place.2; fits = fits;
+      true' = (omega (arith, l.least, w.0), w.1 ∙ ap (λ (f : Option Applied). option_map_or (λ (e : Applied). e.value) f (get_or o.values j 0)) (sym l.same), w.2 ∙ ap (λ (f : Option Applied). option_map_or (λ (e : Applied). e.stamp) f (initial_stamp o j)) (sym l.same));
+      behind = l.behind; within = l.least; wrote' = refl;
+    }
+finds_place o h p began (call.UpdateIf j x v) (reply.Applied s) (note.Wrote k) found hist fits w behind place =
+    let is = found_at o h began s k (record { port = p; component = j; value = v; stamp = s }) (place.0) hist behind (w.0) refl place.1 in
+    record { note = note.Wrote k; is = place.2 ∙ ap (option_map note.Wrote) is; fits = fits; true' = w; behind = behind; within = omega arith; wrote' = refl }
+finds_place o h p began (call.UpdateIf j x v) (reply.Changed t) (note.Saw n) found hist fits w behind place =
+    let l = shows_same o h j began n t (place.0) hist behind fits (w.1) place.1 in
+    let m = prefix_from began (place.0) in
+    record {
+      note = note.Saw m; is = place.2; fits = fits;
+      true' = (omega (arith, l.least, w.0), ap (λ (f : Option Applied). option_map_or (λ (e : Applied). e.stamp) f (initial_stamp o j)) l.same ∙ w.1, w.2);
+      behind = l.behind; within = l.least; wrote' = refl;
+    }
+finds_place o h p began (call.Scan js) (reply.Applied s) (note.Wrote k) found hist fits w behind place = absurd w
+finds_place o h p began _ _ _ found hist fits w behind place = absurd w

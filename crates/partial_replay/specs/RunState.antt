@@ -1,0 +1,62 @@
+-- The state of a replay: lawful, with a part for each port, and a trace that leads to its words.
+use Rattle.std.specs.Prelude.{ℕ, ◌≡◌, ◌+◌, ◌*◌, ◌-◌, ◌<◌, ◌^◌, ⊤, zero, suc, List, [], ◌∷◌, length, None}
+use Rattle.std.specs.List.{AllByRecursion}
+use Rattle.partial_model.specs.declared.history.Applied.{Applied}
+use Rattle.partial_model.specs.declared.history.Opening.{Opening}
+use Rattle.partial_model.specs.declared.call.Call.{Call}
+use Rattle.partial_words.specs.Layout.{Layout}
+use Rattle.partial_words.specs.Step.{Leads}
+use Rattle.partial_words.specs.Chain.{AreOpeningWords}
+use Rattle.std.specs.Option.{option_map_or}
+use Rattle.partial_core.specs.Machine.{fresh, steps_left}
+use Rattle.partial_core.specs.Lawful.{Part, Lawful}
+use Rattle.partial_replay.specs.declared.port.Port.{Port}
+use Rattle.partial_replay.specs.declared.run.Run.{Run}
+use Rattle.partial_replay.specs.PortState.{PortFits, IsServed}
+
+-- the ports from number p on, each with its calls and its part
+abbrev pub PortsFit : Opening → List Applied → ℕ → List (List Call) → List Part → List Port → Type 0
+PortsFit o log p [] [] [] = ⊤
+PortsFit o log p (calls ∷ plans) (x ∷ xs) (port ∷ ports) = PortFits o log calls p x port × PortsFit o log (p + 1) plans xs ports
+PortsFit o log p _ _ _ = ⊥
+
+-- the calls of a plan's ports: each is one that the machine serves, and a call's number fits 32 bits
+abbrev pub ArePlans : List (List Call) → Type 0
+ArePlans plans = AllByRecursion (λ calls. (length calls < 2 ^ 32) × AllByRecursion IsServed calls) plans
+
+-- the state of a replay of these calls is lawful, and its trace leads from the words at opening to its words
+pub record IsRun (plans : List (List Call)) (run : Run) : Type 0 where
+  pub parts : List Part
+  pub opened : List ℕ
+  pub opens : AreOpeningWords run.sizes run.opening.values opened
+  pub lawful : Lawful run.sizes run.opening run.words.items parts run.history.items
+  pub ports : PortsFit run.opening run.history.items 0 plans parts run.ports.items
+  pub trace : Leads opened run.trace.items run.words.items
+
+-- a replay goes on with the same sizes from the same opening
+pub record IsSameOpening (old new : Run) : Type 0 where
+  pub sizes : new.sizes ≡ old.sizes
+  pub opening : new.opening ≡ old.opening
+
+-- how many steps a port has left at most: of the call under way, and of those behind it
+abbrev pub left_of : List Call → Port → ℕ
+left_of calls port = option_map_or (λ way. 9 * (length calls - length port.finished.items - 1) + steps_left port.core) port.under_way (9 * (length calls - length port.finished.items))
+
+-- the steps left of the port with that number, where there is one
+abbrev pub left_at : ℕ → List (List Call) → List Port → ℕ
+left_at p [] ports = 0
+left_at p (calls ∷ plans) [] = 0
+left_at zero (calls ∷ plans) (port ∷ ports) = left_of calls port
+left_at (suc p) (calls ∷ plans) (port ∷ ports) = left_at p plans ports
+
+-- the port has fewer steps left
+abbrev pub IsNearerEnd : List (List Call) → ℕ → Run → Run → Type 0
+IsNearerEnd plans p old new = left_at p plans new.ports.items < left_at p plans old.ports.items
+
+-- so many ports from that number on that have made no call
+abbrev pub FreshFrom : Layout → ℕ → List Port → Type 0
+FreshFrom z p [] = ⊤
+FreshFrom z p (port ∷ ports) = (port.number ≡ p) × (port.core ≡ fresh z p) × (port.finished.items ≡ []) × (port.under_way ≡ None) × FreshFrom z (p + 1) ports
+
+abbrev pub AreFreshPorts : Layout → ℕ → List Port → Type 0
+AreFreshPorts z n ports = (length ports ≡ n) × FreshFrom z 0 ports
