@@ -5,6 +5,7 @@ use Rattle.partial_model.specs.declared.history.Applied.{Applied}
 use Rattle.partial_model.specs.declared.history.Opening.{Opening}
 use Rattle.partial_model.specs.declared.call.Call.{Call}
 use Rattle.partial_words.specs.Layout.{Layout}
+use Rattle.partial_words.specs.declared.step.Event.{Event}
 use Rattle.partial_words.specs.Step.{Leads}
 use Rattle.partial_words.specs.Chain.{AreOpeningWords}
 use Rattle.std.specs.Option.{option_map_or}
@@ -25,13 +26,16 @@ abbrev pub ArePlans : List (List Call) → Type 0
 ArePlans plans = AllByRecursion (λ calls. (length calls < 2 ^ 32) × AllByRecursion IsServed calls) plans
 
 -- the state of a replay of these calls is lawful, and its trace leads from the words at opening to its words
-pub record IsRun (plans : List (List Call)) (run : Run) : Type 0 where
+pub record IsRunOf (plans : List (List Call)) (z : Layout) (o : Opening) (words : List ℕ) (ports : List Port) (log : List Applied) (trace : List Event) : Type 0 where
   pub parts : List Part
   pub opened : List ℕ
-  pub opens : AreOpeningWords run.sizes run.opening.values opened
-  pub lawful : Lawful run.sizes run.opening run.words.items parts run.history.items
-  pub ports : PortsFit run.opening run.history.items 0 plans parts run.ports.items
-  pub trace : Leads opened run.trace.items run.words.items
+  pub opens : AreOpeningWords z o.values opened
+  pub lawful : Lawful z o words parts log
+  pub fit : PortsFit o log 0 plans parts ports
+  pub leads : Leads opened trace words
+
+abbrev pub IsRun : List (List Call) → Run → Type 0
+IsRun plans run = IsRunOf plans run.sizes run.opening run.words.items run.ports.items run.history.items run.trace.items
 
 -- a replay goes on with the same sizes from the same opening
 pub record IsSameOpening (old new : Run) : Type 0 where
