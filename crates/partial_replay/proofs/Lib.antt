@@ -1,3 +1,4 @@
 pub mod Places
 pub mod PortLaws
 pub mod RunLaws
+pub mod RunSteps
