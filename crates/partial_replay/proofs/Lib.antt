@@ -2,3 +2,4 @@ pub mod Places
 pub mod PortLaws
 pub mod RunLaws
 pub mod RunSteps
+pub mod Opens

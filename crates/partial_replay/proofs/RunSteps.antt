@@ -1,9 +1,10 @@
 -- A turn of a port among the others.
 use Rattle.std.proofs.Common.{ℕ, zero, suc, ◌≡◌, ◌≢◌, ◌+◌, ◌-◌, ◌*◌, ◌<◌, ◌≤◌, ◌^◌, ◌⊎◌, ◌==◌, ◌++◌, Bool, true, false, cond, List, [], ◌∷◌, length, take, get_or, set, Option, Some, None, IfSome, MatchOption, MatchBool, slice_get, refl, sym, ◌∙◌, ap, subst, arith, append_assoc, length-append, get_or-set_other}
 use Rattle.std.specs.List.{AllByRecursion}
-use Rattle.std.specs.Option.{option_map_or}
+use Rattle.std.specs.Option.{option_map_or, is_some, IsSome}
+use Rattle.std.specs.Bool.{OnTrue}
 use Rattle.std.proofs.lemmas.Bool.{false≢true, eqb-true}
-use Rattle.std.proofs.lemmas.List.{append-nil}
+use Rattle.std.proofs.lemmas.List.{append-nil, length_push}
 use Rattle.partial_model.specs.declared.history.Applied.{Applied}
 use Rattle.partial_model.specs.declared.history.Opening.{Opening}
 use Rattle.partial_model.specs.declared.call.Call.{Call}
@@ -16,19 +17,20 @@ use Rattle.partial_words.specs.Layout.{Layout, pool_base, pool_end, total}
 use Rattle.partial_words.specs.Step.{Answers, Leads, answer_of, words_after, word_of}
 use Rattle.partial_words.specs.Record.{record_block, value_of}
 use Rattle.partial_core.specs.declared.stage.Change.{Change}
+use Rattle.partial_core.specs.declared.stage.Reply.{Reply}
 use Rattle.partial_core.specs.declared.stage.Stage.{Stage}
 use Rattle.partial_core.specs.declared.stage.Stage.TheVariants.{Idle, ReadBegun, LoadingValue, UpdateBegun, LoadingListHead, LoadingSlotCounter, ClaimingRecord, StoringRecord, Exchanging, Finished}
 use Rattle.partial_core.specs.Machine.{CoreState, at_stage, advance, step_of, step_at, reply_of, IsStage, IsPossible, IsRecord, steps_left}
 use Rattle.partial_core.specs.Lawful.{Part, Lawful, IsKnown, IsTied, IsOwn, Own, own_of, own_at, core_of, port_of, is_begun, is_at_rest, IsMachineOf, MayBegin, moved, added, added_at, LeadsOn}
 use Rattle.partial_core.proofs.ListLemmas.{all_at}
-use Rattle.partial_core.proofs.PartLemmas.{stage_known}
+use Rattle.partial_core.proofs.PartLemmas.{stage_known, sizes_led}
 use Rattle.partial_core.proofs.Frames.{if_some_at}
 use Rattle.partial_core.proofs.AllSteps.{steps_stay_lawful}
 use Rattle.partial_replay.specs.declared.port.Port.{Port}
 use Rattle.partial_replay.specs.declared.port.UnderWay.{UnderWay}
-use Rattle.partial_replay.specs.PortState.{IsExchangeWithin, ends_of, notes_in, IsUnderWay, IsBetween, PortFits, entry_at, GoesOn, Ends, StepMade, MayStep, KeepsFit}
-use Rattle.partial_replay.specs.RunState.{PortsFit, IsRunOf}
-use Rattle.partial_replay.proofs.PortLaws.{finished_grows, get_below}
+use Rattle.partial_replay.specs.PortState.{IsExchangeWithin, ends_of, notes_in, IsUnderWay, IsBetween, PortFits, entry_at, one_step_more, ended_call, GoesOn, Ends, StepMade, MayStep, KeepsFit}
+use Rattle.partial_replay.specs.RunState.{PortsFit, IsRunOf, left_of, left_at}
+use Rattle.partial_replay.proofs.PortLaws.{finished_grows, get_below, get_is}
 use Rattle.partial_replay.proofs.RunLaws.{due_step, machine_port, leads_push, step_fits}
 
 -- another port's history grows
@@ -108,7 +110,7 @@ begin_keeps plans z o words ports log trace i calls port new w c t keeps =
     }
 
 -- the call under way of a port
-under_way : (o : Opening) (log : List Applied) (calls : List Call) (p : ℕ) (x : Part) (port : Port) (way : UnderWay) → PortFits o log calls p x port → port.under_way ≡ Some way → IsUnderWay (length log) calls x port.core port.finished.items way
+pub under_way : (o : Opening) (log : List Applied) (calls : List Call) (p : ℕ) (x : Part) (port : Port) (way : UnderWay) → PortFits o log calls p x port → port.under_way ≡ Some way → IsUnderWay (length log) calls x port.core port.finished.items way
 under_way o log calls p x port way w is = subst (λ (f : Option UnderWay). MatchOption f (IsBetween x port.core) (IsUnderWay (length log) calls x port.core port.finished.items)) is w.way
 
 -- only the machine of a call in its middle makes an exchange
@@ -144,3 +146,144 @@ entry_is_at z words c (Exchanging ch old at) step number a an port e f =
     let value : value_of (words_after words (Exchange ch.component old at)) at ≡ ch.value = get_or-set_other words ch.component (at + 1) (cond (get_or words ch.component 0 == old) at (get_or words ch.component 0)) 0 (λ h. let b = facts.1 in omega (arith, b, h)) ∙ facts.0 in
     ap (λ (t : Step). entry_at (words_after words t) number t a) (sym is) ∙ ap (λ v. cond (a == old) (record { port = number; component = ch.component; value = v; stamp = at } ∷ []) []) value ∙ ap (λ n. cond (a == old) (record { port = n; component = ch.component; value = ch.value; stamp = at } ∷ []) []) (sym port)
 entry_is_at z words c (Finished r) step number a an port e f = let bad : None ≡ Some step = e in cc
+
+exchange_facts : (z : Layout) (o : Opening) (words : List ℕ) (before : List Part) (x : Part) (after : List Part) (log : List Applied) (c : CoreState) → Lawful z o words (before ++ x ∷ after) log → IsMachineOf c x → (ch : Change) (old at : ℕ) → c.stage ≡ Exchanging ch old at → (get_or words (at + 1) 0 ≡ ch.value) × (ch.component < at)
+exchange_facts z o words before x after log c w m ch old at e =
+    let is : c ≡ core_of x = middle c x (is_begun c.stage) m (ap is_begun e) in
+    let stage : (core_of x).stage ≡ Exchanging ch old at = ap (λ (s : CoreState). s.stage) (sym is) ∙ e in
+    let tied = all_at (IsTied z words log) before x after w.tied in
+    let known = all_at (IsKnown z o log) before x after w.known in
+    let own = if_some_at (IsOwn z words log) (own_of x) (record { at = at; block = record_block old ch.value 0 []; stored = 3 }) (ap own_at stage) tied.own in
+    let sound : IsStage z (Exchanging ch old at) = subst (IsStage z) stage (stage_known z o log x known) in
+    (own.stands 1 (omega arith), (let below = sound.0 in let above = own.above in omega (arith, below, above)))
+
+sizes_at' : (z : Layout) (c : CoreState) (x : Part) (b : Bool) → (core_of x).sizes ≡ z → MatchBool b ((is_at_rest (core_of x).stage ≡ true) × (c ≡ at_stage (core_of x) c.stage) × MayBegin c) (c ≡ core_of x) → z ≡ c.sizes
+sizes_at' z c x true s m = sym (ap (λ (d : CoreState). d.sizes) m.1 ∙ s)
+sizes_at' z c x false s m = sym (ap (λ (d : CoreState). d.sizes) m ∙ s)
+sizes_here' : (z : Layout) (o : Opening) (log : List Applied) (x : Part) (c : CoreState) → IsKnown z o log x → IsMachineOf c x → z ≡ c.sizes
+sizes_here' z o log x c known m = sizes_at' z c x (is_begun c.stage) (sizes_led x.begun x.kept ∙ known.sizes) m
+
+-- the due step of a port whose call is under way may be made
+pub may_step : (plans : List (List Call)) (z : Layout) (o : Opening) (words : List ℕ) (ports : List Port) (log : List Applied) (trace : List Event) (i : ℕ) (calls : List Call) (port : Port) (way : UnderWay) → IsRunOf plans z o words ports log trace → slice_get plans i ≡ Some calls → slice_get ports i ≡ Some port → port.under_way ≡ Some way → MayStep calls words port
+may_step plans z o words ports log trace i calls port way w c t is =
+    let at = at_port o log 0 plans w.parts ports i calls port w.fit c t in
+    let u = under_way o log calls (0 + i) (at.x) port way (at.fits) is in
+    let due = due_step port.core.sizes port.core.stage u.due in
+    let lawful : Lawful z o words ((at.before) ++ (at.x) ∷ (at.after)) log = subst (λ (l : List Part). Lawful z o words l log) (at.is) w.lawful in
+    let l = steps_stay_lawful z o words (at.before) (at.x) (at.after) log port.core (due.0) lawful u.machine due.1 in
+    let known = all_at (IsKnown z o log) (at.before) (at.x) (at.after) lawful.known in
+    record {
+      step = due.0; way = way; due = due.1; was = is;
+      within = (l.answers).within;
+      possible = l.possible;
+      exchange = exchange_within_at z words port.core.stage (due.0) lawful.count (ap (λ (s : Layout). step_at s port.core.stage) (sizes_here' z o log (at.x) port.core known u.machine) ∙ due.1) (λ b. subst (λ (d : CoreState). IsStage z d.stage) (sym (middle port.core (at.x) (is_begun port.core.stage) u.machine b)) (stage_known z o log (at.x) known));
+      steps = omega (arith, u.steps);
+      more = get_below calls (length port.finished.items) (u.call) u.next;
+    }
+
+-- a step keeps the replay's state
+pub step_keeps : (plans : List (List Call)) (z : Layout) (o : Opening) (words words' : List ℕ) (ports : List Port) (log log' : List Applied) (trace trace' : List Event) (i : ℕ) (calls : List Call) (port new : Port) → IsRunOf plans z o words ports log trace → slice_get plans i ≡ Some calls → slice_get ports i ≡ Some port → StepMade calls words words' trace trace' log log' port new → IsRunOf plans z o words' (set ports i new) log' trace'
+step_keeps plans z o words words' ports log log' trace trace' i calls port new w c t m =
+    let at = at_port o log 0 plans w.parts ports i calls port w.fit c t in
+    let u = under_way o log calls (0 + i) (at.x) port (m.way) (at.fits) m.was in
+    let lawful : Lawful z o words ((at.before) ++ (at.x) ∷ (at.after)) log = subst (λ (l : List Part). Lawful z o words l log) (at.is) w.lawful in
+    let l = steps_stay_lawful z o words (at.before) (at.x) (at.after) log port.core (m.step) lawful u.machine m.due in
+    let a = answer_of words (m.step) in
+    let known = all_at (IsKnown z o log) (at.before) (at.x) (at.after) lawful.known in
+    let number : port.core.port ≡ port.number = machine_port port.core (at.x) u.machine ∙ (at.fits).part ∙ sym ((at.fits).number) in
+    let entry : entry_at (words_after words (m.step)) port.number (m.step) a ≡ added port.core a = entry_is_at port.core.sizes words port.core port.core.stage (m.step) port.number a refl number m.due (exchange_facts z o words (at.before) (at.x) (at.after) log port.core lawful u.machine) in
+    let log_is : log' ≡ log ++ added port.core a = m.log_is ∙ ap (λ (ws : List ℕ). log ++ entry_at ws port.number (m.step) a) m.words_are ∙ ap (λ (es : List Applied). log ++ es) entry in
+    let after : MatchOption (reply_of (advance port.core a)) (GoesOn port new (m.way) (advance port.core a)) (Ends calls (log ++ added port.core a) port new (m.way) (advance port.core a)) = subst (λ (k : List Applied). MatchOption (reply_of (advance port.core a)) (GoesOn port new (m.way) (advance port.core a)) (Ends calls k port new (m.way) (advance port.core a))) log_is m.after in
+    let y = moved port.core a log l.new (at.x) in
+    let fits = step_fits z o words (at.before) (at.x) (at.after) log calls (0 + i) port new (m.step) (m.way) (at.fits) u l (reply_of (advance port.core a)) refl m.number m.falls after in
+    let event : Event = record { port = port.number; step = m.step; answer = a } in
+    record {
+      parts = (at.before) ++ y ∷ (at.after); opened = w.opened; opens = w.opens;
+      lawful = subst (λ (ws : List ℕ). Lawful z o ws ((at.before) ++ y ∷ (at.after)) log') (sym m.words_are) (subst (λ (k : List Applied). Lawful z o (words_after words (m.step)) ((at.before) ++ y ∷ (at.after)) k) (sym log_is) l.lawful);
+      fit = subst (λ (k : List Applied). PortsFit o k 0 plans ((at.before) ++ y ∷ (at.after)) (set ports i new)) (sym log_is) (at.replace (added port.core a) y new fits);
+      leads = subst (λ (ws : List ℕ). Leads w.opened trace' ws) (sym m.words_are) (subst (λ (es : List Event). Leads w.opened es (words_after words (m.step))) (sym m.trace_is) (leads_push w.opened words trace event w.leads l.answers));
+    }
+
+-- the steps that the port has left
+pub left_is : (plans : List (List Call)) (ports : List Port) (i : ℕ) (calls : List Call) (port : Port) → slice_get plans i ≡ Some calls → slice_get ports i ≡ Some port → left_at i plans ports ≡ left_of calls port
+left_is [] ports i calls port c t = let bad : None ≡ Some calls = c in cc
+left_is (d ∷ plans) [] i calls port c t = let bad : None ≡ Some port = t in cc
+left_is (d ∷ plans) (u ∷ ports) zero calls port c t =
+    let is : d ≡ calls = cc in let same : u ≡ port = cc in ap (λ (e : List Call). left_of e u) is ∙ ap (λ (v : Port). left_of calls v) same
+left_is (d ∷ plans) (u ∷ ports) (suc i) calls port c t = left_is plans ports i calls port c t
+
+left_under_way : (calls : List Call) (port : Port) (way : UnderWay) → port.under_way ≡ Some way → left_of calls port ≡ 9 * (length calls - length port.finished.items - 1) + steps_left port.core
+left_under_way calls port way is = ap (λ (f : Option UnderWay). option_map_or (λ (v : UnderWay). 9 * (length calls - length port.finished.items - 1) + steps_left port.core) f (9 * (length calls - length port.finished.items))) is
+
+left_between : (calls : List Call) (port : Port) → port.under_way ≡ None → left_of calls port ≡ 9 * (length calls - length port.finished.items)
+left_between calls port is = ap (λ (f : Option UnderWay). option_map_or (λ (v : UnderWay). 9 * (length calls - length port.finished.items - 1) + steps_left port.core) f (9 * (length calls - length port.finished.items))) is
+
+left_after : (calls : List Call) (log : List Applied) (port new : Port) (way : UnderWay) (core : CoreState) (found : Option Reply) → port.under_way ≡ Some way → steps_left core < steps_left port.core → length port.finished.items < length calls → MatchOption found (GoesOn port new way core) (Ends calls log port new way core) → left_of calls new < left_of calls port
+left_after calls log port new way core None was falls more g =
+    let old = left_under_way calls port way was in
+    let now = left_under_way calls new (one_step_more way) g.way' in
+    let same : length new.finished.items ≡ length port.finished.items = ap length g.finished in
+    let left : steps_left new.core ≡ steps_left core = ap steps_left g.machine in
+    let rest : 9 * (length calls - length new.finished.items - 1) ≡ 9 * (length calls - length port.finished.items - 1) = ap (λ n. 9 * (length calls - n - 1)) same in
+    omega (arith, old, now, left, rest, falls)
+left_after calls log port new way core (Some r) was falls more e =
+    let old = left_under_way calls port way was in
+    let now = left_between calls new e.none in
+    let longer : length new.finished.items ≡ length port.finished.items + 1 = ap length e.finished ∙ length_push port.finished.items (ended_call port.number (length port.finished.items) e.call (one_step_more way) (length log) r e.note) in
+    let rest : 9 * (length calls - length new.finished.items) ≡ 9 * (length calls - length port.finished.items - 1) = ap (λ n. 9 * n) (omega (arith, longer)) in
+    omega (arith, old, now, rest, falls)
+
+pub left_falls : (calls : List Call) (words words' : List ℕ) (trace trace' : List Event) (log log' : List Applied) (port new : Port) → length port.finished.items < length calls → StepMade calls words words' trace trace' log log' port new → left_of calls new < left_of calls port
+left_falls calls words words' trace trace' log log' port new more m =
+    left_after calls log' port new (m.way) (advance port.core (answer_of words (m.step))) (reply_of (advance port.core (answer_of words (m.step)))) m.was m.falls more m.after
+
+-- where a port begins its next call, it has no more left than before
+pub left_begun : (calls : List Call) (port new : Port) (steps : ℕ) → port.under_way ≡ None → length port.finished.items ≤ length new.finished.items → length new.finished.items ≤ length calls → ((way : UnderWay) → new.under_way ≡ Some way → (steps_left new.core ≤ 8) × (length new.finished.items < length calls)) → left_of calls new ≤ left_of calls port
+left_begun calls port new steps none more few f = at_way new.under_way refl
+  where
+    at_way : (way : Option UnderWay) → new.under_way ≡ way → left_of calls new ≤ left_of calls port
+    at_way None is = let old = left_between calls port none in let now = left_between calls new is in omega (arith, old, now, more)
+    at_way (Some way) is = let old = left_between calls port none in let now = left_under_way calls new way is in let both = f way is in let top = both.0 in let below = both.1 in omega (arith, old, now, more, top, below)
+
+-- there are as many ports as plans
+pub ports_length : (o : Opening) (log : List Applied) (q : ℕ) (plans : List (List Call)) (parts : List Part) (ports : List Port) → PortsFit o log q plans parts ports → length ports ≡ length plans
+ports_length o log q [] [] [] w = refl
+ports_length o log q (c ∷ plans) (x ∷ parts) (t ∷ ports) w = ap suc (ports_length o log (q + 1) plans parts ports w.1)
+ports_length o log q [] [] (t ∷ ports) w = absurd w
+ports_length o log q [] (x ∷ parts) ports w = absurd w
+ports_length o log q (c ∷ plans) [] ports w = absurd w
+ports_length o log q (c ∷ plans) (x ∷ parts) [] w = absurd w
+
+-- the element that was read at a place
+pub got : {A : Type 0} (xs : List A) (i : ℕ) (x : A) → i < length xs → x ≡ get_or xs i x → slice_get xs i ≡ Some x
+got xs i x below is = get_is xs i x below ∙ ap Some (sym is)
+
+pub none_of : {A : Type 0} (f : Option A) → is_some f ≡ false → f ≡ None
+none_of None e = refl
+none_of (Some a) e = absurd (false≢true (sym e))
+
+pub some_of : {A : Type 0} (f : Option A) → is_some f ≡ true → (a : A) × (f ≡ Some a)
+some_of None e = absurd (false≢true e)
+some_of (Some a) e = (a, refl)
+
+pub is_some_of : {A : Type 0} (f : Option A) → IsSome f → (a : A) × (f ≡ Some a)
+is_some_of None w = absurd (false≢true w)
+is_some_of (Some a) w = (a, refl)
+
+pub on_true : (b : Bool) (P Q R : Type 0) → MatchBool b P Q → (P → R) → OnTrue b R
+on_true true P Q R m f = f m
+on_true false P Q R m f = tt
+
+-- a port that a run has at a place, with the part that it fits
+pub port_in : (plans : List (List Call)) (z : Layout) (o : Opening) (words : List ℕ) (ports : List Port) (log : List Applied) (trace : List Event) (i : ℕ) (calls : List Call) (port : Port) → IsRunOf plans z o words ports log trace → slice_get plans i ≡ Some calls → slice_get ports i ≡ Some port → (x : Part) × PortFits o log calls (0 + i) x port
+port_in plans z o words ports log trace i calls port w c t = let at = at_port o log 0 plans w.parts ports i calls port w.fit c t in (at.x, at.fits)
+
+pub idle_between : (o : Opening) (log : List Applied) (calls : List Call) (p : ℕ) (x : Part) (port : Port) → PortFits o log calls p x port → port.under_way ≡ None → port.core.stage ≡ Idle
+idle_between o log calls p x port w none =
+    let b : IsBetween x port.core = subst (λ (f : Option UnderWay). MatchOption f (IsBetween x port.core) (IsUnderWay (length log) calls x port.core port.finished.items)) none w.way in
+    ap (λ (s : CoreState). s.stage) b.machine
+
+-- a port that has begun its next call where none was under way has no more left than before
+pub left_ready : (o : Opening) (log : List Applied) (calls : List Call) (p : ℕ) (x : Part) (port new : Port) → PortFits o log calls p x new → port.under_way ≡ None → length port.finished.items ≤ length new.finished.items → left_of calls new ≤ left_of calls port
+left_ready o log calls p x port new w none more =
+    left_begun calls port new 0 none more w.few (λ way is. let u = under_way o log calls p x new way w is in (omega (arith, u.steps), get_below calls (length new.finished.items) (u.call) u.next))

@@ -1,9 +1,10 @@
 -- The state of a replay: lawful, with a part for each port, and a trace that leads to its words.
-use Rattle.std.specs.Prelude.{ℕ, ◌≡◌, ◌+◌, ◌*◌, ◌-◌, ◌<◌, ◌^◌, ⊤, zero, suc, List, [], ◌∷◌, length, None}
+use Rattle.std.specs.Prelude.{ℕ, ◌≡◌, ◌+◌, ◌*◌, ◌-◌, ◌<◌, ◌^◌, ⊤, zero, suc, List, [], ◌∷◌, length, slice_get, Option, Some, None, IsSome, ◌++◌}
 use Rattle.std.specs.List.{AllByRecursion}
 use Rattle.partial_model.specs.declared.history.Applied.{Applied}
 use Rattle.partial_model.specs.declared.history.Opening.{Opening}
 use Rattle.partial_model.specs.declared.call.Call.{Call}
+use Rattle.partial_model.specs.declared.call.Called.{Called}
 use Rattle.partial_words.specs.Layout.{Layout}
 use Rattle.partial_words.specs.declared.step.Event.{Event}
 use Rattle.partial_words.specs.Step.{Leads}
@@ -12,8 +13,9 @@ use Rattle.std.specs.Option.{option_map_or}
 use Rattle.partial_core.specs.Machine.{fresh, steps_left}
 use Rattle.partial_core.specs.Lawful.{Part, Lawful}
 use Rattle.partial_replay.specs.declared.port.Port.{Port}
+use Rattle.partial_replay.specs.declared.port.UnderWay.{UnderWay}
 use Rattle.partial_replay.specs.declared.run.Run.{Run}
-use Rattle.partial_replay.specs.PortState.{PortFits, IsServed}
+use Rattle.partial_replay.specs.PortState.{PortFits, IsServed, unfinished_call}
 
 -- the ports from number p on, each with its calls and its part
 abbrev pub PortsFit : Opening → List Applied → ℕ → List (List Call) → List Part → List Port → Type 0
@@ -53,9 +55,9 @@ left_at p (calls ∷ plans) [] = 0
 left_at zero (calls ∷ plans) (port ∷ ports) = left_of calls port
 left_at (suc p) (calls ∷ plans) (port ∷ ports) = left_at p plans ports
 
--- the port has fewer steps left
-abbrev pub IsNearerEnd : List (List Call) → ℕ → Run → Run → Type 0
-IsNearerEnd plans p old new = left_at p plans new.ports.items < left_at p plans old.ports.items
+-- a call of the port with that number is under way
+abbrev pub IsReady : ℕ → Run → Type 0
+IsReady p run = (port : Port) × (way : UnderWay) × (slice_get run.ports.items p ≡ Some port) × (port.under_way ≡ Some way)
 
 -- so many ports from that number on that have made no call
 abbrev pub FreshFrom : Layout → ℕ → List Port → Type 0
@@ -64,3 +66,19 @@ FreshFrom z p (port ∷ ports) = (port.number ≡ p) × (port.core ≡ fresh z p
 
 abbrev pub AreFreshPorts : Layout → ℕ → List Port → Type 0
 AreFreshPorts z n ports = (length ports ≡ n) × FreshFrom z 0 ports
+
+-- the call that a port leaves unfinished, if it has one
+abbrev pub left_over : Port → Option Call → Option UnderWay → List Called
+left_over port (Some call) (Some way) = unfinished_call port.number (length port.finished.items) call way ∷ []
+left_over port _ _ = []
+
+-- the calls that the ports have begun: of each the finished ones, and then the one that is left unfinished
+abbrev pub calls_in : List (List Call) → List Port → List Called
+calls_in (calls ∷ plans) (port ∷ ports) = port.finished.items ++ left_over port (slice_get calls (length port.finished.items)) port.under_way ++ calls_in plans ports
+calls_in _ _ = []
+
+-- each port has its calls, and a call under way is one of them
+abbrev pub AreListed : List (List Call) → List Port → Type 0
+AreListed [] [] = ⊤
+AreListed (calls ∷ plans) (port ∷ ports) = (length calls < 2 ^ 32) × AllByRecursion IsServed calls × (IsSome port.under_way → length port.finished.items < length calls) × AreListed plans ports
+AreListed _ _ = ⊥

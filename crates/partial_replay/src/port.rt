@@ -109,6 +109,7 @@ impl Port {
         requires numbers { length calls.now < 2 ^ 32 }
         requires served { AllByRecursion IsServed calls.now }
         ensures fits { OnOk result (KeepsFit calls.now seen self.old self.new) }
+        ensures more { OnOk result (length self.old.finished.items ≤ length self.new.finished.items) }
         ensures begun { IfOk result (λ begun. MatchBool begun (IsSome self.new.under_way)
             ((self.new.under_way ≡ None) × (length self.new.finished.items ≡ length calls.now))) }
     {

@@ -4,7 +4,7 @@ ghost use Rattle.std.specs.Prelude.{◌≡◌, ◌<◌, ◌≤◌, ◌^◌, leng
 ghost use Rattle.std.specs.Bool.{OnTrue};
 ghost use Rattle.partial_words.specs.Layout.{total};
 ghost use Rattle.partial_words.specs.Chain.{AreOpeningWords};
-ghost use Rattle.partial_replay.specs.RunState.{AreFreshPorts};
+ghost use Rattle.partial_replay.specs.RunState.{AreFreshPorts, AreListed, calls_in};
 
 use partial_core::Core;
 use partial_model::{Applied, Call, Called, Opening, Sequence};
@@ -39,7 +39,7 @@ fn opening_words(alloc: Global, sizes: Sizes, initial: &[u64]) -> Result<Vec<u64
 }
 
 impl Run {
-    ghost use Rattle.partial_replay.specs.RunState.{ArePlans, IsRun, IsSameOpening, IsNearerEnd};
+    ghost use Rattle.partial_replay.specs.RunState.{ArePlans, IsRun, IsReady, IsSameOpening, left_at};
 
     /// The replay as it opens, with the ports of a plan.
     pub fn open(
@@ -74,16 +74,48 @@ impl Run {
         requires port { p < length plans.now }
         ensures run { OnOk result (IsRun plans.now self.new) }
         ensures same { OnOk result (IsSameOpening self.old self.new) }
-        ensures progress { IfOk result (λ stepped. OnTrue stepped (IsNearerEnd plans.now p self.old self.new)) }
+        ensures progress { IfOk result (λ stepped. OnTrue stepped (left_at p plans.now self.new.ports.items < left_at p plans.now self.old.ports.items)) }
+    {
+        if !self.get_ready(p, plans)? {
+            return Ok(false);
+        }
+        self.make_step(p, plans)?;
+        Ok(true)
+    }
+
+    // Begins the port's next call where none is under way, or answers that none is left.
+    fn get_ready(&mut self, p: usize, plans: &[Sequence<Call>]) -> Result<bool, AllocError>
+        requires run { IsRun plans.now self.old }
+        requires plans { ArePlans plans.now }
+        requires port { p < length plans.now }
+        ensures run { OnOk result (IsRun plans.now self.new) }
+        ensures same { OnOk result (IsSameOpening self.old self.new) }
+        ensures ready { IfOk result (λ ready. OnTrue ready (IsReady p self.new)) }
+        ensures left { OnOk result (left_at p plans.now self.new.ports.items ≤ left_at p plans.now self.old.ports.items) }
     {
         let calls = plans[p].as_slice();
         let seen = self.history.len();
         let port = &mut self.ports[p];
-        if port.under_way.is_none() && !port.begin_next(calls, seen)? {
-            return Ok(false);
+        if port.under_way.is_some() {
+            return Ok(true);
         }
-        port.make_step(calls, &mut self.words, &mut self.trace, &mut self.history)?;
-        Ok(true)
+        let begun = port.begin_next(calls, seen)?;
+        Ok(begun)
+    }
+
+    // The due step of a port whose call is under way.
+    fn make_step(&mut self, p: usize, plans: &[Sequence<Call>]) -> Result<(), AllocError>
+        requires run { IsRun plans.now self.old }
+        requires plans { ArePlans plans.now }
+        requires port { p < length plans.now }
+        requires ready { IsReady p self.old }
+        ensures run { OnOk result (IsRun plans.now self.new) }
+        ensures same { OnOk result (IsSameOpening self.old self.new) }
+        ensures progress { OnOk result (left_at p plans.now self.new.ports.items < left_at p plans.now self.old.ports.items) }
+    {
+        let calls = plans[p].as_slice();
+        let port = &mut self.ports[p];
+        port.make_step(calls, &mut self.words, &mut self.trace, &mut self.history)
     }
 
     /// So many turns of a port, or until it has no call left.
@@ -166,16 +198,28 @@ fn calls_of(
     alloc: Global,
     mut ports: Vec<Port>,
     plans: &[Sequence<Call>],
-) -> Result<Vec<Called>, AllocError> {
+) -> Result<Vec<Called>, AllocError>
+    requires { AreListed plans.now ports.items }
+    ensures { IfOk result (λ calls. calls.items ≡ calls_in plans.now ports.items) }
+{
     let mut calls = Vec::new(alloc);
-    for p in 0..ports.len() {
-        let port = &mut ports[p];
-        let number = port.finished.len();
-        calls.append(&mut port.finished)?;
-        if let Some(way) = port.under_way {
+    let mut p = 0;
+    while !ports.is_empty() {
+        let Port {
+            number,
+            core,
+            finished,
+            under_way,
+        } = ports.remove(0);
+        drop(core);
+        let mut finished = finished;
+        let done = finished.len();
+        calls.append(&mut finished)?;
+        if let Some(way) = under_way {
             let plan = plans[p].as_slice();
-            calls.push(unfinished(port.number, number as u32, &plan[number], way))?;
+            calls.push(unfinished(number, done as u32, &plan[done], way))?;
         }
+        p += 1;
     }
     Ok(calls)
 }

@@ -33,5 +33,6 @@ loop-self-preserved c =
       idle = ap (λ (s : CoreState). s.stage) c.in-Err.ensures.err.1 ∙ c.loop-self.invariant.idle;
       none = c.loop-self.invariant.none;
       few = omega (arith, longer, below, same);
+      more = let grown = c.loop-self.invariant.more in omega (arith, longer, grown);
       fits = λ o log p x n w. refused_fits o log calls p x port _ call c.in-Err.cause (c.loop-self.invariant.fits o log p x n w) c.loop-self.invariant.none next c.in-Err.ensures.err.0 refl c.in-Err.ensures.err.1 (pushed ∙ ap (λ (d : Called). port.finished.items ++ d ∷ []) (c.refused-called.ensures ∙ ap (λ m. refused_call port.number m call c.args.seen c.in-Err.cause) same ∙ ap (λ m. refused_call port.number (length port.finished.items) call m c.in-Err.cause) (sym n))) c.loop-self.invariant.none;
     }

@@ -9,6 +9,7 @@ invariant-loop-self l = record {
   idle : l.self.core.stage ≡ Idle;
   none : l.self.under_way ≡ None;
   few : length l.self.finished.items ≤ length l.calls;
+  more : length l.fn.self.finished.items ≤ length l.self.finished.items;
   fits : KeepsFit l.calls l.seen l.fn.self l.self;
 }
 

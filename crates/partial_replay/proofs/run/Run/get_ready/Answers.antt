@@ -1,0 +1,85 @@
+use Rattle.std.proofs.Common.{◌≡◌, ◌+◌, ◌<◌, ◌≤◌, List, length, Some, None, slice_get, refl, sym, ◌∙◌, ap, subst, arith}
+use Rattle.partial_model.specs.declared.call.Call.{Call}
+use Rattle.partial_replay.specs.PortState.{KeepsFit}
+use Rattle.partial_replay.proofs.RunSteps.{begin_keeps, ports_length, got, get_set, none_of, some_of, is_some_of, on_true, port_in, idle_between, left_is, left_ready}
+use Rattle.partial_replay.proofs.run.Run.get_ready.Goals as goal
+
+-- how many ports there are
+pub index_mut-port-requires : goal.index_mut-port-requires
+index_mut-port-requires c =
+    let run = c.requires.run in
+    let many = ports_length c.args.self.now.opening c.args.self.now.history.items 0 c.args.plans.now run.parts c.args.self.now.ports.items run.fit in
+    omega (arith, many, c.args.self.now.ports.ok.0, c.requires.port)
+
+pub returns-then-is_some-clause-ready : goal.returns-then-is_some-clause-ready
+returns-then-is_some-clause-ready c =
+    let run = c.requires.run in
+    let ports = c.args.self.now.ports.items in
+    let port = c.index_mut-port.result.now in
+    let many = ports_length c.args.self.now.opening c.args.self.now.history.items 0 c.args.plans.now run.parts ports run.fit in
+    let here : slice_get ports c.args.p ≡ Some port = got ports c.args.p port (omega (arith, many, c.requires.port)) c.index_mut-port.ensures.value in
+    let way = some_of port.under_way (sym c.is_some.ensures ∙ c.if-is_some.true) in
+    (port, way.0, get_set ports c.args.p port port here, way.1)
+
+pub begin_next-requires-clause-idle : goal.begin_next-requires-clause-idle
+begin_next-requires-clause-idle c =
+    let run = c.requires.run in
+    let ports = c.args.self.now.ports.items in
+    let port = c.index_mut-port.result.now in
+    let many = ports_length c.args.self.now.opening c.args.self.now.history.items 0 c.args.plans.now run.parts ports run.fit in
+    let here : slice_get ports c.args.p ≡ Some port = got ports c.args.p port (omega (arith, many, c.requires.port)) c.index_mut-port.ensures.value in
+    let plan : slice_get c.args.plans.now c.args.p ≡ Some c.index-plans-p.result = got c.args.plans.now c.args.p c.index-plans-p.result c.requires.port c.index-plans-p.is in
+    let fit = port_in c.args.plans.now c.args.self.now.sizes c.args.self.now.opening c.args.self.now.words.items ports c.args.self.now.history.items c.args.self.now.trace.items c.args.p c.index-plans-p.result port run plan here in
+    idle_between c.args.self.now.opening c.args.self.now.history.items c.index-plans-p.result (0 + c.args.p) fit.0 port fit.1 (none_of port.under_way (sym c.is_some.ensures ∙ c.if-is_some.false))
+
+pub begin_next-requires-clause-few : goal.begin_next-requires-clause-few
+begin_next-requires-clause-few c =
+    let run = c.requires.run in
+    let ports = c.args.self.now.ports.items in
+    let port = c.index_mut-port.result.now in
+    let many = ports_length c.args.self.now.opening c.args.self.now.history.items 0 c.args.plans.now run.parts ports run.fit in
+    let here : slice_get ports c.args.p ≡ Some port = got ports c.args.p port (omega (arith, many, c.requires.port)) c.index_mut-port.ensures.value in
+    let plan : slice_get c.args.plans.now c.args.p ≡ Some c.index-plans-p.result = got c.args.plans.now c.args.p c.index-plans-p.result c.requires.port c.index-plans-p.is in
+    let fit = port_in c.args.plans.now c.args.self.now.sizes c.args.self.now.opening c.args.self.now.words.items ports c.args.self.now.history.items c.args.self.now.trace.items c.args.p c.index-plans-p.result port run plan here in
+    subst (λ (l : List Call). length port.finished.items ≤ length l) (sym c.as_slice-calls.ensures) fit.1.few
+
+pub returns-clause-run : goal.returns-clause-run
+returns-clause-run c =
+    let run = c.requires.run in
+    let ports = c.args.self.now.ports.items in
+    let port = c.index_mut-port.result.now in
+    let calls = c.as_slice-calls.result.now in
+    let many = ports_length c.args.self.now.opening c.args.self.now.history.items 0 c.args.plans.now run.parts ports run.fit in
+    let here : slice_get ports c.args.p ≡ Some port = got ports c.args.p port (omega (arith, many, c.requires.port)) c.index_mut-port.ensures.value in
+    let plan : slice_get c.args.plans.now c.args.p ≡ Some calls = got c.args.plans.now c.args.p c.index-plans-p.result c.requires.port c.index-plans-p.is ∙ ap Some (sym c.as_slice-calls.ensures) in
+    let seen : c.len-seen.result ≡ length c.args.self.now.history.items = omega (arith, c.len-seen.ensures, c.args.self.now.history.ok.0) in
+    let keeps : KeepsFit calls (length c.args.self.now.history.items) port c.begin_next.new.self = λ o l q x n f. c.in_ok-begun.ensures.fits o l q x (n ∙ sym seen) f in
+    begin_keeps c.args.plans.now c.args.self.now.sizes c.args.self.now.opening c.args.self.now.words.items ports c.args.self.now.history.items c.args.self.now.trace.items c.args.p calls port c.begin_next.new.self run plan here keeps
+
+pub returns-clause-ready : goal.returns-clause-ready
+returns-clause-ready c =
+    let run = c.requires.run in
+    let ports = c.args.self.now.ports.items in
+    let port = c.index_mut-port.result.now in
+    let many = ports_length c.args.self.now.opening c.args.self.now.history.items 0 c.args.plans.now run.parts ports run.fit in
+    let here : slice_get ports c.args.p ≡ Some port = got ports c.args.p port (omega (arith, many, c.requires.port)) c.index_mut-port.ensures.value in
+    on_true c.in_ok-begun.begun _ _ _ c.in_ok-begun.ensures.begun (λ s. let way = is_some_of c.begin_next.new.self.under_way s in (c.begin_next.new.self, way.0, get_set ports c.args.p port c.begin_next.new.self here, way.1))
+
+pub returns-clause-left : goal.returns-clause-left
+returns-clause-left c =
+    let run = c.requires.run in
+    let ports = c.args.self.now.ports.items in
+    let port = c.index_mut-port.result.now in
+    let new = c.begin_next.new.self in
+    let calls = c.as_slice-calls.result.now in
+    let many = ports_length c.args.self.now.opening c.args.self.now.history.items 0 c.args.plans.now run.parts ports run.fit in
+    let here : slice_get ports c.args.p ≡ Some port = got ports c.args.p port (omega (arith, many, c.requires.port)) c.index_mut-port.ensures.value in
+    let plan : slice_get c.args.plans.now c.args.p ≡ Some calls = got c.args.plans.now c.args.p c.index-plans-p.result c.requires.port c.index-plans-p.is ∙ ap Some (sym c.as_slice-calls.ensures) in
+    let seen : c.len-seen.result ≡ length c.args.self.now.history.items = omega (arith, c.len-seen.ensures, c.args.self.now.history.ok.0) in
+    let fit = port_in c.args.plans.now c.args.self.now.sizes c.args.self.now.opening c.args.self.now.words.items ports c.args.self.now.history.items c.args.self.now.trace.items c.args.p calls port run plan here in
+    let fits = c.in_ok-begun.ensures.fits c.args.self.now.opening c.args.self.now.history.items (0 + c.args.p) fit.0 (sym seen) fit.1 in
+    let none = none_of port.under_way (sym c.is_some.ensures ∙ c.if-is_some.false) in
+    let less = left_ready c.args.self.now.opening c.args.self.now.history.items calls (0 + c.args.p) fit.0 port new fits none c.in_ok-begun.ensures.more in
+    let now = left_is c.args.plans.now _ c.args.p calls new plan (get_set ports c.args.p port new here) in
+    let old = left_is c.args.plans.now ports c.args.p calls port plan here in
+    omega (arith, less, now, old)
