@@ -18,7 +18,11 @@ use Rattle.partial_core.proofs.Opened.{opens_lawful}
 use Rattle.partial_replay.specs.declared.port.Port.{Port}
 use Rattle.partial_replay.specs.declared.port.UnderWay.{UnderWay}
 use Rattle.partial_replay.specs.PortState.{AreFinished, IsUnderWay, IsBetween, PortFits, notes_in, ends_of}
-use Rattle.partial_replay.specs.RunState.{PortsFit, IsRunOf, FreshFrom, AreFreshPorts}
+use Rattle.partial_replay.specs.RunState.{PortsFit, IsRunOf, FreshFrom, AreFreshPorts, AreListed, ArePlans}
+use Rattle.std.specs.Option.{IsSome}
+use Rattle.std.proofs.lemmas.Bool.{false≢true}
+use Rattle.partial_model.specs.declared.history.Applied.{Applied}
+use Rattle.partial_replay.proofs.PortLaws.{get_below}
 
 -- one fresh port more
 pub fresh_push : (z : Layout) (p : ℕ) (ports : List Port) (port : Port) → FreshFrom z p ports → port.number ≡ p + length ports → port.core ≡ fresh z port.number → port.finished.items ≡ [] → port.under_way ≡ None → FreshFrom z p (ports ++ port ∷ [])
@@ -52,3 +56,23 @@ pub opens_run : (plans : List (List Call)) (z : Layout) (o : Opening) (words : L
 opens_run plans z o words ports sizes values first opening few fresh =
     let lawful = opens_lawful z o words (length plans) (record { sizes = sizes; values = values; stamps = first; words = opening }) few in
     record { parts = fresh_parts z 0 (length plans); opened = words; opens = opening; lawful = lawful; fit = fresh_ports_fit z o 0 plans ports (sym values) fresh.1 fresh.0; leads = refl }
+
+pub listed_length : (plans : List (List Call)) (ports : List Port) → AreListed plans ports → length ports ≡ length plans
+listed_length [] [] w = refl
+listed_length (c ∷ plans) (t ∷ ports) w = ap suc (listed_length plans ports w.3)
+listed_length [] (t ∷ ports) w = absurd w
+listed_length (c ∷ plans) [] w = absurd w
+
+some_is : {A : Type 0} (f : Option A) → IsSome f → (a : A) × (f ≡ Some a)
+some_is None w = absurd (false≢true w)
+some_is (Some a) w = (a, refl)
+
+-- the ports of a run list their calls
+pub run_listed : (o : Opening) (log : List Applied) (q : ℕ) (plans : List (List Call)) (parts : List Part) (ports : List Port) → PortsFit o log q plans parts ports → ArePlans plans → AreListed plans ports
+run_listed o log q [] [] [] w p = tt
+run_listed o log q (c ∷ plans) (x ∷ parts) (t ∷ ports) w p =
+    (p.0.0, p.0.1, (λ some. let way = some_is t.under_way some in let u : IsUnderWay (length log) c x t.core t.finished.items (way.0) = subst (λ (f : Option UnderWay). MatchOption f (IsBetween x t.core) (IsUnderWay (length log) c x t.core t.finished.items)) way.1 w.0.way in get_below c (length t.finished.items) (u.call) u.next), run_listed o log (q + 1) plans parts ports w.1 p.1)
+run_listed o log q [] [] (t ∷ ports) w p = absurd w
+run_listed o log q [] (x ∷ parts) ports w p = absurd w
+run_listed o log q (c ∷ plans) [] ports w p = absurd w
+run_listed o log q (c ∷ plans) (x ∷ parts) [] w p = absurd w

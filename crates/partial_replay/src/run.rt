@@ -2,7 +2,7 @@
 
 ghost use Rattle.std.specs.Prelude.{◌≡◌, ◌<◌, ◌≤◌, ◌^◌, length, slice_index, IfOk, OnOk};
 ghost use Rattle.std.specs.Bool.{OnTrue};
-ghost use Rattle.partial_words.specs.Layout.{total};
+ghost use Rattle.partial_words.specs.Layout.{IsLayout};
 ghost use Rattle.partial_words.specs.Chain.{AreOpeningWords};
 ghost use Rattle.partial_replay.specs.RunState.{AreFreshPorts, AreListed, calls_in};
 
@@ -48,6 +48,7 @@ impl Run {
         initial: &[u64],
         plans: &[Sequence<Call>],
     ) -> Result<Run, AllocError>
+        requires sizes { IsLayout sizes }
         requires values { length initial.now ≡ sizes.m }
         requires ports { length plans.now ≤ 64 }
         ensures run { IfOk result (IsRun plans.now) }

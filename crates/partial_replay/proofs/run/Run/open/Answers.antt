@@ -1,6 +1,17 @@
-use Rattle.std.proofs.Common.{◌≡◌, length, ap, ◌∙◌, sym, arith}
+use Rattle.std.proofs.Common.{◌≡◌, ℕ, List, [], length, ap, ◌∙◌, subst, sym, arith}
+use Rattle.partial_model.specs.declared.history.Applied.{Applied}
+use Rattle.partial_words.specs.declared.step.Event.{Event}
+use Rattle.partial_words.specs.Chain.{AreOpeningWords}
+use Rattle.partial_replay.specs.RunState.{IsRunOf}
 use Rattle.partial_replay.proofs.Opens.{opens_run}
 use Rattle.partial_replay.proofs.run.Run.open.Goals as goal
 
 pub returns-clause-run : goal.returns-clause-run
-returns-clause-run c = ?
+returns-clause-run c =
+    let o = record { values = c.from.result; first = c.from-first.result } in
+    let values : c.from.result ≡ c.args.initial.now = c.from.ensures ∙ c.in_ok-from_slice.ensures.items in
+    let words = c.in_ok-opening_words.field-0.items in
+    let ports = c.in_ok-fresh_ports.field-0.items in
+    let opened = opens_run c.args.plans.now c.args.sizes o words ports c.requires.sizes (ap length values ∙ c.requires.values) (c.from-first.ensures ∙ c.pool_base.ensures) (subst (λ (l : List ℕ). AreOpeningWords c.args.sizes l words) (sym values) c.in_ok-opening_words.ensures) c.requires.ports c.in_ok-fresh_ports.ensures in
+    subst (λ (h : List Applied). IsRunOf c.args.plans.now c.args.sizes o words ports h c.new-2.result.items) (sym c.new.ensures.items)
+      (subst (λ (t : List Event). IsRunOf c.args.plans.now c.args.sizes o words ports [] t) (sym c.new-2.ensures.items) opened)
