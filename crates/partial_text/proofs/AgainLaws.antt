@@ -1,28 +1,26 @@
 -- The text of a plan is read as the plan.
-use Rattle.std.proofs.Common.{◌≡◌, ℕ, ◌+◌, ◌*◌, ◌^◌, ◌<◌, ◌≤◌, Bool, true, false, cond, eqb, leb, ltb, ◌&&◌, List, [], ◌∷◌, ◌++◌, length, map, drop, codes, Option, None, Some, Result, Ok, Err, refl, sym, ap, subst, ◌∙◌, append_assoc, eq-eqb, arith}
+use Rattle.std.proofs.Common.{◌≡◌, ℕ, ◌+◌, ◌*◌, ◌^◌, ◌<◌, ◌≤◌, Bool, true, false, cond, eqb, leb, ltb, ◌&&◌, List, [], ◌∷◌, ◌++◌, length, map, drop, codes, Result, Ok, Err, refl, sym, ap, subst, ◌∙◌, append_assoc, eq-eqb, arith}
 use Rattle.std.specs.Prelude.{decimal}
-use Rattle.std.specs.Option.{ok_or}
 use Rattle.std.specs.List.{flat_map, AllByRecursion}
 use Rattle.std.specs.Str.{bytes_eq}
-use Rattle.std.proofs.lemmas.Bool.{ne_eqb, eqb-true, eqb-false, le-leb, lt-ltb, le-ltb}
+use Rattle.std.proofs.lemmas.Bool.{ne_eqb, le-leb, lt-ltb, le-ltb}
 use Rattle.std.proofs.lemmas.List.{append-nil, length-append, length-map}
 use Rattle.std.proofs.lemmas.List.Folds.{flat_map-map}
 use Rattle.std.proofs.lemmas.Slice.Eq.{bytes_eq-Decides}
 use Rattle.partial_model.specs.declared.call.Call.{Call}
 use Rattle.partial_model.specs.declared.call.Call.TheVariants as call
 use Rattle.partial_words.specs.Layout.{Layout, IsLayout}
-use Rattle.partial_words.specs.declared.sizes.SizeError.TheVariants as size
 use Rattle.partial_text.specs.declared.fault.Cause.TheVariants as cause
 use Rattle.partial_text.specs.declared.fault.PlanError.{PlanError}
 use Rattle.partial_text.specs.declared.fault.PlanError.TheVariants as plan
-use Rattle.partial_text.specs.Pieces.{until, from, onto_first, pieces, pieces_behind}
+use Rattle.partial_text.specs.Pieces.{until, from, onto_first, pieces}
 use Rattle.partial_text.specs.Fault.{◌>>=◌}
 use Rattle.partial_text.specs.PlanText.{PlanView, field, number_field, sizes_line, initial_line, call_text, next_call, port_line, entry_text, rest_text, steps_line, ended, plan_text, IsCall, IsEntry, IsPlan}
-use Rattle.partial_text.specs.Judging.{Tail, greatest, greatest_index, fields_of, exactly_four, number_at, numbers_at, in_range, sizes_from, sizes_at, initial_at, update_from, read_from, update_if_from, call_at, calls_at, is_cut, call_texts, port_at, entry_at, is_nil, is_rest, entries_at, line_at, more_ports, is_end, last_at, tail_at, lines_judged, judged}
+use Rattle.partial_text.specs.Judging.{Tail, greatest, greatest_index, fields_of, number_at, in_range, sizes_from, sizes_at, initial_at, update_from, read_from, update_if_from, call_at, calls_at, is_cut, call_texts, port_at, entry_at, is_nil, is_rest, entries_at, line_at, more_ports, is_end, last_at, tail_at, lines_judged, judged}
 use Rattle.partial_text.proofs.CallCuts.{cut_more}
 use Rattle.partial_text.proofs.Steps.{tail_by, tail_step}
 use Rattle.partial_text.proofs.NumberLaws.{both_and, HasNo, HasNo-append, HasNo-decimal, IsNoDigit}
-use Rattle.partial_text.proofs.PieceLaws.{behind_each, until_joined, pieces_joined, pieces_before}
+use Rattle.partial_text.proofs.PieceLaws.{behind_each, until_joined, pieces_before}
 use Rattle.partial_text.proofs.FieldLaws.{number_at_again, numbers_again, behind_numbers, word_again, fields_again, HasNo-numbers, HasNo-fields, space_no_digit, newline_no_digit, star_no_digit, semicolon_no_digit}
 use Rattle.partial_text.proofs.CallLaws.{behind_cuts}
 use Rattle.partial_text.proofs.PlanLaws.{ended_port}

@@ -1,5 +1,5 @@
 -- A call is read exactly from its text, and calls from their texts in a row.
-use Rattle.std.proofs.Common.{◌≡◌, ℕ, ◌+◌, ◌^◌, ◌<◌, ◌≤◌, Bool, true, false, cond, eqb, ◌&&◌, List, [], ◌∷◌, ◌++◌, length, map, codes, Option, None, Some, Result, Ok, Err, refl, sym, ap, subst, ◌∙◌, append_assoc, drop, ◌⊎◌, inl, inr, arith}
+use Rattle.std.proofs.Common.{◌≡◌, ℕ, Bool, true, false, cond, eqb, ◌&&◌, List, [], ◌∷◌, ◌++◌, map, codes, Ok, Err, refl, sym, ap, subst, ◌∙◌, append_assoc, drop, ◌⊎◌, inl, inr, arith}
 use Rattle.std.specs.Prelude.{decimal}
 use Rattle.std.specs.Option.{ok_or}
 use Rattle.std.specs.List.{flat_map, AllByRecursion}
@@ -10,16 +10,14 @@ use Rattle.std.proofs.lemmas.List.Folds.{flat_map-map}
 use Rattle.partial_model.specs.declared.call.Call.{Call}
 use Rattle.partial_model.specs.declared.call.Call.TheVariants as call
 use Rattle.partial_text.specs.declared.fault.Cause.TheVariants as cause
-use Rattle.partial_text.specs.declared.fault.PlanError.{PlanError}
 use Rattle.partial_text.specs.declared.fault.PlanError.TheVariants as plan
-use Rattle.partial_text.specs.Pieces.{until, from, onto_first, pieces, pieces_behind}
+use Rattle.partial_text.specs.Pieces.{until, onto_first}
 use Rattle.partial_text.specs.Fault.{◌>>=◌}
-use Rattle.partial_text.specs.PlanText.{field, number_field, call_text, next_call, port_line, IsCall}
-use Rattle.partial_text.specs.Judging.{greatest, greatest_index, fields_of, exactly_one, exactly_two, exactly_three, number_at, update_from, read_from, update_if_from, call_at, calls_at, is_cut, call_texts, call_texts_behind, port_at}
-use Rattle.partial_text.proofs.CallCuts.{cut_more}
-use Rattle.partial_text.proofs.NumberLaws.{and_both, HasNo, HasNo-append, HasNo-decimal, IsNoDigit}
+use Rattle.partial_text.specs.PlanText.{call_text, next_call, port_line, IsCall}
+use Rattle.partial_text.specs.Judging.{greatest, greatest_index, fields_of, exactly_one, exactly_two, exactly_three, number_at, update_from, read_from, update_if_from, call_at, calls_at, call_texts, port_at}
+use Rattle.partial_text.proofs.NumberLaws.{and_both}
 use Rattle.partial_text.proofs.PieceLaws.{behind_each}
-use Rattle.partial_text.proofs.FieldLaws.{bind_ok, if_ok, ok_is, found_ok, number_at_ok, number_at_again, one_is, two_is, three_is, with_word, word_again, fields_again, space_no_digit, semicolon_no_digit, HasNo-fields}
+use Rattle.partial_text.proofs.FieldLaws.{bind_ok, if_ok, ok_is, found_ok, number_at_ok, one_is, two_is, three_is, with_word}
 
 update_ok : (line m : ℕ) (fs : List (List ℕ)) (c : Call) → update_from line fs ≡ Ok c → (call_text c ≡ codes "update" ++ behind_each 32 fs) × IsCall m c
 unfolding update_from

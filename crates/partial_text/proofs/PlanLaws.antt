@@ -1,24 +1,22 @@
 -- What is read as a plan is the plan's text.
-use Rattle.std.proofs.Common.{◌≡◌, ℕ, ◌+◌, ◌^◌, ◌<◌, ◌≤◌, Bool, true, false, cond, eqb, ltb, List, [], ◌∷◌, ◌++◌, length, map, codes, Option, None, Some, Result, Ok, Err, refl, sym, ap, subst, ◌∙◌, append_assoc, ◌⊎◌, inl, inr, arith}
+use Rattle.std.proofs.Common.{◌≡◌, ℕ, ◌+◌, ◌<◌, ◌≤◌, Bool, true, false, cond, eqb, ltb, List, [], ◌∷◌, ◌++◌, length, codes, Result, Ok, Err, refl, sym, ap, subst, ◌∙◌, append_assoc, ◌⊎◌, inl, inr, arith}
 use Rattle.std.specs.List.{flat_map, AllByRecursion}
 use Rattle.std.specs.Str.{bytes_eq}
 use Rattle.std.proofs.lemmas.Bool.{eqb-false, ltb-true, ltb-false}
 use Rattle.std.proofs.lemmas.List.{append-nil, length-append}
 use Rattle.std.proofs.lemmas.Slice.Eq.{bytes_eq-Decides}
 use Rattle.partial_model.specs.declared.call.Call.{Call}
-use Rattle.partial_words.specs.Layout.{Layout, IsLayout}
 use Rattle.partial_text.specs.declared.fault.Cause.TheVariants as cause
 use Rattle.partial_text.specs.declared.fault.PlanError.{PlanError}
 use Rattle.partial_text.specs.declared.fault.PlanError.TheVariants as plan
-use Rattle.partial_text.specs.Pieces.{until, from, pieces, pieces_behind}
+use Rattle.partial_text.specs.Pieces.{until, from, pieces}
 use Rattle.partial_text.specs.Fault.{◌>>=◌}
 use Rattle.partial_text.specs.PlanText.{PlanView, sizes_line, initial_line, port_line, entry_text, field, rest_text, steps_line, ended, plan_text, IsCall, IsEntry, IsPlan}
 use Rattle.partial_text.specs.Judging.{Tail, fields_of, line_at, sizes_at, initial_at, port_at, more_ports, entries_at, is_end, last_at, tail_at, lines_judged, judged}
-use Rattle.partial_text.proofs.Steps.{tail_by, tail_step}
 use Rattle.partial_text.proofs.PieceLaws.{behind_each, behind_pieces, until_from}
 use Rattle.partial_text.proofs.FieldLaws.{bind_ok, if_ok, ok_is, with_word}
 use Rattle.partial_text.proofs.CallLaws.{port_ok}
-use Rattle.partial_text.proofs.LineLaws.{sizes_ok, initial_ok, entries_ok, Turns, from_is}
+use Rattle.partial_text.proofs.LineLaws.{sizes_ok, initial_ok, entries_ok, from_is}
 
 -- the text that is cut into these pieces
 abbrev pub text_of : List (List ℕ) → List ℕ

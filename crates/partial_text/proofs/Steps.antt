@@ -1,10 +1,10 @@
 -- What an error says, and how one line of a plan text leads to the next.
-use Rattle.std.proofs.Common.{◌≡◌, ℕ, ◌+◌, Bool, true, false, cond, List, [], ◌∷◌, ◌++◌, length, codes, Result, Ok, Err, refl, sym, ap, subst, ◌∙◌}
+use Rattle.std.proofs.Common.{◌≡◌, ℕ, ◌+◌, true, false, cond, List, [], ◌∷◌, length, codes, Result, Ok, refl, sym, ap, ◌∙◌}
 use Rattle.std.specs.Str.{bytes_eq}
 use Rattle.partial_model.specs.declared.call.Call.{Call}
 use Rattle.partial_text.specs.declared.fault.PlanError.{PlanError}
 use Rattle.partial_text.specs.declared.fault.PlanError.TheVariants as plan
-use Rattle.partial_text.specs.Pieces.{until, from, pieces}
+use Rattle.partial_text.specs.Pieces.{until, from}
 use Rattle.partial_text.specs.Fault.{◌>>=◌, Fails}
 use Rattle.partial_text.specs.Judging.{Tail, line_at, more_ports, last_at, tail_at}
 

@@ -6,7 +6,6 @@ use Rattle.partial_model.specs.declared.call.Call.{Call}
 use Rattle.partial_model.specs.declared.call.Call.TheVariants as call
 use Rattle.partial_words.specs.Layout.{Layout}
 use Rattle.partial_words.specs.declared.sizes.SizeError.TheVariants as size
-use Rattle.partial_text.specs.declared.fault.Cause.{Cause}
 use Rattle.partial_text.specs.declared.fault.Cause.TheVariants as cause
 use Rattle.partial_text.specs.declared.fault.PlanError.{PlanError}
 use Rattle.partial_text.specs.declared.fault.PlanError.TheVariants as plan

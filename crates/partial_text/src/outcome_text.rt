@@ -56,7 +56,7 @@ fn push_entry(text: &mut Vec<u8>, place: usize, entry: &Applied) -> Result<(), A
 }
 
 /// The number of a call's refusal: 7 for an index, 8 for the slots, 9 for the pool.
-pub fn refusal(cause: Refused) -> u8
+pub fn refusal_code(cause: Refused) -> u8
     ensures { result ≡ refusal_of cause }
 {
     match cause {
@@ -97,11 +97,12 @@ fn push_scanned(
     push_optional(text, borrowed)
 }
 
-fn push_stamp(text: &mut Vec<u8>, word: &[u8], stamp: u64) -> Result<(), AllocError>
-    ensures { OnOk result (text.new.items ≡ text.old.items ++ word.now ++ number_field stamp) }
+/// Writes the word, and the number behind a space.
+pub fn push_field(text: &mut Vec<u8>, word: &[u8], number: u64) -> Result<(), AllocError>
+    ensures { OnOk result (text.new.items ≡ text.old.items ++ word.now ++ number_field number) }
 {
     text.extend_from_slice(word)?;
-    push_number(text, stamp)
+    push_number(text, number)
 }
 
 fn push_answer(text: &mut Vec<u8>, answer: &Answer, place: usize) -> Result<(), AllocError>
@@ -109,12 +110,12 @@ fn push_answer(text: &mut Vec<u8>, answer: &Answer, place: usize) -> Result<(), 
 {
     match answer {
         Answer::Applied { stamp } => {
-            push_stamp(text, b" applied", *stamp)?;
-            push_stamp(text, b" place", place as u64)
+            push_field(text, b" applied", *stamp)?;
+            push_field(text, b" place", place as u64)
         }
         Answer::Lost { by } => {
-            push_stamp(text, b" lost", *by)?;
-            push_stamp(text, b" place", place as u64)
+            push_field(text, b" lost", *by)?;
+            push_field(text, b" place", place as u64)
         }
         Answer::Scanned {
             values,
@@ -122,14 +123,14 @@ fn push_answer(text: &mut Vec<u8>, answer: &Answer, place: usize) -> Result<(), 
             borrowed,
         } => push_scanned(text, values.as_slice(), *collects, *borrowed, place),
         Answer::Read { value, stamp } => {
-            push_stamp(text, b" read", *value)?;
+            push_field(text, b" read", *value)?;
             push_number(text, *stamp)?;
-            push_stamp(text, b" prefix", place as u64)
+            push_field(text, b" prefix", place as u64)
         }
-        Answer::Refused { cause } => push_stamp(text, b" refused", u64::from(refusal(*cause))),
+        Answer::Refused { cause } => push_field(text, b" refused", u64::from(refusal_code(*cause))),
         Answer::Changed { by } => {
-            push_stamp(text, b" changed", *by)?;
-            push_stamp(text, b" prefix", place as u64)
+            push_field(text, b" changed", *by)?;
+            push_field(text, b" prefix", place as u64)
         }
     }
 }
@@ -159,8 +160,8 @@ fn push_call(text: &mut Vec<u8>, called: &Called) -> Result<(), AllocError>
     push_number(text, u64::from(called.port))?;
     push_number(text, u64::from(called.number))?;
     push_finish(text, &called.finish)?;
-    push_stamp(text, b" steps", called.steps)?;
-    push_stamp(text, b" span", called.began as u64)?;
+    push_field(text, b" steps", called.steps)?;
+    push_field(text, b" span", called.began as u64)?;
     push_optional(text, ended(&called.finish))?;
     text.push(b'\n')?;
     Ok(())
@@ -214,7 +215,7 @@ pub fn push_values(text: &mut Vec<u8>, values: &[u64]) -> Result<(), AllocError>
 fn push_total(text: &mut Vec<u8>, steps: u64) -> Result<(), AllocError>
     ensures { OnOk result (text.new.items ≡ text.old.items ++ total_line steps) }
 {
-    push_stamp(text, b"total", steps)?;
+    push_field(text, b"total", steps)?;
     text.push(b'\n')?;
     Ok(())
 }

@@ -1,0 +1,14 @@
+//! The laws of plan texts.
+
+ghost use Rattle.std.specs.Prelude.{◌≡◌, List, ℕ, Ok};
+ghost use Rattle.partial_text.specs.PlanText.{PlanView, IsPlan, plan_text};
+ghost use Rattle.partial_text.specs.Judging.{judged};
+
+/// The text of a plan is judged as the plan, and what is judged as a plan is the text of it, so two
+/// texts never give one plan.
+pub fn texts_tell_plans()
+    ensures read { (p : PlanView) → IsPlan p → judged (plan_text p) ≡ Ok p }
+    ensures text { (text : List ℕ) → (p : PlanView) → judged text ≡ Ok p
+        → IsPlan p × (text ≡ plan_text p) }
+    ensures one { (a b : List ℕ) → (p : PlanView) → judged a ≡ Ok p → judged b ≡ Ok p → a ≡ b }
+{}
