@@ -1,0 +1,113 @@
+-- Which answers and notes fit a call, and when the notes of a port are legal in a history.
+use Rattle.std.specs.Prelude.{ℕ, ◌≡◌, ◌≢◌, ◌+◌, ◌<◌, ◌≤◌, ⊤, zero, suc, List, [], ◌∷◌, length, map, take, Contains, slice_get, Option, Some, None, IsSome, IfSome}
+use Rattle.std.specs.List.{AllByRecursion}
+use Rattle.partial_model.specs.declared.history.Applied.{Applied}
+use Rattle.partial_model.specs.declared.history.Opening.{Opening}
+use Rattle.partial_model.specs.declared.call.Call.{Call}
+use Rattle.partial_model.specs.declared.call.Call.TheVariants as call
+use Rattle.partial_model.specs.declared.call.Refused.{Refused}
+use Rattle.partial_model.specs.declared.call.Refused.TheVariants as refused
+use Rattle.partial_model.specs.declared.call.Answer.{Answer}
+use Rattle.partial_model.specs.declared.call.Answer.TheVariants as answer
+use Rattle.partial_model.specs.declared.call.Note.{Note}
+use Rattle.partial_model.specs.declared.call.Note.TheVariants as note
+use Rattle.partial_model.specs.History.{value_of, stamp_of}
+
+-- what a port knows of a finished call
+pub record Noted : Type 0 where
+  pub call : Call
+  pub answer : Answer
+  pub note : Option Note
+
+-- the components that a call names
+abbrev pub indices_of : Call → List ℕ
+indices_of (call.Update j v) = j ∷ []
+indices_of (call.Scan js) = js
+indices_of (call.Read j) = j ∷ []
+indices_of (call.UpdateIf j s v) = j ∷ []
+
+-- each component that the call names is there
+abbrev pub NamesComponents : ℕ → Call → Type 0
+NamesComponents m c = AllByRecursion (λ j. j < m) (indices_of c)
+
+-- the call claims words of the pool
+abbrev pub ClaimsPool : Call → Type 0
+ClaimsPool (call.Update j v) = ⊤
+ClaimsPool (call.Scan js) = 0 < length js
+ClaimsPool (call.Read j) = ⊥
+ClaimsPool (call.UpdateIf j s v) = ⊤
+
+-- the call claims a slot
+abbrev pub ClaimsSlot : Call → Type 0
+ClaimsSlot (call.Scan js) = 0 < length js
+ClaimsSlot _ = ⊥
+
+-- the causes for which a call may be refused: an index that isn't below m comes first
+abbrev pub MayBeRefused : ℕ → Call → Refused → Type 0
+MayBeRefused m c refused.Component = ¬ NamesComponents m c
+MayBeRefused m c refused.SlotsSpent = NamesComponents m c × ClaimsSlot c
+MayBeRefused m c refused.PoolSpent = NamesComponents m c × ClaimsPool c
+
+-- the answers that a call may have, each with its note; no other fits
+abbrev pub Fits : ℕ → Call → Answer → Option Note → Type 0
+Fits m c (answer.Refused cause) None = MayBeRefused m c cause
+Fits m (call.Update j v) (answer.Applied s) (Some (note.Wrote k)) = j < m
+Fits m (call.Update j v) (answer.Lost by) (Some (note.Lost k)) = j < m
+Fits m (call.Scan js) (answer.Scanned vs c b) (Some (note.Saw n)) = NamesComponents m (call.Scan js)
+Fits m (call.Read j) (answer.Read v s) (Some (note.Saw n)) = j < m
+Fits m (call.UpdateIf j x v) (answer.Applied s) (Some (note.Wrote k)) = j < m
+Fits m (call.UpdateIf j x v) (answer.Changed t) (Some (note.Saw n)) = j < m
+Fits m _ _ _ = ⊥
+
+-- how many entries of the history a note shows
+abbrev pub shown_by : Note → ℕ
+shown_by (note.Wrote k) = k + 1
+shown_by (note.Lost k) = k + 1
+shown_by (note.Saw n) = n
+
+-- before how many entries the call has its place
+abbrev pub place_of : Note → ℕ
+place_of (note.Wrote k) = k
+place_of (note.Lost k) = k
+place_of (note.Saw n) = n
+
+-- the entry at place k is for component j and has stamp t
+abbrev pub IsEntryFor : List Applied → ℕ → ℕ → ℕ → Type 0
+IsEntryFor h k j t = (e : Applied) × (slice_get h k ≡ Some e) × (e.component ≡ j) × (e.stamp ≡ t)
+
+-- a scan of no position makes no collect; one of r makes 2 to r + 2, and at least 3 where it borrows
+abbrev pub AreCollects : ℕ → ℕ → Option ℕ → Type 0
+AreCollects zero c b = (c ≡ 0) × (b ≡ None)
+AreCollects (suc r) c b = (2 ≤ c) × (c ≤ r + 3) × (IsSome b → 3 ≤ c)
+
+-- what a scan of the components js saw: their values after n entries
+pub record SawTogether (o : Opening) (h : List Applied) (js vs : List ℕ) (c : ℕ) (b : Option ℕ) (n : ℕ) : Type 0 where
+  pub within : n ≤ length h
+  pub values : vs ≡ map (λ j. value_of o (take n h) j) js
+  pub collects : AreCollects (length js) c b
+  -- a borrowed stamp is that of an entry for one of the components, at place n or later
+  pub borrowed : IfSome b (λ t. (k j : ℕ) × (n ≤ k) × Contains js j × IsEntryFor h k j t)
+
+-- what the answer and note of a call of port p say of the history h
+abbrev pub IsTrueOf : Opening → List Applied → ℕ → Call → Answer → Note → Type 0
+IsTrueOf o h p (call.Update j v) (answer.Applied s) (note.Wrote k) = slice_get h k ≡ Some (record { port = p; component = j; value = v; stamp = s })
+IsTrueOf o h p (call.Update j v) (answer.Lost by) (note.Lost k) = IsEntryFor h k j by
+IsTrueOf o h p (call.Scan js) (answer.Scanned vs c b) (note.Saw n) = SawTogether o h js vs c b n
+IsTrueOf o h p (call.Read j) (answer.Read v s) (note.Saw n) = (n ≤ length h) × (v ≡ value_of o (take n h) j) × (s ≡ stamp_of o (take n h) j)
+IsTrueOf o h p (call.UpdateIf j x v) (answer.Applied s) (note.Wrote k) = (slice_get h k ≡ Some (record { port = p; component = j; value = v; stamp = s })) × (stamp_of o (take k h) j ≡ x)
+IsTrueOf o h p (call.UpdateIf j x v) (answer.Changed t) (note.Saw n) = (n ≤ length h) × (stamp_of o (take n h) j ≡ t) × (t ≢ x)
+IsTrueOf o h p _ _ _ = ⊥
+
+-- the triple fits, and its note is true of the history and lies behind all that was seen before
+abbrev pub IsLegal : Opening → List Applied → ℕ → ℕ → Noted → Type 0
+IsLegal o h p seen n = Fits (length o.values) n.call n.answer n.note × IfSome n.note (λ note. IsTrueOf o h p n.call n.answer note × (seen ≤ place_of note))
+
+-- how many entries a port has seen once a call is noted
+abbrev pub seen_after : ℕ → Option Note → ℕ
+seen_after seen None = seen
+seen_after seen (Some note) = shown_by note
+
+-- the notes of port p, in the order of its calls, where it had seen so many entries before
+abbrev pub LegalNotes : Opening → List Applied → ℕ → ℕ → List Noted → Type 0
+LegalNotes o h p seen [] = ⊤
+LegalNotes o h p seen (n ∷ ns) = IsLegal o h p seen n × LegalNotes o h p (seen_after seen n.note) ns

@@ -1,0 +1,12 @@
+//! The plain data of a partial snapshot object: the history of applied updates, the calls with their
+//! answers and notes, and the look-ups in a history. The definitions in `specs/` say when a history
+//! and a list of calls are a legal outcome.
+#![tactic(auto)]
+
+pub mod call;
+pub mod history;
+pub mod sequence;
+
+pub use call::{Answer, Call, Called, Finish, Note, Refused};
+pub use history::{Applied, Opening, stamp_at, value_at};
+pub use sequence::Sequence;

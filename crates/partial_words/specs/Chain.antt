@@ -1,0 +1,57 @@
+-- The chain of records of a component, and when words agree with a history.
+use Rattle.std.specs.Prelude.{ℕ, ◌≡◌, ◌+◌, ◌*◌, ◌-◌, ◌/◌, ◌%◌, ◌<◌, ◌==◌, List, [], ◌∷◌, length, slice_index, nat_lt, if◌then◌else◌}
+use Rattle.partial_model.specs.declared.history.Applied.{Applied}
+use Rattle.partial_model.specs.declared.history.Opening.{Opening}
+use Rattle.partial_model.specs.History.{initial_stamp, stamp_of}
+use Rattle.partial_words.specs.Layout.{Layout, IsLayout, pool_base, pool_counter, list_base, list_counter, total}
+use Rattle.partial_words.specs.Record.{prev_of, value_of}
+
+-- a record of a chain: its reference, which is its stamp, and its value
+pub record Link : Type 0 where
+  pub stamp : ℕ
+  pub value : ℕ
+
+-- the records from that reference along `prev` are these, down to one whose `prev` is 0
+abbrev pub IsChain : List ℕ → ℕ → List Link → Type 0
+IsChain words at [] = ⊥
+IsChain words at (l ∷ []) = (l.stamp ≡ at) × (value_of words at ≡ l.value) × (prev_of words at ≡ 0)
+IsChain words at (l ∷ k ∷ ls) = (l.stamp ≡ at) × (value_of words at ≡ l.value) × IsChain words (prev_of words at) (k ∷ ls)
+
+-- the records of component j, newest first, where these were there before
+unfoldable pub links_from : List Link → ℕ → List Applied → List Link
+links_from found j [] = found
+links_from found j (e ∷ h) = links_from (if e.component == j then record { stamp = e.stamp; value = e.value } ∷ found else found) j h
+
+-- the entries for component j, newest first, and then its initial record
+abbrev pub chain_of : Opening → ℕ → List Applied → List Link
+chain_of o j h = links_from (record { stamp = initial_stamp o j; value = slice_index o.values j } ∷ []) j h
+
+-- each component word names the last record of its component, and its chain is that of the history
+abbrev pub Agrees : Opening → List ℕ → List Applied → Type 0
+Agrees o words h = (j : ℕ) → j < length o.values → (slice_index words j ≡ stamp_of o h j) × IsChain words (slice_index words j) (chain_of o j h)
+
+-- word k of the initial records from the pool's first word on: 0, the value, 0 for each component
+abbrev pub initial_record_word : List ℕ → ℕ → ℕ
+initial_record_word initial k = if k % 3 == 1 then slice_index initial (k / 3) else 0
+
+-- word w at opening
+abbrev pub opening_word : Layout → List ℕ → ℕ → ℕ
+opening_word s initial w =
+    if nat_lt w s.m then pool_base s + 3 * w
+    else if w == pool_counter s then pool_base s + 3 * s.m
+    else if w == list_counter s then list_base s
+    else if nat_lt w (pool_base s) then 0
+    else if nat_lt w (pool_base s + 3 * s.m) then initial_record_word initial (w - pool_base s)
+    else 0
+
+-- all words at opening
+pub record AreOpeningWords (s : Layout) (initial words : List ℕ) : Type 0 where
+  pub count : length words ≡ total s
+  pub each : (w : ℕ) → w < total s → slice_index words w ≡ opening_word s initial w
+
+-- the words are those of an opening: of as many values as there are components, and with stamps from the pool's first word on
+pub record OpensWith (s : Layout) (o : Opening) (all : List ℕ) : Type 0 where
+  pub sizes : IsLayout s
+  pub values : length o.values ≡ s.m
+  pub stamps : o.first ≡ pool_base s
+  pub words : AreOpeningWords s o.values all

@@ -1,0 +1,105 @@
+-- The four sizes of a memory, and the regions of its words in rising order.
+use Rattle.std.specs.Prelude.{ℕ, ◌≡◌, ◌+◌, ◌*◌, ◌<◌, ◌≤◌}
+
+-- m components, and how many slots, list words and pool words there are
+pub record Layout : Type 0 where
+  pub m : ℕ
+  pub slots : ℕ
+  pub lists : ℕ
+  pub pool : ℕ
+
+-- the range of each size
+abbrev pub AreComponents : Layout → Type 0
+AreComponents s = (1 ≤ s.m) × (s.m ≤ 65536)
+
+abbrev pub AreSlots : Layout → Type 0
+AreSlots s = (1 ≤ s.slots) × (s.slots ≤ 65536)
+
+abbrev pub AreLists : Layout → Type 0
+AreLists s = s.lists ≤ 65536
+
+abbrev pub ArePool : Layout → Type 0
+ArePool s = (3 * s.m ≤ s.pool) × (s.pool ≤ 4194304)
+
+-- the four sizes are in range
+pub record IsLayout (s : Layout) : Type 0 where
+  pub components : AreComponents s
+  pub slots : AreSlots s
+  pub lists : AreLists s
+  pub pool : ArePool s
+
+-- the word numbers
+abbrev pub component_word : Layout → ℕ → ℕ
+component_word s j = j
+
+abbrev pub slot_counter : Layout → ℕ
+slot_counter s = s.m
+
+abbrev pub list_head : Layout → ℕ
+list_head s = s.m + 1
+
+abbrev pub pool_counter : Layout → ℕ
+pool_counter s = s.m + 2
+
+abbrev pub list_counter : Layout → ℕ
+list_counter s = s.m + 3
+
+abbrev pub slot_word : Layout → ℕ → ℕ
+slot_word s l = s.m + 4 + l
+
+abbrev pub list_base : Layout → ℕ
+list_base s = s.m + 4 + s.slots
+
+abbrev pub list_end : Layout → ℕ
+list_end s = s.m + 4 + s.slots + s.lists
+
+abbrev pub pool_base : Layout → ℕ
+pool_base s = s.m + 4 + s.slots + s.lists
+
+abbrev pub pool_end : Layout → ℕ
+pool_end s = s.m + 4 + s.slots + s.lists + s.pool
+
+abbrev pub total : Layout → ℕ
+total s = s.m + 4 + s.slots + s.lists + s.pool
+
+-- what a word is for
+pub data Region : Type 0 where
+  Components : Region
+  SlotCounter : Region
+  ListHead : Region
+  PoolCounter : Region
+  ListCounter : Region
+  Slots : Region
+  Lists : Region
+  Pool : Region
+
+-- the first word of a region, and the word behind its last one
+abbrev pub first_word : Layout → Region → ℕ
+first_word s Components = 0
+first_word s SlotCounter = slot_counter s
+first_word s ListHead = list_head s
+first_word s PoolCounter = pool_counter s
+first_word s ListCounter = list_counter s
+first_word s Slots = slot_word s 0
+first_word s Lists = list_base s
+first_word s Pool = pool_base s
+
+abbrev pub end_word : Layout → Region → ℕ
+end_word s Components = s.m
+end_word s SlotCounter = slot_counter s + 1
+end_word s ListHead = list_head s + 1
+end_word s PoolCounter = pool_counter s + 1
+end_word s ListCounter = list_counter s + 1
+end_word s Slots = slot_word s s.slots
+end_word s Lists = list_end s
+end_word s Pool = pool_end s
+
+-- the word stands in the region
+abbrev pub StandsIn : Layout → ℕ → Region → Type 0
+StandsIn s w region = (first_word s region ≤ w) × (w < end_word s region)
+
+-- each word below the total stands in one region and in no other
+pub record AreRegionsOf (s : Layout) : Type 0 where
+  pub cover : (w : ℕ) → w < total s → (region : Region) × StandsIn s w region
+  pub disjoint : (w : ℕ) (a b : Region) → StandsIn s w a → StandsIn s w b → a ≡ b
+  pub within : (w : ℕ) (region : Region) → StandsIn s w region → w < total s

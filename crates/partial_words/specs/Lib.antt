@@ -1,0 +1,5 @@
+pub mod Layout
+pub mod SizeFault
+pub mod Step
+pub mod Record
+pub mod Chain

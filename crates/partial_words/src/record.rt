@@ -1,0 +1,74 @@
+//! The words of a record and of its view, and their readers.
+
+ghost use Rattle.std.specs.Prelude.{◌≡◌, ℕ, ◌+◌, ◌*◌, ◌<◌, List, length, slice_index};
+ghost use Rattle.std.specs.List.{flat_map};
+ghost use Rattle.partial_words.specs.Record.{pair_words, record_block, StandsAt, ReadsBackRecord, prev_of, value_of, view_of, view_len, view_pair};
+
+/// Word `k` of a record: the reference of the record before it, its value, the reference of its view
+/// (0 is the empty one), and with a view of its own the number of its pairs and the pairs.
+pub fn record_block_word(prev: u64, value: u64, view: u64, pairs: &[(u32, u64)], k: usize) -> u64
+    requires { k < length (record_block prev value view pairs.now) }
+    ensures { result ≡ slice_index (record_block prev value view pairs.now) k }
+{
+    match k {
+        0 => prev,
+        1 => value,
+        2 => view,
+        3 => pairs.len() as u64,
+        _ => pair_word(pairs, k - 4),
+    }
+}
+
+// Word k of the pairs, one after the other.
+fn pair_word(pairs: &[(u32, u64)], k: usize) -> u64
+    requires { k < 2 * length pairs.now }
+    ensures { result ≡ slice_index (flat_map pair_words pairs.now) k }
+{
+    let (index, value) = pairs[k / 2];
+    if k % 2 == 0 { u64::from(index) } else { value }
+}
+
+/// The reference of the record before the one at that word.
+pub fn prev_of(words: &[u64], at: usize) -> u64
+    requires { at < length words.now }
+    ensures { result ≡ prev_of words.now at }
+{
+    words[at]
+}
+
+/// The value of the record at that word.
+pub fn value_of(words: &[u64], at: usize) -> u64
+    requires { at + 1 < length words.now }
+    ensures { result ≡ value_of words.now at }
+{
+    words[at + 1]
+}
+
+/// The reference of the view of the record at that word, or 0 for the empty view.
+pub fn view_of(words: &[u64], at: usize) -> u64
+    requires { at + 2 < length words.now }
+    ensures { result ≡ view_of words.now at }
+{
+    words[at + 2]
+}
+
+/// How many pairs the view at that word has.
+pub fn view_len(words: &[u64], at: usize) -> u64
+    requires { at < length words.now }
+    ensures { result ≡ view_len words.now at }
+{
+    words[at]
+}
+
+/// Pair `k` of the view at that word: a component and its value.
+pub fn view_pair(words: &[u64], at: usize, k: usize) -> (u64, u64)
+    requires { at + 2 + 2 * k < length words.now }
+    ensures { result ≡ view_pair words.now at k }
+{
+    (words[at + 1 + 2 * k], words[at + 2 + 2 * k])
+}
+
+/// What the writer of a record gave, its readers read back, for every record that stands in the words.
+pub fn records_read_back()
+    ensures { (words : List ℕ) (at prev value view : ℕ) (pairs : List (ℕ × ℕ)) → StandsAt words at (record_block prev value view pairs) → ReadsBackRecord words at prev value view pairs }
+{}

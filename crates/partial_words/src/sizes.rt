@@ -1,0 +1,244 @@
+//! The sizes of a memory and the numbers of its words.
+
+ghost use Rattle.std.specs.Prelude.{◌≡◌, ℕ, ◌+◌, ◌*◌, ◌<◌, ◌≤◌, ◌^◌, List, [], length, IfOk, IfErr};
+ghost use Rattle.partial_model.specs.declared.history.Opening.{Opening};
+ghost use Rattle.partial_words.specs.Layout.{Layout, AreRegionsOf};
+ghost use Rattle.partial_words.specs.Chain.{OpensWith, Agrees};
+
+use std::marker::Model;
+use thiserror::Error;
+
+/// Which size is out of its range: the first one in this order.
+#[derive(Clone, Copy, Debug, PartialEq, Eq, Error)]
+pub enum SizeError {
+    /// There are 1 to 65,536 components.
+    #[error("components out of range")]
+    Components,
+    /// There are 1 to 65,536 slots.
+    #[error("slots out of range")]
+    Slots,
+    /// There are at most 65,536 list words.
+    #[error("list words out of range")]
+    Lists,
+    /// There are three pool words for each component at least, and at most 4,194,304.
+    #[error("pool words out of range")]
+    Pool,
+}
+
+impl SizeError {
+    ghost use Rattle.partial_words.specs.SizeFault.{code_of};
+
+    /// The number of the refusal: 1 to 4, in the order of the sizes.
+    pub fn code(&self) -> u8
+        ensures { result ≡ code_of self.now }
+    {
+        match self {
+            SizeError::Components => 1,
+            SizeError::Slots => 2,
+            SizeError::Lists => 3,
+            SizeError::Pool => 4,
+        }
+    }
+}
+
+/// The sizes of a memory: its components, slots, list words and pool words, each in its range. They
+/// say where each word stands; all numbers of words are below [`Sizes::total`].
+#[derive(Clone, Copy, Debug)]
+pub struct Sizes {
+    m: u32,
+    slots: u32,
+    lists: u32,
+    pool: u32,
+}
+
+impl Model for Sizes {
+    ghost use Rattle.partial_words.specs.Layout.{Layout, IsLayout};
+
+    ghost Value = { Layout };
+
+    ghost view = { λ s. record { m = s.m; slots = s.slots; lists = s.lists; pool = s.pool } };
+
+    ghost invariant = { λ s. IsLayout (record { m = s.m; slots = s.slots; lists = s.lists; pool = s.pool }) };
+
+    ghost inverse = { λ l. record { m = l.m; slots = l.slots; lists = l.lists; pool = l.pool } };
+}
+
+impl Sizes {
+    ghost use Rattle.partial_words.specs.Layout.{IsLayout, component_word, slot_counter, list_head, pool_counter, list_counter, slot_word, list_base, list_end, pool_base, pool_end, total};
+    ghost use Rattle.partial_words.specs.Chain.{opening_word};
+    ghost use Rattle.partial_words.specs.SizeFault.{IsFirstFault};
+
+    /// The sizes, or the first one that is out of its range.
+    pub fn new(m: u32, slots: u32, lists: u32, pool: u32) -> Result<Sizes, SizeError>
+        ensures ok { IfOk result (λ s. (s ≡ record { m = m; slots = slots; lists = lists; pool = pool }) × IsLayout s) }
+        ensures err { IfErr result (IsFirstFault (record { m = m; slots = slots; lists = lists; pool = pool })) }
+    {
+        if m < 1 || m > 65_536 {
+            return Err(SizeError::Components);
+        }
+        if slots < 1 || slots > 65_536 {
+            return Err(SizeError::Slots);
+        }
+        if lists > 65_536 {
+            return Err(SizeError::Lists);
+        }
+        if pool < 3 * m || pool > 4_194_304 {
+            return Err(SizeError::Pool);
+        }
+        Ok(Sizes {
+            m,
+            slots,
+            lists,
+            pool,
+        })
+    }
+
+    /// How many components there are.
+    pub fn m(&self) -> u32
+        ensures value { result ≡ self.now.m }
+        ensures sizes { IsLayout self.now }
+    {
+        self.m
+    }
+
+    /// How many slots there are.
+    pub fn slots(&self) -> u32
+        ensures value { result ≡ self.now.slots }
+        ensures sizes { IsLayout self.now }
+    {
+        self.slots
+    }
+
+    /// How many list words there are.
+    pub fn lists(&self) -> u32
+        ensures value { result ≡ self.now.lists }
+        ensures sizes { IsLayout self.now }
+    {
+        self.lists
+    }
+
+    /// How many pool words there are.
+    pub fn pool(&self) -> u32
+        ensures value { result ≡ self.now.pool }
+        ensures sizes { IsLayout self.now }
+    {
+        self.pool
+    }
+
+    /// The word of component `j`: the reference of its current record.
+    pub fn component_word(&self, j: u32) -> u32
+        requires { j < self.now.m }
+        ensures { result ≡ component_word self.now j }
+    {
+        j
+    }
+
+    /// The word with the number of the next slot.
+    pub fn slot_counter(&self) -> u32
+        ensures { result ≡ slot_counter self.now }
+    {
+        self.m
+    }
+
+    /// The word with the reference of the current list of vacated slots, or 0.
+    pub fn list_head(&self) -> u32
+        ensures { result ≡ list_head self.now }
+    {
+        self.m + 1
+    }
+
+    /// The word with the next free pool word.
+    pub fn pool_counter(&self) -> u32
+        ensures { result ≡ pool_counter self.now }
+    {
+        self.m + 2
+    }
+
+    /// The word with the next free list word.
+    pub fn list_counter(&self) -> u32
+        ensures { result ≡ list_counter self.now }
+    {
+        self.m + 3
+    }
+
+    /// The word of slot `l`.
+    pub fn slot_word(&self, l: u32) -> u32
+        requires { l < self.now.slots }
+        ensures { result ≡ slot_word self.now l }
+    {
+        self.m + 4 + l
+    }
+
+    /// The first list word.
+    pub fn list_base(&self) -> u32
+        ensures { result ≡ list_base self.now }
+    {
+        self.m + 4 + self.slots
+    }
+
+    /// The word behind the last list word.
+    pub fn list_end(&self) -> u32
+        ensures { result ≡ list_end self.now }
+    {
+        self.list_base() + self.lists
+    }
+
+    /// The first pool word.
+    pub fn pool_base(&self) -> u32
+        ensures { result ≡ pool_base self.now }
+    {
+        self.list_end()
+    }
+
+    /// The word behind the last pool word.
+    pub fn pool_end(&self) -> u32
+        ensures { result ≡ pool_end self.now }
+    {
+        self.total()
+    }
+
+    /// How many words there are.
+    pub fn total(&self) -> u32
+        ensures value { result ≡ total self.now }
+        ensures sizes { IsLayout self.now }
+    {
+        self.list_end() + self.pool
+    }
+
+    /// Word `w` of a memory that opens with these values.
+    pub fn opening_word(&self, initial: &[u64], w: u32) -> u64
+        requires values { length initial.now ≡ self.now.m }
+        requires word { w < total self.now }
+        ensures { result ≡ opening_word self.now initial.now w }
+    {
+        let pool_base = self.pool_base();
+        if w < self.m {
+            return u64::from(pool_base + 3 * w);
+        }
+        if w == self.pool_counter() {
+            return u64::from(pool_base + 3 * self.m);
+        }
+        if w == self.list_counter() {
+            return u64::from(self.list_base());
+        }
+        if w < pool_base || w >= pool_base + 3 * self.m {
+            return 0;
+        }
+        let k = w - pool_base;
+        if k % 3 == 1 {
+            initial[k as usize / 3]
+        } else {
+            0
+        }
+    }
+}
+
+/// Each word below the total stands in one region and in no other, whatever the sizes are.
+pub fn regions_are_apart()
+    ensures { (s : Layout) → AreRegionsOf s }
+{}
+
+/// The words at opening agree with the empty history: each component word names its initial record.
+pub fn opening_words_agree()
+    ensures { (s : Layout) (o : Opening) (words : List ℕ) → OpensWith s o words → Agrees o words [] }
+{}
