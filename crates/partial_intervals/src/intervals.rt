@@ -1,7 +1,7 @@
 //! The set of intervals: its room is fixed when it is made, look-ups go by binary search, and a number
 //! is added by a binary search and one shift.
 
-ghost use Rattle.std.specs.Prelude.{◌≡◌, ℕ, ◌+◌, ◌-◌, ◌≤◌, ◌<◌, ◌↔◌, ◌⊎◌, ◌++◌, ◌∷◌, [], length, IsTrue, IfOk, MatchOption, slice_get, Some};
+ghost use Rattle.std.specs.Prelude.{◌≡◌, ℕ, ◌+◌, ◌-◌, ◌≤◌, ◌<◌, ◌↔◌, ◌⊎◌, ◌++◌, ◌∷◌, [], length, IsTrue, IfOk, MatchOption, slice_index_or, slice_set};
 ghost use Rattle.partial_intervals.specs.Intervals.{Holds, IsNormal, GoesOn, IsLeastOutside, IsCountUpTo, lowest, highest};
 
 use std::alloc::{AllocError, Global};
@@ -68,7 +68,7 @@ impl Intervals {
     /// The lowest and the highest number of interval `k`, counted from 0 in rising order.
     pub fn get(&self, k: usize) -> (u32, u32)
         requires { k < length self.now.list }
-        ensures interval { slice_get self.now.list k ≡ Some result }
+        ensures interval { result ≡ slice_index_or self.now.list k (0, 0) }
         ensures normal { IsNormal self.now.list }
     {
         self.list[k]
@@ -81,6 +81,17 @@ impl Intervals {
         ensures { self.new ≡ record self.old { list = self.old.list ++ (lo, hi) ∷ [] } }
     {
         self.list.push_reserved((lo, hi));
+    }
+
+    /// Lengthens the last interval up to `hi`.
+    pub fn extend_last(&mut self, hi: u32)
+        requires some { 0 < length self.old.list }
+        requires up { highest self.old.list (length self.old.list - 1) ≤ hi }
+        requires small { hi < 4294967295 }
+        ensures { self.new ≡ record self.old { list = slice_set self.old.list (length self.old.list - 1) (lowest self.old.list (length self.old.list - 1), hi) } }
+    {
+        let last = self.list.len() - 1;
+        self.list[last].1 = hi;
     }
 
     /// Adds the number `l`, where it is not in the set already.

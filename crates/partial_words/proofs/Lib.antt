@@ -1,2 +1,3 @@
 pub mod RecordLemmas
 pub mod LayoutLemmas
+pub mod BlockLemmas
