@@ -13,17 +13,17 @@ pub record Adds (old new : Ranges) (l : ℕ) : Type 0 where
 
 module _ (list : Ranges) (i : ℕ) (range : ℕ × ℕ) (within : i < length list) where
   -- the interval that was written
-  lowest_here : lowest (set list i range) i ≡ range.0
+  pub lowest_here : lowest (set list i range) i ≡ range.0
   lowest_here = ap (λ (r : ℕ × ℕ). r.0) (get_or-set_same list i range (0, 0) within)
 
-  highest_here : highest (set list i range) i ≡ range.1
+  pub highest_here : highest (set list i range) i ≡ range.1
   highest_here = ap (λ (r : ℕ × ℕ). r.1) (get_or-set_same list i range (0, 0) within)
 
   -- another one stays
-  lowest_other : (k : ℕ) → (k ≡ i → ⊥) → lowest (set list i range) k ≡ lowest list k
+  pub lowest_other : (k : ℕ) → (k ≡ i → ⊥) → lowest (set list i range) k ≡ lowest list k
   lowest_other k other = ap (λ (r : ℕ × ℕ). r.0) (get_or-set_other list i k range (0, 0) other)
 
-  highest_other : (k : ℕ) → (k ≡ i → ⊥) → highest (set list i range) k ≡ highest list k
+  pub highest_other : (k : ℕ) → (k ≡ i → ⊥) → highest (set list i range) k ≡ highest list k
   highest_other k other = ap (λ (r : ℕ × ℕ). r.1) (get_or-set_other list i k range (0, 0) other)
 
 module _ (list : Ranges) (normal : IsNormal list) (i lo hi : ℕ) (within : i < length list) (closed : lo ≤ hi) (bounded : hi < 4294967295) (before : (j : ℕ) → j < i → highest list j + 1 < lo) (after : (k : ℕ) → i < k → k < length list → hi + 1 < lowest list k) where

@@ -1,0 +1,3 @@
+mod Marks
+mod Extended
+mod Walk

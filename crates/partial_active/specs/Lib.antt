@@ -1,0 +1,6 @@
+pub mod IndexSet
+pub mod Found
+pub mod Join
+pub mod Leave
+pub mod GetSet
+pub mod GetSetAnswers
