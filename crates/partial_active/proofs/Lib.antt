@@ -1,3 +1,4 @@
 mod Marks
 mod Extended
 mod Walk
+mod Answered

@@ -95,6 +95,18 @@ in_stage p stage = (record p.0 { stage = stage }, p.1)
 abbrev pub after_head : Pair → ℕ → Pair
 after_head p x = (record p.0 { head = x; stage = if x == 0 then Counter else ListLen x }, record p.1 { indices = []; read = []; next = [] })
 
+-- the number of intervals was loaded
+abbrev pub after_list_len : ℕ → ℕ → Stage
+after_list_len at x = if x == 0 then Counter else ListLow (at + 1) x
+
+-- the slot counter was loaded, and the walk begins
+abbrev pub after_counter : Pair → ℕ → Pair
+after_counter p x = come_to (record p.0 { end = min x p.0.sizes.slots; passed = 0 }, p.1) 0
+
+-- the number of indices of an announcement was loaded
+abbrev pub after_len : Pair → ℕ → ℕ → ℕ → Pair
+after_len p slot at x = if x == 0 then come_to p (slot + 1) else in_stage p (Index slot (at + 1) x)
+
 -- one more interval of the list was read
 abbrev pub after_interval : Pair → ℕ → ℕ → ℕ → ℕ → Pair
 after_interval p at left lo x = (record p.0 { stage = if left == 1 then Counter else ListLow (at + 1) (left - 1) }, record p.1 { read = p.1.read ++ (lo, x) ∷ [] })
@@ -118,12 +130,12 @@ after_write p at k words = in_stage p (if k + 1 == words then Publish at else Wr
 -- what an answer makes of the machine and its buffers
 abbrev pub advance_at : Stage → Pair → ℕ → Pair
 advance_at Head p x = after_head p x
-advance_at (ListLen at) p x = in_stage p (if x == 0 then Counter else ListLow (at + 1) x)
+advance_at (ListLen at) p x = in_stage p (after_list_len at x)
 advance_at (ListLow at left) p x = in_stage p (ListHigh (at + 1) left x)
 advance_at (ListHigh at left lo) p x = after_interval p at left lo x
-advance_at Counter p x = come_to (record p.0 { end = min x p.0.sizes.slots; passed = 0 }, p.1) 0
+advance_at Counter p x = after_counter p x
 advance_at (Slot slot) p x = after_slot p slot x
-advance_at (Len slot at) p x = if x == 0 then come_to p (slot + 1) else in_stage p (Index slot (at + 1) x)
+advance_at (Len slot at) p x = after_len p slot at x
 advance_at (Index slot at left) p x = after_index p slot at left x
 advance_at (Claim words) p x = after_claim p words x
 advance_at (Write at k words word) p x = after_write p at k words

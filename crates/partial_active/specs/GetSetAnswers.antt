@@ -59,13 +59,12 @@ pub record HasRead (s : Layout) (read : Ranges) : Type 0 where
   pub normal : IsNormal read
   pub within : EndsBelow read s.slots
 
--- so many intervals of the list, from that word on, are left to be read
-pub record IsReading (p : Pair) (at left : ℕ) : Type 0 where
+-- so many intervals of the list are left to be read
+pub record IsReading (p : Pair) (left : ℕ) : Type 0 where
   pub list : HasRead p.0.sizes p.1.read
   pub next : p.1.next ≡ []
   pub some : 0 < left
   pub room : 2 * (length p.1.read + left) ≤ p.0.sizes.slots + 1
-  pub words : at + 2 * left ≤ list_end p.0.sizes
 
 -- the walk stands at the slot: what it passed lies below, and the rest of the list read behind
 pub record IsWalking (p : Pair) (slot : ℕ) : Type 0 where
@@ -94,8 +93,8 @@ pub record HasNext (p : Pair) (words : ℕ) : Type 0 where
 abbrev pub goes_at : Stage → Pair → Type 0
 goes_at Head p = Unit {0}
 goes_at (ListLen at) p = (p.1.read ≡ []) × (p.1.next ≡ []) × (list_base p.0.sizes ≤ at) × (at < list_end p.0.sizes)
-goes_at (ListLow at left) p = IsReading p at left
-goes_at (ListHigh at left lo) p = IsReading p at left × IsNextLow p.0.sizes p.1.read lo
+goes_at (ListLow at left) p = IsReading p left × (at + 2 * left ≤ list_end p.0.sizes)
+goes_at (ListHigh at left lo) p = IsReading p left × (at + 2 * left ≤ list_end p.0.sizes + 1) × IsNextLow p.0.sizes p.1.read lo
 goes_at Counter p = HasRead p.0.sizes p.1.read × (p.1.next ≡ [])
 goes_at (Slot slot) p = IsAtSlot p slot
 goes_at (Len slot at) p = IsAtSlot p slot × (pool_base p.0.sizes ≤ at) × (at < pool_end p.0.sizes)

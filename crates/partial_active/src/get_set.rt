@@ -1,8 +1,8 @@
 //! The getSet of an active set: it reads the list of vacated slots, walks the other slots for
 //! announcements, and publishes the list with the slots that it found vacated.
 
-ghost use Rattle.std.specs.Prelude.{◌≡◌, ◌+◌, ◌-◌, ◌*◌, ◌<◌, ◌≤◌, false, IsSome, length, slice_index};
-ghost use Rattle.partial_words.specs.Layout.{list_end};
+ghost use Rattle.std.specs.Prelude.{◌≡◌, ◌+◌, ◌-◌, ◌*◌, ◌<◌, ◌≤◌, [], IsSome, length};
+ghost use Rattle.partial_words.specs.Layout.{IsLayout, list_end, pool_end};
 ghost use Rattle.partial_words.specs.VacatedList.{list_block};
 
 use crate::found::Found;
@@ -70,8 +70,8 @@ impl Model for GetSet {
 
 impl GetSet {
     ghost use Rattle.partial_active.specs.Found.{begins_at, IsFor};
-    ghost use Rattle.partial_active.specs.GetSet.{step_of, advance, left_of, fresh, after_walk, at_slot, come_to, after_head, after_interval, after_slot, after_index, after_claim, after_write};
-    ghost use Rattle.partial_active.specs.GetSetAnswers.{IsPossible, GoTogether, IsWalking, IsAtSlot, IsReading, IsNextLow, IsListHead, IsSlotWord, IsListClaim, EndsBelow, HasNext};
+    ghost use Rattle.partial_active.specs.GetSet.{step_of, advance, left_of, fresh, after_walk, at_slot, come_to, after_head, after_list_len, after_interval, after_counter, after_slot, after_len, after_index, after_claim, after_write};
+    ghost use Rattle.partial_active.specs.GetSetAnswers.{IsPossible, GoTogether, IsWalking, IsAtSlot, IsReading, IsNextLow, IsListHead, IsListLen, IsSlotWord, IsAnnouncedLen, IsListClaim, EndsBelow, HasRead, HasNext};
 
     /// A getSet of a port that is marked for the list words, or isn't. It takes no memory: the buffers
     /// that its answers are taken with were made for the same sizes.
@@ -122,6 +122,207 @@ impl GetSet {
         ensures { result ≡ self.now.lists_spent }
     {
         self.lists_spent
+    }
+
+    /// Takes the answer of the step that was due, with the buffers of this getSet. The first answer
+    /// empties them. Once the getSet is finished they name the indices found.
+    pub fn answer(&mut self, found: &mut Found, x: u64)
+        requires due { IsSome (step_of self.old) }
+        requires together { GoTogether (self.old, found.old) }
+        requires possible { IsPossible (self.old, found.old) x }
+        ensures state { (self.new, found.new) ≡ advance (self.old, found.old) x }
+        ensures together { GoTogether (self.new, found.new) }
+        ensures left { left_of self.new < left_of self.old }
+    {
+        match self.stage {
+            Stage::Head => self.after_head(found, x),
+            Stage::ListLen { at } => self.after_list_len(at, x),
+            Stage::ListLow { at, left } => {
+                self.stage = Stage::ListHigh {
+                    at: at + 1,
+                    left,
+                    lo: x as u32,
+                };
+            }
+            Stage::ListHigh { at, left, lo } => self.after_interval(found, at, left, lo, x as u32),
+            Stage::Counter => self.after_counter(found, x),
+            Stage::Slot { slot } => self.after_slot(found, slot, x),
+            Stage::Len { slot, at } => self.after_len(found, slot, at, x),
+            Stage::Index { slot, at, left } => self.after_index(found, slot, at, left, x as u32),
+            Stage::Claim { words } => self.after_claim(found, words, x),
+            Stage::Write { at, k, words, .. } => self.after_write(found, at, k, words),
+            Stage::Publish { .. } => self.stage = Stage::Done,
+            Stage::Done => {}
+        }
+    }
+
+    // The list head was loaded.
+    fn after_head(&mut self, found: &mut Found, x: u64)
+        requires layout { IsLayout self.old.sizes }
+        requires head { IsListHead self.old.sizes x }
+        ensures { (self.new, found.new) ≡ after_head (self.old, found.old) x }
+    {
+        found.clear();
+        self.head = x;
+        self.stage = if x == 0 {
+            Stage::Counter
+        } else {
+            Stage::ListLen { at: x as u32 }
+        };
+    }
+
+    // The number of intervals was loaded.
+    fn after_list_len(&mut self, at: u32, x: u64)
+        requires layout { IsLayout self.old.sizes }
+        requires len { IsListLen self.old.sizes at x }
+        ensures { self.new ≡ record self.old { stage = after_list_len at x } }
+    {
+        self.stage = if x == 0 {
+            Stage::Counter
+        } else {
+            Stage::ListLow {
+                at: at + 1,
+                left: x as u32,
+            }
+        };
+    }
+
+    // The highest slot of an interval was loaded.
+    fn after_interval(&mut self, found: &mut Found, at: u32, left: u32, lo: u32, x: u32)
+        requires layout { IsLayout self.old.sizes }
+        requires reading { IsReading (self.old, found.old) left }
+        requires words { at + 2 * left ≤ list_end self.old.sizes + 1 }
+        requires low { IsNextLow self.old.sizes found.old.read lo }
+        requires high { (lo ≤ x) × (x < self.old.sizes.slots) }
+        requires sizes { IsFor self.old.sizes found.old }
+        ensures { (self.new, found.new) ≡ after_interval (self.old, found.old) at left lo x }
+    {
+        found.read_interval(lo, x);
+        self.stage = if left == 1 {
+            Stage::Counter
+        } else {
+            Stage::ListLow {
+                at: at + 1,
+                left: left - 1,
+            }
+        };
+    }
+
+    // The slot counter was loaded, and the walk begins.
+    fn after_counter(&mut self, found: &mut Found, x: u64)
+        requires list { HasRead self.old.sizes found.old.read }
+        requires below { EndsBelow found.old.read x }
+        requires next { found.old.next ≡ [] }
+        requires sizes { IsFor self.old.sizes found.old }
+        ensures { (self.new, found.new) ≡ after_counter (self.old, found.old) x }
+    {
+        self.end = x.min(u64::from(self.sizes.slots())) as u32;
+        self.passed = 0;
+        self.come_to(found, 0);
+    }
+
+    // A slot was loaded.
+    fn after_slot(&mut self, found: &mut Found, slot: u32, x: u64)
+        requires layout { IsLayout self.old.sizes }
+        requires at_slot { IsAtSlot (self.old, found.old) slot }
+        requires word { IsSlotWord self.old.sizes x }
+        requires sizes { IsFor self.old.sizes found.old }
+        ensures { (self.new, found.new) ≡ after_slot (self.old, found.old) slot x }
+    {
+        match x {
+            0 => self.come_to(found, slot + 1),
+            1 => {
+                self.noted = true;
+                found.note(slot, slot);
+                self.come_to(found, slot + 1);
+            }
+            _ => {
+                self.stage = Stage::Len {
+                    slot,
+                    at: x as u32,
+                };
+            }
+        }
+    }
+
+    // The number of indices of an announcement was loaded.
+    fn after_len(&mut self, found: &mut Found, slot: u32, at: u32, x: u64)
+        requires layout { IsLayout self.old.sizes }
+        requires at_slot { IsAtSlot (self.old, found.old) slot }
+        requires len { IsAnnouncedLen self.old.sizes at x }
+        requires sizes { IsFor self.old.sizes found.old }
+        ensures { (self.new, found.new) ≡ after_len (self.old, found.old) slot at x }
+    {
+        if x == 0 {
+            self.come_to(found, slot + 1);
+        } else {
+            self.stage = Stage::Index {
+                slot,
+                at: at + 1,
+                left: x as u32,
+            };
+        }
+    }
+
+    // An index of an announcement was loaded.
+    fn after_index(&mut self, found: &mut Found, slot: u32, at: u32, left: u32, x: u32)
+        requires layout { IsLayout self.old.sizes }
+        requires at_slot { IsAtSlot (self.old, found.old) slot }
+        requires some { 0 < left }
+        requires words { at + left ≤ pool_end self.old.sizes }
+        requires index { x < self.old.sizes.m }
+        requires sizes { IsFor self.old.sizes found.old }
+        ensures { (self.new, found.new) ≡ after_index (self.old, found.old) slot at left x }
+    {
+        found.insert(x);
+        if left == 1 {
+            self.come_to(found, slot + 1);
+        } else {
+            self.stage = Stage::Index {
+                slot,
+                at: at + 1,
+                left: left - 1,
+            };
+        }
+    }
+
+    // List words were claimed, or the claim was refused.
+    fn after_claim(&mut self, found: &Found, words: u32, x: u64)
+        requires layout { IsLayout self.old.sizes }
+        requires next { HasNext (self.old, found.now) words }
+        requires claim { IsListClaim self.old.sizes x }
+        ensures { (self.new, found.now) ≡ after_claim (self.old, found.now) words x }
+    {
+        if x + u64::from(words) > u64::from(self.sizes.list_end()) {
+            self.lists_spent = true;
+            self.stage = Stage::Done;
+        } else {
+            self.stage = Stage::Write {
+                at: x as u32,
+                k: 0,
+                words,
+                word: found.next_len() as u64,
+            };
+        }
+    }
+
+    // A word of the next list was written.
+    fn after_write(&mut self, found: &Found, at: u32, k: u32, words: u32)
+        requires next { HasNext (self.old, found.now) words }
+        requires word { k < words }
+        requires within { at + words ≤ list_end self.old.sizes }
+        ensures { (self.new, found.now) ≡ after_write (self.old, found.now) at k words }
+    {
+        self.stage = if k + 1 == words {
+            Stage::Publish { at }
+        } else {
+            Stage::Write {
+                at,
+                k: k + 1,
+                words,
+                word: found.next_word(k as usize + 1),
+            }
+        };
     }
 
     // The walk is over: a list is published where a slot was noted and the port isn't marked.
