@@ -97,77 +97,96 @@ module _ (p : Pair) (layout : IsLayout p.0.sizes) (sizes : IsFor p.0.sizes p.1) 
 
   pub keeps_head : (x : ℕ) → IsListHead p.0.sizes x → Keeps (advance_at Head p x) (left_at p.0.sizes Head)
   keeps_head x possible = cond_both (eqb x 0) Counter (ListLen x) (λ stage. Keeps (record p.0 { head = x; stage = stage }, record p.1 { indices = []; read = []; next = [] }) (left_at p.0.sizes Head))
-    (λ e. record {
-      together = record { sizes = record { limit = sizes.limit; room = sizes.room }; stage = (record { normal = normal_nil; within = below_nil p.0.sizes.slots }, refl) };
-      fewer = omega (arith, walk_whole);
-    })
-    (λ e. record {
-      together = record { sizes = record { limit = sizes.limit; room = sizes.room }; stage = (refl, refl, (head_word x possible e).0, (head_word x possible e).1) };
-      fewer = omega (arith, walk_whole, head_word x possible e);
-    })
+      (λ e. record {
+        together = record { sizes = record { limit = sizes.limit; room = sizes.room }; stage = (record { normal = normal_nil; within = below_nil p.0.sizes.slots }, refl) };
+        fewer = omega (arith, walk_whole);
+      })
+      (λ e. record {
+        together = record { sizes = record { limit = sizes.limit; room = sizes.room }; stage = (refl, refl, (head_word x possible e).0, (head_word x possible e).1) };
+        fewer = omega (arith, walk_whole, head_word x possible e);
+      })
 
   pub keeps_list_len : (at x : ℕ) → goes_at (ListLen at) p → IsListLen p.0.sizes at x → Keeps (advance_at (ListLen at) p x) (left_at p.0.sizes (ListLen at))
   keeps_list_len at x goes possible =
-    let none : length p.1.read ≡ 0 = ap length goes.0 in
-    let list : HasRead p.0.sizes p.1.read = rw goes.0 (record { normal = normal_nil; within = below_nil p.0.sizes.slots }) in
-    cond_both (eqb x 0) Counter (ListLow (at + 1) x) (λ stage. Keeps (in_stage p stage) (left_at p.0.sizes (ListLen at)))
-    (λ e. record {
-      together = record { sizes = sizes; stage = (list, goes.1) };
-      fewer = omega (arith, goes.3);
-    })
-    (λ e. record {
-      together = record { sizes = sizes; stage = (record {
-        list = list;
-        next = goes.1;
-        some = omega (arith, eqb-false x 0 e);
-        room = omega (arith, none, possible.1);
-      }, possible.0) };
-      fewer = omega (arith, possible.0);
-    })
+      let none : length p.1.read ≡ 0 = ap length goes.0 in
+      let list : HasRead p.0.sizes p.1.read = rw goes.0 (record { normal = normal_nil; within = below_nil p.0.sizes.slots }) in
+      cond_both (eqb x 0) Counter (ListLow (at + 1) x) (λ stage. Keeps (in_stage p stage) (left_at p.0.sizes (ListLen at)))
+      (λ e. record {
+        together = record { sizes = sizes; stage = (list, goes.1) };
+        fewer = omega (arith, goes.3);
+      })
+      (λ e. record {
+        together = record {
+          sizes = sizes;
+          stage = (
+            record {
+              list = list;
+              next = goes.1;
+              some = omega (arith, eqb-false x 0 e);
+              room = omega (arith, none, possible.1);
+            },
+            possible.0,
+          );
+        };
+        fewer = omega (arith, possible.0);
+      })
 
   pub keeps_list_low : (at left x : ℕ) → goes_at (ListLow at left) p → IsNextLow p.0.sizes p.1.read x → Keeps (advance_at (ListLow at left) p x) (left_at p.0.sizes (ListLow at left))
   keeps_list_low at left x goes possible = record {
-    together = record { sizes = sizes; stage = (record {
-      list = goes.0.list;
-      next = goes.0.next;
-      some = goes.0.some;
-      room = goes.0.room;
-    }, omega (arith, goes.1), possible) };
+    together = record {
+      sizes = sizes;
+      stage = (
+        record {
+          list = goes.0.list;
+          next = goes.0.next;
+          some = goes.0.some;
+          room = goes.0.room;
+        },
+        omega (arith, goes.1),
+        possible,
+      );
+    };
     fewer = omega arith;
   }
 
   pub keeps_list_high : (at left lo x : ℕ) → goes_at (ListHigh at left lo) p → (lo ≤ x) × (x < p.0.sizes.slots) → Keeps (advance_at (ListHigh at left lo) p x) (left_at p.0.sizes (ListHigh at left lo))
   keeps_list_high at left lo x goes possible =
-    let list : HasRead p.0.sizes (p.1.read ++ (lo, x) ∷ []) = record {
-      normal = normal_push p.1.read lo x goes.0.list.normal (record { closed = possible.0; bounded = omega (arith, possible.1, layout.slots.1); beyond = goes.2.1 });
-      within = below_push p.1.read lo x p.0.sizes.slots goes.0.list.within possible.1;
-    } in
-    let longer = length_push p.1.read (lo, x) in
-    cond_both (eqb left 1) Counter (ListLow (at + 1) (left - 1)) (λ stage. Keeps (record p.0 { stage = stage }, record p.1 { read = p.1.read ++ (lo, x) ∷ [] }) (left_at p.0.sizes (ListHigh at left lo)))
-    (λ e. record {
-      together = record { sizes = record { limit = sizes.limit; room = sizes.room }; stage = (list, goes.0.next) };
-      fewer = omega (arith, eqb-true left 1 e);
-    })
-    (λ e.
+      let list : HasRead p.0.sizes (p.1.read ++ (lo, x) ∷ []) = record {
+        normal = normal_push p.1.read lo x goes.0.list.normal (record { closed = possible.0; bounded = omega (arith, possible.1, layout.slots.1); beyond = goes.2.1 });
+        within = below_push p.1.read lo x p.0.sizes.slots goes.0.list.within possible.1;
+      } in
+      let longer = length_push p.1.read (lo, x) in
+      cond_both (eqb left 1) Counter (ListLow (at + 1) (left - 1)) (λ stage. Keeps (record p.0 { stage = stage }, record p.1 { read = p.1.read ++ (lo, x) ∷ [] }) (left_at p.0.sizes (ListHigh at left lo)))
+      (λ e. record {
+        together = record { sizes = record { limit = sizes.limit; room = sizes.room }; stage = (list, goes.0.next) };
+        fewer = omega (arith, eqb-true left 1 e);
+      })
+      (λ e.
       let more : 1 < left = omega (arith, eqb-false left 1 e, goes.0.some) in
       record {
-      together = record { sizes = record { limit = sizes.limit; room = sizes.room }; stage = (record {
-        list = list;
-        next = goes.0.next;
-        some = omega (arith, more);
-        room = omega (arith, longer, goes.0.room, more);
-      }, omega (arith, goes.1, more)) };
-      fewer = omega (arith, more);
-    })
+        together = record {
+          sizes = record { limit = sizes.limit; room = sizes.room };
+          stage = (
+            record {
+              list = list;
+              next = goes.0.next;
+              some = omega (arith, more);
+              room = omega (arith, longer, goes.0.room, more);
+            },
+            omega (arith, goes.1, more),
+          );
+        };
+        fewer = omega (arith, more);
+      })
 
   pub keeps_counter : (x : ℕ) → goes_at Counter p → EndsBelow p.1.read x → Keeps (advance_at Counter p x) (left_at p.0.sizes Counter)
   keeps_counter x goes possible =
-    let q : Pair = (record p.0 { end = min x p.0.sizes.slots; passed = 0 }, p.1) in
-    let walking = walk_begins p x goes.0 possible goes.1 in
-    record {
-      together = come_to_goes q 0 walking sizes;
-      fewer = omega (arith, come_to_left q 0 walking);
-    }
+      let q : Pair = (record p.0 { end = min x p.0.sizes.slots; passed = 0 }, p.1) in
+      let walking = walk_begins p x goes.0 possible goes.1 in
+      record {
+        together = come_to_goes q 0 walking sizes;
+        fewer = omega (arith, come_to_left q 0 walking);
+      }
 
   -- the walk goes on at the next slot
   keeps_next : (slot left : ℕ) → IsWalking p (slot + 1) → walk_left p.0.sizes (slot + 1) < left → Keeps (come_to p (slot + 1)) left
@@ -197,27 +216,27 @@ module _ (p : Pair) (layout : IsLayout p.0.sizes) (sizes : IsFor p.0.sizes p.1) 
 
   pub keeps_len : (slot at x : ℕ) → goes_at (Len slot at) p → IsAnnouncedLen p.0.sizes at x → Keeps (advance_at (Len slot at) p x) (left_at p.0.sizes (Len slot at))
   keeps_len slot at x goes possible = cond_both (eqb x 0) (come_to p (slot + 1)) (in_stage p (Index slot (at + 1) x)) (λ q. Keeps q (left_at p.0.sizes (Len slot at)))
-    (λ e. keeps_next slot (left_at p.0.sizes (Len slot at)) (walk_next p slot goes.0) (omega arith))
-    (λ e. record {
-      together = record { sizes = sizes; stage = (at_in_stage slot (Index slot (at + 1) x) goes.0, omega (arith, eqb-false x 0 e), possible.1, possible.0) };
-      fewer = omega (arith, possible.1);
-    })
+      (λ e. keeps_next slot (left_at p.0.sizes (Len slot at)) (walk_next p slot goes.0) (omega arith))
+      (λ e. record {
+        together = record { sizes = sizes; stage = (at_in_stage slot (Index slot (at + 1) x) goes.0, omega (arith, eqb-false x 0 e), possible.1, possible.0) };
+        fewer = omega (arith, possible.1);
+      })
 
   pub keeps_claim : (words x : ℕ) → goes_at (Claim words) p → IsListClaim p.0.sizes x → Keeps (advance_at (Claim words) p x) (left_at p.0.sizes (Claim words))
   keeps_claim words x goes possible = cond_both (ltb (list_end p.0.sizes) (x + words)) (record p.0 { lists_spent = true; stage = Done }, p.1) (in_stage p (Write x 0 words (length p.1.next))) (λ q. Keeps q (left_at p.0.sizes (Claim words)))
-    (λ e. record { together = record { sizes = record { limit = sizes.limit; room = sizes.room }; stage = tt }; fewer = omega arith })
-    (λ e. record {
-      together = record { sizes = sizes; stage = (record { next = goes.next; within = goes.within; count = goes.count }, omega (arith, goes.count), ltb-false (list_end p.0.sizes) (x + words) e, refl) };
-      fewer = omega arith;
-    })
+      (λ e. record { together = record { sizes = record { limit = sizes.limit; room = sizes.room }; stage = tt }; fewer = omega arith })
+      (λ e. record {
+        together = record { sizes = sizes; stage = (record { next = goes.next; within = goes.within; count = goes.count }, omega (arith, goes.count), ltb-false (list_end p.0.sizes) (x + words) e, refl) };
+        fewer = omega arith;
+      })
 
   pub keeps_write : (at k words word x : ℕ) → goes_at (Write at k words word) p → Keeps (advance_at (Write at k words word) p x) (left_at p.0.sizes (Write at k words word))
   keeps_write at k words word x goes = cond_both (eqb (k + 1) words) (Publish at) (Write at (k + 1) words (slice_index (list_block p.1.next) (k + 1))) (λ stage. Keeps (in_stage p stage) (left_at p.0.sizes (Write at k words word)))
-    (λ e. record { together = record { sizes = sizes; stage = tt }; fewer = omega (arith, goes.1) })
-    (λ e. record {
-      together = record { sizes = sizes; stage = (record { next = goes.0.next; within = goes.0.within; count = goes.0.count }, omega (arith, goes.1, eqb-false (k + 1) words e), goes.2, refl) };
-      fewer = omega (arith, goes.1);
-    })
+      (λ e. record { together = record { sizes = sizes; stage = tt }; fewer = omega (arith, goes.1) })
+      (λ e. record {
+        together = record { sizes = sizes; stage = (record { next = goes.0.next; within = goes.0.within; count = goes.0.count }, omega (arith, goes.1, eqb-false (k + 1) words e), goes.2, refl) };
+        fewer = omega (arith, goes.1);
+      })
 
   pub keeps_publish : (at x : ℕ) → Keeps (advance_at (Publish at) p x) (left_at p.0.sizes (Publish at))
   keeps_publish at x = record { together = record { sizes = sizes; stage = tt }; fewer = omega arith }
@@ -242,36 +261,36 @@ module _ (p : Pair) (layout : IsLayout p.0.sizes) (sizes : IsFor p.0.sizes p.1) 
 
   pub keeps_index : (slot at left x : ℕ) → goes_at (Index slot at left) p → x < p.0.sizes.m → Keeps (advance_at (Index slot at left) p x) (left_at p.0.sizes (Index slot at left))
   keeps_index slot at left x goes possible =
-    let q : Pair = (p.0, record p.1 { indices = with_index p.1.indices x }) in
-    let q_sizes : IsFor p.0.sizes q.1 = record { limit = sizes.limit; room = sizes.room } in
-    let here = at_with slot x goes.0 in
-    cond_both (eqb left 1) (come_to q (slot + 1)) (in_stage q (Index slot (at + 1) (left - 1))) (λ r. Keeps r (left_at p.0.sizes (Index slot at left)))
-    (λ e. keeps_next q layout q_sizes slot (left_at p.0.sizes (Index slot at left)) (walk_next q slot here) (omega (arith, goes.1)))
-    (λ e.
+      let q : Pair = (p.0, record p.1 { indices = with_index p.1.indices x }) in
+      let q_sizes : IsFor p.0.sizes q.1 = record { limit = sizes.limit; room = sizes.room } in
+      let here = at_with slot x goes.0 in
+      cond_both (eqb left 1) (come_to q (slot + 1)) (in_stage q (Index slot (at + 1) (left - 1))) (λ r. Keeps r (left_at p.0.sizes (Index slot at left)))
+      (λ e. keeps_next q layout q_sizes slot (left_at p.0.sizes (Index slot at left)) (walk_next q slot here) (omega (arith, goes.1)))
+      (λ e.
       let more : 1 < left = omega (arith, eqb-false left 1 e, goes.1) in
       record {
-      together = record { sizes = q_sizes; stage = (at_in_stage q layout q_sizes slot (Index slot (at + 1) (left - 1)) here, omega (arith, more), omega (arith, goes.2), omega (arith, goes.3, more)) };
-      fewer = omega (arith, more);
-    })
+        together = record { sizes = q_sizes; stage = (at_in_stage q layout q_sizes slot (Index slot (at + 1) (left - 1)) here, omega (arith, more), omega (arith, goes.2), omega (arith, goes.3, more)) };
+        fewer = omega (arith, more);
+      })
 
   pub keeps_slot : (slot x : ℕ) → goes_at (Slot slot) p → IsSlotWord p.0.sizes x → Keeps (advance_at (Slot slot) p x) (left_at p.0.sizes (Slot slot))
   keeps_slot slot x goes possible =
-    let fewer = fewer_at p layout sizes slot goes in
-    let noted = note_slot p slot in
-    let noted_sizes : IsFor p.0.sizes noted.1 = record { limit = sizes.limit; room = sizes.room } in
-    cond_both (eqb x 0) (come_to p (slot + 1)) (cond (eqb x 1) (come_to noted (slot + 1)) (in_stage p (Len slot x))) (λ q. Keeps q (left_at p.0.sizes (Slot slot)))
-    (λ e. keeps_next p layout sizes slot (left_at p.0.sizes (Slot slot)) (walk_next p slot goes) (omega (arith, fewer)))
-    (λ not_empty. cond_both (eqb x 1) (come_to noted (slot + 1)) (in_stage p (Len slot x)) (λ q. Keeps q (left_at p.0.sizes (Slot slot)))
+      let fewer = fewer_at p layout sizes slot goes in
+      let noted = note_slot p slot in
+      let noted_sizes : IsFor p.0.sizes noted.1 = record { limit = sizes.limit; room = sizes.room } in
+      cond_both (eqb x 0) (come_to p (slot + 1)) (cond (eqb x 1) (come_to noted (slot + 1)) (in_stage p (Len slot x))) (λ q. Keeps q (left_at p.0.sizes (Slot slot)))
+      (λ e. keeps_next p layout sizes slot (left_at p.0.sizes (Slot slot)) (walk_next p slot goes) (omega (arith, fewer)))
+      (λ not_empty. cond_both (eqb x 1) (come_to noted (slot + 1)) (in_stage p (Len slot x)) (λ q. Keeps q (left_at p.0.sizes (Slot slot)))
       (λ e. keeps_next noted layout noted_sizes slot (left_at p.0.sizes (Slot slot)) (walk_noted p slot layout goes) (omega (arith, fewer)))
       (λ not_vacated.
-        let word : (pool_base p.0.sizes ≤ x) × (x < pool_end p.0.sizes) = elim possible [
-          | inl empty ↦ absurd (eqb-false x 0 not_empty empty)
-          | inr some ↦ elim some [ inl vacated ↦ absurd (eqb-false x 1 not_vacated vacated) | inr is ↦ is ]
-        ] in
-        record {
-          together = record { sizes = sizes; stage = (at_in_stage p layout sizes slot (Len slot x) goes, word.0, word.1) };
-          fewer = omega (arith, fewer);
-        }))
+      let word : (pool_base p.0.sizes ≤ x) × (x < pool_end p.0.sizes) = elim possible [
+        | inl empty ↦ absurd (eqb-false x 0 not_empty empty)
+        | inr some ↦ elim some [ inl vacated ↦ absurd (eqb-false x 1 not_vacated vacated) | inr is ↦ is ]
+      ] in
+      record {
+        together = record { sizes = sizes; stage = (at_in_stage p layout sizes slot (Len slot x) goes, word.0, word.1) };
+        fewer = omega (arith, fewer);
+      }))
 
 -- a due step with a possible answer keeps the machine and its buffers together, and leaves fewer steps
 pub keeps_at : (stage : Stage) (p : Pair) (x : ℕ) → IsLayout p.0.sizes → IsFor p.0.sizes p.1 → IsSome (step_at p.0.sizes p.0.head stage) → goes_at stage p → is_possible_at stage p x → Keeps (advance_at stage p x) (left_at p.0.sizes stage)

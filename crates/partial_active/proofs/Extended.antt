@@ -16,8 +16,8 @@ pub length_normal : (list : Ranges) (n : ℕ) → IsNormal list → EndsBelow li
 length_normal list n normal below = elim (cases_eq (length list) 0) [
   | inl none ↦ omega arith
   | inr some ↦
-    let last : length list - 1 < length list = omega arith in
-    omega (arith, starts_late list normal (length list - 1) last, normal.closed (length list - 1) last, below (length list - 1) last)
+      let last : length list - 1 < length list = omega arith in
+      omega (arith, starts_late list normal (length list - 1) last, normal.closed (length list - 1) last, below (length list - 1) last)
 ]
 
 module _ (list : Ranges) (lo hi : ℕ) where
@@ -47,11 +47,11 @@ module _ (list : Ranges) (lo hi : ℕ) where
       | inr last ↦ omega (arith, high_last k (omega (arith, pushed)), goes.bounded)
     ];
     apart = λ j k below lt.
-      let j_before : j < length list = omega (arith, pushed) in
-      elim (cases_lt k (length list)) [
-      | inl before ↦ omega (arith, high_before j j_before, low_before k before, normal.apart j k below before)
-      | inr last ↦ omega (arith, high_before j j_before, low_last k (omega (arith, pushed)), goes.beyond j j_before)
-    ];
+        let j_before : j < length list = omega (arith, pushed) in
+        elim (cases_lt k (length list)) [
+          | inl before ↦ omega (arith, high_before j j_before, low_before k before, normal.apart j k below before)
+          | inr last ↦ omega (arith, high_before j j_before, low_last k (omega (arith, pushed)), goes.beyond j j_before)
+        ];
   }
 
   pub below_push : (n : ℕ) → EndsBelow list n → hi < n → EndsBelow (list ++ (lo, hi) ∷ []) n
@@ -63,8 +63,8 @@ module _ (list : Ranges) (lo hi : ℕ) where
   -- what touching and not touching mean
   touching : touches list lo ≡ true → (0 < length list) × (highest list (last_place list) + 1 ≡ lo)
   touching e =
-    let both = and_parts (ltb 0 (length list)) (eqb (highest list (last_place list) + 1) lo) e in
-    (ltb-true 0 (length list) both.0, eqb-true (highest list (last_place list) + 1) lo both.1)
+      let both = and_parts (ltb 0 (length list)) (eqb (highest list (last_place list) + 1) lo) e in
+      (ltb-true 0 (length list) both.0, eqb-true (highest list (last_place list) + 1) lo both.1)
 
   apart_from : IsNormal list → IsBehind list lo hi → touches list lo ≡ false → GoesOn list lo hi
   apart_from normal behind e = record {
@@ -85,23 +85,23 @@ module _ (list : Ranges) (lo hi : ℕ) where
 module _ (list : Ranges) (lo hi : ℕ) (normal : IsNormal list) (behind : IsBehind list lo hi) where
   pub normal-extended : IsNormal (extended list lo hi)
   normal-extended = cond_both (touches list lo) (set list (last_place list) (lowest list (last_place list), hi)) (list ++ (lo, hi) ∷ []) (λ l. IsNormal l)
-    (λ e.
+      (λ e.
       let t = touching list lo hi e in
       let last : last_place list < length list = omega (arith, t.0) in
       normal_set list normal (last_place list) (lowest list (last_place list)) hi last
-        (omega (arith, normal.closed (last_place list) last, behind.closed, t.1))
-        behind.bounded
-        (λ j lt. normal.apart j (last_place list) lt last)
-        (λ k lt inside. absurd (omega arith)))
-    (λ e. normal_push list lo hi normal (apart_from list lo hi normal behind e))
+      (omega (arith, normal.closed (last_place list) last, behind.closed, t.1))
+      behind.bounded
+      (λ j lt. normal.apart j (last_place list) lt last)
+      (λ k lt inside. absurd (omega arith)))
+      (λ e. normal_push list lo hi normal (apart_from list lo hi normal behind e))
 
   pub below-extended : (n : ℕ) → EndsBelow list n → hi < n → EndsBelow (extended list lo hi) n
   below-extended n below last_below = cond_both (touches list lo) (set list (last_place list) (lowest list (last_place list), hi)) (list ++ (lo, hi) ∷ []) (λ l. EndsBelow l n)
-    (λ e k lt.
+      (λ e k lt.
       let t = touching list lo hi e in
       let last : last_place list < length list = omega (arith, t.0) in
       elim (cases_eq k (last_place list)) [
-      | inl here ↦ rw here (omega (arith, highest_here list (last_place list) (lowest list (last_place list), hi) last))
-      | inr other ↦ omega (arith, highest_other list (last_place list) (lowest list (last_place list), hi) last k other, below k (omega (arith, length-set list (last_place list) (lowest list (last_place list), hi))))
-    ])
-    (λ e. below_push list lo hi n below last_below)
+        | inl here ↦ rw here (omega (arith, highest_here list (last_place list) (lowest list (last_place list), hi) last))
+        | inr other ↦ omega (arith, highest_other list (last_place list) (lowest list (last_place list), hi) last k other, below k (omega (arith, length-set list (last_place list) (lowest list (last_place list), hi))))
+      ])
+      (λ e. below_push list lo hi n below last_below)

@@ -1,4 +1,5 @@
 mod Marks
-mod Extended
-mod Walk
-mod Answered
+pub mod Extended
+pub mod Walk
+pub mod Answered
+pub mod Sizes

@@ -44,18 +44,18 @@ pub emptied_more : (items : List ℕ) (marks : List Bool) (limit index : ℕ) �
 emptied_more items marks limit index e = record {
   kept = λ j lt is. elim (cases_eq j index) [
     | inl here ↦
-      let within : index < length marks = omega (arith, length-set marks index false) in
-      absurd (false≢true (sym (get_or-set_same marks index false false within) ∙ rw here at is))
+        let within : index < length marks = omega (arith, length-set marks index false) in
+        absurd (false≢true (sym (get_or-set_same marks index false false within) ∙ rw here at is))
     | inr other ↦
-      let was : get_or marks j false ≡ true = sym (get_or-set_other marks index j false false other) ∙ is in
-      let had : (has_index items j || (eqb index j || false)) ≡ true = sym (list_any-append (λ i. eqb i j) items (index ∷ [])) ∙ e.kept j (omega (arith, length-set marks index false)) was in
-      elim (or_cases (has_index items j) (eqb index j || false) had) [
-      | inl before ↦ before
-      | inr last ↦ elim (or_cases (eqb index j) false last) [
-        | inl same ↦ absurd (other (sym (eqb-true index j same)))
-        | inr never ↦ absurd (false≢true never)
-      ]
-    ]
+        let was : get_or marks j false ≡ true = sym (get_or-set_other marks index j false false other) ∙ is in
+        let had : (has_index items j || (eqb index j || false)) ≡ true = sym (list_any-append (λ i. eqb i j) items (index ∷ [])) ∙ e.kept j (omega (arith, length-set marks index false)) was in
+        elim (or_cases (has_index items j) (eqb index j || false) had) [
+          | inl before ↦ before
+          | inr last ↦ elim (or_cases (eqb index j) false last) [
+            | inl same ↦ absurd (other (sym (eqb-true index j same)))
+            | inr never ↦ absurd (false≢true never)
+          ]
+        ]
   ];
   below = λ k lt. omega (arith, length-set marks index false, get_or_append_left items (index ∷ []) 0 k lt, e.below k (omega (arith, length_push items index)));
   same = length-set marks index false ∙ e.same;

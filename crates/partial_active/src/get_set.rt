@@ -1,8 +1,8 @@
 //! The getSet of an active set: it reads the list of vacated slots, walks the other slots for
 //! announcements, and publishes the list with the slots that it found vacated.
 
-ghost use Rattle.std.specs.Prelude.{◌≡◌, ◌+◌, ◌-◌, ◌*◌, ◌<◌, ◌≤◌, [], IsSome, length};
-ghost use Rattle.partial_words.specs.Layout.{IsLayout, list_end, pool_end};
+ghost use Rattle.std.specs.Prelude.{◌≡◌, ◌+◌, ◌-◌, ◌*◌, ◌<◌, ◌≤◌, ◌↔◌, [], IsSome, IsTrue, length};
+ghost use Rattle.partial_words.specs.Layout.{IsLayout, list_base, list_end, pool_base, pool_end};
 ghost use Rattle.partial_words.specs.VacatedList.{list_block};
 
 use crate::found::Found;
@@ -15,21 +15,41 @@ pub enum Stage {
     /// Load the list head.
     Head,
     /// Load the number of intervals of the list at this word.
-    ListLen { at: u32 },
+    ListLen {
+        at: u32,
+    },
     /// Load the lowest slot of an interval. So many intervals are left, this one with them.
-    ListLow { at: u32, left: u32 },
+    ListLow {
+        at: u32,
+        left: u32,
+    },
     /// Load the highest slot of the interval that begins at `lo`.
-    ListHigh { at: u32, left: u32, lo: u32 },
+    ListHigh {
+        at: u32,
+        left: u32,
+        lo: u32,
+    },
     /// Load the slot counter.
     Counter,
     /// Load a slot.
-    Slot { slot: u32 },
+    Slot {
+        slot: u32,
+    },
     /// Load the number of indices of the announcement at this word, which stood in the slot.
-    Len { slot: u32, at: u32 },
+    Len {
+        slot: u32,
+        at: u32,
+    },
     /// Load an index of that announcement. So many are left, this one with them.
-    Index { slot: u32, at: u32, left: u32 },
+    Index {
+        slot: u32,
+        at: u32,
+        left: u32,
+    },
     /// Claim so many list words.
-    Claim { words: u32 },
+    Claim {
+        words: u32,
+    },
     /// Store word `k` of the next list, which begins at word `at`.
     Write {
         at: u32,
@@ -38,7 +58,9 @@ pub enum Stage {
         word: u64,
     },
     /// Exchange the list head for the next list.
-    Publish { at: u32 },
+    Publish {
+        at: u32,
+    },
     /// Nothing is due.
     Done,
 }
@@ -69,14 +91,16 @@ impl Model for GetSet {
 }
 
 impl GetSet {
-    ghost use Rattle.partial_active.specs.Found.{begins_at, IsFor};
+    ghost use Rattle.partial_active.specs.Found.{Buffers, IsFor};
     ghost use Rattle.partial_active.specs.GetSet.{step_of, advance, left_of, fresh, after_walk, at_slot, come_to, after_head, after_list_len, after_interval, after_counter, after_slot, after_len, after_index, after_claim, after_write};
     ghost use Rattle.partial_active.specs.GetSetAnswers.{IsPossible, GoTogether, IsWalking, IsAtSlot, IsReading, IsNextLow, IsListHead, IsListLen, IsSlotWord, IsAnnouncedLen, IsListClaim, EndsBelow, HasRead, HasNext};
 
     /// A getSet of a port that is marked for the list words, or isn't. It takes no memory: the buffers
     /// that its answers are taken with were made for the same sizes.
     pub fn new(sizes: Sizes, lists_spent: bool) -> GetSet
-        ensures { result ≡ fresh sizes lists_spent }
+        ensures state { result ≡ fresh sizes lists_spent }
+        ensures together { (f : Buffers) → IsFor sizes f → GoTogether (result, f) }
+        ensures steps { left_of result ≡ sizes.slots * (sizes.m + 3) + sizes.lists + 6 }
     {
         let _slots = sizes.slots();
         GetSet {
@@ -132,6 +156,7 @@ impl GetSet {
         requires possible { IsPossible (self.old, found.old) x }
         ensures state { (self.new, found.new) ≡ advance (self.old, found.old) x }
         ensures together { GoTogether (self.new, found.new) }
+        ensures sizes { self.new.sizes ≡ self.old.sizes }
         ensures left { left_of self.new < left_of self.old }
     {
         match self.stage {
@@ -237,10 +262,7 @@ impl GetSet {
                 self.come_to(found, slot + 1);
             }
             _ => {
-                self.stage = Stage::Len {
-                    slot,
-                    at: x as u32,
-                };
+                self.stage = Stage::Len { slot, at: x as u32 };
             }
         }
     }
@@ -365,5 +387,55 @@ impl GetSet {
         } else {
             self.at_slot(found, slot);
         }
+    }
+}
+
+#[cfg(test)]
+impl GetSet {
+    ghost use Rattle.partial_active.specs.GetSetAnswers.{IsPossible};
+
+    // Whether the number may answer the step that is due. It asks a little more than is needed.
+    pub(crate) fn may_answer(&self, found: &Found, x: u64) -> bool
+        ensures { IsTrue result → IsPossible (self.now, found.now) x }
+    {
+        match self.stage {
+            Stage::Head => x == 0 || self.is_list_word(x),
+            Stage::ListLen { at } => {
+                x <= u64::from(self.sizes.slots())
+                    && u64::from(at) + 1 + 2 * x <= u64::from(self.sizes.list_end())
+                    && 2 * x <= u64::from(self.sizes.slots()) + 1
+            }
+            Stage::ListLow { .. } => {
+                x < u64::from(self.sizes.slots()) && found.read_ends_below(x.saturating_sub(1))
+            }
+            Stage::ListHigh { lo, .. } => {
+                u64::from(lo) <= x && x < u64::from(self.sizes.slots())
+            }
+            Stage::Counter => found.read_ends_below(x),
+            Stage::Slot { .. } => x <= 1 || self.is_pool_word(x),
+            Stage::Len { at, .. } => {
+                x <= u64::from(self.sizes.m())
+                    && u64::from(at) + 1 + x <= u64::from(self.sizes.pool_end())
+            }
+            Stage::Index { .. } => x < u64::from(self.sizes.m()),
+            Stage::Claim { .. } => {
+                u64::from(self.sizes.list_base()) <= x && x <= u64::from(self.sizes.list_end()) + 64
+            }
+            _ => true,
+        }
+    }
+
+    // Whether the number is that of a list word.
+    fn is_list_word(&self, x: u64) -> bool
+        ensures { IsTrue result ↔ ((list_base self.now.sizes ≤ x) × (x < list_end self.now.sizes)) }
+    {
+        u64::from(self.sizes.list_base()) <= x && x < u64::from(self.sizes.list_end())
+    }
+
+    // Whether the number is that of a pool word.
+    fn is_pool_word(&self, x: u64) -> bool
+        ensures { IsTrue result ↔ ((pool_base self.now.sizes ≤ x) × (x < pool_end self.now.sizes)) }
+    {
+        u64::from(self.sizes.pool_base()) <= x && x < u64::from(self.sizes.pool_end())
     }
 }

@@ -11,3 +11,6 @@ pub use found::Found;
 pub use get_set::GetSet;
 pub use join::Join;
 pub use leave::Leave;
+
+#[cfg(test)]
+mod tests;
