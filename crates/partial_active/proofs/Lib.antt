@@ -3,3 +3,5 @@ pub mod Extended
 pub mod Walk
 pub mod Answered
 pub mod Sizes
+pub mod Known
+pub mod Active

@@ -26,7 +26,7 @@ module _ (p : Pair) (slot : ℕ) (walking : IsWalking p slot) where
   next_room sizes = omega (arith, sizes.room, length_normal p.1.next p.0.sizes.slots walking.next next_within)
 
   -- what begins at the slot
-  begun : begins_at p.1.read p.0.passed slot ≡ true → (p.0.passed < length p.1.read) × (lowest p.1.read p.0.passed ≡ slot)
+  pub begun : begins_at p.1.read p.0.passed slot ≡ true → (p.0.passed < length p.1.read) × (lowest p.1.read p.0.passed ≡ slot)
   begun e =
       let both = and_parts (ltb p.0.passed (length p.1.read)) (eqb (lowest p.1.read p.0.passed) slot) e in
       (ltb-true p.0.passed (length p.1.read) both.0, eqb-true (lowest p.1.read p.0.passed) slot both.1)

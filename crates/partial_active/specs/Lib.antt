@@ -4,3 +4,4 @@ pub mod Join
 pub mod Leave
 pub mod GetSet
 pub mod GetSetAnswers
+pub mod Orderly

@@ -1,9 +1,14 @@
 //! The getSet of an active set: it reads the list of vacated slots, walks the other slots for
 //! announcements, and publishes the list with the slots that it found vacated.
 
-ghost use Rattle.std.specs.Prelude.{◌≡◌, ◌+◌, ◌-◌, ◌*◌, ◌<◌, ◌≤◌, ◌↔◌, [], IsSome, IsTrue, length};
-ghost use Rattle.partial_words.specs.Layout.{IsLayout, list_base, list_end, pool_base, pool_end};
-ghost use Rattle.partial_words.specs.VacatedList.{list_block};
+ghost use Rattle.std.specs.Prelude.{◌≡◌, ◌+◌, ◌-◌, ◌*◌, ◌<◌, ◌≤◌, ◌↔◌, ◌++◌, ◌∷◌, ℕ, Bool, List, [], IsSome, IsTrue, Some, None, length};
+ghost use Rattle.partial_words.specs.Layout.{Layout, IsLayout, list_base, list_end, pool_base, pool_end};
+ghost use Rattle.partial_words.specs.declared.step.Event.{Event};
+ghost use Rattle.partial_words.specs.Step.{answer_of};
+ghost use Rattle.partial_active.specs.Found.{Buffers, IsFor};
+ghost use Rattle.partial_active.specs.GetSet.{Pair, fresh, step_of};
+ghost use Rattle.partial_active.specs.GetSetAnswers.{IsPossible};
+ghost use Rattle.partial_active.specs.Orderly.{IsOrderlyRun, LeadsTo, MakesOwn, all_moments, own_moments, FindsActiveSet};
 
 use crate::found::Found;
 use partial_words::{Sizes, Step};
@@ -389,6 +394,20 @@ impl GetSet {
         }
     }
 }
+
+/// What a getSet finds, over all orders of the ports' steps. Let the words before each event be orderly
+/// and come from those before every earlier one, and let the events of one port be the steps of a fresh
+/// getSet, which they finish. Then it names every index of each announcement that stood in a slot from
+/// its first step to its last, and no index but those of announcements that stood in a slot at some
+/// moment of it.
+pub fn finds_the_active_set()
+    ensures { (s : Layout) (spent : Bool) (f : Buffers) (own : ℕ) (words : List ℕ) (events : List Event) (q : Pair) → IsLayout s → IsFor s f → IsOrderlyRun s [] (all_moments words events) → MakesOwn own (fresh s spent, f) words events q → step_of q.0 ≡ None → FindsActiveSet s (own_moments own words events) q.1.indices }
+{}
+
+/// The answers that orderly words give are possible: [`GetSet::answer`] may be called with each of them.
+pub fn orderly_answers_are_possible()
+    ensures { (s : Layout) (spent : Bool) (f : Buffers) (moments : List (List ℕ)) (now : List ℕ) (q : Pair) (step : Step) → IsLayout s → IsFor s f → IsOrderlyRun s [] (moments ++ now ∷ []) → LeadsTo (fresh s spent, f) moments q → step_of q.0 ≡ Some step → IsPossible q (answer_of now step) }
+{}
 
 #[cfg(test)]
 impl GetSet {
