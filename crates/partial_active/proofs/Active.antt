@@ -12,6 +12,7 @@ use Rattle.partial_words.specs.Announcement.{announcement_block}
 use Rattle.partial_words.specs.VacatedList.{list_block}
 use Rattle.partial_words.specs.Step.{answer_of, words_after}
 use Rattle.partial_words.specs.declared.step.Event.{Event}
+use Rattle.partial_words.proofs.RecordLemmas.{length-pairs}
 use Rattle.partial_words.proofs.BlockLemmas.{announcement_reads_back, list_reads_back}
 use Rattle.partial_active.specs.declared.get_set.Stage.{Stage}
 use Rattle.partial_active.specs.declared.get_set.Stage.TheVariants.{Head, ListLen, ListLow, ListHigh, Counter, Slot, Len, Index, Claim, Write, Publish, Done}
@@ -19,8 +20,8 @@ use Rattle.partial_active.specs.IndexSet.{has_index, with_index}
 use Rattle.partial_active.specs.Found.{Buffers, IsFor, begins_at}
 use Rattle.partial_active.specs.GetSet.{GetSetState, Pair, fresh, step_at, step_of, advance, advance_at, after_walk, at_slot, come_to, pass_interval, note_slot, in_stage, next_words}
 use Rattle.partial_active.specs.GetSetAnswers.{EndsBelow, IsListHead, IsListLen, IsNextLow, IsSlotWord, IsAnnouncedLen, IsListClaim, is_possible_at, HasRead, IsReading, IsWalking, IsAtSlot, goes_at, IsPossible, GoTogether}
-use Rattle.partial_active.specs.Orderly.{slot_at, head_at, IsAnnouncement, IsVacatedList, IsSlotOf, IsHeadOf, Orderly, ComesFrom, OnEach, AtSome, Names, IsOrderlyRun, LeadsTo, all_moments, own_moments, MakesOwn, FindsActiveSet}
-use Rattle.partial_active.proofs.Extended.{length_normal}
+use Rattle.partial_active.specs.Orderly.{slot_at, head_at, IsAnnouncement, IsVacatedList, IsSlotOf, IsHeadOf, Orderly, ComesFrom, OnEach, AtSome, Names, IsOrderlyRun, LeadsTo, all_moments, own_moments, MakesOwn, FindsActiveSet, WasVacated, KeepsLists}
+use Rattle.partial_active.proofs.Extended.{length_normal, held_extended}
 use Rattle.partial_active.proofs.Walk.{begun, walking_on}
 use Rattle.partial_active.proofs.Answered.{walk_begins, walk_next, walk_noted, keeps_head, keeps_at}
 use Rattle.partial_active.proofs.Sizes.{sizes_at}
@@ -82,18 +83,19 @@ module _ (s : Layout) (layout : IsLayout s) (first : List ℕ) (past : Past) (no
     (some_both (IsLoaded s slot at named) (λ v. ComesFrom s v now) (λ w. IsLoaded s slot at named w × ComesFrom s w now) past (λ w a b. (a, b)) was comes)
 
   -- what is known of the first moment is known one moment later
-  keeps_first_now : (indices : List ℕ) → Common s first past indices → OnEach (λ v. ComesFrom s v now) past → KeepsFirst s first now
-  keeps_first_now indices common comes slot named within there = some_gives (λ w. (w ≡ first) × ComesFrom s w now) (StandsAt now (slot_at s first slot) (announcement_block named)) past
+  keeps_first_now : (indices : List ℕ) (next : Ranges) → Common s first past indices next → OnEach (λ v. ComesFrom s v now) past → KeepsFirst s first now
+  keeps_first_now indices next common comes slot named within there = some_gives (λ w. (w ≡ first) × ComesFrom s w now) (StandsAt now (slot_at s first slot) (announcement_block named)) past
     (λ w h.
       let from_first : ComesFrom s first now = subst (λ v. ComesFrom s v now) h.0 h.1 in
       from_first.announcements slot named within there)
     (some_both (λ w. w ≡ first) (λ v. ComesFrom s v now) (λ w. (w ≡ first) × ComesFrom s w now) past (λ w a b. (a, b)) common.first_in comes)
 
-  pub common_more : (indices : List ℕ) → Common s first past indices → OnEach (λ v. ComesFrom s v now) past → Common s first (now ∷ past) indices
-  common_more indices common comes = record {
+  pub common_more : (indices : List ℕ) (next : Ranges) → Common s first past indices next → OnEach (λ v. ComesFrom s v now) past → Common s first (now ∷ past) indices next
+  common_more indices next common comes = record {
     first_in = inr common.first_in;
-    keeps_first = (keeps_first_now indices common comes, common.keeps_first);
+    keeps_first = (keeps_first_now indices next common comes, common.keeps_first);
     sound = λ j has. inr (common.sound j has);
+    vacated = λ x holds. inr (common.vacated x holds);
   }
 
   pub walked_more : (end slot : ℕ) (read : Ranges) (indices : List ℕ) → Walked s first past end read indices slot → Walked s first (now ∷ past) end read indices slot
@@ -135,7 +137,15 @@ module _ (s : Layout) (layout : IsLayout s) (first : List ℕ) (past : Past) whe
   knows_come_to p slot walking common walked = cond_both (begins_at p.1.read p.0.passed slot) (at_slot (pass_interval p) (highest p.1.read p.0.passed + 1)) (at_slot p slot) (λ q. Knows s first past q)
     (λ e.
       let b = begun p slot walking e in
-      knows_at_slot (pass_interval p) (highest p.1.read p.0.passed + 1) common (record {
+      knows_at_slot (pass_interval p) (highest p.1.read p.0.passed + 1) (record {
+        first_in = common.first_in;
+        keeps_first = common.keeps_first;
+        sound = common.sound;
+        vacated = λ x holds. elim (held_extended p.1.next (lowest p.1.read p.0.passed) (highest p.1.read p.0.passed) walking.next x holds) [
+          | inl before ↦ common.vacated x before
+          | inr here ↦ walked.listed x (p.0.passed, b.0, here.0, here.1)
+        ];
+      }) (record {
         listed = walked.listed;
         ended = walked.ended;
         complete = λ l lt. elim (cases_lt l slot) [
@@ -193,7 +203,7 @@ module _ (p : Pair) (layout : IsLayout p.0.sizes) (first : List ℕ) (past : Pas
   Steps stage x = is_possible_at stage p x × Knows p.0.sizes first (now ∷ past) (advance_at stage p x)
 
   more : common_of p.0.sizes first past p → common_of p.0.sizes first (now ∷ past) p
-  more common = common_more p.0.sizes layout first past now p.1.indices common comes
+  more common = common_more p.0.sizes layout first past now p.1.indices p.1.next common comes
 
   walked_on : (slot : ℕ) → walked_of p.0.sizes first past p slot → walked_of p.0.sizes first (now ∷ past) p slot
   walked_on slot walked = walked_more p.0.sizes layout first past now p.0.end slot p.1.read p.1.indices walked
@@ -294,11 +304,20 @@ module _ (p : Pair) (layout : IsLayout p.0.sizes) (first : List ℕ) (past : Pas
     let is = orderly.slots slot within in
     let walked = walked_on slot knows.1 in
     let done : a ≤ 1 → CompleteAt p.0.sizes first (now ∷ past) p.1.indices slot = λ small. never_named p.0.sizes layout first (now ∷ past) p.1.indices slot a small (inl refl) in
+    let noted : a ≡ 1 → common_of p.0.sizes first (now ∷ past) (note_slot p slot) = λ vacated. record {
+      first_in = (more knows.0).first_in;
+      keeps_first = (more knows.0).keeps_first;
+      sound = (more knows.0).sound;
+      vacated = λ x holds. elim (held_extended p.1.next slot slot goes.walking.next x holds) [
+        | inl before ↦ inr (knows.0.vacated x before)
+        | inr here ↦ let same : x ≡ slot = omega arith in inl (ap (slot_at p.0.sizes now) same ∙ vacated)
+      ];
+    } in
     (slot_word_possible p.0.sizes layout first past now orderly comes a is,
      cond_both (eqb a 0) (come_to p (slot + 1)) (cond (eqb a 1) (come_to (note_slot p slot) (slot + 1)) (in_stage p (Len slot a))) (λ q. Knows p.0.sizes first (now ∷ past) q)
       (λ e. knows_come_to p.0.sizes layout first (now ∷ past) p (slot + 1) (walk_next p slot goes) (more knows.0) (walked_next p.0.sizes layout first (now ∷ past) p slot walked (done (omega (arith, eqb-true a 0 e)))))
       (λ not_empty. cond_both (eqb a 1) (come_to (note_slot p slot) (slot + 1)) (in_stage p (Len slot a)) (λ q. Knows p.0.sizes first (now ∷ past) q)
-        (λ e. knows_come_to p.0.sizes layout first (now ∷ past) (note_slot p slot) (slot + 1) (walk_noted p slot layout goes) (more knows.0) (walked_next p.0.sizes layout first (now ∷ past) p slot walked (done (omega (arith, eqb-true a 1 e)))))
+        (λ e. knows_come_to p.0.sizes layout first (now ∷ past) (note_slot p slot) (slot + 1) (walk_noted p slot layout goes) (noted (eqb-true a 1 e)) (walked_next p.0.sizes layout first (now ∷ past) p slot walked (done (omega (arith, eqb-true a 1 e)))))
         (λ not_vacated. elim is [
           | inl empty ↦ absurd (eqb-false a 0 not_empty empty)
           | inr some ↦ elim some [
@@ -380,6 +399,7 @@ module _ (p : Pair) (layout : IsLayout p.0.sizes) (first : List ℕ) (past : Pas
         | inl before ↦ inr (knows.0.sound j before)
         | inr same ↦ inr (subst (λ n. AtSome (Names p.0.sizes n) past) same here)
       ];
+      vacated = λ y holds. inr (knows.0.vacated y holds);
     } in
     let walked : walked_of p.0.sizes first (now ∷ past) q slot = record {
       listed = λ y holds. inr (knows.1.listed y holds);
@@ -415,6 +435,7 @@ module _ (p : Pair) (layout : IsLayout p.0.sizes) (first : List ℕ) (past : Pas
           next_below = here.walking.next_below;
           slot_within = here.walking.slot_within;
           passed = here.walking.passed;
+          before = here.walking.before;
           behind = here.walking.behind;
         };
         below = here.below;
@@ -509,10 +530,11 @@ head_reached s layout spent f sizes first orderly step e =
       | inl none ↦ inl none
       | inr there ↦ inr (there.1.from, omega (arith, there.1.to))
     ] in
-    let common : Common s first (first ∷ []) [] = record {
+    let common : Common s first (first ∷ []) [] [] = record {
       first_in = inl refl;
       keeps_first = ((λ slot named within there. there.stands), tt);
       sound = λ j has. absurd (false≢true has);
+      vacated = λ x holds. absurd (omega (arith, holds.1));
     } in
     let knows : Knows s first (first ∷ []) (advance p x) = cond_both (eqb x 0) Counter (ListLen x) (λ stage. Knows s first (first ∷ []) (record p.0 { head = x; stage = stage }, record p.1 { indices = []; read = []; next = [] }))
       (λ none. (common, λ y holds. absurd (omega (arith, holds.1))))
@@ -598,3 +620,67 @@ possible_next s spent f (first ∷ ms) now q step layout sizes orderly leads e =
     let begun = head_reached s layout spent f sizes first orderly.0 leads.0 leads.1 in
     let reached = run s layout first ms (first ∷ []) (advance (fresh s spent, f) (answer_of first leads.0)) q split.0 begun.1 leads.2 in
     (step_from s q reached.sizes layout first (onto ms (first ∷ [])) now split.1 split.2 reached.together reached.knows step e).0
+
+-- a run from a fresh machine, wherever it has come to
+reached_from : (s : Layout) (spent : Bool) (f : Buffers) (first : List ℕ) (ms : Past) (q : Pair) → IsLayout s → IsFor s f → IsOrderlyRun s [] (first ∷ ms) → LeadsTo (fresh s spent, f) (first ∷ ms) q → Reached s first (onto ms (first ∷ [])) q
+reached_from s spent f first ms q layout sizes orderly leads =
+    run s layout first ms (first ∷ []) (advance (fresh s spent, f) (answer_of first leads.0)) q orderly.2 (head_reached s layout spent f sizes first orderly.0 leads.0 leads.1).1 leads.2
+
+-- no interval of the list read has the slot at which the walk stands
+pub at_slot_outside : (p : Pair) (slot : ℕ) → IsAtSlot p slot → Holds p.1.read slot → ⊥
+at_slot_outside p slot here holds = elim (cases_lt holds.0 p.0.passed) [
+  | inl passed ↦ omega (arith, here.walking.before holds.0 passed, holds.3)
+  | inr ahead ↦ omega (arith, here.outside holds.0 ahead holds.1, holds.2)
+]
+
+goes_in : (q : Pair) (stage : Stage) → GoTogether q → q.0.stage ≡ stage → goes_at stage q
+goes_in q stage together is = subst (λ st. goes_at st q) is together.stage
+
+knows_in : (s : Layout) (first : List ℕ) (past : Past) (q : Pair) (stage : Stage) → Knows s first past q → q.0.stage ≡ stage → knows_at s first past stage q
+knows_in s first past q stage knows is = subst (λ st. knows_at s first past st q) is knows
+
+-- what is behind was at one of the moments of the run
+from_onto : (P : List ℕ → Type 0) (first : List ℕ) (ms : Past) → AtSome P (onto ms (first ∷ [])) → AtSome P (first ∷ ms)
+from_onto P first ms some = elim (onto_some P ms (first ∷ []) some) [
+  | inl behind ↦ elim behind [ inl here ↦ inl here | inr never ↦ absurd never ]
+  | inr ahead ↦ inr ahead
+]
+
+module _ (s : Layout) (first : List ℕ) (ms : Past) (q : Pair) (reached : Reached s first (onto ms (first ∷ [])) q) where
+  vacated_list : IsNormal q.1.next → EndsBelow q.1.next q.0.sizes.slots → Listed s (onto ms (first ∷ [])) q.1.next → WasVacated s (first ∷ ms) q.1.next
+  vacated_list normal below listed = record {
+    normal = normal;
+    within = λ x holds. omega (arith, below holds.0 holds.1, holds.3, ap (λ (l : Layout). l.slots) reached.sizes);
+    vacated = λ x holds. from_onto (λ w. slot_at s w x ≡ 1) first ms (listed x holds);
+  }
+
+-- the lists of vacated slots, for each machine that a run has come to
+pub keeps_lists : (s : Layout) (spent : Bool) (f : Buffers) (moments : Past) (q : Pair) → IsLayout s → IsFor s f → IsOrderlyRun s [] moments → LeadsTo (fresh s spent, f) moments q → KeepsLists s moments q
+keeps_lists s spent f [] q layout sizes orderly leads =
+    let fresh_stage : q.0.stage ≡ Head = ap (λ (r : Pair). r.0.stage) leads in
+    record {
+      loads_none = λ slot is holds. let never : ⊥ = cc in never;
+      writes = λ at k words word is. let never : ⊥ = cc in absurd never;
+      publishes = λ at is. let never : ⊥ = cc in absurd never;
+      exchange = λ at x y is. let never : ⊥ = cc in absurd never;
+      refused = λ words x is past_end. let never : ⊥ = cc in absurd never;
+    }
+keeps_lists s spent f (first ∷ ms) q layout sizes orderly leads =
+    let reached = reached_from s spent f first ms q layout sizes orderly leads in
+    let past = onto ms (first ∷ []) in
+    record {
+      loads_none = λ slot is. at_slot_outside q slot (goes_in q (Slot slot) reached.together is);
+      writes = λ at k words word is.
+        let goes = goes_in q (Write at k words word) reached.together is in
+        let knows = knows_in s first past q (Write at k words word) reached.knows is in
+        (vacated_list s first ms q reached goes.0.next goes.0.within knows.0.vacated, goes.3, omega (arith, goes.2, goes.0.count, length-pairs q.1.next, ap list_end reached.sizes));
+      publishes = λ at is.
+        let goes = goes_in q (Publish at) reached.together is in
+        let knows = knows_in s first past q (Publish at) reached.knows is in
+        vacated_list s first ms q reached goes.0 goes.1 knows.0.vacated;
+      exchange = λ at x y is. subst (λ st. advance_at st q x ≡ advance_at st q y) (sym is) refl;
+      refused = λ words x is past_end. subst (λ st. (step_of (advance_at st q x).0 ≡ None) × ((advance_at st q x).1 ≡ q.1)) (sym is)
+        (cond_both (ltb (list_end q.0.sizes) (x + words)) (record q.0 { lists_spent = true; stage = Done }, q.1) (in_stage q (Write x 0 words (length q.1.next))) (λ (r : Pair). (step_of r.0 ≡ None) × (r.1 ≡ q.1))
+          (λ e. (refl, refl))
+          (λ e. absurd (omega (arith, ltb-false (list_end q.0.sizes) (x + words) e))));
+    }

@@ -41,6 +41,7 @@ walk_begins p x list below empty = record {
   next_below = rw empty (below_nil 0);
   slot_within = omega arith;
   passed = omega arith;
+  before = λ k lt. absurd (omega arith);
   behind = λ k le lt. omega arith;
 }
 
@@ -54,6 +55,7 @@ walk_next p slot here = record {
   next_below = λ k lt. omega (arith, here.walking.next_below k lt);
   slot_within = omega (arith, here.below, here.walking.end_within);
   passed = here.walking.passed;
+  before = λ k lt. omega (arith, here.walking.before k lt);
   behind = λ k le lt. omega (arith, here.outside k le lt);
 }
 
@@ -78,6 +80,7 @@ walk_noted p slot layout here =
       next_below = below-extended p.1.next slot slot here.walking.next behind (slot + 1) (λ k lt. omega (arith, here.walking.next_below k lt)) (omega arith);
       slot_within = omega (arith, here.below, here.walking.end_within);
       passed = here.walking.passed;
+      before = λ k lt. omega (arith, here.walking.before k lt);
       behind = λ k le lt. omega (arith, here.outside k le lt);
     }
 
@@ -205,6 +208,7 @@ module _ (p : Pair) (layout : IsLayout p.0.sizes) (sizes : IsFor p.0.sizes p.1) 
       next_below = here.walking.next_below;
       slot_within = here.walking.slot_within;
       passed = here.walking.passed;
+      before = here.walking.before;
       behind = here.walking.behind;
     };
     below = here.below;
@@ -232,7 +236,7 @@ module _ (p : Pair) (layout : IsLayout p.0.sizes) (sizes : IsFor p.0.sizes p.1) 
 
   pub keeps_write : (at k words word x : ℕ) → goes_at (Write at k words word) p → Keeps (advance_at (Write at k words word) p x) (left_at p.0.sizes (Write at k words word))
   keeps_write at k words word x goes = cond_both (eqb (k + 1) words) (Publish at) (Write at (k + 1) words (slice_index (list_block p.1.next) (k + 1))) (λ stage. Keeps (in_stage p stage) (left_at p.0.sizes (Write at k words word)))
-      (λ e. record { together = record { sizes = sizes; stage = tt }; fewer = omega (arith, goes.1) })
+      (λ e. record { together = record { sizes = sizes; stage = (goes.0.next, goes.0.within) }; fewer = omega (arith, goes.1) })
       (λ e. record {
         together = record { sizes = sizes; stage = (record { next = goes.0.next; within = goes.0.within; count = goes.0.count }, omega (arith, goes.1, eqb-false (k + 1) words e), goes.2, refl) };
         fewer = omega (arith, goes.1);
@@ -253,6 +257,7 @@ module _ (p : Pair) (layout : IsLayout p.0.sizes) (sizes : IsFor p.0.sizes p.1) 
       next_below = here.walking.next_below;
       slot_within = here.walking.slot_within;
       passed = here.walking.passed;
+      before = here.walking.before;
       behind = here.walking.behind;
     };
     below = here.below;

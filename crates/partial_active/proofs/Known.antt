@@ -26,15 +26,17 @@ some_gives P G (w ∷ ws) gives some = elim some [ inl here ↦ gives w here | i
 abbrev pub KeepsFirst : Layout → List ℕ → List ℕ → Type 0
 KeepsFirst s first words = (slot : ℕ) (named : List ℕ) → slot < s.slots → IsAnnouncement s first (slot_at s first slot) named → StandsAt words (slot_at s first slot) (announcement_block named)
 
--- the first moment is one of those behind, and each index found was named at one of them
-pub record Common (s : Layout) (first : List ℕ) (past : Past) (indices : List ℕ) : Type 0 where
-  pub first_in : AtSome (λ w. w ≡ first) past
-  pub keeps_first : OnEach (KeepsFirst s first) past
-  pub sound : (j : ℕ) → has_index indices j ≡ true → AtSome (Names s j) past
-
 -- each slot of the list was vacated at a moment behind
 abbrev pub Listed : Layout → Past → Ranges → Type 0
 Listed s past read = (x : ℕ) → Holds read x → AtSome (λ w. slot_at s w x ≡ 1) past
+
+-- the first moment is one of those behind, each index found was named at one of them, and each slot of
+-- the next list was vacated at one of them
+pub record Common (s : Layout) (first : List ℕ) (past : Past) (indices : List ℕ) (next : Ranges) : Type 0 where
+  pub first_in : AtSome (λ w. w ≡ first) past
+  pub keeps_first : OnEach (KeepsFirst s first) past
+  pub sound : (j : ℕ) → has_index indices j ≡ true → AtSome (Names s j) past
+  pub vacated : Listed s past next
 
 -- the announcement that stood in the slot at all moments is found
 abbrev pub CompleteAt : Layout → List ℕ → Past → List ℕ → ℕ → Type 0
@@ -75,7 +77,7 @@ abbrev pub walked_of : Layout → List ℕ → Past → Pair → ℕ → Type 0
 walked_of s first past p slot = Walked s first past p.0.end p.1.read p.1.indices slot
 
 abbrev pub common_of : Layout → List ℕ → Past → Pair → Type 0
-common_of s first past p = Common s first past p.1.indices
+common_of s first past p = Common s first past p.1.indices p.1.next
 
 abbrev pub finished_of : Layout → List ℕ → Past → Pair → Type 0
 finished_of s first past p = common_of s first past p × AllComplete s first past p.1.indices

@@ -54,6 +54,10 @@ module _ (p : Pair) (slot : ℕ) (walking : IsWalking p slot) where
         next_below = below-extended p.1.next (lowest p.1.read p.0.passed) (highest p.1.read p.0.passed) walking.next behind (highest p.1.read p.0.passed + 1) (λ k lt. omega (arith, walking.next_below k lt, b.1, closed)) (omega arith);
         slot_within = omega (arith, walking.list.within p.0.passed b.0);
         passed = omega (arith, b.0);
+      before = λ k lt. elim (cases_eq k p.0.passed) [
+        | inl here ↦ rw here (omega arith)
+        | inr earlier ↦ omega (arith, walking.before k (omega arith), b.1, closed)
+      ];
         behind = λ k le lt. omega (arith, walking.list.normal.apart p.0.passed k (omega arith) lt);
       }
 
@@ -95,6 +99,7 @@ module _ (p : Pair) (slot : ℕ) (walking : IsWalking p slot) where
             next_below = walking.next_below;
             slot_within = walking.slot_within;
             passed = walking.passed;
+      before = walking.before;
             behind = walking.behind;
           };
           below = ltb-true slot p.0.end e;

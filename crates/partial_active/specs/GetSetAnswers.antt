@@ -75,6 +75,7 @@ pub record IsWalking (p : Pair) (slot : ℕ) : Type 0 where
   pub next_below : EndsBelow p.1.next slot
   pub slot_within : slot ≤ p.0.sizes.slots
   pub passed : p.0.passed ≤ length p.1.read
+  pub before : (k : ℕ) → k < p.0.passed → highest p.1.read k < slot
   pub behind : (k : ℕ) → p.0.passed ≤ k → k < length p.1.read → slot ≤ lowest p.1.read k
 
 -- the walk is at a slot that is in no interval of the list read
@@ -101,7 +102,7 @@ goes_at (Len slot at) p = IsAtSlot p slot × (pool_base p.0.sizes ≤ at) × (at
 goes_at (Index slot at left) p = IsAtSlot p slot × (0 < left) × (left ≤ p.0.sizes.m) × (at + left ≤ pool_end p.0.sizes)
 goes_at (Claim words) p = HasNext p words
 goes_at (Write at k words word) p = HasNext p words × (k < words) × (at + words ≤ list_end p.0.sizes) × (word ≡ slice_index (list_block p.1.next) k)
-goes_at (Publish at) p = Unit {0}
+goes_at (Publish at) p = IsNormal p.1.next × EndsBelow p.1.next p.0.sizes.slots
 goes_at Done p = Unit {0}
 
 pub record GoTogether (p : Pair) : Type 0 where

@@ -10,6 +10,7 @@ use Rattle.partial_words.specs.Announcement.{announcement_block}
 use Rattle.partial_words.specs.VacatedList.{list_block}
 use Rattle.partial_words.specs.Step.{answer_of, words_after}
 use Rattle.partial_active.specs.IndexSet.{has_index}
+use Rattle.partial_active.specs.declared.get_set.Stage.TheVariants.{Slot, Claim, Write, Publish}
 use Rattle.partial_active.specs.GetSet.{Pair, step_of, advance}
 
 -- the word in a slot, and the list head
@@ -114,3 +115,23 @@ pub record IsActiveSet (s : Layout) (first : List ℕ) (moments : List (List ℕ
 abbrev pub FindsActiveSet : Layout → List (List ℕ) → List ℕ → Type 0
 FindsActiveSet s [] indices = ⊥
 FindsActiveSet s (first ∷ more) indices = IsActiveSet s first (first ∷ more) indices
+
+-- the list was vacated: a normal form within the slots, and each of its slots was VACATED at one of the moments
+pub record WasVacated (s : Layout) (moments : List (List ℕ)) (list : Ranges) : Type 0 where
+  pub normal : IsNormal list
+  pub within : (x : ℕ) → Holds list x → x < s.slots
+  pub vacated : (x : ℕ) → Holds list x → AtSome (λ words. slot_at s words x ≡ 1) moments
+
+-- what a getSet does with lists of vacated slots, once it has come to q by these moments
+pub record KeepsLists (s : Layout) (moments : List (List ℕ)) (q : Pair) : Type 0 where
+  -- a slot of the list that it read is not loaded
+  pub loads_none : (slot : ℕ) → q.0.stage ≡ Slot slot → Holds q.1.read slot → ⊥
+  -- what it stores are the words of the block of a list that was vacated, one after another
+  pub writes : (at k words word : ℕ) → q.0.stage ≡ Write at k words word → WasVacated s moments q.1.next × (word ≡ slice_index (list_block q.1.next) k) × (at + length (list_block q.1.next) ≤ list_end s)
+  -- what it publishes was vacated
+  pub publishes : (at : ℕ) → q.0.stage ≡ Publish at → WasVacated s moments q.1.next
+  -- the answer of the exchange of the list head changes nothing
+  pub exchange : (at x y : ℕ) → q.0.stage ≡ Publish at → advance q x ≡ advance q y
+  -- a claim past the list words ends the getSet, with all that it found
+  pub refused : (words x : ℕ) → q.0.stage ≡ Claim words → list_end q.0.sizes < x + words → (step_of (advance q x).0 ≡ None) × ((advance q x).1 ≡ q.1)
+

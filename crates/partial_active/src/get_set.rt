@@ -8,7 +8,7 @@ ghost use Rattle.partial_words.specs.Step.{answer_of};
 ghost use Rattle.partial_active.specs.Found.{Buffers, IsFor};
 ghost use Rattle.partial_active.specs.GetSet.{Pair, fresh, step_of};
 ghost use Rattle.partial_active.specs.GetSetAnswers.{IsPossible};
-ghost use Rattle.partial_active.specs.Orderly.{IsOrderlyRun, LeadsTo, MakesOwn, all_moments, own_moments, FindsActiveSet};
+ghost use Rattle.partial_active.specs.Orderly.{IsOrderlyRun, LeadsTo, MakesOwn, all_moments, own_moments, FindsActiveSet, KeepsLists};
 
 use crate::found::Found;
 use partial_words::{Sizes, Step};
@@ -402,6 +402,13 @@ impl GetSet {
 /// moment of it.
 pub fn finds_the_active_set()
     ensures { (s : Layout) (spent : Bool) (f : Buffers) (own : ℕ) (words : List ℕ) (events : List Event) (q : Pair) → IsLayout s → IsFor s f → IsOrderlyRun s [] (all_moments words events) → MakesOwn own (fresh s spent, f) words events q → step_of q.0 ≡ None → FindsActiveSet s (own_moments own words events) q.1.indices }
+{}
+
+/// What a getSet does with the lists of vacated slots, wherever it has come to: it loads no slot of the
+/// list that it read, it publishes whole lists of vacated slots alone, a lost exchange of the list head
+/// changes nothing, and list words that run out leave it with all that it found.
+pub fn keeps_vacated_lists()
+    ensures { (s : Layout) (spent : Bool) (f : Buffers) (moments : List (List ℕ)) (q : Pair) → IsLayout s → IsFor s f → IsOrderlyRun s [] moments → LeadsTo (fresh s spent, f) moments q → KeepsLists s moments q }
 {}
 
 /// The answers that orderly words give are possible: [`GetSet::answer`] may be called with each of them.
