@@ -1,12 +1,12 @@
 -- A getSet that is answered from orderly words finds the active set.
-use Rattle.std.proofs.Common.{ℕ, zero, suc, ◌≡◌, ◌+◌, ◌-◌, ◌*◌, ◌<◌, ◌≤◌, ◌⊎◌, min, Bool, true, false, ◌||◌, ◌&&◌, not, eqb, ltb, Some, None, IsSome, is_some, MatchBool, List, [], ◌∷◌, ◌++◌, length, take, get_or, slice_index, cond, inl, inr, refl, sym, ap, subst, ◌∙◌, arith}
-use Rattle.std.proofs.lemmas.Bool.{false≢true, cases_eq, cases_lt, cases_Bool, cond_both, and_parts, or_cases, or_from, or_left, ltb-true, ltb-false, eqb-true, eqb-false, eq-eqb, cond-true, cond-false}
-use Rattle.std.proofs.lemmas.List.{take_more, take_all, get_or-take, length-take, length_push}
+use Rattle.std.proofs.Common.{ℕ, ◌≡◌, ◌+◌, ◌-◌, ◌*◌, ◌<◌, ◌≤◌, ◌⊎◌, min, Bool, true, false, ◌||◌, ◌&&◌, not, eqb, ltb, Some, None, is_some, MatchBool, List, [], ◌∷◌, ◌++◌, length, take, get_or, slice_index, cond, inl, inr, refl, sym, ap, subst, ◌∙◌, arith}
+use Rattle.std.proofs.lemmas.Bool.{false≢true, cases_eq, cases_lt, cond_both, or_cases, ltb-false, eqb-true, eqb-false, eq-eqb}
+use Rattle.std.proofs.lemmas.List.{take_more, take_all, get_or-take, length_push}
 use Rattle.std.proofs.lemmas.List.Folds.{list_any-append}
 use Rattle.partial_intervals.specs.Intervals.{Ranges, lowest, highest, Holds, IsNormal}
 use Rattle.partial_words.specs.declared.step.Step.{Step}
-use Rattle.partial_words.specs.declared.step.Step.TheVariants.{Load, Store, Exchange, Add}
-use Rattle.partial_words.specs.Layout.{Layout, IsLayout, slot_counter, list_head, list_counter, slot_word, list_base, list_end, pool_base, pool_end}
+use Rattle.partial_words.specs.declared.step.Step.TheVariants.{Load, Add}
+use Rattle.partial_words.specs.Layout.{Layout, IsLayout, slot_counter, list_head, list_counter, slot_word, list_end, pool_base, pool_end}
 use Rattle.partial_words.specs.Record.{StandsAt}
 use Rattle.partial_words.specs.Announcement.{announcement_block}
 use Rattle.partial_words.specs.VacatedList.{list_block}
@@ -18,35 +18,35 @@ use Rattle.partial_active.specs.declared.get_set.Stage.{Stage}
 use Rattle.partial_active.specs.declared.get_set.Stage.TheVariants.{Head, ListLen, ListLow, ListHigh, Counter, Slot, Len, Index, Claim, Write, Publish, Done}
 use Rattle.partial_active.specs.IndexSet.{has_index, with_index}
 use Rattle.partial_active.specs.Found.{Buffers, IsFor, begins_at}
-use Rattle.partial_active.specs.GetSet.{GetSetState, Pair, fresh, step_at, step_of, advance, advance_at, after_walk, at_slot, come_to, pass_interval, note_slot, in_stage, next_words}
-use Rattle.partial_active.specs.GetSetAnswers.{EndsBelow, IsListHead, IsListLen, IsNextLow, IsSlotWord, IsAnnouncedLen, IsListClaim, is_possible_at, HasRead, IsReading, IsWalking, IsAtSlot, goes_at, IsPossible, GoTogether}
-use Rattle.partial_active.specs.Orderly.{slot_at, head_at, IsAnnouncement, IsVacatedList, IsSlotOf, IsHeadOf, Orderly, ComesFrom, OnEach, AtSome, Names, IsOrderlyRun, LeadsTo, all_moments, own_moments, MakesOwn, FindsActiveSet, WasVacated, KeepsLists}
+use Rattle.partial_active.specs.GetSet.{Pair, fresh, step_at, step_of, advance, advance_at, left_of, after_walk, at_slot, come_to, pass_interval, note_slot, in_stage, next_words}
+use Rattle.partial_active.specs.GetSetAnswers.{EndsBelow, IsListHead, IsListLen, IsSlotWord, is_possible_at, IsWalking, IsAtSlot, goes_at, IsPossible, GoTogether}
+use Rattle.partial_active.specs.Orderly.{slot_at, head_at, IsAnnouncement, IsVacatedList, IsSlotOf, Orderly, ComesFrom, OnEach, AtSome, Names, IsOrderlyRun, LeadsTo, all_moments, own_moments, MakesOwn, FindsActiveSet, WasVacated, KeepsLists}
 use Rattle.partial_active.proofs.Extended.{length_normal, held_extended}
-use Rattle.partial_active.proofs.Walk.{begun, walking_on}
+use Rattle.partial_active.proofs.Walk.{begun}
 use Rattle.partial_active.proofs.Answered.{walk_begins, walk_next, walk_noted, keeps_head, keeps_at}
 use Rattle.partial_active.proofs.Sizes.{sizes_at}
-use Rattle.partial_active.proofs.Known.{Past, some_both, some_gives, KeepsFirst, Common, Listed, CompleteAt, IsHeadList, KnowsList, Walked, IsLoaded, KnowsNamed, AllComplete, walked_of, common_of, finished_of, knows_at, Knows}
+use Rattle.partial_active.proofs.Known.{Past, some_both, some_gives, KeepsFirst, Common, Listed, CompleteAt, IsHeadList, Walked, IsLoaded, AllComplete, walked_of, common_of, finished_of, knows_at, Knows}
 
 -- what the list has once an index was put into it
 pub with_index_has : (xs : List ℕ) (x j : ℕ) → has_index (with_index xs x) j ≡ true → (has_index xs j ≡ true) ⊎ (x ≡ j)
 with_index_has xs x j = cond_both (has_index xs x) xs (xs ++ x ∷ []) (λ ys. has_index ys j ≡ true → (has_index xs j ≡ true) ⊎ (x ≡ j))
-  (λ e h. inl h)
-  (λ e h.
+    (λ e h. inl h)
+    (λ e h.
     let split : (has_index xs j || (eqb x j || false)) ≡ true = sym (list_any-append (λ i. eqb i j) xs (x ∷ [])) ∙ h in
     elim (or_cases (has_index xs j) (eqb x j || false) split) [
-    | inl before ↦ inl before
-    | inr last ↦ elim (or_cases (eqb x j) false last) [ inl same ↦ inr (eqb-true x j same) | inr never ↦ absurd (false≢true never) ]
-  ])
+      | inl before ↦ inl before
+      | inr last ↦ elim (or_cases (eqb x j) false last) [ inl same ↦ inr (eqb-true x j same) | inr never ↦ absurd (false≢true never) ]
+    ])
 
 pub with_index_keeps : (xs : List ℕ) (x j : ℕ) → has_index xs j ≡ true → has_index (with_index xs x) j ≡ true
 with_index_keeps xs x j h = cond_both (has_index xs x) xs (xs ++ x ∷ []) (λ ys. has_index ys j ≡ true)
-  (λ e. h)
-  (λ e. list_any-append (λ i. eqb i j) xs (x ∷ []) ∙ ap (λ b. b || (eqb x j || false)) h)
+    (λ e. h)
+    (λ e. list_any-append (λ i. eqb i j) xs (x ∷ []) ∙ ap (λ b. b || (eqb x j || false)) h)
 
 pub with_index_new : (xs : List ℕ) (x : ℕ) → has_index (with_index xs x) x ≡ true
 with_index_new xs x = cond_both (has_index xs x) xs (xs ++ x ∷ []) (λ ys. has_index ys x ≡ true)
-  (λ e. e)
-  (λ e. list_any-append (λ i. eqb i x) xs (x ∷ []) ∙ ap (λ b. b || (eqb x x || false)) e ∙ ap (λ b. b || false) (eq-eqb x x refl))
+    (λ e. e)
+    (λ e. list_any-append (λ i. eqb i x) xs (x ∷ []) ∙ ap (λ b. b || (eqb x x || false)) e ∙ ap (λ b. b || false) (eq-eqb x x refl))
 
 -- two announcements at one word name the same indices
 same_named : (words : List ℕ) (at : ℕ) (a b : List ℕ) → StandsAt words at (announcement_block a) → StandsAt words at (announcement_block b) → (length a ≡ length b) × ((k : ℕ) → k < length a → slice_index b k ≡ slice_index a k)
@@ -60,35 +60,35 @@ module _ (s : Layout) (layout : IsLayout s) (first : List ℕ) (past : Past) (no
   -- a slot that was vacated stays so
   stays_vacated : (x : ℕ) → x < s.slots → OnEach (λ v. ComesFrom s v now) past → AtSome (λ w. slot_at s w x ≡ 1) past → slot_at s now x ≡ 1
   stays_vacated x within comes was = some_gives (λ w. (slot_at s w x ≡ 1) × ComesFrom s w now) (slot_at s now x ≡ 1) past
-    (λ w h. elim (h.1.slots x within) [
-      | inl same ↦ same ∙ h.0
-      | inr some ↦ elim some [ inl empty ↦ absurd (omega (arith, h.0, empty)) | inr vacated ↦ vacated ]
-    ])
-    (some_both (λ w. slot_at s w x ≡ 1) (λ v. ComesFrom s v now) (λ w. (slot_at s w x ≡ 1) × ComesFrom s w now) past (λ w a b. (a, b)) was comes)
+      (λ w h. elim (h.1.slots x within) [
+        | inl same ↦ same ∙ h.0
+        | inr some ↦ elim some [ inl empty ↦ absurd (omega (arith, h.0, empty)) | inr vacated ↦ vacated ]
+      ])
+      (some_both (λ w. slot_at s w x ≡ 1) (λ v. ComesFrom s v now) (λ w. (slot_at s w x ≡ 1) × ComesFrom s w now) past (λ w a b. (a, b)) was comes)
 
   -- the list that stood at the list head stands yet
   head_stands : (at : ℕ) (list : Ranges) → OnEach (λ v. ComesFrom s v now) past → AtSome (IsHeadList s at list) past → StandsAt now at (list_block list)
   head_stands at list comes was = some_gives (λ w. IsHeadList s at list w × ComesFrom s w now) (StandsAt now at (list_block list)) past
-    (λ w h.
+      (λ w h.
       let list_there : IsVacatedList s w (head_at s w) list = subst (λ h. IsVacatedList s w h list) (sym h.0.0) h.0.1 in
       subst (λ h. StandsAt now h (list_block list)) h.0.0 (h.1.lists list list_there))
-    (some_both (IsHeadList s at list) (λ v. ComesFrom s v now) (λ w. IsHeadList s at list w × ComesFrom s w now) past (λ w a b. (a, b)) was comes)
+      (some_both (IsHeadList s at list) (λ v. ComesFrom s v now) (λ w. IsHeadList s at list w × ComesFrom s w now) past (λ w a b. (a, b)) was comes)
 
   -- the announcement that stood in the slot stands yet
   loaded_stands : (slot at : ℕ) (named : List ℕ) → slot < s.slots → OnEach (λ v. ComesFrom s v now) past → AtSome (IsLoaded s slot at named) past → StandsAt now at (announcement_block named)
   loaded_stands slot at named within comes was = some_gives (λ w. IsLoaded s slot at named w × ComesFrom s w now) (StandsAt now at (announcement_block named)) past
-    (λ w h.
+      (λ w h.
       let there : IsAnnouncement s w (slot_at s w slot) named = subst (λ a. IsAnnouncement s w a named) (sym h.0.0) h.0.1 in
       subst (λ a. StandsAt now a (announcement_block named)) h.0.0 (h.1.announcements slot named within there))
-    (some_both (IsLoaded s slot at named) (λ v. ComesFrom s v now) (λ w. IsLoaded s slot at named w × ComesFrom s w now) past (λ w a b. (a, b)) was comes)
+      (some_both (IsLoaded s slot at named) (λ v. ComesFrom s v now) (λ w. IsLoaded s slot at named w × ComesFrom s w now) past (λ w a b. (a, b)) was comes)
 
   -- what is known of the first moment is known one moment later
   keeps_first_now : (indices : List ℕ) (next : Ranges) → Common s first past indices next → OnEach (λ v. ComesFrom s v now) past → KeepsFirst s first now
   keeps_first_now indices next common comes slot named within there = some_gives (λ w. (w ≡ first) × ComesFrom s w now) (StandsAt now (slot_at s first slot) (announcement_block named)) past
-    (λ w h.
+      (λ w h.
       let from_first : ComesFrom s first now = subst (λ v. ComesFrom s v now) h.0 h.1 in
       from_first.announcements slot named within there)
-    (some_both (λ w. w ≡ first) (λ v. ComesFrom s v now) (λ w. (w ≡ first) × ComesFrom s w now) past (λ w a b. (a, b)) common.first_in comes)
+      (some_both (λ w. w ≡ first) (λ v. ComesFrom s v now) (λ w. (w ≡ first) × ComesFrom s w now) past (λ w a b. (a, b)) common.first_in comes)
 
   pub common_more : (indices : List ℕ) (next : Ranges) → Common s first past indices next → OnEach (λ v. ComesFrom s v now) past → Common s first (now ∷ past) indices next
   common_more indices next common comes = record {
@@ -117,25 +117,25 @@ module _ (s : Layout) (layout : IsLayout s) (first : List ℕ) (past : Past) whe
   -- a slot whose word was none or VACATED at a moment held no announcement at all of them
   never_named : (indices : List ℕ) (l a : ℕ) → a ≤ 1 → AtSome (λ w. slot_at s w l ≡ a) past → CompleteAt s first past indices l
   never_named indices l a small was named within there each k lt = absurd (some_gives (λ w. (slot_at s w l ≡ a) × (slot_at s w l ≡ slot_at s first l)) ⊥ past
-    (λ w h. omega (arith, there.from, h.0, h.1, small))
-    (some_both (λ w. slot_at s w l ≡ a) (λ w. slot_at s w l ≡ slot_at s first l) (λ w. (slot_at s w l ≡ a) × (slot_at s w l ≡ slot_at s first l)) past (λ w x y. (x, y)) was each))
+      (λ w h. omega (arith, there.from, h.0, h.1, small))
+      (some_both (λ w. slot_at s w l ≡ a) (λ w. slot_at s w l ≡ slot_at s first l) (λ w. (slot_at s w l ≡ a) × (slot_at s w l ≡ slot_at s first l)) past (λ w x y. (x, y)) was each))
 
   knows_after_walk : (p : Pair) (slot : ℕ) → p.0.end ≤ slot → common_of s first past p → walked_of s first past p slot → Knows s first past (after_walk p)
   knows_after_walk p slot over common walked =
-    let all : AllComplete s first past p.1.indices = λ l named within there each k lt. elim (cases_lt l slot) [
-      | inl below ↦ walked.complete l below named within there each k lt
-      | inr above ↦ never_named p.1.indices l 0 (omega arith) (some_both (λ w. (i : ℕ) → p.0.end ≤ i → i < s.slots → slot_at s w i ≡ 0) (λ w. slot_at s w l ≡ slot_at s first l) (λ w. slot_at s w l ≡ 0) past (λ w empty same. empty l (omega arith) within) walked.ended each) named within there each k lt
-    ] in
-    cond_both (p.0.noted && not p.0.lists_spent) (Claim (next_words p.1)) Done (λ stage. Knows s first past (record p.0 { stage = stage }, p.1)) (λ e. (common, all)) (λ e. (common, all))
+      let all : AllComplete s first past p.1.indices = λ l named within there each k lt. elim (cases_lt l slot) [
+        | inl below ↦ walked.complete l below named within there each k lt
+        | inr above ↦ never_named p.1.indices l 0 (omega arith) (some_both (λ w. (i : ℕ) → p.0.end ≤ i → i < s.slots → slot_at s w i ≡ 0) (λ w. slot_at s w l ≡ slot_at s first l) (λ w. slot_at s w l ≡ 0) past (λ w empty same. empty l (omega arith) within) walked.ended each) named within there each k lt
+      ] in
+      cond_both (p.0.noted && not p.0.lists_spent) (Claim (next_words p.1)) Done (λ stage. Knows s first past (record p.0 { stage = stage }, p.1)) (λ e. (common, all)) (λ e. (common, all))
 
   knows_at_slot : (p : Pair) (slot : ℕ) → common_of s first past p → walked_of s first past p slot → Knows s first past (at_slot p slot)
   knows_at_slot p slot common walked = cond_both (ltb slot p.0.end) (record p.0 { stage = Slot slot }, p.1) (after_walk p) (λ q. Knows s first past q)
-    (λ e. (common, walked))
-    (λ e. knows_after_walk p slot (ltb-false slot p.0.end e) common walked)
+      (λ e. (common, walked))
+      (λ e. knows_after_walk p slot (ltb-false slot p.0.end e) common walked)
 
   pub knows_come_to : (p : Pair) (slot : ℕ) → IsWalking p slot → common_of s first past p → walked_of s first past p slot → Knows s first past (come_to p slot)
   knows_come_to p slot walking common walked = cond_both (begins_at p.1.read p.0.passed slot) (at_slot (pass_interval p) (highest p.1.read p.0.passed + 1)) (at_slot p slot) (λ q. Knows s first past q)
-    (λ e.
+      (λ e.
       let b = begun p slot walking e in
       knows_at_slot (pass_interval p) (highest p.1.read p.0.passed + 1) (record {
         first_in = common.first_in;
@@ -153,7 +153,7 @@ module _ (s : Layout) (layout : IsLayout s) (first : List ℕ) (past : Past) whe
           | inr from ↦ never_named p.1.indices l 1 (omega arith) (walked.listed l (p.0.passed, b.0, omega (arith, b.1), omega arith))
         ];
       }))
-    (λ e. knows_at_slot p slot common walked)
+      (λ e. knows_at_slot p slot common walked)
 
   -- the walk goes on from a slot that is done
   pub walked_next : (p : Pair) (slot : ℕ) → walked_of s first past p slot → CompleteAt s first past p.1.indices slot → walked_of s first past p (slot + 1)
@@ -181,8 +181,8 @@ module _ (s : Layout) (layout : IsLayout s) (first : List ℕ) (past : Past) (no
   -- a list that stands there has its words within the list words, and its slots within the slots
   list_len_possible : (at : ℕ) (list : Ranges) → AtSome (IsHeadList s at list) past → IsListLen s at (length list)
   list_len_possible at list was = some_gives (IsHeadList s at list) (IsListLen s at (length list)) past
-    (λ w h. (h.1.to, length_normal list s.slots h.1.normal (λ k lt. h.1.within (highest list k) (k, lt, h.1.normal.closed k lt, omega arith))))
-    was
+      (λ w h. (h.1.to, length_normal list s.slots h.1.normal (λ k lt. h.1.within (highest list k) (k, lt, h.1.normal.closed k lt, omega arith))))
+      was
 
   list_normal : (at : ℕ) (list : Ranges) → AtSome (IsHeadList s at list) past → IsNormal list
   list_normal at list was = some_gives (IsHeadList s at list) (IsNormal list) past (λ w h. h.1.normal) was
@@ -211,20 +211,29 @@ module _ (p : Pair) (layout : IsLayout p.0.sizes) (first : List ℕ) (past : Pas
   step_list_len : (at : ℕ) → goes_at (ListLen at) p → knows_at p.0.sizes first past (ListLen at) p → Steps (ListLen at) (slice_index now at)
   unfolding Steps
   step_list_len at goes knows =
-    let list = knows.1.0 in
-    let was = knows.1.1 in
-    let stands = head_stands p.0.sizes layout first past now at list comes was in
-    let count : slice_index now at ≡ length list = (list_reads_back now at list stands).count in
-    let none : length p.1.read ≡ 0 = ap length goes.0 in
-    rw count (
-      list_len_possible p.0.sizes layout first past now orderly comes at list was,
-      cond_both (eqb (length list) 0) Counter (ListLow (at + 1) (length list)) (λ stage. Knows p.0.sizes first (now ∷ past) (in_stage p stage))
-        (λ e. (more knows.0, λ x holds. absurd (omega (arith, none, holds.1))))
-        (λ e. (more knows.0, (at, list, record {
-          was = inr was;
-          read_is = nothing_read p.1.read list goes.0;
-          count = omega (arith, none);
-        }, omega (arith, none)))))
+      let list = knows.1.0 in
+      let was = knows.1.1 in
+      let stands = head_stands p.0.sizes layout first past now at list comes was in
+      let count : slice_index now at ≡ length list = (list_reads_back now at list stands).count in
+      let none : length p.1.read ≡ 0 = ap length goes.0 in
+      rw count (
+        list_len_possible p.0.sizes layout first past now orderly comes at list was,
+        cond_both (eqb (length list) 0) Counter (ListLow (at + 1) (length list)) (λ stage. Knows p.0.sizes first (now ∷ past) (in_stage p stage))
+            (λ e. (more knows.0, λ x holds. absurd (omega (arith, none, holds.1))))
+            (λ e. (
+              more knows.0,
+              (
+                at,
+                list,
+                record {
+                  was = inr was;
+                  read_is = nothing_read p.1.read list goes.0;
+                  count = omega (arith, none);
+                },
+                omega (arith, none),
+              ),
+            )),
+      )
     where
       nothing_read : (read list : Ranges) → read ≡ [] → read ≡ take (length read) list
       nothing_read read list e = rw e refl
@@ -242,147 +251,174 @@ module _ (p : Pair) (layout : IsLayout p.0.sizes) (first : List ℕ) (past : Pas
   step_list_low : (at left : ℕ) → goes_at (ListLow at left) p → knows_at p.0.sizes first past (ListLow at left) p → Steps (ListLow at left) (slice_index now at)
   unfolding Steps
   step_list_low at left goes knows =
-    let from = knows.1.0 in
-    let list = knows.1.1 in
-    let k = knows.1.2 in
-    let lt : length p.1.read < length list = omega (arith, k.count, goes.0.some) in
-    let normal = list_normal p.0.sizes layout first past now orderly comes from list k.was in
-    let low : slice_index now at ≡ lowest list (length p.1.read) = ap (slice_index now) knows.1.3 ∙ low_word from list k.was (length p.1.read) lt in
-    rw low (
-      (list_within p.0.sizes layout first past now orderly comes from list k.was (lowest list (length p.1.read)) (length p.1.read, lt, omega arith, normal.closed (length p.1.read) lt),
-        λ j below. omega (arith, read_high list j k.read_is below, normal.apart j (length p.1.read) below lt)),
-      (more knows.0, (from, list, record { was = inr k.was; read_is = k.read_is; count = k.count }, omega (arith, knows.1.3), refl)))
+      let from = knows.1.0 in
+      let list = knows.1.1 in
+      let k = knows.1.2 in
+      let lt : length p.1.read < length list = omega (arith, k.count, goes.0.some) in
+      let normal = list_normal p.0.sizes layout first past now orderly comes from list k.was in
+      let low : slice_index now at ≡ lowest list (length p.1.read) = ap (slice_index now) knows.1.3 ∙ low_word from list k.was (length p.1.read) lt in
+      rw low (
+        (
+          list_within p.0.sizes layout first past now orderly comes from list k.was (lowest list (length p.1.read)) (length p.1.read, lt, omega arith, normal.closed (length p.1.read) lt),
+          λ j below. omega (arith, read_high list j k.read_is below, normal.apart j (length p.1.read) below lt),
+        ),
+        (more knows.0, (from, list, record { was = inr k.was; read_is = k.read_is; count = k.count }, omega (arith, knows.1.3), refl)),
+      )
 
   step_list_high : (at left lo : ℕ) → goes_at (ListHigh at left lo) p → knows_at p.0.sizes first past (ListHigh at left lo) p → Steps (ListHigh at left lo) (slice_index now at)
   unfolding Steps
   step_list_high at left lo goes knows =
-    let from = knows.1.0 in
-    let list = knows.1.1 in
-    let k = knows.1.2 in
-    let i = length p.1.read in
-    let lt : i < length list = omega (arith, k.count, goes.0.some) in
-    let normal = list_normal p.0.sizes layout first past now orderly comes from list k.was in
-    let high : slice_index now at ≡ highest list i = ap (slice_index now) knows.1.3 ∙ high_word from list k.was i lt in
-    let longer : length (p.1.read ++ (lo, highest list i) ∷ []) ≡ i + 1 = length_push p.1.read (lo, highest list i) in
-    let so_far : p.1.read ++ (lo, highest list i) ∷ [] ≡ take (i + 1) list = ap (λ n. p.1.read ++ (n, highest list i) ∷ []) knows.1.4 ∙ ap (λ (l : Ranges). l ++ get_or list i (0, 0) ∷ []) k.read_is ∙ sym (take_more list i (0, 0) lt) in
-    rw high (
-      (omega (arith, knows.1.4, normal.closed i lt),
-        list_within p.0.sizes layout first past now orderly comes from list k.was (highest list i) (i, lt, normal.closed i lt, omega arith)),
-      cond_both (eqb left 1) Counter (ListLow (at + 1) (left - 1)) (λ stage. Knows p.0.sizes first (now ∷ past) (record p.0 { stage = stage }, record p.1 { read = p.1.read ++ (lo, highest list i) ∷ [] }))
-        (λ e.
-          let whole : p.1.read ++ (lo, highest list i) ∷ [] ≡ list = so_far ∙ take_all (i + 1) list (omega (arith, k.count, eqb-true left 1 e)) in
-          (more knows.0, λ x holds. inr (list_listed p.0.sizes layout first past now orderly comes from list k.was x (subst (λ l. Holds l x) whole holds))))
-        (λ e. (more knows.0, (from, list, record {
-          was = inr k.was;
-          read_is = so_far ∙ ap (λ n. take n list) (sym longer);
-          count = omega (arith, k.count, longer, eqb-false left 1 e, goes.0.some);
-        }, omega (arith, knows.1.3, longer)))))
+      let from = knows.1.0 in
+      let list = knows.1.1 in
+      let k = knows.1.2 in
+      let i = length p.1.read in
+      let lt : i < length list = omega (arith, k.count, goes.0.some) in
+      let normal = list_normal p.0.sizes layout first past now orderly comes from list k.was in
+      let high : slice_index now at ≡ highest list i = ap (slice_index now) knows.1.3 ∙ high_word from list k.was i lt in
+      let longer : length (p.1.read ++ (lo, highest list i) ∷ []) ≡ i + 1 = length_push p.1.read (lo, highest list i) in
+      let so_far : p.1.read ++ (lo, highest list i) ∷ [] ≡ take (i + 1) list = ap (λ n. p.1.read ++ (n, highest list i) ∷ []) knows.1.4 ∙ ap (λ (l : Ranges). l ++ get_or list i (0, 0) ∷ []) k.read_is ∙ sym (take_more list i (0, 0) lt) in
+      rw high (
+        (
+          omega (arith, knows.1.4, normal.closed i lt),
+          list_within p.0.sizes layout first past now orderly comes from list k.was (highest list i) (i, lt, normal.closed i lt, omega arith),
+        ),
+        cond_both (eqb left 1) Counter (ListLow (at + 1) (left - 1)) (λ stage. Knows p.0.sizes first (now ∷ past) (record p.0 { stage = stage }, record p.1 { read = p.1.read ++ (lo, highest list i) ∷ [] }))
+            (λ e.
+            let whole : p.1.read ++ (lo, highest list i) ∷ [] ≡ list = so_far ∙ take_all (i + 1) list (omega (arith, k.count, eqb-true left 1 e)) in
+            (more knows.0, λ x holds. inr (list_listed p.0.sizes layout first past now orderly comes from list k.was x (subst (λ l. Holds l x) whole holds))))
+            (λ e. (
+              more knows.0,
+              (
+                from,
+                list,
+                record {
+                  was = inr k.was;
+                  read_is = so_far ∙ ap (λ n. take n list) (sym longer);
+                  count = omega (arith, k.count, longer, eqb-false left 1 e, goes.0.some);
+                },
+                omega (arith, knows.1.3, longer),
+              ),
+            )),
+      )
 
   step_counter : goes_at Counter p → knows_at p.0.sizes first past Counter p → Steps Counter (slice_index now (slot_counter p.0.sizes))
   unfolding Steps
   step_counter goes knows =
-    let x = slice_index now (slot_counter p.0.sizes) in
-    let below : EndsBelow p.1.read x = λ k lt.
+      let x = slice_index now (slot_counter p.0.sizes) in
+      let below : EndsBelow p.1.read x = λ k lt.
       let holds : Holds p.1.read (highest p.1.read k) = (k, lt, goes.0.normal.closed k lt, omega arith) in
       let within = goes.0.within k lt in
       elim (cases_lt (highest p.1.read k) x) [
-      | inl less ↦ less
-      | inr above ↦ absurd (omega (arith, orderly.unclaimed (highest p.1.read k) above within, stays_vacated p.0.sizes layout first past now (highest p.1.read k) within comes (knows.1 (highest p.1.read k) holds)))
-    ] in
-    let q : Pair = (record p.0 { end = min x p.0.sizes.slots; passed = 0 }, p.1) in
-    (below, knows_come_to p.0.sizes layout first (now ∷ past) q 0 (walk_begins p x goes.0 below goes.1) (more knows.0) (record {
-      listed = λ y holds. inr (knows.1 y holds);
-      ended = inl (λ l from within. orderly.unclaimed l (omega arith) within);
-      complete = λ l lt. absurd (omega arith);
-    }))
+        | inl less ↦ less
+        | inr above ↦ absurd (omega (arith, orderly.unclaimed (highest p.1.read k) above within, stays_vacated p.0.sizes layout first past now (highest p.1.read k) within comes (knows.1 (highest p.1.read k) holds)))
+      ] in
+      let q : Pair = (record p.0 { end = min x p.0.sizes.slots; passed = 0 }, p.1) in (
+        below,
+        knows_come_to p.0.sizes layout first (now ∷ past) q 0 (walk_begins p x goes.0 below goes.1) (more knows.0) (record {
+          listed = λ y holds. inr (knows.1 y holds);
+          ended = inl (λ l from within. orderly.unclaimed l (omega arith) within);
+          complete = λ l lt. absurd (omega arith);
+        }),
+      )
 
   step_slot : (slot : ℕ) → goes_at (Slot slot) p → knows_at p.0.sizes first past (Slot slot) p → Steps (Slot slot) (slice_index now (slot_word p.0.sizes slot))
   unfolding Steps
   step_slot slot goes knows =
-    let a = slice_index now (slot_word p.0.sizes slot) in
-    let within : slot < p.0.sizes.slots = omega (arith, goes.below, goes.walking.end_within) in
-    let is = orderly.slots slot within in
-    let walked = walked_on slot knows.1 in
-    let done : a ≤ 1 → CompleteAt p.0.sizes first (now ∷ past) p.1.indices slot = λ small. never_named p.0.sizes layout first (now ∷ past) p.1.indices slot a small (inl refl) in
-    let noted : a ≡ 1 → common_of p.0.sizes first (now ∷ past) (note_slot p slot) = λ vacated. record {
-      first_in = (more knows.0).first_in;
-      keeps_first = (more knows.0).keeps_first;
-      sound = (more knows.0).sound;
-      vacated = λ x holds. elim (held_extended p.1.next slot slot goes.walking.next x holds) [
-        | inl before ↦ inr (knows.0.vacated x before)
-        | inr here ↦ let same : x ≡ slot = omega arith in inl (ap (slot_at p.0.sizes now) same ∙ vacated)
-      ];
-    } in
-    (slot_word_possible p.0.sizes layout first past now orderly comes a is,
-     cond_both (eqb a 0) (come_to p (slot + 1)) (cond (eqb a 1) (come_to (note_slot p slot) (slot + 1)) (in_stage p (Len slot a))) (λ q. Knows p.0.sizes first (now ∷ past) q)
-      (λ e. knows_come_to p.0.sizes layout first (now ∷ past) p (slot + 1) (walk_next p slot goes) (more knows.0) (walked_next p.0.sizes layout first (now ∷ past) p slot walked (done (omega (arith, eqb-true a 0 e)))))
-      (λ not_empty. cond_both (eqb a 1) (come_to (note_slot p slot) (slot + 1)) (in_stage p (Len slot a)) (λ q. Knows p.0.sizes first (now ∷ past) q)
-        (λ e. knows_come_to p.0.sizes layout first (now ∷ past) (note_slot p slot) (slot + 1) (walk_noted p slot layout goes) (noted (eqb-true a 1 e)) (walked_next p.0.sizes layout first (now ∷ past) p slot walked (done (omega (arith, eqb-true a 1 e)))))
-        (λ not_vacated. elim is [
-          | inl empty ↦ absurd (eqb-false a 0 not_empty empty)
-          | inr some ↦ elim some [
-            | inl vacated ↦ absurd (eqb-false a 1 not_vacated vacated)
-            | inr there ↦ (more knows.0, walked, (there.0, inl (refl, there.1)))
-          ]
-        ])))
+      let a = slice_index now (slot_word p.0.sizes slot) in
+      let within : slot < p.0.sizes.slots = omega (arith, goes.below, goes.walking.end_within) in
+      let is = orderly.slots slot within in
+      let walked = walked_on slot knows.1 in
+      let done : a ≤ 1 → CompleteAt p.0.sizes first (now ∷ past) p.1.indices slot = λ small. never_named p.0.sizes layout first (now ∷ past) p.1.indices slot a small (inl refl) in
+      let noted : a ≡ 1 → common_of p.0.sizes first (now ∷ past) (note_slot p slot) = λ vacated. record {
+        first_in = (more knows.0).first_in;
+        keeps_first = (more knows.0).keeps_first;
+        sound = (more knows.0).sound;
+        vacated = λ x holds. elim (held_extended p.1.next slot slot goes.walking.next x holds) [
+          | inl before ↦ inr (knows.0.vacated x before)
+          | inr here ↦ let same : x ≡ slot = omega arith in inl (ap (slot_at p.0.sizes now) same ∙ vacated)
+        ];
+      } in (
+        slot_word_possible p.0.sizes layout first past now orderly comes a is,
+        cond_both (eqb a 0) (come_to p (slot + 1)) (cond (eqb a 1) (come_to (note_slot p slot) (slot + 1)) (in_stage p (Len slot a))) (λ q. Knows p.0.sizes first (now ∷ past) q)
+            (λ e. knows_come_to p.0.sizes layout first (now ∷ past) p (slot + 1) (walk_next p slot goes) (more knows.0) (walked_next p.0.sizes layout first (now ∷ past) p slot walked (done (omega (arith, eqb-true a 0 e)))))
+            (λ not_empty. cond_both (eqb a 1) (come_to (note_slot p slot) (slot + 1)) (in_stage p (Len slot a)) (λ q. Knows p.0.sizes first (now ∷ past) q)
+            (λ e. knows_come_to p.0.sizes layout first (now ∷ past) (note_slot p slot) (slot + 1) (walk_noted p slot layout goes) (noted (eqb-true a 1 e)) (walked_next p.0.sizes layout first (now ∷ past) p slot walked (done (omega (arith, eqb-true a 1 e)))))
+            (λ not_vacated. elim is [
+              | inl empty ↦ absurd (eqb-false a 0 not_empty empty)
+              | inr some ↦ elim some [
+                | inl vacated ↦ absurd (eqb-false a 1 not_vacated vacated)
+                | inr there ↦ (more knows.0, walked, (there.0, inl (refl, there.1)))
+              ]
+            ])),
+      )
 
   -- the announcement in the slot is whole, and it is the one that stood there at the first moment if one did
   loaded_facts : (slot at : ℕ) (named : List ℕ) → AtSome (IsLoaded p.0.sizes slot at named) past → (pool_base p.0.sizes ≤ at) × (at + 1 + length named ≤ pool_end p.0.sizes) × (length named ≤ p.0.sizes.m) × ((k : ℕ) → k < length named → slice_index named k < p.0.sizes.m)
   loaded_facts slot at named was = some_gives (IsLoaded p.0.sizes slot at named) ((pool_base p.0.sizes ≤ at) × (at + 1 + length named ≤ pool_end p.0.sizes) × (length named ≤ p.0.sizes.m) × ((k : ℕ) → k < length named → slice_index named k < p.0.sizes.m)) past
-    (λ w h. (h.1.from, h.1.to, h.1.count, h.1.each)) was
+      (λ w h. (h.1.from, h.1.to, h.1.count, h.1.each)) was
 
   done_at : (slot at : ℕ) (named : List ℕ) (indices : List ℕ) → common_of p.0.sizes first past p → AtSome (IsLoaded p.0.sizes slot at named) past → ((k : ℕ) → k < length named → has_index indices (slice_index named k) ≡ true) → CompleteAt p.0.sizes first (now ∷ past) indices slot
   done_at slot at named indices common was found first_named within there each k lt =
-    let Both : List ℕ → Type 0 = λ w. IsLoaded p.0.sizes slot at named w × (slot_at p.0.sizes w slot ≡ slot_at p.0.sizes first slot) in
-    let AllThree : List ℕ → Type 0 = λ w. Both w × KeepsFirst p.0.sizes first w in
-    some_gives AllThree (has_index indices (slice_index first_named k) ≡ true) past
+      let Both : List ℕ → Type 0 = λ w. IsLoaded p.0.sizes slot at named w × (slot_at p.0.sizes w slot ≡ slot_at p.0.sizes first slot) in
+      let AllThree : List ℕ → Type 0 = λ w. Both w × KeepsFirst p.0.sizes first w in
+      some_gives AllThree (has_index indices (slice_index first_named k) ≡ true) past
       (λ w h.
-        let same_at : slot_at p.0.sizes first slot ≡ at = sym h.0.1 ∙ h.0.0.0 in
-        let first_stands : StandsAt w at (announcement_block first_named) = subst (λ a. StandsAt w a (announcement_block first_named)) same_at (h.1 slot first_named within there) in
-        let alike = same_named w at first_named named first_stands h.0.0.1.stands in
-        let here : slice_index named k ≡ slice_index first_named k = alike.1 k lt in
-        subst (λ j. has_index indices j ≡ true) here (found k (omega (arith, alike.0))))
+      let same_at : slot_at p.0.sizes first slot ≡ at = sym h.0.1 ∙ h.0.0.0 in
+      let first_stands : StandsAt w at (announcement_block first_named) = subst (λ a. StandsAt w a (announcement_block first_named)) same_at (h.1 slot first_named within there) in
+      let alike = same_named w at first_named named first_stands h.0.0.1.stands in
+      let here : slice_index named k ≡ slice_index first_named k = alike.1 k lt in
+      subst (λ j. has_index indices j ≡ true) here (found k (omega (arith, alike.0))))
       (some_both Both (KeepsFirst p.0.sizes first) AllThree past (λ w a b. (a, b))
-        (some_both (IsLoaded p.0.sizes slot at named) (λ w. slot_at p.0.sizes w slot ≡ slot_at p.0.sizes first slot) Both past (λ w a b. (a, b)) was each.1)
-        common.keeps_first)
+      (some_both (IsLoaded p.0.sizes slot at named) (λ w. slot_at p.0.sizes w slot ≡ slot_at p.0.sizes first slot) Both past (λ w a b. (a, b)) was each.1)
+      common.keeps_first)
 
   step_len : (slot at : ℕ) → goes_at (Len slot at) p → knows_at p.0.sizes first past (Len slot at) p → Steps (Len slot at) (slice_index now at)
   unfolding Steps
   step_len slot at goes knows =
-    let named = knows.2.0 in
-    let was = knows.2.1 in
-    let within : slot < p.0.sizes.slots = omega (arith, goes.0.below, goes.0.walking.end_within) in
-    let stands = loaded_stands p.0.sizes layout first past now slot at named within comes was in
-    let count : slice_index now at ≡ length named = (announcement_reads_back now at named stands).count in
-    let facts = loaded_facts slot at named was in
-    let walked = walked_on slot knows.1 in
-    rw count (
-      (facts.1, facts.2),
-      cond_both (eqb (length named) 0) (come_to p (slot + 1)) (in_stage p (Index slot (at + 1) (length named))) (λ q. Knows p.0.sizes first (now ∷ past) q)
-        (λ e. knows_come_to p.0.sizes layout first (now ∷ past) p (slot + 1) (walk_next p slot goes.0) (more knows.0) (walked_next p.0.sizes layout first (now ∷ past) p slot walked
-          (done_at slot at named p.1.indices knows.0 was (λ k lt. absurd (omega (arith, eqb-true (length named) 0 e))))))
-        (λ e. (more knows.0, walked, (at, named, 0, record {
-          was = inr was;
-          place = omega arith;
-          count = omega arith;
-          found = λ k lt. absurd (omega arith);
-        }))))
+      let named = knows.2.0 in
+      let was = knows.2.1 in
+      let within : slot < p.0.sizes.slots = omega (arith, goes.0.below, goes.0.walking.end_within) in
+      let stands = loaded_stands p.0.sizes layout first past now slot at named within comes was in
+      let count : slice_index now at ≡ length named = (announcement_reads_back now at named stands).count in
+      let facts = loaded_facts slot at named was in
+      let walked = walked_on slot knows.1 in
+      rw count (
+        (facts.1, facts.2),
+        cond_both (eqb (length named) 0) (come_to p (slot + 1)) (in_stage p (Index slot (at + 1) (length named))) (λ q. Knows p.0.sizes first (now ∷ past) q)
+            (λ e. knows_come_to p.0.sizes layout first (now ∷ past) p (slot + 1) (walk_next p slot goes.0) (more knows.0) (walked_next p.0.sizes layout first (now ∷ past) p slot walked
+            (done_at slot at named p.1.indices knows.0 was (λ k lt. absurd (omega (arith, eqb-true (length named) 0 e))))))
+            (λ e. (
+              more knows.0,
+              walked,
+              (
+                at,
+                named,
+                0,
+                record {
+                  was = inr was;
+                  place = omega arith;
+                  count = omega arith;
+                  found = λ k lt. absurd (omega arith);
+                },
+              ),
+            )),
+      )
 
   step_index : (slot at left : ℕ) → goes_at (Index slot at left) p → knows_at p.0.sizes first past (Index slot at left) p → Steps (Index slot at left) (slice_index now at)
   unfolding Steps
   step_index slot at left goes knows =
-    let a = knows.2.0 in
-    let named = knows.2.1 in
-    let i = knows.2.2 in
-    let k = knows.2.3 in
-    let within : slot < p.0.sizes.slots = omega (arith, goes.0.below, goes.0.walking.end_within) in
-    let lt : i < length named = omega (arith, k.count, goes.1) in
-    let stands = loaded_stands p.0.sizes layout first past now slot a named within comes k.was in
-    let word : slice_index now at ≡ slice_index named i = ap (slice_index now) k.place ∙ (announcement_reads_back now a named stands).each i lt in
-    let facts = loaded_facts slot a named k.was in
-    let x = slice_index named i in
-    let q : Pair = (p.0, record p.1 { indices = with_index p.1.indices x }) in
-    let here : AtSome (Names p.0.sizes x) past = some_both (IsLoaded p.0.sizes slot a named) (λ w. Unit {0}) (Names p.0.sizes x) past
+      let a = knows.2.0 in
+      let named = knows.2.1 in
+      let i = knows.2.2 in
+      let k = knows.2.3 in
+      let within : slot < p.0.sizes.slots = omega (arith, goes.0.below, goes.0.walking.end_within) in
+      let lt : i < length named = omega (arith, k.count, goes.1) in
+      let stands = loaded_stands p.0.sizes layout first past now slot a named within comes k.was in
+      let word : slice_index now at ≡ slice_index named i = ap (slice_index now) k.place ∙ (announcement_reads_back now a named stands).each i lt in
+      let facts = loaded_facts slot a named k.was in
+      let x = slice_index named i in
+      let q : Pair = (p.0, record p.1 { indices = with_index p.1.indices x }) in
+      let here : AtSome (Names p.0.sizes x) past = some_both (IsLoaded p.0.sizes slot a named) (λ w. Unit {0}) (Names p.0.sizes x) past
       (λ w h u. record {
         slot = slot;
         named = named;
@@ -392,39 +428,50 @@ module _ (p : Pair) (layout : IsLayout p.0.sizes) (first : List ℕ) (past : Pas
         place_within = lt;
         index_there = refl;
       }) k.was (each_unit past) in
-    let common : common_of p.0.sizes first (now ∷ past) q = record {
-      first_in = (more knows.0).first_in;
-      keeps_first = (more knows.0).keeps_first;
-      sound = λ j has. elim (with_index_has p.1.indices x j has) [
-        | inl before ↦ inr (knows.0.sound j before)
-        | inr same ↦ inr (subst (λ n. AtSome (Names p.0.sizes n) past) same here)
-      ];
-      vacated = λ y holds. inr (knows.0.vacated y holds);
-    } in
-    let walked : walked_of p.0.sizes first (now ∷ past) q slot = record {
-      listed = λ y holds. inr (knows.1.listed y holds);
-      ended = inr knows.1.ended;
-      complete = λ l below first_named inside there each j less. with_index_keeps p.1.indices x (slice_index first_named j) (knows.1.complete l below first_named inside there each.1 j less);
-    } in
-    let found : (j : ℕ) → j < i + 1 → has_index (with_index p.1.indices x) (slice_index named j) ≡ true = λ j less. elim (cases_eq j i) [
-      | inl same ↦ rw same (with_index_new p.1.indices x)
-      | inr other ↦ with_index_keeps p.1.indices x (slice_index named j) (k.found j (omega arith))
-    ] in
-    rw word (
-      facts.3 i lt,
-      cond_both (eqb left 1) (come_to q (slot + 1)) (in_stage q (Index slot (at + 1) (left - 1))) (λ r. Knows p.0.sizes first (now ∷ past) r)
-        (λ e. knows_come_to p.0.sizes layout first (now ∷ past) q (slot + 1) (walk_next q slot (with_here x goes.0)) common (walked_next p.0.sizes layout first (now ∷ past) q slot walked
-          (done_at slot a named (with_index p.1.indices x) knows.0 k.was (λ j less. found j (omega (arith, k.count, eqb-true left 1 e))))))
-        (λ e. (common, walked, (a, named, i + 1, record {
-          was = inr k.was;
-          place = omega (arith, k.place);
-          count = omega (arith, k.count, eqb-false left 1 e, goes.1);
-          found = found;
-        }))))
+      let common : common_of p.0.sizes first (now ∷ past) q = record {
+        first_in = (more knows.0).first_in;
+        keeps_first = (more knows.0).keeps_first;
+        sound = λ j has. elim (with_index_has p.1.indices x j has) [
+          | inl before ↦ inr (knows.0.sound j before)
+          | inr same ↦ inr (subst (λ n. AtSome (Names p.0.sizes n) past) same here)
+        ];
+        vacated = λ y holds. inr (knows.0.vacated y holds);
+      } in
+      let walked : walked_of p.0.sizes first (now ∷ past) q slot = record {
+        listed = λ y holds. inr (knows.1.listed y holds);
+        ended = inr knows.1.ended;
+        complete = λ l below first_named inside there each j less. with_index_keeps p.1.indices x (slice_index first_named j) (knows.1.complete l below first_named inside there each.1 j less);
+      } in
+      let found : (j : ℕ) → j < i + 1 → has_index (with_index p.1.indices x) (slice_index named j) ≡ true = λ j less. elim (cases_eq j i) [
+        | inl same ↦ rw same (with_index_new p.1.indices x)
+        | inr other ↦ with_index_keeps p.1.indices x (slice_index named j) (k.found j (omega arith))
+      ] in
+      rw word (
+        facts.3 i lt,
+        cond_both (eqb left 1) (come_to q (slot + 1)) (in_stage q (Index slot (at + 1) (left - 1))) (λ r. Knows p.0.sizes first (now ∷ past) r)
+            (λ e. knows_come_to p.0.sizes layout first (now ∷ past) q (slot + 1) (walk_next q slot (with_here x goes.0)) common (walked_next p.0.sizes layout first (now ∷ past) q slot walked
+            (done_at slot a named (with_index p.1.indices x) knows.0 k.was (λ j less. found j (omega (arith, k.count, eqb-true left 1 e))))))
+            (λ e. (
+              common,
+              walked,
+              (
+                a,
+                named,
+                i + 1,
+                record {
+                  was = inr k.was;
+                  place = omega (arith, k.place);
+                  count = omega (arith, k.count, eqb-false left 1 e, goes.1);
+                  found = found;
+                },
+              ),
+            )),
+      )
     where
       each_unit : (ws : Past) → OnEach (λ w. Unit {0}) ws
       each_unit [] = tt
       each_unit (w ∷ ws) = (tt, each_unit ws)
+
       with_here : (x : ℕ) → IsAtSlot p slot → IsAtSlot (p.0, record p.1 { indices = with_index p.1.indices x }) slot
       with_here x here = record {
         walking = record {
@@ -448,18 +495,21 @@ module _ (p : Pair) (layout : IsLayout p.0.sizes) (first : List ℕ) (past : Pas
   step_claim : (words : ℕ) → knows_at p.0.sizes first past (Claim words) p → Steps (Claim words) (slice_index now (list_counter p.0.sizes))
   unfolding Steps
   step_claim words knows =
-    let x = slice_index now (list_counter p.0.sizes) in
-    ((orderly.lists_from, orderly.lists_to),
-      cond_both (ltb (list_end p.0.sizes) (x + words)) (record p.0 { lists_spent = true; stage = Done }, p.1) (in_stage p (Write x 0 words (length p.1.next))) (λ q. Knows p.0.sizes first (now ∷ past) q)
-        (λ e. finished_more knows)
-        (λ e. finished_more knows))
+      let x = slice_index now (list_counter p.0.sizes) in (
+        (orderly.lists_from, orderly.lists_to),
+        cond_both (ltb (list_end p.0.sizes) (x + words)) (record p.0 { lists_spent = true; stage = Done }, p.1) (in_stage p (Write x 0 words (length p.1.next))) (λ q. Knows p.0.sizes first (now ∷ past) q)
+            (λ e. finished_more knows)
+            (λ e. finished_more knows),
+      )
 
   step_write : (at k words word x : ℕ) → knows_at p.0.sizes first past (Write at k words word) p → Steps (Write at k words word) x
   unfolding Steps
-  step_write at k words word x knows = (tt,
+  step_write at k words word x knows = (
+    tt,
     cond_both (eqb (k + 1) words) (Publish at) (Write at (k + 1) words (slice_index (list_block p.1.next) (k + 1))) (λ stage. Knows p.0.sizes first (now ∷ past) (in_stage p stage))
-      (λ e. finished_more knows)
-      (λ e. finished_more knows))
+        (λ e. finished_more knows)
+        (λ e. finished_more knows),
+  )
 
   -- the answer that the words give to a step that is known
   answered : (C : ℕ → Type 0) (a b : Step) → Some a ≡ Some b → C (answer_of now a) → C (answer_of now b)
@@ -487,13 +537,13 @@ pub record Reached (s : Layout) (first : List ℕ) (past : Past) (q : Pair) : Ty
   pub knows : Knows s first past q
 
 -- one step more
-step_from : (s : Layout) (p : Pair) → p.0.sizes ≡ s → IsLayout s → (first : List ℕ) (past : Past) (now : List ℕ) → Orderly s now → OnEach (λ v. ComesFrom s v now) past → GoTogether p → Knows s first past p → (step : Step) → step_of p.0 ≡ Some step → IsPossible p (answer_of now step) × Reached s first (now ∷ past) (advance p (answer_of now step))
-step_from s p same = subst (λ t. IsLayout t → (first : List ℕ) (past : Past) (now : List ℕ) → Orderly t now → OnEach (λ v. ComesFrom t v now) past → GoTogether p → Knows t first past p → (step : Step) → step_of p.0 ≡ Some step → IsPossible p (answer_of now step) × Reached t first (now ∷ past) (advance p (answer_of now step))) same
-  (λ layout first past now orderly comes together knows step e.
+step_from : (s : Layout) (p : Pair) → p.0.sizes ≡ s → IsLayout s → (first : List ℕ) (past : Past) (now : List ℕ) → Orderly s now → OnEach (λ v. ComesFrom s v now) past → GoTogether p → Knows s first past p → (step : Step) → step_of p.0 ≡ Some step → IsPossible p (answer_of now step) × Reached s first (now ∷ past) (advance p (answer_of now step)) × (left_of (advance p (answer_of now step)).0 < left_of p.0)
+step_from s p same = subst (λ t. IsLayout t → (first : List ℕ) (past : Past) (now : List ℕ) → Orderly t now → OnEach (λ v. ComesFrom t v now) past → GoTogether p → Knows t first past p → (step : Step) → step_of p.0 ≡ Some step → IsPossible p (answer_of now step) × Reached t first (now ∷ past) (advance p (answer_of now step)) × (left_of (advance p (answer_of now step)).0 < left_of p.0)) same
+    (λ layout first past now orderly comes together knows step e.
     let x = answer_of now step in
     let known = step_known p layout first past now orderly comes p.0.stage step e together.stage knows in
     let keeps = keeps_at p.0.stage p x layout together.sizes (ap is_some e) together.stage known.0 in
-    (known.0, record { sizes = sizes_at p.0.stage p x; together = keeps.together; knows = known.1 }))
+    (known.0, record { sizes = sizes_at p.0.stage p x; together = keeps.together; knows = known.1 }, keeps.fewer))
 
 -- the moments of a list put behind, one after another
 pub onto : Past → Past → Past
@@ -521,11 +571,11 @@ onto_some P (w ∷ ws) past some = elim (onto_some P ws (w ∷ past) some) [
 ]
 
 -- the first step: it empties the buffers
-head_reached : (s : Layout) → IsLayout s → (spent : Bool) (f : Buffers) → IsFor s f → (first : List ℕ) → Orderly s first → (step : Step) → step_of (fresh s spent) ≡ Some step → IsPossible (fresh s spent, f) (answer_of first step) × Reached s first (first ∷ []) (advance (fresh s spent, f) (answer_of first step))
+head_reached : (s : Layout) → IsLayout s → (spent : Bool) (f : Buffers) → IsFor s f → (first : List ℕ) → Orderly s first → (step : Step) → step_of (fresh s spent) ≡ Some step → IsPossible (fresh s spent, f) (answer_of first step) × Reached s first (first ∷ []) (advance (fresh s spent, f) (answer_of first step)) × (left_of (advance (fresh s spent, f) (answer_of first step)).0 < left_of (fresh s spent))
 head_reached s layout spent f sizes first orderly step e =
     let p : Pair = (fresh s spent, f) in
     let x = head_at s first in
-    let C : ℕ → Type 0 = λ y. IsPossible p y × Reached s first (first ∷ []) (advance p y) in
+    let C : ℕ → Type 0 = λ y. IsPossible p y × Reached s first (first ∷ []) (advance p y) × (left_of (advance p y).0 < left_of (fresh s spent)) in
     let possible : IsListHead s x = elim orderly.head [
       | inl none ↦ inl none
       | inr there ↦ inr (there.1.from, omega (arith, there.1.to))
@@ -537,12 +587,13 @@ head_reached s layout spent f sizes first orderly step e =
       vacated = λ x holds. absurd (omega (arith, holds.1));
     } in
     let knows : Knows s first (first ∷ []) (advance p x) = cond_both (eqb x 0) Counter (ListLen x) (λ stage. Knows s first (first ∷ []) (record p.0 { head = x; stage = stage }, record p.1 { indices = []; read = []; next = [] }))
-      (λ none. (common, λ y holds. absurd (omega (arith, holds.1))))
-      (λ some. elim orderly.head [
-        | inl none ↦ absurd (eqb-false x 0 some none)
-        | inr there ↦ (common, (there.0, inl (refl, there.1)))
-      ]) in
-    let here : C x = (possible, record { sizes = refl; together = (keeps_head p layout sizes x possible).together; knows = knows }) in
+    (λ none. (common, λ y holds. absurd (omega (arith, holds.1))))
+    (λ some. elim orderly.head [
+      | inl none ↦ absurd (eqb-false x 0 some none)
+      | inr there ↦ (common, (there.0, inl (refl, there.1)))
+    ]) in
+    let keeps = keeps_head p layout sizes x possible in
+    let here : C x = (possible, record { sizes = refl; together = keeps.together; knows = knows }, keeps.fewer) in
     let same : Load (list_head s) ≡ step = cc in
     subst (λ st. C (answer_of first st)) same here
 
@@ -671,16 +722,35 @@ keeps_lists s spent f (first ∷ ms) q layout sizes orderly leads =
     record {
       loads_none = λ slot is. at_slot_outside q slot (goes_in q (Slot slot) reached.together is);
       writes = λ at k words word is.
-        let goes = goes_in q (Write at k words word) reached.together is in
-        let knows = knows_in s first past q (Write at k words word) reached.knows is in
-        (vacated_list s first ms q reached goes.0.next goes.0.within knows.0.vacated, goes.3, omega (arith, goes.2, goes.0.count, length-pairs q.1.next, ap list_end reached.sizes));
+          let goes = goes_in q (Write at k words word) reached.together is in
+          let knows = knows_in s first past q (Write at k words word) reached.knows is in
+          (vacated_list s first ms q reached goes.0.next goes.0.within knows.0.vacated, goes.3, omega (arith, goes.2, goes.0.count, length-pairs q.1.next, ap list_end reached.sizes));
       publishes = λ at is.
-        let goes = goes_in q (Publish at) reached.together is in
-        let knows = knows_in s first past q (Publish at) reached.knows is in
-        vacated_list s first ms q reached goes.0 goes.1 knows.0.vacated;
+          let goes = goes_in q (Publish at) reached.together is in
+          let knows = knows_in s first past q (Publish at) reached.knows is in
+          vacated_list s first ms q reached goes.0 goes.1 knows.0.vacated;
       exchange = λ at x y is. subst (λ st. advance_at st q x ≡ advance_at st q y) (sym is) refl;
       refused = λ words x is past_end. subst (λ st. (step_of (advance_at st q x).0 ≡ None) × ((advance_at st q x).1 ≡ q.1)) (sym is)
-        (cond_both (ltb (list_end q.0.sizes) (x + words)) (record q.0 { lists_spent = true; stage = Done }, q.1) (in_stage q (Write x 0 words (length q.1.next))) (λ (r : Pair). (step_of r.0 ≡ None) × (r.1 ≡ q.1))
+          (cond_both (ltb (list_end q.0.sizes) (x + words)) (record q.0 { lists_spent = true; stage = Done }, q.1) (in_stage q (Write x 0 words (length q.1.next))) (λ (r : Pair). (step_of r.0 ≡ None) × (r.1 ≡ q.1))
           (λ e. (refl, refl))
           (λ e. absurd (omega (arith, ltb-false (list_end q.0.sizes) (x + words) e))));
     }
+
+-- a run makes no more steps than were left
+run_steps : (s : Layout) → IsLayout s → (first : List ℕ) (ms past : Past) (p q : Pair) → IsOrderlyRun s past ms → Reached s first past p → LeadsTo p ms q → length ms + left_of q.0 ≤ left_of p.0
+run_steps s layout first [] past p q orderly reached leads = let same : left_of q.0 ≡ left_of p.0 = ap (λ (r : Pair). left_of r.0) leads in omega arith
+run_steps s layout first (w ∷ ws) past p q orderly reached leads =
+    let next = step_from s p reached.sizes layout first past w orderly.0 orderly.1 reached.together reached.knows leads.0 leads.1 in
+    let rest = run_steps s layout first ws (w ∷ past) (advance p (answer_of w leads.0)) q orderly.2 next.1 leads.2 in
+    omega (arith, next.2)
+
+steps_from_fresh : (s : Layout) (spent : Bool) (f : Buffers) (ms : Past) (q : Pair) → IsLayout s → IsFor s f → IsOrderlyRun s [] ms → LeadsTo (fresh s spent, f) ms q → length ms ≤ s.slots * (s.m + 3) + s.lists + 6
+steps_from_fresh s spent f [] q layout sizes orderly leads = omega arith
+steps_from_fresh s spent f (first ∷ ms) q layout sizes orderly leads =
+    let begun = head_reached s layout spent f sizes first orderly.0 leads.0 leads.1 in
+    let rest = run_steps s layout first ms (first ∷ []) (advance (fresh s spent, f) (answer_of first leads.0)) q orderly.2 begun.1 leads.2 in
+    omega (arith, begun.2)
+
+pub steps_by_events : (s : Layout) (spent : Bool) (f : Buffers) (own : ℕ) (words : List ℕ) (events : List Event) (q : Pair) → IsLayout s → IsFor s f → IsOrderlyRun s [] (all_moments words events) → MakesOwn own (fresh s spent, f) words events q → length (own_moments own words events) ≤ s.slots * (s.m + 3) + s.lists + 6
+steps_by_events s spent f own words events q layout sizes orderly makes =
+    steps_from_fresh s spent f (own_moments own words events) q layout sizes (own_orderly s own [] [] words events (λ w h. h) orderly) (own_leads own (fresh s spent, f) q words events makes)

@@ -1,5 +1,5 @@
 -- The list that a walk makes: it stays a normal form, and gains the numbers that were put behind it.
-use Rattle.std.proofs.Common.{ℕ, zero, suc, ◌≡◌, ◌+◌, ◌-◌, ◌*◌, ◌<◌, ◌≤◌, ◌↔◌, ◌⊎◌, Bool, true, false, ◌&&◌, eqb, ltb, List, [], ◌∷◌, ◌++◌, length, get_or, set, cond, inl, inr, refl, sym, ap, arith}
+use Rattle.std.proofs.Common.{ℕ, zero, suc, ◌≡◌, ◌+◌, ◌-◌, ◌*◌, ◌<◌, ◌≤◌, ◌⊎◌, true, false, eqb, ltb, [], ◌∷◌, ◌++◌, length, set, inl, inr, sym, ap, arith}
 use Rattle.std.proofs.lemmas.Bool.{cases_eq, cases_lt, cond_both, and_parts, and_cases, ltb-true, ltb-false, eqb-true, eqb-false}
 use Rattle.std.proofs.lemmas.List.{length_push, get_or_append_left, get_or_push, length-set}
 use Rattle.partial_intervals.specs.Intervals.{Ranges, lowest, highest, Holds, IsNormal, GoesOn}
@@ -109,21 +109,21 @@ module _ (list : Ranges) (lo hi : ℕ) (normal : IsNormal list) (behind : IsBehi
 -- it holds what the list held, and the new numbers
 pub held_extended : (list : Ranges) (lo hi : ℕ) → IsNormal list → (x : ℕ) → Holds (extended list lo hi) x → Holds list x ⊎ ((lo ≤ x) × (x ≤ hi))
 held_extended list lo hi normal x = cond_both (touches list lo) (set list (last_place list) (lowest list (last_place list), hi)) (list ++ (lo, hi) ∷ []) (λ l. Holds l x → Holds list x ⊎ ((lo ≤ x) × (x ≤ hi)))
-  (λ e h.
+    (λ e h.
     let t = touching list lo hi e in
     let last : last_place list < length list = omega (arith, t.0) in
     let same = length-set list (last_place list) (lowest list (last_place list), hi) in
     elim (cases_eq h.0 (last_place list)) [
-    | inl here ↦
-      let from : lowest list (last_place list) ≤ x = omega (arith, lowest_here list (last_place list) (lowest list (last_place list), hi) last, rw here at h.2) in
-      let to : x ≤ hi = omega (arith, highest_here list (last_place list) (lowest list (last_place list), hi) last, rw here at h.3) in
-      elim (cases_lt x lo) [
-      | inl below ↦ inl (last_place list, last, from, omega (arith, t.1))
-      | inr above ↦ inr (above, to)
-    ]
-    | inr other ↦ inl (h.0, omega (arith, same), omega (arith, lowest_other list (last_place list) (lowest list (last_place list), hi) last h.0 other), omega (arith, highest_other list (last_place list) (lowest list (last_place list), hi) last h.0 other))
-  ])
-  (λ e h. elim (cases_lt h.0 (length list)) [
-    | inl before ↦ inl (h.0, before, omega (arith, low_before list lo hi h.0 before), omega (arith, high_before list lo hi h.0 before))
-    | inr last ↦ inr (omega (arith, low_last list lo hi h.0 (omega (arith, pushed list lo hi))), omega (arith, high_last list lo hi h.0 (omega (arith, pushed list lo hi))))
-  ])
+      | inl here ↦
+          let from : lowest list (last_place list) ≤ x = omega (arith, lowest_here list (last_place list) (lowest list (last_place list), hi) last, rw here at h.2) in
+          let to : x ≤ hi = omega (arith, highest_here list (last_place list) (lowest list (last_place list), hi) last, rw here at h.3) in
+          elim (cases_lt x lo) [
+            | inl below ↦ inl (last_place list, last, from, omega (arith, t.1))
+            | inr above ↦ inr (above, to)
+          ]
+      | inr other ↦ inl (h.0, omega (arith, same), omega (arith, lowest_other list (last_place list) (lowest list (last_place list), hi) last h.0 other), omega (arith, highest_other list (last_place list) (lowest list (last_place list), hi) last h.0 other))
+    ])
+    (λ e h. elim (cases_lt h.0 (length list)) [
+      | inl before ↦ inl (h.0, before, omega (arith, low_before list lo hi h.0 before), omega (arith, high_before list lo hi h.0 before))
+      | inr last ↦ inr (omega (arith, low_last list lo hi h.0 (omega (arith, pushed list lo hi))), omega (arith, high_last list lo hi h.0 (omega (arith, pushed list lo hi))))
+    ])

@@ -1,6 +1,6 @@
 -- What a getSet that is answered from orderly words knows at each stage of the moments behind it.
-use Rattle.std.proofs.Common.{ℕ, ◌≡◌, ◌+◌, ◌-◌, ◌*◌, ◌<◌, ◌≤◌, ◌⊎◌, Bool, true, List, [], ◌∷◌, length, take, slice_index, inl, inr, refl, sym, subst, arith}
-use Rattle.partial_intervals.specs.Intervals.{Ranges, lowest, highest, Holds}
+use Rattle.std.proofs.Common.{ℕ, ◌≡◌, ◌+◌, ◌*◌, ◌<◌, ◌≤◌, true, List, [], ◌∷◌, length, take, slice_index, inl, inr}
+use Rattle.partial_intervals.specs.Intervals.{Ranges, lowest, Holds}
 use Rattle.partial_words.specs.Layout.{Layout}
 use Rattle.partial_words.specs.Record.{StandsAt}
 use Rattle.partial_words.specs.Announcement.{announcement_block}

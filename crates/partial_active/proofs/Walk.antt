@@ -1,13 +1,13 @@
 -- The walk along the slots: the machine and its buffers go on together, and the steps left fall.
-use Rattle.std.proofs.Common.{ℕ, ◌≡◌, ◌+◌, ◌-◌, ◌*◌, ◌/◌, ◌<◌, ◌≤◌, Bool, true, false, ◌&&◌, not, nat_lt, eqb, ltb, List, [], ◌∷◌, ◌++◌, length, cond, inl, inr, refl, sym, ap, arith}
+use Rattle.std.proofs.Common.{ℕ, ◌≡◌, ◌+◌, ◌-◌, ◌<◌, ◌≤◌, true, false, ◌&&◌, not, eqb, ltb, length, inl, inr, refl, arith}
 use Rattle.std.proofs.Math.Nat.{mul-le-mul_right}
-use Rattle.std.proofs.lemmas.Bool.{cases_eq, cases_lt, cases_Bool, cond_both, and_parts, and_cases, ltb-true, ltb-false, eqb-true, eqb-false}
-use Rattle.partial_intervals.specs.Intervals.{Ranges, lowest, highest, IsNormal}
-use Rattle.partial_words.specs.Layout.{Layout, IsLayout}
-use Rattle.partial_active.specs.Found.{Buffers, IsFor, begins_at, extended, IsBehind}
+use Rattle.std.proofs.lemmas.Bool.{cases_eq, cond_both, and_parts, and_cases, ltb-true, ltb-false, eqb-true, eqb-false}
+use Rattle.partial_intervals.specs.Intervals.{lowest, highest}
+use Rattle.partial_words.specs.Layout.{Layout}
+use Rattle.partial_active.specs.Found.{IsFor, begins_at, IsBehind}
 use Rattle.partial_active.specs.declared.get_set.Stage.TheVariants.{Slot, Claim, Done}
-use Rattle.partial_active.specs.GetSet.{GetSetState, Pair, after_walk, at_slot, come_to, pass_interval, next_words, left_of, walk_left, publish_left}
-use Rattle.partial_active.specs.GetSetAnswers.{EndsBelow, GoTogether, IsWalking, IsAtSlot, HasNext}
+use Rattle.partial_active.specs.GetSet.{Pair, after_walk, at_slot, come_to, pass_interval, next_words, left_of, walk_left, publish_left}
+use Rattle.partial_active.specs.GetSetAnswers.{EndsBelow, GoTogether, IsWalking}
 use Rattle.partial_active.proofs.Extended.{length_normal, normal-extended, below-extended}
 
 -- fewer slots, fewer steps
@@ -54,10 +54,10 @@ module _ (p : Pair) (slot : ℕ) (walking : IsWalking p slot) where
         next_below = below-extended p.1.next (lowest p.1.read p.0.passed) (highest p.1.read p.0.passed) walking.next behind (highest p.1.read p.0.passed + 1) (λ k lt. omega (arith, walking.next_below k lt, b.1, closed)) (omega arith);
         slot_within = omega (arith, walking.list.within p.0.passed b.0);
         passed = omega (arith, b.0);
-      before = λ k lt. elim (cases_eq k p.0.passed) [
-        | inl here ↦ rw here (omega arith)
-        | inr earlier ↦ omega (arith, walking.before k (omega arith), b.1, closed)
-      ];
+        before = λ k lt. elim (cases_eq k p.0.passed) [
+          | inl here ↦ rw here (omega arith)
+          | inr earlier ↦ omega (arith, walking.before k (omega arith), b.1, closed)
+        ];
         behind = λ k le lt. omega (arith, walking.list.normal.apart p.0.passed k (omega arith) lt);
       }
 
@@ -99,7 +99,7 @@ module _ (p : Pair) (slot : ℕ) (walking : IsWalking p slot) where
             next_below = walking.next_below;
             slot_within = walking.slot_within;
             passed = walking.passed;
-      before = walking.before;
+            before = walking.before;
             behind = walking.behind;
           };
           below = ltb-true slot p.0.end e;

@@ -1,12 +1,12 @@
 -- Which answers a getSet may be given, and how its machine and its buffers go together.
-use Rattle.std.specs.Prelude.{ℕ, ◌≡◌, ◌+◌, ◌*◌, ◌<◌, ◌≤◌, ◌^◌, ◌⊎◌, List, [], length, slice_index}
+use Rattle.std.specs.Prelude.{ℕ, ◌≡◌, ◌+◌, ◌*◌, ◌<◌, ◌≤◌, ◌⊎◌, [], length, slice_index}
 use Rattle.partial_intervals.specs.Intervals.{Ranges, lowest, highest, IsNormal}
 use Rattle.partial_words.specs.Layout.{Layout, list_base, list_end, pool_base, pool_end}
 use Rattle.partial_words.specs.VacatedList.{list_block}
 use Rattle.partial_active.specs.declared.get_set.Stage.{Stage}
 use Rattle.partial_active.specs.declared.get_set.Stage.TheVariants.{Head, ListLen, ListLow, ListHigh, Counter, Slot, Len, Index, Claim, Write, Publish, Done}
-use Rattle.partial_active.specs.Found.{Buffers, IsFor}
-use Rattle.partial_active.specs.GetSet.{GetSetState, Pair, next_words}
+use Rattle.partial_active.specs.Found.{IsFor}
+use Rattle.partial_active.specs.GetSet.{Pair, next_words}
 
 -- each interval of the list ends below the number
 abbrev pub EndsBelow : Ranges → ℕ → Type 0

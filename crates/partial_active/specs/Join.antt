@@ -1,5 +1,5 @@
 -- A join: one claim of a slot, and one store of the announcement's reference into it.
-use Rattle.std.specs.Prelude.{ℕ, ◌+◌, Bool, true, false, Option, Some, None, nat_lt, if◌then◌else◌}
+use Rattle.std.specs.Prelude.{ℕ, Bool, true, false, Option, Some, None, nat_lt, if◌then◌else◌}
 use Rattle.partial_words.specs.declared.step.Step.{Step}
 use Rattle.partial_words.specs.declared.step.Step.TheVariants.{Store, Add}
 use Rattle.partial_words.specs.Layout.{Layout, slot_counter, slot_word}

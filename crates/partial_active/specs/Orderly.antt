@@ -1,10 +1,10 @@
 -- Orderly words of an active set, how the words of a moment come from those of an earlier one, and what
 -- a getSet finds that is answered from them.
-use Rattle.std.specs.Prelude.{ℕ, ◌≡◌, ◌+◌, ◌*◌, ◌<◌, ◌≤◌, ◌==◌, ◌⊎◌, Bool, true, Some, None, List, [], ◌∷◌, length, slice_index, MatchBool, if◌then◌else◌}
+use Rattle.std.specs.Prelude.{ℕ, ◌≡◌, ◌+◌, ◌*◌, ◌<◌, ◌≤◌, ◌==◌, ◌⊎◌, true, Some, None, List, [], ◌∷◌, length, slice_index, MatchBool, if◌then◌else◌}
 use Rattle.partial_intervals.specs.Intervals.{Ranges, Holds, IsNormal}
 use Rattle.partial_words.specs.declared.step.Step.{Step}
 use Rattle.partial_words.specs.declared.step.Event.{Event}
-use Rattle.partial_words.specs.Layout.{Layout, slot_counter, list_head, list_counter, slot_word, list_base, list_end, pool_base, pool_end, total}
+use Rattle.partial_words.specs.Layout.{Layout, slot_counter, list_head, list_counter, slot_word, list_base, list_end, pool_base, pool_end}
 use Rattle.partial_words.specs.Record.{StandsAt}
 use Rattle.partial_words.specs.Announcement.{announcement_block}
 use Rattle.partial_words.specs.VacatedList.{list_block}
@@ -92,8 +92,8 @@ own_moments own words (e ∷ es) = if e.port == own then words ∷ own_moments o
 abbrev pub MakesOwn : ℕ → Pair → List ℕ → List Event → Pair → Type 0
 MakesOwn own p words [] q = q ≡ p
 MakesOwn own p words (e ∷ es) q = MatchBool (e.port == own)
-  ((step_of p.0 ≡ Some e.step) × MakesOwn own (advance p (answer_of words e.step)) (words_after words e.step) es q)
-  (MakesOwn own p (words_after words e.step) es q)
+    ((step_of p.0 ≡ Some e.step) × MakesOwn own (advance p (answer_of words e.step)) (words_after words e.step) es q)
+    (MakesOwn own p (words_after words e.step) es q)
 
 -- at that moment an announcement that names the index stands in a slot
 pub record Names (s : Layout) (index : ℕ) (words : List ℕ) : Type 0 where
@@ -134,4 +134,3 @@ pub record KeepsLists (s : Layout) (moments : List (List ℕ)) (q : Pair) : Type
   pub exchange : (at x y : ℕ) → q.0.stage ≡ Publish at → advance q x ≡ advance q y
   -- a claim past the list words ends the getSet, with all that it found
   pub refused : (words x : ℕ) → q.0.stage ≡ Claim words → list_end q.0.sizes < x + words → (step_of (advance q x).0 ≡ None) × ((advance q x).1 ≡ q.1)
-

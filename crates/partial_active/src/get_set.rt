@@ -399,9 +399,10 @@ impl GetSet {
 /// and come from those before every earlier one, and let the events of one port be the steps of a fresh
 /// getSet, which they finish. Then it names every index of each announcement that stood in a slot from
 /// its first step to its last, and no index but those of announcements that stood in a slot at some
-/// moment of it.
+/// moment of it. It makes at most S (m + 3) + L + 6 steps, for S slots, m components and L list words.
 pub fn finds_the_active_set()
-    ensures { (s : Layout) (spent : Bool) (f : Buffers) (own : ℕ) (words : List ℕ) (events : List Event) (q : Pair) → IsLayout s → IsFor s f → IsOrderlyRun s [] (all_moments words events) → MakesOwn own (fresh s spent, f) words events q → step_of q.0 ≡ None → FindsActiveSet s (own_moments own words events) q.1.indices }
+    ensures finds { (s : Layout) (spent : Bool) (f : Buffers) (own : ℕ) (words : List ℕ) (events : List Event) (q : Pair) → IsLayout s → IsFor s f → IsOrderlyRun s [] (all_moments words events) → MakesOwn own (fresh s spent, f) words events q → step_of q.0 ≡ None → FindsActiveSet s (own_moments own words events) q.1.indices }
+    ensures steps { (s : Layout) (spent : Bool) (f : Buffers) (own : ℕ) (words : List ℕ) (events : List Event) (q : Pair) → IsLayout s → IsFor s f → IsOrderlyRun s [] (all_moments words events) → MakesOwn own (fresh s spent, f) words events q → length (own_moments own words events) ≤ s.slots * (s.m + 3) + s.lists + 6 }
 {}
 
 /// What a getSet does with the lists of vacated slots, wherever it has come to: it loads no slot of the

@@ -1,4 +1,4 @@
-use Rattle.std.proofs.Common.{◌≡◌, subst, ap, sym, ◌∙◌}
+use Rattle.std.proofs.Common.{subst, ap, sym, ◌∙◌}
 use Rattle.partial_words.specs.Layout.{IsLayout}
 use Rattle.partial_active.specs.declared.get_set.Stage.TheVariants.{ListHigh, Counter, Slot, Len, Index}
 use Rattle.partial_active.specs.GetSet.{GetSetState}

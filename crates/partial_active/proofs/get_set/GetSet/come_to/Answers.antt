@@ -1,4 +1,4 @@
-use Rattle.std.proofs.Common.{◌≡◌, ◌+◌, ◌<◌, true, length, sym, ◌∙◌, arith}
+use Rattle.std.proofs.Common.{◌≡◌, true, sym, ◌∙◌, arith}
 use Rattle.partial_active.specs.Found.{begins_at}
 use Rattle.partial_active.proofs.Extended.{length_normal}
 use Rattle.partial_active.proofs.Walk.{next_room, walking_on}
