@@ -1,9 +1,13 @@
 -- What one entry more does to the last entry for a component.
-use Rattle.std.proofs.Common.{ℕ, ◌≡◌, ◌+◌, ◌-◌, ◌<◌, ◌≤◌, ◌==◌, arith, ◌++◌, cond, List, [], ◌∷◌, length, take, get_or, refl, sym, ◌∙◌, ap, Option, Some, None}
-use Rattle.std.proofs.lemmas.Bool.{eq-eqb, ne_eqb}
-use Rattle.std.proofs.lemmas.List.{take_more}
+use Rattle.std.proofs.Common.{ℕ, zero, suc, ◌≡◌, ◌+◌, ◌-◌, ◌<◌, ◌≤◌, ◌==◌, ◌++◌, ◌⊎◌, Bool, true, false, cond, List, [], ◌∷◌, length, take, get_or, refl, sym, ◌∙◌, ap, inl, inr, Option, Some, None, slice_get, arith}
+use Rattle.std.specs.List.{AllByRecursion}
+use Rattle.std.specs.Option.{option_map_or}
+use Rattle.std.proofs.lemmas.Bool.{eq-eqb, ne_eqb, cases_lt}
+use Rattle.std.proofs.lemmas.Bool.Decides.{eqb_tells}
+use Rattle.std.proofs.lemmas.List.{take_more, take_all}
 use Rattle.partial_model.specs.declared.history.Applied.{Applied}
-use Rattle.partial_model.specs.History.{last_from, last_entry}
+use Rattle.partial_model.specs.declared.history.Opening.{Opening}
+use Rattle.partial_model.specs.History.{last_from, last_entry, initial_stamp, value_of, stamp_of}
 
 -- an entry at the end is the last one for its component and changes nothing for another
 pub last_from-push : (found : Option Applied) (j : ℕ) (h : List Applied) (e : Applied) → last_from found j (h ++ e ∷ []) ≡ cond (e.component == j) (Some e) (last_from found j h)
@@ -29,3 +33,102 @@ last_entry-found h i j d some within same =
 pub last_entry-passed : (h : List Applied) (i j : ℕ) (d : Applied) → 0 < i → i ≤ length h → ((get_or h (i - 1) d).component ≡ j → ⊥) → last_entry j (take i h) ≡ last_entry j (take (i - 1) h)
 last_entry-passed h i j d some within other =
     last_entry-take h i j d some within ∙ ap (λ b. cond b (Some (get_or h (i - 1) d)) (last_entry j (take (i - 1) h))) (ne_eqb _ _ other)
+
+-- the value and the stamp behind one entry more
+pick : {A B : Type 0} (f : A → B) (b : Bool) (x : A) (found : Option A) (d : B) → option_map_or f (cond b (Some x) found) d ≡ cond b (f x) (option_map_or f found d)
+pick f true x found d = refl
+pick f false x found d = refl
+
+pub value_of-push : (o : Opening) (h : List Applied) (e : Applied) (j : ℕ) → value_of o (h ++ e ∷ []) j ≡ cond (e.component == j) e.value (value_of o h j)
+value_of-push o h e j =
+    ap (λ (found : Option Applied). option_map_or (λ (x : Applied). x.value) found (get_or o.values j 0)) (last_from-push None j h e) ∙ pick (λ (x : Applied). x.value) (e.component == j) e (last_entry j h) (get_or o.values j 0)
+
+pub stamp_of-push : (o : Opening) (h : List Applied) (e : Applied) (j : ℕ) → stamp_of o (h ++ e ∷ []) j ≡ cond (e.component == j) e.stamp (stamp_of o h j)
+stamp_of-push o h e j =
+    ap (λ (found : Option Applied). option_map_or (λ (x : Applied). x.stamp) found (initial_stamp o j)) (last_from-push None j h e) ∙ pick (λ (x : Applied). x.stamp) (e.component == j) e (last_entry j h) (initial_stamp o j)
+
+-- where the last entry for a component stands: from there on it is the last one, and without one there never was any
+pub record LastAt (found : Option Applied) (j : ℕ) (h : List Applied) : Type 0 where
+  pub place : ℕ
+  pub entry : Applied
+  pub stands : slice_get h place ≡ Some entry
+  pub component : entry.component ≡ j
+  pub from : (a : ℕ) → place < a → last_from found j (take a h) ≡ Some entry
+
+last_at_none : (found : Option Applied) (j : ℕ) (a : ℕ) → last_from found j (take a []) ≡ found
+unfolding last_from
+last_at_none found j zero = refl
+last_at_none found j (suc a) = refl
+
+last_at_kept : (found : Option Applied) (j : ℕ) (x : Applied) (h : List Applied) → cond (x.component == j) (Some x) found ≡ found → ((a : ℕ) → last_from (cond (x.component == j) (Some x) found) j (take a h) ≡ cond (x.component == j) (Some x) found) → (a : ℕ) → last_from found j (take a (x ∷ h)) ≡ found
+unfolding last_from
+last_at_kept found j x h same all zero = refl
+last_at_kept found j x h same all (suc a) = all a ∙ same
+
+last_at_first : (found : Option Applied) (j : ℕ) (x : Applied) (h : List Applied) → cond (x.component == j) (Some x) found ≡ Some x → ((a : ℕ) → last_from (cond (x.component == j) (Some x) found) j (take a h) ≡ cond (x.component == j) (Some x) found) → (a : ℕ) → 0 < a → last_from found j (take a (x ∷ h)) ≡ Some x
+unfolding last_from
+last_at_first found j x h same all zero some = absurd (omega arith)
+last_at_first found j x h same all (suc a) some = all a ∙ same
+
+last_at_later : (found : Option Applied) (j : ℕ) (x : Applied) (h : List Applied) (k : ℕ) (e : Applied) → ((a : ℕ) → k < a → last_from (cond (x.component == j) (Some x) found) j (take a h) ≡ Some e) → (a : ℕ) → suc k < a → last_from found j (take a (x ∷ h)) ≡ Some e
+unfolding last_from
+last_at_later found j x h k e from zero some = absurd (omega arith)
+last_at_later found j x h k e from (suc a) some = from a (omega arith)
+
+pub last_at : (found : Option Applied) (j : ℕ) (h : List Applied) → ((a : ℕ) → last_from found j (take a h) ≡ found) ⊎ LastAt found j h
+last_at found j [] = inl (last_at_none found j)
+last_at found j (x ∷ h) =
+    elim (last_at (cond (x.component == j) (Some x) found) j h) [
+      | inr l ↦ inr (record { place = suc l.place; entry = l.entry; stands = l.stands; component = l.component; from = last_at_later found j x h l.place l.entry l.from })
+      | inl all ↦ elim (eqb_tells x.component j) [
+        | inl t ↦ inr (record { place = 0; entry = x; stands = refl; component = t.1; from = last_at_first found j x h (ap (λ b. cond b (Some x) found) t.0) all })
+        | inr t ↦ inl (last_at_kept found j x h (ap (λ b. cond b (Some x) found) t.0) all)
+      ]
+    ]
+
+-- where a component's stamp has changed since the first a entries, its last entry stands at place a or later
+pub record OvertakenAt (o : Opening) (h : List Applied) (j a : ℕ) : Type 0 where
+  pub place : ℕ
+  pub entry : Applied
+  pub stands : slice_get h place ≡ Some entry
+  pub component : entry.component ≡ j
+  pub stamp : entry.stamp ≡ stamp_of o h j
+  pub behind : a ≤ place
+
+stamp_found : (o : Opening) (j : ℕ) (h : List Applied) (found : Option Applied) → last_entry j h ≡ found → stamp_of o h j ≡ option_map_or (λ (x : Applied). x.stamp) found (initial_stamp o j)
+stamp_found o j h found e = ap (λ (f : Option Applied). option_map_or (λ (x : Applied). x.stamp) f (initial_stamp o j)) e
+
+pub place_below : {A : Type 0} (h : List A) (k : ℕ) (e : A) → slice_get h k ≡ Some e → k < length h
+place_below [] k e s = let bad : None ≡ Some e = s in cc
+place_below (x ∷ h) zero e s = omega arith
+place_below (x ∷ h) (suc k) e s = let below = place_below h k e s in omega arith
+
+pub overtaken_at : (o : Opening) (h : List Applied) (j a : ℕ) → (stamp_of o h j ≡ stamp_of o (take a h) j → ⊥) → OvertakenAt o h j a
+overtaken_at o h j a changed =
+    let whole : take (length h) h ≡ h = take_all (length h) h (omega arith) in
+    elim (last_at None j h) [
+      | inl all ↦ absurd (changed (stamp_found o j h None (ap (last_entry j) (sym whole) ∙ all (length h)) ∙ sym (stamp_found o j (take a h) None (all a))))
+      | inr l ↦
+          let last : last_entry j h ≡ Some (l.entry) = ap (last_entry j) (sym whole) ∙ l.from (length h) (place_below h l.place l.entry l.stands) in
+          record {
+            place = l.place;
+            entry = l.entry;
+            stands = l.stands;
+            component = l.component;
+            stamp = sym (stamp_found o j h (Some l.entry) last);
+            behind = elim (cases_lt l.place a) [ inl before ↦ absurd (changed (stamp_found o j h (Some l.entry) last ∙ sym (stamp_found o j (take a h) (Some l.entry) (l.from a before)))) | inr after ↦ after ];
+          }
+    ]
+
+-- what holds of each entry's stamp and of the initial one holds of a component's stamp
+stamp_all_step : (P : ℕ → Type 0) (first : ℕ) (found : Option Applied) (x : Applied) (b : Bool) → P x.stamp → P (option_map_or (λ (e : Applied). e.stamp) found first) → P (option_map_or (λ (e : Applied). e.stamp) (cond b (Some x) found) first)
+stamp_all_step P first found x true p w = p
+stamp_all_step P first found x false p w = w
+
+stamp_all_from : (P : ℕ → Type 0) (first j : ℕ) (found : Option Applied) (h : List Applied) → AllByRecursion (λ (e : Applied). P e.stamp) h → P (option_map_or (λ (e : Applied). e.stamp) found first) → P (option_map_or (λ (e : Applied). e.stamp) (last_from found j h) first)
+unfolding last_from
+stamp_all_from P first j found [] all w = w
+stamp_all_from P first j found (x ∷ h) all w = stamp_all_from P first j (cond (x.component == j) (Some x) found) h all.1 (stamp_all_step P first found x (x.component == j) all.0 w)
+
+pub stamp_all : (P : ℕ → Type 0) (o : Opening) (j : ℕ) (h : List Applied) → AllByRecursion (λ (e : Applied). P e.stamp) h → P (initial_stamp o j) → P (stamp_of o h j)
+stamp_all P o j h all first = stamp_all_from P (initial_stamp o j) j None h all first

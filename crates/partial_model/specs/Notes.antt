@@ -107,6 +107,11 @@ abbrev pub seen_after : ℕ → Option Note → ℕ
 seen_after seen None = seen
 seen_after seen (Some note) = shown_by note
 
+-- how many entries a port has seen behind these notes, where it had seen so many before
+abbrev pub seen_by : ℕ → List Noted → ℕ
+seen_by seen [] = seen
+seen_by seen (n ∷ ns) = seen_by (seen_after seen n.note) ns
+
 -- the notes of port p, in the order of its calls, where it had seen so many entries before
 abbrev pub LegalNotes : Opening → List Applied → ℕ → ℕ → List Noted → Type 0
 LegalNotes o h p seen [] = ⊤

@@ -1,0 +1,11 @@
+pub mod Frames
+pub mod ListLemmas
+pub mod PartLemmas
+pub mod Rebuild
+pub mod StepCounts
+pub mod StepLaw
+pub mod StepLoads
+pub mod StepWrites
+pub mod StepExchange
+pub mod AllSteps
+pub mod Opened

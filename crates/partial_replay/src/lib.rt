@@ -1,0 +1,13 @@
+//! The replay of a plan: its calls are made step by step, in the order of its turns, and what came of
+//! it is told. The texts of plans and outcomes are passed on.
+#![tactic(auto)]
+
+mod note;
+mod port;
+mod replaying;
+mod run;
+
+pub use partial_text::{Cause, Device, Outcome, OutcomeError, Plan, PlanError};
+pub use partial_words::Event;
+pub use replaying::{ReplayError, replay};
+

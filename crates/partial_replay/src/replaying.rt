@@ -1,0 +1,59 @@
+//! The replay of a whole plan.
+
+use partial_text::{Outcome, Plan};
+use std::alloc::{AllocError, Global};
+use thiserror::Error;
+
+use crate::run::Run;
+
+/// Why a plan wasn't replayed. Nothing is left of the replay.
+#[derive(Clone, Copy, Debug, PartialEq, Eq, Error)]
+pub enum ReplayError {
+    /// A growth was refused.
+    #[error("out of memory")]
+    Memory,
+}
+
+impl ReplayError {
+    ghost use Rattle.std.specs.Prelude.{◌≡◌};
+
+    /// The number of the refusal: 6.
+    pub fn code(&self) -> u8
+        ensures { result ≡ 6 }
+    {
+        match self {
+            ReplayError::Memory => 6,
+        }
+    }
+}
+
+impl From<AllocError> for ReplayError {
+    fn from(_error: AllocError) -> ReplayError {
+        ReplayError::Memory
+    }
+}
+
+/// Replays a plan: it makes the plan's turns one after the other on a memory of its own, and tells what
+/// came of them.
+///
+/// In a turn a port makes one step. Where it has no call under way its next call begins; a call that
+/// makes no step is finished at once, and the next begins. A port with no call left makes no step.
+///
+/// # Errors
+///
+/// `Memory` where a growth was refused: the words, the trace or the calls found no room.
+pub fn replay(alloc: Global, plan: &Plan) -> Result<Outcome, ReplayError> {
+    let sizes = plan.sizes();
+    let plans = plan.ports();
+    let mut run = Run::open(alloc, sizes, plan.initial(), plans.len())?;
+    for (p, count) in plan.steps() {
+        let p = *p as usize;
+        run.turns(p, plans[p].as_slice(), *count)?;
+    }
+    if plan.rest() {
+        for p in 0..plans.len() {
+            run.to_the_end(p, plans[p].as_slice())?;
+        }
+    }
+    Ok(run.into_outcome(alloc, sizes, plan.initial(), plans)?)
+}

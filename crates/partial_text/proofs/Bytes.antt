@@ -1,0 +1,43 @@
+-- What reads and writes in a row do to the known bytes.
+use Rattle.std.proofs.Common.{◌≡◌, ℕ, ◌+◌, ◌-◌, ◌≤◌, List, [], ◌∷◌, ◌++◌, length, take, drop, Option, None, Some, refl, sym, ap, subst, ◌∙◌, append_assoc, arith}
+use Rattle.std.proofs.lemmas.List.{append-nil, take_rest, drop-drop, length-drop}
+use Rattle.std.proofs.Math.Seq.{take-add}
+use Rattle.std.specs.Io.KnownBytes.{Appends, Consumes, Keeps}
+
+pub Appends_none : (a : Option (List ℕ)) → Appends a a []
+Appends_none None = tt
+Appends_none (Some x) = sym (append-nil x)
+
+pub Appends_then : (a b c : Option (List ℕ)) (xs ys : List ℕ) → Appends a b xs → Appends b c ys → Appends a c (xs ++ ys)
+Appends_then None b c xs ys p q = tt
+Appends_then (Some x) None c xs ys p q = absurd p
+Appends_then (Some x) (Some y) None xs ys p q = absurd q
+Appends_then (Some x) (Some y) (Some z) xs ys p q = q ∙ ap (λ (l : List ℕ). l ++ ys) p ∙ append_assoc x xs ys
+
+pub Appends_kept : (a b c : Option (List ℕ)) (xs : List ℕ) → Appends a b xs → Keeps b c → Appends a c xs
+Appends_kept None b c xs p q = tt
+Appends_kept (Some x) None c xs p q = absurd p
+Appends_kept (Some x) (Some y) None xs p q = absurd q
+Appends_kept (Some x) (Some y) (Some z) xs p q = q ∙ p
+
+pub Consumes_none : (a : Option (List ℕ)) → Consumes a a []
+Consumes_none None = tt
+Consumes_none (Some x) = refl
+
+pub Consumes_then : (a b c : Option (List ℕ)) (xs ys : List ℕ) → Consumes a b xs → Consumes b c ys → Consumes a c (xs ++ ys)
+Consumes_then None b c xs ys p q = tt
+Consumes_then (Some x) None c xs ys p q = absurd p
+Consumes_then (Some x) (Some y) None xs ys p q = absurd q
+Consumes_then (Some x) (Some y) (Some z) xs ys p q = p ∙ ap (λ (l : List ℕ). xs ++ l) q ∙ sym (append_assoc xs ys z)
+
+-- a write took n more bytes of the text
+pub written_more : (a b c : Option (List ℕ)) (text rest : List ℕ) (n : ℕ) → length rest ≤ length text → rest ≡ drop (length text - length rest) text → Appends a b (take (length text - length rest) text) → n ≤ length rest → Appends b c (take n rest)
+    → (left : List ℕ) → left ≡ take (length rest - n) (drop n rest) → (length left ≤ length text) × (left ≡ drop (length text - length left) text) × Appends a c (take (length text - length left) text)
+written_more a b c text rest n short is_rest written fits more left is_left =
+    let whole : left ≡ drop n rest = is_left ∙ take_rest rest n in
+    let len : length left ≡ length rest - n = ap length whole ∙ length-drop n rest in
+    let k = length text - length rest in
+    let place : length text - length left ≡ k + n = omega arith in
+    let dropped : left ≡ drop (k + n) text = whole ∙ ap (drop n) is_rest ∙ drop-drop n k text in
+    let taken : take (k + n) text ≡ take k text ++ take n rest = take-add k n text ∙ ap (λ (t : List ℕ). take k text ++ take n t) (sym is_rest) in
+    (omega arith, rw place dropped, rw (place, taken) (Appends_then a b c (take k text) (take n rest) written more))

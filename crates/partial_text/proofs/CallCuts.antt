@@ -1,0 +1,71 @@
+-- How the texts of calls come one after the other.
+use Rattle.std.proofs.Common.{◌≡◌, ℕ, ◌+◌, ◌<◌, ◌≤◌, Bool, true, false, cond, eqb, ◌&&◌, List, [], ◌∷◌, ◌++◌, length, get_or, take, drop, Result, Ok, Err, ◌-◌, refl, sym, ap, ◌∙◌, append_assoc, arith}
+use Rattle.std.proofs.lemmas.List.{append-nil, at_drop_more, at_drop_all, take_more, take_all, take_rest}
+use Rattle.partial_model.specs.declared.call.Call.{Call}
+use Rattle.partial_text.specs.declared.fault.PlanError.{PlanError}
+use Rattle.partial_text.specs.Pieces.{onto_first}
+use Rattle.partial_text.specs.Judging.{is_cut, call_texts, call_texts_behind, call_at, calls_at}
+
+-- bytes in front of the first text
+abbrev pub with_front : List ℕ → List (List ℕ) → List (List ℕ)
+with_front f [] = f ∷ []
+with_front f (p ∷ ps) = (f ++ p) ∷ ps
+
+with_front-onto : (f : List ℕ) (x : ℕ) (ps : List (List ℕ)) → with_front f (onto_first x ps) ≡ with_front (f ++ x ∷ []) ps
+with_front-onto f x [] = refl
+with_front-onto f x (p ∷ ps) = ap (λ (q : List ℕ). q ∷ ps) (sym (append_assoc f (x ∷ []) p))
+
+with_none : (b : Bool) (x : ℕ) (ps qs : List (List ℕ)) → with_front [] (cond b ([] ∷ ps) (onto_first x qs)) ≡ cond b ([] ∷ ps) (onto_first x qs)
+with_none true x ps qs = refl
+with_none false x ps [] = refl
+with_none false x ps (q ∷ qs) = refl
+
+pub with_front_nil : (xs : List ℕ) → call_texts xs ≡ with_front [] (call_texts xs)
+with_front_nil [] = refl
+with_front_nil (x ∷ []) = refl
+with_front_nil (x ∷ y ∷ xs) = sym (with_none (eqb x 59 && eqb y 32) x (call_texts xs) (call_texts (y ∷ xs)))
+
+cut_here : (xs : List ℕ) → is_cut xs ≡ true → call_texts xs ≡ [] ∷ call_texts_behind xs
+cut_here [] h = absurd cc
+cut_here (x ∷ []) h = absurd cc
+cut_here (x ∷ y ∷ xs) h = rw h refl
+
+pub cut_more : (x : ℕ) (xs : List ℕ) → is_cut (x ∷ xs) ≡ false → call_texts (x ∷ xs) ≡ onto_first x (call_texts xs)
+cut_more x [] h = refl
+cut_more x (y ∷ xs) h = rw h refl
+
+-- at a semicolon with a space
+pub texts_here : (xs : List ℕ) (i : ℕ) → is_cut (drop i xs) ≡ true → call_texts xs ≡ with_front (take i xs) (call_texts (drop i xs)) → call_texts xs ≡ take i xs ∷ call_texts_behind (drop i xs)
+texts_here xs i h so_far =
+    so_far ∙ rw (cut_here (drop i xs) h) (ap (λ (p : List ℕ). p ∷ call_texts_behind (drop i xs)) (append-nil (take i xs)))
+
+-- one byte on
+pub texts_more : (xs : List ℕ) (i : ℕ) → i < length xs → is_cut (drop i xs) ≡ false → call_texts xs ≡ with_front (take i xs) (call_texts (drop i xs)) → call_texts xs ≡ with_front (take (i + 1) xs) (call_texts (drop (i + 1) xs))
+texts_more xs i lt h so_far =
+    let not_cut : is_cut (get_or xs i 0 ∷ drop (i + 1) xs) ≡ false = sym (at_drop_more is_cut xs i 0 lt) ∙ h in
+    so_far ∙ ap (with_front (take i xs)) (at_drop_more call_texts xs i 0 lt ∙ cut_more (get_or xs i 0) (drop (i + 1) xs) not_cut) ∙ with_front-onto (take i xs) (get_or xs i 0) (call_texts (drop (i + 1) xs)) ∙ ap (λ (f : List ℕ). with_front f (call_texts (drop (i + 1) xs))) (sym (take_more xs i 0 lt))
+
+pub texts_end : (xs : List ℕ) (i : ℕ) → length xs ≤ i → call_texts xs ≡ with_front (take i xs) (call_texts (drop i xs)) → call_texts xs ≡ xs ∷ []
+texts_end xs i le so_far =
+    so_far ∙ ap (with_front (take i xs)) (at_drop_all call_texts xs i le) ∙ ap (λ (p : List ℕ). p ∷ []) (append-nil (take i xs) ∙ take_all i xs le)
+
+-- behind a semicolon and a space
+pub behind_cut : (xs : List ℕ) → 2 ≤ length xs → call_texts_behind xs ≡ call_texts (drop 2 xs)
+behind_cut [] h = absurd (omega arith)
+behind_cut (x ∷ []) h = absurd (omega arith)
+behind_cut (x ∷ y ∷ xs) h = refl
+
+pub no_cut : (xs : List ℕ) → length xs < 2 → call_texts_behind xs ≡ []
+no_cut [] h = refl
+no_cut (x ∷ []) h = refl
+no_cut (x ∷ y ∷ xs) h = absurd (omega arith)
+
+-- the next call of a port line
+pub next_call : (line : ℕ) (found all : List Call) (first : List ℕ) (rest : List ℕ) (call : Call) (next behind : List ℕ) (judged : Result (List Call) PlanError) → call_at line first ≡ Ok call → 2 ≤ length rest
+    → call_texts (take (length rest - 2) (drop 2 rest)) ≡ next ∷ call_texts_behind behind → all ≡ found ++ call ∷ []
+    → calls_at line found (first ∷ call_texts_behind rest) ≡ judged → calls_at line all (next ∷ call_texts_behind behind) ≡ judged
+unfolding calls_at
+next_call line found all first rest call next behind judged is_call long split pushed so_far =
+    let texts : call_texts_behind rest ≡ next ∷ call_texts_behind behind = behind_cut rest long ∙ ap call_texts (sym (take_rest rest 2)) ∙ split in
+    let step : calls_at line found (first ∷ call_texts_behind rest) ≡ calls_at line (found ++ call ∷ []) (call_texts_behind rest) = rw is_call refl in
+    ap (λ (v : List Call). calls_at line v (next ∷ call_texts_behind behind)) pushed ∙ ap (calls_at line (found ++ call ∷ [])) (sym texts) ∙ sym step ∙ so_far

@@ -1,0 +1,13 @@
+pub mod Cuts
+pub mod CallCuts
+pub mod Steps
+pub mod Bytes
+pub mod Values
+pub mod NumberLaws
+pub mod PieceLaws
+pub mod FieldLaws
+pub mod CallLaws
+pub mod LineLaws
+pub mod PlanLaws
+pub mod ReaderLaws
+pub mod AgainLaws

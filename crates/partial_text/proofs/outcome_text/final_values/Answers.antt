@@ -1,0 +1,8 @@
+use Rattle.std.proofs.Common.{sym, ◌∙◌}
+use Rattle.std.proofs.lemmas.List.{at_drop_all}
+use Rattle.partial_text.proofs.Values.{values_after, values_after_is}
+use Rattle.partial_text.proofs.outcome_text.final_values.Goals as goal
+
+pub returns : goal.returns
+returns c =
+    sym (at_drop_all (values_after c.loop-entry.values.items) c.args.history.now c.loop-entry.entry-index c.loop-entry-test.false) ∙ c.loop-entry.invariant ∙ values_after_is c.args.opening.now c.args.history.now

@@ -1,0 +1,7 @@
+use Rattle.std.proofs.Common.{◌≡◌, ◌++◌, take}
+use Rattle.std.specs.List.{flat_map}
+use Rattle.partial_text.specs.OutcomeText.{call_line}
+use Rattle.partial_text.proofs.outcome_text.push_calls.Given as goal
+
+abbrev pub invariant-loop-called : goal.invariant-loop-called
+invariant-loop-called l = l.text.items ≡ l.initial.text.items ++ flat_map call_line (take l.called-index l.calls)

@@ -1,0 +1,7 @@
+use Rattle.std.proofs.Common.{◌≡◌, ◌++◌, take, drop}
+use Rattle.partial_text.specs.Pieces.{until, from}
+use Rattle.partial_text.proofs.pieces.split_before.Given as goal
+
+abbrev pub invariant-loop-index : goal.invariant-loop-index
+invariant-loop-index l =
+    record { front : until l.separator l.bytes ≡ take l.index l.bytes ++ until l.separator (drop l.index l.bytes); rest : from l.separator l.bytes ≡ from l.separator (drop l.index l.bytes) }

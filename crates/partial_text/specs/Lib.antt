@@ -1,0 +1,9 @@
+pub mod Pieces
+pub mod Number
+pub mod Fault
+pub mod PlanText
+pub mod Judging
+pub mod DeviceView
+pub mod Seen
+pub mod SeenParts
+pub mod OutcomeText

@@ -1,0 +1,77 @@
+-- The one text of an outcome.
+use Rattle.std.specs.Prelude.{ℕ, ◌+◌, List, [], ◌∷◌, ◌++◌, length, map, codes, decimal, Option, None, Some}
+use Rattle.std.specs.List.{flat_map, range_with_len}
+use Rattle.partial_model.specs.declared.history.Applied.{Applied}
+use Rattle.partial_model.specs.declared.history.Opening.{Opening}
+use Rattle.partial_model.specs.declared.call.Refused.{Refused}
+use Rattle.partial_model.specs.declared.call.Refused.TheVariants as refused
+use Rattle.partial_model.specs.declared.call.Answer.{Answer}
+use Rattle.partial_model.specs.declared.call.Answer.TheVariants as answer
+use Rattle.partial_model.specs.declared.call.Note.{Note}
+use Rattle.partial_model.specs.declared.call.Finish.{Finish}
+use Rattle.partial_model.specs.declared.call.Called.{Called}
+use Rattle.partial_model.specs.History.{value_of}
+use Rattle.partial_model.specs.Notes.{place_of}
+use Rattle.partial_text.specs.PlanText.{number_field}
+
+-- an entry of the history at its place
+abbrev pub entry_line : ℕ → Applied → List ℕ
+entry_line place e =
+    codes "applied" ++ number_field place ++ codes " port" ++ number_field e.port ++ codes " component" ++ number_field e.component ++ codes " value" ++ number_field e.value ++ codes " stamp" ++ number_field e.stamp ++ 10 ∷ []
+
+-- the entries of a history, of which the first has this place
+abbrev pub entry_lines : ℕ → List Applied → List ℕ
+entry_lines place [] = []
+entry_lines place (e ∷ h) = entry_line place e ++ entry_lines (place + 1) h
+
+-- a number behind a space, and a dash where there is none
+abbrev pub optional_field : Option ℕ → List ℕ
+optional_field None = codes " -"
+optional_field (Some n) = number_field n
+
+-- the number of a refusal
+abbrev pub refusal_of : Refused → ℕ
+refusal_of refused.Component = 7
+refusal_of refused.SlotsSpent = 8
+refusal_of refused.PoolSpent = 9
+
+-- the place or the prefix that a note tells, and 0 where there is no note
+abbrev pub told_place : Option Note → ℕ
+told_place None = 0
+told_place (Some note) = place_of note
+
+-- an answer with its place or prefix
+abbrev pub answer_text : Answer → ℕ → List ℕ
+answer_text (answer.Applied t) k = codes " applied" ++ number_field t ++ codes " place" ++ number_field k
+answer_text (answer.Lost t) k = codes " lost" ++ number_field t ++ codes " place" ++ number_field k
+answer_text (answer.Scanned vs c b) k =
+    codes " scanned" ++ flat_map number_field vs ++ codes " prefix" ++ number_field k ++ codes " collects" ++ number_field c ++ codes " borrowed" ++ optional_field b
+answer_text (answer.Read v t) k = codes " read" ++ number_field v ++ number_field t ++ codes " prefix" ++ number_field k
+answer_text (answer.Refused r) k = codes " refused" ++ number_field (refusal_of r)
+answer_text (answer.Changed t) k = codes " changed" ++ number_field t ++ codes " prefix" ++ number_field k
+
+abbrev pub finish_text : Option Finish → List ℕ
+finish_text None = codes " unfinished"
+finish_text (Some f) = answer_text f.answer (told_place f.note)
+
+-- the length of the history when the call ended
+abbrev pub ended_of : Option Finish → Option ℕ
+ended_of None = None
+ended_of (Some f) = Some f.ended
+
+abbrev pub call_line : Called → List ℕ
+call_line c =
+    codes "call" ++ number_field c.port ++ number_field c.number ++ finish_text c.finish ++ codes " steps" ++ number_field c.steps ++ codes " span" ++ number_field c.began ++ optional_field (ended_of c.finish) ++ 10 ∷ []
+
+-- the values of the components after a history
+abbrev pub values_of : Opening → List Applied → List ℕ
+values_of o h = map (value_of o h) (range_with_len 0 (length o.values))
+
+abbrev pub values_line : List ℕ → List ℕ
+values_line vs = codes "values" ++ flat_map number_field vs ++ 10 ∷ []
+
+abbrev pub total_line : ℕ → List ℕ
+total_line steps = codes "total" ++ number_field steps ++ 10 ∷ []
+
+abbrev pub outcome_text : Opening → List Applied → List Called → ℕ → List ℕ
+outcome_text o h calls steps = entry_lines 0 h ++ flat_map call_line calls ++ values_line (values_of o h) ++ total_line steps

@@ -1,0 +1,82 @@
+-- What a plan is, and its one text.
+use Rattle.std.specs.Prelude.{ℕ, ◌≡◌, ◌+◌, ◌<◌, ◌≤◌, ◌^◌, List, [], ◌∷◌, ◌++◌, length, map, Bool, true, false, codes, decimal, if◌then◌else◌}
+use Rattle.std.specs.List.{flat_map, AllByRecursion}
+use Rattle.partial_model.specs.declared.call.Call.{Call}
+use Rattle.partial_model.specs.declared.call.Call.TheVariants as call
+use Rattle.partial_words.specs.Layout.{Layout, IsLayout}
+
+-- a plan: the sizes, the value of each component, the calls of each port, the turns, and whether the rest runs behind them
+pub record PlanView : Type 0 where
+  pub sizes : Layout
+  pub initial : List ℕ
+  pub ports : List (List Call)
+  pub steps : List (ℕ × ℕ)
+  pub rest : Bool
+
+-- a field behind one space
+abbrev pub field : List ℕ → List ℕ
+field f = 32 ∷ f
+
+-- a number behind one space
+abbrev pub number_field : ℕ → List ℕ
+number_field n = 32 ∷ decimal n
+
+abbrev pub sizes_line : Layout → List ℕ
+sizes_line s = codes "sizes" ++ flat_map number_field (s.m ∷ s.slots ∷ s.lists ∷ s.pool ∷ [])
+
+abbrev pub initial_line : List ℕ → List ℕ
+initial_line values = codes "initial" ++ flat_map number_field values
+
+abbrev pub call_text : Call → List ℕ
+call_text (call.Update j v) = codes "update" ++ flat_map number_field (j ∷ v ∷ [])
+call_text (call.Scan js) = codes "scan" ++ flat_map number_field js
+call_text (call.Read j) = codes "read" ++ flat_map number_field (j ∷ [])
+call_text (call.UpdateIf j s v) = codes "updateif" ++ flat_map number_field (j ∷ s ∷ v ∷ [])
+
+-- a further call of a port: it stands behind a semicolon and a space
+abbrev pub next_call : Call → List ℕ
+next_call c = 59 ∷ 32 ∷ call_text c
+
+abbrev pub port_line : List Call → List ℕ
+port_line [] = codes "port"
+port_line (c ∷ cs) = codes "port" ++ field (call_text c) ++ flat_map next_call cs
+
+-- turns of a port: its number, an asterisk, and how many
+abbrev pub entry_text : ℕ × ℕ → List ℕ
+entry_text e = decimal e.0 ++ 42 ∷ decimal e.1
+
+abbrev pub rest_text : Bool → List ℕ
+rest_text true = field (codes "rest")
+rest_text false = []
+
+abbrev pub steps_line : List (ℕ × ℕ) → Bool → List ℕ
+steps_line es rest = codes "steps" ++ flat_map (λ e. field (entry_text e)) es ++ rest_text rest
+
+-- a line, ended by its newline
+abbrev pub ended : List ℕ → List ℕ
+ended l = l ++ 10 ∷ []
+
+abbrev pub plan_text : PlanView → List ℕ
+plan_text p = ended (sizes_line p.sizes) ++ ended (initial_line p.initial) ++ flat_map (λ cs. ended (port_line cs)) p.ports ++ ended (steps_line p.steps p.rest)
+
+-- a call that may stand in a plan of m components; an index beyond them is refused when the call is made
+abbrev pub IsCall : ℕ → Call → Type 0
+IsCall m (call.Update j v) = (j < 2 ^ 32) × (v < 2 ^ 64)
+IsCall m (call.Scan js) = ⊥
+IsCall m (call.Read j) = j < 2 ^ 32
+IsCall m (call.UpdateIf j s v) = (j < 2 ^ 32) × (s < 2 ^ 64) × (v < 2 ^ 64)
+
+-- at least one turn of a port of the plan
+abbrev pub IsEntry : ℕ → ℕ × ℕ → Type 0
+IsEntry ports e = (e.0 < ports) × (1 ≤ e.1) × (e.1 < 2 ^ 32)
+
+-- all that a plan text asks for
+pub record IsPlan (p : PlanView) : Type 0 where
+  pub sizes : IsLayout p.sizes
+  pub initial : length p.initial ≡ p.sizes.m
+  pub values : AllByRecursion (λ v. v < 2 ^ 64) p.initial
+  pub some_port : 1 ≤ length p.ports
+  pub few_ports : length p.ports ≤ 64
+  pub calls : AllByRecursion (λ cs. AllByRecursion (IsCall p.sizes.m) cs) p.ports
+  pub steps : AllByRecursion (IsEntry (length p.ports)) p.steps
+  pub short : length (plan_text p) ≤ 4194304

@@ -1,0 +1,6 @@
+-- What judging gives, without where it lies in memory.
+use Rattle.partial_text.specs.declared.lines.Tail.{Tail}
+use Rattle.partial_text.specs.Judging as judging
+
+abbrev pub seen_tail : Tail → judging.Tail
+seen_tail t = record { ports = t.ports.items; steps = t.steps.items; rest = t.rest }

@@ -1,0 +1,6 @@
+-- What reading gives, without where it lies in memory.
+use Rattle.partial_text.specs.declared.plan.Parts.{Parts}
+use Rattle.partial_text.specs.PlanText.{PlanView}
+
+abbrev pub seen_parts : Parts → PlanView
+seen_parts p = record { sizes = p.sizes; initial = p.initial.items; ports = p.ports.items; steps = p.steps.items; rest = p.rest }

@@ -1,0 +1,120 @@
+//! The calls of a port line.
+
+ghost use Rattle.std.specs.Prelude.{◌≡◌, ◌≤◌, ◌∷◌, [], length};
+ghost use Rattle.partial_text.specs.Fault.{Gives};
+ghost use Rattle.partial_text.specs.Pieces.{pieces_behind};
+ghost use Rattle.partial_text.specs.Judging.{update_from, read_from, update_if_from, call_at, calls_at, is_cut, call_texts, call_texts_behind, port_at};
+
+use crate::fault::{Cause, PlanError};
+use crate::fields::{fault, index_field, one_field, three_fields, two_fields, value_field};
+use crate::pieces::split_before;
+use partial_model::Call;
+use std::alloc::Global;
+
+#[tactic(auto, unfolding(crate::specs::Judging::update_from))]
+fn update(line: u32, fields: &[u8]) -> Result<Call, PlanError>
+    ensures { Gives (λ call. call) result (update_from line (pieces_behind 32 fields.now)) }
+{
+    let Some((component, value)) = two_fields(fields) else {
+        return Err(fault(line, Cause::Count));
+    };
+    let component = index_field(line, component)?;
+    let value = value_field(line, value)?;
+    Ok(Call::Update { component, value })
+}
+
+#[tactic(auto, unfolding(crate::specs::Judging::read_from))]
+fn read(line: u32, fields: &[u8]) -> Result<Call, PlanError>
+    ensures { Gives (λ call. call) result (read_from line (pieces_behind 32 fields.now)) }
+{
+    let Some(component) = one_field(fields) else {
+        return Err(fault(line, Cause::Count));
+    };
+    let component = index_field(line, component)?;
+    Ok(Call::Read { component })
+}
+
+#[tactic(auto, unfolding(crate::specs::Judging::update_if_from))]
+fn update_if(line: u32, fields: &[u8]) -> Result<Call, PlanError>
+    ensures { Gives (λ call. call) result (update_if_from line (pieces_behind 32 fields.now)) }
+{
+    let Some((component, expected, value)) = three_fields(fields) else {
+        return Err(fault(line, Cause::Count));
+    };
+    let component = index_field(line, component)?;
+    let expected = value_field(line, expected)?;
+    let value = value_field(line, value)?;
+    Ok(Call::UpdateIf {
+        component,
+        expected,
+        value,
+    })
+}
+
+/// The call that a text is.
+#[tactic(auto, unfolding(crate::specs::Judging::call_at))]
+fn call_of(line: u32, text: &[u8]) -> Result<Call, PlanError>
+    ensures { Gives (λ call. call) result (call_at line text.now) }
+{
+    let (word, fields) = split_before(text, b' ');
+    if word == b"update".as_slice() {
+        update(line, fields)
+    } else if word == b"read".as_slice() {
+        read(line, fields)
+    } else if word == b"updateif".as_slice() {
+        update_if(line, fields)
+    } else {
+        Err(fault(line, Cause::Word))
+    }
+}
+
+/// Whether a semicolon and a space stand at the front.
+fn is_cut(text: &[u8]) -> bool
+    ensures { result ≡ is_cut text.now }
+{
+    match text {
+        [first, second, ..] => *first == b';' && *second == b' ',
+        _ => false,
+    }
+}
+
+/// The text before the first semicolon that a space follows, and from it on.
+#[tactic(auto, using(crate::proofs::CallCuts::with_front_nil, crate::proofs::CallCuts::texts_here, crate::proofs::CallCuts::texts_more, crate::proofs::CallCuts::texts_end))]
+fn split_call(text: &[u8]) -> (&[u8], &[u8])
+    ensures shorter { length result.1.now ≤ length text.now }
+    ensures split { call_texts text.now ≡ result.0.now ∷ call_texts_behind result.1.now }
+{
+    for index in 0..text.len() {
+        if is_cut(&text[index..]) {
+            return text.split_at(index);
+        }
+    }
+    (text, &[])
+}
+
+/// The calls that the texts between one semicolon with a space and the next are.
+#[tactic(auto, unfolding(crate::specs::Judging::calls_at), using(crate::proofs::CallCuts::behind_cut, crate::proofs::CallCuts::no_cut))]
+fn calls_of(alloc: Global, line: u32, text: &[u8]) -> Result<Vec<Call>, PlanError>
+    ensures { Gives (λ v. v.items) result (calls_at line [] (call_texts text.now)) }
+{
+    let mut calls = Vec::new(alloc);
+    let (mut first, mut rest) = split_call(text);
+    loop {
+        calls.push(call_of(line, first)?)?;
+        let [_, _, behind @ ..] = rest else {
+            return Ok(calls);
+        };
+        (first, rest) = split_call(behind);
+    }
+}
+
+/// The calls of a port line, of which these are the bytes behind its word.
+#[tactic(auto, unfolding(crate::specs::Judging::port_at))]
+pub(crate) fn port_calls(alloc: Global, line: u32, behind: &[u8]) -> Result<Vec<Call>, PlanError>
+    ensures { Gives (λ v. v.items) result (port_at line behind.now) }
+{
+    match behind {
+        [] => Ok(Vec::new(alloc)),
+        [_, text @ ..] => calls_of(alloc, line, text),
+    }
+}

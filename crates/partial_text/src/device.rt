@@ -1,0 +1,85 @@
+//! A reader or a writer that remembers whether it has failed.
+
+ghost use Rattle.std.specs.Prelude.{◌≡◌, ℕ, ◌≤◌, ◌<◌, true, false, length, take, Some, None, IfSome, IfNone, IsNone, MatchOption};
+ghost use Rattle.std.specs.Io.KnownBytes.{Keeps, Appends, Consumes, IsAtEnd};
+
+use std::io::{Read, Write};
+use std::marker::Model;
+
+/// A reader or a writer, and whether a call of it has failed.
+#[derive(Drop)]
+pub struct Device<D> {
+    inner: D,
+    failed: bool,
+}
+
+impl<D> Model for Device<D> {
+    ghost use Rattle.partial_text.specs.DeviceView.{DeviceView};
+
+    ghost Value = { DeviceView D };
+
+    ghost view = { λ d. record { inner = d.inner; failed = d.failed } };
+}
+
+impl<D> Device<D> {
+    /// Wraps a reader or a writer, of which no call has failed yet.
+    pub fn new(inner: D) -> Device<D>
+        ensures { result ≡ record { inner = inner; failed = false } }
+    {
+        Device {
+            inner,
+            failed: false,
+        }
+    }
+
+    /// Whether a read or a write of the inner device has failed, or a write has taken 0 bytes.
+    pub fn failed(&self) -> bool
+        ensures { result ≡ self.now.failed }
+    {
+        self.failed
+    }
+
+    /// Hands the inner device back.
+    pub fn into_inner(self) -> D
+        ensures { result ≡ self.inner }
+    {
+        self.inner
+    }
+}
+
+impl<R: Read> Device<R> {
+    /// Reads some bytes and says how many: none only at the end. None where the read fails.
+    pub(crate) fn read(&mut self, buffer: &mut [u8]) -> Option<usize>
+        requires { 0 < length buffer.old }
+        ensures bytes { MatchOption result (self.new.failed ≡ true)
+            (λ n. (n ≤ length buffer.new) × (self.new.failed ≡ self.old.failed)
+            × Consumes (R.remaining self.old.inner) (R.remaining self.new.inner) (take n buffer.new)
+            × (n ≡ 0 → IsAtEnd (R.remaining self.new.inner))) }
+    {
+        match self.inner.read(buffer) {
+            Ok(count) => Some(count),
+            Err(_) => {
+                self.failed = true;
+                None
+            }
+        }
+    }
+}
+
+impl<W: Write> Device<W> {
+    /// Writes some bytes from the front and says how many. None where the write fails or takes 0 bytes.
+    pub(crate) fn write(&mut self, bytes: &[u8]) -> Option<usize>
+        ensures bytes { MatchOption result
+            ((self.new.failed ≡ true) × Keeps (W.contents self.old.inner) (W.contents self.new.inner))
+            (λ n. (0 < n) × (n ≤ length bytes.now) × (self.new.failed ≡ self.old.failed)
+            × Appends (W.contents self.old.inner) (W.contents self.new.inner) (take n bytes.now)) }
+    {
+        match self.inner.write(bytes) {
+            Ok(count) if 0 < count => Some(count),
+            _ => {
+                self.failed = true;
+                None
+            }
+        }
+    }
+}

@@ -1,0 +1,139 @@
+//! Why a plan or an outcome was refused.
+
+ghost use Rattle.std.specs.Prelude.{◌≡◌};
+
+use partial_words::SizeError;
+use std::alloc::{AllocError, AllocFailed};
+use thiserror::Error;
+
+/// What is wrong with a line of a plan text.
+#[derive(Clone, Copy, Debug, PartialEq, Eq, Error)]
+pub enum Cause {
+    /// The text is longer than 4,194,304 bytes. The line is 0.
+    #[error("size")]
+    Size,
+    /// The line isn't there, or no newline ends it.
+    #[error("end")]
+    End,
+    /// The first field of the line or of a call isn't one that may stand there.
+    #[error("word")]
+    Word,
+    /// The line or a call has too few or too many fields.
+    #[error("count")]
+    Count,
+    /// A field isn't the number or the entry that it has to be, or is too large.
+    #[error("number")]
+    Number,
+    /// The port of an entry isn't in the plan, or its count is 0.
+    #[error("range")]
+    Range,
+    /// Something stands behind the last line.
+    #[error("extra")]
+    Extra,
+}
+
+/// Why a plan wasn't read. Nothing is left of it, and the reader has given what it was asked for.
+#[derive(Clone, Copy, Debug, PartialEq, Eq, Error)]
+pub enum PlanError {
+    /// A size is out of its range.
+    #[error("{0}")]
+    Size(SizeError),
+    /// There are 1 to 64 ports.
+    #[error("ports out of range")]
+    Ports,
+    /// A growth was refused.
+    #[error("out of memory")]
+    Memory,
+    /// The line, counted from 1, isn't one that may stand there.
+    #[error("line {line}: {cause}")]
+    Line { line: u32, cause: Cause },
+    /// The reader failed.
+    #[error("read fault")]
+    Read,
+}
+
+impl PlanError {
+    ghost use Rattle.partial_text.specs.Fault.{code_of, line_of};
+
+    /// The number of the refusal: 1 to 4 for the sizes, 5 for the ports, 6 for memory, 10 for a line,
+    /// 11 for the reader.
+    pub fn code(&self) -> u8
+        ensures { result ≡ code_of self.now }
+    {
+        match self {
+            PlanError::Size(error) => error.code(),
+            PlanError::Ports => 5,
+            PlanError::Memory => 6,
+            PlanError::Line { .. } => 10,
+            PlanError::Read => 11,
+        }
+    }
+
+    /// The line, counted from 1, and what is wrong with it. None where no line is to blame.
+    pub fn at(&self) -> Option<(u32, Cause)>
+        ensures { result ≡ line_of self.now }
+    {
+        match self {
+            PlanError::Line { line, cause } => Some((*line, *cause)),
+            _ => None,
+        }
+    }
+}
+
+impl From<AllocError> for PlanError {
+    ghost use Rattle.std.specs.Prelude.{◌≡◌};
+    ghost use Rattle.partial_text.specs.declared.fault.PlanError.TheVariants.{Memory};
+
+    ghost from_gives = { λ _ e. e ≡ Memory };
+
+    fn from(_error: AllocError) -> PlanError {
+        PlanError::Memory
+    }
+}
+
+impl<T: Drop> From<AllocFailed<T>> for PlanError {
+    ghost use Rattle.std.specs.Prelude.{◌≡◌};
+    ghost use Rattle.partial_text.specs.declared.fault.PlanError.TheVariants.{Memory};
+
+    ghost from_gives = { λ _ e. e ≡ Memory };
+
+    fn from(_error: AllocFailed<T>) -> PlanError {
+        PlanError::Memory
+    }
+}
+
+/// Why an outcome wasn't written whole.
+#[derive(Clone, Copy, Debug, PartialEq, Eq, Error)]
+pub enum OutcomeError {
+    /// A growth was refused. Nothing was written.
+    #[error("out of memory")]
+    Memory,
+    /// The writer failed or took no byte. A part of the text from its front was written.
+    #[error("write fault")]
+    Write,
+}
+
+impl OutcomeError {
+    ghost use Rattle.partial_text.specs.Fault.{outcome_code_of};
+
+    /// The number of the refusal: 6 for memory, 12 for the writer.
+    pub fn code(&self) -> u8
+        ensures { result ≡ outcome_code_of self.now }
+    {
+        match self {
+            OutcomeError::Memory => 6,
+            OutcomeError::Write => 12,
+        }
+    }
+}
+
+impl From<AllocError> for OutcomeError {
+    ghost use Rattle.std.specs.Prelude.{◌≡◌};
+    ghost use Rattle.partial_text.specs.declared.fault.OutcomeError.TheVariants.{Memory};
+
+    ghost from_gives = { λ _ e. e ≡ Memory };
+
+    fn from(_error: AllocError) -> OutcomeError {
+        OutcomeError::Memory
+    }
+}

@@ -1,0 +1,22 @@
+//! The plan text and the outcome text: each is read or written exactly.
+#![tactic(auto)]
+
+mod calls;
+mod device;
+mod fault;
+mod fields;
+mod lines;
+mod number;
+mod outcome;
+mod outcome_text;
+mod pieces;
+mod plan;
+mod reading;
+mod turns;
+mod writing;
+
+pub use device::Device;
+pub use fault::{Cause, OutcomeError, PlanError};
+pub use outcome::Outcome;
+pub use plan::Plan;
+pub use writing::{write_outcome, write_text};

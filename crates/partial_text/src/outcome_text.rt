@@ -1,0 +1,234 @@
+//! The text of an outcome.
+
+ghost use Rattle.std.specs.Prelude.{◌≡◌, ◌++◌, ◌∷◌, [], List, ℕ, decimal, codes, OnOk, IfOk};
+ghost use Rattle.std.specs.List.{flat_map};
+ghost use Rattle.partial_text.specs.PlanText.{number_field};
+ghost use Rattle.partial_text.specs.OutcomeText.{entry_line, entry_lines, optional_field, refusal_of, told_place, answer_text, finish_text, ended_of, call_line, values_of, values_line, total_line, outcome_text};
+
+use crate::outcome::Outcome;
+use itoa::Buffer;
+use partial_model::{Answer, Applied, Called, Finish, Note, Opening, Refused};
+use std::alloc::{AllocError, Global};
+
+/// Writes a space and the number.
+pub fn push_number(text: &mut Vec<u8>, number: u64) -> Result<(), AllocError>
+    ensures { OnOk result (text.new.items ≡ text.old.items ++ number_field number) }
+{
+    text.push(b' ')?;
+    text.extend_from_slice(Buffer::new().format(number).as_bytes())
+}
+
+/// Writes each number behind a space.
+pub fn push_numbers(text: &mut Vec<u8>, numbers: &[u64]) -> Result<(), AllocError>
+    ensures { OnOk result (text.new.items ≡ text.old.items ++ flat_map number_field numbers.now) }
+{
+    for number in numbers {
+        push_number(text, *number)?;
+    }
+    Ok(())
+}
+
+/// Writes a space and the number, or a dash where there is none.
+pub fn push_optional(text: &mut Vec<u8>, number: Option<u64>) -> Result<(), AllocError>
+    ensures { OnOk result (text.new.items ≡ text.old.items ++ optional_field number) }
+{
+    match number {
+        None => text.extend_from_slice(b" -"),
+        Some(number) => push_number(text, number),
+    }
+}
+
+fn push_entry(text: &mut Vec<u8>, place: usize, entry: &Applied) -> Result<(), AllocError>
+    ensures { OnOk result (text.new.items ≡ text.old.items ++ entry_line place entry.now) }
+{
+    text.extend_from_slice(b"applied")?;
+    push_number(text, place as u64)?;
+    text.extend_from_slice(b" port")?;
+    push_number(text, u64::from(entry.port))?;
+    text.extend_from_slice(b" component")?;
+    push_number(text, u64::from(entry.component))?;
+    text.extend_from_slice(b" value")?;
+    push_number(text, entry.value)?;
+    text.extend_from_slice(b" stamp")?;
+    push_number(text, entry.stamp)?;
+    text.push(b'\n')?;
+    Ok(())
+}
+
+/// The number of a call's refusal: 7 for an index, 8 for the slots, 9 for the pool.
+pub fn refusal(cause: Refused) -> u8
+    ensures { result ≡ refusal_of cause }
+{
+    match cause {
+        Refused::Component => 7,
+        Refused::SlotsSpent => 8,
+        Refused::PoolSpent => 9,
+    }
+}
+
+fn place(note: Option<Note>) -> usize
+    ensures { result ≡ told_place note }
+{
+    match note {
+        None => 0,
+        Some(Note::Wrote(place)) => place,
+        Some(Note::Lost(place)) => place,
+        Some(Note::Saw(prefix)) => prefix,
+    }
+}
+
+fn push_scanned(
+    text: &mut Vec<u8>,
+    values: &[u64],
+    collects: u32,
+    borrowed: Option<u64>,
+    prefix: usize,
+) -> Result<(), AllocError>
+    ensures { OnOk result (text.new.items
+        ≡ text.old.items ++ answer_text (Answer.Scanned values.now collects borrowed) prefix) }
+{
+    text.extend_from_slice(b" scanned")?;
+    push_numbers(text, values)?;
+    text.extend_from_slice(b" prefix")?;
+    push_number(text, prefix as u64)?;
+    text.extend_from_slice(b" collects")?;
+    push_number(text, u64::from(collects))?;
+    text.extend_from_slice(b" borrowed")?;
+    push_optional(text, borrowed)
+}
+
+fn push_stamp(text: &mut Vec<u8>, word: &[u8], stamp: u64) -> Result<(), AllocError>
+    ensures { OnOk result (text.new.items ≡ text.old.items ++ word.now ++ number_field stamp) }
+{
+    text.extend_from_slice(word)?;
+    push_number(text, stamp)
+}
+
+fn push_answer(text: &mut Vec<u8>, answer: &Answer, place: usize) -> Result<(), AllocError>
+    ensures { OnOk result (text.new.items ≡ text.old.items ++ answer_text answer.now place) }
+{
+    match answer {
+        Answer::Applied { stamp } => {
+            push_stamp(text, b" applied", *stamp)?;
+            push_stamp(text, b" place", place as u64)
+        }
+        Answer::Lost { by } => {
+            push_stamp(text, b" lost", *by)?;
+            push_stamp(text, b" place", place as u64)
+        }
+        Answer::Scanned {
+            values,
+            collects,
+            borrowed,
+        } => push_scanned(text, values.as_slice(), *collects, *borrowed, place),
+        Answer::Read { value, stamp } => {
+            push_stamp(text, b" read", *value)?;
+            push_number(text, *stamp)?;
+            push_stamp(text, b" prefix", place as u64)
+        }
+        Answer::Refused { cause } => push_stamp(text, b" refused", u64::from(refusal(*cause))),
+        Answer::Changed { by } => {
+            push_stamp(text, b" changed", *by)?;
+            push_stamp(text, b" prefix", place as u64)
+        }
+    }
+}
+
+fn push_finish(text: &mut Vec<u8>, finish: &Option<Finish>) -> Result<(), AllocError>
+    ensures { OnOk result (text.new.items ≡ text.old.items ++ finish_text finish.now) }
+{
+    match finish {
+        None => text.extend_from_slice(b" unfinished"),
+        Some(finish) => push_answer(text, &finish.answer, place(finish.note)),
+    }
+}
+
+fn ended(finish: &Option<Finish>) -> Option<u64>
+    ensures { result ≡ ended_of finish.now }
+{
+    match finish {
+        None => None,
+        Some(finish) => Some(finish.ended as u64),
+    }
+}
+
+fn push_call(text: &mut Vec<u8>, called: &Called) -> Result<(), AllocError>
+    ensures { OnOk result (text.new.items ≡ text.old.items ++ call_line called.now) }
+{
+    text.extend_from_slice(b"call")?;
+    push_number(text, u64::from(called.port))?;
+    push_number(text, u64::from(called.number))?;
+    push_finish(text, &called.finish)?;
+    push_stamp(text, b" steps", called.steps)?;
+    push_stamp(text, b" span", called.began as u64)?;
+    push_optional(text, ended(&called.finish))?;
+    text.push(b'\n')?;
+    Ok(())
+}
+
+fn push_entries(text: &mut Vec<u8>, history: &[Applied]) -> Result<(), AllocError>
+    ensures { OnOk result (text.new.items ≡ text.old.items ++ entry_lines 0 history.now) }
+{
+    for (place, entry) in history.iter().enumerate() {
+        push_entry(text, place, entry)?;
+    }
+    Ok(())
+}
+
+fn push_calls(text: &mut Vec<u8>, calls: &[Called]) -> Result<(), AllocError>
+    ensures { OnOk result (text.new.items ≡ text.old.items ++ flat_map call_line calls.now) }
+{
+    for called in calls {
+        push_call(text, called)?;
+    }
+    Ok(())
+}
+
+/// The values of the components after the history.
+fn final_values(
+    alloc: Global,
+    opening: &Opening,
+    history: &[Applied],
+) -> Result<Vec<u64>, AllocError>
+    ensures { IfOk result (λ v. v.items ≡ values_of opening.now history.now) }
+{
+    let mut values = Vec::from_slice(alloc, opening.values.as_slice())?;
+    for entry in history {
+        if let Some(value) = values.get_mut(entry.component as usize) {
+            *value = entry.value;
+        }
+    }
+    Ok(values)
+}
+
+/// Writes the line of the values.
+pub fn push_values(text: &mut Vec<u8>, values: &[u64]) -> Result<(), AllocError>
+    ensures { OnOk result (text.new.items ≡ text.old.items ++ values_line values.now) }
+{
+    text.extend_from_slice(b"values")?;
+    push_numbers(text, values)?;
+    text.push(b'\n')?;
+    Ok(())
+}
+
+fn push_total(text: &mut Vec<u8>, steps: u64) -> Result<(), AllocError>
+    ensures { OnOk result (text.new.items ≡ text.old.items ++ total_line steps) }
+{
+    push_stamp(text, b"total", steps)?;
+    text.push(b'\n')?;
+    Ok(())
+}
+
+/// The text of an outcome.
+pub(crate) fn text_of(alloc: Global, outcome: &Outcome) -> Result<Vec<u8>, AllocError>
+    ensures { IfOk result (λ v. v.items ≡ outcome_text outcome.now.opening
+        outcome.now.history.items outcome.now.calls.items outcome.now.steps) }
+{
+    let mut text = Vec::new(alloc);
+    push_entries(&mut text, &outcome.history)?;
+    push_calls(&mut text, &outcome.calls)?;
+    let values = final_values(alloc, &outcome.opening, &outcome.history)?;
+    push_values(&mut text, &values)?;
+    push_total(&mut text, outcome.steps)?;
+    Ok(text)
+}

@@ -1,0 +1,63 @@
+//! Writing an outcome.
+
+ghost use Rattle.std.specs.Prelude.{◌≡◌, ◌≤◌, ◌↔◌, ℕ, ◌++◌, true, false, length, take, OnOk, OnErr, IfOk, IsErrOf};
+ghost use Rattle.partial_text.specs.OutcomeText.{outcome_text};
+ghost use Rattle.std.specs.Io.KnownBytes.{Appends};
+
+use crate::device::Device;
+use crate::fault::OutcomeError;
+use crate::outcome::Outcome;
+use crate::outcome_text::text_of;
+use std::alloc::Global;
+use std::io::Write;
+
+/// Writes the text, by as many writes as it takes.
+///
+/// # Errors
+///
+/// `Write` where a write fails or takes 0 bytes: a part of the text from its front is then written.
+pub fn write_text<W: Write>(text: &[u8], writer: &mut Device<W>) -> Result<(), OutcomeError>
+    requires { writer.old.failed ≡ false }
+    ensures ok { OnOk result
+        (Appends (W.contents writer.old.inner) (W.contents writer.new.inner) text.now) }
+    ensures part { OnErr result ((n : ℕ)
+        × Appends (W.contents writer.old.inner) (W.contents writer.new.inner) (take n text.now)) }
+    ensures fault { IsErrOf result OutcomeError.Write ↔ (writer.new.failed ≡ true) }
+    ensures memory { IsErrOf result OutcomeError.Memory → ⊥ }
+{
+    let mut rest = text;
+    while !rest.is_empty() {
+        let Some(count) = writer.write(rest) else {
+            return Err(OutcomeError::Write);
+        };
+        rest = &rest[count..];
+    }
+    Ok(())
+}
+
+/// Writes the text of an outcome: its history, its calls with their answers, places and spans, the
+/// values of the components after the history, and the number of steps.
+///
+/// # Errors
+///
+/// `Memory` where a growth was refused: nothing is written then. `Write` where a write fails or takes
+/// 0 bytes: a part of the text from its front is then written.
+pub fn write_outcome<W: Write>(
+    alloc: Global,
+    outcome: &Outcome,
+    writer: &mut Device<W>,
+) -> Result<(), OutcomeError>
+    requires { writer.old.failed ≡ false }
+    ensures ok { OnOk result (Appends (W.contents writer.old.inner) (W.contents writer.new.inner)
+        (outcome_text outcome.now.opening outcome.now.history.items outcome.now.calls.items
+        outcome.now.steps)) }
+    ensures part { OnErr result ((n : ℕ)
+        × Appends (W.contents writer.old.inner) (W.contents writer.new.inner)
+        (take n (outcome_text outcome.now.opening outcome.now.history.items
+        outcome.now.calls.items outcome.now.steps))) }
+    ensures fault { IsErrOf result OutcomeError.Write ↔ (writer.new.failed ≡ true) }
+    ensures memory { IsErrOf result OutcomeError.Memory → writer.new ≡ writer.old }
+{
+    let text = text_of(alloc, outcome)?;
+    write_text(&text, writer)
+}

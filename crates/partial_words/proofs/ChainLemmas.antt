@@ -1,0 +1,111 @@
+-- Chains of records: what a step elsewhere leaves of them, what one entry more adds, and what they hold.
+use Rattle.std.proofs.Common.{ℕ, zero, suc, ◌≡◌, ◌≢◌, ◌+◌, ◌<◌, ◌==◌, ◌++◌, ◌⊎◌, Bool, true, false, cond, List, [], ◌∷◌, length, take, get_or, set, refl, sym, ◌∙◌, ap, subst, inl, inr, Option, Some, None, get_or-set_other}
+use Rattle.std.specs.List.{AllByRecursion}
+use Rattle.std.specs.Option.{option_map_or}
+use Rattle.partial_model.specs.declared.history.Applied.{Applied}
+use Rattle.partial_model.specs.declared.history.Opening.{Opening}
+use Rattle.partial_model.specs.History.{last_from, initial_stamp, stamp_of, value_of as value_after}
+use Rattle.partial_words.specs.Record.{prev_of, value_of}
+use Rattle.partial_words.specs.Chain.{Link, IsChain, links_from, chain_of, Agrees}
+
+-- the step to another word leaves the record
+pub record IsElsewhere (w : ℕ) (stamp : ℕ) : Type 0 where
+  pub prev : stamp ≢ w
+  pub value : stamp + 1 ≢ w
+
+prev_kept : (words : List ℕ) (w v at : ℕ) → IsElsewhere w at → prev_of (set words w v) at ≡ prev_of words at
+prev_kept words w v at e = get_or-set_other words w at v 0 e.prev
+
+value_kept : (words : List ℕ) (w v at : ℕ) → IsElsewhere w at → value_of (set words w v) at ≡ value_of words at
+value_kept words w v at e = get_or-set_other words w (at + 1) v 0 e.value
+
+pub chain_kept : (words : List ℕ) (w v at : ℕ) (links : List Link) → AllByRecursion (λ l. IsElsewhere w l.stamp) links → IsChain words at links → IsChain (set words w v) at links
+chain_kept words w v at [] all c = c
+chain_kept words w v at (l ∷ []) all c =
+    let e : IsElsewhere w at = subst (IsElsewhere w) c.0 all.0 in
+    (c.0, value_kept words w v at e ∙ c.1, prev_kept words w v at e ∙ c.2)
+chain_kept words w v at (l ∷ k ∷ ls) all c =
+    let e : IsElsewhere w at = subst (IsElsewhere w) c.0 all.0 in
+    (c.0, value_kept words w v at e ∙ c.1, subst (λ n. IsChain (set words w v) n (k ∷ ls)) (sym (prev_kept words w v at e)) (chain_kept words w v (prev_of words at) (k ∷ ls) all.1 c.2))
+
+-- a record before a chain is a chain
+pub chain_cons : (words : List ℕ) (at prev : ℕ) (l : Link) (links : List Link) → l.stamp ≡ at → value_of words at ≡ l.value → prev_of words at ≡ prev → IsChain words prev links → IsChain words at (l ∷ links)
+chain_cons words at prev l [] stamp value before c = absurd c
+chain_cons words at prev l (k ∷ ls) stamp value before c = (stamp, value, subst (λ n. IsChain words n (k ∷ ls)) (sym before) c)
+
+-- the chain with one entry more
+pub links_from-push : (found : List Link) (j : ℕ) (h : List Applied) (e : Applied) → links_from found j (h ++ e ∷ []) ≡ cond (e.component == j) (record { stamp = e.stamp; value = e.value } ∷ links_from found j h) (links_from found j h)
+unfolding links_from
+links_from-push found j [] e = refl
+links_from-push found j (x ∷ h) e = links_from-push (cond (x.component == j) (record { stamp = x.stamp; value = x.value } ∷ found) found) j h e
+
+-- what holds of each entry's stamp and of the links before holds of each link
+links_all_step : (P : ℕ → Type 0) (found : List Link) (x : Applied) (b : Bool) → P x.stamp → AllByRecursion (λ l. P l.stamp) found → AllByRecursion (λ l. P l.stamp) (cond b (record { stamp = x.stamp; value = x.value } ∷ found) found)
+links_all_step P found x true p w = (p, w)
+links_all_step P found x false p w = w
+
+pub links_all : (P : ℕ → Type 0) (found : List Link) (j : ℕ) (h : List Applied) → AllByRecursion (λ (e : Applied). P e.stamp) h → AllByRecursion (λ (l : Link). P l.stamp) found → AllByRecursion (λ (l : Link). P l.stamp) (links_from found j h)
+unfolding links_from
+links_all P found j [] all w = w
+links_all P found j (x ∷ h) all w = links_all P (cond (x.component == j) (record { stamp = x.stamp; value = x.value } ∷ found) found) j h all.1 (links_all_step P found x (x.component == j) all.0 w)
+
+pub chain_all : (P : ℕ → Type 0) (o : Opening) (j : ℕ) (h : List Applied) → AllByRecursion (λ (e : Applied). P e.stamp) h → P (initial_stamp o j) → AllByRecursion (λ (l : Link). P l.stamp) (chain_of o j h)
+chain_all P o j h all first = links_all P (record { stamp = initial_stamp o j; value = get_or o.values j 0 } ∷ []) j h all (first, tt)
+
+-- the link is one of the links
+Among : Link → List Link → Type 0
+Among l [] = ⊥
+Among l (x ∷ xs) = (x ≡ l) ⊎ Among l xs
+
+among_step : (l : Link) (found : List Link) (x : Link) (b : Bool) → Among l found → Among l (cond b (x ∷ found) found)
+unfolding Among
+among_step l found x true w = inr w
+among_step l found x false w = w
+
+among_kept : (l : Link) (found : List Link) (j : ℕ) (h : List Applied) → Among l found → Among l (links_from found j h)
+unfolding links_from
+among_kept l found j [] w = w
+among_kept l found j (x ∷ h) w = among_kept l (cond (x.component == j) (record { stamp = x.stamp; value = x.value } ∷ found) found) j h (among_step l found (record { stamp = x.stamp; value = x.value }) (x.component == j) w)
+
+among_later : (l : Link) (found : List Link) (j : ℕ) (h : List Applied) (a : ℕ) → Among l (links_from found j (take a h)) → Among l (links_from found j h)
+unfolding links_from
+among_later l found j h zero w = among_kept l found j h w
+among_later l found j [] (suc a) w = w
+among_later l found j (x ∷ h) (suc a) w = among_later l (cond (x.component == j) (record { stamp = x.stamp; value = x.value } ∷ found) found) j h a w
+
+-- the newest link is the last entry's
+newest : Opening → ℕ → Option Applied → Link
+newest o j found = record { stamp = option_map_or (λ (e : Applied). e.stamp) found (initial_stamp o j); value = option_map_or (λ (e : Applied). e.value) found (get_or o.values j 0) }
+
+newest_step : (o : Opening) (j : ℕ) (found : Option Applied) (links : List Link) (x : Applied) (b : Bool) → ((ls : List Link) × (links ≡ newest o j found ∷ ls)) → (ls : List Link) × (cond b (record { stamp = x.stamp; value = x.value } ∷ links) links ≡ newest o j (cond b (Some x) found) ∷ ls)
+unfolding newest
+newest_step o j found links x true w = (links, refl)
+newest_step o j found links x false w = w
+
+newest_leads : (o : Opening) (j : ℕ) (h : List Applied) (found : Option Applied) (links : List Link) → ((ls : List Link) × (links ≡ newest o j found ∷ ls)) → (ls : List Link) × (links_from links j h ≡ newest o j (last_from found j h) ∷ ls)
+unfolding links_from last_from
+newest_leads o j [] found links w = w
+newest_leads o j (x ∷ h) found links w = newest_leads o j h (cond (x.component == j) (Some x) found) (cond (x.component == j) (record { stamp = x.stamp; value = x.value } ∷ links) links) (newest_step o j found links x (x.component == j) w)
+
+newest_first : (o : Opening) (j : ℕ) (h : List Applied) → (ls : List Link) × (chain_of o j h ≡ newest o j (last_from None j h) ∷ ls)
+unfolding newest
+newest_first o j h = newest_leads o j h None (record { stamp = initial_stamp o j; value = get_or o.values j 0 } ∷ []) ([], refl)
+
+newest_among : (o : Opening) (j : ℕ) (h : List Applied) → Among (newest o j (last_from None j h)) (chain_of o j h)
+unfolding Among
+newest_among o j h = let w = newest_first o j h in subst (Among (newest o j (last_from None j h))) (sym w.1) (inl refl)
+
+-- each link of a chain stands in the words
+link_stands : (words : List ℕ) (at : ℕ) (links : List Link) (l : Link) → IsChain words at links → Among l links → value_of words l.stamp ≡ l.value
+unfolding Among
+link_stands words at [] l c w = absurd w
+link_stands words at (k ∷ []) l c (inl same) = ap (λ (x : Link). value_of words x.stamp) (sym same) ∙ ap (value_of words) c.0 ∙ c.1 ∙ ap (λ (x : Link). x.value) same
+link_stands words at (k ∷ []) l c (inr w) = absurd w
+link_stands words at (k ∷ m ∷ ls) l c (inl same) = ap (λ (x : Link). value_of words x.stamp) (sym same) ∙ ap (value_of words) c.0 ∙ c.1 ∙ ap (λ (x : Link). x.value) same
+link_stands words at (k ∷ m ∷ ls) l c (inr w) = link_stands words (prev_of words at) (m ∷ ls) l c.2 w
+
+-- behind each stamp that a component has had stands the value that it had with it
+pub value_behind_stamp : (o : Opening) (words : List ℕ) (h : List Applied) (j a : ℕ) → Agrees o words h → j < length o.values → value_of words (stamp_of o (take a h) j) ≡ value_after o (take a h) j
+unfolding newest
+value_behind_stamp o words h j a agrees below =
+    link_stands words (get_or words j 0) (chain_of o j h) (newest o j (last_from None j (take a h))) (agrees j below).1 (among_later (newest o j (last_from None j (take a h))) (record { stamp = initial_stamp o j; value = get_or o.values j 0 } ∷ []) j h a (newest_among o j (take a h)))
