@@ -42,3 +42,24 @@ pub fn interval(words: &[u64], at: usize, k: usize) -> (u64, u64)
 pub fn lists_read_back()
     ensures { (words : List ℕ) (at : ℕ) (intervals : List (ℕ × ℕ)) → StandsAt words at (list_block intervals) → ReadsBackList words at intervals }
 {}
+
+#[cfg(test)]
+mod tests {
+    use super::*;
+    use std::test::Fail;
+
+    #[test]
+    fn list_words(rt: HostRuntime) -> Result<(), Fail> {
+        let mut intervals = Intervals::with_capacity(rt.alloc(), 2)?;
+        intervals.push_last(0, 1);
+        intervals.push_last(3, 4);
+        assert_eq!(rt; list_block_word(&intervals, 0), 2);
+        assert_eq!(rt; list_block_word(&intervals, 1), 0);
+        assert_eq!(rt; list_block_word(&intervals, 4), 4);
+        let words = [9, 2, 0, 1, 3, 4];
+        assert_eq!(rt; list_len(&words, 1), 2);
+        assert_eq!(rt; interval(&words, 1, 0), (0, 1));
+        assert_eq!(rt; interval(&words, 1, 1), (3, 4));
+        Ok(())
+    }
+}
