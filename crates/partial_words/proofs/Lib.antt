@@ -1,3 +1,4 @@
 pub mod RecordLemmas
 pub mod LayoutLemmas
+pub mod BlockLemmas
 pub mod ChainLemmas

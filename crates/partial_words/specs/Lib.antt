@@ -3,3 +3,5 @@ pub mod SizeFault
 pub mod Step
 pub mod Record
 pub mod Chain
+pub mod Announcement
+pub mod VacatedList

@@ -1,0 +1,7 @@
+mod Marks
+pub mod Extended
+pub mod Walk
+pub mod Answered
+pub mod Sizes
+pub mod Known
+pub mod Active

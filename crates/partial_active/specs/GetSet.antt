@@ -1,0 +1,172 @@
+-- A getSet: it reads the list of vacated slots, walks the other slots for announcements, and publishes
+-- the list with the slots that it found vacated.
+use Rattle.std.specs.Prelude.{ℕ, ◌+◌, ◌-◌, ◌*◌, ◌==◌, Bool, true, false, not, ◌&&◌, Option, Some, None, nat_lt, min, [], ◌∷◌, ◌++◌, length, slice_index, if◌then◌else◌}
+use Rattle.partial_intervals.specs.Intervals.{lowest, highest}
+use Rattle.partial_words.specs.declared.step.Step.{Step}
+use Rattle.partial_words.specs.declared.step.Step.TheVariants.{Load, Store, Exchange, Add}
+use Rattle.partial_words.specs.Layout.{Layout, slot_counter, list_head, list_counter, slot_word, list_end}
+use Rattle.partial_words.specs.VacatedList.{list_block}
+use Rattle.partial_active.specs.declared.get_set.Stage.{Stage}
+use Rattle.partial_active.specs.declared.get_set.Stage.TheVariants.{Head, ListLen, ListLow, ListHigh, Counter, Slot, Len, Index, Claim, Write, Publish, Done}
+use Rattle.partial_active.specs.IndexSet.{with_index}
+use Rattle.partial_active.specs.Found.{Buffers, begins_at, extended}
+
+-- the sizes, whether the port is marked for lists, and of the walk: the list head as it was loaded,
+-- the end of the slots, how many intervals lie behind it, and whether it noted a slot
+pub record GetSetState : Type 0 where
+  pub sizes : Layout
+  pub lists_spent : Bool
+  pub head : ℕ
+  pub end : ℕ
+  pub passed : ℕ
+  pub noted : Bool
+  pub stage : Stage
+
+-- a getSet that has made no step
+abbrev pub fresh : Layout → Bool → GetSetState
+fresh s spent = record { sizes = s; lists_spent = spent; head = 0; end = 0; passed = 0; noted = false; stage = Head }
+
+-- a slot that is to be loaded is one of the slots, and a word that is to be written one of the list words
+abbrev pub fits_stage : Layout → Stage → Bool
+fits_stage s Head = true
+fits_stage s (ListLen at) = true
+fits_stage s (ListLow at left) = true
+fits_stage s (ListHigh at left lo) = true
+fits_stage s Counter = true
+fits_stage s (Slot slot) = nat_lt slot s.slots
+fits_stage s (Len slot at) = true
+fits_stage s (Index slot at left) = true
+fits_stage s (Claim words) = true
+fits_stage s (Write at k words word) = nat_lt (at + k) (list_end s)
+fits_stage s (Publish at) = true
+fits_stage s Done = true
+
+-- the machine and its buffers
+abbrev pub Pair : Type 0
+Pair = GetSetState × Buffers
+
+-- how many words the block of the next list has
+abbrev pub next_words : Buffers → ℕ
+next_words f = 1 + 2 * length f.next
+
+-- the step that is due
+abbrev pub step_at : Layout → ℕ → Stage → Option Step
+step_at s head Head = Some (Load (list_head s))
+step_at s head (ListLen at) = Some (Load at)
+step_at s head (ListLow at left) = Some (Load at)
+step_at s head (ListHigh at left lo) = Some (Load at)
+step_at s head Counter = Some (Load (slot_counter s))
+step_at s head (Slot slot) = Some (Load (slot_word s slot))
+step_at s head (Len slot at) = Some (Load at)
+step_at s head (Index slot at left) = Some (Load at)
+step_at s head (Claim words) = Some (Add (list_counter s) words)
+step_at s head (Write at k words word) = Some (Store (at + k) word)
+step_at s head (Publish at) = Some (Exchange (list_head s) head at)
+step_at s head Done = None
+
+abbrev pub step_of : GetSetState → Option Step
+step_of g = step_at g.sizes g.head g.stage
+
+-- the walk is over: a list is published where a slot was noted and the port isn't marked for lists
+abbrev pub after_walk : Pair → Pair
+after_walk p = (record p.0 { stage = if p.0.noted && not p.0.lists_spent then Claim (next_words p.1) else Done }, p.1)
+
+-- the walk stands at a slot that is in no interval of the list read
+abbrev pub at_slot : Pair → ℕ → Pair
+at_slot p slot = if nat_lt slot p.0.end then (record p.0 { stage = Slot slot }, p.1) else after_walk p
+
+-- the interval of the list read that begins at the slot goes into the next list
+abbrev pub pass_interval : Pair → Pair
+pass_interval p = (record p.0 { passed = p.0.passed + 1 }, record p.1 { next = extended p.1.next (lowest p.1.read p.0.passed) (highest p.1.read p.0.passed) })
+
+-- the walk comes to a slot, and leaves out an interval of the list read that begins there
+abbrev pub come_to : Pair → ℕ → Pair
+come_to p slot = if begins_at p.1.read p.0.passed slot then at_slot (pass_interval p) (highest p.1.read p.0.passed + 1) else at_slot p slot
+
+-- the slot is noted as newly vacated
+abbrev pub note_slot : Pair → ℕ → Pair
+note_slot p slot = (record p.0 { noted = true }, record p.1 { next = extended p.1.next slot slot })
+
+-- the machine in another stage
+abbrev pub in_stage : Pair → Stage → Pair
+in_stage p stage = (record p.0 { stage = stage }, p.1)
+
+-- the list head was loaded, and the buffers are emptied
+abbrev pub after_head : Pair → ℕ → Pair
+after_head p x = (record p.0 { head = x; stage = if x == 0 then Counter else ListLen x }, record p.1 { indices = []; read = []; next = [] })
+
+-- the number of intervals was loaded
+abbrev pub after_list_len : ℕ → ℕ → Stage
+after_list_len at x = if x == 0 then Counter else ListLow (at + 1) x
+
+-- the slot counter was loaded, and the walk begins
+abbrev pub after_counter : Pair → ℕ → Pair
+after_counter p x = come_to (record p.0 { end = min x p.0.sizes.slots; passed = 0 }, p.1) 0
+
+-- the number of indices of an announcement was loaded
+abbrev pub after_len : Pair → ℕ → ℕ → ℕ → Pair
+after_len p slot at x = if x == 0 then come_to p (slot + 1) else in_stage p (Index slot (at + 1) x)
+
+-- one more interval of the list was read
+abbrev pub after_interval : Pair → ℕ → ℕ → ℕ → ℕ → Pair
+after_interval p at left lo x = (record p.0 { stage = if left == 1 then Counter else ListLow (at + 1) (left - 1) }, record p.1 { read = p.1.read ++ (lo, x) ∷ [] })
+
+-- one more index of the announcement was read
+abbrev pub after_index : Pair → ℕ → ℕ → ℕ → ℕ → Pair
+after_index p slot at left x = let q : Pair = (p.0, record p.1 { indices = with_index p.1.indices x }) in if left == 1 then come_to q (slot + 1) else in_stage q (Index slot (at + 1) (left - 1))
+
+-- a slot was loaded: EMPTY is skipped, VACATED is noted, and else there is an announcement
+abbrev pub after_slot : Pair → ℕ → ℕ → Pair
+after_slot p slot x = if x == 0 then come_to p (slot + 1) else (if x == 1 then come_to (note_slot p slot) (slot + 1) else in_stage p (Len slot x))
+
+-- the claim of list words: past the end it marks the port and nothing more is done
+abbrev pub after_claim : Pair → ℕ → ℕ → Pair
+after_claim p words x = if nat_lt (list_end p.0.sizes) (x + words) then (record p.0 { lists_spent = true; stage = Done }, p.1) else in_stage p (Write x 0 words (length p.1.next))
+
+-- one more word of the next list was written
+abbrev pub after_write : Pair → ℕ → ℕ → ℕ → Pair
+after_write p at k words = in_stage p (if k + 1 == words then Publish at else Write at (k + 1) words (slice_index (list_block p.1.next) (k + 1)))
+
+-- what an answer makes of the machine and its buffers
+abbrev pub advance_at : Stage → Pair → ℕ → Pair
+advance_at Head p x = after_head p x
+advance_at (ListLen at) p x = in_stage p (after_list_len at x)
+advance_at (ListLow at left) p x = in_stage p (ListHigh (at + 1) left x)
+advance_at (ListHigh at left lo) p x = after_interval p at left lo x
+advance_at Counter p x = after_counter p x
+advance_at (Slot slot) p x = after_slot p slot x
+advance_at (Len slot at) p x = after_len p slot at x
+advance_at (Index slot at left) p x = after_index p slot at left x
+advance_at (Claim words) p x = after_claim p words x
+advance_at (Write at k words word) p x = after_write p at k words
+advance_at (Publish at) p x = in_stage p Done
+advance_at Done p x = p
+
+abbrev pub advance : Pair → ℕ → Pair
+advance p x = advance_at p.0.stage p x
+
+-- the steps that are left at most to publish a list
+abbrev pub publish_left : Layout → ℕ
+publish_left s = s.slots + 4
+
+-- the steps that are left at most once the slots are walked from that one on
+abbrev pub walk_left : Layout → ℕ → ℕ
+walk_left s slot = (s.slots - slot) * (s.m + 2) + publish_left s
+
+-- the steps that are left at most
+abbrev pub left_at : Layout → Stage → ℕ
+left_at s Head = s.slots * (s.m + 3) + s.lists + 6
+left_at s (ListLen at) = list_end s - at + 1 + walk_left s 0
+left_at s (ListLow at left) = 2 * left + 1 + walk_left s 0
+left_at s (ListHigh at left lo) = 2 * left + walk_left s 0
+left_at s Counter = 1 + walk_left s 0
+left_at s (Slot slot) = walk_left s slot
+left_at s (Len slot at) = s.m + 1 + walk_left s (slot + 1)
+left_at s (Index slot at left) = left + walk_left s (slot + 1)
+left_at s (Claim words) = words + 2
+left_at s (Write at k words word) = words - k + 1
+left_at s (Publish at) = 1
+left_at s Done = 0
+
+abbrev pub left_of : GetSetState → ℕ
+left_of g = left_at g.sizes g.stage

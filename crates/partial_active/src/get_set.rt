@@ -1,0 +1,468 @@
+//! The getSet of an active set: it reads the list of vacated slots, walks the other slots for
+//! announcements, and publishes the list with the slots that it found vacated.
+
+ghost use Rattle.std.specs.Prelude.{◌≡◌, ◌+◌, ◌-◌, ◌*◌, ◌<◌, ◌≤◌, ◌↔◌, ◌++◌, ◌∷◌, ℕ, Bool, List, [], IsSome, IsTrue, Some, None, length};
+ghost use Rattle.partial_words.specs.Layout.{Layout, IsLayout, list_base, list_end, pool_base, pool_end};
+ghost use Rattle.partial_words.specs.declared.step.Event.{Event};
+ghost use Rattle.partial_words.specs.Step.{answer_of};
+ghost use Rattle.partial_active.specs.Found.{Buffers, IsFor};
+ghost use Rattle.partial_active.specs.GetSet.{Pair, fresh, step_of};
+ghost use Rattle.partial_active.specs.GetSetAnswers.{IsPossible};
+ghost use Rattle.partial_active.specs.Orderly.{IsOrderlyRun, LeadsTo, MakesOwn, all_moments, own_moments, FindsActiveSet, KeepsLists};
+
+use crate::found::Found;
+use partial_words::{Sizes, Step};
+use std::marker::Model;
+
+/// Where a getSet is: the step that is due, and what it needs for it.
+#[derive(Clone, Copy, Debug, PartialEq, Eq)]
+pub enum Stage {
+    /// Load the list head.
+    Head,
+    /// Load the number of intervals of the list at this word.
+    ListLen {
+        at: u32,
+    },
+    /// Load the lowest slot of an interval. So many intervals are left, this one with them.
+    ListLow {
+        at: u32,
+        left: u32,
+    },
+    /// Load the highest slot of the interval that begins at `lo`.
+    ListHigh {
+        at: u32,
+        left: u32,
+        lo: u32,
+    },
+    /// Load the slot counter.
+    Counter,
+    /// Load a slot.
+    Slot {
+        slot: u32,
+    },
+    /// Load the number of indices of the announcement at this word, which stood in the slot.
+    Len {
+        slot: u32,
+        at: u32,
+    },
+    /// Load an index of that announcement. So many are left, this one with them.
+    Index {
+        slot: u32,
+        at: u32,
+        left: u32,
+    },
+    /// Claim so many list words.
+    Claim {
+        words: u32,
+    },
+    /// Store word `k` of the next list, which begins at word `at`.
+    Write {
+        at: u32,
+        k: u32,
+        words: u32,
+        word: u64,
+    },
+    /// Exchange the list head for the next list.
+    Publish {
+        at: u32,
+    },
+    /// Nothing is due.
+    Done,
+}
+
+/// A getSet under way. It names every announcement that stands in a slot from its first step to its
+/// last, and loads no slot of the list that it read.
+#[derive(Debug, Drop)]
+pub struct GetSet {
+    sizes: Sizes,
+    lists_spent: bool,
+    head: u64,
+    end: u32,
+    passed: usize,
+    noted: bool,
+    stage: Stage,
+}
+
+impl Model for GetSet {
+    ghost use Rattle.std.specs.Prelude.{IsTrue};
+    ghost use Rattle.partial_words.specs.Layout.{IsLayout};
+    ghost use Rattle.partial_active.specs.GetSet.{GetSetState, fits_stage};
+
+    ghost Value = { GetSetState };
+
+    ghost view = { λ g. record { sizes = g.sizes; lists_spent = g.lists_spent; head = g.head; end = g.end; passed = g.passed; noted = g.noted; stage = g.stage } };
+
+    ghost invariant = { λ g. IsLayout g.sizes × IsTrue (fits_stage g.sizes g.stage) };
+}
+
+impl GetSet {
+    ghost use Rattle.partial_active.specs.Found.{Buffers, IsFor};
+    ghost use Rattle.partial_active.specs.GetSet.{step_of, advance, left_of, fresh, after_walk, at_slot, come_to, after_head, after_list_len, after_interval, after_counter, after_slot, after_len, after_index, after_claim, after_write};
+    ghost use Rattle.partial_active.specs.GetSetAnswers.{IsPossible, GoTogether, IsWalking, IsAtSlot, IsReading, IsNextLow, IsListHead, IsListLen, IsSlotWord, IsAnnouncedLen, IsListClaim, EndsBelow, HasRead, HasNext};
+
+    /// A getSet of a port that is marked for the list words, or isn't. It takes no memory: the buffers
+    /// that its answers are taken with were made for the same sizes.
+    pub fn new(sizes: Sizes, lists_spent: bool) -> GetSet
+        ensures state { result ≡ fresh sizes lists_spent }
+        ensures together { (f : Buffers) → IsFor sizes f → GoTogether (result, f) }
+        ensures steps { left_of result ≡ sizes.slots * (sizes.m + 3) + sizes.lists + 6 }
+    {
+        let _slots = sizes.slots();
+        GetSet {
+            sizes,
+            lists_spent,
+            head: 0,
+            end: 0,
+            passed: 0,
+            noted: false,
+            stage: Stage::Head,
+        }
+    }
+
+    /// The step that is due, or `None` once the getSet is finished.
+    pub fn step(&self) -> Option<Step>
+        ensures { result ≡ step_of self.now }
+    {
+        match self.stage {
+            Stage::Head => Some(Step::Load(self.sizes.list_head())),
+            Stage::ListLen { at } => Some(Step::Load(at)),
+            Stage::ListLow { at, .. } => Some(Step::Load(at)),
+            Stage::ListHigh { at, .. } => Some(Step::Load(at)),
+            Stage::Counter => Some(Step::Load(self.sizes.slot_counter())),
+            Stage::Slot { slot } => Some(Step::Load(self.sizes.slot_word(slot))),
+            Stage::Len { at, .. } => Some(Step::Load(at)),
+            Stage::Index { at, .. } => Some(Step::Load(at)),
+            Stage::Claim { words } => {
+                Some(Step::Add(self.sizes.list_counter(), u64::from(words)))
+            }
+            Stage::Write { at, k, word, .. } => Some(Step::Store(at + k, word)),
+            Stage::Publish { at } => Some(Step::Exchange(
+                self.sizes.list_head(),
+                self.head,
+                u64::from(at),
+            )),
+            Stage::Done => None,
+        }
+    }
+
+    /// Whether the port is marked for the list words: it was before, or the claim of this getSet went
+    /// past their end.
+    pub fn lists_spent(&self) -> bool
+        ensures { result ≡ self.now.lists_spent }
+    {
+        self.lists_spent
+    }
+
+    /// Takes the answer of the step that was due, with the buffers of this getSet. The first answer
+    /// empties them. Once the getSet is finished they name the indices found.
+    pub fn answer(&mut self, found: &mut Found, x: u64)
+        requires due { IsSome (step_of self.old) }
+        requires together { GoTogether (self.old, found.old) }
+        requires possible { IsPossible (self.old, found.old) x }
+        ensures state { (self.new, found.new) ≡ advance (self.old, found.old) x }
+        ensures together { GoTogether (self.new, found.new) }
+        ensures sizes { self.new.sizes ≡ self.old.sizes }
+        ensures left { left_of self.new < left_of self.old }
+    {
+        match self.stage {
+            Stage::Head => self.after_head(found, x),
+            Stage::ListLen { at } => self.after_list_len(at, x),
+            Stage::ListLow { at, left } => {
+                self.stage = Stage::ListHigh {
+                    at: at + 1,
+                    left,
+                    lo: x as u32,
+                };
+            }
+            Stage::ListHigh { at, left, lo } => self.after_interval(found, at, left, lo, x as u32),
+            Stage::Counter => self.after_counter(found, x),
+            Stage::Slot { slot } => self.after_slot(found, slot, x),
+            Stage::Len { slot, at } => self.after_len(found, slot, at, x),
+            Stage::Index { slot, at, left } => self.after_index(found, slot, at, left, x as u32),
+            Stage::Claim { words } => self.after_claim(found, words, x),
+            Stage::Write { at, k, words, .. } => self.after_write(found, at, k, words),
+            Stage::Publish { .. } => self.stage = Stage::Done,
+            Stage::Done => {}
+        }
+    }
+
+    // The list head was loaded.
+    fn after_head(&mut self, found: &mut Found, x: u64)
+        requires layout { IsLayout self.old.sizes }
+        requires head { IsListHead self.old.sizes x }
+        ensures { (self.new, found.new) ≡ after_head (self.old, found.old) x }
+    {
+        found.clear();
+        self.head = x;
+        self.stage = if x == 0 {
+            Stage::Counter
+        } else {
+            Stage::ListLen { at: x as u32 }
+        };
+    }
+
+    // The number of intervals was loaded.
+    fn after_list_len(&mut self, at: u32, x: u64)
+        requires layout { IsLayout self.old.sizes }
+        requires len { IsListLen self.old.sizes at x }
+        ensures { self.new ≡ record self.old { stage = after_list_len at x } }
+    {
+        self.stage = if x == 0 {
+            Stage::Counter
+        } else {
+            Stage::ListLow {
+                at: at + 1,
+                left: x as u32,
+            }
+        };
+    }
+
+    // The highest slot of an interval was loaded.
+    fn after_interval(&mut self, found: &mut Found, at: u32, left: u32, lo: u32, x: u32)
+        requires layout { IsLayout self.old.sizes }
+        requires reading { IsReading (self.old, found.old) left }
+        requires words { at + 2 * left ≤ list_end self.old.sizes + 1 }
+        requires low { IsNextLow self.old.sizes found.old.read lo }
+        requires high { (lo ≤ x) × (x < self.old.sizes.slots) }
+        requires sizes { IsFor self.old.sizes found.old }
+        ensures { (self.new, found.new) ≡ after_interval (self.old, found.old) at left lo x }
+    {
+        found.read_interval(lo, x);
+        self.stage = if left == 1 {
+            Stage::Counter
+        } else {
+            Stage::ListLow {
+                at: at + 1,
+                left: left - 1,
+            }
+        };
+    }
+
+    // The slot counter was loaded, and the walk begins.
+    fn after_counter(&mut self, found: &mut Found, x: u64)
+        requires list { HasRead self.old.sizes found.old.read }
+        requires below { EndsBelow found.old.read x }
+        requires next { found.old.next ≡ [] }
+        requires sizes { IsFor self.old.sizes found.old }
+        ensures { (self.new, found.new) ≡ after_counter (self.old, found.old) x }
+    {
+        self.end = x.min(u64::from(self.sizes.slots())) as u32;
+        self.passed = 0;
+        self.come_to(found, 0);
+    }
+
+    // A slot was loaded.
+    fn after_slot(&mut self, found: &mut Found, slot: u32, x: u64)
+        requires layout { IsLayout self.old.sizes }
+        requires at_slot { IsAtSlot (self.old, found.old) slot }
+        requires word { IsSlotWord self.old.sizes x }
+        requires sizes { IsFor self.old.sizes found.old }
+        ensures { (self.new, found.new) ≡ after_slot (self.old, found.old) slot x }
+    {
+        match x {
+            0 => self.come_to(found, slot + 1),
+            1 => {
+                self.noted = true;
+                found.note(slot, slot);
+                self.come_to(found, slot + 1);
+            }
+            _ => {
+                self.stage = Stage::Len { slot, at: x as u32 };
+            }
+        }
+    }
+
+    // The number of indices of an announcement was loaded.
+    fn after_len(&mut self, found: &mut Found, slot: u32, at: u32, x: u64)
+        requires layout { IsLayout self.old.sizes }
+        requires at_slot { IsAtSlot (self.old, found.old) slot }
+        requires len { IsAnnouncedLen self.old.sizes at x }
+        requires sizes { IsFor self.old.sizes found.old }
+        ensures { (self.new, found.new) ≡ after_len (self.old, found.old) slot at x }
+    {
+        if x == 0 {
+            self.come_to(found, slot + 1);
+        } else {
+            self.stage = Stage::Index {
+                slot,
+                at: at + 1,
+                left: x as u32,
+            };
+        }
+    }
+
+    // An index of an announcement was loaded.
+    fn after_index(&mut self, found: &mut Found, slot: u32, at: u32, left: u32, x: u32)
+        requires layout { IsLayout self.old.sizes }
+        requires at_slot { IsAtSlot (self.old, found.old) slot }
+        requires some { 0 < left }
+        requires words { at + left ≤ pool_end self.old.sizes }
+        requires index { x < self.old.sizes.m }
+        requires sizes { IsFor self.old.sizes found.old }
+        ensures { (self.new, found.new) ≡ after_index (self.old, found.old) slot at left x }
+    {
+        found.insert(x);
+        if left == 1 {
+            self.come_to(found, slot + 1);
+        } else {
+            self.stage = Stage::Index {
+                slot,
+                at: at + 1,
+                left: left - 1,
+            };
+        }
+    }
+
+    // List words were claimed, or the claim was refused.
+    fn after_claim(&mut self, found: &Found, words: u32, x: u64)
+        requires layout { IsLayout self.old.sizes }
+        requires next { HasNext (self.old, found.now) words }
+        requires claim { IsListClaim self.old.sizes x }
+        ensures { (self.new, found.now) ≡ after_claim (self.old, found.now) words x }
+    {
+        if x + u64::from(words) > u64::from(self.sizes.list_end()) {
+            self.lists_spent = true;
+            self.stage = Stage::Done;
+        } else {
+            self.stage = Stage::Write {
+                at: x as u32,
+                k: 0,
+                words,
+                word: found.next_len() as u64,
+            };
+        }
+    }
+
+    // A word of the next list was written.
+    fn after_write(&mut self, found: &Found, at: u32, k: u32, words: u32)
+        requires next { HasNext (self.old, found.now) words }
+        requires word { k < words }
+        requires within { at + words ≤ list_end self.old.sizes }
+        ensures { (self.new, found.now) ≡ after_write (self.old, found.now) at k words }
+    {
+        self.stage = if k + 1 == words {
+            Stage::Publish { at }
+        } else {
+            Stage::Write {
+                at,
+                k: k + 1,
+                words,
+                word: found.next_word(k as usize + 1),
+            }
+        };
+    }
+
+    // The walk is over: a list is published where a slot was noted and the port isn't marked.
+    fn after_walk(&mut self, found: &Found)
+        requires { EndsBelow found.now.next self.old.sizes.slots }
+        ensures { (self.new, found.now) ≡ after_walk (self.old, found.now) }
+    {
+        self.stage = if self.noted && !self.lists_spent {
+            Stage::Claim {
+                words: 1 + 2 * found.next_len() as u32,
+            }
+        } else {
+            Stage::Done
+        };
+    }
+
+    // The walk stands at a slot that is in no interval of the list read.
+    fn at_slot(&mut self, found: &Found, slot: u32)
+        requires { IsWalking (self.old, found.now) slot }
+        ensures { (self.new, found.now) ≡ at_slot (self.old, found.now) slot }
+    {
+        if slot < self.end {
+            self.stage = Stage::Slot { slot };
+        } else {
+            self.after_walk(found);
+        }
+    }
+
+    // The walk comes to a slot, and leaves out an interval of the list read that begins there.
+    fn come_to(&mut self, found: &mut Found, slot: u32)
+        requires walking { IsWalking (self.old, found.old) slot }
+        requires sizes { IsFor self.old.sizes found.old }
+        ensures { (self.new, found.new) ≡ come_to (self.old, found.old) slot }
+    {
+        if found.begins_at(self.passed, slot) {
+            let (lo, hi) = found.interval(self.passed);
+            found.note(lo, hi);
+            self.passed += 1;
+            self.at_slot(found, hi + 1);
+        } else {
+            self.at_slot(found, slot);
+        }
+    }
+}
+
+/// What a getSet finds, over all orders of the ports' steps. Let the words before each event be orderly
+/// and come from those before every earlier one, and let the events of one port be the steps of a fresh
+/// getSet, which they finish. Then it names every index of each announcement that stood in a slot from
+/// its first step to its last, and no index but those of announcements that stood in a slot at some
+/// moment of it. It makes at most S (m + 3) + L + 6 steps, for S slots, m components and L list words.
+pub fn finds_the_active_set()
+    ensures finds { (s : Layout) (spent : Bool) (f : Buffers) (own : ℕ) (words : List ℕ) (events : List Event) (q : Pair) → IsLayout s → IsFor s f → IsOrderlyRun s [] (all_moments words events) → MakesOwn own (fresh s spent, f) words events q → step_of q.0 ≡ None → FindsActiveSet s (own_moments own words events) q.1.indices }
+    ensures steps { (s : Layout) (spent : Bool) (f : Buffers) (own : ℕ) (words : List ℕ) (events : List Event) (q : Pair) → IsLayout s → IsFor s f → IsOrderlyRun s [] (all_moments words events) → MakesOwn own (fresh s spent, f) words events q → length (own_moments own words events) ≤ s.slots * (s.m + 3) + s.lists + 6 }
+{}
+
+/// What a getSet does with the lists of vacated slots, wherever it has come to: it loads no slot of the
+/// list that it read, it publishes whole lists of vacated slots alone, a lost exchange of the list head
+/// changes nothing, and list words that run out leave it with all that it found.
+pub fn keeps_vacated_lists()
+    ensures { (s : Layout) (spent : Bool) (f : Buffers) (moments : List (List ℕ)) (q : Pair) → IsLayout s → IsFor s f → IsOrderlyRun s [] moments → LeadsTo (fresh s spent, f) moments q → KeepsLists s moments q }
+{}
+
+/// The answers that orderly words give are possible: [`GetSet::answer`] may be called with each of them.
+pub fn orderly_answers_are_possible()
+    ensures { (s : Layout) (spent : Bool) (f : Buffers) (moments : List (List ℕ)) (now : List ℕ) (q : Pair) (step : Step) → IsLayout s → IsFor s f → IsOrderlyRun s [] (moments ++ now ∷ []) → LeadsTo (fresh s spent, f) moments q → step_of q.0 ≡ Some step → IsPossible q (answer_of now step) }
+{}
+
+#[cfg(test)]
+impl GetSet {
+    ghost use Rattle.partial_active.specs.GetSetAnswers.{IsPossible};
+
+    // Whether the number may answer the step that is due. It asks a little more than is needed.
+    pub(crate) fn may_answer(&self, found: &Found, x: u64) -> bool
+        ensures { IsTrue result → IsPossible (self.now, found.now) x }
+    {
+        match self.stage {
+            Stage::Head => x == 0 || self.is_list_word(x),
+            Stage::ListLen { at } => {
+                x <= u64::from(self.sizes.slots())
+                    && u64::from(at) + 1 + 2 * x <= u64::from(self.sizes.list_end())
+                    && 2 * x <= u64::from(self.sizes.slots()) + 1
+            }
+            Stage::ListLow { .. } => {
+                x < u64::from(self.sizes.slots()) && found.read_ends_below(x.saturating_sub(1))
+            }
+            Stage::ListHigh { lo, .. } => {
+                u64::from(lo) <= x && x < u64::from(self.sizes.slots())
+            }
+            Stage::Counter => found.read_ends_below(x),
+            Stage::Slot { .. } => x <= 1 || self.is_pool_word(x),
+            Stage::Len { at, .. } => {
+                x <= u64::from(self.sizes.m())
+                    && u64::from(at) + 1 + x <= u64::from(self.sizes.pool_end())
+            }
+            Stage::Index { .. } => x < u64::from(self.sizes.m()),
+            Stage::Claim { .. } => {
+                u64::from(self.sizes.list_base()) <= x && x <= u64::from(self.sizes.list_end()) + 64
+            }
+            _ => true,
+        }
+    }
+
+    // Whether the number is that of a list word.
+    fn is_list_word(&self, x: u64) -> bool
+        ensures { IsTrue result ↔ ((list_base self.now.sizes ≤ x) × (x < list_end self.now.sizes)) }
+    {
+        u64::from(self.sizes.list_base()) <= x && x < u64::from(self.sizes.list_end())
+    }
+
+    // Whether the number is that of a pool word.
+    fn is_pool_word(&self, x: u64) -> bool
+        ensures { IsTrue result ↔ ((pool_base self.now.sizes ≤ x) × (x < pool_end self.now.sizes)) }
+    {
+        u64::from(self.sizes.pool_base()) <= x && x < u64::from(self.sizes.pool_end())
+    }
+}

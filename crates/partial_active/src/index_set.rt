@@ -1,0 +1,66 @@
+//! Indices without repeats, in the order in which they came, with a mark for each one.
+
+ghost use Rattle.std.specs.Prelude.{◌≡◌, [], IfOk, ◌<◌};
+ghost use Rattle.partial_active.specs.IndexSet.{with_index};
+
+use std::alloc::{AllocError, Global};
+use std::marker::Model;
+
+/// Indices below a limit, each at most once. Room for all of them is taken when the set is made.
+#[derive(Debug, Drop)]
+pub struct IndexSet {
+    items: Vec<u32>,
+    marks: Vec<bool>,
+}
+
+impl Model for IndexSet {
+    ghost use Rattle.std.specs.Vec.{vec_len, vec_capacity};
+    ghost use Rattle.partial_active.specs.IndexSet.{IndexList, IsMarked};
+
+    ghost Value = { IndexList };
+
+    ghost view = { λ s. record { limit = vec_len s.marks; items = s.items.items } };
+
+    ghost invariant = { λ s. IsMarked s.items.items s.marks.items (vec_capacity s.items) };
+}
+
+impl IndexSet {
+    /// The empty set of indices below `limit`. It is refused where the memory for them is.
+    pub fn with_limit(alloc: Global, limit: usize) -> Result<IndexSet, AllocError>
+        ensures limit { IfOk result (λ set. set.limit ≡ limit) }
+        ensures empty { IfOk result (λ set. set.items ≡ []) }
+    {
+        Ok(IndexSet {
+            items: Vec::with_capacity(alloc, limit)?,
+            marks: vec![in alloc; false; limit]?,
+        })
+    }
+
+    /// The indices in the order in which they came.
+    pub fn as_slice(&self) -> &[u32]
+        ensures { result.now ≡ self.now.items }
+    {
+        &self.items
+    }
+
+    /// Puts the index at the end, where it is not there yet.
+    pub fn insert(&mut self, index: u32)
+        requires { index < self.old.limit }
+        ensures { self.new ≡ record self.old { items = with_index self.old.items index } }
+    {
+        let at = index as usize;
+        if !self.marks[at] {
+            self.marks[at] = true;
+            self.items.push_reserved(index);
+        }
+    }
+
+    /// Takes all indices out, one after another.
+    pub fn clear(&mut self)
+        ensures { self.new ≡ record self.old { items = [] } }
+    {
+        while let Some(index) = self.items.pop() {
+            self.marks[index as usize] = false;
+        }
+    }
+}

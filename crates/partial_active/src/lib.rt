@@ -1,0 +1,16 @@
+//! announcements that stand in them. A machine says which atomic step is due and takes its answer.
+#![tactic(auto)]
+
+pub mod found;
+pub mod get_set;
+mod index_set;
+pub mod join;
+pub mod leave;
+
+pub use found::Found;
+pub use get_set::GetSet;
+pub use join::Join;
+pub use leave::Leave;
+
+#[cfg(test)]
+mod tests;

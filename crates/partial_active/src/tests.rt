@@ -1,0 +1,206 @@
+//! The machines driven over a plain list of words, and refused growths.
+
+ghost use Rattle.std.specs.Prelude.{OnOk};
+ghost use Rattle.partial_active.specs.Found.{IsFor};
+ghost use Rattle.partial_active.specs.GetSetAnswers.{GoTogether};
+
+use crate::{Found, GetSet, Join, Leave};
+use partial_words::{Sizes, Step};
+use std::alloc::{AllocError, Global};
+use std::process::Abort;
+use std::test::Fail;
+
+// Words of a memory that are all 0 but for these.
+fn words_with(
+    rt: &impl Abort,
+    alloc: Global,
+    sizes: Sizes,
+    set: &[(u32, u64)],
+) -> Result<Vec<u64>, AllocError> {
+    let mut words = vec![in alloc; 0u64; sizes.total() as usize]?;
+    for (word, value) in set {
+        let at = *word as usize;
+        assert!(rt; at < words.len());
+        words[at] = *value;
+    }
+    Ok(words)
+}
+
+// Makes the steps of a getSet on the words, one after another.
+fn drive(
+    rt: &impl Abort,
+    alloc: Global,
+    words: &mut [u64],
+    get: &mut GetSet,
+    found: &mut Found,
+) -> Result<Vec<Step>, AllocError>
+    requires { GoTogether (get.old, found.old) }
+    ensures { OnOk result (IsFor get.old.sizes found.new) }
+{
+    let mut steps = Vec::new(alloc);
+    while let Some(step) = get.step() {
+        assert!(rt; (step.word() as usize) < words.len());
+        let x = step.perform(words);
+        assert!(rt; get.may_answer(found, x));
+        get.answer(found, x);
+        steps.push(step)?;
+    }
+    Ok(steps)
+}
+
+#[test]
+fn walks_all_slots(rt: HostRuntime) -> Result<(), Fail> {
+    let sizes = Sizes::new(2, 4, 8, 64)?;
+    let mut words = words_with(
+        &rt,
+        rt.alloc(),
+        sizes,
+        &[
+            (2, 4),
+            (5, 10),
+            (6, 24),
+            (7, 1),
+            (8, 27),
+            (24, 2),
+            (25, 1),
+            (27, 2),
+        ],
+    )?;
+    let mut found = Found::new(rt.alloc(), sizes)?;
+    let mut get = GetSet::new(sizes, false);
+    let steps = drive(&rt, rt.alloc(), &mut words, &mut get, &mut found)?;
+    let loads = [3, 2, 6, 24, 25, 26, 7, 8, 27, 28, 29, 9].map(|word| Step::Load(word));
+    assert_eq!(rt; steps.len(), 17);
+    assert_eq!(rt; &steps[..12], loads.as_slice());
+    assert_eq!(rt;
+        &steps[12..],
+        [
+            Step::Add(5, 3),
+            Step::Store(10, 1),
+            Step::Store(11, 1),
+            Step::Store(12, 1),
+            Step::Exchange(3, 0, 10)
+        ]
+        .as_slice()
+    );
+    assert_eq!(rt; found.indices(), [1, 0].as_slice());
+    assert!(rt; !get.lists_spent());
+    Ok(())
+}
+
+// Makes the steps of a join on the words, one after another.
+fn drive_join(
+    rt: &impl Abort,
+    alloc: Global,
+    words: &mut [u64],
+    join: &mut Join,
+) -> Result<Vec<Step>, AllocError> {
+    let mut steps = Vec::new(alloc);
+    while let Some(step) = join.step() {
+        assert!(rt; (step.word() as usize) < words.len());
+        join.answer(step.perform(words));
+        steps.push(step)?;
+    }
+    Ok(steps)
+}
+
+#[test]
+fn walks_no_further_than_the_slots(rt: HostRuntime) -> Result<(), Fail> {
+    let sizes = Sizes::new(2, 4, 8, 64)?;
+    let mut words = words_with(&rt, rt.alloc(), sizes, &[(2, 68), (5, 10)])?;
+    let mut found = Found::new(rt.alloc(), sizes)?;
+    let mut get = GetSet::new(sizes, false);
+    let steps = drive(&rt, rt.alloc(), &mut words, &mut get, &mut found)?;
+    assert_eq!(rt; steps.len(), 6);
+    assert!(rt; found.indices().is_empty());
+    Ok(())
+}
+
+#[test]
+fn joins_and_leaves(rt: HostRuntime) -> Result<(), Fail> {
+    let sizes = Sizes::new(2, 4, 8, 64)?;
+    let mut words = words_with(&rt, rt.alloc(), sizes, &[(2, 1)])?;
+    let mut join = Join::new(sizes, 24);
+    let steps = drive_join(&rt, rt.alloc(), &mut words, &mut join)?;
+    assert_eq!(rt;
+        steps.as_slice(),
+        [Step::Add(2, 1), Step::Store(7, 24)].as_slice()
+    );
+    assert_eq!(rt; join.joined(), Some(1));
+    assert!(rt; !join.spent());
+    let mut leave = Leave::new(sizes, 1);
+    assert_eq!(rt; leave.step(), Some(Step::Store(7, 1)));
+    leave.answer(0);
+    assert_eq!(rt; leave.step(), None);
+    Ok(())
+}
+
+#[test]
+fn slots_spent(rt: HostRuntime) -> Result<(), Fail> {
+    let sizes = Sizes::new(2, 4, 8, 64)?;
+    let mut words = words_with(&rt, rt.alloc(), sizes, &[(2, 4)])?;
+    let mut join = Join::new(sizes, 24);
+    let steps = drive_join(&rt, rt.alloc(), &mut words, &mut join)?;
+    assert_eq!(rt; steps.as_slice(), [Step::Add(2, 1)].as_slice());
+    assert!(rt; join.spent());
+    assert_eq!(rt; join.joined(), None);
+    Ok(())
+}
+
+// The list (0, 0) was published at words 10 to 12: no slot of it is loaded, and nothing is noted.
+#[test]
+fn vacated_list(rt: HostRuntime) -> Result<(), Fail> {
+    let sizes = Sizes::new(2, 4, 8, 64)?;
+    let mut words = words_with(
+        &rt,
+        rt.alloc(),
+        sizes,
+        &[(2, 2), (3, 10), (5, 13), (6, 1), (7, 24), (10, 1), (24, 1)],
+    )?;
+    let mut found = Found::new(rt.alloc(), sizes)?;
+    let mut get = GetSet::new(sizes, false);
+    let steps = drive(&rt, rt.alloc(), &mut words, &mut get, &mut found)?;
+    let loads = [3, 10, 11, 12, 2, 7, 24, 25].map(|word| Step::Load(word));
+    assert_eq!(rt; steps.as_slice(), loads.as_slice());
+    assert_eq!(rt; found.indices(), [0].as_slice());
+    Ok(())
+}
+
+// The list (0, 0) grows by slot 1, and slot 3 stands apart. The next getSet empties the buffers first,
+// and is given too few list words: it marks its port.
+#[test]
+fn lists_spent(rt: HostRuntime) -> Result<(), Fail> {
+    let sizes = Sizes::new(2, 4, 8, 64)?;
+    let mut words = words_with(
+        &rt,
+        rt.alloc(),
+        sizes,
+        &[(2, 4), (3, 10), (5, 13), (6, 1), (7, 1), (9, 1), (10, 1)],
+    )?;
+    let mut found = Found::new(rt.alloc(), sizes)?;
+    let mut get = GetSet::new(sizes, false);
+    let steps = drive(&rt, rt.alloc(), &mut words, &mut get, &mut found)?;
+    let stores = [
+        Step::Add(5, 5),
+        Step::Store(13, 2),
+        Step::Store(14, 0),
+        Step::Store(15, 1),
+        Step::Store(16, 3),
+        Step::Store(17, 3),
+        Step::Exchange(3, 10, 13),
+    ];
+    assert_eq!(rt; steps.len(), 15);
+    assert_eq!(rt; &steps[8..], stores.as_slice());
+    words_mark_slot(&rt, &mut words);
+    let mut again = GetSet::new(sizes, false);
+    let more = drive(&rt, rt.alloc(), &mut words, &mut again, &mut found)?;
+    assert_eq!(rt; more.last().copied(), Some(Step::Add(5, 3)));
+    assert!(rt; again.lists_spent());
+    Ok(())
+}
+
+// Slot 2, too, is vacated.
+fn words_mark_slot(rt: &impl Abort, words: &mut [u64]) {
+    assert!(rt; words.len() > 8);
+    words[8] = 1;
+}

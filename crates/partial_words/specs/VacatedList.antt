@@ -1,0 +1,20 @@
+-- The words of a list of vacated slots, and what is read back from them.
+use Rattle.std.specs.Prelude.{ℕ, ◌≡◌, ◌+◌, ◌*◌, ◌<◌, List, ◌∷◌, length, slice_index, slice_index_or}
+use Rattle.std.specs.List.{flat_map}
+use Rattle.partial_words.specs.Record.{pair_words}
+
+-- a list: how many intervals there are, and the lowest and the highest slot of each
+abbrev pub list_block : List (ℕ × ℕ) → List ℕ
+list_block intervals = length intervals ∷ flat_map pair_words intervals
+
+-- what is read at the reference of a list
+abbrev pub list_len : List ℕ → ℕ → ℕ
+list_len words at = slice_index words at
+
+abbrev pub interval : List ℕ → ℕ → ℕ → ℕ × ℕ
+interval words at k = (slice_index words (at + 1 + 2 * k), slice_index words (at + 2 + 2 * k))
+
+-- what a list's writer gave, its readers read back
+pub record ReadsBackList (words : List ℕ) (at : ℕ) (intervals : List (ℕ × ℕ)) : Type 0 where
+  pub count : list_len words at ≡ length intervals
+  pub each : (k : ℕ) (d : ℕ × ℕ) → k < length intervals → interval words at k ≡ slice_index_or intervals k d

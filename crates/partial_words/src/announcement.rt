@@ -1,0 +1,54 @@
+//! The words of an announcement: the indices for which a scan asks.
+
+ghost use Rattle.std.specs.Prelude.{◌≡◌, ℕ, ◌+◌, ◌<◌, List, length, slice_index};
+ghost use Rattle.partial_words.specs.Record.{StandsAt};
+ghost use Rattle.partial_words.specs.Announcement.{announcement_block, announced_len, announced, ReadsBackAnnouncement};
+
+/// Word `k` of an announcement: how many indices there are, then the indices.
+pub fn announcement_block_word(indices: &[u32], k: usize) -> u64
+    requires { k < length (announcement_block indices.now) }
+    ensures { result ≡ slice_index (announcement_block indices.now) k }
+{
+    match k {
+        0 => indices.len() as u64,
+        _ => u64::from(indices[k - 1]),
+    }
+}
+
+/// How many indices the announcement at that word has.
+pub fn announced_len(words: &[u64], at: usize) -> u64
+    requires { at < length words.now }
+    ensures { result ≡ announced_len words.now at }
+{
+    words[at]
+}
+
+/// Index `k` of the announcement at that word, counted from 0.
+pub fn announced(words: &[u64], at: usize, k: usize) -> u64
+    requires { at + 1 + k < length words.now }
+    ensures { result ≡ announced words.now at k }
+{
+    words[at + 1 + k]
+}
+
+/// What the writer of an announcement gave, its readers read back, for every announcement that stands
+/// in the words.
+pub fn announcements_read_back()
+    ensures { (words : List ℕ) (at : ℕ) (indices : List ℕ) → StandsAt words at (announcement_block indices) → ReadsBackAnnouncement words at indices }
+{}
+
+#[cfg(test)]
+mod tests {
+    use super::*;
+
+    #[test]
+    fn announcement_words(rt: HostRuntime) {
+        assert_eq!(rt; announcement_block_word(&[1, 0], 0), 2);
+        assert_eq!(rt; announcement_block_word(&[1, 0], 1), 1);
+        assert_eq!(rt; announcement_block_word(&[1, 0], 2), 0);
+        let words = [9, 2, 1, 0];
+        assert_eq!(rt; announced_len(&words, 1), 2);
+        assert_eq!(rt; announced(&words, 1, 0), 1);
+        assert_eq!(rt; announced(&words, 1, 1), 0);
+    }
+}

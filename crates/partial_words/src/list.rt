@@ -1,0 +1,65 @@
+//! The words of a list of vacated slots.
+
+ghost use Rattle.std.specs.Prelude.{◌≡◌, ℕ, ◌+◌, ◌*◌, ◌<◌, List, length, slice_index};
+ghost use Rattle.partial_words.specs.Record.{StandsAt};
+ghost use Rattle.partial_words.specs.VacatedList.{list_block, list_len, interval, ReadsBackList};
+
+use partial_intervals::Intervals;
+
+/// Word `k` of a list: how many intervals there are, then the lowest and the highest slot of each.
+pub fn list_block_word(intervals: &Intervals, k: usize) -> u64
+    requires { k < length (list_block intervals.now.list) }
+    ensures { result ≡ slice_index (list_block intervals.now.list) k }
+{
+    if k == 0 {
+        return intervals.len() as u64;
+    }
+    let (lowest, highest) = intervals.get((k - 1) / 2);
+    if (k - 1) % 2 == 0 {
+        u64::from(lowest)
+    } else {
+        u64::from(highest)
+    }
+}
+
+/// How many intervals the list at that word has.
+pub fn list_len(words: &[u64], at: usize) -> u64
+    requires { at < length words.now }
+    ensures { result ≡ list_len words.now at }
+{
+    words[at]
+}
+
+/// Interval `k` of the list at that word, counted from 0: its lowest and its highest slot.
+pub fn interval(words: &[u64], at: usize, k: usize) -> (u64, u64)
+    requires { at + 2 + 2 * k < length words.now }
+    ensures { result ≡ interval words.now at k }
+{
+    (words[at + 1 + 2 * k], words[at + 2 + 2 * k])
+}
+
+/// What the writer of a list gave, its readers read back, for every list that stands in the words.
+pub fn lists_read_back()
+    ensures { (words : List ℕ) (at : ℕ) (intervals : List (ℕ × ℕ)) → StandsAt words at (list_block intervals) → ReadsBackList words at intervals }
+{}
+
+#[cfg(test)]
+mod tests {
+    use super::*;
+    use std::test::Fail;
+
+    #[test]
+    fn list_words(rt: HostRuntime) -> Result<(), Fail> {
+        let mut intervals = Intervals::with_capacity(rt.alloc(), 2)?;
+        intervals.push_last(0, 1);
+        intervals.push_last(3, 4);
+        assert_eq!(rt; list_block_word(&intervals, 0), 2);
+        assert_eq!(rt; list_block_word(&intervals, 1), 0);
+        assert_eq!(rt; list_block_word(&intervals, 4), 4);
+        let words = [9, 2, 0, 1, 3, 4];
+        assert_eq!(rt; list_len(&words, 1), 2);
+        assert_eq!(rt; interval(&words, 1, 0), (0, 1));
+        assert_eq!(rt; interval(&words, 1, 1), (3, 4));
+        Ok(())
+    }
+}
