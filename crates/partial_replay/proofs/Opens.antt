@@ -1,5 +1,5 @@
 -- A replay as it opens, and what it lists in the end.
-use Rattle.std.proofs.Common.{ℕ, zero, suc, ◌≡◌, ◌≢◌, ◌+◌, ◌*◌, ◌<◌, ◌≤◌, ◌++◌, Bool, true, false, List, [], ◌∷◌, length, take, get_or, Option, Some, None, MatchOption, slice_get, refl, sym, ◌∙◌, ap, subst, arith}
+use Rattle.std.proofs.Common.{ℕ, zero, suc, ◌==◌, ◌^◌, drop, remove, append_assoc, ◌≡◌, ◌≢◌, ◌+◌, ◌*◌, ◌<◌, ◌≤◌, ◌++◌, Bool, true, false, List, [], ◌∷◌, length, take, get_or, Option, Some, None, MatchOption, slice_get, refl, sym, ◌∙◌, ap, subst, arith}
 use Rattle.std.specs.List.{AllByRecursion}
 use Rattle.std.specs.declared.vec.Vec.{Vec}
 use Rattle.std.specs.declared.alloc.Global.{Global}
@@ -17,8 +17,8 @@ use Rattle.partial_core.specs.Lawful.{Part, Lawful, fresh_parts}
 use Rattle.partial_core.proofs.Opened.{opens_lawful}
 use Rattle.partial_replay.specs.declared.port.Port.{Port}
 use Rattle.partial_replay.specs.declared.port.UnderWay.{UnderWay}
-use Rattle.partial_replay.specs.PortState.{AreFinished, IsUnderWay, IsBetween, PortFits, notes_in, ends_of}
-use Rattle.partial_replay.specs.RunState.{PortsFit, IsRunOf, FreshFrom, AreFreshPorts, AreListed, ArePlans}
+use Rattle.partial_replay.specs.PortState.{IsServed, unfinished_call, AreFinished, IsUnderWay, IsBetween, PortFits, notes_in, ends_of}
+use Rattle.partial_replay.specs.RunState.{PortsFit, IsRunOf, FreshFrom, AreFreshPorts, AreListed, ArePlans, left_over, calls_in}
 use Rattle.std.specs.Option.{IsSome}
 use Rattle.std.proofs.lemmas.Bool.{false≢true}
 use Rattle.partial_model.specs.declared.history.Applied.{Applied}
@@ -76,3 +76,57 @@ run_listed o log q [] [] (t ∷ ports) w p = absurd w
 run_listed o log q [] (x ∷ parts) ports w p = absurd w
 run_listed o log q (c ∷ plans) [] ports w p = absurd w
 run_listed o log q (c ∷ plans) (x ∷ parts) [] w p = absurd w
+
+-- the port at the front, and those behind it
+pub front_is : (ports : List Port) (port : Port) (rest : List Port) → 0 < length ports → port ≡ get_or ports 0 port → rest ≡ remove ports 0 → ports ≡ port ∷ rest
+front_is [] port rest some f r = absurd (omega (arith, some))
+front_is (t ∷ ports) port rest some f r = let is : port ≡ t = f in let tail : rest ≡ ports = r in cc
+
+-- the calls of the port at the front
+pub record AtFront (plans : List (List Call)) (p : ℕ) (port : Port) (rest : List Port) : Type 0 where
+  pub calls : List Call
+  pub is : drop p plans ≡ calls ∷ drop (suc p) plans
+  pub get : slice_get plans p ≡ Some calls
+  pub short : length calls < 2 ^ 32
+  pub served : AllByRecursion IsServed calls
+  pub within : IsSome port.under_way → length port.finished.items < length calls
+  pub listed : AreListed (drop (suc p) plans) rest
+
+pub at_front : (plans : List (List Call)) (p : ℕ) (port : Port) (rest : List Port) → AreListed (drop p plans) (port ∷ rest) → AtFront plans p port rest
+at_front [] zero port rest w = absurd w
+at_front [] (suc p) port rest w = absurd w
+at_front (c ∷ plans) zero port rest w = record { calls = c; is = refl; get = refl; short = w.0; served = w.1; within = w.2; listed = w.3 }
+at_front (c ∷ plans) (suc p) port rest w =
+    let f = at_front plans p port rest w in
+    record { calls = f.calls; is = f.is; get = f.get; short = f.short; served = f.served; within = f.within; listed = f.listed }
+
+-- one port's calls behind those of the ports before it
+pub told_on : (plans : List (List Call)) (p : ℕ) (port : Port) (rest : List Port) (all so_far now : List Called) → (f : AtFront plans p port rest) → so_far ++ calls_in (drop p plans) (port ∷ rest) ≡ all → now ≡ (so_far ++ port.finished.items) ++ left_over port (slice_get (f.calls) (length port.finished.items)) port.under_way → now ++ calls_in (drop (suc p) plans) rest ≡ all
+told_on plans p port rest all so_far now f told is =
+    let over = left_over port (slice_get (f.calls) (length port.finished.items)) port.under_way in
+    let behind = calls_in (drop (suc p) plans) rest in
+    ap (λ (l : List Called). l ++ behind) is
+    ∙ ap (λ (l : List Called). l ++ behind) (append_assoc so_far port.finished.items over)
+    ∙ append_assoc so_far (port.finished.items ++ over) behind
+    ∙ subst (λ (l : List (List Call)). so_far ++ calls_in l (port ∷ rest) ≡ all) f.is told
+
+-- the call that a port leaves unfinished
+pub over_is : (port : Port) (calls : List Call) (way : UnderWay) (call : Call) (c : Called) → port.under_way ≡ Some way → slice_get calls (length port.finished.items) ≡ Some call → c ≡ unfinished_call port.number (length port.finished.items) call way → c ∷ [] ≡ left_over port (slice_get calls (length port.finished.items)) port.under_way
+over_is port calls way call c under get is =
+    ap (λ (d : Called). d ∷ []) is
+    ∙ ap (λ (f : Option Call). left_over port f (Some way)) (sym get)
+    ∙ ap (λ (f : Option UnderWay). left_over port (slice_get calls (length port.finished.items)) f) (sym under)
+
+over_none : (port : Port) (call : Option Call) → left_over port call None ≡ []
+over_none port None = refl
+over_none port (Some c) = refl
+
+pub none_over : (port : Port) (call : Option Call) → port.under_way ≡ None → [] ≡ left_over port call port.under_way
+none_over port call none = sym (over_none port call) ∙ ap (left_over port call) (sym none)
+
+pub some_same : {A : Type 0} {a b : A} → Some a ≡ Some b → a ≡ b
+some_same h = cc
+
+pub not_empty : (ports : List Port) (n : ℕ) → n ≡ length ports → (n == 0) ≡ false → 0 < length ports
+not_empty [] n same none = absurd (false≢true (sym none ∙ ap (λ (k : ℕ). k == 0) same))
+not_empty (t ∷ ports) n same none = omega arith

@@ -1,5 +1,6 @@
 use Rattle.std.proofs.Common.{◌≡◌, ℕ, List, [], length, ap, ◌∙◌, subst, sym, arith}
 use Rattle.partial_model.specs.declared.history.Applied.{Applied}
+use Rattle.partial_model.specs.declared.history.Opening.{Opening}
 use Rattle.partial_words.specs.declared.step.Event.{Event}
 use Rattle.partial_words.specs.Chain.{AreOpeningWords}
 use Rattle.partial_replay.specs.RunState.{IsRunOf}
@@ -8,7 +9,7 @@ use Rattle.partial_replay.proofs.run.Run.open.Goals as goal
 
 pub returns-clause-run : goal.returns-clause-run
 returns-clause-run c =
-    let o = record { values = c.from.result; first = c.from-first.result } in
+    let o : Opening = record { values = c.from.result; first = c.from-first.result } in
     let values : c.from.result ≡ c.args.initial.now = c.from.ensures ∙ c.in_ok-from_slice.ensures.items in
     let words = c.in_ok-opening_words.field-0.items in
     let ports = c.in_ok-fresh_ports.field-0.items in
