@@ -3,3 +3,4 @@ pub mod PortLaws
 pub mod RunLaws
 pub mod RunSteps
 pub mod Opens
+pub mod Plans

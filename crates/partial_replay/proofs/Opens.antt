@@ -1,8 +1,6 @@
 -- A replay as it opens, and what it lists in the end.
-use Rattle.std.proofs.Common.{ℕ, zero, suc, ◌==◌, ◌^◌, drop, remove, append_assoc, ◌≡◌, ◌≢◌, ◌+◌, ◌*◌, ◌<◌, ◌≤◌, ◌++◌, Bool, true, false, List, [], ◌∷◌, length, take, get_or, Option, Some, None, MatchOption, slice_get, refl, sym, ◌∙◌, ap, subst, arith}
+use Rattle.std.proofs.Common.{ℕ, zero, suc, ◌==◌, ◌^◌, drop, remove, append_assoc, ◌≡◌, ◌+◌, ◌<◌, ◌≤◌, ◌++◌, false, List, [], ◌∷◌, length, take, get_or, Option, Some, None, MatchOption, slice_get, refl, sym, ◌∙◌, ap, subst, arith}
 use Rattle.std.specs.List.{AllByRecursion}
-use Rattle.std.specs.declared.vec.Vec.{Vec}
-use Rattle.std.specs.declared.alloc.Global.{Global}
 use Rattle.partial_model.specs.declared.history.Opening.{Opening}
 use Rattle.partial_model.specs.declared.call.Call.{Call}
 use Rattle.partial_model.specs.declared.call.Called.{Called}
@@ -10,10 +8,9 @@ use Rattle.std.proofs.Common.{map}
 use Rattle.partial_model.specs.Notes.{LegalNotes, seen_by}
 use Rattle.partial_model.specs.Outcome.{places_written}
 use Rattle.partial_words.specs.Layout.{Layout, IsLayout, pool_base}
-use Rattle.partial_words.specs.Chain.{AreOpeningWords, OpensWith}
-use Rattle.partial_core.specs.declared.stage.Stage.TheVariants.{Idle}
-use Rattle.partial_core.specs.Machine.{CoreState, fresh, at_stage}
-use Rattle.partial_core.specs.Lawful.{Part, Lawful, fresh_parts}
+use Rattle.partial_words.specs.Chain.{AreOpeningWords}
+use Rattle.partial_core.specs.Machine.{CoreState, fresh}
+use Rattle.partial_core.specs.Lawful.{Part, fresh_parts}
 use Rattle.partial_core.proofs.Opened.{opens_lawful}
 use Rattle.partial_replay.specs.declared.port.Port.{Port}
 use Rattle.partial_replay.specs.declared.port.UnderWay.{UnderWay}
@@ -35,7 +32,9 @@ fresh_fits : (z : Layout) (o : Opening) (calls : List Call) (p : ℕ) (port : Po
 fresh_fits z o calls p port m number core finished none =
     let x : Part = record { seen = []; notes = []; begun = fresh z p; kept = []; since = 0 } in
     record {
-      number = number; part = refl; sizes = ap (λ (s : CoreState). s.sizes.m) core ∙ m;
+      number = number;
+      part = refl;
+      sizes = ap (λ (s : CoreState). s.sizes.m) core ∙ m;
       finished = subst (AreFinished 0 p 0 0) (sym finished) tt;
       legal = subst (λ (d : List Called). LegalNotes o [] p 0 (notes_in d)) (sym finished) tt;
       shown = subst (λ (d : List Called). seen_by 0 (notes_in d) ≤ ends_of 0 d) (sym finished) (omega arith);

@@ -1,6 +1,5 @@
 -- The least place that fits: where a call's note is legal, so is the one that is found from its begin on.
-use Rattle.std.proofs.Common.{ℕ, zero, suc, ◌≡◌, ◌≢◌, ◌+◌, ◌<◌, ◌≤◌, ◌⊎◌, ◌==◌, ◌++◌, Bool, true, false, cond, List, [], ◌∷◌, length, take, get_or, Option, Some, None, IfSome, MatchOption, slice_get, refl, sym, ◌∙◌, ap, subst, inl, inr, arith}
-use Rattle.std.specs.List.{AllByRecursion}
+use Rattle.std.proofs.Common.{ℕ, zero, suc, ◌≡◌, ◌≢◌, ◌+◌, ◌<◌, ◌≤◌, List, [], ◌∷◌, length, take, get_or, Option, Some, None, slice_get, refl, sym, ◌∙◌, ap, inl, inr, arith}
 use Rattle.std.specs.Option.{option_map, option_map_or}
 use Rattle.std.proofs.lemmas.Bool.{cases_lt}
 use Rattle.std.proofs.lemmas.List.{take-take}
@@ -11,15 +10,15 @@ use Rattle.partial_model.specs.declared.call.Call.TheVariants as call
 use Rattle.partial_model.specs.declared.call.Answer.{Answer}
 use Rattle.partial_model.specs.declared.call.Note.{Note}
 use Rattle.partial_model.specs.declared.call.Note.TheVariants as note
-use Rattle.partial_model.specs.History.{HaveDistinctStamps, IsHistory, last_entry, initial_stamp, stamp_of, value_of}
-use Rattle.partial_model.specs.Notes.{Noted, Fits, IsTrueOf, place_of, shown_by}
+use Rattle.partial_model.specs.History.{HaveDistinctStamps, IsHistory, last_entry, initial_stamp, stamp_of}
+use Rattle.partial_model.specs.Notes.{Fits, IsTrueOf, place_of, shown_by}
 use Rattle.partial_model.specs.Outcome.{wrote}
-use Rattle.partial_model.proofs.HistoryLemmas.{LastAt, last_at, place_below}
+use Rattle.partial_model.proofs.HistoryLemmas.{LastAt, last_at}
 use Rattle.partial_model.proofs.NotesLemmas.{AllByRecursion-get}
 use Rattle.partial_core.specs.declared.stage.Reply.{Reply}
 use Rattle.partial_core.specs.declared.stage.Reply.TheVariants as reply
 use Rattle.partial_core.specs.Lawful.{answer_for}
-use Rattle.partial_replay.specs.Place.{HasNoneFrom, IsPlaceFrom, IsNoteFrom, prefix_from}
+use Rattle.partial_replay.specs.Place.{IsPlaceFrom, IsNoteFrom, prefix_from}
 
 -- no two places have one stamp
 pub one_place : (h : List Applied) (i k : ℕ) (a b : Applied) → HaveDistinctStamps h → slice_get h i ≡ Some a → slice_get h k ≡ Some b → a.stamp ≡ b.stamp → i ≡ k
@@ -62,7 +61,7 @@ shows_entry o h j began n s None l hist behind stamp place =
     let whole : take n (take n h) ≡ take n h = take-take n n h (omega arith) in
     let front : take began (take n h) ≡ take began h = take-take began n h behind in
     elim (cases_lt (l.place) began) [
-      inl before ↦ record { least = behind; behind = omega arith; same = ap (last_entry j) (sym front) ∙ l.from began before ∙ sym (ap (last_entry j) (sym whole) ∙ l.from n (omega (arith, before, behind))) }
+      | inl before ↦ record { least = behind; behind = omega arith; same = ap (last_entry j) (sym front) ∙ l.from began before ∙ sym (ap (last_entry j) (sym whole) ∙ l.from n (omega (arith, before, behind))) }
       | inr from ↦ absurd (place (l.place) (l.entry) from both.1 stamp)
     ]
 shows_entry o h j began n s (Some k) l hist behind stamp place =
@@ -77,10 +76,10 @@ pub shows_same : (o : Opening) (h : List Applied) (j began n s : ℕ) (found : O
 shows_same o h j began n s found hist behind below stamp place =
     let whole : take n (take n h) ≡ take n h = take-take n n h (omega arith) in
     elim (last_at None j (take n h)) [
-      inl all ↦ shows_initial o h j began n s found hist behind below (sym (stamp_behind o j (take n h) None s (ap (last_entry j) (sym whole) ∙ all n) stamp)) all place
+      | inl all ↦ shows_initial o h j began n s found hist behind below (sym (stamp_behind o j (take n h) None s (ap (last_entry j) (sym whole) ∙ all n) stamp)) all place
       | inr l ↦
-        let both = front_place h n (l.place) (l.entry) (l.stands) in
-        shows_entry o h j began n s found l hist behind (stamp_behind o j (take n h) (Some (l.entry)) s (ap (last_entry j) (sym whole) ∙ l.from n (both.0)) stamp) place
+          let both = front_place h n (l.place) (l.entry) (l.stands) in
+          shows_entry o h j began n s found l hist behind (stamp_behind o j (take n h) (Some (l.entry)) s (ap (last_entry j) (sym whole) ∙ l.from n (both.0)) stamp) place
     ]
 
 -- what the note that is found says of a call whose note of some place is legal
@@ -109,9 +108,13 @@ finds_place o h p began (call.Read j) (reply.Read v s) (note.Saw n) found hist f
     let l = shows_same o h j began n s (place.0) hist behind fits (sym (w.2)) place.1 in
     let m = prefix_from began (place.0) in
     record {
-      note = note.Saw m; is = place.2; fits = fits;
+      note = note.Saw m;
+      is = place.2;
+      fits = fits;
       true' = (omega (arith, l.least, w.0), w.1 ∙ ap (λ (f : Option Applied). option_map_or (λ (e : Applied). e.value) f (get_or o.values j 0)) (sym l.same), w.2 ∙ ap (λ (f : Option Applied). option_map_or (λ (e : Applied). e.stamp) f (initial_stamp o j)) (sym l.same));
-      behind = l.behind; within = l.least; wrote' = refl;
+      behind = l.behind;
+      within = l.least;
+      wrote' = refl;
     }
 finds_place o h p began (call.UpdateIf j x v) (reply.Applied s) (note.Wrote k) found hist fits w behind place =
     let is = found_at o h began s k (record { port = p; component = j; value = v; stamp = s }) (place.0) hist behind (w.0) refl place.1 in
@@ -120,9 +123,13 @@ finds_place o h p began (call.UpdateIf j x v) (reply.Changed t) (note.Saw n) fou
     let l = shows_same o h j began n t (place.0) hist behind fits (w.1) place.1 in
     let m = prefix_from began (place.0) in
     record {
-      note = note.Saw m; is = place.2; fits = fits;
+      note = note.Saw m;
+      is = place.2;
+      fits = fits;
       true' = (omega (arith, l.least, w.0), ap (λ (f : Option Applied). option_map_or (λ (e : Applied). e.stamp) f (initial_stamp o j)) l.same ∙ w.1, w.2);
-      behind = l.behind; within = l.least; wrote' = refl;
+      behind = l.behind;
+      within = l.least;
+      wrote' = refl;
     }
 finds_place o h p began (call.Scan js) (reply.Applied s) (note.Wrote k) found hist fits w behind place = absurd w
 finds_place o h p began _ _ _ found hist fits w behind place = absurd w

@@ -1,8 +1,8 @@
 -- How a port of a replay goes on as its part's port.
-use Rattle.std.proofs.Common.{ℕ, zero, suc, ◌≡◌, ◌≢◌, ◌+◌, ◌-◌, ◌*◌, ◌<◌, ◌≤◌, ◌^◌, ◌⊎◌, ◌==◌, ◌++◌, Bool, true, false, cond, List, [], ◌∷◌, length, take, map, get_or, Option, Some, None, IfSome, IsSomeAnd, MatchOption, MatchBool, slice_get, nat_lt, refl, sym, ◌∙◌, ap, subst, inl, inr, arith, append_assoc, length-append}
-use Rattle.std.specs.List.{AllByRecursion, filter_map, cons_option}
+use Rattle.std.proofs.Common.{ℕ, zero, suc, ◌≡◌, ◌+◌, ◌<◌, ◌≤◌, ◌++◌, Bool, true, false, cond, List, [], ◌∷◌, length, take, map, get_or, Option, Some, None, IfSome, IsSomeAnd, MatchOption, MatchBool, slice_get, nat_lt, refl, sym, ◌∙◌, ap, subst, arith, length-append}
+use Rattle.std.specs.List.{AllByRecursion, cons_option}
 use Rattle.std.specs.Option.{option_map, option_map_or}
-use Rattle.std.proofs.lemmas.Bool.{ltb-true, ltb-false, false≢true, true≢false}
+use Rattle.std.proofs.lemmas.Bool.{ltb-true, ltb-false, false≢true}
 use Rattle.std.proofs.lemmas.List.{append-nil, length_push, map_push}
 use Rattle.partial_model.specs.declared.history.Applied.{Applied}
 use Rattle.partial_model.specs.declared.history.Opening.{Opening}
@@ -17,17 +17,16 @@ use Rattle.partial_model.specs.declared.call.Called.{Called}
 use Rattle.partial_model.specs.declared.call.Finish.{Finish}
 use Rattle.std.specs.declared.vec.Vec.{Vec}
 use Rattle.std.specs.declared.alloc.Global.{Global}
-use Rattle.partial_model.specs.Notes.{Noted, indices_of, ClaimsPool, LegalNotes, IsLegal, Fits, MayBeRefused, seen_by, seen_after, shown_by, place_of}
+use Rattle.partial_model.specs.Notes.{Noted, indices_of, ClaimsPool, LegalNotes, IsLegal, MayBeRefused, seen_by, seen_after, shown_by, place_of}
 use Rattle.partial_model.specs.Outcome.{noted_of, places_written, wrote}
 use Rattle.partial_model.proofs.NotesLemmas.{LegalNotes-push, LegalNotes-grows, seen_by-push, places_written-push}
 use Rattle.partial_words.specs.declared.step.Step.{Step}
 use Rattle.partial_words.specs.declared.step.Event.{Event}
 use Rattle.partial_words.specs.Step.{answer_of, words_after}
 use Rattle.partial_core.specs.declared.stage.Reply.{Reply}
-use Rattle.partial_core.specs.declared.stage.Stage.{Stage}
-use Rattle.partial_core.specs.declared.stage.Stage.TheVariants.{Idle, ReadBegun, UpdateBegun}
-use Rattle.partial_core.specs.Machine.{CoreState, at_stage, advance, step_of, reply_of, read_refusal, update_refusal, steps_left, left_at}
-use Rattle.partial_core.specs.Lawful.{Part, core_of, port_of, is_begun, is_at_rest, IsMachineOf, MayBegin, MayBeginAt, begun_with, call_at, first_at, answer_for}
+use Rattle.partial_core.specs.declared.stage.Stage.TheVariants.{Idle}
+use Rattle.partial_core.specs.Machine.{CoreState, at_stage, advance, step_of, reply_of, steps_left, left_at}
+use Rattle.partial_core.specs.Lawful.{Part, core_of, port_of, is_begun, is_at_rest, IsMachineOf, MayBegin, MayBeginAt, call_at}
 use Rattle.partial_replay.specs.declared.port.Port.{Port}
 use Rattle.partial_replay.specs.declared.port.UnderWay.{UnderWay}
 use Rattle.partial_replay.specs.PortState.{IsServed, stage_of, refusal_of, end_of, ends_of, IsFinished, AreFinished, notes_in, IsUnderWay, IsBetween, PortFits, refused_call, entry_at, one_step_more, IsEndedCall, GoesOn, Ends, StepMade}
@@ -120,7 +119,10 @@ done_grows o log es calls p done places w =
     record {
       finished = finished_grows (length log) (length (log ++ es)) p 0 0 done (omega (arith, length-append log es)) w.finished;
       legal = LegalNotes-grows o log es p 0 (notes_in done) w.legal;
-      shown = w.shown; written = w.written; made = w.made; few = w.few;
+      shown = w.shown;
+      written = w.written;
+      made = w.made;
+      few = w.few;
     }
 
 ended_finish : (o : Opening) (log : List Applied) (p number low seen : ℕ) (call : Call) (c : Called) (e : EndedCall o log p number low seen call c) → IsFinished (length log) low c
@@ -243,8 +245,8 @@ begun_fits o log calls p x port new call w none next served refusal number core 
     } in
     let sizes : new.core.sizes.m ≡ length o.values = ap (λ (s : CoreState). s.sizes.m) core ∙ w.sizes in
     fits_with o log calls p x new (places_written x.notes) (number ∙ w.number) w.part sizes
-      (subst (λ (l : List Called). DoneFits o log calls p l (places_written x.notes)) (sym done) (done_of o log calls p x port w)) refl
-      (subst (λ (f : Option UnderWay). MatchOption f (IsBetween x c) (IsUnderWay (length log) calls x c new.finished.items)) (sym way) going)
+    (subst (λ (l : List Called). DoneFits o log calls p l (places_written x.notes)) (sym done) (done_of o log calls p x port w)) refl
+    (subst (λ (f : Option UnderWay). MatchOption f (IsBetween x c) (IsUnderWay (length log) calls x c new.finished.items)) (sym way) going)
 
 -- a call is refused at once at a port between calls
 pub refused_fits : (o : Opening) (log : List Applied) (calls : List Call) (p : ℕ) (x : Part) (port new : Port) (call : Call) (cause : Refused) → PortFits o log calls p x port → port.under_way ≡ None → slice_get calls (length port.finished.items) ≡ Some call → refusal_of port.core call ≡ Some cause → new.number ≡ port.number → new.core ≡ port.core → new.finished.items ≡ port.finished.items ++ refused_call port.number (length port.finished.items) call (length log) cause ∷ [] → new.under_way ≡ None → PortFits o log calls p x new
@@ -254,13 +256,22 @@ refused_fits o log calls p x port new call cause w none next refusal number core
     let low = ends_within (length log) p 0 0 port.finished.items (omega arith) w.finished in
     let may : MayBeRefused (length o.values) call cause = subst (λ m. MayBeRefused m call cause) w.sizes (may_be_refused port.core call cause refusal) in
     let e : EndedCall o log p (length port.finished.items) (ends_of 0 port.finished.items) (seen_by 0 (notes_in port.finished.items)) call c = record {
-      answer = answer.Refused cause; note = None; port = w.number; number' = refl; call' = refl; behind = low; within = omega arith; finish = refl; placed = tt; legal = (may, tt);
+      answer = answer.Refused cause;
+      note = None;
+      port = w.number;
+      number' = refl;
+      call' = refl;
+      behind = low;
+      within = omega arith;
+      finish = refl;
+      placed = tt;
+      legal = (may, tt);
     } in
     let pushed : DoneFits o log calls p (port.finished.items ++ c ∷ []) (places_written x.notes ++ []) = push_fits o log calls p port.finished.items (places_written x.notes) call c (done_of o log calls p x port w) next e in
     let sizes : new.core.sizes.m ≡ length o.values = ap (λ (s : CoreState). s.sizes.m) core ∙ w.sizes in
     fits_with o log calls p x new (places_written x.notes ++ []) (number ∙ w.number) w.part sizes
-      (subst (λ (l : List Called). DoneFits o log calls p l (places_written x.notes ++ [])) (sym finished) pushed) (append-nil (places_written x.notes))
-      (subst (λ (f : Option UnderWay). MatchOption f (IsBetween x new.core) (IsUnderWay (length log) calls x new.core new.finished.items)) (sym way) (record { rest = between.rest; machine = core ∙ between.machine }))
+    (subst (λ (l : List Called). DoneFits o log calls p l (places_written x.notes ++ [])) (sym finished) pushed) (append-nil (places_written x.notes))
+    (subst (λ (f : Option UnderWay). MatchOption f (IsBetween x new.core) (IsUnderWay (length log) calls x new.core new.finished.items)) (sym way) (record { rest = between.rest; machine = core ∙ between.machine }))
 
 -- the call that stands behind the finished ones
 pub call_at_place : (calls : List Call) (done : List Called) (n : ℕ) (call : Call) → n ≡ length done → n < length calls → call ≡ get_or calls n call → slice_get calls (length done) ≡ Some call
@@ -281,7 +292,11 @@ step_ended calls words words' trace trace' log log' port new step way a core' co
       finished = finished ∙ ap (λ (c : Called). port.finished.items ++ c ∷ []) (ended.2);
     } in
     record {
-      step = step; way = way; due = due; was = was; words_are = words_are;
+      step = step;
+      way = way;
+      due = due;
+      was = was;
+      words_are = words_are;
       trace_is = trace_is ∙ ap (λ n. trace ++ record { port = port.number; step = step; answer = n } ∷ []) answer;
       log_is = log_is ∙ ap (λ n. log ++ entry_at words' port.number step n) answer;
       number = number;

@@ -1,10 +1,7 @@
 -- A step of a port keeps a replay's state lawful.
-use Rattle.std.proofs.Common.{ℕ, zero, suc, ◌≡◌, ◌≢◌, ◌+◌, ◌-◌, ◌*◌, ◌<◌, ◌≤◌, ◌^◌, ◌⊎◌, ◌==◌, ◌++◌, Bool, true, false, cond, List, [], ◌∷◌, length, take, map, get_or, set, Option, Some, None, IfSome, IsSomeAnd, MatchOption, MatchBool, slice_get, refl, sym, ◌∙◌, ap, subst, inl, inr, arith, append_assoc, length-append, get_or-set_other}
-use Rattle.std.specs.List.{AllByRecursion}
-use Rattle.std.proofs.lemmas.Bool.{false≢true, eqb-true}
+use Rattle.std.proofs.Common.{ℕ, ◌≡◌, ◌+◌, ◌<◌, ◌≤◌, ◌==◌, ◌++◌, Bool, true, false, cond, List, [], ◌∷◌, length, Option, Some, None, MatchOption, MatchBool, slice_get, refl, sym, ◌∙◌, ap, subst, arith, length-append}
+use Rattle.std.proofs.lemmas.Bool.{false≢true}
 use Rattle.std.proofs.lemmas.List.{append-nil}
-use Rattle.std.specs.declared.vec.Vec.{Vec}
-use Rattle.std.specs.declared.alloc.Global.{Global}
 use Rattle.partial_model.specs.declared.history.Applied.{Applied}
 use Rattle.partial_model.specs.declared.history.Opening.{Opening}
 use Rattle.partial_model.specs.declared.call.Call.{Call}
@@ -12,34 +9,27 @@ use Rattle.partial_model.specs.declared.call.Refused.{Refused}
 use Rattle.partial_model.specs.declared.call.Answer.TheVariants as answer
 use Rattle.partial_model.specs.declared.call.Note.{Note}
 use Rattle.partial_model.specs.declared.call.Called.{Called}
-use Rattle.partial_model.specs.declared.call.Finish.{Finish}
 use Rattle.partial_model.specs.Notes.{Noted, LegalNotes, IsLegal, MayBeRefused, seen_by, seen_after, shown_by, place_of}
 use Rattle.partial_model.specs.Outcome.{places_written, wrote}
 use Rattle.partial_model.proofs.NotesLemmas.{places_written-append}
 use Rattle.partial_words.specs.declared.step.Step.{Step}
-use Rattle.partial_words.specs.declared.step.Step.TheVariants.{Load, Store, Exchange, Add}
 use Rattle.partial_words.specs.declared.step.Event.{Event}
-use Rattle.partial_words.specs.Layout.{Layout, pool_base, pool_end, total}
-use Rattle.partial_words.specs.Step.{Answers, Leads, answer_of, words_after, word_of}
-use Rattle.partial_words.specs.Record.{record_block, value_of}
+use Rattle.partial_words.specs.Layout.{Layout}
+use Rattle.partial_words.specs.Step.{Answers, Leads, answer_of, words_after}
 use Rattle.partial_core.specs.declared.stage.Change.{Change}
 use Rattle.partial_core.specs.declared.stage.Reply.{Reply}
 use Rattle.partial_core.specs.declared.stage.Reply.TheVariants as reply
 use Rattle.partial_core.specs.declared.stage.Stage.{Stage}
 use Rattle.partial_core.specs.declared.stage.Stage.TheVariants.{Idle, ReadBegun, LoadingValue, UpdateBegun, LoadingListHead, LoadingSlotCounter, ClaimingRecord, StoringRecord, Exchanging, Finished}
-use Rattle.partial_core.specs.Machine.{CoreState, at_stage, advance, advance_at, step_of, step_at, reply_of, spent, fits_pool, expects, IsStage, IsPossible, IsPossibleAt, IsRecord, steps_left}
-use Rattle.partial_core.specs.Lawful.{Part, Kept, Lawful, IsKnown, IsTied, IsOwn, Own, own_of, own_at, core_of, port_of, led_by, is_begun, is_at_rest, IsMachineOf, MayBegin, begun_with, kept_with, since_with, moved, added, added_at, call_at, first_at, answer_for, LeadsOn, IsNoteOf, IsRefusal, AreNotesOf}
+use Rattle.partial_core.specs.Machine.{CoreState, at_stage, advance, advance_at, step_at, reply_of, spent, fits_pool, expects, IsPossibleAt, steps_left}
+use Rattle.partial_core.specs.Lawful.{Part, Kept, IsKnown, core_of, port_of, led_by, is_begun, is_at_rest, IsMachineOf, MayBegin, begun_with, kept_with, moved, added, call_at, first_at, answer_for, LeadsOn, IsNoteOf, IsRefusal, AreNotesOf}
 use Rattle.partial_core.proofs.ListLemmas.{all_at}
-use Rattle.partial_core.proofs.PartLemmas.{led_push, port_led, sizes_led, stage_known}
-use Rattle.partial_core.proofs.Frames.{if_some_at}
-use Rattle.partial_core.proofs.AllSteps.{steps_stay_lawful}
+use Rattle.partial_core.proofs.PartLemmas.{led_push, port_led, sizes_led}
 use Rattle.partial_replay.specs.declared.port.Port.{Port}
 use Rattle.partial_replay.specs.declared.port.UnderWay.{UnderWay}
-use Rattle.partial_replay.specs.Place.{IsNoteFrom}
-use Rattle.partial_replay.specs.PortState.{IsExchangeWithin, ends_of, notes_in, IsUnderWay, IsBetween, PortFits, entry_at, one_step_more, ended_call, GoesOn, Ends, StepMade, MayStep, KeepsFit}
-use Rattle.partial_replay.specs.RunState.{PortsFit, IsRunOf}
-use Rattle.partial_replay.proofs.Places.{FindsPlace, finds_place}
-use Rattle.partial_replay.proofs.PortLaws.{DoneFits, EndedCall, done_of, done_grows, push_fits, fits_with, finished_grows, ends_within, get_below}
+use Rattle.partial_replay.specs.PortState.{ends_of, notes_in, IsUnderWay, IsBetween, PortFits, one_step_more, ended_call, GoesOn, Ends}
+use Rattle.partial_replay.proofs.Places.{finds_place}
+use Rattle.partial_replay.proofs.PortLaws.{DoneFits, EndedCall, done_of, done_grows, push_fits, fits_with}
 
 -- the due step of a machine that isn't at rest
 pub due_step : (z : Layout) (s : Stage) → is_at_rest s ≡ false → (step : Step) × (step_at z s ≡ Some step)
@@ -190,9 +180,9 @@ module _ (z : Layout) (o : Opening) (words : List ℕ) (before : List Part) (x :
           steps = let left : steps_left new.core ≡ steps_left (advance port.core a) = ap steps_left g.machine in omega (arith, left, falls, u.steps);
         } in
         fits_with o log2 calls p y new (places_written x.notes) (number ∙ w.number) port_y (sizes_y new.core g.machine)
-          (subst (λ (d : List Called). DoneFits o log2 calls p d (places_written x.notes)) (sym g.finished) (done_grows o log (added port.core a) calls p port.finished.items (places_written x.notes) (done_of o log calls p x port w)))
-          (sym (places_y [] no_new ∙ append-nil (places_written x.notes)))
-          (subst (λ (f : Option UnderWay). MatchOption f (IsBetween y new.core) (IsUnderWay (length log2) calls y new.core new.finished.items)) (sym g.way') going)
+        (subst (λ (d : List Called). DoneFits o log2 calls p d (places_written x.notes)) (sym g.finished) (done_grows o log (added port.core a) calls p port.finished.items (places_written x.notes) (done_of o log calls p x port w)))
+        (sym (places_y [] no_new ∙ append-nil (places_written x.notes)))
+        (subst (λ (f : Option UnderWay). MatchOption f (IsBetween y new.core) (IsUnderWay (length log2) calls y new.core new.finished.items)) (sym g.way') going)
 
     -- the call is finished
     ends_fits : (r : Reply) (ns : List Noted) → new.number ≡ port.number → reply_of (advance port.core a) ≡ Some r → (e : Ends calls log2 port new way (advance port.core a) r) → l.new ≡ ns → (d : EndedCall o log2 p (length port.finished.items) (ends_of 0 port.finished.items) (seen_by 0 (notes_in port.finished.items)) e.call (ended_call port.number (length port.finished.items) e.call (one_step_more way) (length log2) r e.note)) → wrote (d.note) ≡ places_written ns → PortFits o log2 calls p y new
@@ -203,10 +193,10 @@ module _ (z : Layout) (o : Opening) (words : List ℕ) (before : List Part) (x :
         let pushed = push_fits o log2 calls p port.finished.items (places_written x.notes) e.call c grown e.next d in
         let idle : new.core.sizes.m ≡ length o.values = ap (λ (s : CoreState). s.sizes.m) e.machine ∙ sizes_y (advance port.core a) refl in
         fits_with o log2 calls p y new (places_written x.notes ++ wrote (d.note)) (number ∙ w.number) port_y idle
-          (subst (λ (f : List Called). DoneFits o log2 calls p f (places_written x.notes ++ wrote (d.note))) (sym e.finished) pushed)
-          (ap (λ (k : List ℕ). places_written x.notes ++ k) places ∙ sym (places_y ns news))
-          (subst (λ (f : Option UnderWay). MatchOption f (IsBetween y new.core) (IsUnderWay (length log2) calls y new.core new.finished.items)) (sym e.none)
-            (record { rest = ap (λ (s : CoreState). is_at_rest s.stage) core_y ∙ behind.ended r replied; machine = e.machine ∙ ap (λ (s : CoreState). at_stage s Idle) (sym core_y) }))
+        (subst (λ (f : List Called). DoneFits o log2 calls p f (places_written x.notes ++ wrote (d.note))) (sym e.finished) pushed)
+        (ap (λ (k : List ℕ). places_written x.notes ++ k) places ∙ sym (places_y ns news))
+        (subst (λ (f : Option UnderWay). MatchOption f (IsBetween y new.core) (IsUnderWay (length log2) calls y new.core new.finished.items)) (sym e.none)
+        (record { rest = ap (λ (s : CoreState). is_at_rest s.stage) core_y ∙ behind.ended r replied; machine = e.machine ∙ ap (λ (s : CoreState). at_stage s Idle) (sym core_y) }))
 
     -- the call that the part has begun is the one that ends
     same_call : (r : Reply) (e : Ends calls log2 port new way (advance port.core a) r) (c : Call) → call_at (y.begun).stage ≡ Some c → c ≡ e.call
@@ -224,10 +214,16 @@ module _ (z : Layout) (o : Opening) (words : List ℕ) (before : List Part) (x :
         let may : MayBeRefused (length o.values) (e.call) cause = subst (λ (k : ℕ). MayBeRefused k (e.call) cause) m (subst (λ (c : Call). MayBeRefused (y.begun).sizes.m c cause) call' n.may) in
         let more = longer in
         ends_fits (reply.Refused cause) [] number replied e n.none (record {
-          answer = answer.Refused cause; note = None; port = w.number; number' = refl; call' = refl;
-          behind = u.behind; within = omega (arith, more, u.within);
+          answer = answer.Refused cause;
+          note = None;
+          port = w.number;
+          number' = refl;
+          call' = refl;
+          behind = u.behind;
+          within = omega (arith, more, u.within);
           finish = ap (λ (f : Option Note). Some (record { ended = length log2; answer = answer.Refused cause; note = f })) e.noted;
-          placed = tt; legal = (may, tt);
+          placed = tt;
+          legal = (may, tt);
         }) refl
 
     noted_fits : (r : Reply) → new.number ≡ port.number → reply_of (advance port.core a) ≡ Some r → Ends calls log2 port new way (advance port.core a) r → IsNoteOf y r l.new → PortFits o log2 calls p y new
@@ -243,8 +239,13 @@ module _ (z : Layout) (o : Opening) (words : List ℕ) (before : List Part) (x :
         let top = n.within in
         let placed : (way.began ≤ place_of (found.note)) × (shown_by (found.note) ≤ length log2) = (found.behind, omega (arith, found.within, top)) in
         ends_fits r (record { call = c; answer = answer_for r; note = Some (n.note) } ∷ []) number replied e n.is (record {
-          answer = answer_for r; note = Some (found.note); port = w.number; number' = refl; call' = refl;
-          behind = u.behind; within = omega (arith, more, u.within);
+          answer = answer_for r;
+          note = Some (found.note);
+          port = w.number;
+          number' = refl;
+          call' = refl;
+          behind = u.behind;
+          within = omega (arith, more, u.within);
           finish = ap (λ (f : Option Note). Some (record { ended = length log2; answer = answer_for r; note = f })) (found.is);
           placed = placed;
           legal = subst (λ (d : Call). IsLegal o log2 p (seen_by 0 (notes_in port.finished.items)) (record { call = d; answer = answer_for r; note = Some (found.note) })) call' (found.fits, (found.true', omega (arith, w.shown, u.behind, found.behind)));

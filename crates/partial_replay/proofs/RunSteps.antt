@@ -1,9 +1,8 @@
 -- A turn of a port among the others.
-use Rattle.std.proofs.Common.{ℕ, zero, suc, ◌≡◌, ◌≢◌, ◌+◌, ◌-◌, ◌*◌, ◌<◌, ◌≤◌, ◌^◌, ◌⊎◌, ◌==◌, ◌++◌, Bool, true, false, cond, List, [], ◌∷◌, length, take, get_or, set, Option, Some, None, IfSome, MatchOption, MatchBool, slice_get, refl, sym, ◌∙◌, ap, subst, arith, append_assoc, length-append, get_or-set_other}
-use Rattle.std.specs.List.{AllByRecursion}
+use Rattle.std.proofs.Common.{ℕ, zero, suc, ◌≡◌, ◌+◌, ◌-◌, ◌*◌, ◌<◌, ◌≤◌, ◌==◌, ◌++◌, Bool, true, false, cond, List, [], ◌∷◌, length, get_or, set, Option, Some, None, MatchOption, MatchBool, slice_get, refl, sym, ◌∙◌, ap, subst, arith, length-append, get_or-set_other}
 use Rattle.std.specs.Option.{option_map_or, is_some, IsSome}
 use Rattle.std.specs.Bool.{OnTrue}
-use Rattle.std.proofs.lemmas.Bool.{false≢true, eqb-true}
+use Rattle.std.proofs.lemmas.Bool.{false≢true}
 use Rattle.std.proofs.lemmas.List.{append-nil, length_push}
 use Rattle.partial_model.specs.declared.history.Applied.{Applied}
 use Rattle.partial_model.specs.declared.history.Opening.{Opening}
@@ -13,22 +12,22 @@ use Rattle.partial_model.proofs.NotesLemmas.{LegalNotes-grows}
 use Rattle.partial_words.specs.declared.step.Step.{Step}
 use Rattle.partial_words.specs.declared.step.Step.TheVariants.{Load, Store, Exchange, Add}
 use Rattle.partial_words.specs.declared.step.Event.{Event}
-use Rattle.partial_words.specs.Layout.{Layout, pool_base, pool_end, total}
-use Rattle.partial_words.specs.Step.{Answers, Leads, answer_of, words_after, word_of}
+use Rattle.partial_words.specs.Layout.{Layout, total}
+use Rattle.partial_words.specs.Step.{Leads, answer_of, words_after}
 use Rattle.partial_words.specs.Record.{record_block, value_of}
 use Rattle.partial_core.specs.declared.stage.Change.{Change}
 use Rattle.partial_core.specs.declared.stage.Reply.{Reply}
 use Rattle.partial_core.specs.declared.stage.Stage.{Stage}
 use Rattle.partial_core.specs.declared.stage.Stage.TheVariants.{Idle, ReadBegun, LoadingValue, UpdateBegun, LoadingListHead, LoadingSlotCounter, ClaimingRecord, StoringRecord, Exchanging, Finished}
-use Rattle.partial_core.specs.Machine.{CoreState, at_stage, advance, step_of, step_at, reply_of, IsStage, IsPossible, IsRecord, steps_left}
-use Rattle.partial_core.specs.Lawful.{Part, Lawful, IsKnown, IsTied, IsOwn, Own, own_of, own_at, core_of, port_of, is_begun, is_at_rest, IsMachineOf, MayBegin, moved, added, added_at, LeadsOn}
+use Rattle.partial_core.specs.Machine.{CoreState, at_stage, advance, step_at, reply_of, IsStage, steps_left}
+use Rattle.partial_core.specs.Lawful.{Part, Lawful, IsKnown, IsTied, IsOwn, own_of, own_at, core_of, is_begun, is_at_rest, IsMachineOf, MayBegin, moved, added, added_at}
 use Rattle.partial_core.proofs.ListLemmas.{all_at}
 use Rattle.partial_core.proofs.PartLemmas.{stage_known, sizes_led}
 use Rattle.partial_core.proofs.Frames.{if_some_at}
 use Rattle.partial_core.proofs.AllSteps.{steps_stay_lawful}
 use Rattle.partial_replay.specs.declared.port.Port.{Port}
 use Rattle.partial_replay.specs.declared.port.UnderWay.{UnderWay}
-use Rattle.partial_replay.specs.PortState.{IsExchangeWithin, ends_of, notes_in, IsUnderWay, IsBetween, PortFits, entry_at, one_step_more, ended_call, GoesOn, Ends, StepMade, MayStep, KeepsFit}
+use Rattle.partial_replay.specs.PortState.{IsExchangeWithin, notes_in, IsUnderWay, IsBetween, PortFits, entry_at, one_step_more, ended_call, GoesOn, Ends, StepMade, MayStep, KeepsFit}
 use Rattle.partial_replay.specs.RunState.{PortsFit, IsRunOf, left_of, left_at}
 use Rattle.partial_replay.proofs.PortLaws.{finished_grows, get_below, get_is}
 use Rattle.partial_replay.proofs.RunLaws.{due_step, machine_port, leads_push, step_fits}
@@ -42,10 +41,15 @@ way_grows log es calls x core done (Some way) w =
 pub fits_grows : (o : Opening) (log es : List Applied) (calls : List Call) (p : ℕ) (x : Part) (port : Port) → PortFits o log calls p x port → PortFits o (log ++ es) calls p x port
 fits_grows o log es calls p x port w =
     record {
-      number = w.number; part = w.part; sizes = w.sizes;
+      number = w.number;
+      part = w.part;
+      sizes = w.sizes;
       finished = finished_grows (length log) (length (log ++ es)) p 0 0 port.finished.items (omega (arith, length-append log es)) w.finished;
       legal = LegalNotes-grows o log es p 0 (notes_in port.finished.items) w.legal;
-      shown = w.shown; written = w.written; made = w.made; few = w.few;
+      shown = w.shown;
+      written = w.written;
+      made = w.made;
+      few = w.few;
       way = way_grows log es calls x port.core port.finished.items port.under_way w.way;
     }
 
@@ -75,7 +79,10 @@ at_port o log q (d ∷ plans) (x ∷ parts) (u ∷ ports) zero calls port w c t 
     let same : u ≡ port = cc in
     let zero' : q ≡ q + 0 = omega arith in
     record {
-      before = []; x = x; after = parts; is = refl;
+      before = [];
+      x = x;
+      after = parts;
+      is = refl;
       fits = subst (λ n. PortFits o log calls n x port) zero' (subst (λ (v : Port). PortFits o log calls q x v) same (subst (λ (e : List Call). PortFits o log e q x u) is w.0));
       replace = λ es y new f. (subst (λ (e : List Call). PortFits o (log ++ es) e q y new) (sym is) (subst (λ n. PortFits o (log ++ es) calls n y new) (sym zero') f), ports_grow o log es (q + 1) plans parts ports w.1);
     }
@@ -83,7 +90,10 @@ at_port o log q (d ∷ plans) (x ∷ parts) (u ∷ ports) (suc i) calls port w c
     let rest = at_port o log (q + 1) plans parts ports i calls port w.1 c t in
     let more : q + 1 + i ≡ q + suc i = omega arith in
     record {
-      before = x ∷ rest.before; x = rest.x; after = rest.after; is = ap (λ (l : List Part). x ∷ l) (rest.is);
+      before = x ∷ rest.before;
+      x = rest.x;
+      after = rest.after;
+      is = ap (λ (l : List Part). x ∷ l) (rest.is);
       fits = subst (λ n. PortFits o log calls n (rest.x) port) more (rest.fits);
       replace = λ es y new f. (fits_grows o log es d q x u w.0, rest.replace es y new (subst (λ n. PortFits o (log ++ es) calls n y new) (sym more) f));
     }
@@ -105,7 +115,11 @@ begin_keeps plans z o words ports log trace i calls port new w c t keeps =
     let same = append-nil log in
     let fits : PortFits o (log ++ []) calls (0 + i) (at.x) new = subst (λ (l : List Applied). PortFits o l calls (0 + i) (at.x) new) (sym same) (keeps o log (0 + i) (at.x) refl (at.fits)) in
     record {
-      parts = w.parts; opened = w.opened; opens = w.opens; lawful = w.lawful; leads = w.leads;
+      parts = w.parts;
+      opened = w.opened;
+      opens = w.opens;
+      lawful = w.lawful;
+      leads = w.leads;
       fit = subst (λ (l : List Part). PortsFit o log 0 plans l (set ports i new)) (sym (at.is)) (subst (λ (l : List Applied). PortsFit o l 0 plans ((at.before) ++ (at.x) ∷ (at.after)) (set ports i new)) same (at.replace [] (at.x) new fits));
     }
 
@@ -160,6 +174,7 @@ exchange_facts z o words before x after log c w m ch old at e =
 sizes_at' : (z : Layout) (c : CoreState) (x : Part) (b : Bool) → (core_of x).sizes ≡ z → MatchBool b ((is_at_rest (core_of x).stage ≡ true) × (c ≡ at_stage (core_of x) c.stage) × MayBegin c) (c ≡ core_of x) → z ≡ c.sizes
 sizes_at' z c x true s m = sym (ap (λ (d : CoreState). d.sizes) m.1 ∙ s)
 sizes_at' z c x false s m = sym (ap (λ (d : CoreState). d.sizes) m ∙ s)
+
 sizes_here' : (z : Layout) (o : Opening) (log : List Applied) (x : Part) (c : CoreState) → IsKnown z o log x → IsMachineOf c x → z ≡ c.sizes
 sizes_here' z o log x c known m = sizes_at' z c x (is_begun c.stage) (sizes_led x.begun x.kept ∙ known.sizes) m
 
@@ -173,7 +188,10 @@ may_step plans z o words ports log trace i calls port way w c t is =
     let l = steps_stay_lawful z o words (at.before) (at.x) (at.after) log port.core (due.0) lawful u.machine due.1 in
     let known = all_at (IsKnown z o log) (at.before) (at.x) (at.after) lawful.known in
     record {
-      step = due.0; way = way; due = due.1; was = is;
+      step = due.0;
+      way = way;
+      due = due.1;
+      was = is;
       within = (l.answers).within;
       possible = l.possible;
       exchange = exchange_within_at z words port.core.stage (due.0) lawful.count (ap (λ (s : Layout). step_at s port.core.stage) (sizes_here' z o log (at.x) port.core known u.machine) ∙ due.1) (λ b. subst (λ (d : CoreState). IsStage z d.stage) (sym (middle port.core (at.x) (is_begun port.core.stage) u.machine b)) (stage_known z o log (at.x) known));
@@ -198,7 +216,9 @@ step_keeps plans z o words words' ports log log' trace trace' i calls port new w
     let fits = step_fits z o words (at.before) (at.x) (at.after) log calls (0 + i) port new (m.step) (m.way) (at.fits) u l (reply_of (advance port.core a)) refl m.number m.falls after in
     let event : Event = record { port = port.number; step = m.step; answer = a } in
     record {
-      parts = (at.before) ++ y ∷ (at.after); opened = w.opened; opens = w.opens;
+      parts = (at.before) ++ y ∷ (at.after);
+      opened = w.opened;
+      opens = w.opens;
       lawful = subst (λ (ws : List ℕ). Lawful z o ws ((at.before) ++ y ∷ (at.after)) log') (sym m.words_are) (subst (λ (k : List Applied). Lawful z o (words_after words (m.step)) ((at.before) ++ y ∷ (at.after)) k) (sym log_is) l.lawful);
       fit = subst (λ (k : List Applied). PortsFit o k 0 plans ((at.before) ++ y ∷ (at.after)) (set ports i new)) (sym log_is) (at.replace (added port.core a) y new fits);
       leads = subst (λ (ws : List ℕ). Leads w.opened trace' ws) (sym m.words_are) (subst (λ (es : List Event). Leads w.opened es (words_after words (m.step))) (sym m.trace_is) (leads_push w.opened words trace event w.leads l.answers));

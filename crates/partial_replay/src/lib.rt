@@ -11,7 +11,6 @@ pub use partial_text::{Cause, Device, Outcome, OutcomeError, Plan, PlanError, wr
 pub use partial_words::Event;
 pub use replaying::{ReplayError, replay};
 
-
 #[cfg(test)]
 mod tests {
     use super::*;
@@ -19,7 +18,8 @@ mod tests {
 
     #[test]
     fn lost_exchange(rt: HostRuntime) -> Result<(), Fail> {
-        let text = b"sizes 2 4 8 64\ninitial 10 20\nport update 0 7\nport update 0 9\nsteps 0*7 1*8 0*1\n";
+        let text =
+            b"sizes 2 4 8 64\ninitial 10 20\nport update 0 7\nport update 0 9\nsteps 0*7 1*8 0*1\n";
         let mut reader = Device::new(text.as_slice());
         let plan = Plan::read(rt.alloc(), &mut reader)?;
         let outcome = replay(rt.alloc(), &plan)?;

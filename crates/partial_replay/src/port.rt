@@ -7,12 +7,11 @@ ghost use Rattle.partial_core.specs.declared.stage.Stage.TheVariants.{Idle};
 ghost use Rattle.partial_core.specs.Machine.{at_stage};
 ghost use Rattle.partial_replay.specs.PortState.{IsServed, IsExchangeWithin, stage_of, refusal_of, entry_at, refused_call, unfinished_call, IsEndedCall, KeepsFit, MayStep, StepMade};
 
+use crate::note::{answer_of, note_of};
 use partial_core::{Core, Reply};
 use partial_model::{Answer, Applied, Call, Called, Finish, Refused};
 use partial_words::{Event, Step, value_of};
 use std::alloc::AllocError;
-
-use crate::note::{answer_of, note_of};
 
 /// A call that has been begun and isn't finished: it is the one behind the finished calls.
 #[derive(Clone, Copy, Debug)]
@@ -166,7 +165,14 @@ impl Port {
         match self.core.take() {
             Some(reply) => {
                 let number = self.finished.len();
-                let called = ended(self.number, number as u32, &calls[number], way, history, reply);
+                let called = ended(
+                    self.number,
+                    number as u32,
+                    &calls[number],
+                    way,
+                    history,
+                    reply,
+                );
                 self.finished.push(called)?;
                 self.under_way = None;
             }

@@ -1,10 +1,9 @@
 //! The replay of a whole plan.
 
+use crate::run::Run;
 use partial_text::{Outcome, Plan};
 use std::alloc::{AllocError, Global};
 use thiserror::Error;
-
-use crate::run::Run;
 
 /// Why a plan wasn't replayed. Nothing is left of the replay.
 #[derive(Clone, Copy, Debug, PartialEq, Eq, Error)]

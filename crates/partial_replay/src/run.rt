@@ -6,13 +6,12 @@ ghost use Rattle.partial_words.specs.Layout.{IsLayout};
 ghost use Rattle.partial_words.specs.Chain.{AreOpeningWords};
 ghost use Rattle.partial_replay.specs.RunState.{AreFreshPorts, AreListed, calls_in};
 
+use crate::port::{Port, unfinished};
 use partial_core::Core;
 use partial_model::{Applied, Call, Called, Opening, Sequence};
 use partial_text::Outcome;
 use partial_words::{Event, Sizes};
 use std::alloc::{AllocError, Global};
-
-use crate::port::{Port, unfinished};
 
 /// The state of a replay.
 #[derive(Debug, Drop)]
@@ -120,7 +119,12 @@ impl Run {
     }
 
     /// So many turns of a port, or until it has no call left.
-    pub fn turns(&mut self, p: usize, plans: &[Sequence<Call>], count: u32) -> Result<(), AllocError>
+    pub fn turns(
+        &mut self,
+        p: usize,
+        plans: &[Sequence<Call>],
+        count: u32,
+    ) -> Result<(), AllocError>
         requires run { IsRun plans.now self.old }
         requires plans { ArePlans plans.now }
         requires port { p < length plans.now }

@@ -1,4 +1,3 @@
-use Rattle.std.proofs.Common.{ℕ, ◌≡◌, ◌≤◌}
 use Rattle.partial_replay.specs.Place.{HasNoneFrom}
 use Rattle.partial_replay.proofs.note.place_of.Given as goal
 

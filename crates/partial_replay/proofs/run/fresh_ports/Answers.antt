@@ -1,4 +1,4 @@
-use Rattle.std.proofs.Common.{◌≡◌, ◌+◌, length, ap, ◌∙◌, subst, sym, arith, refl}
+use Rattle.std.proofs.Common.{◌+◌, length, ap, ◌∙◌, subst, sym, arith, refl}
 use Rattle.std.proofs.lemmas.List.{length_push}
 use Rattle.partial_replay.specs.declared.port.Port.{Port}
 use Rattle.std.proofs.Common.{List}

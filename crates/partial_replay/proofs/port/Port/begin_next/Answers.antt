@@ -1,9 +1,8 @@
-use Rattle.std.proofs.Common.{◌≡◌, ◌+◌, ◌<◌, ◌≤◌, ◌++◌, refl, ◌∷◌, [], List, length, Some, slice_get, sym, ◌∙◌, ap, arith}
+use Rattle.std.proofs.Common.{◌≡◌, ◌+◌, ◌<◌, ◌++◌, refl, ◌∷◌, [], length, Some, slice_get, sym, ◌∙◌, ap, arith}
 use Rattle.std.proofs.lemmas.List.{length_push}
 use Rattle.partial_model.proofs.NotesLemmas.{AllByRecursion-get}
 use Rattle.partial_model.specs.declared.call.Called.{Called}
 use Rattle.partial_core.specs.Machine.{CoreState}
-use Rattle.partial_replay.specs.declared.port.UnderWay.{UnderWay}
 use Rattle.partial_replay.specs.PortState.{IsServed, refused_call}
 use Rattle.partial_replay.proofs.PortLaws.{begun_fits, refused_fits, call_at_place}
 use Rattle.partial_replay.proofs.port.Port.begin_next.Goals as goal

@@ -1,4 +1,4 @@
-use Rattle.std.proofs.Common.{◌≡◌, ◌+◌, ◌<◌, ◌≤◌, List, length, Some, None, slice_get, refl, sym, ◌∙◌, ap, subst, arith}
+use Rattle.std.proofs.Common.{◌≡◌, ◌+◌, ◌≤◌, List, length, Some, slice_get, sym, ◌∙◌, ap, subst, arith}
 use Rattle.partial_model.specs.declared.call.Call.{Call}
 use Rattle.partial_replay.specs.PortState.{KeepsFit}
 use Rattle.partial_replay.proofs.RunSteps.{begin_keeps, ports_length, got, get_set, none_of, some_of, is_some_of, on_true, port_in, idle_between, left_is, left_ready}

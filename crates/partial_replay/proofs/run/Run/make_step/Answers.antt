@@ -1,12 +1,10 @@
-use Rattle.std.proofs.Common.{◌≡◌, ℕ, ◌+◌, ◌<◌, ◌≤◌, List, length, Some, None, slice_get, set, refl, sym, ◌∙◌, ap, subst, arith}
+use Rattle.std.proofs.Common.{◌≡◌, ℕ, List, length, Some, slice_get, set, sym, ◌∙◌, ap, subst, arith}
 use Rattle.std.proofs.lemmas.List.{with_items_is}
 use Rattle.std.proofs.lemmas.Result.{on_ok_weaker}
-use Rattle.partial_model.specs.declared.call.Call.{Call}
 use Rattle.partial_replay.specs.declared.port.Port.{Port}
 use Rattle.partial_replay.specs.PortState.{MayStep, StepMade}
 use Rattle.partial_replay.specs.RunState.{IsRunOf}
-use Rattle.partial_replay.proofs.PortLaws.{get_below}
-use Rattle.partial_replay.proofs.RunSteps.{may_step, step_keeps, ports_length, got, get_set, port_in, under_way, left_is, left_falls}
+use Rattle.partial_replay.proofs.RunSteps.{may_step, step_keeps, ports_length, got, get_set, left_is, left_falls}
 use Rattle.partial_replay.proofs.run.Run.make_step.Goals as goal
 
 pub make_step-requires-clause-may : goal.make_step-requires-clause-may
@@ -37,9 +35,9 @@ returns-clause-run c =
     let kept = with_items_is c.args.self.now.words words (let long = c.make_step.auto.words in let front = ap length c.deref_mut.ensures.value in omega (arith, long, front, c.args.self.now.words.ok.0)) in
     let opened = c.args.self.now in
     on_ok_weaker c.make_step.result (λ m.
-      let made : StepMade calls opened.words.items words opened.trace.items c.make_step.new.trace.items opened.history.items c.make_step.new.history.items port c.make_step.new.self = subst (λ (ws : List ℕ). StepMade calls ws words opened.trace.items c.make_step.new.trace.items opened.history.items c.make_step.new.history.items port c.make_step.new.self) c.deref_mut.ensures.value m in
-      subst (λ (ws : List ℕ). IsRunOf c.args.plans.now opened.sizes opened.opening ws (set ports c.args.p c.make_step.new.self) c.make_step.new.history.items c.make_step.new.trace.items) (sym kept)
-        (step_keeps c.args.plans.now opened.sizes opened.opening opened.words.items words ports opened.history.items c.make_step.new.history.items opened.trace.items c.make_step.new.trace.items c.args.p calls port c.make_step.new.self run plan here made)) c.make_step.ensures
+    let made : StepMade calls opened.words.items words opened.trace.items c.make_step.new.trace.items opened.history.items c.make_step.new.history.items port c.make_step.new.self = subst (λ (ws : List ℕ). StepMade calls ws words opened.trace.items c.make_step.new.trace.items opened.history.items c.make_step.new.history.items port c.make_step.new.self) c.deref_mut.ensures.value m in
+    subst (λ (ws : List ℕ). IsRunOf c.args.plans.now opened.sizes opened.opening ws (set ports c.args.p c.make_step.new.self) c.make_step.new.history.items c.make_step.new.trace.items) (sym kept)
+    (step_keeps c.args.plans.now opened.sizes opened.opening opened.words.items words ports opened.history.items c.make_step.new.history.items opened.trace.items c.make_step.new.trace.items c.args.p calls port c.make_step.new.self run plan here made)) c.make_step.ensures
 
 pub returns-clause-progress : goal.returns-clause-progress
 returns-clause-progress c =
@@ -57,7 +55,7 @@ returns-clause-progress c =
     let way = ap (λ (t : Port). t.under_way) (sym is) ∙ ready.3 in
     let more = (may_step c.args.plans.now opened.sizes opened.opening opened.words.items ports opened.history.items opened.trace.items c.args.p calls port (ready.1) run plan here way).more in
     on_ok_weaker c.make_step.result (λ m.
-      let less = left_falls calls _ _ _ _ _ _ port c.make_step.new.self more m in
-      let now = left_is c.args.plans.now _ c.args.p calls c.make_step.new.self plan (get_set ports c.args.p port c.make_step.new.self here) in
-      let old = left_is c.args.plans.now ports c.args.p calls port plan here in
-      omega (arith, less, now, old)) c.make_step.ensures
+    let less = left_falls calls _ _ _ _ _ _ port c.make_step.new.self more m in
+    let now = left_is c.args.plans.now _ c.args.p calls c.make_step.new.self plan (get_set ports c.args.p port c.make_step.new.self here) in
+    let old = left_is c.args.plans.now ports c.args.p calls port plan here in
+    omega (arith, less, now, old)) c.make_step.ensures

@@ -1,4 +1,4 @@
-use Rattle.std.proofs.Common.{◌≡◌, ℕ, List, [], length, ap, ◌∙◌, subst, sym, arith}
+use Rattle.std.proofs.Common.{◌≡◌, ℕ, List, [], length, ap, ◌∙◌, subst, sym}
 use Rattle.partial_model.specs.declared.history.Applied.{Applied}
 use Rattle.partial_model.specs.declared.history.Opening.{Opening}
 use Rattle.partial_words.specs.declared.step.Event.{Event}
@@ -15,4 +15,4 @@ returns-clause-run c =
     let ports = c.in_ok-fresh_ports.field-0.items in
     let opened = opens_run c.args.plans.now c.args.sizes o words ports c.requires.sizes (ap length values ∙ c.requires.values) (c.from-first.ensures ∙ c.pool_base.ensures) (subst (λ (l : List ℕ). AreOpeningWords c.args.sizes l words) (sym values) c.in_ok-opening_words.ensures) c.requires.ports c.in_ok-fresh_ports.ensures in
     subst (λ (h : List Applied). IsRunOf c.args.plans.now c.args.sizes o words ports h c.new-2.result.items) (sym c.new.ensures.items)
-      (subst (λ (t : List Event). IsRunOf c.args.plans.now c.args.sizes o words ports [] t) (sym c.new-2.ensures.items) opened)
+    (subst (λ (t : List Event). IsRunOf c.args.plans.now c.args.sizes o words ports [] t) (sym c.new-2.ensures.items) opened)
