@@ -4,3 +4,4 @@ pub mod RunLaws
 pub mod RunSteps
 pub mod Opens
 pub mod Plans
+pub mod Told

@@ -1,3 +1,4 @@
 pub mod Place
 pub mod PortState
 pub mod RunState
+pub mod Replayed

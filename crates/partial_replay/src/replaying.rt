@@ -1,6 +1,9 @@
 //! The replay of a whole plan.
 
 use crate::run::Run;
+ghost use Rattle.std.specs.Prelude.{IfOk};
+ghost use Rattle.partial_replay.specs.Replayed.{IsReplayOf};
+
 use partial_text::{Outcome, Plan};
 use std::alloc::{AllocError, Global};
 use thiserror::Error;
@@ -41,7 +44,9 @@ impl From<AllocError> for ReplayError {
 /// # Errors
 ///
 /// `Memory` where a growth was refused: the words, the trace or the calls found no room.
-pub fn replay(alloc: Global, plan: &Plan) -> Result<Outcome, ReplayError> {
+pub fn replay(alloc: Global, plan: &Plan) -> Result<Outcome, ReplayError>
+    ensures { IfOk result (IsReplayOf plan.now.sizes plan.now.initial) }
+{
     let plans = plan.ports();
     let mut run = Run::open(alloc, plan.sizes(), plan.initial(), plans)?;
     for (p, count) in plan.steps() {

@@ -38,6 +38,7 @@ fn opening_words(alloc: Global, sizes: Sizes, initial: &[u64]) -> Result<Vec<u64
 }
 
 impl Run {
+    ghost use Rattle.partial_replay.specs.Replayed.{IsReplayOf};
     ghost use Rattle.partial_replay.specs.RunState.{ArePlans, IsRun, IsReady, IsSameOpening, left_at};
 
     /// The replay as it opens, with the ports of a plan.
@@ -159,6 +160,7 @@ impl Run {
     ) -> Result<Outcome, AllocError>
         requires run { IsRun plans.now self }
         requires plans { ArePlans plans.now }
+        ensures { IfOk result (IsReplayOf self.sizes self.opening.values) }
     {
         let Run {
             sizes: _,
