@@ -52,7 +52,7 @@ impl Write for Filling {
     }
 }
 
-fn filling(alloc: Global, room: usize, takes_none: bool) -> Device<Filling> {
+fn filled_to(alloc: Global, room: usize, takes_none: bool) -> Device<Filling> {
     Device::new(Filling {
         taken: Vec::new(alloc),
         room,
@@ -82,7 +82,7 @@ fn failing_writer(rt: HostRuntime) -> Result<(), Fail> {
     let (_, plan, expected) = ROWS[0];
     for takes_none in [false, true] {
         for room in 0..expected.len() {
-            let mut writer = filling(rt.alloc(), room, takes_none);
+            let mut writer = filled_to(rt.alloc(), room, takes_none);
             let given = execute(
                 rt.alloc(),
                 Verb::Replay,
