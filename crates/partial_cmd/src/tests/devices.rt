@@ -1,5 +1,7 @@
 //! Readers and writers that fail.
 
+ghost use Rattle.std.specs.Prelude.{◌≡◌, false};
+
 use super::rows::ROWS;
 use crate::{Verb, execute};
 use partial_replay::Device;
@@ -52,7 +54,9 @@ impl Write for Filling {
     }
 }
 
-fn filled_to(alloc: Global, room: usize, takes_none: bool) -> Device<Filling> {
+fn filled_to(alloc: Global, room: usize, takes_none: bool) -> Device<Filling>
+    ensures { result.failed ≡ false }
+{
     Device::new(Filling {
         taken: Vec::new(alloc),
         room,

@@ -13,10 +13,14 @@ const LINES: [&[u8]; 4] = [
 ];
 
 /// The plan of the lines above, with another one in the place of the line of this number.
-fn changed(alloc: Global, number: usize, other: &[u8]) -> Result<Vec<u8>, AllocError> {
+fn changed(alloc: Global, number: u32, other: &[u8]) -> Result<Vec<u8>, AllocError> {
     let mut text = Vec::new(alloc);
     for (place, line) in LINES.iter().enumerate() {
-        let line = if place + 1 == number { other } else { *line };
+        let line = if place + 1 == number as usize {
+            other
+        } else {
+            *line
+        };
         text.extend_from_slice(line)?;
         text.push(b'\n')?;
     }
@@ -45,7 +49,7 @@ fn sizes_out_of_range(rt: HostRuntime) -> Result<(), Fail> {
 
 #[test]
 fn lines_refused(rt: HostRuntime) -> Result<(), Fail> {
-    let rows: [(usize, &[u8], Cause); 19] = [
+    let rows: [(u32, &[u8], Cause); 19] = [
         (1, b"sizes 2 4 8", Cause::Count),
         (1, b"sizes 2 4 08 64", Cause::Number),
         (1, b"sizes 4294967296 4 8 64", Cause::Number),
@@ -70,7 +74,7 @@ fn lines_refused(rt: HostRuntime) -> Result<(), Fail> {
         let plan = changed(rt.alloc(), number, line)?;
         let fault = outcome_of(rt.alloc(), &plan).err().ok_or("a refusal")?;
         assert_eq!(rt; fault.code(), 10, "{line:?}");
-        assert_eq!(rt; fault.at(), Some((number as u32, cause)), "{line:?}");
+        assert_eq!(rt; fault.at(), Some((number, cause)), "{line:?}");
     }
     Ok(())
 }
