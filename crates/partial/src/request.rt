@@ -1,0 +1,39 @@
+//! The words of the program.
+
+use crate::stop::Stop;
+use clap::{Arg, Command, Error};
+use partial_cmd::Verb;
+use std::alloc::Global;
+
+/// What the program is asked for.
+#[derive(Drop)]
+pub struct Request<'a> {
+    pub verb: Verb,
+    /// The path of the plan. Without one the plan comes from standard input.
+    pub plan: Option<&'a str>,
+}
+
+/// The words that the program takes: `replay [PLAN]`.
+fn command<'a>(alloc: Global) -> Result<Command<'a>, Error> {
+    let replay = Command::new(alloc, "replay").arg(Arg::new(alloc, "plan"))?;
+    let partial = Command::new(alloc, "partial")
+        .subcommand_required(true)
+        .subcommand(replay)?;
+    Ok(partial)
+}
+
+/// What these words ask for, of which the first is the program's name.
+///
+/// # Errors
+///
+/// `Usage` where they aren't words that the program takes, or ask for help.
+pub fn request_of(alloc: Global, words: &[String]) -> Result<Request<'_>, Stop> {
+    let matches = command(alloc)?.try_get_matches_from(words)?;
+    match matches.subcommand() {
+        Some(("replay", found)) => Ok(Request {
+            verb: Verb::Replay,
+            plan: found.get_str("plan"),
+        }),
+        _ => Err(Stop::Usage),
+    }
+}

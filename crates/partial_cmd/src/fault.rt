@@ -1,0 +1,79 @@
+//! Why a command was refused.
+
+ghost use Rattle.std.specs.Prelude.{◌≡◌};
+
+use partial_replay::{Cause, OutcomeError, PlanError, ReplayError};
+use thiserror::Error;
+
+/// Why a command was refused.
+#[derive(Clone, Copy, Debug, PartialEq, Eq, Error)]
+pub enum Fault {
+    /// The plan wasn't read.
+    #[error("{0}")]
+    Plan(PlanError),
+    /// The plan wasn't replayed.
+    #[error("{0}")]
+    Replay(ReplayError),
+    /// The outcome wasn't written whole.
+    #[error("{0}")]
+    Outcome(OutcomeError),
+}
+
+impl Fault {
+    ghost use Rattle.partial_cmd.specs.Execution.{code_of, line_of};
+
+    /// The number of the refusal: 1 to 4 for the sizes, 5 for the ports, 6 for memory, 10 for a line of
+    /// the plan, 11 for the reader, 12 for the writer.
+    pub fn code(&self) -> u8
+        ensures { result ≡ code_of self.now }
+    {
+        match self {
+            Fault::Plan(error) => error.code(),
+            Fault::Replay(error) => error.code(),
+            Fault::Outcome(error) => error.code(),
+        }
+    }
+
+    /// The line of the plan, counted from 1, and what is wrong with it. None where no line is to blame.
+    pub fn at(&self) -> Option<(u32, Cause)>
+        ensures { result ≡ line_of self.now }
+    {
+        match self {
+            Fault::Plan(error) => error.at(),
+            _ => None,
+        }
+    }
+}
+
+impl From<PlanError> for Fault {
+    ghost use Rattle.std.specs.Prelude.{◌≡◌};
+    ghost use Rattle.partial_cmd.specs.declared.fault.Fault.TheVariants.{Plan};
+
+    ghost from_gives = { λ cause e. e ≡ Plan cause };
+
+    fn from(error: PlanError) -> Fault {
+        Fault::Plan(error)
+    }
+}
+
+impl From<ReplayError> for Fault {
+    ghost use Rattle.std.specs.Prelude.{◌≡◌};
+    ghost use Rattle.partial_cmd.specs.declared.fault.Fault.TheVariants.{Replay};
+
+    ghost from_gives = { λ cause e. e ≡ Replay cause };
+
+    fn from(error: ReplayError) -> Fault {
+        Fault::Replay(error)
+    }
+}
+
+impl From<OutcomeError> for Fault {
+    ghost use Rattle.std.specs.Prelude.{◌≡◌};
+    ghost use Rattle.partial_cmd.specs.declared.fault.Fault.TheVariants.{Outcome};
+
+    ghost from_gives = { λ cause e. e ≡ Outcome cause };
+
+    fn from(error: OutcomeError) -> Fault {
+        Fault::Outcome(error)
+    }
+}

@@ -1,0 +1,10 @@
+//! The commands of the program: a plan comes in by a reader, and a text goes out by a writer.
+#![tactic(auto)]
+
+mod command;
+mod fault;
+#[cfg(test)]
+mod tests;
+
+pub use command::{Verb, Verdict, execute};
+pub use fault::Fault;

@@ -1,0 +1,103 @@
+//! Readers and writers that fail.
+
+ghost use Rattle.std.specs.Prelude.{◌≡◌, false};
+
+use super::rows::ROWS;
+use crate::{Verb, execute};
+use partial_replay::Device;
+use std::alloc::Global;
+use std::io;
+use std::io::{Read, Write};
+use std::test::Fail;
+
+/// Gives one byte a read, and fails where none is left.
+#[derive(Drop)]
+struct Broken<'a> {
+    text: &'a [u8],
+}
+
+impl Read for Broken<'_> {
+    fn read(&mut self, buf: &mut [u8]) -> io::Result<usize> {
+        match (self.text, buf) {
+            ([byte, rest @ ..], [place, ..]) => {
+                *place = *byte;
+                self.text = rest;
+                Ok(1)
+            }
+            _ => Err(io::Error::from(io::ErrorKind::Other)),
+        }
+    }
+}
+
+/// Takes so many bytes, one a write, and then takes none or fails.
+#[derive(Drop)]
+struct Filling {
+    taken: Vec<u8>,
+    room: usize,
+    takes_none: bool,
+}
+
+impl Write for Filling {
+    fn write(&mut self, buf: &[u8]) -> io::Result<usize> {
+        match buf {
+            [byte, ..] if self.taken.len() < self.room => {
+                self.taken.push(*byte)?;
+                Ok(1)
+            }
+            _ if self.takes_none => Ok(0),
+            _ => Err(io::Error::from(io::ErrorKind::Other)),
+        }
+    }
+
+    fn flush(&mut self) -> io::Result<()> {
+        Ok(())
+    }
+}
+
+fn filled_to(alloc: Global, room: usize, takes_none: bool) -> Device<Filling>
+    ensures { result.failed ≡ false }
+{
+    Device::new(Filling {
+        taken: Vec::new(alloc),
+        room,
+        takes_none,
+    })
+}
+
+#[test]
+fn failing_reader(rt: HostRuntime) -> Result<(), Fail> {
+    let (_, plan, _) = ROWS[0];
+    for count in 0..=plan.len() {
+        let mut reader = Device::new(Broken {
+            text: &plan[..count],
+        });
+        let mut writer = Device::new(Vec::new(rt.alloc()));
+        let given = execute(rt.alloc(), Verb::Replay, &mut reader, &mut writer);
+        let fault = given.err().ok_or("a refusal")?;
+        assert_eq!(rt; fault.code(), 11, "after {count} bytes");
+        assert_eq!(rt; fault.at(), None);
+        assert!(rt; writer.into_inner().is_empty());
+    }
+    Ok(())
+}
+
+#[test]
+fn failing_writer(rt: HostRuntime) -> Result<(), Fail> {
+    let (_, plan, expected) = ROWS[0];
+    for takes_none in [false, true] {
+        for room in 0..expected.len() {
+            let mut writer = filled_to(rt.alloc(), room, takes_none);
+            let given = execute(
+                rt.alloc(),
+                Verb::Replay,
+                &mut Device::new(plan),
+                &mut writer,
+            );
+            let fault = given.err().ok_or("a refusal")?;
+            assert_eq!(rt; fault.code(), 12, "after {room} bytes");
+            let taken = writer.into_inner().taken;
+            assert_eq!(rt; taken.as_slice(), &expected[..room]);
+        }
+    }
+    Ok(())
+}

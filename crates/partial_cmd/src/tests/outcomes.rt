@@ -1,0 +1,52 @@
+//! The texts of outcomes.
+
+use super::outcome_of;
+use super::rows::ROWS;
+use std::test::Fail;
+
+#[test]
+fn worked_rows(rt: HostRuntime) -> Result<(), Fail> {
+    for (name, plan, expected) in ROWS {
+        let written = outcome_of(rt.alloc(), plan)?;
+        assert_eq!(rt; written.as_slice(), expected, "{name}");
+    }
+    Ok(())
+}
+
+// A turn of a port with no call left costs nothing.
+#[test]
+fn many_turns(rt: HostRuntime) -> Result<(), Fail> {
+    let mut plan = Vec::from_slice(
+        rt.alloc(),
+        b"sizes 2 4 8 64\ninitial 10 20\nport read 0\nsteps",
+    )?;
+    for _ in 0..100 {
+        plan.extend_from_slice(b" 0*4294967295")?;
+    }
+    plan.push(b'\n')?;
+    let written = outcome_of(rt.alloc(), &plan)?;
+    let expected = b"call 0 0 read 10 18 prefix 0 steps 2 span 0 0\nvalues 10 20\ntotal 2\n";
+    assert_eq!(rt; written.as_slice(), expected.as_slice());
+    Ok(())
+}
+
+// A plan with the most components there may be, and a pool that has no room but for their records.
+#[test]
+fn most_components(rt: HostRuntime) -> Result<(), Fail> {
+    let mut plan = Vec::from_slice(rt.alloc(), b"sizes 65536 1 0 196608\ninitial")?;
+    for _ in 0..65_536 {
+        plan.extend_from_slice(b" 0")?;
+    }
+    plan.extend_from_slice(b"\nport update 65535 1; read 65535\nsteps rest\n")?;
+    let mut expected = Vec::from_slice(
+        rt.alloc(),
+        b"call 0 0 refused 9 steps 4 span 0 0\ncall 0 1 read 0 262146 prefix 0 steps 2 span 0 0\nvalues",
+    )?;
+    for _ in 0..65_536 {
+        expected.extend_from_slice(b" 0")?;
+    }
+    expected.extend_from_slice(b"\ntotal 6\n")?;
+    let written = outcome_of(rt.alloc(), &plan)?;
+    assert!(rt; written.as_slice() == expected.as_slice());
+    Ok(())
+}

@@ -1,0 +1,110 @@
+#!/usr/bin/env bash
+# Runs the program from outside, and compares what it writes and its status. The last line is
+# 'N passed, M failed'. PARTIAL may name a built program; else it is proved and built here.
+set -u
+
+top=$(cd "$(dirname "${BASH_SOURCE[0]}")/.." && pwd) || exit 1
+program=${PARTIAL:-}
+if [ -z "$program" ]; then
+    program=$top/crates/partial/out/partial
+    if ! (cd "$top/crates/partial" && rt run -- replay <stdin >/dev/null); then
+        echo "0 passed, 1 failed"
+        exit 1
+    fi
+fi
+
+room=$(mktemp -d) || exit 1
+trap 'rm -rf "$room"' EXIT
+passed=0
+failed=0
+
+# case NAME STATUS WORD..: the program reads $room/in, and must write $room/out and $room/err.
+case_of() {
+    local name=$1 status=$2 given
+    shift 2
+    "$program" "$@" <"$room/in" >"$room/given-out" 2>"$room/given-err"
+    given=$?
+    if [ "$given" -eq "$status" ] && cmp -s "$room/out" "$room/given-out" && cmp -s "$room/err" "$room/given-err"; then
+        passed=$((passed + 1))
+    else
+        failed=$((failed + 1))
+        echo "failed: $name (status $given)"
+        diff "$room/out" "$room/given-out"
+        diff "$room/err" "$room/given-err"
+    fi
+}
+
+# What the next case reads and must write: texts of standard input, output and error.
+expect() {
+    printf '%s' "$1" >"$room/in"
+    printf '%s' "$2" >"$room/out"
+    printf '%s' "$3" >"$room/err"
+}
+
+# refuses NAME NUMBER TEXT PLAN: this text on standard input is refused.
+refuses() {
+    expect "$4" "" "partial: refused $2: $3"$'\n'
+    case_of "$1" 1 replay
+}
+
+# Every plan, from a file and from standard input.
+for plan in "$top"/plans/*.plan; do
+    name=$(basename "$plan" .plan)
+    expect "" "" ""
+    cp "$top/plans/$name.expected" "$room/out"
+    case_of "$name from a file" 0 replay "$plan"
+    cp "$plan" "$room/in"
+    case_of "$name from standard input" 0 replay
+done
+
+# Each fault.
+head=$'sizes 2 4 8 64\ninitial 10 20\n'
+tail=$'port read 0\nsteps rest\n'
+rest=$'initial 10 20\n'$tail
+refuses components 1 "components out of range" $'sizes 0 4 8 64\n'"$rest"
+refuses slots 2 "slots out of range" $'sizes 2 0 8 64\n'"$rest"
+refuses lists 3 "list words out of range" $'sizes 2 4 65537 64\n'"$rest"
+refuses pool 4 "pool words out of range" $'sizes 2 4 8 5\n'"$rest"
+refuses ports 5 "ports out of range" "$head"$'steps rest\n'
+refuses line_end 10 "line 1: end" ""
+refuses line_word 10 "line 3: word" "$head"$'port swap 0 1\nsteps rest\n'
+refuses line_count 10 "line 3: count" "$head"$'port update 0\nsteps rest\n'
+refuses line_number 10 "line 2: number" $'sizes 2 4 8 64\ninitial 10 x\n'"$tail"
+refuses line_range 10 "line 4: range" "$head"$'port read 0\nsteps 1*2\n'
+refuses line_extra 10 "line 5: extra" "$head$tail"$'port\n'
+refuses scan_is_no_word_yet 10 "line 3: word" "$head"$'port scan 0\nsteps rest\n'
+
+# A plan that is longer than a plan may be: 4,194,305 bytes.
+expect "" "" $'partial: refused 10: line 0: size\n'
+head -c 4194305 /dev/zero >"$room/in"
+case_of line_size 1 replay
+
+# A file that isn't there, and one that can't be read.
+expect "" "" $'partial: refused 11: read fault\n'
+case_of missing_file 1 replay "$room/missing"
+case_of unreadable_file 1 replay "$room"
+
+# Words that the program doesn't take, or that ask for help.
+expect "$head$tail" "" $'partial: usage\n'
+case_of no_word 2
+case_of unknown_verb 2 repeat
+case_of too_many_words 2 replay one two
+case_of unknown_option 2 replay --fast
+case_of help 2 --help
+case_of help_of_replay 2 replay --help
+case_of help_as_word 2 help
+
+# A writer that fails.
+if [ -w /dev/full ]; then
+    printf '%s' "$head$tail" >"$room/in"
+    "$program" replay <"$room/in" >/dev/full 2>"$room/given-err"
+    if [ $? -eq 1 ] && [ "$(cat "$room/given-err")" = "partial: refused 12: write fault" ]; then
+        passed=$((passed + 1))
+    else
+        failed=$((failed + 1))
+        echo "failed: full_device"
+    fi
+fi
+
+echo "$passed passed, $failed failed"
+[ "$failed" -eq 0 ]
