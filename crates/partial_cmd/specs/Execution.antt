@@ -1,16 +1,15 @@
 -- What a command answers, and what it writes.
-use Rattle.std.specs.Prelude.{ℕ, ◌≡◌, List, take, Option, Some, None, Result, Ok, Err}
+use Rattle.std.specs.Prelude.{ℕ, ◌≡◌, List, take, Option, Some, None, IfSome, Result, Ok, Err}
 use Rattle.std.specs.Io.KnownBytes.{Appends}
-use Rattle.partial_model.specs.declared.history.Applied.{Applied}
-use Rattle.partial_model.specs.declared.history.Opening.{Opening}
-use Rattle.partial_model.specs.declared.call.Called.{Called}
 use Rattle.partial_text.specs.declared.fault.Cause.{Cause}
 use Rattle.partial_text.specs.declared.fault.PlanError.{PlanError}
 use Rattle.partial_text.specs.declared.fault.PlanError.TheVariants as plan
 use Rattle.partial_text.specs.declared.fault.OutcomeError.TheVariants as outcome
 use Rattle.partial_text.specs.Fault as text
-use Rattle.partial_text.specs.PlanText.{PlanView}
+use Rattle.partial_text.specs.declared.outcome.Outcome.{Outcome}
+use Rattle.partial_text.specs.PlanText.{PlanView, IsPlan, plan_text}
 use Rattle.partial_text.specs.OutcomeText.{outcome_text}
+use Rattle.partial_replay.specs.Replayed.{IsReplayOf}
 use Rattle.partial_cmd.specs.declared.fault.Fault.{Fault}
 use Rattle.partial_cmd.specs.declared.fault.Fault.TheVariants as fault
 use Rattle.partial_cmd.specs.declared.command.Verdict.{Verdict}
@@ -46,12 +45,22 @@ IsJudged (Err (fault.Plan e)) judged = text.Fails e judged
 IsJudged (Err (fault.Replay e)) judged = IsRead judged
 IsJudged (Err (fault.Outcome e)) judged = IsRead judged
 
--- the text of some outcome was written
-abbrev pub WritesOutcome : Option (List ℕ) → Option (List ℕ) → Type 0
-WritesOutcome before after =
-    (o : Opening) × (h : List Applied) × (calls : List Called) × (steps : ℕ) × Appends before after (outcome_text o h calls steps)
+-- the one text of an outcome
+abbrev pub text_of : Outcome → List ℕ
+text_of outcome = outcome_text outcome.opening outcome.history.items outcome.calls.items outcome.steps
 
--- a part of the text of some outcome was written, from its front
-abbrev pub WritesPart : Option (List ℕ) → Option (List ℕ) → Type 0
-WritesPart before after =
-    (o : Opening) × (h : List Applied) × (calls : List Called) × (steps : ℕ) × (n : ℕ) × Appends before after (take n (outcome_text o h calls steps))
+-- the text is that of the plan, and the outcome is one of its replay
+pub record IsReplayed (text : Option (List ℕ)) (p : PlanView) (outcome : Outcome) : Type 0 where
+  pub plan : IsPlan p
+  pub text : IfSome text (λ bytes. bytes ≡ plan_text p)
+  pub replayed : IsReplayOf p.sizes p.initial outcome
+
+-- the text of a plan's replay was written
+abbrev pub WritesOutcome : Option (List ℕ) → Option (List ℕ) → Option (List ℕ) → Type 0
+WritesOutcome text before after =
+    (p : PlanView) × (outcome : Outcome) × IsReplayed text p outcome × Appends before after (text_of outcome)
+
+-- a part of such a text was written, from its front
+abbrev pub WritesPart : Option (List ℕ) → Option (List ℕ) → Option (List ℕ) → Type 0
+WritesPart text before after =
+    (p : PlanView) × (outcome : Outcome) × (n : ℕ) × IsReplayed text p outcome × Appends before after (take n (text_of outcome))

@@ -43,13 +43,13 @@ pub fn execute<R: Read, W: Write>(
     // Which fault of the plan it is, and that a plan without a fault isn't refused.
     ensures plan { plan.new.failed ≡ false → IfSome (R.remaining plan.old.inner)
         (λ bytes. IsJudged result (judged bytes)) }
-    // Exactly the text of an outcome is written.
+    // Exactly the text of a legal outcome is written, which a replay of the plan has come to.
     ensures written { OnOk result
-        (WritesOutcome (W.contents out.old.inner) (W.contents out.new.inner)) }
+        (WritesOutcome (R.remaining plan.old.inner) (W.contents out.old.inner) (W.contents out.new.inner)) }
     // Nothing is written but after a fault of the writer, and then a part of such a text.
     ensures unwritten { IfErr result (λ fault. fault ≢ writer_fault → out.new ≡ out.old) }
     ensures part { IsErrOf result writer_fault
-        → WritesPart (W.contents out.old.inner) (W.contents out.new.inner) }
+        → WritesPart (R.remaining plan.old.inner) (W.contents out.old.inner) (W.contents out.new.inner) }
 {
     match verb {
         Verb::Replay => {
