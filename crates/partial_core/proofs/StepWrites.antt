@@ -148,14 +148,18 @@ module _ (z : Layout) (o : Opening) (words : List ℕ) (before : List Part) (x :
     where
       knows : KnowsOld o log (first_at x.kept) x.begun (core_of x).pool_spent c old
       knows = knows_here z o words before x after log w (ClaimingRecord c old) e refl refl
+
       below : c.component < x.begun.sizes.m
       below = let in' = (stage_here z o words before x after log w (ClaimingRecord c old) e).0 in let same = ap (λ (l : Layout). l.m) ((known_here z o words before x after log w).sizes) in omega (arith, in', same)
+
       may : (s : Option ℕ) → MayBeRefused x.begun.sizes.m (update_call c.component s c.value) refused.PoolSpent
       may None = ((below, tt), tt)
       may (Some s) = ((below, tt), tt)
+
       noted : (b : Bool) → AreNotesOf (gone x (log ++ []) counter []) (reply_of (cond b (at_stage (core_of x) (StoringRecord c old counter 0)) (spent (core_of x)))) []
       noted true = refl
       noted false = record { none = refl; call = update_call c.component c.expected c.value; made = ap call_at (knows.call); may = may c.expected }
+
       either : (b : Bool) → fits_pool (core_of x).sizes counter ≡ b → Lawful z o claimed (before ++ gone x log counter [] ∷ after) log
       either true h = claim_fits c old e h
       either false h = claim_spent c old e h

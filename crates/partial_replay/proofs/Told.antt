@@ -1,5 +1,5 @@
 -- The calls that a replay tells are a legal outcome.
-use Rattle.std.proofs.Common.{ℕ, ◌≡◌, ◌≢◌, ◌+◌, ◌<◌, ◌≤◌, ◌++◌, ◌==◌, ◌⊎◌, Bool, true, false, cond, List, [], ◌∷◌, length, Option, Some, None, IfSome, IsSomeAnd, MatchOption, slice_get, refl, sym, ◌∙◌, ap, subst, inl, inr, arith, append_assoc, eqb}
+use Rattle.std.proofs.Common.{ℕ, ◌≡◌, ◌≢◌, ◌+◌, ◌<◌, ◌≤◌, ◌++◌, ◌==◌, Bool, true, false, cond, List, [], ◌∷◌, length, Option, Some, None, IfSome, IsSomeAnd, MatchOption, slice_get, refl, sym, ◌∙◌, ap, subst, inl, inr, arith, append_assoc}
 use Rattle.std.specs.List.{filter, filter_map}
 use Rattle.std.proofs.lemmas.List.Elements.{filter-append, filter_map-append}
 use Rattle.std.proofs.lemmas.List.{append-nil}
@@ -11,15 +11,13 @@ use Rattle.partial_model.specs.declared.call.Call.{Call}
 use Rattle.partial_model.specs.declared.call.Called.{Called}
 use Rattle.partial_model.specs.declared.call.Finish.{Finish}
 use Rattle.partial_model.specs.Notes.{Noted, LegalNotes, shown_by, place_of}
-use Rattle.partial_model.specs.Outcome.{noted_of, notes_of, places_written, places_by, Follows, IsInTime, RealTime, LegalOutcome}
-use Rattle.partial_model.proofs.NotesLemmas.{places_written-append}
+use Rattle.partial_model.specs.Outcome.{noted_of, notes_of, places_written, Follows, RealTime, LegalOutcome}
 use Rattle.partial_words.specs.Layout.{Layout}
 use Rattle.partial_words.specs.declared.step.Event.{Event}
-use Rattle.partial_core.specs.Machine.{CoreState}
 use Rattle.partial_core.specs.Lawful.{Part, port_of, notes_by}
 use Rattle.partial_replay.specs.declared.port.Port.{Port}
 use Rattle.partial_replay.specs.declared.port.UnderWay.{UnderWay}
-use Rattle.partial_replay.specs.PortState.{IsFinished, AreFinished, IsUnderWay, IsBetween, PortFits, end_of, ends_of, notes_in, unfinished_call}
+use Rattle.partial_replay.specs.PortState.{AreFinished, IsUnderWay, IsBetween, PortFits, end_of, ends_of, notes_in, unfinished_call}
 use Rattle.partial_replay.specs.RunState.{PortsFit, IsRunOf, left_over, calls_in}
 
 same_eqb : (a b : ℕ) → a ≡ b → (a == b) ≡ true
@@ -67,9 +65,10 @@ none_behind o log p q (c ∷ plans) (x ∷ parts) [] less w = absurd w
 none_behind o log p q (c ∷ plans) (x ∷ parts) (t ∷ ports) less w =
     let rest = none_behind o log p (q + 1) plans parts ports (omega (arith, less)) w.1 in
     let away : q ≢ p = λ h. omega (arith, less, h) in
-    let part : port_of x ≢ p = λ h. away (sym w.0.part ∙ h) in
-    (head_notes p c plans t ports [] (ap (filter_map noted_of) (other_filter (length log) q p 0 0 t.finished.items w.0.finished away)) ∙ rest.0,
-     ap (λ (b : Bool). cond b x.notes [] ++ notes_by p parts) (ne_eqb (port_of x) p part) ∙ rest.1)
+    let part : port_of x ≢ p = λ h. away (sym w.0.part ∙ h) in (
+      head_notes p c plans t ports [] (ap (filter_map noted_of) (other_filter (length log) q p 0 0 t.finished.items w.0.finished away)) ∙ rest.0,
+      ap (λ (b : Bool). cond b x.notes [] ++ notes_by p parts) (ne_eqb (port_of x) p part) ∙ rest.1,
+    )
 
 -- a port's notes are legal, and claim what its part's notes claim
 abbrev NotesTold : Opening → List Applied → ℕ → List Noted → List Noted → Type 0
@@ -82,27 +81,29 @@ notes_told o log p q [] (x ∷ parts) ports w = absurd w
 notes_told o log p q (c ∷ plans) [] ports w = absurd w
 notes_told o log p q (c ∷ plans) (x ∷ parts) [] w = absurd w
 notes_told o log p q (c ∷ plans) (x ∷ parts) (t ∷ ports) w = elim (eqb_tells q p) [
-      inl same ↦
-        let behind = none_behind o log p (q + 1) plans parts ports (let e = same.1 in omega (arith, e)) w.1 in
-        let fits : PortFits o log c p x t = subst (λ (i : ℕ). PortFits o log c i x t) same.1 w.0 in
-        let own : notes_of p (calls_in (c ∷ plans) (t ∷ ports)) ≡ notes_in t.finished.items =
-              head_notes p c plans t ports (notes_in t.finished.items) (ap (filter_map noted_of) (own_filter (length log) p 0 0 t.finished.items fits.finished))
-              ∙ ap (λ (l : List Noted). notes_in t.finished.items ++ l) behind.0 ∙ append-nil (notes_in t.finished.items) in
-        let part : notes_by p (x ∷ parts) ≡ x.notes =
-              ap (λ (b : Bool). cond b x.notes [] ++ notes_by p parts) (same_eqb (port_of x) p fits.part)
-              ∙ ap (λ (l : List Noted). x.notes ++ l) behind.1 ∙ append-nil x.notes in
-        (subst (λ (l : List Noted). LegalNotes o log p 0 l) (sym own) fits.legal,
-         ap places_written own ∙ fits.written ∙ ap places_written (sym part))
-    | inr other ↦
-        let rest = notes_told o log p (q + 1) plans parts ports w.1 in
-        let away : q ≢ p = other.1 in
-        let part : port_of x ≢ p = λ h. away (sym w.0.part ∙ h) in
-        let own : notes_of p (calls_in (c ∷ plans) (t ∷ ports)) ≡ notes_of p (calls_in plans ports) =
-              head_notes p c plans t ports [] (ap (filter_map noted_of) (other_filter (length log) q p 0 0 t.finished.items w.0.finished away)) in
-        let left : notes_by p (x ∷ parts) ≡ notes_by p parts = ap (λ (b : Bool). cond b x.notes [] ++ notes_by p parts) (ne_eqb (port_of x) p part) in
-        (subst (λ (l : List Noted). LegalNotes o log p 0 l) (sym own) rest.0,
-         ap places_written own ∙ rest.1 ∙ ap places_written (sym left))
-    ]
+  | inl same ↦
+      let behind = none_behind o log p (q + 1) plans parts ports (let e = same.1 in omega (arith, e)) w.1 in
+      let fits : PortFits o log c p x t = subst (λ (i : ℕ). PortFits o log c i x t) same.1 w.0 in
+      let own : notes_of p (calls_in (c ∷ plans) (t ∷ ports)) ≡ notes_in t.finished.items =
+      head_notes p c plans t ports (notes_in t.finished.items) (ap (filter_map noted_of) (own_filter (length log) p 0 0 t.finished.items fits.finished))
+      ∙ ap (λ (l : List Noted). notes_in t.finished.items ++ l) behind.0 ∙ append-nil (notes_in t.finished.items) in
+      let part : notes_by p (x ∷ parts) ≡ x.notes =
+      ap (λ (b : Bool). cond b x.notes [] ++ notes_by p parts) (same_eqb (port_of x) p fits.part)
+      ∙ ap (λ (l : List Noted). x.notes ++ l) behind.1 ∙ append-nil x.notes in (
+        subst (λ (l : List Noted). LegalNotes o log p 0 l) (sym own) fits.legal,
+        ap places_written own ∙ fits.written ∙ ap places_written (sym part),
+      )
+  | inr other ↦
+      let rest = notes_told o log p (q + 1) plans parts ports w.1 in
+      let away : q ≢ p = other.1 in
+      let part : port_of x ≢ p = λ h. away (sym w.0.part ∙ h) in
+      let own : notes_of p (calls_in (c ∷ plans) (t ∷ ports)) ≡ notes_of p (calls_in plans ports) =
+      head_notes p c plans t ports [] (ap (filter_map noted_of) (other_filter (length log) q p 0 0 t.finished.items w.0.finished away)) in
+      let left : notes_by p (x ∷ parts) ≡ notes_by p parts = ap (λ (b : Bool). cond b x.notes [] ++ notes_by p parts) (ne_eqb (port_of x) p part) in (
+        subst (λ (l : List Noted). LegalNotes o log p 0 l) (sym own) rest.0,
+        ap places_written own ∙ rest.1 ∙ ap places_written (sym left),
+      )
+]
 
 -- the calls that may stand behind that one: the first of a port from q on, or a port's call number k that begins at that length or later
 abbrev BeginsPort : Option Called → ℕ → Type 0
@@ -128,10 +129,12 @@ finish_ends c n (Some f) w = let a = w.0 in let b = w.1 in (w.0, w, omega (arith
 finished_time : (n p k low : ℕ) (cs : List Called) (b : Option Called) (tail : List Called) → AreFinished n p k low cs → GoesBehind b p k low → BeginsPort b (p + 1) → ((d : Option Called) → GoesBehind d p (k + length cs) (ends_of low cs) → BeginsPort d (p + 1) → RealTime n d tail) → RealTime n b (cs ++ tail)
 finished_time n p k low [] b tail w goes begins on = on b (subst (λ (m : ℕ). GoesBehind b p m low) (omega arith) goes) begins
 finished_time n p k low (c ∷ cs) b tail w goes begins on =
-    let ends = finish_ends c n c.finish w.2.ended in
-    (goes c w.0 w.1 w.2.behind, (ends.2, ends.1),
-     finished_time n p (k + 1) (end_of low c) cs (Some c) tail w.3 (behind_call c p k low c.finish refl w.0 w.1 ends.0) (next_port c p w.0)
-       (λ d g n2. on d (subst (λ (m : ℕ). GoesBehind d p m (ends_of (end_of low c) cs)) (omega arith) g) n2))
+    let ends = finish_ends c n c.finish w.2.ended in (
+      goes c w.0 w.1 w.2.behind,
+      (ends.2, ends.1),
+      finished_time n p (k + 1) (end_of low c) cs (Some c) tail w.3 (behind_call c p k low c.finish refl w.0 w.1 ends.0) (next_port c p w.0)
+          (λ d g n2. on d (subst (λ (m : ℕ). GoesBehind d p m (ends_of (end_of low c) cs)) (omega arith) g) n2),
+    )
 
 over_time : (n p : ℕ) (calls : List Call) (x : Part) (port : Port) (call : Option Call) (way : Option UnderWay) (b : Option Called) (tail : List Called) → port.number ≡ p → MatchOption way (IsBetween x port.core) (IsUnderWay n calls x port.core port.finished.items) → GoesBehind b p (length port.finished.items) (ends_of 0 port.finished.items) → BeginsPort b (p + 1) → ((d : Option Called) → BeginsPort d (p + 1) → RealTime n d tail) → RealTime n b (left_over port call way ++ tail)
 over_time n p calls x port (Some call) (Some way) b tail number w goes begins on =
@@ -152,11 +155,11 @@ time_told o log q (c ∷ plans) (x ∷ parts) (t ∷ ports) b w begins =
     let over = left_over t call t.under_way in
     let tail = calls_in plans ports in
     subst (λ (l : List Called). RealTime n b l) (sym (append_assoc t.finished.items over tail))
-      (finished_time n q 0 0 t.finished.items b (over ++ tail) w.0.finished
-        (λ d at number late. begins d (omega (arith, at)) number)
-        (λ d at number. begins d (omega (arith, at)) number)
-        (λ d goes next. over_time n q c x t call t.under_way d tail w.0.number w.0.way (subst (λ (m : ℕ). GoesBehind d q m (ends_of 0 t.finished.items)) (omega arith) goes) next
-          (λ e more. time_told o log (q + 1) plans parts ports e w.1 more)))
+    (finished_time n q 0 0 t.finished.items b (over ++ tail) w.0.finished
+    (λ d at number late. begins d (omega (arith, at)) number)
+    (λ d at number. begins d (omega (arith, at)) number)
+    (λ d goes next. over_time n q c x t call t.under_way d tail w.0.number w.0.way (subst (λ (m : ℕ). GoesBehind d q m (ends_of 0 t.finished.items)) (omega arith) goes) next
+    (λ e more. time_told o log (q + 1) plans parts ports e w.1 more)))
 
 -- the calls of a replay are a legal outcome of its history
 pub run_legal : (plans : List (List Call)) (z : Layout) (o : Opening) (words : List ℕ) (ports : List Port) (log : List Applied) (trace : List Event) → IsRunOf plans z o words ports log trace → LegalOutcome o log (calls_in plans ports)

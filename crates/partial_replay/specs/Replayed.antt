@@ -1,7 +1,5 @@
 -- What a replay tells: a legal outcome of one history, with the words and the steps that led to them.
 use Rattle.std.specs.Prelude.{ℕ, ◌≡◌, List, length}
-use Rattle.partial_model.specs.declared.history.Opening.{Opening}
-use Rattle.partial_model.specs.declared.call.Call.{Call}
 use Rattle.partial_model.specs.Outcome.{LegalOutcome}
 use Rattle.partial_words.specs.Layout.{Layout, pool_base}
 use Rattle.partial_words.specs.Step.{Leads}

@@ -1,9 +1,9 @@
 //! The replay of a whole plan.
 
-use crate::run::Run;
 ghost use Rattle.std.specs.Prelude.{IfOk};
 ghost use Rattle.partial_replay.specs.Replayed.{IsReplayOf};
 
+use crate::run::Run;
 use partial_text::{Outcome, Plan};
 use std::alloc::{AllocError, Global};
 use thiserror::Error;

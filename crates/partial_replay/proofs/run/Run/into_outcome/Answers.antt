@@ -1,4 +1,4 @@
-use Rattle.std.proofs.Common.{◌≡◌, ◌∙◌, List, length, refl, sym, subst, arith}
+use Rattle.std.proofs.Common.{List, refl, sym, subst, arith}
 use Rattle.partial_model.specs.declared.call.Called.{Called}
 use Rattle.partial_model.specs.Outcome.{LegalOutcome}
 use Rattle.partial_replay.proofs.Opens.{run_listed}
