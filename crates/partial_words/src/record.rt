@@ -72,3 +72,23 @@ pub fn view_pair(words: &[u64], at: usize, k: usize) -> (u64, u64)
 pub fn records_read_back()
     ensures { (words : List ℕ) (at prev value view : ℕ) (pairs : List (ℕ × ℕ)) → StandsAt words at (record_block prev value view pairs) → ReadsBackRecord words at prev value view pairs }
 {}
+
+#[cfg(test)]
+mod tests {
+    use super::*;
+    use std::test::Fail;
+
+    #[test]
+    fn words_of_a_record(rt: HostRuntime) -> Result<(), Fail> {
+        let words = [18, 5, 29, 1, 0, 10];
+        for k in 0..6usize {
+            assert_eq!(rt; record_block_word(18, 5, 29, &[(0, 10)], k), words[k]);
+        }
+        assert_eq!(rt; prev_of(&words, 0), 18);
+        assert_eq!(rt; value_of(&words, 0), 5);
+        assert_eq!(rt; view_of(&words, 0), 29);
+        assert_eq!(rt; view_len(&words, 3), 1);
+        assert_eq!(rt; view_pair(&words, 3, 0), (0, 10));
+        Ok(())
+    }
+}
