@@ -1,5 +1,5 @@
 -- What a command answers, and what it writes.
-use Rattle.std.specs.Prelude.{ℕ, ◌≡◌, List, take, Option, Some, None, IfSome, Result, Ok, Err}
+use Rattle.std.specs.Prelude.{ℕ, ◌≡◌, List, take, Option, None, IfSome, Result, Ok, Err}
 use Rattle.std.specs.Io.KnownBytes.{Appends}
 use Rattle.partial_text.specs.declared.fault.Cause.{Cause}
 use Rattle.partial_text.specs.declared.fault.PlanError.{PlanError}
