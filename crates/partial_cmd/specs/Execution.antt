@@ -1,5 +1,5 @@
 -- What a command answers, and what it writes.
-use Rattle.std.specs.Prelude.{ℕ, ◌≡◌, List, take, Option, Some, None, IfSome, Result, Ok, Err}
+use Rattle.std.specs.Prelude.{ℕ, ◌≡◌, List, take, Option, None, IfSome, Result, Ok, Err}
 use Rattle.std.specs.Io.KnownBytes.{Appends}
 use Rattle.partial_text.specs.declared.fault.Cause.{Cause}
 use Rattle.partial_text.specs.declared.fault.PlanError.{PlanError}
@@ -52,7 +52,7 @@ text_of outcome = outcome_text outcome.opening outcome.history.items outcome.cal
 -- the text is that of the plan, and the outcome is one of its replay
 pub record IsReplayed (text : Option (List ℕ)) (p : PlanView) (outcome : Outcome) : Type 0 where
   pub plan : IsPlan p
-  pub text : IfSome text (λ bytes. bytes ≡ plan_text p)
+  pub read : IfSome text (λ bytes. bytes ≡ plan_text p)
   pub replayed : IsReplayOf p.sizes p.initial outcome
 
 -- the text of a plan's replay was written

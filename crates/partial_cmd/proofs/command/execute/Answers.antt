@@ -1,0 +1,10 @@
+use Rattle.partial_cmd.proofs.command.execute.Goals as goal
+
+pub returns-in_err-write_outcome-clause-part : goal.returns-in_err-write_outcome-clause-part
+returns-in_err-write_outcome-clause-part g c _ =
+    let part = c.in_err-write_outcome.ensures.part in
+    (c.in_ok-plan.plan, c.in_ok-outcome.outcome, part.0, record { plan = c.in_ok-plan.ensures.lawful; read = c.in_ok-plan.ensures.found; replayed = c.in_ok-outcome.ensures }, part.1)
+
+pub returns-clause-written : goal.returns-clause-written
+returns-clause-written g c =
+    (c.in_ok-plan.plan, c.in_ok-outcome.outcome, record { plan = c.in_ok-plan.ensures.lawful; read = c.in_ok-plan.ensures.found; replayed = c.in_ok-outcome.ensures }, c.in_ok-write_outcome.ensures.ok)
