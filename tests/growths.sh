@@ -5,35 +5,56 @@
 set -u
 
 top=$(cd "$(dirname "${BASH_SOURCE[0]}")/.." && pwd) || exit 1
+said=$(mktemp -d) || exit 1
+trap 'rm -rf "$said"' EXIT
+at_once=$(nproc)
 passed=0
 failed=0
 
-# Runs the tests of a crate with the growth of that number refused. Leaves how many tests were refused it.
+# Runs the tests of a crate with the growth of that number refused.
 refuse() {
-    local said handed
-    said=$(cd "$top/crates/$1" && rt try --test --fail-alloc "$2" 2>&1)
-    refused=$(grep -c '^test .* FAILED$' <<<"$said")
-    handed=$(grep -c '^    error: AllocError$' <<<"$said")
-    if grep -q '^run=ended ' <<<"$said" && [ "$refused" -eq "$handed" ]; then
+    (cd "$top/crates/$1" && rt try --test --fail-alloc "$2") >"$said/$2" 2>&1
+}
+
+# Judges such a run by the tests whose names fit. Leaves how many of them were refused the growth.
+judge() {
+    local ended handed
+    ended=$(grep -A 1 "^test $3 \.\.\. FAILED\$" "$said/$2")
+    refused=$(grep -c '^test ' <<<"$ended")
+    handed=$(grep -cE '^    error: (AllocError|[A-Za-z]+\(Memory\))$' <<<"$ended")
+    if grep -q '^run=ended ' "$said/$2" && [ "$refused" -eq "$handed" ]; then
         passed=$((passed + 1))
     else
         failed=$((failed + 1))
         echo "failed: $1 with growth $2 refused"
-        echo "$said"
+        cat "$said/$2"
     fi
 }
 
-for crate in partial_intervals partial_active; do
-    growth=1
-    refuse "$crate" "$growth"
-    # The first growth is one that some test asks for.
-    [ "$refused" -gt 0 ] || failed=$((failed + 1))
-    while [ "$refused" -gt 0 ] && [ "$growth" -lt 64 ]; do
-        growth=$((growth + 1))
-        refuse "$crate" "$growth"
+# Refuses the growths of a crate's tests in turn, some at once, until none is refused.
+refuse_all() {
+    local from=1 growth
+    refused=1
+    while [ "$refused" -gt 0 ] && [ "$from" -le 128 ]; do
+        for ((growth = from; growth < from + at_once; growth++)); do
+            refuse "$1" "$growth" &
+        done
+        wait
+        for ((growth = from; growth < from + at_once; growth++)); do
+            judge "$1" "$growth" "$2"
+            # The first growth is one that some test asks for.
+            [ "$growth" -ne 1 ] || [ "$refused" -gt 0 ] || failed=$((failed + 1))
+        done
+        from=$growth
     done
-    echo "$crate: growths 1 to $growth refused in turn"
-done
+    # The last of them was refused to no test.
+    [ "$refused" -eq 0 ] || failed=$((failed + 1))
+    echo "$1: growths 1 to $((growth - 1)) refused in turn"
+}
+
+refuse_all partial_intervals '.*'
+refuse_all partial_active '.*'
+refuse_all partial_cmd 'tests::growths::.*'
 
 echo "$passed passed, $failed failed"
 [ "$failed" -eq 0 ]

@@ -37,8 +37,27 @@ fn drive(
     requires { GoTogether (get.old, found.old) }
     ensures { OnOk result (IsFor get.old.sizes found.new) }
 {
+    drive_for(rt, alloc, words, get, found, usize::MAX)
+}
+
+// Makes so many steps of a getSet on the words, or all that are left of it.
+fn drive_for(
+    rt: &impl Abort,
+    alloc: Global,
+    words: &mut [u64],
+    get: &mut GetSet,
+    found: &mut Found,
+    most: usize,
+) -> Result<Vec<Step>, AllocError>
+    requires { GoTogether (get.old, found.old) }
+    ensures sizes { OnOk result (IsFor get.old.sizes found.new) }
+    ensures together { OnOk result (GoTogether (get.new, found.new)) }
+{
     let mut steps = Vec::new(alloc);
-    while let Some(step) = get.step() {
+    for _ in 0..most {
+        let Some(step) = get.step() else {
+            break;
+        };
         assert!(rt; (step.word() as usize) < words.len());
         let x = step.perform(words);
         assert!(rt; get.may_answer(found, x));
@@ -163,6 +182,57 @@ fn vacated_list(rt: HostRuntime) -> Result<(), Fail> {
     let loads = [3, 10, 11, 12, 2, 7, 24, 25].map(|word| Step::Load(word));
     assert_eq!(rt; steps.as_slice(), loads.as_slice());
     assert_eq!(rt; found.indices(), [0].as_slice());
+    Ok(())
+}
+
+// Two getSets note slot 0 while the list head is 0, and each claims words for a list of its own. The
+// second exchanges the head first. The first loses its exchange, which changes nothing: the head stays,
+// and the next getSet finds the list of the second and loads no slot of it.
+#[test]
+fn lost_exchange_of_the_list_head(rt: HostRuntime) -> Result<(), Fail> {
+    let sizes = Sizes::new(2, 4, 8, 64)?;
+    let mut words = words_with(&rt, rt.alloc(), sizes, &[(2, 1), (5, 10), (6, 1)])?;
+    let mut found = Found::new(rt.alloc(), sizes)?;
+    let mut others = Found::new(rt.alloc(), sizes)?;
+    let mut first = GetSet::new(sizes, false);
+    let before = drive_for(&rt, rt.alloc(), &mut words, &mut first, &mut found, 7)?;
+    assert_eq!(rt; before.len(), 7);
+    assert_eq!(rt; first.step(), Some(Step::Exchange(3, 0, 10)));
+    let mut second = GetSet::new(sizes, false);
+    let won = drive(&rt, rt.alloc(), &mut words, &mut second, &mut others)?;
+    assert_eq!(rt; won.len(), 8);
+    assert_eq!(rt; won.last().copied(), Some(Step::Exchange(3, 0, 13)));
+    assert_eq!(rt; words.get(3).copied(), Some(13));
+    let lost = drive(&rt, rt.alloc(), &mut words, &mut first, &mut found)?;
+    assert_eq!(rt; lost.as_slice(), [Step::Exchange(3, 0, 10)].as_slice());
+    assert_eq!(rt; words.get(3).copied(), Some(13));
+    assert!(rt; found.indices().is_empty());
+    assert!(rt; !first.lists_spent());
+    let mut third = GetSet::new(sizes, false);
+    let next = drive(&rt, rt.alloc(), &mut words, &mut third, &mut found)?;
+    let loads = [3, 13, 14, 15, 2].map(|word| Step::Load(word));
+    assert_eq!(rt; next.as_slice(), loads.as_slice());
+    Ok(())
+}
+
+// The list words hold two words, and a list of slot 0 takes three: the port is marked. A getSet of a
+// marked port claims nothing.
+#[test]
+fn too_few_list_words(rt: HostRuntime) -> Result<(), Fail> {
+    let sizes = Sizes::new(2, 4, 2, 64)?;
+    let mut words = words_with(&rt, rt.alloc(), sizes, &[(2, 1), (5, 10), (6, 1)])?;
+    let mut found = Found::new(rt.alloc(), sizes)?;
+    let mut get = GetSet::new(sizes, false);
+    let steps = drive(&rt, rt.alloc(), &mut words, &mut get, &mut found)?;
+    let loads = [3, 2, 6].map(|word| Step::Load(word));
+    assert_eq!(rt; steps.len(), 4);
+    assert_eq!(rt; &steps[..3], loads.as_slice());
+    assert_eq!(rt; steps[3], Step::Add(5, 3));
+    assert!(rt; get.lists_spent());
+    let mut marked = GetSet::new(sizes, get.lists_spent());
+    let more = drive(&rt, rt.alloc(), &mut words, &mut marked, &mut found)?;
+    assert_eq!(rt; more.as_slice(), loads.as_slice());
+    assert!(rt; marked.lists_spent());
     Ok(())
 }
 

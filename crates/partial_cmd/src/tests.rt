@@ -1,6 +1,7 @@
 //! Plans whose outcomes were worked out by hand, plans that are refused, and devices that fail.
 
 mod devices;
+mod growths;
 mod outcomes;
 mod refusals;
 mod rows;

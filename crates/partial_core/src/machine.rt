@@ -64,7 +64,8 @@ impl Core {
     pub fn pool_spent(&self) -> bool
         ensures { result ≡ self.now.pool_spent }
     {
-        self.pool_spent
+        let Core { pool_spent, .. } = self;
+        *pool_spent
     }
 
     /// Begins an update of component `component` to `value`. It is refused for an index that isn't
@@ -108,7 +109,7 @@ impl Core {
         if change.component >= self.sizes.m() {
             return Err(Refused::Component);
         }
-        if self.pool_spent {
+        if self.pool_spent() {
             return Err(Refused::PoolSpent);
         }
         self.stage = Stage::UpdateBegun { change };

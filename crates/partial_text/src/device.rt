@@ -36,7 +36,8 @@ impl<D> Device<D> {
     pub fn failed(&self) -> bool
         ensures { result ≡ self.now.failed }
     {
-        self.failed
+        let Device { failed, .. } = self;
+        *failed
     }
 
     /// Hands the inner device back.

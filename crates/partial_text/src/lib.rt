@@ -20,9 +20,6 @@ pub use device::Device;
 pub use fault::{Cause, OutcomeError, PlanError};
 pub use law::texts_tell_plans;
 pub use outcome::Outcome;
-pub use outcome_text::{
-    push_field, push_number, push_numbers, push_optional, push_values, refusal_code,
-};
 pub use plan::Plan;
 pub use writing::{write_outcome, write_text};
 

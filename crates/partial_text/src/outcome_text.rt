@@ -11,7 +11,7 @@ use partial_model::{Answer, Applied, Called, Finish, Note, Opening, Refused};
 use std::alloc::{AllocError, Global};
 
 /// Writes a space and the number.
-pub fn push_number(text: &mut Vec<u8>, number: u64) -> Result<(), AllocError>
+fn push_number(text: &mut Vec<u8>, number: u64) -> Result<(), AllocError>
     ensures { OnOk result (text.new.items ≡ text.old.items ++ number_field number) }
 {
     text.push(b' ')?;
@@ -19,7 +19,7 @@ pub fn push_number(text: &mut Vec<u8>, number: u64) -> Result<(), AllocError>
 }
 
 /// Writes each number behind a space.
-pub fn push_numbers(text: &mut Vec<u8>, numbers: &[u64]) -> Result<(), AllocError>
+fn push_numbers(text: &mut Vec<u8>, numbers: &[u64]) -> Result<(), AllocError>
     ensures { OnOk result (text.new.items ≡ text.old.items ++ flat_map number_field numbers.now) }
 {
     for number in numbers {
@@ -29,7 +29,7 @@ pub fn push_numbers(text: &mut Vec<u8>, numbers: &[u64]) -> Result<(), AllocErro
 }
 
 /// Writes a space and the number, or a dash where there is none.
-pub fn push_optional(text: &mut Vec<u8>, number: Option<u64>) -> Result<(), AllocError>
+fn push_optional(text: &mut Vec<u8>, number: Option<u64>) -> Result<(), AllocError>
     ensures { OnOk result (text.new.items ≡ text.old.items ++ optional_field number) }
 {
     match number {
@@ -56,7 +56,7 @@ fn push_entry(text: &mut Vec<u8>, place: usize, entry: &Applied) -> Result<(), A
 }
 
 /// The number of a call's refusal: 7 for an index, 8 for the slots, 9 for the pool.
-pub fn refusal_code(cause: Refused) -> u8
+fn refusal_code(cause: Refused) -> u8
     ensures { result ≡ refusal_of cause }
 {
     match cause {
@@ -98,7 +98,7 @@ fn push_scanned(
 }
 
 /// Writes the word, and the number behind a space.
-pub fn push_field(text: &mut Vec<u8>, word: &[u8], number: u64) -> Result<(), AllocError>
+fn push_field(text: &mut Vec<u8>, word: &[u8], number: u64) -> Result<(), AllocError>
     ensures { OnOk result (text.new.items ≡ text.old.items ++ word.now ++ number_field number) }
 {
     text.extend_from_slice(word)?;
@@ -203,7 +203,7 @@ fn final_values(
 }
 
 /// Writes the line of the values.
-pub fn push_values(text: &mut Vec<u8>, values: &[u64]) -> Result<(), AllocError>
+fn push_values(text: &mut Vec<u8>, values: &[u64]) -> Result<(), AllocError>
     ensures { OnOk result (text.new.items ≡ text.old.items ++ values_line values.now) }
 {
     text.extend_from_slice(b"values")?;

@@ -98,7 +98,8 @@ impl Sizes {
         ensures value { result ≡ self.now.m }
         ensures sizes { IsLayout self.now }
     {
-        self.m
+        let Sizes { m, .. } = self;
+        *m
     }
 
     /// How many slots there are.
@@ -137,7 +138,7 @@ impl Sizes {
     pub fn slot_counter(&self) -> u32
         ensures { result ≡ slot_counter self.now }
     {
-        self.m
+        self.m()
     }
 
     /// The word with the reference of the current list of vacated slots, or 0.
@@ -202,7 +203,8 @@ impl Sizes {
         ensures value { result ≡ total self.now }
         ensures sizes { IsLayout self.now }
     {
-        self.list_end() + self.pool
+        let pool_base = self.pool_base();
+        pool_base + self.pool
     }
 
     /// Word `w` of a memory that opens with these values.

@@ -1,0 +1,7 @@
+use Rattle.std.proofs.Common.{◌≡◌}
+use Rattle.partial_active.specs.GetSetAnswers.{GoTogether}
+use Rattle.partial_active.proofs.tests.drive_for.Given as goal
+
+-- the machine and its buffers go together
+abbrev pub invariant-loop : goal.invariant-loop
+invariant-loop g l = GoTogether (l.get, l.found) × (l.get.sizes ≡ l.initial.get.sizes)
