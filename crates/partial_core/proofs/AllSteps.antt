@@ -10,7 +10,11 @@ use Rattle.partial_words.specs.Record.{record_block}
 use Rattle.partial_core.specs.declared.stage.Stage.{Stage}
 use Rattle.partial_core.specs.declared.stage.Stage.TheVariants.{Idle, ReadBegun, LoadingValue, UpdateBegun, LoadingListHead, LoadingSlotCounter, ClaimingRecord, StoringRecord, Exchanging, Finished}
 use Rattle.partial_core.specs.Machine.{CoreState, at_stage, step_of, step_at}
-use Rattle.partial_core.specs.Lawful.{Part, Lawful, IsOwn, own_of, own_at, core_of, port_of, MayBegin, is_begun, is_at_rest, begun_with, kept_with, since_with, LeadsOn, StepsStayLawful}
+use Rattle.partial_core.specs.Lawful.{Part, core_of, port_of, MayBegin, is_begun, is_at_rest, begun_with, kept_with, since_with, moved, added, LeadsOn, StepsStayLawful}
+use Rattle.partial_words.specs.Step.{answer_of, words_after}
+use Rattle.partial_core.proofs.Whole.{to_base, from_base}
+use Rattle.partial_core.proofs.Plain.{none_newer}
+use Rattle.partial_core.proofs.Base.{IsPlain, Base, IsOwn, own_of, own_at}
 use Rattle.partial_core.proofs.PartLemmas.{port_led}
 use Rattle.partial_core.proofs.Rebuild.{rebuild, once_same, marked_same}
 use Rattle.partial_core.proofs.StepLoads.{LeadsAt, known_here, tied_here, sizes_here, none_some, none_two, read_begun, value_loaded, update_begun, list_head_loaded, slot_counter_loaded}
@@ -19,18 +23,18 @@ use Rattle.partial_core.proofs.StepExchange.{record_exchanged}
 
 -- the part with its call begun
 abbrev pub started : CoreState → Part → Part
-started c x = record { seen = x.seen; notes = x.notes; begun = begun_with c x; kept = kept_with c x; since = since_with c x }
+started c x = record { seen = x.seen; notes = x.notes; begun = begun_with c x; kept = kept_with c x; since = since_with c x; claimed = x.claimed }
 
 no_own_begun : (s : Stage) → is_begun s ≡ true → own_at s ≡ None
 no_own_begun (StoringRecord c old at k) b = cc
 no_own_begun (Exchanging c old at) b = cc
 no_own_begun _ b = refl
 
-module _ (z : Layout) (o : Opening) (words : List ℕ) (before : List Part) (x : Part) (after : List Part) (log : List Applied) (w : Lawful z o words (before ++ x ∷ after) log) where
+module _ (z : Layout) (o : Opening) (words : List ℕ) (before : List Part) (x : Part) (after : List Part) (log : List Applied) (w : Base z o words (before ++ x ∷ after) log) where
   -- a call begins where the machine is at rest: nothing else changes
-  begin_lawful : (c : CoreState) → is_at_rest (core_of x).stage ≡ true → c ≡ at_stage (core_of x) c.stage → MayBegin c → is_begun c.stage ≡ true → let y : Part = record { seen = x.seen; notes = x.notes; begun = c; kept = []; since = seen_by 0 x.notes } in Lawful z o words (before ++ y ∷ after) log
+  begin_lawful : (c : CoreState) → is_at_rest (core_of x).stage ≡ true → c ≡ at_stage (core_of x) c.stage → MayBegin c → is_begun c.stage ≡ true → let y : Part = record { seen = x.seen; notes = x.notes; begun = c; kept = []; since = seen_by 0 x.notes; claimed = x.claimed } in Base z o words (before ++ y ∷ after) log
   begin_lawful c rest same may begun =
-      let y : Part = record { seen = x.seen; notes = x.notes; begun = c; kept = []; since = seen_by 0 x.notes } in
+      let y : Part = record { seen = x.seen; notes = x.notes; begun = c; kept = []; since = seen_by 0 x.notes; claimed = x.claimed } in
       let k = known_here z o words before x after log w in
       let port : c.port ≡ port_of x = ap (λ (s : CoreState). s.port) same ∙ port_led x.begun x.kept in
       let own : own_of y ≡ None = no_own_begun c.stage begun in
@@ -60,8 +64,14 @@ module _ (z : Layout) (o : Opening) (words : List ℕ) (before : List Part) (x :
         others_tied = λ v h other. h;
         apart = λ v h other. none_two x y own v;
         high = subst (λ n. get_or words (pool_counter z) 0 ≤ pool_end z + (4 + 2 * z.m) * n) (sym marks) w.pool_high;
-        slot_count = refl;
-        list = refl;
+        claimed = refl;
+        unmarked = λ u. (ap (λ (s : CoreState). s.slots_spent) same ∙ u.0, ap (λ (s : CoreState). s.lists_spent) same ∙ u.1);
+        still = λ n from below other. refl;
+        records = λ n inside. refl;
+        longer = λ k e s. s;
+        older = λ k e s below. s;
+        newest = λ k e s far. none_newer (λ k (e : Applied). IsPlain o words log k e.stamp) log k e s far;
+        loads = λ h. tt;
       })
 
   -- the step that is due at a stage
@@ -83,16 +93,18 @@ module _ (z : Layout) (o : Opening) (words : List ℕ) (before : List Part) (x :
 
 -- a step of the started part is a step of the machine
 leads_from : (z : Layout) (o : Opening) (words : List ℕ) (before : List Part) (x : Part) (after : List Part) (log : List Applied) (c : CoreState) (step : Step) → LeadsAt z o words before (started c x) after log c c.stage step → LeadsOn z o words before x after log c step
-leads_from z o words before x after log c step l = record { answers = l.answers; possible = l.possible; new = l.new; noted = l.noted; lawful = l.lawful }
+leads_from z o words before x after log c step l =
+    let whole = from_base z o (words_after words step) (before ++ moved c (answer_of words step) log l.new x ∷ after) (log ++ added c (answer_of words step)) l.lawful in
+    record { answers = l.answers; possible = l.possible; new = l.new; noted = l.noted; lawful = whole.0; without = whole.1 }
 
-law_begun : (z : Layout) (o : Opening) (words : List ℕ) (before : List Part) (x : Part) (after : List Part) (log : List Applied) (c : CoreState) (step : Step) (b : Bool) → is_begun c.stage ≡ b → Lawful z o words (before ++ x ∷ after) log → MatchBool b ((is_at_rest (core_of x).stage ≡ true) × (c ≡ at_stage (core_of x) c.stage) × MayBegin c) (c ≡ core_of x) → step_of c ≡ Some step → LeadsOn z o words before x after log c step
+law_begun : (z : Layout) (o : Opening) (words : List ℕ) (before : List Part) (x : Part) (after : List Part) (log : List Applied) (c : CoreState) (step : Step) (b : Bool) → is_begun c.stage ≡ b → Base z o words (before ++ x ∷ after) log → MatchBool b ((is_at_rest (core_of x).stage ≡ true) × (c ≡ at_stage (core_of x) c.stage) × MayBegin c) (c ≡ core_of x) → step_of c ≡ Some step → LeadsOn z o words before x after log c step
 law_begun z o words before x after log c step true begun w m due =
-    let y : Part = record { seen = x.seen; notes = x.notes; begun = c; kept = []; since = seen_by 0 x.notes } in
-    let is : y ≡ started c x = ap (λ (b : Bool). record { seen = x.seen; notes = x.notes; begun = cond b c x.begun; kept = cond b [] x.kept; since = cond b (seen_by 0 x.notes) x.since }) (sym begun) in
+    let y : Part = record { seen = x.seen; notes = x.notes; begun = c; kept = []; since = seen_by 0 x.notes; claimed = x.claimed } in
+    let is : y ≡ started c x = ap (λ (b : Bool). record { seen = x.seen; notes = x.notes; begun = cond b c x.begun; kept = cond b [] x.kept; since = cond b (seen_by 0 x.notes) x.since; claimed = x.claimed }) (sym begun) in
     leads_from z o words before x after log c step (subst (λ (v : Part). LeadsAt z o words before v after log c c.stage step) is (leads_core z o words before y after log (begin_lawful z o words before x after log w c m.0 m.1 m.2 begun) step due))
 law_begun z o words before x after log c step false begun w m due =
-    let is : x ≡ started c x = ap (λ (b : Bool). record { seen = x.seen; notes = x.notes; begun = cond b c x.begun; kept = cond b [] x.kept; since = cond b (seen_by 0 x.notes) x.since }) (sym begun) in
+    let is : x ≡ started c x = ap (λ (b : Bool). record { seen = x.seen; notes = x.notes; begun = cond b c x.begun; kept = cond b [] x.kept; since = cond b (seen_by 0 x.notes) x.since; claimed = x.claimed }) (sym begun) in
     leads_from z o words before x after log c step (subst (λ (v : Part). LeadsAt z o words before v after log c c.stage step) is (subst (λ (d : CoreState). LeadsAt z o words before x after log d d.stage step) (sym m) (leads_core z o words before x after log w step (ap step_of (sym m) ∙ due))))
 
 pub steps_stay_lawful : StepsStayLawful
-steps_stay_lawful z o words before x after log c step w m due = law_begun z o words before x after log c step (is_begun c.stage) refl w m due
+steps_stay_lawful z o words before x after log c step w n m due = law_begun z o words before x after log c step (is_begun c.stage) refl (to_base z o words (before ++ x ∷ after) log w n) m due

@@ -9,7 +9,8 @@ use Rattle.partial_words.specs.Layout.{Layout, pool_counter, pool_base}
 use Rattle.partial_words.specs.Chain.{Agrees, IsChain, chain_of}
 use Rattle.partial_words.proofs.ChainLemmas.{IsElsewhere, chain_kept, chain_all}
 use Rattle.partial_core.specs.Machine.{IsRecord}
-use Rattle.partial_core.specs.Lawful.{Part, Lawful, IsTied, IsOwn, Own, IsEntry, own_of, AreApart}
+use Rattle.partial_core.specs.Lawful.{Part, IsEntry}
+use Rattle.partial_core.proofs.Base.{Base, IsTied, IsOwn, Own, own_of, AreApart}
 use Rattle.partial_core.proofs.ListLemmas.{all_weaker}
 
 -- what holds of the value in an option
@@ -46,7 +47,7 @@ tied_moves z words words' log log' y counter f w =
     }
 
 -- each stamp that a component has names a record of the pool
-pub stamp_is_record : (z : Layout) (o : Opening) (words : List ℕ) (parts : List Part) (log : List Applied) (j : ℕ) → Lawful z o words parts log → j < z.m → IsRecord z (stamp_of o log j)
+pub stamp_is_record : (z : Layout) (o : Opening) (words : List ℕ) (parts : List Part) (log : List Applied) (j : ℕ) → Base z o words parts log → j < z.m → IsRecord z (stamp_of o log j)
 stamp_is_record z o words parts log j w below =
     stamp_all (IsRecord z) o j log (all_weaker (IsEntry z words) (λ (e : Applied). IsRecord z e.stamp) (λ e h. (omega (arith, h.above), h.within)) log w.entries) (let base = w.stamps in let room = w.sizes.pool.0 in (omega arith, omega arith))
 

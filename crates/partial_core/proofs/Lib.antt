@@ -1,3 +1,5 @@
+pub mod Base
+pub mod Plain
 pub mod Frames
 pub mod ListLemmas
 pub mod PartLemmas
@@ -8,4 +10,5 @@ pub mod StepLoads
 pub mod StepWrites
 pub mod StepExchange
 pub mod AllSteps
+pub mod Whole
 pub mod Opened

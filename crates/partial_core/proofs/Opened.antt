@@ -1,15 +1,17 @@
 -- A memory as it opens is lawful.
-use Rattle.std.proofs.Common.{ℕ, zero, suc, ◌≡◌, ◌+◌, ◌*◌, ◌<◌, ◌≤◌, ◌==◌, ◌++◌, Bool, true, false, cond, List, [], length, get_or, refl, sym, ◌∙◌, ap, arith}
+use Rattle.std.proofs.Common.{None, Some, ℕ, zero, suc, ◌≡◌, ◌+◌, ◌*◌, ◌<◌, ◌≤◌, ◌==◌, ◌++◌, Bool, true, false, cond, List, [], length, get_or, refl, sym, ◌∙◌, ap, arith}
 use Rattle.std.specs.List.{AllByRecursion}
 use Rattle.std.proofs.lemmas.Bool.Decides.{nat_tests}
 use Rattle.partial_model.specs.declared.history.Opening.{Opening}
 use Rattle.partial_model.specs.Notes.{Noted}
 use Rattle.partial_model.specs.Outcome.{places_written}
-use Rattle.partial_words.specs.Layout.{Layout, slot_counter, list_head, pool_counter, pool_base, pool_end}
-use Rattle.partial_words.specs.Chain.{opening_word}
+use Rattle.partial_words.specs.Layout.{Layout, slot_counter, list_head, list_counter, slot_word, list_base, pool_counter, pool_base, pool_end}
+use Rattle.partial_words.specs.Chain.{opening_word, OpensWith}
 use Rattle.partial_words.proofs.LayoutLemmas.{opening_agrees}
 use Rattle.partial_core.specs.Machine.{fresh}
-use Rattle.partial_core.specs.Lawful.{Part, IsKnown, IsTied, HaveOtherPorts, HaveOtherBlocks, EachTwo, port_of, notes_by, fresh_parts, OpensLawful}
+use Rattle.partial_core.specs.Lawful.{Part, IsKnown, HaveOtherPorts, EachTwo, port_of, notes_by, fresh_parts, OpensLawful}
+use Rattle.partial_core.proofs.Whole.{from_base}
+use Rattle.partial_core.proofs.Base.{Base, IsUnmarked, AreLoaded, IsTied, HaveOtherBlocks}
 
 fresh_length : (z : Layout) (p n : ℕ) → length (fresh_parts z p n) ≡ n
 fresh_length z p zero = refl
@@ -22,7 +24,7 @@ fresh_other z x p (suc n) below = (λ e. omega (arith, below, e), fresh_other z 
 fresh_ports : (z : Layout) (p n : ℕ) → EachTwo HaveOtherPorts (fresh_parts z p n)
 fresh_ports z p zero = tt
 fresh_ports z p (suc n) =
-    let x : Part = record { seen = []; notes = []; begun = fresh z p; kept = []; since = 0 } in
+    let x : Part = record { seen = []; notes = []; begun = fresh z p; kept = []; since = 0; claimed = None } in
     (fresh_other z x (p + 1) n (omega arith), fresh_ports z (p + 1) n)
 
 fresh_apart : (z : Layout) (p n : ℕ) → EachTwo HaveOtherBlocks (fresh_parts z p n)
@@ -59,8 +61,26 @@ slot_opens z initial some = grind (arith, nat_tests)
 list_opens : (z : Layout) (initial : List ℕ) → 1 ≤ z.slots → opening_word z initial (list_head z) ≡ 0
 list_opens z initial some = grind (arith, nat_tests)
 
-pub opens_lawful : OpensLawful
-opens_lawful z o words n opens few =
+lists_open : (z : Layout) (initial : List ℕ) → 1 ≤ z.slots → opening_word z initial (list_counter z) ≡ list_base z
+lists_open z initial some = grind (arith, nat_tests)
+
+slots_open : (z : Layout) (initial : List ℕ) (l : ℕ) → l < z.slots → opening_word z initial (slot_word z l) ≡ 0
+slots_open z initial l below = grind (arith, nat_tests)
+
+fresh_unjoined : (z : Layout) (p n : ℕ) → AllByRecursion (λ x. x.claimed ≡ None) (fresh_parts z p n)
+fresh_unjoined z p zero = tt
+fresh_unjoined z p (suc n) = (refl, fresh_unjoined z (p + 1) n)
+
+fresh_unmarked : (z : Layout) (p n : ℕ) → AllByRecursion IsUnmarked (fresh_parts z p n)
+fresh_unmarked z p zero = tt
+fresh_unmarked z p (suc n) = ((refl, refl), fresh_unmarked z (p + 1) n)
+
+fresh_loads : (z : Layout) (words : List ℕ) (p n : ℕ) → AllByRecursion (λ x. AreLoaded z words [] x.begun x.kept) (fresh_parts z p n)
+fresh_loads z words p zero = tt
+fresh_loads z words p (suc n) = (tt, fresh_loads z words (p + 1) n)
+
+opens_base : (z : Layout) (o : Opening) (words : List ℕ) (n : ℕ) → OpensWith z o words → n ≤ 64 → Base z o words (fresh_parts z 0 n) []
+opens_base z o words n opens few =
     let pool : get_or words (pool_counter z) 0 ≡ pool_base z + 3 * z.m = opens.words.each (pool_counter z) (let s = opens.sizes.slots.0 in omega arith) ∙ pool_opens z o.values in
     let room = opens.sizes.pool.0 in
     let count = fresh_length z 0 n in
@@ -82,4 +102,13 @@ opens_lawful z o words n opens few =
       pool_high = let more : pool_base z + 3 * z.m ≤ pool_end z = omega arith in omega (arith, pool, more);
       slot_count = opens.words.each (slot_counter z) (let s = opens.sizes.slots.0 in omega arith) ∙ slot_opens z o.values (opens.sizes.slots.0);
       list = opens.words.each (list_head z) (let s = opens.sizes.slots.0 in omega arith) ∙ list_opens z o.values (opens.sizes.slots.0);
+      list_count = opens.words.each (list_counter z) (let s = opens.sizes.slots.0 in omega arith) ∙ lists_open z o.values (opens.sizes.slots.0);
+      slots = λ l below. opens.words.each (slot_word z l) (omega (arith, below)) ∙ slots_open z o.values l below;
+      unjoined = fresh_unjoined z 0 n;
+      unmarked = fresh_unmarked z 0 n;
+      views = λ k e s. let bad : None ≡ Some e = s in cc;
+      loads = fresh_loads z words 0 n;
     }
+
+pub opens_lawful : OpensLawful
+opens_lawful z o words n opens few = from_base z o words (fresh_parts z 0 n) [] (opens_base z o words n opens few)

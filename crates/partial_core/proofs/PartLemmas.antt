@@ -129,7 +129,7 @@ pub stage_led : (o : Opening) (log : List Applied) (low : ℕ) (s : CoreState) (
 stage_led o log low s [] w kept = w
 stage_led o log low s (k ∷ ks) w kept = stage_led o log k.at (advance s k.answer) ks (stage_at s s.stage k.answer w kept.0.possible) kept.1
 
-begin_stage : (z : Layout) (b : Bool) (stage : Stage) → MayBeginAt z b stage → IsStage z stage
+pub begin_stage : (z : Layout) (b : Bool) (stage : Stage) → MayBeginAt z b stage → IsStage z stage
 begin_stage z b Idle w = tt
 begin_stage z b (ReadBegun j) w = w
 begin_stage z b (UpdateBegun c) w = w.0

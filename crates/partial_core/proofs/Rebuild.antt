@@ -1,7 +1,7 @@
 -- A lawful state with one part in the place of another, and with other words.
-use Rattle.std.proofs.Common.{ℕ, suc, ◌≡◌, ◌≢◌, ◌+◌, ◌*◌, ◌≤◌, ◌==◌, ◌++◌, Bool, true, false, cond, List, [], ◌∷◌, length, get_or, Option, Some, None, IfSome, refl, sym, ◌∙◌, ap, inl, inr, arith, append_assoc}
+use Rattle.std.proofs.Common.{ℕ, suc, ◌≡◌, ◌≢◌, ◌+◌, ◌*◌, ◌<◌, ◌≤◌, ◌==◌, ◌++◌, Bool, true, false, cond, List, [], ◌∷◌, length, get_or, Option, Some, None, IfSome, slice_get, refl, sym, ◌∙◌, ap, inl, inr, arith, append_assoc}
 use Rattle.std.specs.List.{AllByRecursion}
-use Rattle.std.proofs.lemmas.Bool.{ne_eqb, eq-eqb}
+use Rattle.std.proofs.lemmas.Bool.{ne_eqb, eq-eqb, cases_lt}
 use Rattle.std.proofs.lemmas.List.{append-nil}
 use Rattle.std.proofs.Math.Nat.{mul-le-mul_left}
 use Rattle.partial_model.specs.declared.history.Applied.{Applied}
@@ -10,10 +10,12 @@ use Rattle.partial_model.specs.History.{IsHistory}
 use Rattle.partial_model.specs.Notes.{Noted}
 use Rattle.partial_model.specs.Outcome.{places_by, places_written}
 use Rattle.partial_model.proofs.NotesLemmas.{places_written-append}
-use Rattle.partial_words.specs.Layout.{Layout, pool_counter, slot_counter, list_head, pool_end}
+use Rattle.partial_words.specs.Layout.{Layout, pool_counter, slot_counter, list_head, list_counter, slot_word, pool_base, pool_end}
 use Rattle.partial_words.specs.Chain.{Agrees}
-use Rattle.partial_core.specs.Lawful.{Part, Lawful, IsKnown, IsTied, Own, IsEntry, own_of, core_of, port_of, AreApart, HaveOtherBlocks, HaveOtherPorts, notes_by, marked_in}
-use Rattle.partial_core.proofs.ListLemmas.{all_before, all_after, all_join, all_with, all_weaker, two_before, two_after, two_join, length_same}
+use Rattle.partial_core.specs.Lawful.{Part, IsKnown, IsEntry, core_of, port_of, HaveOtherPorts, notes_by, marked_in}
+use Rattle.partial_core.proofs.Plain.{plain_moves, loads_move}
+use Rattle.partial_core.proofs.Base.{IsUnmarked, IsPlain, IsInRecord, AreLoaded, Base, IsTied, Own, own_of, AreApart, HaveOtherBlocks}
+use Rattle.partial_core.proofs.ListLemmas.{all_at, all_before, all_after, all_join, all_with, all_weaker, two_before, two_after, two_join, length_same}
 
 pub apart_turns : (a b : Option Own) → IfSome a (λ x. IfSome b (λ y. AreApart x.at y.at)) → IfSome b (λ x. IfSome a (λ y. AreApart x.at y.at))
 apart_turns None None w = w
@@ -95,7 +97,7 @@ marked_few (x ∷ xs) = few (core_of x).pool_spent (marked_in xs) (length xs) (m
     few false m n w = omega arith
 
 -- the pool's counter stays far below 2 ^ 64
-pub counter_high : (z : Layout) (o : Opening) (words : List ℕ) (parts : List Part) (log : List Applied) → Lawful z o words parts log → get_or words (pool_counter z) 0 ≤ pool_end z + 64 * (4 + 2 * z.m)
+pub counter_high : (z : Layout) (o : Opening) (words : List ℕ) (parts : List Part) (log : List Applied) → Base z o words parts log → get_or words (pool_counter z) 0 ≤ pool_end z + 64 * (4 + 2 * z.m)
 counter_high z o words parts log w =
     let m = marked_few parts in
     let bound : (4 + 2 * z.m) * marked_in parts ≤ (4 + 2 * z.m) * 64 = mul-le-mul_left (4 + 2 * z.m) (omega (arith, m, w.few)) in
@@ -115,10 +117,17 @@ pub record Changes (z : Layout) (o : Opening) (words words' : List ℕ) (before 
   pub others_tied : (v : Part) → IsTied z words log v → HaveOtherBlocks x v → IsTied z words' log' v
   pub apart : (v : Part) → IsTied z words log v → HaveOtherBlocks x v → HaveOtherBlocks y v
   pub high : get_or words' (pool_counter z) 0 ≤ pool_end z + (4 + 2 * z.m) * marked_in (before ++ y ∷ after)
-  pub slot_count : get_or words' (slot_counter z) 0 ≡ get_or words (slot_counter z) 0
-  pub list : get_or words' (list_head z) 0 ≡ get_or words (list_head z) 0
+  pub claimed : y.claimed ≡ x.claimed
+  pub unmarked : IsUnmarked x → IsUnmarked y
+  -- the words before the pool stay, but for components and the pool's counter, and so do the words of records
+  pub still : (n : ℕ) → slot_counter z ≤ n → n < pool_base z → n ≢ pool_counter z → get_or words' n 0 ≡ get_or words n 0
+  pub records : (n : ℕ) → IsInRecord z log n → get_or words' n 0 ≡ get_or words n 0
+  pub longer : (k : ℕ) (e : Applied) → slice_get log k ≡ Some e → slice_get log' k ≡ Some e
+  pub older : (k : ℕ) (e : Applied) → slice_get log' k ≡ Some e → k < length log → slice_get log k ≡ Some e
+  pub newest : (k : ℕ) (e : Applied) → slice_get log' k ≡ Some e → length log ≤ k → IsPlain o words' log' k e.stamp
+  pub loads : AreLoaded z words log x.begun x.kept → AreLoaded z words' log' y.begun y.kept
 
-pub rebuild : (z : Layout) (o : Opening) (words words' : List ℕ) (before : List Part) (x y : Part) (after : List Part) (log log' : List Applied) → Lawful z o words (before ++ x ∷ after) log → Changes z o words words' before x y after log log' → Lawful z o words' (before ++ y ∷ after) log'
+pub rebuild : (z : Layout) (o : Opening) (words words' : List ℕ) (before : List Part) (x y : Part) (after : List Part) (log log' : List Applied) → Base z o words (before ++ x ∷ after) log → Changes z o words words' before x y after log log' → Base z o words' (before ++ y ∷ after) log'
 rebuild z o words words' before x y after log log' w c =
     let P = IsTied z words log in
     let tied_b = all_before P before x after w.tied in
@@ -143,6 +152,24 @@ rebuild z o words words' before x y after log log' w c =
       apart = two_join HaveOtherBlocks blocks_turn before x y after w.apart (all_with P (HaveOtherBlocks x) (HaveOtherBlocks y) c.apart before tied_b other_b) (all_with P (HaveOtherBlocks x) (HaveOtherBlocks y) c.apart after tied_a other_a);
       pool_low = omega (arith, c.low, w.pool_low);
       pool_high = c.high;
-      slot_count = c.slot_count ∙ w.slot_count;
-      list = c.list ∙ w.list;
+      slot_count = c.still (slot_counter z) (omega arith) (omega arith) (omega arith) ∙ w.slot_count;
+      list = c.still (list_head z) (omega arith) (omega arith) (omega arith) ∙ w.list;
+      list_count = c.still (list_counter z) (omega arith) (omega arith) (omega arith) ∙ w.list_count;
+      slots = λ l below. c.still (slot_word z l) (omega arith) (omega (arith, below)) (omega arith) ∙ w.slots l below;
+      unjoined = all_join (λ (v : Part). v.claimed ≡ None) before y after (all_before (λ (v : Part). v.claimed ≡ None) before x after w.unjoined) (c.claimed ∙ all_at (λ (v : Part). v.claimed ≡ None) before x after w.unjoined) (all_after (λ (v : Part). v.claimed ≡ None) before x after w.unjoined);
+      unmarked = all_join IsUnmarked before y after (all_before IsUnmarked before x after w.unmarked) (c.unmarked (all_at IsUnmarked before x after w.unmarked)) (all_after IsUnmarked before x after w.unmarked);
+      views = λ k e s. elim (cases_lt k (length log)) [
+        | inl below ↦ let stands = c.older k e s below in plain_moves z o words words' log log' c.longer k e.stamp (c.records e.stamp (inr (k, e, stands, omega arith, omega arith))) (c.records (e.stamp + 2) (inr (k, e, stands, omega arith, omega arith))) (w.views k e stands)
+        | inr from ↦ c.newest k e s from
+      ];
+      loads = all_join L' before y after (all_weaker L L' move before (all_before L before x after w.loads)) (c.loads (all_at L before x after w.loads)) (all_weaker L L' move after (all_after L before x after w.loads));
     }
+  where
+    L : Part → Type 0
+    L v = AreLoaded z words log v.begun v.kept
+
+    L' : Part → Type 0
+    L' v = AreLoaded z words' log' v.begun v.kept
+
+    move : (v : Part) → AreLoaded z words log v.begun v.kept → AreLoaded z words' log' v.begun v.kept
+    move v h = loads_move z o words words' log log' c.longer c.records v.begun v.kept h

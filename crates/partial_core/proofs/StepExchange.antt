@@ -13,9 +13,9 @@ use Rattle.partial_model.specs.History.{IsHistory, initial_stamp, stamp_of}
 use Rattle.partial_model.specs.Notes.{Noted, IsLegal, seen_by}
 use Rattle.partial_model.specs.Outcome.{places_by, places_written}
 use Rattle.partial_model.proofs.HistoryLemmas.{overtaken_at, place_below, stamp_of-push}
-use Rattle.partial_model.proofs.NotesLemmas.{seen_by-push, places_written-append, places_by-push, distinct_push, slice_get_last, AllByRecursion-push}
+use Rattle.partial_model.proofs.NotesLemmas.{seen_by-push, places_written-append, places_by-push, distinct_push, slice_get_last, slice_get_grows, AllByRecursion-push}
 use Rattle.partial_words.specs.declared.step.Step.TheVariants.{Exchange}
-use Rattle.partial_words.specs.Layout.{Layout, slot_counter, list_head, pool_counter, pool_end}
+use Rattle.partial_words.specs.Layout.{Layout, pool_counter, pool_end}
 use Rattle.partial_words.specs.Record.{record_block}
 use Rattle.partial_words.specs.Chain.{IsChain, chain_of}
 use Rattle.partial_words.proofs.ChainLemmas.{IsElsewhere, chain_kept, chain_all, chain_cons, links_from-push}
@@ -24,16 +24,19 @@ use Rattle.partial_core.specs.declared.stage.Reply.{Reply}
 use Rattle.partial_core.specs.declared.stage.Reply.TheVariants as reply
 use Rattle.partial_core.specs.declared.stage.Stage.TheVariants.{Exchanging, Finished}
 use Rattle.partial_core.specs.Machine.{CoreState, at_stage, advance, advance_at, overtaken, IsStage, IsRecord}
-use Rattle.partial_core.specs.Lawful.{Part, Lawful, IsKnown, IsOwn, Own, IsEntry, own_of, own_at, core_of, port_of, AreApart, HaveOtherPorts, notes_by, is_at_rest, first_at, AreNotesOf, update_call, call_at}
+use Rattle.partial_core.specs.Lawful.{Part, IsKnown, IsEntry, core_of, port_of, HaveOtherPorts, notes_by, is_at_rest, first_at, AreNotesOf, update_call, call_at}
+use Rattle.partial_core.specs.Views.{IsWithin}
+use Rattle.partial_core.proofs.Plain.{unmarked_gone, loads_more, in_pool, found_before, found_last, within_grows, stamp_within}
+use Rattle.partial_core.proofs.Base.{IsPlain, IsInRecord, Base, IsOwn, Own, own_of, own_at, AreApart}
 use Rattle.partial_core.proofs.ListLemmas.{all_weaker, two_before, two_after}
 use Rattle.partial_core.proofs.PartLemmas.{port_led, known_grows, KnowsOld}
 use Rattle.partial_core.proofs.Rebuild.{rebuild, once_own, once_other, marked_same, ports_turn}
 use Rattle.partial_core.proofs.Frames.{if_some_at, tied_moves, entries_elsewhere}
 use Rattle.partial_core.proofs.StepLaw.{gone, gone_core, known_end}
-use Rattle.partial_core.proofs.StepLoads.{LeadsAt, known_here, tied_here, seen_here, stamp_now, stamp_then, record_now, words_here, stage_here, possible_here, possible_at, stamp_here, leads_here, going_here, knows_here, ends, same_length}
+use Rattle.partial_core.proofs.StepLoads.{LeadsAt, known_here, tied_here, seen_here, stamp_now, stamp_then, record_now, words_here, stage_here, possible_here, possible_at, stamp_here, load_here, leads_here, going_here, knows_here, ends, same_length}
 use Rattle.partial_core.proofs.StepWrites.{own_is, blocks_of, no_own}
 
-module _ (z : Layout) (o : Opening) (words : List ℕ) (before : List Part) (x : Part) (after : List Part) (log : List Applied) (w : Lawful z o words (before ++ x ∷ after) log) (c : Change) (old at : ℕ) (e : (core_of x).stage ≡ Exchanging c old at) where
+module _ (z : Layout) (o : Opening) (words : List ℕ) (before : List Part) (x : Part) (after : List Part) (log : List Applied) (w : Base z o words (before ++ x ∷ after) log) (c : Change) (old at : ℕ) (e : (core_of x).stage ≡ Exchanging c old at) where
   found : ℕ
   found = get_or words c.component 0
 
@@ -68,7 +71,7 @@ module _ (z : Layout) (o : Opening) (words : List ℕ) (before : List Part) (x :
   unfolding found
   words_stay = set-get_or words c.component 0
 
-  lost_note : (s : Option ℕ) → c.expected ≡ s → (found == old) ≡ false → (n : Noted) × (Lawful z o words (before ++ gone x (log ++ []) found (n ∷ []) ∷ after) (log ++ [])) × AreNotesOf (gone x (log ++ []) found (n ∷ [])) (Some (overtaken c found)) (n ∷ [])
+  lost_note : (s : Option ℕ) → c.expected ≡ s → (found == old) ≡ false → (n : Noted) × (Base z o words (before ++ gone x (log ++ []) found (n ∷ []) ∷ after) (log ++ [])) × AreNotesOf (gone x (log ++ []) found (n ∷ [])) (Some (overtaken c found)) (n ∷ [])
   unfolding found
   lost_note None is lost =
       let j = c.component in
@@ -83,7 +86,7 @@ module _ (z : Layout) (o : Opening) (words : List ℕ) (before : List Part) (x :
       let within = place_below log (over.place) (over.entry) (over.stands) in
       let low = low_here in (
         n,
-        ends z o words before x after log w (Exchanging c old at) (reply.Lost a) a n e leads refl exchange_possible tt (below_values, ((over.entry, over.stands, over.component, over.stamp ∙ sym now), omega (arith, low, over.behind))) (omega (arith, within)),
+        ends z o words before x after log w (Exchanging c old at) (reply.Lost a) a n e leads refl exchange_possible tt tt (below_values, ((over.entry, over.stands, over.component, over.stamp ∙ sym now), omega (arith, low, over.behind))) (omega (arith, within)),
         subst (λ (r : Reply). AreNotesOf (gone x (log ++ []) a (n ∷ [])) (Some r) (n ∷ [])) (sym reply_is) (record {
           call = call.Update j c.value;
           note = note.Lost (over.place);
@@ -103,7 +106,7 @@ module _ (z : Layout) (o : Opening) (words : List ℕ) (before : List Part) (x :
       let seen = seen_here z o words before x after log w in
       let other : a ≢ s = λ same. eqb-false a old lost (same ∙ expected_old s is) in (
         n,
-        ends z o words before x after log w (Exchanging c old at) (reply.Changed a) a n e leads refl exchange_possible tt (below_values, ((omega arith, sym (stamp_then z o words before x after log w j (sound.0)), other), seen)) (omega arith),
+        ends z o words before x after log w (Exchanging c old at) (reply.Changed a) a n e leads refl exchange_possible tt tt (below_values, ((omega arith, sym (stamp_then z o words before x after log w j (sound.0)), other), seen)) (omega arith),
         subst (λ (r : Reply). AreNotesOf (gone x (log ++ []) a (n ∷ [])) (Some r) (n ∷ [])) (sym reply_is) (record {
           call = call.UpdateIf j s c.value;
           note = note.Saw (length log);
@@ -128,8 +131,8 @@ module _ (z : Layout) (o : Opening) (words : List ℕ) (before : List Part) (x :
         possible = possible_at z o words before x after log w (Exchanging c old at) a exchange_possible;
         new = both.0 ∷ [];
         noted = subst (λ (b : Bool). AreNotesOf (gone x (log ++ cond b (record { port = (core_of x).port; component = j; value = c.value; stamp = at } ∷ []) []) a (both.0 ∷ [])) (Some (cond b (reply.Applied at) (overtaken c a))) (both.0 ∷ [])) (sym lost) both.2;
-        lawful = subst (λ (b : Bool). Lawful z o (set words j (cond b at a)) (before ++ gone x (log ++ cond b (record { port = (core_of x).port; component = j; value = c.value; stamp = at } ∷ []) []) a (both.0 ∷ []) ∷ after) (log ++ cond b (record { port = (core_of x).port; component = j; value = c.value; stamp = at } ∷ []) [])) (sym lost)
-            (subst (λ (l : List ℕ). Lawful z o l (before ++ gone x (log ++ []) a (both.0 ∷ []) ∷ after) (log ++ [])) (sym words_stay) both.1);
+        lawful = subst (λ (b : Bool). Base z o (set words j (cond b at a)) (before ++ gone x (log ++ cond b (record { port = (core_of x).port; component = j; value = c.value; stamp = at } ∷ []) []) a (both.0 ∷ []) ∷ after) (log ++ cond b (record { port = (core_of x).port; component = j; value = c.value; stamp = at } ∷ []) [])) (sym lost)
+            (subst (λ (l : List ℕ). Base z o l (before ++ gone x (log ++ []) a (both.0 ∷ []) ∷ after) (log ++ [])) (sym words_stay) both.1);
       }
 
   -- the exchange is won: the component names the new record
@@ -177,6 +180,24 @@ module _ (z : Layout) (o : Opening) (words : List ℕ) (before : List Part) (x :
       let stamp : stamp_of o won_log i ≡ stamp_of o log i = stamp_of-push o log f i ∙ ap (λ (b : Bool). cond b at (stamp_of o log i)) same in
       let chain : chain_of o i won_log ≡ chain_of o i log = links_from-push (record { stamp = initial_stamp o i; value = get_or o.values i 0 } ∷ []) i log f ∙ ap (λ (b : Bool). cond b (record { stamp = at; value = c.value } ∷ chain_of o i log) (chain_of o i log)) same in
       (now ∙ (w.agrees i below).0 ∙ sym stamp, subst (λ (n : ℕ). IsChain won_words n (chain_of o i won_log)) (sym now) (subst (IsChain won_words (get_or words i 0)) (sym chain) (chain_here i below)))
+
+  won_in_record : (n : ℕ) → IsInRecord z log n → get_or won_words n 0 ≡ get_or words n 0
+  won_in_record n inside = let far = in_pool z words log n w.entries inside in let below = sound.0 in won_same n (λ h. omega (arith, far, below, h))
+
+  -- the new entry's record has the empty view, and names the record that the component had
+  won_plain : found ≡ old → IsPlain o won_words won_log (length log) at
+  unfolding found won_words won_log
+  won_plain won =
+      let above = written.above in
+      let b = sound.0 in
+      let f : Applied = record { port = (core_of x).port; component = c.component; value = c.value; stamp = at } in
+      let view : get_or won_words (at + 2) 0 ≡ 0 = won_same (at + 2) (λ h. omega (arith, b, above, h)) ∙ written.stands 2 (omega arith) in
+      let prev : get_or won_words at 0 ≡ old = won_same at (λ h. omega (arith, b, above, h)) ∙ ap (λ n. get_or words n 0) (omega arith) ∙ written.stands 0 (omega arith) in
+      let stamp : stamp_of o log c.component ≡ old = sym (stamp_now z o words before x after log w c.component (sound.0)) ∙ won in
+      record {
+        view = view;
+        prev = subst (IsWithin o won_log (length log)) (stamp ∙ sym prev) (within_grows z o words won_words log won_log (λ k d s. slice_get_grows log (f ∷ []) k d s) (length log) (stamp_of o log c.component) (stamp_within o log c.component below_values));
+      }
 
   apart_stamp : (s : ℕ) → AreApart s at → s ≢ at
   apart_stamp s h same = elim h [ inl a ↦ omega (arith, a, same) | inr b ↦ omega (arith, b, same) ]
@@ -255,7 +276,7 @@ module _ (z : Layout) (o : Opening) (words : List ℕ) (before : List Part) (x :
       let pushed = seen_by-push 0 x.notes n in
       let rest : is_at_rest (advance (core_of x) a).stage ≡ true = ap (λ (t : CoreState). is_at_rest t.stage) (leads_here z o words before x after log w (Exchanging c old at) a e ∙ leads) in
       let known : IsKnown z o log' y = known_end z o log' x a n (known_grows z o log (f ∷ []) x (known_here z o words before x after log w)) (possible_here z o words before x after log w (Exchanging c old at) a e exchange_possible) (stamp_here z o words before x after log w (Exchanging c old at) (record { answer = a; at = length log' }) log' e tt) (won_legal c.expected refl is) (omega (arith, pushed, longer)) rest in
-      let lawful : Lawful z o words' (before ++ y ∷ after) log' = rebuild z o words words' before x y after log log' w (record {
+      let lawful : Base z o words' (before ++ y ∷ after) log' = rebuild z o words words' before x y after log log' w (record {
         port = refl;
         count = length-set words j at;
         low = omega (arith, same);
@@ -269,8 +290,14 @@ module _ (z : Layout) (o : Opening) (words : List ℕ) (before : List Part) (x :
         others_tied = λ v h other. tied_moves z words words' log log' v (omega (arith, same)) (λ b is' own'. (λ i inside. won_same (b.at + i) (λ s. let above = own'.above in omega (arith, below, above, s)), AllByRecursion-push (λ (d : Applied). AreApart d.stamp b.at) log f own'.apart (if_some_at (λ (d : Own). AreApart at d.at) (own_of v) b is' (blocks_of x v (record { at = at; block = record_block old c.value 0 []; stored = 3 }) mine other)))) h;
         apart = λ v h other. no_own (λ (d : Own). IfSome (own_of v) (λ b. AreApart d.at b.at)) y own;
         high = let high = w.pool_high in subst (λ m. get_or words' (pool_counter z) 0 ≤ pool_end z + (4 + 2 * z.m) * m) (sym marks) (omega (arith, same, high));
-        slot_count = won_same (slot_counter z) (λ h. omega (arith, below, h));
-        list = won_same (list_head z) (λ h. omega (arith, below, h));
+        claimed = refl;
+        unmarked = λ u. unmarked_gone x log' a (n ∷ []) u;
+        still = λ m from inside other. won_same m (λ h. omega (arith, below, from, h));
+        records = λ m inside. won_in_record m inside;
+        longer = λ k d s. slice_get_grows log (f ∷ []) k d s;
+        older = λ k d s inside. found_before log (f ∷ []) k d s inside;
+        newest = λ k d s far. found_last (λ k (d : Applied). IsPlain o words' log' k d.stamp) log f k d (won_plain is) s far;
+        loads = λ h. loads_more z o words words' log log' (λ k d s. slice_get_grows log (f ∷ []) k d s) (λ m inside. won_in_record m inside) x.begun x.kept (record { answer = a; at = length log' }) h (load_here z o words before x after log w (Exchanging c old at) (record { answer = a; at = length log' }) e tt);
       }) in
       record {
         answers = record { within = words_here z o words before x after log w j (omega arith); gives = refl };
@@ -284,7 +311,7 @@ module _ (z : Layout) (o : Opening) (words : List ℕ) (before : List Part) (x :
           behind = let more = g.more (record { answer = a; at = length log' }) in omega (arith, more, g.within);
           within = omega (arith, longer);
         });
-        lawful = subst (λ (b : Bool). Lawful z o (set words j (cond b at a)) (before ++ gone x (log ++ cond b (f ∷ []) []) a (n ∷ []) ∷ after) (log ++ cond b (f ∷ []) [])) (sym won) lawful;
+        lawful = subst (λ (b : Bool). Base z o (set words j (cond b at a)) (before ++ gone x (log ++ cond b (f ∷ []) []) a (n ∷ []) ∷ after) (log ++ cond b (f ∷ []) [])) (sym won) lawful;
       }
 
   pub record_exchanged : LeadsAt z o words before x after log (core_of x) (Exchanging c old at) (Exchange c.component old at)

@@ -73,7 +73,7 @@ starting z o log x m w begun = starting_from z o log x x.kept refl m w begun
 
 -- the part behind one answer more
 abbrev pub gone : Part → List Applied → ℕ → List Noted → Part
-gone x l a new = record { seen = l; notes = x.notes ++ new; begun = x.begun; kept = x.kept ++ record { answer = a; at = length l } ∷ []; since = x.since }
+gone x l a new = record { seen = l; notes = x.notes ++ new; begun = x.begun; kept = x.kept ++ record { answer = a; at = length l } ∷ []; since = x.since; claimed = x.claimed }
 
 pub gone_core : (x : Part) (l : List Applied) (a : ℕ) (new : List Noted) → core_of (gone x l a new) ≡ advance (core_of x) a
 gone_core x l a new = led_push x.begun x.kept (record { answer = a; at = length l })

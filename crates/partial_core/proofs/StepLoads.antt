@@ -23,7 +23,9 @@ use Rattle.partial_core.specs.declared.stage.Reply.TheVariants as reply
 use Rattle.partial_core.specs.declared.stage.Stage.{Stage}
 use Rattle.partial_core.specs.declared.stage.Stage.TheVariants.{ReadBegun, LoadingValue, UpdateBegun, LoadingListHead, LoadingSlotCounter, ClaimingRecord, Finished}
 use Rattle.partial_core.specs.Machine.{CoreState, at_stage, advance, advance_at, step_of, step_at, reply_of, expects, IsStage, IsPossible, IsPossibleAt, IsRecord}
-use Rattle.partial_core.specs.Lawful.{Part, Kept, Lawful, IsKnown, IsTied, IsOwn, Own, IsStampThen, own_of, own_at, core_of, port_of, led_by, AreApart, HaveOtherBlocks, is_begun, is_at_rest, first_at, added_at, AreNotesOf, update_call, call_at}
+use Rattle.partial_core.specs.Lawful.{Part, Kept, IsKnown, IsStampThen, core_of, port_of, led_by, is_begun, is_at_rest, first_at, added_at, AreNotesOf, update_call, call_at}
+use Rattle.partial_core.proofs.Plain.{unmarked_gone, loads_more, none_newer, value_in_record}
+use Rattle.partial_core.proofs.Base.{IsPlain, IsLoadOf, IsInRecord, Base, IsTied, IsOwn, Own, own_of, own_at, AreApart, HaveOtherBlocks}
 use Rattle.partial_core.proofs.ListLemmas.{all_at}
 use Rattle.partial_core.proofs.PartLemmas.{sizes_led, seen_within, stage_known, KnowsAt, KnowsStamp}
 use Rattle.partial_core.proofs.Rebuild.{rebuild, once_same, marked_same}
@@ -36,7 +38,7 @@ pub record LeadsAt (z : Layout) (o : Opening) (words : List ℕ) (before : List 
   pub possible : IsPossibleAt d.sizes s (answer_of words step)
   pub new : List Noted
   pub noted : AreNotesOf (gone x (log ++ added_at d.port s (answer_of words step)) (answer_of words step) new) (reply_of (advance_at d s (answer_of words step))) new
-  pub lawful : Lawful z o (words_after words step) (before ++ gone x (log ++ added_at d.port s (answer_of words step)) (answer_of words step) new ∷ after) (log ++ added_at d.port s (answer_of words step))
+  pub lawful : Base z o (words_after words step) (before ++ gone x (log ++ added_at d.port s (answer_of words step)) (answer_of words step) new ∷ after) (log ++ added_at d.port s (answer_of words step))
 
 pub none_some : {A : Type 0} (P : A → Type 0) (found : Option A) → found ≡ None → IfSome found P
 none_some P found e = subst (λ (f : Option _). IfSome f P) (sym e) tt
@@ -48,7 +50,7 @@ none_two x y e v = none_some (λ (a : Own). IfSome (own_of v) (λ b. AreApart a.
 pub written_same : (ns new : List Noted) → places_written new ≡ [] → places_written (ns ++ new) ≡ places_written ns
 written_same ns new e = places_written-append ns new ∙ ap (λ (l : List ℕ). places_written ns ++ l) e ∙ append-nil (places_written ns)
 
-module _ (z : Layout) (o : Opening) (words : List ℕ) (before : List Part) (x : Part) (after : List Part) (log : List Applied) (w : Lawful z o words (before ++ x ∷ after) log) where
+module _ (z : Layout) (o : Opening) (words : List ℕ) (before : List Part) (x : Part) (after : List Part) (log : List Applied) (w : Base z o words (before ++ x ∷ after) log) where
   pub known_here : IsKnown z o log x
   known_here = all_at (IsKnown z o log) before x after w.known
 
@@ -59,8 +61,8 @@ module _ (z : Layout) (o : Opening) (words : List ℕ) (before : List Part) (x :
   seen_here = let seen = seen_within x.seen log (known_here.seen) in omega (arith, known_here.shown, seen)
 
   -- The words and the history stay, and the port writes no record then.
-  pub quiet : (a : ℕ) (new : List Noted) (t : CoreState) → advance (core_of x) a ≡ t → own_at t.stage ≡ None → t.pool_spent ≡ (core_of x).pool_spent → places_written new ≡ [] → IsKnown z o log (gone x log a new) → Lawful z o words (before ++ gone x log a new ∷ after) log
-  quiet a new t leads none spent written known =
+  pub quiet : (a : ℕ) (new : List Noted) (t : CoreState) → advance (core_of x) a ≡ t → own_at t.stage ≡ None → t.pool_spent ≡ (core_of x).pool_spent → places_written new ≡ [] → IsLoadOf z words log (step_of (core_of x)) (record { answer = a; at = length log }) → IsKnown z o log (gone x log a new) → Base z o words (before ++ gone x log a new ∷ after) log
+  quiet a new t leads none spent written load known =
       let y = gone x log a new in
       let core : core_of y ≡ t = gone_core x log a new ∙ leads in
       let own : own_of y ≡ None = ap (λ (s : CoreState). own_at s.stage) core ∙ none in
@@ -80,13 +82,19 @@ module _ (z : Layout) (o : Opening) (words : List ℕ) (before : List Part) (x :
         others_tied = λ v h other. h;
         apart = λ v h other. none_two x y own v;
         high = subst (λ n. get_or words (pool_counter z) 0 ≤ pool_end z + (4 + 2 * z.m) * n) (sym marks) w.pool_high;
-        slot_count = refl;
-        list = refl;
+        claimed = refl;
+        unmarked = λ u. unmarked_gone x log a new u;
+        still = λ n from below other. refl;
+        records = λ n inside. refl;
+        longer = λ k e s. s;
+        older = λ k e s below. s;
+        newest = λ k e s far. none_newer (λ k (e : Applied). IsPlain o words log k e.stamp) log k e s far;
+        loads = λ h. loads_more z o words words log log (λ k e s. s) (λ n inside. refl) x.begun x.kept (record { answer = a; at = length log }) h load;
       })
 
   -- the same with nothing added to the history
-  pub nothing_added : (words' : List ℕ) (a : ℕ) (new : List Noted) → Lawful z o words' (before ++ gone x log a new ∷ after) log → Lawful z o words' (before ++ gone x (log ++ []) a new ∷ after) (log ++ [])
-  nothing_added words' a new h = subst (λ (l : List Applied). Lawful z o words' (before ++ gone x l a new ∷ after) l) (sym (append-nil log)) h
+  pub nothing_added : (words' : List ℕ) (a : ℕ) (new : List Noted) → Base z o words' (before ++ gone x log a new ∷ after) log → Base z o words' (before ++ gone x (log ++ []) a new ∷ after) (log ++ [])
+  nothing_added words' a new h = subst (λ (l : List Applied). Base z o words' (before ++ gone x l a new ∷ after) l) (sym (append-nil log)) h
 
   -- a component word holds the stamp after the whole history
   pub stamp_now : (j : ℕ) → j < z.m → get_or words j 0 ≡ stamp_of o log j
@@ -116,6 +124,9 @@ module _ (z : Layout) (o : Opening) (words : List ℕ) (before : List Part) (x :
   pub stamp_here : (s : Stage) (k : Kept) (l : List Applied) → (core_of x).stage ≡ s → IsStampThen o l (step_at z s) k → IsStampThen o l (step_of (core_of x)) k
   stamp_here s k l e p = subst (λ (y : Layout). IsStampThen o l (step_at y (core_of x).stage) k) (sym sizes_here) (subst (λ (t : Stage). IsStampThen o l (step_at z t) k) (sym e) p)
 
+  pub load_here : (s : Stage) (k : Kept) → (core_of x).stage ≡ s → IsLoadOf z words log (step_at z s) k → IsLoadOf z words log (step_of (core_of x)) k
+  load_here s k e p = subst (λ (y : Layout). IsLoadOf z words log (step_at y (core_of x).stage) k) (sym sizes_here) (subst (λ (t : Stage). IsLoadOf z words log (step_at z t) k) (sym e) p)
+
   pub leads_here : (s : Stage) (a : ℕ) → (core_of x).stage ≡ s → advance (core_of x) a ≡ advance_at (core_of x) s a
   leads_here s a e = ap (λ (t : Stage). advance_at (core_of x) t a) e
 
@@ -126,17 +137,17 @@ module _ (z : Layout) (o : Opening) (words : List ℕ) (before : List Part) (x :
   knows_here s e begun rest = subst (λ (t : Stage). KnowsAt o log (first_at x.kept) x.begun (core_of x).pool_spent t) e ((going_here s e begun rest).knows)
 
   -- a load after which the call goes on
-  pub goes_on : (s t : Stage) (a : ℕ) → (core_of x).stage ≡ s → advance_at (core_of x) s a ≡ at_stage (core_of x) t → own_at t ≡ None → is_at_rest s ≡ false → IsPossibleAt z s a → IsStampThen o log (step_at z s) (record { answer = a; at = length log }) → Lawful z o words (before ++ gone x (log ++ []) a [] ∷ after) (log ++ [])
-  goes_on s t a e leads none rest possible stamp =
-      nothing_added words a [] (quiet a [] (at_stage (core_of x) t) (leads_here s a e ∙ leads) none refl refl
+  pub goes_on : (s t : Stage) (a : ℕ) → (core_of x).stage ≡ s → advance_at (core_of x) s a ≡ at_stage (core_of x) t → own_at t ≡ None → is_at_rest s ≡ false → IsPossibleAt z s a → IsStampThen o log (step_at z s) (record { answer = a; at = length log }) → IsLoadOf z words log (step_at z s) (record { answer = a; at = length log }) → Base z o words (before ++ gone x (log ++ []) a [] ∷ after) (log ++ [])
+  goes_on s t a e leads none rest possible stamp load =
+      nothing_added words a [] (quiet a [] (at_stage (core_of x) t) (leads_here s a e ∙ leads) none refl refl (load_here s (record { answer = a; at = length log }) e load)
       (known_on z o log x a known_here (ap is_at_rest e ∙ rest) (possible_here s a e possible) (stamp_here s (record { answer = a; at = length log }) log e stamp)))
 
   -- a step that ends the call with a note
-  pub ends : (s : Stage) (r : Reply) (a : ℕ) (n : Noted) → (core_of x).stage ≡ s → advance_at (core_of x) s a ≡ at_stage (core_of x) (Finished r) → places_written (n ∷ []) ≡ [] → IsPossibleAt z s a → IsStampThen o log (step_at z s) (record { answer = a; at = length log }) → IsLegal o log (port_of x) (seen_by 0 x.notes) n → seen_after (seen_by 0 x.notes) n.note ≤ length log → Lawful z o words (before ++ gone x (log ++ []) a (n ∷ []) ∷ after) (log ++ [])
-  ends s r a n e leads written possible stamp legal shown =
+  pub ends : (s : Stage) (r : Reply) (a : ℕ) (n : Noted) → (core_of x).stage ≡ s → advance_at (core_of x) s a ≡ at_stage (core_of x) (Finished r) → places_written (n ∷ []) ≡ [] → IsPossibleAt z s a → IsStampThen o log (step_at z s) (record { answer = a; at = length log }) → IsLoadOf z words log (step_at z s) (record { answer = a; at = length log }) → IsLegal o log (port_of x) (seen_by 0 x.notes) n → seen_after (seen_by 0 x.notes) n.note ≤ length log → Base z o words (before ++ gone x (log ++ []) a (n ∷ []) ∷ after) (log ++ [])
+  ends s r a n e leads written possible stamp load legal shown =
       let core = leads_here s a e ∙ leads in
       let pushed = seen_by-push 0 x.notes n in
-      nothing_added words a (n ∷ []) (quiet a (n ∷ []) (at_stage (core_of x) (Finished r)) core refl refl written
+      nothing_added words a (n ∷ []) (quiet a (n ∷ []) (at_stage (core_of x) (Finished r)) core refl refl written (load_here s (record { answer = a; at = length log }) e load)
       (known_end z o log x a n known_here (possible_here s a e possible) (stamp_here s (record { answer = a; at = length log }) log e stamp) legal (omega (arith, pushed, shown)) (ap (λ (t : CoreState). is_at_rest t.stage) core)))
 
   pub same_length : length (log ++ []) ≡ length log
@@ -150,7 +161,7 @@ module _ (z : Layout) (o : Opening) (words : List ℕ) (before : List Part) (x :
         possible = possible_at (ReadBegun j) (get_or words j 0) (record_now j below);
         new = [];
         noted = refl;
-        lawful = goes_on (ReadBegun j) (LoadingValue (get_or words j 0)) (get_or words j 0) e refl refl refl (record_now j below) (λ _. stamp_then j below);
+        lawful = goes_on (ReadBegun j) (LoadingValue (get_or words j 0)) (get_or words j 0) e refl refl refl (record_now j below) (λ _. stamp_then j below) (λ far. absurd (omega (arith, far, below)));
       }
 
   pub list_head_loaded : (c : Change) (old : ℕ) → (core_of x).stage ≡ LoadingListHead c old → LeadsAt z o words before x after log (core_of x) (LoadingListHead c old) (Load (list_head z))
@@ -160,7 +171,7 @@ module _ (z : Layout) (o : Opening) (words : List ℕ) (before : List Part) (x :
         possible = possible_at (LoadingListHead c old) (get_or words (list_head z) 0) w.list;
         new = [];
         noted = refl;
-        lawful = goes_on (LoadingListHead c old) (LoadingSlotCounter c old) (get_or words (list_head z) 0) e refl refl refl w.list (λ below. absurd (omega (arith, w.values, below)));
+        lawful = goes_on (LoadingListHead c old) (LoadingSlotCounter c old) (get_or words (list_head z) 0) e refl refl refl w.list (λ below. absurd (omega (arith, w.values, below))) (λ far. absurd (omega (arith, far)));
       }
 
   pub slot_counter_loaded : (c : Change) (old : ℕ) → (core_of x).stage ≡ LoadingSlotCounter c old → LeadsAt z o words before x after log (core_of x) (LoadingSlotCounter c old) (Load (slot_counter z))
@@ -170,7 +181,7 @@ module _ (z : Layout) (o : Opening) (words : List ℕ) (before : List Part) (x :
         possible = possible_at (LoadingSlotCounter c old) (get_or words (slot_counter z) 0) w.slot_count;
         new = [];
         noted = refl;
-        lawful = goes_on (LoadingSlotCounter c old) (ClaimingRecord c old) (get_or words (slot_counter z) 0) e refl refl refl w.slot_count (λ below. absurd (omega (arith, w.values, below)));
+        lawful = goes_on (LoadingSlotCounter c old) (ClaimingRecord c old) (get_or words (slot_counter z) 0) e refl refl refl w.slot_count (λ below. absurd (omega (arith, w.values, below))) (λ far. absurd (omega (arith, far)));
       }
 
   -- the value behind the stamp that a read has loaded
@@ -196,7 +207,7 @@ module _ (z : Layout) (o : Opening) (words : List ℕ) (before : List Part) (x :
           behind = omega (arith, g.more (record { answer = a; at = length (log ++ []) }));
           within = omega (arith, same_length, g.within);
         };
-        lawful = ends (LoadingValue stamp) (reply.Read a stamp) a n e refl refl tt (λ below. absurd (let base = sound.0 in omega (arith, w.values, below)))
+        lawful = ends (LoadingValue stamp) (reply.Read a stamp) a n e refl refl tt (λ below. absurd (let base = sound.0 in omega (arith, w.values, below))) (λ _. (refl, subst (λ m. IsInRecord z log (m + 1)) (sym k.found) (value_in_record z o log first (k.component) w.stamps (let b = k.below in omega (arith, w.values, b)))))
             (k.below, ((g.within, value, k.found), omega (arith, low, g.behind))) (omega (arith, g.within));
       }
 
@@ -212,7 +223,7 @@ module _ (z : Layout) (o : Opening) (words : List ℕ) (before : List Part) (x :
         possible = possible_at (UpdateBegun c) a (record_now j below);
         new = [];
         noted = subst (λ (t : CoreState). AreNotesOf (gone x (log ++ []) a []) (reply_of t) []) (sym leads) refl;
-        lawful = goes_on (UpdateBegun c) (LoadingListHead c a) a e leads refl refl (record_now j below) (λ _. stamp_then j below);
+        lawful = goes_on (UpdateBegun c) (LoadingListHead c a) a e leads refl refl (record_now j below) (λ _. stamp_then j below) (λ far. absurd (omega (arith, far, below)));
       }
 
   changed_at_once : (c : Change) (expected : Option ℕ) → c.expected ≡ expected → expects c (get_or words c.component 0) ≡ false → (core_of x).stage ≡ UpdateBegun c → LeadsAt z o words before x after log (core_of x) (UpdateBegun c) (Load (c.component))
@@ -242,7 +253,7 @@ module _ (z : Layout) (o : Opening) (words : List ℕ) (before : List Part) (x :
           behind = omega (arith, first, same_length);
           within = omega (arith, same_length);
         });
-        lawful = ends (UpdateBegun c) (reply.Changed a) a n e leads refl (record_now j below) (λ _. stamp_then j below)
+        lawful = ends (UpdateBegun c) (reply.Changed a) a n e leads refl (record_now j below) (λ _. stamp_then j below) (λ far. absurd (omega (arith, far, below)))
             (omega (arith, w.values, below), ((omega arith, sym (stamp_then j below), λ same. eqb-false s a differs (sym same)), seen_here)) (omega arith);
       }
 

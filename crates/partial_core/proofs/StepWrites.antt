@@ -7,21 +7,23 @@ use Rattle.partial_model.specs.Outcome.{places_written}
 use Rattle.partial_words.specs.declared.step.Step.TheVariants.{Store, Add}
 use Rattle.partial_model.specs.declared.call.Refused.TheVariants as refused
 use Rattle.partial_model.specs.Notes.{MayBeRefused}
-use Rattle.partial_words.specs.Layout.{Layout, slot_counter, list_head, pool_counter, pool_base, pool_end}
+use Rattle.partial_words.specs.Layout.{Layout, pool_counter, pool_base, pool_end}
 use Rattle.partial_words.specs.Record.{record_block}
 use Rattle.partial_words.specs.Chain.{Agrees}
 use Rattle.partial_words.proofs.ChainLemmas.{IsElsewhere}
 use Rattle.partial_core.specs.declared.stage.Change.{Change}
 use Rattle.partial_core.specs.declared.stage.Stage.{Stage}
 use Rattle.partial_core.specs.declared.stage.Stage.TheVariants.{ClaimingRecord, StoringRecord, Exchanging}
-use Rattle.partial_core.specs.Machine.{CoreState, at_stage, advance_at, reply_of, spent, fits_pool, IsStage}
-use Rattle.partial_core.specs.Lawful.{Part, Lawful, IsKnown, IsTied, IsOwn, Own, IsEntry, own_of, own_at, core_of, port_of, AreApart, HaveOtherBlocks, marked_in, is_at_rest, first_at, AreNotesOf, update_call, call_at}
+use Rattle.partial_core.specs.Machine.{CoreState, at_stage, advance_at, step_of, reply_of, spent, fits_pool, IsStage}
+use Rattle.partial_core.specs.Lawful.{Part, IsKnown, IsEntry, core_of, port_of, marked_in, is_at_rest, first_at, AreNotesOf, update_call, call_at}
+use Rattle.partial_core.proofs.Plain.{unmarked_gone, loads_more, none_newer, in_pool, all_found}
+use Rattle.partial_core.proofs.Base.{IsUnmarked, IsPlain, IsLoadOf, IsInRecord, AreLoaded, Base, IsTied, IsOwn, Own, own_of, own_at, AreApart, HaveOtherBlocks}
 use Rattle.partial_core.proofs.ListLemmas.{all_weaker}
 use Rattle.partial_core.proofs.PartLemmas.{KnowsOld}
 use Rattle.partial_core.proofs.Rebuild.{rebuild, once_same, marked_same, marked_more, counter_high}
 use Rattle.partial_core.proofs.Frames.{if_some, if_some_at, agrees_elsewhere, tied_moves, initial_elsewhere, entries_elsewhere, apart_elsewhere, apart_words}
 use Rattle.partial_core.proofs.StepLaw.{gone, gone_core, known_on}
-use Rattle.partial_core.proofs.StepLoads.{LeadsAt, known_here, tied_here, nothing_added, sizes_here, words_here, stage_here, possible_here, possible_at, stamp_here, leads_here, knows_here, written_same}
+use Rattle.partial_core.proofs.StepLoads.{LeadsAt, known_here, tied_here, nothing_added, sizes_here, words_here, stage_here, possible_here, possible_at, stamp_here, load_here, leads_here, knows_here, written_same}
 
 -- the record of a part whose machine is at that stage
 pub own_is : (x : Part) (t : CoreState) → core_of x ≡ t → own_of x ≡ own_at t.stage
@@ -36,10 +38,15 @@ blocks_here x v b e p = own_here (λ (a : Own). IfSome (own_of v) (λ d. AreApar
 pub blocks_of : (x v : Part) (b : Own) → own_of x ≡ Some b → HaveOtherBlocks x v → IfSome (own_of v) (λ a. AreApart b.at a.at)
 blocks_of x v b e h = if_some_at (λ (a : Own). IfSome (own_of v) (λ d. AreApart a.at d.at)) (own_of x) b e h
 
+-- a word of a record that is apart isn't the one that is stored
+record_apart : (at k stamp n : ℕ) → k < 3 → stamp ≤ n → n < stamp + 3 → AreApart stamp at → n ≢ at + k
+record_apart at k stamp n few from to (inl h) = λ e. omega (arith, few, from, to, h, e)
+record_apart at k stamp n few from to (inr h) = λ e. omega (arith, few, from, to, h, e)
+
 pub no_own : (P : Own → Type 0) (x : Part) → own_of x ≡ None → IfSome (own_of x) P
 no_own P x e = subst (λ (f : Option Own). IfSome f P) (sym e) tt
 
-module _ (z : Layout) (o : Opening) (words : List ℕ) (before : List Part) (x : Part) (after : List Part) (log : List Applied) (w : Lawful z o words (before ++ x ∷ after) log) where
+module _ (z : Layout) (o : Opening) (words : List ℕ) (before : List Part) (x : Part) (after : List Part) (log : List Applied) (w : Base z o words (before ++ x ∷ after) log) where
   counter : ℕ
   counter = get_or words (pool_counter z) 0
 
@@ -58,15 +65,18 @@ module _ (z : Layout) (o : Opening) (words : List ℕ) (before : List Part) (x :
   unfolding claimed
   claimed_same n other = get_or-set_other words (pool_counter z) n (counter + 3) 0 other
 
+  claimed_in_record : (n : ℕ) → IsInRecord z log n → get_or claimed n 0 ≡ get_or words n 0
+  claimed_in_record n inside = let far = in_pool z words log n w.entries inside in claimed_same n (λ e. omega (arith, far, e))
+
   claimed_agrees : Agrees o claimed log
   unfolding claimed
   claimed_agrees = agrees_elsewhere o words log (pool_counter z) (counter + 3) (omega (arith, w.values)) (entries_elsewhere z words (pool_counter z) log (omega arith) w.entries)
       (λ j below. record { prev = λ e. omega (arith, w.stamps, e); value = λ e. omega (arith, w.stamps, e) }) w.agrees
 
   -- a claim, whatever it makes of the port
-  claims : (t : CoreState) (y : Part) → y ≡ gone x log counter [] → core_of y ≡ t → IsKnown z o log y → IsTied z claimed log y → ((v : Part) → IsTied z words log v → HaveOtherBlocks x v → HaveOtherBlocks y v) → counter + 3 ≤ pool_end z + (4 + 2 * z.m) * marked_in (before ++ y ∷ after) → Lawful z o claimed (before ++ y ∷ after) log
+  claims : (t : CoreState) (y : Part) → y ≡ gone x log counter [] → core_of y ≡ t → IsLoadOf z words log (step_of (core_of x)) (record { answer = counter; at = length log }) → IsKnown z o log y → IsTied z claimed log y → ((v : Part) → IsTied z words log v → HaveOtherBlocks x v → HaveOtherBlocks y v) → counter + 3 ≤ pool_end z + (4 + 2 * z.m) * marked_in (before ++ y ∷ after) → Base z o claimed (before ++ y ∷ after) log
   unfolding claimed counter
-  claims t y is core known tied apart high =
+  claims t y is core load known tied apart high =
       let now = claimed_now in
       rebuild z o words claimed before x y after log log w (record {
         port = ap port_of is;
@@ -82,8 +92,14 @@ module _ (z : Layout) (o : Opening) (words : List ℕ) (before : List Part) (x :
         others_tied = λ v h other. tied_moves z words claimed log log v (omega (arith, now)) (λ b e own. (λ i below. claimed_same (b.at + i) (λ same. let above = own.above in omega (arith, above, same)), own.apart)) h;
         apart = apart;
         high = omega (arith, now, high);
-        slot_count = claimed_same (slot_counter z) (λ e. omega (arith, e));
-        list = claimed_same (list_head z) (λ e. omega (arith, e));
+        claimed = ap (λ (v : Part). v.claimed) is;
+        unmarked = λ u. subst IsUnmarked (sym is) (unmarked_gone x log counter [] u);
+        still = λ n from below other. claimed_same n other;
+        records = λ n inside. claimed_in_record n inside;
+        longer = λ k e s. s;
+        older = λ k e s below. s;
+        newest = λ k e s far. none_newer (λ k (e : Applied). IsPlain o claimed log k e.stamp) log k e s far;
+        loads = λ h. subst (λ (v : Part). AreLoaded z claimed log v.begun v.kept) (sym is) (loads_more z o words claimed log log (λ k e s. s) (λ n inside. claimed_in_record n inside) x.begun x.kept (record { answer = counter; at = length log }) h load);
       })
 
   claim_known : (c : Change) (old : ℕ) → (core_of x).stage ≡ ClaimingRecord c old → (pool_base z ≤ counter) × (counter ≤ pool_end z + 64 * (4 + 2 * z.m)) → IsKnown z o log (gone x log counter [])
@@ -94,7 +110,7 @@ module _ (z : Layout) (o : Opening) (words : List ℕ) (before : List Part) (x :
   unfolding counter
   claim_possible = (let low = w.pool_low in omega arith, counter_high z o words (before ++ x ∷ after) log w)
 
-  claim_fits : (c : Change) (old : ℕ) → (core_of x).stage ≡ ClaimingRecord c old → fits_pool (core_of x).sizes counter ≡ true → Lawful z o claimed (before ++ gone x log counter [] ∷ after) log
+  claim_fits : (c : Change) (old : ℕ) → (core_of x).stage ≡ ClaimingRecord c old → fits_pool (core_of x).sizes counter ≡ true → Base z o claimed (before ++ gone x log counter [] ∷ after) log
   unfolding claimed counter
   claim_fits c old e fits =
       let y = gone x log counter [] in
@@ -105,7 +121,7 @@ module _ (z : Layout) (o : Opening) (words : List ℕ) (before : List Part) (x :
       let now = claimed_now in
       let mark : (core_of y).pool_spent ≡ (core_of x).pool_spent = ap (λ (s : CoreState). s.pool_spent) core in
       let marks = marked_same before x y after mark in
-      claims t y refl core (claim_known c old e claim_possible)
+      claims t y refl core (load_here z o words before x after log w (ClaimingRecord c old) (record { answer = counter; at = length log }) e tt) (claim_known c old e claim_possible)
       (record {
         own = own_here (IsOwn z claimed log) y b own (record { above = w.pool_low; below = omega (arith, now); few = omega arith; stands = λ i below. absurd (omega arith); apart = all_weaker (IsEntry z words) (λ (f : Applied). AreApart f.stamp counter) (λ f h. inl h.below) log w.entries });
         marked = λ m. let old' = (tied_here z o words before x after log w).marked (sym mark ∙ m) in omega (arith, now, old');
@@ -113,7 +129,7 @@ module _ (z : Layout) (o : Opening) (words : List ℕ) (before : List Part) (x :
       (λ v h other. blocks_here y v b own (if_some (IsOwn z words log) (λ a. AreApart counter a.at) (own_of v) (λ a f own'. inr own'.below) h.own))
       (subst (λ n. counter + 3 ≤ pool_end z + (4 + 2 * z.m) * n) (sym marks) (let top = ltb-true (counter + 2) (pool_end (core_of x).sizes) fits in let same = ap pool_end (sizes_here z o words before x after log w) in let room : counter + 3 ≤ pool_end z = omega (arith, top, same) in omega (arith, room)))
 
-  claim_spent : (c : Change) (old : ℕ) → (core_of x).stage ≡ ClaimingRecord c old → fits_pool (core_of x).sizes counter ≡ false → Lawful z o claimed (before ++ gone x log counter [] ∷ after) log
+  claim_spent : (c : Change) (old : ℕ) → (core_of x).stage ≡ ClaimingRecord c old → fits_pool (core_of x).sizes counter ≡ false → Base z o claimed (before ++ gone x log counter [] ∷ after) log
   unfolding claimed counter
   claim_spent c old e fits =
       let y = gone x log counter [] in
@@ -126,7 +142,7 @@ module _ (z : Layout) (o : Opening) (words : List ℕ) (before : List Part) (x :
       let k : KnowsOld o log (first_at x.kept) x.begun (core_of x).pool_spent c old = knows_here z o words before x after log w (ClaimingRecord c old) e refl refl in
       let marks = marked_more before x y after k.unmarked (ap (λ (s : CoreState). s.pool_spent) core) in
       let more : (4 + 2 * z.m) * (1 + marked_in (before ++ x ∷ after)) ≡ (4 + 2 * z.m) + (4 + 2 * z.m) * marked_in (before ++ x ∷ after) = omega arith in
-      claims t y refl core (claim_known c old e claim_possible)
+      claims t y refl core (load_here z o words before x after log w (ClaimingRecord c old) (record { answer = counter; at = length log }) e tt) (claim_known c old e claim_possible)
       (record { own = no_own (IsOwn z claimed log) y own; marked = λ m. omega (arith, now, past, same) })
       (λ v h other. no_own (λ (a : Own). IfSome (own_of v) (λ d. AreApart a.at d.at)) y own)
       (subst (λ n. counter + 3 ≤ pool_end z + (4 + 2 * z.m) * n) (sym marks) (let high = w.pool_high in omega (arith, more, high)))
@@ -143,7 +159,7 @@ module _ (z : Layout) (o : Opening) (words : List ℕ) (before : List Part) (x :
         possible = possible_at z o words before x after log w (ClaimingRecord c old) counter claim_possible;
         new = [];
         noted = noted (fits_pool (core_of x).sizes counter);
-        lawful = subst (λ n. Lawful z o (set words (pool_counter z) n) (before ++ gone x (log ++ []) counter [] ∷ after) (log ++ [])) (sym no_wrap) (nothing_added z o words before x after log w claimed counter [] (either (fits_pool (core_of x).sizes counter) refl));
+        lawful = subst (λ n. Base z o (set words (pool_counter z) n) (before ++ gone x (log ++ []) counter [] ∷ after) (log ++ [])) (sym no_wrap) (nothing_added z o words before x after log w claimed counter [] (either (fits_pool (core_of x).sizes counter) refl));
       }
     where
       knows : KnowsOld o log (first_at x.kept) x.begun (core_of x).pool_spent c old
@@ -160,11 +176,11 @@ module _ (z : Layout) (o : Opening) (words : List ℕ) (before : List Part) (x :
       noted true = refl
       noted false = record { none = refl; call = update_call c.component c.expected c.value; made = ap call_at (knows.call); may = may c.expected }
 
-      either : (b : Bool) → fits_pool (core_of x).sizes counter ≡ b → Lawful z o claimed (before ++ gone x log counter [] ∷ after) log
+      either : (b : Bool) → fits_pool (core_of x).sizes counter ≡ b → Base z o claimed (before ++ gone x log counter [] ∷ after) log
       either true h = claim_fits c old e h
       either false h = claim_spent c old e h
 
-module _ (z : Layout) (o : Opening) (words : List ℕ) (before : List Part) (x : Part) (after : List Part) (log : List Applied) (w : Lawful z o words (before ++ x ∷ after) log) (c : Change) (old at k : ℕ) (e : (core_of x).stage ≡ StoringRecord c old at k) where
+module _ (z : Layout) (o : Opening) (words : List ℕ) (before : List Part) (x : Part) (after : List Part) (log : List Applied) (w : Base z o words (before ++ x ∷ after) log) (c : Change) (old at k : ℕ) (e : (core_of x).stage ≡ StoringRecord c old at k) where
   block : List ℕ
   block = record_block old c.value 0 []
 
@@ -183,6 +199,12 @@ module _ (z : Layout) (o : Opening) (words : List ℕ) (before : List Part) (x :
   stored_same : (n : ℕ) → n ≢ at + k → get_or stored_words n 0 ≡ get_or words n 0
   unfolding stored_words
   stored_same n other = get_or-set_other words (at + k) n (get_or (record_block old c.value 0 []) k 0) 0 other
+
+  stored_in_record : (n : ℕ) → IsInRecord z log n → get_or stored_words n 0 ≡ get_or words n 0
+  stored_in_record n (inl h) = let above = writing.above in let below = h.1 in stored_same n (λ e. omega (arith, above, below, e))
+  stored_in_record n (inr h) =
+      let apart : AreApart h.1.stamp at = all_found (λ (f : Applied). AreApart f.stamp at) log h.0 h.1 (writing.apart) h.2 in
+      stored_same n (record_apart at k h.1.stamp n (sound.3) h.3 h.4 apart)
 
   stored_agrees : Agrees o stored_words log
   unfolding stored_words
@@ -210,7 +232,7 @@ module _ (z : Layout) (o : Opening) (words : List ℕ) (before : List Part) (x :
         apart = writing.apart;
       }
 
-  store_lawful : (n : ℕ) (t : Stage) → n ≤ k + 1 → n ≤ 3 → own_at t ≡ Some (record { at = at; block = record_block old c.value 0 []; stored = n }) → advance_at (core_of x) (StoringRecord c old at k) 0 ≡ at_stage (core_of x) t → Lawful z o stored_words (before ++ gone x log 0 [] ∷ after) log
+  store_lawful : (n : ℕ) (t : Stage) → n ≤ k + 1 → n ≤ 3 → own_at t ≡ Some (record { at = at; block = record_block old c.value 0 []; stored = n }) → advance_at (core_of x) (StoringRecord c old at k) 0 ≡ at_stage (core_of x) t → Base z o stored_words (before ++ gone x log 0 [] ∷ after) log
   unfolding stored_words
   store_lawful n t most few own_t leads =
       let y = gone x log 0 [] in
@@ -236,8 +258,14 @@ module _ (z : Layout) (o : Opening) (words : List ℕ) (before : List Part) (x :
         others_tied = λ v h other. tied_moves z words stored_words log log v (omega (arith, same)) (λ a is own'. (λ i below. stored_same (a.at + i) (apart_words at k a.at i (sound.3) below (if_some_at (λ (d : Own). AreApart at d.at) (own_of v) a is (blocks_of x v (record { at = at; block = record_block old c.value 0 []; stored = k }) mine other))), own'.apart)) h;
         apart = λ v h other. blocks_here y v b own (blocks_of x v (record { at = at; block = record_block old c.value 0 []; stored = k }) mine other);
         high = let high = w.pool_high in subst (λ m. get_or stored_words (pool_counter z) 0 ≤ pool_end z + (4 + 2 * z.m) * m) (sym marks) (omega (arith, same, high));
-        slot_count = stored_same (slot_counter z) (λ h. omega (arith, above, h));
-        list = stored_same (list_head z) (λ h. omega (arith, above, h));
+        claimed = refl;
+        unmarked = λ u. unmarked_gone x log 0 [] u;
+        still = λ n from below other. stored_same n (λ h. omega (arith, above, below, h));
+        records = λ n inside. stored_in_record n inside;
+        longer = λ k e s. s;
+        older = λ k e s below. s;
+        newest = λ k e s far. none_newer (λ k (e : Applied). IsPlain o stored_words log k e.stamp) log k e s far;
+        loads = λ h. loads_more z o words stored_words log log (λ k e s. s) (λ n inside. stored_in_record n inside) x.begun x.kept (record { answer = 0; at = length log }) h (load_here z o words before x after log w (StoringRecord c old at k) (record { answer = 0; at = length log }) e tt);
       })
 
   pub record_stored : LeadsAt z o words before x after log (core_of x) (StoringRecord c old at k) (Store (at + k) (get_or (record_block old c.value 0 []) k 0))
@@ -255,6 +283,6 @@ module _ (z : Layout) (o : Opening) (words : List ℕ) (before : List Part) (x :
       noted true = refl
       noted false = refl
 
-      either : (b : Bool) → (k == 2) ≡ b → Lawful z o stored_words (before ++ gone x log 0 [] ∷ after) log
+      either : (b : Bool) → (k == 2) ≡ b → Base z o stored_words (before ++ gone x log 0 [] ∷ after) log
       either true h = let last = eqb-true k 2 h in store_lawful 3 (Exchanging c old at) (omega (arith, last)) (omega arith) refl (ap (λ (b : Bool). at_stage (core_of x) (cond b (Exchanging c old at) (StoringRecord c old at (k + 1)))) h)
       either false h = let other = eqb-false k 2 h in let few = sound.3 in store_lawful (k + 1) (StoringRecord c old at (k + 1)) (omega arith) (omega (arith, other, few)) refl (ap (λ (b : Bool). at_stage (core_of x) (cond b (Exchanging c old at) (StoringRecord c old at (k + 1)))) h)

@@ -1,3 +1,4 @@
 pub mod Machine
 pub mod Steps
+pub mod Views
 pub mod Lawful

@@ -13,16 +13,18 @@ use Rattle.partial_core.specs.declared.stage.Reply.TheVariants as reply
 use Rattle.partial_core.specs.declared.stage.Stage.{Stage}
 use Rattle.partial_core.specs.declared.stage.Stage.TheVariants.{Idle, ReadBegun, LoadingValue, UpdateBegun, LoadingListHead, LoadingSlotCounter, ClaimingRecord, StoringRecord, Exchanging, Finished}
 
--- a port's machine: its mark for the pool, and where it is in its call
+-- a port's machine: its marks for the pool, the slots and the list words, and where it is in its call
 pub record CoreState : Type 0 where
   pub sizes : Layout
   pub port : ℕ
   pub pool_spent : Bool
+  pub slots_spent : Bool
+  pub lists_spent : Bool
   pub stage : Stage
 
 -- a port that has made no call
 abbrev pub fresh : Layout → ℕ → CoreState
-fresh sizes port = record { sizes = sizes; port = port; pool_spent = false; stage = Idle }
+fresh sizes port = record { sizes = sizes; port = port; pool_spent = false; slots_spent = false; lists_spent = false; stage = Idle }
 
 -- the machine at another stage
 abbrev pub at_stage : CoreState → Stage → CoreState
@@ -56,9 +58,9 @@ overtaken c by = option_map_or (λ _. reply.Changed by) c.expected (reply.Lost b
 abbrev pub fits_pool : Layout → ℕ → Bool
 fits_pool z at = nat_lt (at + 2) (pool_end z)
 
--- the port is marked, and the call is refused
+-- the port is marked for the pool, and the call is refused
 abbrev pub spent : CoreState → CoreState
-spent s = record { sizes = s.sizes; port = s.port; pool_spent = true; stage = Finished (reply.Refused refused.PoolSpent) }
+spent s = record s { pool_spent = true; stage = Finished (reply.Refused refused.PoolSpent) }
 
 -- what an answer makes of the machine at a stage
 abbrev pub advance_at : CoreState → Stage → ℕ → CoreState

@@ -21,6 +21,8 @@ pub struct Core {
     sizes: Sizes,
     port: u32,
     pool_spent: bool,
+    slots_spent: bool,
+    lists_spent: bool,
     stage: Stage,
 }
 
@@ -31,7 +33,7 @@ impl Model for Core {
 
     ghost Value = { CoreState };
 
-    ghost view = { λ c. record { sizes = c.sizes; port = c.port; pool_spent = c.pool_spent; stage = c.stage } };
+    ghost view = { λ c. record { sizes = c.sizes; port = c.port; pool_spent = c.pool_spent; slots_spent = c.slots_spent; lists_spent = c.lists_spent; stage = c.stage } };
 
     ghost invariant = { λ c. IsLayout c.sizes × (c.port < 64) × IsStage c.sizes c.stage };
 }
@@ -49,6 +51,8 @@ impl Core {
             sizes,
             port,
             pool_spent: false,
+            slots_spent: false,
+            lists_spent: false,
             stage: Stage::Idle,
         })
     }
@@ -66,6 +70,20 @@ impl Core {
     {
         let Core { pool_spent, .. } = self;
         *pool_spent
+    }
+
+    /// Whether a slot claim of this port went past the last slot. No call claims a slot so far.
+    pub fn slots_spent(&self) -> bool
+        ensures { result ≡ self.now.slots_spent }
+    {
+        self.slots_spent
+    }
+
+    /// Whether a claim of list words by this port went past their end. No call claims any so far.
+    pub fn lists_spent(&self) -> bool
+        ensures { result ≡ self.now.lists_spent }
+    {
+        self.lists_spent
     }
 
     /// Begins an update of component `component` to `value`. It is refused for an index that isn't
