@@ -28,9 +28,9 @@ fresh_push z p [] port w number core finished none =
     (is, core ∙ ap (fresh z) is, finished, none, tt)
 fresh_push z p (x ∷ ports) port w number core finished none = (w.0, w.1, w.2, w.3, fresh_push z (p + 1) ports port w.4 (omega (arith, number)) core finished none)
 
-fresh_fits : (z : Layout) (o : Opening) (calls : List Call) (p : ℕ) (port : Port) → z.m ≡ length o.values → port.number ≡ p → port.core ≡ fresh z p → port.finished.items ≡ [] → port.under_way ≡ None → PortFits o [] calls p (record { seen = []; notes = []; begun = fresh z p; kept = []; since = 0 }) port
+fresh_fits : (z : Layout) (o : Opening) (calls : List Call) (p : ℕ) (port : Port) → z.m ≡ length o.values → port.number ≡ p → port.core ≡ fresh z p → port.finished.items ≡ [] → port.under_way ≡ None → PortFits o [] calls p (record { seen = []; notes = []; begun = fresh z p; kept = []; since = 0; claimed = None }) port
 fresh_fits z o calls p port m number core finished none =
-    let x : Part = record { seen = []; notes = []; begun = fresh z p; kept = []; since = 0 } in
+    let x : Part = record { seen = []; notes = []; begun = fresh z p; kept = []; since = 0; claimed = None } in
     record {
       number = number;
       part = refl;
@@ -54,7 +54,7 @@ fresh_ports_fit z o p (c ∷ plans) (t ∷ ports) m w n = (fresh_fits z o c p t 
 pub opens_run : (plans : List (List Call)) (z : Layout) (o : Opening) (words : List ℕ) (ports : List Port) → IsLayout z → length o.values ≡ z.m → o.first ≡ pool_base z → AreOpeningWords z o.values words → length plans ≤ 64 → AreFreshPorts z (length plans) ports → IsRunOf plans z o words ports [] []
 opens_run plans z o words ports sizes values first opening few fresh =
     let lawful = opens_lawful z o words (length plans) (record { sizes = sizes; values = values; stamps = first; words = opening }) few in
-    record { parts = fresh_parts z 0 (length plans); opened = words; opens = opening; lawful = lawful; fit = fresh_ports_fit z o 0 plans ports (sym values) fresh.1 fresh.0; leads = refl }
+    record { parts = fresh_parts z 0 (length plans); opened = words; opens = opening; lawful = lawful.0; without = lawful.1; fit = fresh_ports_fit z o 0 plans ports (sym values) fresh.1 fresh.0; leads = refl }
 
 pub listed_length : (plans : List (List Call)) (ports : List Port) → AreListed plans ports → length ports ≡ length plans
 listed_length [] [] w = refl

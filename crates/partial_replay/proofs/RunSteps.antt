@@ -20,7 +20,8 @@ use Rattle.partial_core.specs.declared.stage.Reply.{Reply}
 use Rattle.partial_core.specs.declared.stage.Stage.{Stage}
 use Rattle.partial_core.specs.declared.stage.Stage.TheVariants.{Idle, ReadBegun, LoadingValue, UpdateBegun, LoadingListHead, LoadingSlotCounter, ClaimingRecord, StoringRecord, Exchanging, Finished}
 use Rattle.partial_core.specs.Machine.{CoreState, at_stage, advance, step_at, reply_of, IsStage, steps_left}
-use Rattle.partial_core.specs.Lawful.{Part, Lawful, IsKnown, IsTied, IsOwn, own_of, own_at, core_of, is_begun, is_at_rest, IsMachineOf, MayBegin, moved, added, added_at}
+use Rattle.partial_core.specs.Lawful.Space.{Pool}
+use Rattle.partial_core.specs.Lawful.{Part, Lawful, IsWithoutScans, IsKnown, IsTied, IsOwn, own_of, own_at, core_of, is_begun, is_at_rest, IsMachineOf, MayBegin, moved, added, added_at}
 use Rattle.partial_core.proofs.ListLemmas.{all_at}
 use Rattle.partial_core.proofs.PartLemmas.{stage_known, sizes_led}
 use Rattle.partial_core.proofs.Frames.{if_some_at}
@@ -119,6 +120,7 @@ begin_keeps plans z o words ports log trace i calls port new w c t keeps =
       opened = w.opened;
       opens = w.opens;
       lawful = w.lawful;
+      without = w.without;
       leads = w.leads;
       fit = subst (λ (l : List Part). PortsFit o log 0 plans l (set ports i new)) (sym (at.is)) (subst (λ (l : List Applied). PortsFit o l 0 plans ((at.before) ++ (at.x) ∷ (at.after)) (set ports i new)) same (at.replace [] (at.x) new fits));
     }
@@ -167,7 +169,7 @@ exchange_facts z o words before x after log c w m ch old at e =
     let stage : (core_of x).stage ≡ Exchanging ch old at = ap (λ (s : CoreState). s.stage) (sym is) ∙ e in
     let tied = all_at (IsTied z words log) before x after w.tied in
     let known = all_at (IsKnown z o log) before x after w.known in
-    let own = if_some_at (IsOwn z words log) (own_of x) (record { at = at; block = record_block old ch.value 0 []; stored = 3 }) (ap own_at stage) tied.own in
+    let own = if_some_at (IsOwn z words log) (own_of x) (record { space = Pool; at = at; words = record_block old ch.value 0 []; stored = 3 }) (ap own_at stage) tied.own in
     let sound : IsStage z (Exchanging ch old at) = subst (IsStage z) stage (stage_known z o log x known) in
     (own.stands 1 (omega arith), (let below = sound.0 in let above = own.above in omega (arith, below, above)))
 
@@ -185,7 +187,7 @@ may_step plans z o words ports log trace i calls port way w c t is =
     let u = under_way o log calls (0 + i) (at.x) port way (at.fits) is in
     let due = due_step port.core.sizes port.core.stage u.due in
     let lawful : Lawful z o words ((at.before) ++ (at.x) ∷ (at.after)) log = subst (λ (l : List Part). Lawful z o words l log) (at.is) w.lawful in
-    let l = steps_stay_lawful z o words (at.before) (at.x) (at.after) log port.core (due.0) lawful u.machine due.1 in
+    let l = steps_stay_lawful z o words (at.before) (at.x) (at.after) log port.core (due.0) lawful (subst (λ (l : List Part). IsWithoutScans z words l log) (at.is) w.without) u.machine due.1 in
     let known = all_at (IsKnown z o log) (at.before) (at.x) (at.after) lawful.known in
     record {
       step = due.0;
@@ -205,7 +207,7 @@ step_keeps plans z o words words' ports log log' trace trace' i calls port new w
     let at = at_port o log 0 plans w.parts ports i calls port w.fit c t in
     let u = under_way o log calls (0 + i) (at.x) port (m.way) (at.fits) m.was in
     let lawful : Lawful z o words ((at.before) ++ (at.x) ∷ (at.after)) log = subst (λ (l : List Part). Lawful z o words l log) (at.is) w.lawful in
-    let l = steps_stay_lawful z o words (at.before) (at.x) (at.after) log port.core (m.step) lawful u.machine m.due in
+    let l = steps_stay_lawful z o words (at.before) (at.x) (at.after) log port.core (m.step) lawful (subst (λ (l : List Part). IsWithoutScans z words l log) (at.is) w.without) u.machine m.due in
     let a = answer_of words (m.step) in
     let known = all_at (IsKnown z o log) (at.before) (at.x) (at.after) lawful.known in
     let number : port.core.port ≡ port.number = machine_port port.core (at.x) u.machine ∙ (at.fits).part ∙ sym ((at.fits).number) in
@@ -220,6 +222,7 @@ step_keeps plans z o words words' ports log log' trace trace' i calls port new w
       opened = w.opened;
       opens = w.opens;
       lawful = subst (λ (ws : List ℕ). Lawful z o ws ((at.before) ++ y ∷ (at.after)) log') (sym m.words_are) (subst (λ (k : List Applied). Lawful z o (words_after words (m.step)) ((at.before) ++ y ∷ (at.after)) k) (sym log_is) l.lawful);
+      without = subst (λ (ws : List ℕ). IsWithoutScans z ws ((at.before) ++ y ∷ (at.after)) log') (sym m.words_are) (subst (λ (k : List Applied). IsWithoutScans z (words_after words (m.step)) ((at.before) ++ y ∷ (at.after)) k) (sym log_is) l.without);
       fit = subst (λ (k : List Applied). PortsFit o k 0 plans ((at.before) ++ y ∷ (at.after)) (set ports i new)) (sym log_is) (at.replace (added port.core a) y new fits);
       leads = subst (λ (ws : List ℕ). Leads w.opened trace' ws) (sym m.words_are) (subst (λ (es : List Event). Leads w.opened es (words_after words (m.step))) (sym m.trace_is) (leads_push w.opened words trace event w.leads l.answers));
     }

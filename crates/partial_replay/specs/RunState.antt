@@ -11,7 +11,7 @@ use Rattle.partial_words.specs.Step.{Leads}
 use Rattle.partial_words.specs.Chain.{AreOpeningWords}
 use Rattle.std.specs.Option.{option_map_or}
 use Rattle.partial_core.specs.Machine.{fresh, steps_left}
-use Rattle.partial_core.specs.Lawful.{Part, Lawful}
+use Rattle.partial_core.specs.Lawful.{Part, Lawful, IsWithoutScans}
 use Rattle.partial_replay.specs.declared.port.Port.{Port}
 use Rattle.partial_replay.specs.declared.port.UnderWay.{UnderWay}
 use Rattle.partial_replay.specs.declared.run.Run.{Run}
@@ -33,6 +33,7 @@ pub record IsRunOf (plans : List (List Call)) (z : Layout) (o : Opening) (words 
   pub opened : List ℕ
   pub opens : AreOpeningWords z o.values opened
   pub lawful : Lawful z o words parts log
+  pub without : IsWithoutScans z words parts log
   pub fit : PortsFit o log 0 plans parts ports
   pub leads : Leads opened trace words
 
