@@ -71,6 +71,7 @@ module _ (z : Layout) (o : Opening) (words : List ℕ) (before : List Part) (x :
         longer = λ k e s. s;
         older = λ k e s below. s;
         newest = λ k e s far. none_newer (λ k (e : Applied). IsPlain o words log k e.stamp) log k e s far;
+        pairs = λ h. h;
         loads = λ h. tt;
       })
 

@@ -52,6 +52,9 @@ pub record IsTied (z : Layout) (words : List ℕ) (log : List Applied) (x : Part
 abbrev pub HaveOtherBlocks : Part → Part → Type 0
 HaveOtherBlocks x y = IfSome (own_of x) (λ a. IfSome (own_of y) (λ b. AreApart a.at b.at))
 
+abbrev pub HaveOtherWords : Applied → Applied → Type 0
+HaveOtherWords e f = AreApart e.stamp f.stamp
+
 -- the port is marked neither for the slots nor for the list words
 abbrev pub IsUnmarked : Part → Type 0
 IsUnmarked x = ((core_of x).slots_spent ≡ false) × ((core_of x).lists_spent ≡ false)
@@ -106,5 +109,7 @@ pub record Base (z : Layout) (o : Opening) (words : List ℕ) (parts : List Part
   pub unmarked : AllByRecursion IsUnmarked parts
   -- each view is empty, and each record was begun behind the one before
   pub views : (k : ℕ) (e : Applied) → slice_get log k ≡ Some e → IsPlain o words log k e.stamp
+  -- the records of two entries share no word
+  pub records : EachTwo HaveOtherWords log
   -- what was loaded from records stands there
   pub loads : AllByRecursion (λ x. AreLoaded z words log x.begun x.kept) parts

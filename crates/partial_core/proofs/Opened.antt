@@ -107,6 +107,7 @@ opens_base z o words n opens few =
       unjoined = fresh_unjoined z 0 n;
       unmarked = fresh_unmarked z 0 n;
       views = λ k e s. let bad : None ≡ Some e = s in cc;
+      records = tt;
       loads = fresh_loads z words 0 n;
     }
 

@@ -12,9 +12,9 @@ use Rattle.partial_model.specs.Outcome.{places_by, places_written}
 use Rattle.partial_model.proofs.NotesLemmas.{places_written-append}
 use Rattle.partial_words.specs.Layout.{Layout, pool_counter, slot_counter, list_head, list_counter, slot_word, pool_base, pool_end}
 use Rattle.partial_words.specs.Chain.{Agrees}
-use Rattle.partial_core.specs.Lawful.{Part, IsKnown, IsEntry, core_of, port_of, HaveOtherPorts, notes_by, marked_in}
+use Rattle.partial_core.specs.Lawful.{EachTwo, Part, IsKnown, IsEntry, core_of, port_of, HaveOtherPorts, notes_by, marked_in}
 use Rattle.partial_core.proofs.Plain.{plain_moves, loads_move}
-use Rattle.partial_core.proofs.Base.{IsUnmarked, IsPlain, IsInRecord, AreLoaded, Base, IsTied, Own, own_of, AreApart, HaveOtherBlocks}
+use Rattle.partial_core.proofs.Base.{HaveOtherWords, IsUnmarked, IsPlain, IsInRecord, AreLoaded, Base, IsTied, Own, own_of, AreApart, HaveOtherBlocks}
 use Rattle.partial_core.proofs.ListLemmas.{all_at, all_before, all_after, all_join, all_with, all_weaker, two_before, two_after, two_join, length_same}
 
 pub apart_turns : (a b : Option Own) → IfSome a (λ x. IfSome b (λ y. AreApart x.at y.at)) → IfSome b (λ x. IfSome a (λ y. AreApart x.at y.at))
@@ -125,6 +125,7 @@ pub record Changes (z : Layout) (o : Opening) (words words' : List ℕ) (before 
   pub longer : (k : ℕ) (e : Applied) → slice_get log k ≡ Some e → slice_get log' k ≡ Some e
   pub older : (k : ℕ) (e : Applied) → slice_get log' k ≡ Some e → k < length log → slice_get log k ≡ Some e
   pub newest : (k : ℕ) (e : Applied) → slice_get log' k ≡ Some e → length log ≤ k → IsPlain o words' log' k e.stamp
+  pub pairs : EachTwo HaveOtherWords log → EachTwo HaveOtherWords log'
   pub loads : AreLoaded z words log x.begun x.kept → AreLoaded z words' log' y.begun y.kept
 
 pub rebuild : (z : Layout) (o : Opening) (words words' : List ℕ) (before : List Part) (x y : Part) (after : List Part) (log log' : List Applied) → Base z o words (before ++ x ∷ after) log → Changes z o words words' before x y after log log' → Base z o words' (before ++ y ∷ after) log'
@@ -162,6 +163,7 @@ rebuild z o words words' before x y after log log' w c =
         | inl below ↦ let stands = c.older k e s below in plain_moves z o words words' log log' c.longer k e.stamp (c.records e.stamp (inr (k, e, stands, omega arith, omega arith))) (c.records (e.stamp + 2) (inr (k, e, stands, omega arith, omega arith))) (w.views k e stands)
         | inr from ↦ c.newest k e s from
       ];
+      records = c.pairs w.records;
       loads = all_join L' before y after (all_weaker L L' move before (all_before L before x after w.loads)) (c.loads (all_at L before x after w.loads)) (all_weaker L L' move after (all_after L before x after w.loads));
     }
   where

@@ -27,8 +27,8 @@ use Rattle.partial_core.specs.Machine.{CoreState, at_stage, advance, advance_at,
 use Rattle.partial_core.specs.Lawful.{Part, IsKnown, IsEntry, core_of, port_of, HaveOtherPorts, notes_by, is_at_rest, first_at, AreNotesOf, update_call, call_at}
 use Rattle.partial_core.specs.Views.{IsWithin}
 use Rattle.partial_core.proofs.Plain.{unmarked_gone, loads_more, in_pool, found_before, found_last, within_grows, stamp_within}
-use Rattle.partial_core.proofs.Base.{IsPlain, IsInRecord, Base, IsOwn, Own, own_of, own_at, AreApart}
-use Rattle.partial_core.proofs.ListLemmas.{all_weaker, two_before, two_after}
+use Rattle.partial_core.proofs.Base.{HaveOtherWords, IsPlain, IsInRecord, Base, IsOwn, Own, own_of, own_at, AreApart}
+use Rattle.partial_core.proofs.ListLemmas.{two_push, all_weaker, two_before, two_after}
 use Rattle.partial_core.proofs.PartLemmas.{port_led, known_grows, KnowsOld}
 use Rattle.partial_core.proofs.Rebuild.{rebuild, once_own, once_other, marked_same, ports_turn}
 use Rattle.partial_core.proofs.Frames.{if_some_at, tied_moves, entries_elsewhere}
@@ -297,6 +297,7 @@ module _ (z : Layout) (o : Opening) (words : List ℕ) (before : List Part) (x :
         longer = λ k d s. slice_get_grows log (f ∷ []) k d s;
         older = λ k d s inside. found_before log (f ∷ []) k d s inside;
         newest = λ k d s far. found_last (λ k (d : Applied). IsPlain o words' log' k d.stamp) log f k d (won_plain is) s far;
+        pairs = λ h. two_push HaveOtherWords log f h written.apart;
         loads = λ h. loads_more z o words words' log log' (λ k d s. slice_get_grows log (f ∷ []) k d s) (λ m inside. won_in_record m inside) x.begun x.kept (record { answer = a; at = length log' }) h (load_here z o words before x after log w (Exchanging c old at) (record { answer = a; at = length log' }) e tt);
       }) in
       record {

@@ -99,6 +99,7 @@ module _ (z : Layout) (o : Opening) (words : List ℕ) (before : List Part) (x :
         longer = λ k e s. s;
         older = λ k e s below. s;
         newest = λ k e s far. none_newer (λ k (e : Applied). IsPlain o claimed log k e.stamp) log k e s far;
+        pairs = λ h. h;
         loads = λ h. subst (λ (v : Part). AreLoaded z claimed log v.begun v.kept) (sym is) (loads_more z o words claimed log log (λ k e s. s) (λ n inside. claimed_in_record n inside) x.begun x.kept (record { answer = counter; at = length log }) h load);
       })
 
@@ -265,6 +266,7 @@ module _ (z : Layout) (o : Opening) (words : List ℕ) (before : List Part) (x :
         longer = λ k e s. s;
         older = λ k e s below. s;
         newest = λ k e s far. none_newer (λ k (e : Applied). IsPlain o stored_words log k e.stamp) log k e s far;
+        pairs = λ h. h;
         loads = λ h. loads_more z o words stored_words log log (λ k e s. s) (λ n inside. stored_in_record n inside) x.begun x.kept (record { answer = 0; at = length log }) h (load_here z o words before x after log w (StoringRecord c old at k) (record { answer = 0; at = length log }) e tt);
       })
 

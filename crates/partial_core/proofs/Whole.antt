@@ -1,38 +1,48 @@
 -- Where no port scans, the lawful state is what the law of steps for updates and reads keeps, and the other way.
-use Rattle.std.proofs.Common.{Bool, true, false, cond, ◌==◌, ℕ, ◌≡◌, ◌≢◌, ◌+◌, ◌<◌, ◌≤◌, List, [], ◌∷◌, length, take, get_or, Option, Some, None, IfSome, refl, sym, ◌∙◌, ap, subst, inl, inr, arith}
+use Rattle.std.proofs.Common.{◌*◌, slice_get, ◌++◌, map, Bool, true, false, cond, ◌==◌, ℕ, ◌≡◌, ◌≢◌, ◌+◌, ◌<◌, ◌≤◌, List, [], ◌∷◌, length, take, get_or, Option, Some, None, IfSome, refl, sym, ◌∙◌, ap, subst, inl, inr, arith}
 use Rattle.std.specs.List.{AllByRecursion, cons_option}
 use Rattle.std.specs.Option.{option_map}
-use Rattle.std.proofs.lemmas.Bool.{false≢true}
+use Rattle.std.proofs.lemmas.Bool.{false≢true, ne_eqb}
 use Rattle.partial_model.specs.declared.history.Applied.{Applied}
 use Rattle.partial_model.specs.declared.history.Opening.{Opening}
 use Rattle.partial_model.specs.History.{stamp_of}
 use Rattle.partial_words.specs.declared.step.Step.{Step}
 use Rattle.partial_words.specs.Layout.{Layout, slot_counter, list_head, slot_word, list_base, pool_base}
-use Rattle.partial_words.specs.Record.{record_block, prev_of, view_of}
+use Rattle.partial_words.specs.Record.{record_block, prev_of, view_of, view_len}
 use Rattle.partial_core.specs.declared.stage.Stage.{Stage}
 use Rattle.partial_core.specs.declared.stage.Stage.TheVariants.{Idle, ReadBegun, LoadingValue, UpdateBegun, LoadingListHead, LoadingSlotCounter, ClaimingRecord, StoringRecord, Exchanging, Finished}
 use Rattle.partial_core.specs.declared.stage.Reply.TheVariants as reply
 use Rattle.partial_core.specs.Machine.{CoreState, at_stage, advance, advance_at, step_of, step_at, expects, fits_pool, spent, IsStage, IsPossibleAt}
 use Rattle.partial_core.specs.Views.{Block, AreApart, Joined, Covers, HasFreshView, IsWithin, IsApartFrom}
-use Rattle.partial_core.specs.Lawful.{Part, Kept, Lawful, IsWithoutScans, MayBeginAt, IsTied, IsOwn as IsOwnBlock, Own as OwnBlock, IsKnown, AreKept, IsStampThen, IsLoaded, IsStillTrue, AreStillTrue, IfJoined, HaveOtherBlocks, HaveOtherSlots, EachTwo, CoversAll, WouldBeLawful, IsClaim, Claimed, due_at, own_at, own_of, block_of, unpublished, core_of}
+use Rattle.partial_core.specs.Lawful.{IsEntry, Part, Kept, Lawful, IsWithoutScans, MayBeginAt, IsTied, IsOwn as IsOwnBlock, Own as OwnBlock, IsKnown, AreKept, IsStampThen, IsLoaded, IsStillTrue, AreStillTrue, IfJoined, HaveOtherSlots, announcements, blocks_in, block_at, joined_in, EachTwo, CoversAll, WouldBeLawful, IsClaim, Claimed, due_at, own_at, own_of, block_of, unpublished, core_of}
 use Rattle.partial_core.proofs.Base.{Base, IsUnmarked, IsPlain, IsInRecord, IsLoadOf, AreLoaded, Own, IsOwn, IsTied as HasRecord, HaveOtherBlocks as HaveOtherRecords, AreApart as AreThreeApart, own_at as record_of_stage}
-use Rattle.partial_core.proofs.ListLemmas.{all_weaker, all_with}
+use Rattle.partial_core.proofs.ListLemmas.{all_weaker, all_with, all_append, all_map, all_unmap, all_swap, two_append, two_front, two_back, two_across, two_map, two_unmap, map_same}
 use Rattle.partial_core.proofs.PartLemmas.{stage_at, begin_stage, stage_known, sizes_led}
 use Rattle.partial_core.proofs.Plain.{all_found, all_of, stamp_within, value_in_record}
 
--- what ties a port to the words, in both forms
-to_record : (z : Layout) (words : List ℕ) (log : List Applied) (s : Stage) → IsStage z s → IfSome (own_at s) (IsOwnBlock z words log) → IfSome (record_of_stage s) (IsOwn z words log)
-to_record z words log (StoringRecord c old at k) sound w = record { above = w.above; below = w.below; few = w.few; stands = w.stands; apart = w.apart }
-to_record z words log (Exchanging c old at) sound w = record { above = w.above; below = w.below; few = w.few; stands = w.stands; apart = w.apart }
-to_record z words log _ sound w = tt
+-- three words
+abbrev record_at : ℕ → Block
+record_at stamp = record { at = stamp; size = 3 }
 
-from_record : (z : Layout) (words : List ℕ) (log : List Applied) (s : Stage) → IsStage z s → IfSome (record_of_stage s) (IsOwn z words log) → IfSome (own_at s) (IsOwnBlock z words log)
-from_record z words log (StoringRecord c old at k) sound w = record { above = w.above; within = sound.2.1; below = w.below; few = w.few; stands = w.stands; apart = w.apart }
-from_record z words log (Exchanging c old at) sound w = record { above = w.above; within = sound.2.1; below = w.below; few = w.few; stands = w.stands; apart = w.apart }
+abbrev initial_records : Layout → Block
+initial_records z = record { at = pool_base z; size = 3 * z.m }
+
+-- what ties a port to the words, in both forms
+to_record : (z : Layout) (words : List ℕ) (log : List Applied) (s : Stage) → IfSome (own_at s) (IsOwnBlock z words) → AllByRecursion (λ (e : Applied). IfSome (own_at s) (λ b. AreApart (record_at e.stamp) (block_of b))) log → IfSome (record_of_stage s) (IsOwn z words log)
+to_record z words log (StoringRecord c old at k) w apart = record { above = w.above; below = w.below; few = w.few; stands = w.stands; apart = apart }
+to_record z words log (Exchanging c old at) w apart = record { above = w.above; below = w.below; few = w.few; stands = w.stands; apart = apart }
+to_record z words log _ w apart = tt
+
+from_record : (z : Layout) (words : List ℕ) (log : List Applied) (s : Stage) → IsStage z s → IfSome (record_of_stage s) (IsOwn z words log) → IfSome (own_at s) (IsOwnBlock z words)
+from_record z words log (StoringRecord c old at k) sound w = record { above = w.above; within = sound.2.1; below = w.below; few = w.few; stands = w.stands }
+from_record z words log (Exchanging c old at) sound w = record { above = w.above; within = sound.2.1; below = w.below; few = w.few; stands = w.stands }
 from_record z words log _ sound w = tt
 
 -- two records of their own are apart in both forms
-to_apart : (s t : Stage) → IfSome (own_at s) (λ a. IfSome (own_at t) (λ b. AreApart (block_of a) (block_of b))) → IfSome (record_of_stage s) (λ a. IfSome (record_of_stage t) (λ b. AreThreeApart a.at b.at))
+abbrev AreOwnApart : Stage → Stage → Type 0
+AreOwnApart s t = IfSome (own_at s) (λ a. IfSome (own_at t) (λ b. AreApart (block_of a) (block_of b)))
+
+to_apart : (s t : Stage) → AreOwnApart s t → IfSome (record_of_stage s) (λ a. IfSome (record_of_stage t) (λ b. AreThreeApart a.at b.at))
 to_apart (StoringRecord c old at k) (StoringRecord d older to l) w = w
 to_apart (StoringRecord c old at k) (Exchanging d older to) w = w
 to_apart (StoringRecord c old at k) _ w = tt
@@ -41,7 +51,7 @@ to_apart (Exchanging c old at) (Exchanging d older to) w = w
 to_apart (Exchanging c old at) _ w = tt
 to_apart _ t w = tt
 
-from_apart : (s t : Stage) → IfSome (record_of_stage s) (λ a. IfSome (record_of_stage t) (λ b. AreThreeApart a.at b.at)) → IfSome (own_at s) (λ a. IfSome (own_at t) (λ b. AreApart (block_of a) (block_of b)))
+from_apart : (s t : Stage) → IfSome (record_of_stage s) (λ a. IfSome (record_of_stage t) (λ b. AreThreeApart a.at b.at)) → AreOwnApart s t
 from_apart (StoringRecord c old at k) (StoringRecord d older to l) w = w
 from_apart (StoringRecord c old at k) (Exchanging d older to) w = w
 from_apart (StoringRecord c old at k) _ w = tt
@@ -123,8 +133,72 @@ loads_from z o words log parts x low s (k ∷ ks) base m sizes sound trusted kep
 begun_sound : (z : Layout) (o : Opening) (log : List Applied) (x : Part) → IsKnown z o log x → IsStage z x.begun.stage
 begun_sound z o log x w = subst (λ (l : Layout). IsStage l x.begun.stage) w.sizes (begin_stage x.begun.sizes x.begun.pool_spent x.begun.stage w.begun)
 
+-- what holds of each block that isn't published, from what holds of each part's
+found_more : (P : Block → Type 0) (f : Option OwnBlock) (rest : List Block) → IfSome f (λ b. P (block_of b)) → AllByRecursion P rest → AllByRecursion P (cons_option (option_map block_of f) rest)
+found_more P None rest w v = v
+found_more P (Some b) rest w v = (w, v)
+
+all_unpublished : (P : Block → Type 0) (xs : List Part) → AllByRecursion (λ x. IfSome (own_of x) (λ b. P (block_of b))) xs → AllByRecursion P (unpublished xs)
+all_unpublished P [] w = tt
+all_unpublished P (x ∷ xs) w = found_more P (own_of x) (unpublished xs) w.0 (all_unpublished P xs w.1)
+
+-- and the other way
+found_less : (P : Block → Type 0) (f : Option OwnBlock) (rest : List Block) → AllByRecursion P (cons_option (option_map block_of f) rest) → IfSome f (λ b. P (block_of b)) × AllByRecursion P rest
+found_less P None rest w = (tt, w)
+found_less P (Some b) rest w = (w.0, w.1)
+
+unpublished_all : (P : Block → Type 0) (xs : List Part) → AllByRecursion P (unpublished xs) → AllByRecursion (λ x. IfSome (own_of x) (λ b. P (block_of b))) xs
+unpublished_all P [] w = tt
+unpublished_all P (x ∷ xs) w = let both = found_less P (own_of x) (unpublished xs) w in (both.0, unpublished_all P xs both.1)
+
+-- the blocks that aren't published are apart in both forms
+abbrev AreOthers : Part → Part → Type 0
+AreOthers x y = AreOwnApart (core_of x).stage (core_of y).stage
+
+one_more : (f : Option OwnBlock) (rest : List Block) → IfSome f (λ a. AllByRecursion (AreApart (block_of a)) rest) → EachTwo AreApart rest → EachTwo AreApart (cons_option (option_map block_of f) rest)
+one_more None rest w v = v
+one_more (Some a) rest w v = (w, v)
+
+one_less : (f : Option OwnBlock) (rest : List Block) → EachTwo AreApart (cons_option (option_map block_of f) rest) → IfSome f (λ a. AllByRecursion (AreApart (block_of a)) rest) × EachTwo AreApart rest
+one_less None rest w = (tt, w)
+one_less (Some a) rest w = (w.0, w.1)
+
+across : (f : Option OwnBlock) (xs : List Part) → AllByRecursion (λ y. IfSome f (λ a. IfSome (own_of y) (λ b. AreApart (block_of a) (block_of b)))) xs → IfSome f (λ a. AllByRecursion (AreApart (block_of a)) (unpublished xs))
+across None xs w = tt
+across (Some a) xs w = all_unpublished (AreApart (block_of a)) xs w
+
+uncross : (f : Option OwnBlock) (xs : List Part) → IfSome f (λ a. AllByRecursion (AreApart (block_of a)) (unpublished xs)) → AllByRecursion (λ y. IfSome f (λ a. IfSome (own_of y) (λ b. AreApart (block_of a) (block_of b)))) xs
+uncross None xs w = nothing xs
+  where
+    nothing : (ys : List Part) → AllByRecursion (λ y. Unit {0}) ys
+    nothing [] = tt
+    nothing (y ∷ ys) = (tt, nothing ys)
+uncross (Some a) xs w = unpublished_all (AreApart (block_of a)) xs w
+
+others_apart : (xs : List Part) → EachTwo AreOthers xs → EachTwo AreApart (unpublished xs)
+others_apart [] w = tt
+others_apart (x ∷ xs) w = one_more (own_of x) (unpublished xs) (across (own_of x) xs w.0) (others_apart xs w.1)
+
+apart_others : (xs : List Part) → EachTwo AreApart (unpublished xs) → EachTwo AreOthers xs
+apart_others [] w = tt
+apart_others (x ∷ xs) w = let both = one_less (own_of x) (unpublished xs) w in (uncross (own_of x) xs both.0, apart_others xs both.1)
+
+-- where no port is joined and each view is empty, the blocks are records of three words
+plain_block : (words : List ℕ) (stamp : ℕ) → view_of words stamp ≡ 0 → block_at words stamp ≡ record_at stamp
+plain_block words stamp v = ap (λ (b : Bool). record { at = stamp; size = cond b (4 + 2 * view_len words (stamp + 3)) 3 }) (ne_eqb (view_of words stamp) (stamp + 3) (λ e. omega (arith, v, e)))
+
+none_announced : (xs : List Part) → AllByRecursion (λ x. x.claimed ≡ None) xs → announcements xs ≡ []
+none_announced [] w = refl
+none_announced (x ∷ xs) w = ap (λ (c : Option Claimed). cons_option (option_map (λ (j : Joined). record { at = j.at; size = 1 + length j.indices }) (joined_in c)) (announcements xs)) w.0 ∙ none_announced xs w.1
+
+plain_blocks : (z : Layout) (words : List ℕ) (parts : List Part) (log : List Applied) → AllByRecursion (λ x. x.claimed ≡ None) parts → AllByRecursion (λ e. view_of words e.stamp ≡ 0) log → blocks_in z words parts log ≡ initial_records z ∷ (map (λ e. record_at e.stamp) log ++ unpublished parts)
+plain_blocks z words parts log unjoined views =
+    ap (λ (l : List Block). initial_records z ∷ (l ++ (announcements parts ++ unpublished parts))) (map_same (λ (e : Applied). block_at words e.stamp) (λ (e : Applied). record_at e.stamp) log (all_weaker (λ (e : Applied). view_of words e.stamp ≡ 0) (λ (e : Applied). block_at words e.stamp ≡ record_at e.stamp) (λ e v. plain_block words e.stamp v) log views))
+    ∙ ap (λ (l : List Block). initial_records z ∷ (map (λ (e : Applied). record_at e.stamp) log ++ (l ++ unpublished parts))) (none_announced parts unjoined)
+
 pub to_base : (z : Layout) (o : Opening) (words : List ℕ) (parts : List Part) (log : List Applied) → Lawful z o words parts log → IsWithoutScans z words parts log → Base z o words parts log
 to_base z o words parts log w n =
+    let blocks : EachTwo AreApart (initial_records z ∷ (map (λ (e : Applied). record_at e.stamp) log ++ unpublished parts)) = subst (EachTwo AreApart) (plain_blocks z words parts log n.unjoined n.views) w.apart in
     record {
       sizes = w.sizes;
       values = w.values;
@@ -137,8 +211,12 @@ to_base z o words parts log w n =
       entries = w.entries;
       once = w.once;
       known = w.known;
-      tied = all_with (IsKnown z o log) (IsTied z words log) (HasRecord z words log) (λ x k t. record { own = to_record z words log (core_of x).stage (stage_known z o log x k) t.own; marked = t.pool_marked }) parts w.known w.tied;
-      apart = two_weaker HaveOtherBlocks HaveOtherRecords (λ x y h. to_apart (core_of x).stage (core_of y).stage h) parts w.apart;
+      tied = all_with (IsTied z words) (λ x. AllByRecursion (λ (e : Applied). IfSome (own_of x) (λ b. AreApart (record_at e.stamp) (block_of b))) log) (HasRecord z words log) (λ x t a. record { own = to_record z words log (core_of x).stage t.own a; marked = t.pool_marked }) parts w.tied
+          (all_swap (λ (e : Applied) x. IfSome (own_of x) (λ b. AreApart (record_at e.stamp) (block_of b))) log parts
+          (all_weaker (λ (e : Applied). AllByRecursion (AreApart (record_at e.stamp)) (unpublished parts)) (λ (e : Applied). AllByRecursion (λ x. IfSome (own_of x) (λ b. AreApart (record_at e.stamp) (block_of b))) parts) (λ e h. unpublished_all (AreApart (record_at e.stamp)) parts h) log
+          (all_unmap (λ (b : Block). AllByRecursion (AreApart b) (unpublished parts)) (λ (e : Applied). record_at e.stamp) log (two_across AreApart (map (λ (e : Applied). record_at e.stamp) log) (unpublished parts) blocks.1))));
+      apart = two_weaker AreOthers HaveOtherRecords (λ x y h. to_apart (core_of x).stage (core_of y).stage h) parts (apart_others parts (two_back AreApart (map (λ (e : Applied). record_at e.stamp) log) (unpublished parts) blocks.1));
+      records = two_unmap AreApart (λ (e : Applied). record_at e.stamp) log (two_front AreApart (map (λ (e : Applied). record_at e.stamp) log) (unpublished parts) blocks.1);
       pool_low = w.pool_low;
       pool_high = w.pool_high;
       slot_count = n.slot_count;
@@ -150,15 +228,6 @@ to_base z o words parts log w n =
       views = λ k e s. let f = w.fresh k e s in record { view = all_found (λ (e : Applied). view_of words e.stamp ≡ 0) log k e n.views s; prev = within_more o log (f.prefix) k (prev_of words e.stamp) (f.without) (f.contains) };
       loads = all_with (IsKnown z o log) (λ x. AreStillTrue z words parts x x.begun x.kept) (λ x. AreLoaded z words log x.begun x.kept) (λ x k a. loads_from z o words log parts x x.since x.begun x.kept w.stamps w.values k.sizes (begun_sound z o log x k) (begun_trusted z o log x.begun x.begun.stage k.begun) k.kept a) parts w.known w.answers;
     }
-
--- what holds of each block that isn't published, from what holds of each part's
-found_more : (P : Block → Type 0) (f : Option OwnBlock) (rest : List Block) → IfSome f (λ b. P (block_of b)) → AllByRecursion P rest → AllByRecursion P (cons_option (option_map block_of f) rest)
-found_more P None rest w v = v
-found_more P (Some b) rest w v = (w, v)
-
-all_unpublished : (P : Block → Type 0) (xs : List Part) → AllByRecursion (λ x. IfSome (own_of x) (λ b. P (block_of b))) xs → AllByRecursion P (unpublished xs)
-all_unpublished P [] w = tt
-all_unpublished P (x ∷ xs) w = found_more P (own_of x) (unpublished xs) w.0 (all_unpublished P xs w.1)
 
 -- a word of a record belongs to no block that isn't published
 word_apart : (z : Layout) (words : List ℕ) (log : List Applied) (n : ℕ) (b : Own) → IsOwn z words log b → IsInRecord z log n → AreApart (record { at = n; size = 1 }) (record { at = b.at; size = 3 })
@@ -235,6 +304,36 @@ module _ (z : Layout) (o : Opening) (words : List ℕ) (parts : List Part) (log 
       (plain_fresh (length log) at (record { view = view; prev = subst (IsWithin o log (length log)) stamp (stamp_within o log c.component below) }), covers_all at)
   due_lawful _ sound own = tt
 
+  views_here : AllByRecursion (λ e. view_of words e.stamp ≡ 0) log
+  views_here = all_of (λ (e : Applied). view_of words e.stamp ≡ 0) log (λ k e s. (w.views k e s).view)
+
+  -- the blocks of the ports are apart from the initial records and from those of the entries
+  initial_apart : (s : Stage) → IfSome (record_of_stage s) (IsOwn z words log) → IfSome (own_at s) (λ b. AreApart (initial_records z) (block_of b))
+  initial_apart (StoringRecord c old at k) own = inl own.above
+  initial_apart (Exchanging c old at) own = inl own.above
+  initial_apart _ own = tt
+
+  entry_apart : (k : ℕ) (e : Applied) → slice_get log k ≡ Some e → (s : Stage) → IfSome (record_of_stage s) (IsOwn z words log) → IfSome (own_at s) (λ b. AreApart (record_at e.stamp) (block_of b))
+  entry_apart k e stands (StoringRecord c old at n) own = all_found (λ (f : Applied). AreThreeApart f.stamp at) log k e own.apart stands
+  entry_apart k e stands (Exchanging c old at) own = all_found (λ (f : Applied). AreThreeApart f.stamp at) log k e own.apart stands
+  entry_apart k e stands _ own = tt
+
+  from_initial : AllByRecursion (AreApart (initial_records z)) (map (λ e. record_at e.stamp) log ++ unpublished parts)
+  from_initial =
+      all_append (AreApart (initial_records z)) (map (λ (e : Applied). record_at e.stamp) log) (unpublished parts)
+      (all_map (AreApart (initial_records z)) (λ (e : Applied). record_at e.stamp) log (all_weaker (IsEntry z words) (λ (e : Applied). AreApart (initial_records z) (record_at e.stamp)) (λ e h. inl h.above) log w.entries))
+      (all_unpublished (AreApart (initial_records z)) parts (all_weaker (HasRecord z words log) (λ x. IfSome (own_of x) (λ b. AreApart (initial_records z) (block_of b))) (λ x t. initial_apart (core_of x).stage t.own) parts w.tied))
+
+  blocks_apart : EachTwo AreApart (initial_records z ∷ (map (λ e. record_at e.stamp) log ++ unpublished parts))
+  blocks_apart = (
+    from_initial,
+    two_append AreApart (map (λ (e : Applied). record_at e.stamp) log) (unpublished parts)
+        (two_map AreApart (λ (e : Applied). record_at e.stamp) log w.records)
+        (others_apart parts (two_weaker HaveOtherRecords AreOthers (λ x y h. from_apart (core_of x).stage (core_of y).stage h) parts w.apart))
+        (all_map (λ (b : Block). AllByRecursion (AreApart b) (unpublished parts)) (λ (e : Applied). record_at e.stamp) log
+        (all_of (λ (e : Applied). AllByRecursion (AreApart (record_at e.stamp)) (unpublished parts)) log (λ k e s. all_unpublished (AreApart (record_at e.stamp)) parts (all_weaker (HasRecord z words log) (λ x. IfSome (own_of x) (λ b. AreApart (record_at e.stamp) (block_of b))) (λ x t. entry_apart k e s (core_of x).stage t.own) parts w.tied)))),
+  )
+
   pub from_base : Lawful z o words parts log × IsWithoutScans z words parts log
   from_base = (
     record {
@@ -251,9 +350,9 @@ module _ (z : Layout) (o : Opening) (words : List ℕ) (parts : List Part) (log 
       known = w.known;
       answers = all_with (IsKnown z o log) (λ x. (x.claimed ≡ None) × AreLoaded z words log x.begun x.kept) (λ x. AreStillTrue z words parts x x.begun x.kept) (λ x k u. still_true x x.since x.begun x.kept u.0 k.sizes (begun_sound z o log x k) k.kept u.1) parts w.known
           (all_with (λ (x : Part). x.claimed ≡ None) (λ x. AreLoaded z words log x.begun x.kept) (λ x. (x.claimed ≡ None) × AreLoaded z words log x.begun x.kept) (λ x e l. (e, l)) parts w.unjoined w.loads);
-      tied = all_with (IsKnown z o log) (λ x. HasRecord z words log x × IsUnmarked x) (IsTied z words log) (λ x k t. record { own = from_record z words log (core_of x).stage (stage_known z o log x k) t.0.own; pool_marked = t.0.marked; slots_marked = λ m. absurd (false≢true (sym t.1.0 ∙ m)); lists_marked = λ m. absurd (false≢true (sym t.1.1 ∙ m)) }) parts w.known
+      tied = all_with (IsKnown z o log) (λ x. HasRecord z words log x × IsUnmarked x) (IsTied z words) (λ x k t. record { own = from_record z words log (core_of x).stage (stage_known z o log x k) t.0.own; pool_marked = t.0.marked; slots_marked = λ m. absurd (false≢true (sym t.1.0 ∙ m)); lists_marked = λ m. absurd (false≢true (sym t.1.1 ∙ m)) }) parts w.known
           (all_with (HasRecord z words log) IsUnmarked (λ x. HasRecord z words log x × IsUnmarked x) (λ x t u. (t, u)) parts w.tied w.unmarked);
-      apart = two_weaker HaveOtherRecords HaveOtherBlocks (λ x y h. from_apart (core_of x).stage (core_of y).stage h) parts w.apart;
+      apart = subst (EachTwo AreApart) (sym (plain_blocks z words parts log w.unjoined views_here)) blocks_apart;
       fresh = λ k e s. plain_fresh k e.stamp (w.views k e s);
       covering = all_of (λ (e : Applied). CoversAll z words parts log e.stamp) log (λ k e s. covers_all e.stamp);
       due = all_with (IsKnown z o log) (HasRecord z words log) (λ x. IfSome (due_at (core_of x).stage) (WouldBeLawful z o words parts log)) (λ x k t. due_lawful (core_of x).stage (stage_known z o log x k) t.own) parts w.known w.tied;
@@ -274,7 +373,7 @@ module _ (z : Layout) (o : Opening) (words : List ℕ) (parts : List Part) (log 
       list_count = w.list_count;
       unjoined = w.unjoined;
       unmarked = w.unmarked;
-      views = all_of (λ (e : Applied). view_of words e.stamp ≡ 0) log (λ k e s. (w.views k e s).view);
+      views = views_here;
     },
   )
     where

@@ -1,5 +1,5 @@
 -- The lawful state: words, the ports that work on them, and one history of applied updates.
-use Rattle.std.specs.Prelude.{ℕ, ◌≡◌, ◌≢◌, ◌+◌, ◌*◌, ◌<◌, ◌≤◌, ◌⊎◌, ◌==◌, ⊤, Bool, true, false, zero, suc, List, [], ◌∷◌, ◌++◌, length, take, slice_index, Option, Some, None, IfSome, MatchBool, if◌then◌else◌, filter_map, IsSomeAnd, MatchOption, slice_get}
+use Rattle.std.specs.Prelude.{ℕ, ◌≡◌, ◌≢◌, ◌+◌, ◌*◌, ◌<◌, ◌≤◌, ◌⊎◌, ◌==◌, ⊤, Bool, true, false, zero, suc, List, [], ◌∷◌, ◌++◌, length, take, slice_index, Option, Some, None, IfSome, MatchBool, if◌then◌else◌, filter_map, IsSomeAnd, MatchOption, slice_get, map}
 use Rattle.std.specs.List.{AllByRecursion}
 use Rattle.std.specs.Option.{option_map}
 use Rattle.partial_model.specs.declared.history.Applied.{Applied}
@@ -17,7 +17,7 @@ use Rattle.partial_words.specs.declared.step.Step.{Step}
 use Rattle.partial_words.specs.declared.step.Step.TheVariants.{Load, Store}
 use Rattle.partial_words.specs.Layout.{Layout, IsLayout, slot_counter, list_head, pool_counter, list_counter, slot_word, list_base, list_end, pool_base, pool_end, total}
 use Rattle.partial_words.specs.Step.{Answers, answer_of, words_after}
-use Rattle.partial_words.specs.Record.{record_block, view_of}
+use Rattle.partial_words.specs.Record.{record_block, view_of, view_len}
 use Rattle.partial_words.specs.Chain.{Agrees, OpensWith}
 use Rattle.partial_core.specs.declared.stage.Reply.{Reply}
 use Rattle.partial_core.specs.declared.stage.Reply.TheVariants as reply
@@ -178,22 +178,17 @@ block_of b = record { at = b.at; size = length b.words }
 abbrev pub unpublished : List Part → List Block
 unpublished xs = filter_map (λ x. option_map block_of (own_of x)) xs
 
--- a record of three words
-abbrev pub record_at : ℕ → Block
-record_at stamp = record { at = stamp; size = 3 }
-
--- a block of its own lies in its space and below the counter, holds what is stored, and no entry's record shares a word with it
-pub record IsOwn (z : Layout) (words : List ℕ) (log : List Applied) (b : Own) : Type 0 where
+-- a block of its own lies in its space and below the counter, and holds what is stored
+pub record IsOwn (z : Layout) (words : List ℕ) (b : Own) : Type 0 where
   pub above : first_of z b.space ≤ b.at
   pub within : b.at + length b.words ≤ end_of z b.space
   pub below : b.at + length b.words ≤ slice_index words (counter_of z b.space)
   pub few : b.stored ≤ length b.words
   pub stands : (i : ℕ) → i < b.stored → slice_index words (b.at + i) ≡ slice_index b.words i
-  pub apart : AllByRecursion (λ e. AreApart (record_at e.stamp) (block_of b)) log
 
 -- what ties a port to the words
-pub record IsTied (z : Layout) (words : List ℕ) (log : List Applied) (x : Part) : Type 0 where
-  pub own : IfSome (own_of x) (IsOwn z words log)
+pub record IsTied (z : Layout) (words : List ℕ) (x : Part) : Type 0 where
+  pub own : IfSome (own_of x) (IsOwn z words)
   -- a port is marked for a region only where the region's counter is past its end
   pub pool_marked : (core_of x).pool_spent ≡ true → pool_end z < slice_index words (pool_counter z)
   pub slots_marked : (core_of x).slots_spent ≡ true → z.slots < slice_index words (slot_counter z)
@@ -206,9 +201,6 @@ EachTwo R (x ∷ xs) = AllByRecursion (R x) xs × EachTwo R xs
 
 abbrev pub HaveOtherPorts : Part → Part → Type 0
 HaveOtherPorts x y = port_of x ≢ port_of y
-
-abbrev pub HaveOtherBlocks : Part → Part → Type 0
-HaveOtherBlocks x y = IfSome (own_of x) (λ a. IfSome (own_of y) (λ b. AreApart (block_of a) (block_of b)))
 
 abbrev pub HaveOtherSlots : Part → Part → Type 0
 HaveOtherSlots x y = IfSome x.claimed (λ a. IfSome y.claimed (λ b. a.slot ≢ b.slot))
@@ -245,6 +237,22 @@ pub record IsClaim (z : Layout) (words : List ℕ) (parts : List Part) (c : Clai
   pub slot : c.slot < z.slots
   pub below : c.slot < slice_index words (slot_counter z)
   pub holds : MatchOption c.joined (slice_index words (slot_word z c.slot) ≡ 0) (λ j. (slice_index words (slot_word z c.slot) ≡ j.at) × IsAnnounced z words (unpublished parts) j.at j.indices)
+
+-- the block of the record at `stamp`, with the view behind it where it has one of its own
+abbrev pub block_at : List ℕ → ℕ → Block
+block_at words stamp = record { at = stamp; size = if view_of words stamp == stamp + 3 then 4 + 2 * view_len words (stamp + 3) else 3 }
+
+-- the announcement of a port that is joined
+abbrev pub joined_in : Option Claimed → Option Joined
+joined_in None = None
+joined_in (Some c) = c.joined
+
+abbrev pub announcements : List Part → List Block
+announcements xs = filter_map (λ x. option_map (λ j. record { at = j.at; size = 1 + length j.indices }) (joined_in x.claimed)) xs
+
+-- the initial records, the entries' records, the announcements that stand in slots, and the blocks that aren't published yet
+abbrev pub blocks_in : Layout → List ℕ → List Part → List Applied → List Block
+blocks_in z words parts log = record { at = pool_base z; size = 3 * z.m } ∷ (map (λ e. block_at words e.stamp) log ++ (announcements parts ++ unpublished parts))
 
 -- an exchange of component j that is due: it expects the record `old`, and publishes the one at `at`
 pub record Due : Type 0 where
@@ -316,9 +324,9 @@ pub record Lawful (z : Layout) (o : Opening) (words : List ℕ) (parts : List Pa
   pub known : AllByRecursion (IsKnown z o log) parts
   -- the answers of loads go on being true
   pub answers : AllByRecursion (λ x. AreStillTrue z words parts x x.begun x.kept) parts
-  -- each block that isn't published belongs to one port, and lies below its counter
-  pub tied : AllByRecursion (IsTied z words log) parts
-  pub apart : EachTwo HaveOtherBlocks parts
+  -- each block that isn't published belongs to one port and lies below its counter, and no two blocks share a word
+  pub tied : AllByRecursion (IsTied z words) parts
+  pub apart : EachTwo AreApart (blocks_in z words parts log)
   -- each entry has a fresh view, and covers the announcement of each joined port
   pub fresh : (k : ℕ) (e : Applied) → slice_get log k ≡ Some e → HasFreshView z o words (unpublished parts) log k e.stamp
   pub covering : AllByRecursion (λ e. CoversAll z words parts log e.stamp) log
