@@ -167,9 +167,9 @@ exchange_facts : (z : Layout) (o : Opening) (words : List ℕ) (before : List Pa
 exchange_facts z o words before x after log c w m ch old at e =
     let is : c ≡ core_of x = middle c x (is_begun c.stage) m (ap is_begun e) in
     let stage : (core_of x).stage ≡ Exchanging ch old at = ap (λ (s : CoreState). s.stage) (sym is) ∙ e in
-    let tied = all_at (IsTied z words log) before x after w.tied in
+    let tied = all_at (IsTied z words) before x after w.tied in
     let known = all_at (IsKnown z o log) before x after w.known in
-    let own = if_some_at (IsOwn z words log) (own_of x) (record { space = Pool; at = at; words = record_block old ch.value 0 []; stored = 3 }) (ap own_at stage) tied.own in
+    let own = if_some_at (IsOwn z words) (own_of x) (record { space = Pool; at = at; words = record_block old ch.value 0 []; stored = 3 }) (ap own_at stage) tied.own in
     let sound : IsStage z (Exchanging ch old at) = subst (IsStage z) stage (stage_known z o log x known) in
     (own.stands 1 (omega arith), (let below = sound.0 in let above = own.above in omega (arith, below, above)))
 
