@@ -1,2 +1,3 @@
 pub mod HistoryLemmas
+pub mod StampLaws
 pub mod NotesLemmas

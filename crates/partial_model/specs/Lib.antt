@@ -1,3 +1,4 @@
 pub mod History
+pub mod Stamps
 pub mod Notes
 pub mod Outcome

@@ -5,8 +5,10 @@
 
 pub mod call;
 pub mod history;
+pub mod law;
 pub mod sequence;
 
 pub use call::{Answer, Call, Called, Finish, Note, Refused};
 pub use history::{Applied, Opening, stamp_at, value_at};
+pub use law::{equal_collects_stand_together, stamps_never_return};
 pub use sequence::Sequence;

@@ -1,0 +1,15 @@
+//! Laws about histories. The functions have no code: their contracts hold of the definitions.
+
+ghost use Rattle.partial_model.specs.Stamps.{StampsNeverReturn, EqualCollectsStandTogether};
+
+/// A stamp never returns: a component that has one stamp at two lengths of a history has that stamp,
+/// and the value that came with it, at each length between.
+pub fn stamps_never_return()
+    ensures { StampsNeverReturn }
+{}
+
+/// Where two collects give each component the same stamp, the stamps of the collects stood together at
+/// each length of the history between the end of the first and the start of the second.
+pub fn equal_collects_stand_together()
+    ensures { EqualCollectsStandTogether }
+{}
