@@ -1,7 +1,10 @@
 pub mod Places
 pub mod PortLaws
 pub mod RunLaws
+pub mod Traces
 pub mod RunSteps
+pub mod TurnLaws
 pub mod Opens
 pub mod Plans
 pub mod Told
+pub mod Replays

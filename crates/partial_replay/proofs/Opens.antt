@@ -54,7 +54,7 @@ fresh_ports_fit z o p (c ∷ plans) (t ∷ ports) m w n = (fresh_fits z o c p t 
 pub opens_run : (plans : List (List Call)) (z : Layout) (o : Opening) (words : List ℕ) (ports : List Port) → IsLayout z → length o.values ≡ z.m → o.first ≡ pool_base z → AreOpeningWords z o.values words → length plans ≤ 64 → AreFreshPorts z (length plans) ports → IsRunOf plans z o words ports [] []
 opens_run plans z o words ports sizes values first opening few fresh =
     let lawful = opens_lawful z o words (length plans) (record { sizes = sizes; values = values; stamps = first; words = opening }) few in
-    record { parts = fresh_parts z 0 (length plans); opened = words; opens = opening; lawful = lawful; fit = fresh_ports_fit z o 0 plans ports (sym values) fresh.1 fresh.0; leads = refl }
+    record { parts = fresh_parts z 0 (length plans); opened = words; opens = opening; lawful = lawful; fit = fresh_ports_fit z o 0 plans ports (sym values) fresh.1 fresh.0; leads = refl; entries = refl }
 
 pub listed_length : (plans : List (List Call)) (ports : List Port) → AreListed plans ports → length ports ≡ length plans
 listed_length [] [] w = refl
@@ -116,7 +116,7 @@ over_is port calls way call c under get is =
     ∙ ap (λ (f : Option Call). left_over port f (Some way)) (sym get)
     ∙ ap (λ (f : Option UnderWay). left_over port (slice_get calls (length port.finished.items)) f) (sym under)
 
-over_none : (port : Port) (call : Option Call) → left_over port call None ≡ []
+pub over_none : (port : Port) (call : Option Call) → left_over port call None ≡ []
 over_none port None = refl
 over_none port (Some c) = refl
 

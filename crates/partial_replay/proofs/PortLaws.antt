@@ -1,7 +1,8 @@
 -- How a port of a replay goes on as its part's port.
-use Rattle.std.proofs.Common.{ℕ, zero, suc, ◌≡◌, ◌+◌, ◌<◌, ◌≤◌, ◌++◌, Bool, true, false, cond, List, [], ◌∷◌, length, take, map, get_or, Option, Some, None, IfSome, IsSomeAnd, MatchOption, MatchBool, slice_get, nat_lt, refl, sym, ◌∙◌, ap, subst, arith, length-append}
+use Rattle.std.proofs.Common.{ℕ, ◌==◌, inl, inr, zero, suc, ◌≡◌, ◌+◌, ◌<◌, ◌≤◌, ◌++◌, Bool, true, false, cond, List, [], ◌∷◌, length, take, map, get_or, Option, Some, None, IfSome, IsSomeAnd, MatchOption, MatchBool, slice_get, nat_lt, refl, sym, ◌∙◌, ap, subst, arith, length-append}
 use Rattle.std.specs.List.{AllByRecursion, cons_option}
 use Rattle.std.specs.Option.{option_map, option_map_or}
+use Rattle.std.proofs.lemmas.Bool.Decides.{eqb_tells}
 use Rattle.std.proofs.lemmas.Bool.{ltb-true, ltb-false, false≢true}
 use Rattle.std.proofs.lemmas.List.{append-nil, length_push, map_push}
 use Rattle.partial_model.specs.declared.history.Applied.{Applied}
@@ -30,6 +31,9 @@ use Rattle.partial_core.specs.Lawful.{Part, core_of, port_of, is_begun, is_at_re
 use Rattle.partial_replay.specs.declared.port.Port.{Port}
 use Rattle.partial_replay.specs.declared.port.UnderWay.{UnderWay}
 use Rattle.partial_replay.specs.PortState.{IsServed, stage_of, refusal_of, end_of, ends_of, IsFinished, AreFinished, notes_in, IsUnderWay, IsBetween, PortFits, refused_call, entry_at, one_step_more, IsEndedCall, GoesOn, Ends, StepMade}
+
+pub same_eqb : (a b : ℕ) → a ≡ b → (a == b) ≡ true
+same_eqb a b h = elim (eqb_tells a b) [ inl w ↦ w.0 | inr w ↦ absurd (w.1 h) ]
 
 -- the element at a place
 pub get_is : {A : Type 0} (xs : List A) (k : ℕ) (d : A) → k < length xs → slice_get xs k ≡ Some (get_or xs k d)

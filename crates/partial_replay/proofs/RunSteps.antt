@@ -1,7 +1,6 @@
 -- A turn of a port among the others.
 use Rattle.std.proofs.Common.{ℕ, zero, suc, ◌≡◌, ◌+◌, ◌-◌, ◌*◌, ◌<◌, ◌≤◌, ◌==◌, ◌++◌, Bool, true, false, cond, List, [], ◌∷◌, length, get_or, set, Option, Some, None, MatchOption, MatchBool, slice_get, refl, sym, ◌∙◌, ap, subst, arith, length-append, get_or-set_other}
 use Rattle.std.specs.Option.{option_map_or, is_some, IsSome}
-use Rattle.std.specs.Bool.{OnTrue}
 use Rattle.std.proofs.lemmas.Bool.{false≢true}
 use Rattle.std.proofs.lemmas.List.{append-nil, length_push}
 use Rattle.partial_model.specs.declared.history.Applied.{Applied}
@@ -31,6 +30,7 @@ use Rattle.partial_replay.specs.PortState.{IsExchangeWithin, notes_in, IsUnderWa
 use Rattle.partial_replay.specs.RunState.{PortsFit, IsRunOf, left_of, left_at}
 use Rattle.partial_replay.proofs.PortLaws.{finished_grows, get_below, get_is}
 use Rattle.partial_replay.proofs.RunLaws.{due_step, machine_port, leads_push, step_fits}
+use Rattle.partial_replay.proofs.Traces.{IsOfComponent, entries_push}
 
 -- another port's history grows
 way_grows : (log es : List Applied) (calls : List Call) (x : Part) (core : CoreState) (done : List Called) (way : Option UnderWay) → MatchOption way (IsBetween x core) (IsUnderWay (length log) calls x core done) → MatchOption way (IsBetween x core) (IsUnderWay (length (log ++ es)) calls x core done)
@@ -120,6 +120,7 @@ begin_keeps plans z o words ports log trace i calls port new w c t keeps =
       opens = w.opens;
       lawful = w.lawful;
       leads = w.leads;
+      entries = w.entries;
       fit = subst (λ (l : List Part). PortsFit o log 0 plans l (set ports i new)) (sym (at.is)) (subst (λ (l : List Applied). PortsFit o l 0 plans ((at.before) ++ (at.x) ∷ (at.after)) (set ports i new)) same (at.replace [] (at.x) new fits));
     }
 
@@ -143,6 +144,19 @@ exchange_within_at z words (ClaimingRecord c old) step n e f = let is : Add (z.m
 exchange_within_at z words (StoringRecord c old at k) step n e f = let is : Store (at + k) (get_or (record_block old c.value 0 []) k 0) ≡ step = cc in subst (IsExchangeWithin words) is tt
 exchange_within_at z words (Exchanging c old at) step n e f = let is : Exchange c.component old at ≡ step = cc in let sound = f refl in subst (IsExchangeWithin words) is (let top = (sound.2).1 in omega (arith, n, top))
 exchange_within_at z words (Finished r) step n e f = let bad : None ≡ Some step = e in cc
+
+-- only component words are exchanged
+component_at : (z : Layout) (s : Stage) (step : Step) → step_at z s ≡ Some step → (is_begun s ≡ false → IsStage z s) → IsOfComponent z.m step
+component_at z Idle step e f = let bad : None ≡ Some step = e in cc
+component_at z (ReadBegun j) step e f = let is : Load j ≡ step = cc in subst (IsOfComponent z.m) is tt
+component_at z (LoadingValue stamp) step e f = let is : Load (stamp + 1) ≡ step = cc in subst (IsOfComponent z.m) is tt
+component_at z (UpdateBegun c) step e f = let is : Load (c.component) ≡ step = cc in subst (IsOfComponent z.m) is tt
+component_at z (LoadingListHead c old) step e f = let is : Load (z.m + 1) ≡ step = cc in subst (IsOfComponent z.m) is tt
+component_at z (LoadingSlotCounter c old) step e f = let is : Load (z.m) ≡ step = cc in subst (IsOfComponent z.m) is tt
+component_at z (ClaimingRecord c old) step e f = let is : Add (z.m + 2) 3 ≡ step = cc in subst (IsOfComponent z.m) is tt
+component_at z (StoringRecord c old at k) step e f = let is : Store (at + k) (get_or (record_block old c.value 0 []) k 0) ≡ step = cc in subst (IsOfComponent z.m) is tt
+component_at z (Exchanging c old at) step e f = let is : Exchange c.component old at ≡ step = cc in let sound = f refl in subst (IsOfComponent z.m) is (sound.0)
+component_at z (Finished r) step e f = let bad : None ≡ Some step = e in cc
 
 -- the entry of a won exchange is the one that the machine adds
 entry_is_at : (z : Layout) (words : List ℕ) (c : CoreState) (s : Stage) (step : Step) (number a : ℕ) → a ≡ answer_of words step → c.port ≡ number → step_at z s ≡ Some step → ((ch : Change) (old at : ℕ) → s ≡ Exchanging ch old at → (get_or words (at + 1) 0 ≡ ch.value) × (ch.component < at)) → entry_at (words_after words step) number step a ≡ added_at c.port s a
@@ -215,6 +229,8 @@ step_keeps plans z o words words' ports log log' trace trace' i calls port new w
     let y = moved port.core a log l.new (at.x) in
     let fits = step_fits z o words (at.before) (at.x) (at.after) log calls (0 + i) port new (m.step) (m.way) (at.fits) u l (reply_of (advance port.core a)) refl m.number m.falls after in
     let event : Event = record { port = port.number; step = m.step; answer = a } in
+    let sizes = sizes_here' z o log (at.x) port.core known u.machine in
+    let component : IsOfComponent z.m (m.step) = component_at z port.core.stage (m.step) (ap (λ (s : Layout). step_at s port.core.stage) sizes ∙ m.due) (λ b. subst (λ (d : CoreState). IsStage z d.stage) (sym (middle port.core (at.x) (is_begun port.core.stage) u.machine b)) (stage_known z o log (at.x) known)) in
     record {
       parts = (at.before) ++ y ∷ (at.after);
       opened = w.opened;
@@ -222,6 +238,7 @@ step_keeps plans z o words words' ports log log' trace trace' i calls port new w
       lawful = subst (λ (ws : List ℕ). Lawful z o ws ((at.before) ++ y ∷ (at.after)) log') (sym m.words_are) (subst (λ (k : List Applied). Lawful z o (words_after words (m.step)) ((at.before) ++ y ∷ (at.after)) k) (sym log_is) l.lawful);
       fit = subst (λ (k : List Applied). PortsFit o k 0 plans ((at.before) ++ y ∷ (at.after)) (set ports i new)) (sym log_is) (at.replace (added port.core a) y new fits);
       leads = subst (λ (ws : List ℕ). Leads w.opened trace' ws) (sym m.words_are) (subst (λ (es : List Event). Leads w.opened es (words_after words (m.step))) (sym m.trace_is) (leads_push w.opened words trace event w.leads l.answers));
+      entries = entries_push z.m words' trace trace' log log' port.number (m.step) a w.entries component m.trace_is m.log_is;
     }
 
 -- the steps that the port has left
@@ -290,9 +307,14 @@ pub is_some_of : {A : Type 0} (f : Option A) → IsSome f → (a : A) × (f ≡ 
 is_some_of None w = absurd (false≢true w)
 is_some_of (Some a) w = (a, refl)
 
-pub on_true : (b : Bool) (P Q R : Type 0) → MatchBool b P Q → (P → R) → OnTrue b R
-on_true true P Q R m f = f m
-on_true false P Q R m f = tt
+pub match_bool : (b : Bool) (P Q R S : Type 0) → MatchBool b P Q → (P → R) → (Q → S) → MatchBool b R S
+match_bool true P Q R S m f g = f m
+match_bool false P Q R S m f g = g m
+
+-- a port that had made all its calls begins none
+pub begun_done : (b : Bool) (calls : List Call) (port new : Port) → length port.finished.items ≡ length calls → length port.finished.items ≤ length new.finished.items → MatchBool b (IsSome new.under_way × (length new.finished.items < length calls)) ((new.under_way ≡ None) × (length new.finished.items ≡ length calls)) → (new.under_way ≡ None) × (length new.finished.items ≡ length calls)
+begun_done true calls port new all more m = let below = m.1 in absurd (omega (arith, all, more, below))
+begun_done false calls port new all more m = m
 
 -- a port that a run has at a place, with the part that it fits
 pub port_in : (plans : List (List Call)) (z : Layout) (o : Opening) (words : List ℕ) (ports : List Port) (log : List Applied) (trace : List Event) (i : ℕ) (calls : List Call) (port : Port) → IsRunOf plans z o words ports log trace → slice_get plans i ≡ Some calls → slice_get ports i ≡ Some port → (x : Part) × PortFits o log calls (0 + i) x port

@@ -1,6 +1,6 @@
 -- The state of a replay: lawful, with a part for each port, and a trace that leads to its words.
-use Rattle.std.specs.Prelude.{ℕ, ◌≡◌, ◌+◌, ◌*◌, ◌-◌, ◌<◌, ◌^◌, ⊤, zero, suc, List, [], ◌∷◌, length, slice_get, Option, Some, None, IsSome, ◌++◌}
-use Rattle.std.specs.List.{AllByRecursion}
+use Rattle.std.specs.Prelude.{ℕ, ◌≡◌, ◌+◌, ◌*◌, ◌-◌, ◌<◌, ◌^◌, ⊤, zero, suc, List, [], ◌∷◌, length, slice_get, Option, Some, None, IsSome, MatchOption, MatchBool, ◌++◌, ◌≤◌, Bool, map, replicate, if◌then◌else◌}
+use Rattle.std.specs.List.{AllByRecursion, filter_map}
 use Rattle.partial_model.specs.declared.history.Applied.{Applied}
 use Rattle.partial_model.specs.declared.history.Opening.{Opening}
 use Rattle.partial_model.specs.declared.call.Call.{Call}
@@ -15,6 +15,8 @@ use Rattle.partial_core.specs.Lawful.{Part, Lawful}
 use Rattle.partial_replay.specs.declared.port.Port.{Port}
 use Rattle.partial_replay.specs.declared.port.UnderWay.{UnderWay}
 use Rattle.partial_replay.specs.declared.run.Run.{Run}
+use Rattle.partial_text.specs.declared.outcome.Outcome.{Outcome}
+use Rattle.partial_replay.specs.Trace.{entry_of, ports_of, events_in}
 use Rattle.partial_replay.specs.PortState.{PortFits, IsServed, unfinished_call}
 
 -- the ports from number p on, each with its calls and its part
@@ -27,6 +29,10 @@ PortsFit o log p _ _ _ = ⊥
 abbrev pub ArePlans : List (List Call) → Type 0
 ArePlans plans = AllByRecursion (λ calls. (length calls < 2 ^ 32) × AllByRecursion IsServed calls) plans
 
+-- an entry without its value, which stands in its record
+abbrev pub unvalued : Applied → Applied
+unvalued e = record { port = e.port; component = e.component; value = 0; stamp = e.stamp }
+
 -- the state of a replay of these calls is lawful, and its trace leads from the words at opening to its words
 pub record IsRunOf (plans : List (List Call)) (z : Layout) (o : Opening) (words : List ℕ) (ports : List Port) (log : List Applied) (trace : List Event) : Type 0 where
   pub parts : List Part
@@ -35,6 +41,8 @@ pub record IsRunOf (plans : List (List Call)) (z : Layout) (o : Opening) (words 
   pub lawful : Lawful z o words parts log
   pub fit : PortsFit o log 0 plans parts ports
   pub leads : Leads opened trace words
+  -- the won exchanges of component words in the trace are the history, but for the values
+  pub entries : filter_map (entry_of z.m (λ _. 0)) trace ≡ map unvalued log
 
 abbrev pub IsRun : List (List Call) → Run → Type 0
 IsRun plans run = IsRunOf plans run.sizes run.opening run.words.items run.ports.items run.history.items run.trace.items
@@ -82,3 +90,58 @@ abbrev pub AreListed : List (List Call) → List Port → Type 0
 AreListed [] [] = ⊤
 AreListed (calls ∷ plans) (port ∷ ports) = (length calls < 2 ^ 32) × AllByRecursion IsServed calls × (IsSome port.under_way → length port.finished.items < length calls) × AreListed plans ports
 AreListed _ _ = ⊥
+
+-- what a replay has come to in the end
+pub record Tells (plans : List (List Call)) (run : Run) (outcome : Outcome) : Type 0 where
+  pub opening : outcome.opening ≡ run.opening
+  pub history : outcome.history.items ≡ run.history.items
+  pub calls : outcome.calls.items ≡ calls_in plans run.ports.items
+  pub words : outcome.words.items ≡ run.words.items
+  pub trace : outcome.trace.items ≡ run.trace.items
+  pub steps : outcome.steps ≡ length run.trace.items
+
+-- the port with that number has made all its calls
+pub record IsDone (plans : List (List Call)) (ports : List Port) (p : ℕ) : Type 0 where
+  pub calls : List Call
+  pub port : Port
+  pub plan : slice_get plans p ≡ Some calls
+  pub is : slice_get ports p ≡ Some port
+  pub idle : port.under_way ≡ None
+  pub all : length port.finished.items ≡ length calls
+
+-- ports that have made all their calls have still made them
+abbrev pub StayDone : List (List Call) → Run → Run → Type 0
+StayDone plans old new = (q : ℕ) → IsDone plans old.ports.items q → IsDone plans new.ports.items q
+
+-- the trace goes on with n events of port p
+abbrev pub GoesOnBy : ℕ → ℕ → Run → Run → Type 0
+GoesOnBy n p old new = ports_of new.trace.items ≡ ports_of old.trace.items ++ replicate n p
+
+-- a turn of port p: it makes a step, or has made all its calls
+pub record TurnMade (plans : List (List Call)) (p : ℕ) (old : Run) (stepped : Bool) (new : Run) : Type 0 where
+  pub trace : GoesOnBy (if stepped then 1 else 0) p old new
+  pub done : MatchBool stepped (¬ IsDone plans old.ports.items p) (IsDone plans new.ports.items p)
+  pub kept : StayDone plans old new
+
+-- turns of port p in a row in which it made n steps
+pub record StepsMade (plans : List (List Call)) (p n : ℕ) (old new : Run) : Type 0 where
+  pub trace : GoesOnBy n p old new
+  pub none : IsDone plans old.ports.items p → n ≡ 0
+  pub kept : StayDone plans old new
+
+-- turns of port p in a row, so many or to its end: it makes a step in each until it has made all its calls
+abbrev pub TurnsMade : List (List Call) → ℕ → Option ℕ → Run → Run → Type 0
+TurnsMade plans p turns old new = (n : ℕ) × StepsMade plans p n old new × MatchOption turns (IsDone plans new.ports.items p) (λ k. (n ≤ k) × (n < k → IsDone plans new.ports.items p))
+
+-- Whose events the turns have made, where D says that a port has made all its calls: in each entry the
+-- port makes a step in every turn until it has.
+abbrev pub HasTurns : (ℕ → Type 0) → ℕ → Option ℕ → ℕ → List ℕ → Type 0
+HasTurns D q None n behind = D q × (events_in q behind ≡ 0)
+HasTurns D q (Some k) n behind = (n ≤ k) × (n < k → D q × (events_in q behind ≡ 0))
+
+abbrev pub Follows : (ℕ → Type 0) → List (ℕ × Option ℕ) → List ℕ → Type 0
+Follows D [] ports = ports ≡ []
+Follows D (e ∷ es) ports = (n : ℕ) × (behind : List ℕ) × (ports ≡ replicate n e.0 ++ behind) × HasTurns D e.0 e.1 n behind × Follows D es behind
+
+abbrev pub HasFollowed : List (List Call) → List (ℕ × Option ℕ) → Run → Type 0
+HasFollowed plans turns run = Follows (IsDone plans run.ports.items) turns (ports_of run.trace.items)

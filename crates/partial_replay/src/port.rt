@@ -109,7 +109,7 @@ impl Port {
         requires served { AllByRecursion IsServed calls.now }
         ensures fits { OnOk result (KeepsFit calls.now seen self.old self.new) }
         ensures more { OnOk result (length self.old.finished.items ≤ length self.new.finished.items) }
-        ensures begun { IfOk result (λ begun. MatchBool begun (IsSome self.new.under_way)
+        ensures begun { IfOk result (λ begun. MatchBool begun (IsSome self.new.under_way × (length self.new.finished.items < length calls.now))
             ((self.new.under_way ≡ None) × (length self.new.finished.items ≡ length calls.now))) }
     {
         while self.finished.len() < calls.len() {

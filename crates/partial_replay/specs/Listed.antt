@@ -1,0 +1,22 @@
+-- The calls that a replay lists, port by port.
+use Rattle.std.specs.Prelude.{ℕ, ◌≡◌, ◌<◌, ◌≤◌, ◌==◌, Bool, true, false, List, length, map, take, filter, IsSome}
+use Rattle.std.specs.List.{AllByRecursion}
+use Rattle.partial_model.specs.declared.call.Call.{Call}
+use Rattle.partial_model.specs.declared.call.Called.{Called}
+
+-- the calls of port q, in order
+abbrev pub calls_by : ℕ → List Called → List Called
+calls_by q calls = filter (λ c. c.port == q) calls
+
+-- they are the first of the plan's calls
+abbrev pub AreFirstOf : List Call → List Called → Type 0
+AreFirstOf plan calls = map (λ c. c.call) calls ≡ take (length calls) plan
+
+-- each call of the plan is made, to its end
+abbrev pub AreAllMade : List Call → List Called → Type 0
+AreAllMade plan calls = (length calls ≡ length plan) × AllByRecursion (λ c. IsSome c.finish) calls
+
+-- With the rest P holds. Without it so many turns make as many steps, or fewer, and then P holds.
+abbrev pub HaveMade : Bool → ℕ → ℕ → Type 0 → Type 0
+HaveMade true turns steps P = P
+HaveMade false turns steps P = (steps ≤ turns) × (steps < turns → P)
