@@ -2,6 +2,7 @@ pub mod Places
 pub mod PortLaws
 pub mod RunLaws
 pub mod Traces
+pub mod PortSteps
 pub mod RunSteps
 pub mod TurnLaws
 pub mod Opens

@@ -1,5 +1,5 @@
 -- How a port of a replay goes on as its part's port.
-use Rattle.std.proofs.Common.{ℕ, ◌==◌, inl, inr, zero, suc, ◌≡◌, ◌+◌, ◌<◌, ◌≤◌, ◌++◌, Bool, true, false, cond, List, [], ◌∷◌, length, take, map, get_or, Option, Some, None, IfSome, IsSomeAnd, MatchOption, MatchBool, slice_get, nat_lt, refl, sym, ◌∙◌, ap, subst, arith, length-append}
+use Rattle.std.proofs.Common.{ℕ, ◌==◌, ◌≢◌, set, inl, inr, zero, suc, ◌≡◌, ◌+◌, ◌<◌, ◌≤◌, ◌++◌, Bool, true, false, cond, List, [], ◌∷◌, length, take, map, get_or, Option, Some, None, IfSome, IsSomeAnd, MatchOption, MatchBool, slice_get, nat_lt, refl, sym, ◌∙◌, ap, subst, arith, length-append}
 use Rattle.std.specs.List.{AllByRecursion, cons_option}
 use Rattle.std.specs.Option.{option_map, option_map_or}
 use Rattle.std.proofs.lemmas.Bool.Decides.{eqb_tells}
@@ -30,7 +30,8 @@ use Rattle.partial_core.specs.Machine.{CoreState, at_stage, advance, step_of, re
 use Rattle.partial_core.specs.Lawful.{Part, core_of, port_of, is_begun, is_at_rest, IsMachineOf, MayBegin, MayBeginAt, call_at}
 use Rattle.partial_replay.specs.declared.port.Port.{Port}
 use Rattle.partial_replay.specs.declared.port.UnderWay.{UnderWay}
-use Rattle.partial_replay.specs.PortState.{IsServed, stage_of, refusal_of, end_of, ends_of, IsFinished, AreFinished, notes_in, IsUnderWay, IsBetween, PortFits, refused_call, entry_at, one_step_more, IsEndedCall, GoesOn, Ends, StepMade}
+use Rattle.partial_replay.specs.CallSteps.{stage_of, refusal_of}
+use Rattle.partial_replay.specs.PortState.{IsServed, end_of, ends_of, IsFinished, AreFinished, notes_in, IsUnderWay, IsBetween, PortFits, refused_call, entry_at, one_step_more, IsEndedCall, GoesOn, Ends, StepMade}
 
 pub same_eqb : (a b : ℕ) → a ≡ b → (a == b) ≡ true
 same_eqb a b h = elim (eqb_tells a b) [ inl w ↦ w.0 | inr w ↦ absurd (w.1 h) ]
@@ -52,6 +53,19 @@ pub get_below : {A : Type 0} (xs : List A) (k : ℕ) (x : A) → slice_get xs k 
 get_below [] k x s = let bad : None ≡ Some x = s in cc
 get_below (y ∷ ys) zero x s = omega arith
 get_below (y ∷ ys) (suc k) x s = let below = get_below ys k x s in omega arith
+
+-- another element at a place
+pub get_set : {A : Type 0} (xs : List A) (i : ℕ) (a b : A) → slice_get xs i ≡ Some a → slice_get (set xs i b) i ≡ Some b
+get_set [] i a b s = let bad : None ≡ Some a = s in cc
+get_set (x ∷ xs) zero a b s = refl
+get_set (x ∷ xs) (suc i) a b s = get_set xs i a b s
+
+pub get_set_other : {A : Type 0} (xs : List A) (i q : ℕ) (b : A) → q ≢ i → slice_get (set xs i b) q ≡ slice_get xs q
+get_set_other [] i q b d = refl
+get_set_other (x ∷ xs) zero zero b d = absurd (d refl)
+get_set_other (x ∷ xs) zero (suc q) b d = refl
+get_set_other (x ∷ xs) (suc i) zero b d = refl
+get_set_other (x ∷ xs) (suc i) (suc q) b d = get_set_other xs i q b (λ h. d (ap suc h))
 
 -- the finished calls with one more
 ended_here : (n low : ℕ) (c : Called) → low ≤ n → IsFinished n low c → end_of low c ≤ n

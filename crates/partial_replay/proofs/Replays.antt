@@ -13,14 +13,18 @@ use Rattle.partial_words.specs.Record.{value_of}
 use Rattle.partial_words.specs.Step.{Leads}
 use Rattle.partial_words.specs.Chain.{Agrees, AreOpeningWords}
 use Rattle.partial_text.specs.PlanText.{PlanView}
+use Rattle.partial_core.specs.Machine.{CoreState, fresh}
+use Rattle.partial_replay.specs.CallSteps.{AreStepsOf}
+use Rattle.partial_replay.specs.PortState.{PortFits}
+use Rattle.partial_replay.proofs.PortSteps.{steps_begun, events_steps, none_moments}
 use Rattle.partial_text.specs.declared.outcome.Outcome.{Outcome}
 use Rattle.partial_replay.specs.declared.port.Port.{Port}
 use Rattle.partial_replay.specs.declared.run.Run.{Run}
-use Rattle.partial_replay.specs.Trace.{entry_of, ports_of, events_in}
+use Rattle.partial_replay.specs.Trace.{entry_of, moments_by, ports_of, events_in}
 use Rattle.partial_replay.specs.Turns.{turns_of, turns_by, ports_in}
-use Rattle.partial_replay.specs.Listed.{calls_by, AreFirstOf, AreAllMade, HaveMade}
+use Rattle.partial_replay.specs.Listed.{calls_by, steps_by, AreFirstOf, AreAllMade, HaveMade}
 use Rattle.partial_replay.specs.Replayed.{IsReplayOf}
-use Rattle.partial_replay.specs.RunState.{IsDone, HasFollowed, IsRun, IsRunOf, Tells, calls_in}
+use Rattle.partial_replay.specs.RunState.{AreStarted, IsDone, HasFollowed, IsRun, IsRunOf, Tells, calls_in}
 use Rattle.partial_replay.proofs.PortLaws.{get_below}
 use Rattle.partial_replay.proofs.RunSteps.{port_in, ports_length}
 use Rattle.partial_replay.proofs.Told.{begun_by, run_legal, listed_at, none_listed, first_begun, all_made}
@@ -76,9 +80,26 @@ module _ (plans : List (List Call)) (z : Layout) (o : Opening) (words : List ℕ
       let plan : get_or plans q [] ≡ [] = past_get plans q [] past in
       subst (λ (l : List Called). AreAllMade (get_or plans q []) l) (sym none) (sym (ap length plan), tt)
 
+  -- each port's events are the steps of the calls that it lists
+  pub events_told : AreStarted ports → (q : ℕ) → (last : CoreState) × AreStepsOf (fresh z q) (calls_by q (calls_in plans ports)) (moments_by z.m q trace) last
+  events_told started q = elim (at_place plans q) [
+    | inl found ↦
+        let calls = found.0 in
+        let port = port_at q calls found.1 in
+        let in' = port_in plans z o words ports log trace q calls (port.0) w found.1 port.1 in
+        let from : q ≡ 0 + q = omega arith in
+        let fits : PortFits o log calls q (in'.0) (port.0) = subst (λ n. PortFits o log calls n (in'.0) (port.0)) (sym from) in'.1 in
+        let listed : calls_by q (calls_in plans ports) ≡ begun_by calls (port.0) = ap (λ n. calls_by n (calls_in plans ports)) from ∙ listed_at o log 0 q plans w.parts ports calls (port.0) w.fit found.1 port.1 in
+        let steps = steps_begun z o log calls q (moments_by z.m q trace) (in'.0) (port.0) fits (w.made q calls (port.0) found.1 port.1) (λ v way. started q (port.0) v port.1 way) in
+        (steps.0, subst (λ (l : List Called). AreStepsOf (fresh z q) l (moments_by z.m q trace) (steps.0)) (sym listed) steps.1)
+    | inr past ↦
+        let none : calls_by q (calls_in plans ports) ≡ [] = none_listed o log q 0 plans w.parts ports (inr (omega (arith, past))) w.fit in
+        (fresh z q, subst (λ (l : List Called). AreStepsOf (fresh z q) l (moments_by z.m q trace) (fresh z q)) (sym none) (none_moments z.m q (length plans) trace past w.senders, refl))
+  ]
+
 -- a run that has come to its end tells an outcome of its plan
-pub replay_told : (p : PlanView) (run : Run) (outcome : Outcome) → IsRun p.ports run → run.sizes ≡ p.sizes → run.opening.values ≡ p.initial → HasFollowed p.ports (turns_of p) run → Tells p.ports run outcome → IsReplayOf p outcome
-replay_told p run outcome w sizes values f t =
+pub replay_told : (p : PlanView) (run : Run) (outcome : Outcome) → IsRun p.ports run → AreStarted run.ports.items → run.sizes ≡ p.sizes → run.opening.values ≡ p.initial → HasFollowed p.ports (turns_of p) run → Tells p.ports run outcome → IsReplayOf p outcome
+replay_told p run outcome w started sizes values f t =
     let z = run.sizes in
     let o = run.opening in
     let legal : LegalOutcome outcome.opening outcome.history.items outcome.calls.items =
@@ -92,11 +113,13 @@ replay_told p run outcome w sizes values f t =
     let D = IsDone p.ports run.ports.items in
     let calls = calls_in p.ports run.ports.items in
     let ports = ports_of run.trace.items in
-    let made : (q : ℕ) → HaveMade p.rest (turns_by q p.steps) (events_in q ports) (AreAllMade (get_or p.ports q []) (calls_by q calls)) = λ q.
-    turns_told D p ports q (AreAllMade (get_or p.ports q []) (calls_by q calls))
+    let events = events_told p.ports z o run.words.items run.ports.items run.history.items run.trace.items w started in
+    let steps : (q : ℕ) → steps_by q calls ≡ events_in q ports = λ q. events_steps (fresh z q) (events q).0 z.m q run.trace.items (calls_by q calls) (events q).1 in
+    let made : (q : ℕ) → HaveMade p.rest (turns_by q p.steps) (steps_by q calls) (AreAllMade (get_or p.ports q []) (calls_by q calls)) = λ q.
+    subst (λ n. HaveMade p.rest (turns_by q p.steps) n (AreAllMade (get_or p.ports q []) (calls_by q calls))) (sym (steps q)) (turns_told D p ports q (AreAllMade (get_or p.ports q []) (calls_by q calls))
     (done_told p.ports z o run.words.items run.ports.items run.history.items run.trace.items w q)
-    (past_told p.ports z o run.words.items run.ports.items run.history.items run.trace.items w q) f in
-    let turns : ports ≡ ports_in (turns_of p) (λ q. events_in q ports) = follows_ports D (turns_of p) ports (λ q. events_in q ports) (λ q. refl) f in
+    (past_told p.ports z o run.words.items run.ports.items run.history.items run.trace.items w q) f) in
+    let turns : ports ≡ ports_in (turns_of p) (λ q. steps_by q calls) = follows_ports D (turns_of p) ports (λ q. steps_by q calls) steps f in
     let entries = entries_told z.m o run.words.items run.trace.items run.history.items w.lawful.history w.lawful.agrees w.entries in
     record {
       values = ap (λ (v : Opening). v.values) t.opening ∙ values;
@@ -109,6 +132,9 @@ replay_told p run outcome w sizes values f t =
       leads = subst (λ (es : List Event). Leads w.opened es outcome.words.items) (sym t.trace) (subst (λ (ws : List ℕ). Leads w.opened run.trace.items ws) (sym t.words) w.leads);
       steps = t.steps ∙ ap length (sym t.trace);
       entries = t.history ∙ entries ∙ ap (λ (l : Layout). filter_map (entry_of l.m (value_of run.words.items)) run.trace.items) sizes ∙ ap (λ (ws : List ℕ). filter_map (entry_of p.sizes.m (value_of ws)) run.trace.items) (sym t.words) ∙ ap (filter_map (entry_of p.sizes.m (value_of outcome.words.items))) (sym t.trace);
-      turns = subst (λ (es : List Event). ports_of es ≡ ports_in (turns_of p) (λ q. events_in q (ports_of es))) (sym t.trace) turns;
-      made = λ q. subst (λ (es : List Event). HaveMade p.rest (turns_by q p.steps) (events_in q (ports_of es)) (AreAllMade (get_or p.ports q []) (calls_by q outcome.calls.items))) (sym t.trace) (subst (λ (l : List Called). HaveMade p.rest (turns_by q p.steps) (events_in q ports) (AreAllMade (get_or p.ports q []) (calls_by q l))) (sym t.calls) (made q));
+      events = λ q. subst (λ (l : Layout). (last : CoreState) × AreStepsOf (fresh l q) (calls_by q outcome.calls.items) (moments_by l.m q outcome.trace.items) last) sizes
+          (subst (λ (es : List Event). (last : CoreState) × AreStepsOf (fresh z q) (calls_by q outcome.calls.items) (moments_by z.m q es) last) (sym t.trace)
+          (subst (λ (l : List Called). (last : CoreState) × AreStepsOf (fresh z q) (calls_by q l) (moments_by z.m q run.trace.items) last) (sym t.calls) (events q)));
+      turns = ap ports_of t.trace ∙ turns ∙ ap (λ (l : List Called). ports_in (turns_of p) (λ q. steps_by q l)) (sym t.calls);
+      made = λ q. subst (λ (l : List Called). HaveMade p.rest (turns_by q p.steps) (steps_by q l) (AreAllMade (get_or p.ports q []) (calls_by q l))) (sym t.calls) (made q);
     }

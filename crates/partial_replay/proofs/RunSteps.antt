@@ -26,10 +26,13 @@ use Rattle.partial_core.proofs.Frames.{if_some_at}
 use Rattle.partial_core.proofs.AllSteps.{steps_stay_lawful}
 use Rattle.partial_replay.specs.declared.port.Port.{Port}
 use Rattle.partial_replay.specs.declared.port.UnderWay.{UnderWay}
-use Rattle.partial_replay.specs.PortState.{IsExchangeWithin, notes_in, IsUnderWay, IsBetween, PortFits, entry_at, one_step_more, ended_call, GoesOn, Ends, StepMade, MayStep, KeepsFit}
-use Rattle.partial_replay.specs.RunState.{PortsFit, IsRunOf, left_of, left_at}
+use Rattle.partial_replay.specs.PortState.{KeepsMade, IsExchangeWithin, notes_in, IsUnderWay, IsBetween, PortFits, entry_at, one_step_more, ended_call, GoesOn, Ends, StepMade, MayStep, KeepsFit}
+use Rattle.partial_replay.specs.RunState.{AreStartedBut, PortsFit, IsRunOf, left_of, left_at}
 use Rattle.partial_replay.proofs.PortLaws.{finished_grows, get_below, get_is}
 use Rattle.partial_replay.proofs.RunLaws.{due_step, machine_port, leads_push, step_fits}
+use Rattle.partial_replay.proofs.PortSteps.{ports_step, ports_begin, log_long}
+use Rattle.std.specs.List.{AllByRecursion}
+use Rattle.partial_model.proofs.NotesLemmas.{AllByRecursion-push}
 use Rattle.partial_replay.proofs.Traces.{IsOfComponent, entries_push}
 
 -- another port's history grows
@@ -103,14 +106,9 @@ set_here [] i a b = refl
 set_here (x ∷ xs) zero a b = refl
 set_here {A} (x ∷ xs) (suc i) a b = ap (λ (l : List A). x ∷ l) (set_here xs i a b)
 
-pub get_set : {A : Type 0} (xs : List A) (i : ℕ) (a b : A) → slice_get xs i ≡ Some a → slice_get (set xs i b) i ≡ Some b
-get_set [] i a b s = let bad : None ≡ Some a = s in cc
-get_set (x ∷ xs) zero a b s = refl
-get_set (x ∷ xs) (suc i) a b s = get_set xs i a b s
-
 -- a call begins, or is refused at once: the words and the history stay
-pub begin_keeps : (plans : List (List Call)) (z : Layout) (o : Opening) (words : List ℕ) (ports : List Port) (log : List Applied) (trace : List Event) (i : ℕ) (calls : List Call) (port new : Port) → IsRunOf plans z o words ports log trace → slice_get plans i ≡ Some calls → slice_get ports i ≡ Some port → KeepsFit calls (length log) port new → IsRunOf plans z o words (set ports i new) log trace
-begin_keeps plans z o words ports log trace i calls port new w c t keeps =
+pub begin_keeps : (plans : List (List Call)) (z : Layout) (o : Opening) (words : List ℕ) (ports : List Port) (log : List Applied) (trace : List Event) (i : ℕ) (calls : List Call) (port new : Port) → IsRunOf plans z o words ports log trace → slice_get plans i ≡ Some calls → slice_get ports i ≡ Some port → KeepsFit calls (length log) port new → KeepsMade calls (length log) port new → IsRunOf plans z o words (set ports i new) log trace
+begin_keeps plans z o words ports log trace i calls port new w c t keeps keeps_made =
     let at = at_port o log 0 plans w.parts ports i calls port w.fit c t in
     let same = append-nil log in
     let fits : PortFits o (log ++ []) calls (0 + i) (at.x) new = subst (λ (l : List Applied). PortFits o l calls (0 + i) (at.x) new) (sym same) (keeps o log (0 + i) (at.x) refl (at.fits)) in
@@ -121,6 +119,8 @@ begin_keeps plans z o words ports log trace i calls port new w c t keeps =
       lawful = w.lawful;
       leads = w.leads;
       entries = w.entries;
+      senders = w.senders;
+      made = ports_begin plans z ports log trace i calls port new w.made c t keeps_made;
       fit = subst (λ (l : List Part). PortsFit o log 0 plans l (set ports i new)) (sym (at.is)) (subst (λ (l : List Applied). PortsFit o l 0 plans ((at.before) ++ (at.x) ∷ (at.after)) (set ports i new)) same (at.replace [] (at.x) new fits));
     }
 
@@ -214,8 +214,8 @@ may_step plans z o words ports log trace i calls port way w c t is =
     }
 
 -- a step keeps the replay's state
-pub step_keeps : (plans : List (List Call)) (z : Layout) (o : Opening) (words words' : List ℕ) (ports : List Port) (log log' : List Applied) (trace trace' : List Event) (i : ℕ) (calls : List Call) (port new : Port) → IsRunOf plans z o words ports log trace → slice_get plans i ≡ Some calls → slice_get ports i ≡ Some port → StepMade calls words words' trace trace' log log' port new → IsRunOf plans z o words' (set ports i new) log' trace'
-step_keeps plans z o words words' ports log log' trace trace' i calls port new w c t m =
+pub step_keeps : (plans : List (List Call)) (z : Layout) (o : Opening) (words words' : List ℕ) (ports : List Port) (log log' : List Applied) (trace trace' : List Event) (i : ℕ) (calls : List Call) (port new : Port) → IsRunOf plans z o words ports log trace → slice_get plans i ≡ Some calls → slice_get ports i ≡ Some port → AreStartedBut i ports → StepMade calls words words' trace trace' log log' port new → IsRunOf plans z o words' (set ports i new) log' trace'
+step_keeps plans z o words words' ports log log' trace trace' i calls port new w c t started m =
     let at = at_port o log 0 plans w.parts ports i calls port w.fit c t in
     let u = under_way o log calls (0 + i) (at.x) port (m.way) (at.fits) m.was in
     let lawful : Lawful z o words ((at.before) ++ (at.x) ∷ (at.after)) log = subst (λ (l : List Part). Lawful z o words l log) (at.is) w.lawful in
@@ -231,6 +231,8 @@ step_keeps plans z o words words' ports log log' trace trace' i calls port new w
     let event : Event = record { port = port.number; step = m.step; answer = a } in
     let sizes = sizes_here' z o log (at.x) port.core known u.machine in
     let component : IsOfComponent z.m (m.step) = component_at z port.core.stage (m.step) (ap (λ (s : Layout). step_at s port.core.stage) sizes ∙ m.due) (λ b. subst (λ (d : CoreState). IsStage z d.stage) (sym (middle port.core (at.x) (is_begun port.core.stage) u.machine b)) (stage_known z o log (at.x) known)) in
+    let entries = entries_push z.m words' trace trace' log log' port.number (m.step) a w.entries component m.trace_is m.log_is in
+    let here : port.number ≡ i = (at.fits).number ∙ omega arith in
     record {
       parts = (at.before) ++ y ∷ (at.after);
       opened = w.opened;
@@ -238,7 +240,9 @@ step_keeps plans z o words words' ports log log' trace trace' i calls port new w
       lawful = subst (λ (ws : List ℕ). Lawful z o ws ((at.before) ++ y ∷ (at.after)) log') (sym m.words_are) (subst (λ (k : List Applied). Lawful z o (words_after words (m.step)) ((at.before) ++ y ∷ (at.after)) k) (sym log_is) l.lawful);
       fit = subst (λ (k : List Applied). PortsFit o k 0 plans ((at.before) ++ y ∷ (at.after)) (set ports i new)) (sym log_is) (at.replace (added port.core a) y new fits);
       leads = subst (λ (ws : List ℕ). Leads w.opened trace' ws) (sym m.words_are) (subst (λ (es : List Event). Leads w.opened es (words_after words (m.step))) (sym m.trace_is) (leads_push w.opened words trace event w.leads l.answers));
-      entries = entries_push z.m words' trace trace' log log' port.number (m.step) a w.entries component m.trace_is m.log_is;
+      entries = entries;
+      senders = subst (AllByRecursion (λ (e : Event). e.port < length plans)) (sym m.trace_is) (AllByRecursion-push (λ (e : Event). e.port < length plans) trace event w.senders (let below = get_below plans i calls c in omega (arith, below, here)));
+      made = ports_step plans z words words' ports log log' trace trace' i calls port new w.made (log_long z.m trace log w.entries) (log_long z.m trace' log' entries) started c t here m;
     }
 
 -- the steps that the port has left

@@ -20,15 +20,7 @@ use Rattle.partial_replay.specs.declared.run.Run.{Run}
 use Rattle.partial_replay.specs.Trace.{ports_of}
 use Rattle.partial_replay.specs.Trace.{events_in}
 use Rattle.partial_replay.specs.RunState.{IsDone, IsReady, StayDone, GoesOnBy, TurnMade, StepsMade, TurnsMade, HasTurns, Follows, HasFollowed}
-use Rattle.partial_replay.proofs.RunSteps.{get_set}
-use Rattle.partial_replay.proofs.PortLaws.{take_next, get_is, same_eqb}
-
-pub get_set_other : {A : Type 0} (xs : List A) (i q : ℕ) (b : A) → q ≢ i → slice_get (set xs i b) q ≡ slice_get xs q
-get_set_other [] i q b d = refl
-get_set_other (x ∷ xs) zero zero b d = absurd (d refl)
-get_set_other (x ∷ xs) zero (suc q) b d = refl
-get_set_other (x ∷ xs) (suc i) zero b d = refl
-get_set_other (x ∷ xs) (suc i) (suc q) b d = get_set_other xs i q b (λ h. d (ap suc h))
+use Rattle.partial_replay.proofs.PortLaws.{get_set, get_set_other, take_next, get_is, same_eqb}
 
 -- a port in another state: the ports that have made all their calls have still made them where this one has
 pub done_set : (plans : List (List Call)) (ports : List Port) (i : ℕ) (calls : List Call) (port new : Port) → slice_get plans i ≡ Some calls → slice_get ports i ≡ Some port → (port.under_way ≡ None → length port.finished.items ≡ length calls → (new.under_way ≡ None) × (length new.finished.items ≡ length calls)) → (q : ℕ) → IsDone plans ports q → IsDone plans (set ports i new) q

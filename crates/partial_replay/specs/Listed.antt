@@ -1,5 +1,5 @@
 -- The calls that a replay lists, port by port.
-use Rattle.std.specs.Prelude.{ℕ, ◌≡◌, ◌<◌, ◌≤◌, ◌==◌, Bool, true, false, List, length, map, take, filter, IsSome}
+use Rattle.std.specs.Prelude.{ℕ, ◌≡◌, ◌<◌, ◌≤◌, ◌==◌, Bool, true, false, List, length, map, take, filter, sum_by, IsSome}
 use Rattle.std.specs.List.{AllByRecursion}
 use Rattle.partial_model.specs.declared.call.Call.{Call}
 use Rattle.partial_model.specs.declared.call.Called.{Called}
@@ -7,6 +7,10 @@ use Rattle.partial_model.specs.declared.call.Called.{Called}
 -- the calls of port q, in order
 abbrev pub calls_by : ℕ → List Called → List Called
 calls_by q calls = filter (λ c. c.port == q) calls
+
+-- how many steps they have made
+abbrev pub steps_by : ℕ → List Called → ℕ
+steps_by q calls = sum_by (λ c. c.steps) (calls_by q calls)
 
 -- they are the first of the plan's calls
 abbrev pub AreFirstOf : List Call → List Called → Type 0

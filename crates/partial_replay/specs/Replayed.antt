@@ -5,11 +5,13 @@ use Rattle.partial_words.specs.Layout.{pool_base}
 use Rattle.partial_words.specs.Record.{value_of}
 use Rattle.partial_words.specs.Step.{Leads}
 use Rattle.partial_words.specs.Chain.{Agrees, AreOpeningWords}
+use Rattle.partial_core.specs.Machine.{CoreState, fresh}
 use Rattle.partial_text.specs.PlanText.{PlanView}
 use Rattle.partial_text.specs.declared.outcome.Outcome.{Outcome}
-use Rattle.partial_replay.specs.Trace.{entry_of, ports_of, events_in}
+use Rattle.partial_replay.specs.Trace.{entry_of, moments_by, ports_of}
+use Rattle.partial_replay.specs.CallSteps.{AreStepsOf}
 use Rattle.partial_replay.specs.Turns.{turns_of, turns_by, ports_in}
-use Rattle.partial_replay.specs.Listed.{calls_by, AreFirstOf, AreAllMade, HaveMade}
+use Rattle.partial_replay.specs.Listed.{calls_by, steps_by, AreFirstOf, AreAllMade, HaveMade}
 
 -- the outcome of a replay of the plan
 pub record IsReplayOf (p : PlanView) (outcome : Outcome) : Type 0 where
@@ -28,7 +30,9 @@ pub record IsReplayOf (p : PlanView) (outcome : Outcome) : Type 0 where
   pub steps : outcome.steps ≡ length outcome.trace.items
   -- its won exchanges of component words are the history, in order
   pub entries : outcome.history.items ≡ filter_map (entry_of p.sizes.m (value_of outcome.words.items)) outcome.trace.items
-  -- its events are of the plan's turns in order, of each port the first ones, as many as it has events
-  pub turns : ports_of outcome.trace.items ≡ ports_in (turns_of p) (λ q. events_in q (ports_of outcome.trace.items))
+  -- each port's events are the steps of its calls, call by call
+  pub events : (q : ℕ) → (last : CoreState) × AreStepsOf (fresh p.sizes q) (calls_by q outcome.calls.items) (moments_by p.sizes.m q outcome.trace.items) last
+  -- the trace's events are of the plan's turns in order, of each port the first ones, as many as its calls have steps
+  pub turns : ports_of outcome.trace.items ≡ ports_in (turns_of p) (λ q. steps_by q outcome.calls.items)
   -- each port makes a step in each of its turns until all its calls are made, and with the rest all are
-  pub made : (q : ℕ) → HaveMade p.rest (turns_by q p.steps) (events_in q (ports_of outcome.trace.items)) (AreAllMade (get_or p.ports q []) (calls_by q outcome.calls.items))
+  pub made : (q : ℕ) → HaveMade p.rest (turns_by q p.steps) (steps_by q outcome.calls.items) (AreAllMade (get_or p.ports q []) (calls_by q outcome.calls.items))

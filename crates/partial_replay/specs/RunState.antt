@@ -1,5 +1,5 @@
 -- The state of a replay: lawful, with a part for each port, and a trace that leads to its words.
-use Rattle.std.specs.Prelude.{ℕ, ◌≡◌, ◌+◌, ◌*◌, ◌-◌, ◌<◌, ◌^◌, ⊤, zero, suc, List, [], ◌∷◌, length, slice_get, Option, Some, None, IsSome, MatchOption, MatchBool, ◌++◌, ◌≤◌, Bool, map, replicate, if◌then◌else◌}
+use Rattle.std.specs.Prelude.{ℕ, ◌≡◌, ◌≢◌, ◌+◌, ◌*◌, ◌-◌, ◌<◌, ◌^◌, ⊤, zero, suc, List, [], ◌∷◌, length, slice_get, Option, Some, None, IsSome, MatchOption, MatchBool, ◌++◌, ◌≤◌, Bool, map, replicate, if◌then◌else◌}
 use Rattle.std.specs.List.{AllByRecursion, filter_map}
 use Rattle.partial_model.specs.declared.history.Applied.{Applied}
 use Rattle.partial_model.specs.declared.history.Opening.{Opening}
@@ -16,8 +16,8 @@ use Rattle.partial_replay.specs.declared.port.Port.{Port}
 use Rattle.partial_replay.specs.declared.port.UnderWay.{UnderWay}
 use Rattle.partial_replay.specs.declared.run.Run.{Run}
 use Rattle.partial_text.specs.declared.outcome.Outcome.{Outcome}
-use Rattle.partial_replay.specs.Trace.{entry_of, ports_of, events_in}
-use Rattle.partial_replay.specs.PortState.{PortFits, IsServed, unfinished_call}
+use Rattle.partial_replay.specs.Trace.{entry_of, moments_by, ports_of, events_in}
+use Rattle.partial_replay.specs.PortState.{PortFits, PortMade, IsServed, unfinished_call}
 
 -- the ports from number p on, each with its calls and its part
 abbrev pub PortsFit : Opening → List Applied → ℕ → List (List Call) → List Part → List Port → Type 0
@@ -28,6 +28,17 @@ PortsFit o log p _ _ _ = ⊥
 -- the calls of a plan's ports: each is one that the machine serves, and a call's number fits 32 bits
 abbrev pub ArePlans : List (List Call) → Type 0
 ArePlans plans = AllByRecursion (λ calls. (length calls < 2 ^ 32) × AllByRecursion IsServed calls) plans
+
+-- each port's events are the steps of its calls
+abbrev pub ArePortsMade : List (List Call) → Layout → List Port → List Applied → List Event → Type 0
+ArePortsMade plans z ports log trace = (q : ℕ) (calls : List Call) (port : Port) → slice_get plans q ≡ Some calls → slice_get ports q ≡ Some port → PortMade z (length log) calls q (moments_by z.m q trace) port
+
+-- the call under way of a port has made a step
+abbrev pub AreStarted : List Port → Type 0
+AreStarted ports = (q : ℕ) (port : Port) (way : UnderWay) → slice_get ports q ≡ Some port → port.under_way ≡ Some way → 0 < way.steps
+
+abbrev pub AreStartedBut : ℕ → List Port → Type 0
+AreStartedBut p ports = (q : ℕ) (port : Port) (way : UnderWay) → q ≢ p → slice_get ports q ≡ Some port → port.under_way ≡ Some way → 0 < way.steps
 
 -- an entry without its value, which stands in its record
 abbrev pub unvalued : Applied → Applied
@@ -43,6 +54,9 @@ pub record IsRunOf (plans : List (List Call)) (z : Layout) (o : Opening) (words 
   pub leads : Leads opened trace words
   -- the won exchanges of component words in the trace are the history, but for the values
   pub entries : filter_map (entry_of z.m (λ _. 0)) trace ≡ map unvalued log
+  -- each port's events are the steps of its calls
+  pub senders : AllByRecursion (λ e. e.port < length plans) trace
+  pub made : ArePortsMade plans z ports log trace
 
 abbrev pub IsRun : List (List Call) → Run → Type 0
 IsRun plans run = IsRunOf plans run.sizes run.opening run.words.items run.ports.items run.history.items run.trace.items
@@ -63,9 +77,9 @@ left_at p (calls ∷ plans) [] = 0
 left_at zero (calls ∷ plans) (port ∷ ports) = left_of calls port
 left_at (suc p) (calls ∷ plans) (port ∷ ports) = left_at p plans ports
 
--- a call of the port with that number is under way
+-- a call of the port with that number is under way, and any other call under way has made a step
 abbrev pub IsReady : ℕ → Run → Type 0
-IsReady p run = (port : Port) × (way : UnderWay) × (slice_get run.ports.items p ≡ Some port) × (port.under_way ≡ Some way)
+IsReady p run = (port : Port) × (way : UnderWay) × (slice_get run.ports.items p ≡ Some port) × (port.under_way ≡ Some way) × AreStartedBut p run.ports.items
 
 -- so many ports from that number on that have made no call
 abbrev pub FreshFrom : Layout → ℕ → List Port → Type 0

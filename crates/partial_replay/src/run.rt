@@ -38,7 +38,7 @@ fn opening_words(alloc: Global, sizes: Sizes, initial: &[u64]) -> Result<Vec<u64
 }
 
 impl Run {
-    ghost use Rattle.partial_replay.specs.RunState.{ArePlans, GoesOnBy, IsDone, IsReady, IsRun, IsSameOpening, StayDone, Tells, TurnMade, TurnsMade, left_at};
+    ghost use Rattle.partial_replay.specs.RunState.{ArePlans, AreStarted, GoesOnBy, IsDone, IsReady, IsRun, IsSameOpening, StayDone, Tells, TurnMade, TurnsMade, left_at};
 
     /// The replay as it opens, with the ports of a plan.
     pub fn open(
@@ -53,6 +53,7 @@ impl Run {
         ensures run { IfOk result (IsRun plans.now) }
         ensures opening { IfOk result (λ run. (run.sizes ≡ sizes) × (run.opening.values ≡ initial.now)) }
         ensures trace { IfOk result (λ run. run.trace.items ≡ []) }
+        ensures started { IfOk result (λ run. AreStarted run.ports.items) }
     {
         let first = u64::from(sizes.pool_base());
         Ok(Run {
@@ -71,10 +72,12 @@ impl Run {
     /// One turn of a port: it makes one step, or answers that it has no call left.
     pub fn turn(&mut self, p: usize, plans: &[Sequence<Call>]) -> Result<bool, AllocError>
         requires run { IsRun plans.now self.old }
+        requires started { AreStarted self.old.ports.items }
         requires plans { ArePlans plans.now }
         requires port { p < length plans.now }
         ensures run { OnOk result (IsRun plans.now self.new) }
         ensures same { OnOk result (IsSameOpening self.old self.new) }
+        ensures started { OnOk result (AreStarted self.new.ports.items) }
         ensures turn { IfOk result (λ stepped. TurnMade plans.now p self.old stepped self.new) }
         ensures progress { IfOk result (λ stepped. OnTrue stepped (left_at p plans.now self.new.ports.items < left_at p plans.now self.old.ports.items)) }
     {
@@ -88,11 +91,12 @@ impl Run {
     // Begins the port's next call where none is under way, or answers that none is left.
     fn get_ready(&mut self, p: usize, plans: &[Sequence<Call>]) -> Result<bool, AllocError>
         requires run { IsRun plans.now self.old }
+        requires started { AreStarted self.old.ports.items }
         requires plans { ArePlans plans.now }
         requires port { p < length plans.now }
         ensures run { OnOk result (IsRun plans.now self.new) }
         ensures same { OnOk result (IsSameOpening self.old self.new) }
-        ensures ready { IfOk result (λ ready. MatchBool ready (IsReady p self.new) (IsDone plans.now self.new.ports.items p)) }
+        ensures ready { IfOk result (λ ready. MatchBool ready (IsReady p self.new) (IsDone plans.now self.new.ports.items p × AreStarted self.new.ports.items)) }
         ensures trace { OnOk result (GoesOnBy 0 p self.old self.new) }
         ensures done { OnOk result (StayDone plans.now self.old self.new) }
         ensures left { OnOk result (left_at p plans.now self.new.ports.items ≤ left_at p plans.now self.old.ports.items) }
@@ -115,6 +119,7 @@ impl Run {
         requires ready { IsReady p self.old }
         ensures run { OnOk result (IsRun plans.now self.new) }
         ensures same { OnOk result (IsSameOpening self.old self.new) }
+        ensures started { OnOk result (AreStarted self.new.ports.items) }
         ensures trace { OnOk result (GoesOnBy 1 p self.old self.new) }
         ensures done { OnOk result (StayDone plans.now self.old self.new) }
         ensures progress { OnOk result (left_at p plans.now self.new.ports.items < left_at p plans.now self.old.ports.items) }
@@ -132,10 +137,12 @@ impl Run {
         count: u32,
     ) -> Result<(), AllocError>
         requires run { IsRun plans.now self.old }
+        requires started { AreStarted self.old.ports.items }
         requires plans { ArePlans plans.now }
         requires port { p < length plans.now }
         ensures run { OnOk result (IsRun plans.now self.new) }
         ensures same { OnOk result (IsSameOpening self.old self.new) }
+        ensures started { OnOk result (AreStarted self.new.ports.items) }
         ensures turns { OnOk result (TurnsMade plans.now p (Some count) self.old self.new) }
     {
         for _ in 0..count {
@@ -149,10 +156,12 @@ impl Run {
     /// Turns of a port until it has no call left, however many.
     pub fn to_the_end(&mut self, p: usize, plans: &[Sequence<Call>]) -> Result<(), AllocError>
         requires run { IsRun plans.now self.old }
+        requires started { AreStarted self.old.ports.items }
         requires plans { ArePlans plans.now }
         requires port { p < length plans.now }
         ensures run { OnOk result (IsRun plans.now self.new) }
         ensures same { OnOk result (IsSameOpening self.old self.new) }
+        ensures started { OnOk result (AreStarted self.new.ports.items) }
         ensures turns { OnOk result (TurnsMade plans.now p None self.old self.new) }
     {
         while self.turn(p, plans)? {}

@@ -6,7 +6,7 @@ use Rattle.partial_replay.specs.Turns.{so_many, to_its_end, turns_of}
 use Rattle.partial_replay.proofs.TurnLaws.{followed, followed_next, followed_all, next_end}
 use Rattle.partial_model.specs.declared.call.Call.{Call}
 use Rattle.partial_replay.specs.declared.run.Run.{Run}
-use Rattle.partial_replay.specs.RunState.{IsRun, HasFollowed, TurnsMade, Tells}
+use Rattle.partial_replay.specs.RunState.{AreStarted, IsRun, HasFollowed, TurnsMade, Tells}
 use Rattle.partial_replay.specs.Replayed.{IsReplayOf}
 use Rattle.partial_replay.specs.RunState.{ArePlans}
 use Rattle.partial_replay.proofs.Plans.{are_plans}
@@ -29,8 +29,8 @@ returns c =
     let plans = c.ports-plans.result.now in
     let outcome = c.in_ok-into_outcome.field-0 in
     let is = c.ports-plans.ensures.value in
-    let told : (run : Run) → c.if-rest.run ≡ run → IsRun plans run → run.sizes ≡ p.sizes → run.opening.values ≡ p.initial → HasFollowed plans (turns_of p) run → IsReplayOf p outcome = λ run same w sizes values f.
-    replay_told p run outcome (subst (λ (l : List (List Call)). IsRun l run) is w) sizes values
+    let told : (run : Run) → c.if-rest.run ≡ run → IsRun plans run → AreStarted run.ports.items → run.sizes ≡ p.sizes → run.opening.values ≡ p.initial → HasFollowed plans (turns_of p) run → IsReplayOf p outcome = λ run same w started sizes values f.
+    replay_told p run outcome (subst (λ (l : List (List Call)). IsRun l run) is w) started sizes values
     (subst (λ (l : List (List Call)). HasFollowed l (turns_of p) run) is f)
     (subst (λ (l : List (List Call)). Tells l run outcome) is (subst (λ (v : Run). Tells plans v outcome) same c.in_ok-into_outcome.ensures)) in
     let steps : length c.steps-p-items.result.now ≡ length p.steps = ap length c.steps-p-items.ensures.value in
@@ -42,10 +42,10 @@ returns c =
           let f : HasFollowed plans (turns_of p) w.loop-p-then-rest.run =
           subst (λ (b : Bool). HasFollowed plans (map so_many p.steps ++ cond b (map to_its_end (range_with_len 0 (length p.ports))) []) w.loop-p-then-rest.run) w.if-rest.ensures.value
           (subst (λ n. HasFollowed plans (map so_many p.steps ++ map to_its_end (range_with_len 0 n)) w.loop-p-then-rest.run) all i.turns) in
-          told w.loop-p-then-rest.run w.run-is i.run i.sizes i.values f
+          told w.loop-p-then-rest.run w.run-is i.run i.started i.sizes i.values f
       | else-rest w ↦
           let i = c.loop-p.invariant in
-          told c.loop-p.run w.run-is i.run i.sizes i.values (subst (λ (b : Bool). HasFollowed plans (map so_many p.steps ++ cond b (map to_its_end (range_with_len 0 (length p.ports))) []) c.loop-p.run) w.if-rest.ensures.value front)
+          told c.loop-p.run w.run-is i.run i.started i.sizes i.values (subst (λ (b : Bool). HasFollowed plans (map so_many p.steps ++ cond b (map to_its_end (range_with_len 0 (length p.ports))) []) c.loop-p.run) w.if-rest.ensures.value front)
     ]
 
 pub loop-p-init : goal.loop-p-init
@@ -53,6 +53,7 @@ loop-p-init c =
     let run = c.in_ok-run.ensures in
     record {
       run = run.run;
+      started = run.started;
       sizes = run.opening.0 ∙ c.sizes.ensures.value;
       values = run.opening.1 ∙ c.initial.ensures.value;
       turns = ap ports_of run.trace;
@@ -69,6 +70,7 @@ loop-p-preserved c =
     subst (λ (l : List (ℕ × ℕ)). TurnsMade c.ports-plans.result.now (get_or l i (0, 0)).0 (Some (get_or l i (0, 0)).1) c.loop-p.run c.turns.new.self) is c.in_ok-turns.ensures.turns in
     record {
       run = c.in_ok-turns.ensures.run;
+      started = c.in_ok-turns.ensures.started;
       sizes = same.sizes ∙ old.sizes;
       values = ap (λ (o : Opening). o.values) same.opening ∙ old.values;
       turns = followed_next c.ports-plans.result.now c.args.plan.now.steps c.loop-p.p-index c.loop-p.run c.turns.new.self (omega (arith, c.loop-p-test.true, steps)) old.turns t;
@@ -78,7 +80,7 @@ pub loop-p-then-rest-init : goal.loop-p-then-rest-init
 loop-p-then-rest-init c =
     let old = c.loop-p.invariant in
     let steps : length c.steps-p-items.result.now ≡ length c.args.plan.now.steps = ap length c.steps-p-items.ensures.value in
-    record { run = old.run; sizes = old.sizes; values = old.values; turns = followed_all c.ports-plans.result.now c.args.plan.now.steps c.loop-p.p-index c.loop-p.run (omega (arith, c.loop-p-test.false, steps)) old.turns }
+    record { run = old.run; started = old.started; sizes = old.sizes; values = old.values; turns = followed_all c.ports-plans.result.now c.args.plan.now.steps c.loop-p.p-index c.loop-p.run (omega (arith, c.loop-p-test.false, steps)) old.turns }
 
 pub loop-p-then-rest-preserved : goal.loop-p-then-rest-preserved
 loop-p-then-rest-preserved c =
@@ -86,6 +88,7 @@ loop-p-then-rest-preserved c =
     let same = c.in_ok-to_the_end.ensures.same in
     record {
       run = c.in_ok-to_the_end.ensures.run;
+      started = c.in_ok-to_the_end.ensures.started;
       sizes = same.sizes ∙ old.sizes;
       values = ap (λ (o : Opening). o.values) same.opening ∙ old.values;
       turns = subst (λ (es : List (ℕ × Option ℕ)). HasFollowed c.ports-plans.result.now es c.to_the_end.new.self) (sym (next_end (map so_many c.args.plan.now.steps) c.loop-p-then-rest.p)) (followed c.ports-plans.result.now _ c.loop-p-then-rest.p None c.loop-p-then-rest.run c.to_the_end.new.self old.turns c.in_ok-to_the_end.ensures.turns);
