@@ -19,6 +19,7 @@ use Rattle.partial_replay.specs.RunState.{PortsFit, IsRunOf, FreshFrom, AreFresh
 use Rattle.std.specs.Option.{IsSome}
 use Rattle.std.proofs.lemmas.Bool.{false≢true}
 use Rattle.partial_model.specs.declared.history.Applied.{Applied}
+use Rattle.partial_replay.specs.Place.{HasLeastPlace}
 use Rattle.partial_replay.proofs.PortLaws.{get_below}
 use Rattle.partial_replay.specs.Trace.{Moment}
 use Rattle.partial_replay.specs.CallSteps.{AreStepsOf}
@@ -45,6 +46,7 @@ fresh_fits z o calls p port m number core finished none =
       written = ap (λ (d : List Called). places_written (notes_in d)) finished;
       made = subst (λ (d : List Called). map (λ (c : Called). c.call) d ≡ take (length d) calls) (sym finished) refl;
       few = let n : length port.finished.items ≡ 0 = ap length finished in omega (arith, n);
+      least = subst (AllByRecursion (HasLeastPlace o [])) (sym finished) tt;
       way = subst (λ (f : Option UnderWay). MatchOption f (IsBetween x port.core) (IsUnderWay 0 calls x port.core port.finished.items)) (sym none) (record { rest = refl; machine = core });
     }
 

@@ -20,6 +20,8 @@ use Rattle.partial_replay.proofs.PortSteps.{steps_begun, events_steps, none_mome
 use Rattle.partial_text.specs.declared.outcome.Outcome.{Outcome}
 use Rattle.partial_replay.specs.declared.port.Port.{Port}
 use Rattle.partial_replay.specs.declared.run.Run.{Run}
+use Rattle.std.specs.List.{AllByRecursion}
+use Rattle.partial_replay.specs.Place.{HasLeastPlace}
 use Rattle.partial_replay.specs.Trace.{entry_of, moments_by, ports_of, events_in}
 use Rattle.partial_replay.specs.Turns.{turns_of, turns_by, ports_in}
 use Rattle.partial_replay.specs.Listed.{calls_by, steps_by, AreFirstOf, AreAllMade, HaveMade}
@@ -27,7 +29,7 @@ use Rattle.partial_replay.specs.Replayed.{IsReplayOf}
 use Rattle.partial_replay.specs.RunState.{AreStarted, IsDone, HasFollowed, IsRun, IsRunOf, Tells, calls_in}
 use Rattle.partial_replay.proofs.PortLaws.{get_below}
 use Rattle.partial_replay.proofs.RunSteps.{port_in, ports_length}
-use Rattle.partial_replay.proofs.Told.{begun_by, run_legal, listed_at, none_listed, first_begun, all_made}
+use Rattle.partial_replay.proofs.Told.{begun_by, least_told, run_legal, listed_at, none_listed, first_begun, all_made}
 use Rattle.partial_replay.proofs.TurnLaws.{follows_ports, turns_told}
 use Rattle.partial_replay.proofs.Traces.{entries_told}
 
@@ -126,6 +128,9 @@ replay_told p run outcome w started sizes values f t =
       first = ap (λ (v : Opening). v.first) t.opening ∙ w.lawful.stamps ∙ ap pool_base sizes;
       legal = legal;
       agrees = agrees;
+      places = subst (λ (v : Opening). AllByRecursion (HasLeastPlace v outcome.history.items) outcome.calls.items) (sym t.opening)
+          (subst (λ (h : List Applied). AllByRecursion (HasLeastPlace o h) outcome.calls.items) (sym t.history)
+          (subst (AllByRecursion (HasLeastPlace o run.history.items)) (sym t.calls) (least_told o run.history.items 0 p.ports w.parts run.ports.items w.fit)));
       calls = λ q. subst (λ (l : List Called). AreFirstOf (get_or p.ports q []) (calls_by q l)) (sym t.calls) (calls_told p.ports z o run.words.items run.ports.items run.history.items run.trace.items w q);
       opened = w.opened;
       opens = subst (λ (l : Layout). AreOpeningWords l p.initial w.opened) sizes (subst (λ (l : List ℕ). AreOpeningWords z l w.opened) values w.opens);

@@ -28,7 +28,7 @@ use Rattle.partial_replay.specs.declared.port.Port.{Port}
 use Rattle.partial_replay.specs.declared.port.UnderWay.{UnderWay}
 use Rattle.partial_replay.specs.PortState.{KeepsMade, IsExchangeWithin, notes_in, IsUnderWay, IsBetween, PortFits, entry_at, one_step_more, ended_call, GoesOn, Ends, StepMade, MayStep, KeepsFit}
 use Rattle.partial_replay.specs.RunState.{AreStartedBut, PortsFit, IsRunOf, left_of, left_at}
-use Rattle.partial_replay.proofs.PortLaws.{finished_grows, get_below, get_is}
+use Rattle.partial_replay.proofs.PortLaws.{least_grow, finished_grows, get_below, get_is}
 use Rattle.partial_replay.proofs.RunLaws.{due_step, machine_port, leads_push, step_fits}
 use Rattle.partial_replay.proofs.PortSteps.{ports_step, ports_begin, log_long}
 use Rattle.std.specs.List.{AllByRecursion}
@@ -53,6 +53,7 @@ fits_grows o log es calls p x port w =
       written = w.written;
       made = w.made;
       few = w.few;
+      least = least_grow o log es p 0 0 port.finished.items w.finished w.least;
       way = way_grows log es calls x port.core port.finished.items port.under_way w.way;
     }
 

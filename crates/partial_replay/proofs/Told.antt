@@ -17,6 +17,7 @@ use Rattle.partial_words.specs.declared.step.Event.{Event}
 use Rattle.partial_core.specs.Lawful.{Part, port_of, notes_by}
 use Rattle.partial_replay.specs.declared.port.Port.{Port}
 use Rattle.partial_replay.specs.declared.port.UnderWay.{UnderWay}
+use Rattle.partial_replay.specs.Place.{HasLeastPlace}
 use Rattle.partial_replay.specs.Listed.{calls_by, AreFirstOf, AreAllMade}
 use Rattle.std.specs.Option.{IsSome}
 use Rattle.partial_replay.proofs.PortLaws.{take_next, same_eqb}
@@ -252,6 +253,26 @@ time_told o log q (c ∷ plans) (x ∷ parts) (t ∷ ports) b w begins =
     (λ d at number. begins d (omega (arith, at)) number)
     (λ d goes next. over_time n q c x t call t.under_way d tail w.0.number w.0.way (subst (λ (m : ℕ). GoesBehind d q m (ends_of 0 t.finished.items)) (omega arith) goes) next
     (λ e more. time_told o log (q + 1) plans parts ports e w.1 more)))
+
+AllByRecursion-append : {A : Type 0} (P : A → Type 0) (xs ys : List A) → AllByRecursion P xs → AllByRecursion P ys → AllByRecursion P (xs ++ ys)
+AllByRecursion-append P [] ys a b = b
+AllByRecursion-append P (x ∷ xs) ys a b = (a.0, AllByRecursion-append P xs ys a.1 b)
+
+-- what each call saw is the least prefix that shows it
+least_over : (o : Opening) (log : List Applied) (port : Port) (call : Option Call) (way : Option UnderWay) → AllByRecursion (HasLeastPlace o log) (left_over port call way)
+least_over o log port (Some call) (Some way) = (tt, tt)
+least_over o log port None way = tt
+least_over o log port (Some call) None = tt
+
+pub least_told : (o : Opening) (log : List Applied) (q : ℕ) (plans : List (List Call)) (parts : List Part) (ports : List Port) → PortsFit o log q plans parts ports → AllByRecursion (HasLeastPlace o log) (calls_in plans ports)
+least_told o log q [] [] [] w = tt
+least_told o log q [] [] (t ∷ ports) w = absurd w
+least_told o log q [] (x ∷ parts) ports w = absurd w
+least_told o log q (c ∷ plans) [] ports w = absurd w
+least_told o log q (c ∷ plans) (x ∷ parts) [] w = absurd w
+least_told o log q (c ∷ plans) (x ∷ parts) (t ∷ ports) w =
+    let over = left_over t (slice_get c (length t.finished.items)) t.under_way in
+    AllByRecursion-append (HasLeastPlace o log) (t.finished.items ++ over) (calls_in plans ports) (AllByRecursion-append (HasLeastPlace o log) t.finished.items over w.0.least (least_over o log t (slice_get c (length t.finished.items)) t.under_way)) (least_told o log (q + 1) plans parts ports w.1)
 
 -- the calls of a replay are a legal outcome of its history
 pub run_legal : (plans : List (List Call)) (z : Layout) (o : Opening) (words : List ℕ) (ports : List Port) (log : List Applied) (trace : List Event) → IsRunOf plans z o words ports log trace → LegalOutcome o log (calls_in plans ports)

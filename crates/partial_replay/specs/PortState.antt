@@ -25,7 +25,8 @@ use Rattle.partial_words.specs.Layout.{Layout}
 use Rattle.partial_core.specs.Machine.{fresh}
 use Rattle.partial_replay.specs.Trace.{Moment}
 use Rattle.partial_replay.specs.CallSteps.{stage_of, refusal_of, Makes, AreStepsOf}
-use Rattle.partial_replay.specs.Place.{IsNoteFrom}
+use Rattle.partial_replay.specs.Place.{IsNoteFrom, HasLeastPlace}
+use Rattle.std.specs.List.{AllByRecursion}
 use Rattle.partial_replay.specs.declared.port.Port.{Port}
 use Rattle.partial_replay.specs.declared.port.UnderWay.{UnderWay}
 
@@ -85,6 +86,8 @@ pub record PortFits (o : Opening) (log : List Applied) (calls : List Call) (p : 
   -- the finished calls are the first of the plan's
   pub made : map (λ c. c.call) port.finished.items ≡ take (length port.finished.items) calls
   pub few : length port.finished.items ≤ length calls
+  -- what they saw is the least prefix that shows it
+  pub least : AllByRecursion (HasLeastPlace o log) port.finished.items
   pub way : MatchOption port.under_way (IsBetween x port.core) (IsUnderWay (length log) calls x port.core port.finished.items)
 
 -- the entry of a won exchange, whose record stands in the words

@@ -8,6 +8,8 @@ use Rattle.partial_words.specs.Chain.{Agrees, AreOpeningWords}
 use Rattle.partial_core.specs.Machine.{CoreState, fresh}
 use Rattle.partial_text.specs.PlanText.{PlanView}
 use Rattle.partial_text.specs.declared.outcome.Outcome.{Outcome}
+use Rattle.std.specs.List.{AllByRecursion}
+use Rattle.partial_replay.specs.Place.{HasLeastPlace}
 use Rattle.partial_replay.specs.Trace.{entry_of, moments_by, ports_of}
 use Rattle.partial_replay.specs.CallSteps.{AreStepsOf}
 use Rattle.partial_replay.specs.Turns.{turns_of, turns_by, ports_in}
@@ -21,6 +23,8 @@ pub record IsReplayOf (p : PlanView) (outcome : Outcome) : Type 0 where
   -- the calls are a legal outcome of the history, and the words agree with it
   pub legal : LegalOutcome outcome.opening outcome.history.items outcome.calls.items
   pub agrees : Agrees outcome.opening outcome.words.items outcome.history.items
+  -- what a call saw is the least prefix from its begin on that shows its answer
+  pub places : AllByRecursion (HasLeastPlace outcome.opening outcome.history.items) outcome.calls.items
   -- the calls of each port are the first of the plan's, in order
   pub calls : (q : ℕ) → AreFirstOf (get_or p.ports q []) (calls_by q outcome.calls.items)
   -- the trace leads from the words at opening to the words
