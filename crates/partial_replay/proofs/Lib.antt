@@ -9,3 +9,4 @@ pub mod Opens
 pub mod Plans
 pub mod Told
 pub mod Replays
+pub mod Alone

@@ -39,7 +39,7 @@ at_place [] i = inr (omega arith)
 at_place (x ∷ xs) zero = inl (x, refl)
 at_place (x ∷ xs) (suc i) = elim (at_place xs i) [ inl found ↦ inl found | inr past ↦ inr (omega (arith, past)) ]
 
-past_get : {A : Type 0} (xs : List A) (i : ℕ) (d : A) → length xs ≤ i → get_or xs i d ≡ d
+pub past_get : {A : Type 0} (xs : List A) (i : ℕ) (d : A) → length xs ≤ i → get_or xs i d ≡ d
 past_get [] i d past = refl
 past_get (x ∷ xs) zero d past = absurd (omega (arith, past))
 past_get (x ∷ xs) (suc i) d past = past_get xs i d (omega (arith, past))

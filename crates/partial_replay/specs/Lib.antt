@@ -6,3 +6,4 @@ pub mod PortState
 pub mod RunState
 pub mod Listed
 pub mod Replayed
+pub mod Alone
