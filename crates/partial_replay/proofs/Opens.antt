@@ -24,7 +24,8 @@ use Rattle.partial_replay.proofs.PortLaws.{get_below}
 use Rattle.partial_replay.specs.Trace.{Moment}
 use Rattle.partial_replay.specs.CallSteps.{AreStepsOf}
 use Rattle.partial_replay.specs.PortState.{IsGoing}
-use Rattle.partial_replay.specs.RunState.{ArePortsMade, AreStarted}
+use Rattle.partial_replay.specs.RunState.{ArePortsMade, AreStarted, EndsInStep}
+use Rattle.partial_replay.specs.Listed.{EndInStep}
 
 -- one fresh port more
 pub fresh_push : (z : Layout) (p : ℕ) (ports : List Port) (port : Port) → FreshFrom z p ports → port.number ≡ p + length ports → port.core ≡ fresh z port.number → port.finished.items ≡ [] → port.under_way ≡ None → FreshFrom z p (ports ++ port ∷ [])
@@ -85,6 +86,9 @@ fresh_made plans z ports w q calls port c t =
 
 pub fresh_started : (z : Layout) (ports : List Port) → FreshFrom z 0 ports → AreStarted ports
 fresh_started z ports w q port way t is = let f = fresh_at z 0 q ports port w t in let bad : None ≡ Some way = sym f.2 ∙ is in cc
+
+pub fresh_ending : (z : Layout) (ports : List Port) → FreshFrom z 0 ports → (q : ℕ) → EndsInStep ports q
+fresh_ending z ports w q port t none = let f = fresh_at z 0 q ports port w t in subst EndInStep (sym f.1) tt
 
 -- a replay opens lawful
 pub opens_run : (plans : List (List Call)) (z : Layout) (o : Opening) (words : List ℕ) (ports : List Port) → IsLayout z → length o.values ≡ z.m → o.first ≡ pool_base z → AreOpeningWords z o.values words → length plans ≤ 64 → AreFreshPorts z (length plans) ports → IsRunOf plans z o words ports [] []

@@ -1,5 +1,5 @@
 -- What a replay has come to is an outcome of its plan.
-use Rattle.std.proofs.Common.{ℕ, zero, suc, ◌⊎◌, ◌≡◌, ◌+◌, ◌≤◌, List, [], ◌∷◌, length, get_or, Some, slice_get, refl, sym, ◌∙◌, ap, subst, inl, inr, arith}
+use Rattle.std.proofs.Common.{ℕ, false, zero, suc, ◌⊎◌, ◌≡◌, ◌+◌, ◌≤◌, List, [], ◌∷◌, length, get_or, Some, slice_get, refl, sym, ◌∙◌, ap, subst, inl, inr, arith}
 use Rattle.std.specs.List.{filter_map}
 use Rattle.std.proofs.lemmas.Option.{get_or_from_slice_get}
 use Rattle.partial_model.specs.declared.history.Applied.{Applied}
@@ -16,7 +16,7 @@ use Rattle.partial_text.specs.PlanText.{PlanView}
 use Rattle.partial_core.specs.Machine.{CoreState, fresh}
 use Rattle.partial_replay.specs.CallSteps.{AreStepsOf}
 use Rattle.partial_replay.specs.PortState.{PortFits}
-use Rattle.partial_replay.proofs.PortSteps.{steps_begun, events_steps, none_moments}
+use Rattle.partial_replay.proofs.PortSteps.{ending_begun, steps_begun, events_steps, none_moments}
 use Rattle.partial_text.specs.declared.outcome.Outcome.{Outcome}
 use Rattle.partial_replay.specs.declared.port.Port.{Port}
 use Rattle.partial_replay.specs.declared.run.Run.{Run}
@@ -24,9 +24,9 @@ use Rattle.std.specs.List.{AllByRecursion}
 use Rattle.partial_replay.specs.Place.{HasLeastPlace}
 use Rattle.partial_replay.specs.Trace.{entry_of, moments_by, ports_of, events_in}
 use Rattle.partial_replay.specs.Turns.{turns_of, turns_by, ports_in}
-use Rattle.partial_replay.specs.Listed.{calls_by, steps_by, AreFirstOf, AreAllMade, HaveMade}
+use Rattle.partial_replay.specs.Listed.{calls_by, steps_by, AreFirstOf, AreAllMade, EndInStep, HaveMade}
 use Rattle.partial_replay.specs.Replayed.{IsReplayOf}
-use Rattle.partial_replay.specs.RunState.{AreStarted, IsDone, HasFollowed, IsRun, IsRunOf, Tells, calls_in}
+use Rattle.partial_replay.specs.RunState.{AreStarted, EndsInStep, EndsInSteps, IsDone, HasFollowed, IsRun, IsRunOf, Tells, calls_in}
 use Rattle.partial_replay.proofs.PortLaws.{get_below}
 use Rattle.partial_replay.proofs.RunSteps.{port_in, ports_length}
 use Rattle.partial_replay.proofs.Told.{begun_by, least_told, run_legal, listed_at, none_listed, first_begun, all_made}
@@ -99,9 +99,22 @@ module _ (plans : List (List Call)) (z : Layout) (o : Opening) (words : List ℕ
         (fresh z q, subst (λ (l : List Called). AreStepsOf (fresh z q) l (moments_by z.m q trace) (fresh z q)) (sym none) (none_moments z.m q (length plans) trace past w.senders, refl))
   ]
 
+  -- what a port lists ends in a step, where it has begun no call since
+  pub ending_told : AreStarted ports → (q : ℕ) → EndsInStep ports q → EndInStep (calls_by q (calls_in plans ports))
+  ending_told started q ends = elim (at_place plans q) [
+    | inl found ↦
+        let calls = found.0 in
+        let port = port_at q calls found.1 in
+        let in' = port_in plans z o words ports log trace q calls (port.0) w found.1 port.1 in
+        let from : q ≡ 0 + q = omega arith in
+        let listed : calls_by q (calls_in plans ports) ≡ begun_by calls (port.0) = ap (λ n. calls_by n (calls_in plans ports)) from ∙ listed_at o log 0 q plans w.parts ports calls (port.0) w.fit found.1 port.1 in
+        subst EndInStep (sym listed) (ending_begun o log (0 + q) (in'.0) ports q calls (port.0) in'.1 port.1 ends (λ v way. started q (port.0) v port.1 way))
+    | inr past ↦ subst EndInStep (sym (none_listed o log q 0 plans w.parts ports (inr (omega (arith, past))) w.fit)) tt
+  ]
+
 -- a run that has come to its end tells an outcome of its plan
-pub replay_told : (p : PlanView) (run : Run) (outcome : Outcome) → IsRun p.ports run → AreStarted run.ports.items → run.sizes ≡ p.sizes → run.opening.values ≡ p.initial → HasFollowed p.ports (turns_of p) run → Tells p.ports run outcome → IsReplayOf p outcome
-replay_told p run outcome w started sizes values f t =
+pub replay_told : (p : PlanView) (run : Run) (outcome : Outcome) → IsRun p.ports run → AreStarted run.ports.items → run.sizes ≡ p.sizes → run.opening.values ≡ p.initial → HasFollowed p.ports (turns_of p) run → (p.rest ≡ false → EndsInSteps p.steps run) → Tells p.ports run outcome → IsReplayOf p outcome
+replay_told p run outcome w started sizes values f ends t =
     let z = run.sizes in
     let o = run.opening in
     let legal : LegalOutcome outcome.opening outcome.history.items outcome.calls.items =
@@ -117,10 +130,13 @@ replay_told p run outcome w started sizes values f t =
     let ports = ports_of run.trace.items in
     let events = events_told p.ports z o run.words.items run.ports.items run.history.items run.trace.items w started in
     let steps : (q : ℕ) → steps_by q calls ≡ events_in q ports = λ q. events_steps (fresh z q) (events q).0 z.m q run.trace.items (calls_by q calls) (events q).1 in
-    let made : (q : ℕ) → HaveMade p.rest (turns_by q p.steps) (steps_by q calls) (AreAllMade (get_or p.ports q []) (calls_by q calls)) = λ q.
-    subst (λ n. HaveMade p.rest (turns_by q p.steps) n (AreAllMade (get_or p.ports q []) (calls_by q calls))) (sym (steps q)) (turns_told D p ports q (AreAllMade (get_or p.ports q []) (calls_by q calls))
+    let ending : (q : ℕ) → p.rest ≡ false → events_in q ports ≡ turns_by q p.steps → EndInStep (calls_by q calls) = λ q no same.
+    ending_told p.ports z o run.words.items run.ports.items run.history.items run.trace.items w started q (ends no q same) in
+    let made : (q : ℕ) → HaveMade p.rest (turns_by q p.steps) (steps_by q calls) (get_or p.ports q []) (calls_by q calls) = λ q.
+    subst (λ n. HaveMade p.rest (turns_by q p.steps) n (get_or p.ports q []) (calls_by q calls)) (sym (steps q))
+    (turns_told D p ports q (calls_by q calls)
     (done_told p.ports z o run.words.items run.ports.items run.history.items run.trace.items w q)
-    (past_told p.ports z o run.words.items run.ports.items run.history.items run.trace.items w q) f) in
+    (past_told p.ports z o run.words.items run.ports.items run.history.items run.trace.items w q) (ending q) f) in
     let turns : ports ≡ ports_in (turns_of p) (λ q. steps_by q calls) = follows_ports D (turns_of p) ports (λ q. steps_by q calls) steps f in
     let entries = entries_told z.m o run.words.items run.trace.items run.history.items w.lawful.history w.lawful.agrees w.entries in
     record {
@@ -141,5 +157,5 @@ replay_told p run outcome w started sizes values f t =
           (subst (λ (es : List Event). (last : CoreState) × AreStepsOf (fresh z q) (calls_by q outcome.calls.items) (moments_by z.m q es) last) (sym t.trace)
           (subst (λ (l : List Called). (last : CoreState) × AreStepsOf (fresh z q) (calls_by q l) (moments_by z.m q run.trace.items) last) (sym t.calls) (events q)));
       turns = ap ports_of t.trace ∙ turns ∙ ap (λ (l : List Called). ports_in (turns_of p) (λ q. steps_by q l)) (sym t.calls);
-      made = λ q. subst (λ (l : List Called). HaveMade p.rest (turns_by q p.steps) (steps_by q l) (AreAllMade (get_or p.ports q []) (calls_by q l))) (sym t.calls) (made q);
+      made = λ q. subst (λ (l : List Called). HaveMade p.rest (turns_by q p.steps) (steps_by q l) (get_or p.ports q []) (calls_by q l)) (sym t.calls) (made q);
     }

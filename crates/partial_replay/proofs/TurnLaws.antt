@@ -2,11 +2,12 @@
 use Rattle.std.proofs.Common.{ℕ, zero, suc, ◌≡◌, ◌≢◌, ◌+◌, ◌-◌, ◌<◌, ◌≤◌, ◌==◌, ◌++◌, Bool, true, false, cond, List, [], ◌∷◌, length, get_or, map, take, replicate, set, Option, Some, None, slice_get, refl, sym, ◌∙◌, ap, subst, inl, inr, arith, append_assoc}
 use Rattle.std.specs.List.{filter, range_with_len}
 use Rattle.std.proofs.lemmas.List.Elements.{filter-append}
-use Rattle.std.proofs.lemmas.List.Sums.{sum_by-cons}
+use Rattle.std.proofs.lemmas.List.Sums.{sum_by-cons, sum_by-append}
 use Rattle.std.proofs.Common.{length-append, MatchOption}
 use Rattle.partial_replay.specs.Turns.{so_many, to_its_end, made_in, ports_in, turns_by, turns_of}
 use Rattle.partial_text.specs.PlanText.{PlanView}
-use Rattle.partial_replay.specs.Listed.{HaveMade}
+use Rattle.partial_replay.specs.Listed.{AreAllMade, EndInStep, HaveMade}
+use Rattle.partial_model.specs.declared.call.Called.{Called}
 use Rattle.std.proofs.lemmas.List.{append-nil, map_push, length-replicate, replicate-append-replicate}
 use Rattle.std.proofs.lemmas.Bool.{ne_eqb, cases_lt}
 use Rattle.std.proofs.lemmas.Bool.Decides.{eqb_tells}
@@ -19,7 +20,7 @@ use Rattle.partial_replay.specs.declared.port.Port.{Port}
 use Rattle.partial_replay.specs.declared.run.Run.{Run}
 use Rattle.partial_replay.specs.Trace.{ports_of}
 use Rattle.partial_replay.specs.Trace.{events_in}
-use Rattle.partial_replay.specs.RunState.{IsDone, IsReady, StayDone, GoesOnBy, TurnMade, StepsMade, TurnsMade, HasTurns, Follows, HasFollowed}
+use Rattle.partial_replay.specs.RunState.{IsDone, IsReady, StayDone, GoesOnBy, TurnMade, StepsMade, TurnsMade, StaysEnding, StaysEndingBut, StaysEndingWith, EndsInStep, EndsInSteps, HasTurns, Follows, HasFollowed}
 use Rattle.partial_replay.proofs.PortLaws.{get_set, get_set_other, take_next, get_is, same_eqb}
 
 -- a port in another state: the ports that have made all their calls have still made them where this one has
@@ -55,12 +56,12 @@ by_more : (p n k : ℕ) (old mid new : Run) → GoesOnBy n p old mid → GoesOnB
 by_more p n k old mid new a b =
     b ∙ ap (λ (l : List ℕ). l ++ replicate k p) a ∙ append_assoc (ports_of old.trace.items) (replicate n p) (replicate k p) ∙ ap (λ (l : List ℕ). ports_of old.trace.items ++ l) (replicate-append-replicate n k p)
 
-pub turn_done : (plans : List (List Call)) (p : ℕ) (old new : Run) → GoesOnBy 0 p old new → StayDone plans old new → IsDone plans new.ports.items p → TurnMade plans p old false new
-turn_done plans p old new trace kept done = record { trace = trace; done = done; kept = kept }
+pub turn_done : (plans : List (List Call)) (p : ℕ) (old new : Run) → GoesOnBy 0 p old new → StayDone plans old new → IsDone plans new.ports.items p → StaysEndingBut p old new → TurnMade plans p old false new
+turn_done plans p old new trace kept done ending = record { trace = trace; done = done; kept = kept; ending = ending }
 
-pub turn_stepped : (plans : List (List Call)) (p : ℕ) (old mid new : Run) → GoesOnBy 0 p old mid → StayDone plans old mid → IsReady p mid → GoesOnBy 1 p mid new → StayDone plans mid new → TurnMade plans p old true new
-turn_stepped plans p old mid new trace kept ready trace' kept' =
-    record { trace = by_more p 0 1 old mid new trace trace'; done = λ d. ready_done plans p mid ready (kept p d); kept = λ q d. kept' q (kept q d) }
+pub turn_stepped : (plans : List (List Call)) (p : ℕ) (old mid new : Run) → GoesOnBy 0 p old mid → StayDone plans old mid → IsReady p mid → GoesOnBy 1 p mid new → StayDone plans mid new → StaysEndingBut p old mid → StaysEndingWith p mid new → TurnMade plans p old true new
+turn_stepped plans p old mid new trace kept ready trace' kept' but with' =
+    record { trace = by_more p 0 1 old mid new trace trace'; done = λ d. ready_done plans p mid ready (kept p d); kept = λ q d. kept' q (kept q d); ending = λ q e. with' q (λ other. but q other e) }
 
 pub no_steps : (plans : List (List Call)) (p : ℕ) (run : Run) → StepsMade plans p 0 run run
 no_steps plans p run = record { trace = sym (append-nil (ports_of run.trace.items)); none = λ d. refl; kept = λ q d. d }
@@ -106,6 +107,25 @@ pub followed : (plans : List (List Call)) (es : List (ℕ × Option ℕ)) (p : �
 followed plans es p k old new f t =
     subst (Follows (IsDone plans new.ports.items) (es ++ (p, k) ∷ [])) (sym t.1.trace)
     (follows_push (IsDone plans old.ports.items) (IsDone plans new.ports.items) es (ports_of old.trace.items) p (t.0) k t.1.kept t.1.none (last_turns (IsDone plans new.ports.items) p (t.0) k t.2) f)
+
+-- the turns of an entry that are all made in steps leave no call begun
+pub ending_turns : (plans : List (List Call)) (p n : ℕ) (old mid new : Run) → StaysEnding old mid → TurnMade plans p mid true new → StaysEnding old new
+ending_turns plans p n old mid new s t q e = t.ending q (s q e)
+
+pub ending_last : (plans : List (List Call)) (p n : ℕ) (turns : Option ℕ) (old mid new : Run) → StaysEnding old mid → TurnMade plans p mid false new → (turns ≡ Some n → ⊥) → (q : ℕ) → (q ≡ p → turns ≡ Some n) → EndsInStep old.ports.items q → EndsInStep new.ports.items q
+ending_last plans p n turns old mid new s t fewer q all e = t.ending q (λ same. fewer (all same)) (s q e)
+
+-- one more entry, of the plan's
+turns_push : (q i : ℕ) (steps : List (ℕ × ℕ)) (e : ℕ × ℕ) → slice_get steps i ≡ Some e → turns_by q (take (i + 1) steps) ≡ turns_by q (take i steps) + cond (e.0 == q) e.1 0
+turns_push q i steps e s =
+    let last = sum_by-cons (λ (d : ℕ × ℕ). cond (d.0 == q) d.1 0) e [] in
+    let both = sum_by-append (λ (d : ℕ × ℕ). cond (d.0 == q) d.1 0) (take i steps) (e ∷ []) in
+    let next : turns_by q (take (i + 1) steps) ≡ turns_by q (take i steps ++ e ∷ []) = ap (turns_by q) (take_next steps i e s) in
+    let none : turns_by q [] ≡ 0 = refl in
+    omega (arith, last, both, next, none)
+
+events_push : (q n p : ℕ) (ports : List ℕ) → events_in q (ports ++ replicate n p) ≡ events_in q ports + events_in q (replicate n p)
+events_push q n p ports = ap length (filter-append (λ r. r == q) ports (replicate n p)) ∙ length-append (filter (λ r. r == q) ports) (filter (λ r. r == q) (replicate n p))
 
 pub range_push : (a n : ℕ) → range_with_len a (n + 1) ≡ range_with_len a n ++ (a + n) ∷ []
 range_push a zero = let same : a ≡ a + 0 = omega arith in ap (λ k. k ∷ []) same
@@ -217,15 +237,39 @@ pub rest_done : (D : ℕ → Type 0) (es : List (ℕ × Option ℕ)) (n q : ℕ)
 rest_done D [] n q ports below f = ends_done D 0 n q ports (omega arith) (omega (arith, below)) f
 rest_done D (e ∷ es) n q ports below f = rest_done D es n q (f.1) below f.4
 
+pub ending_next : (plans : List (List Call)) (steps : List (ℕ × ℕ)) (i : ℕ) (old new : Run) → i < length steps → HasFollowed plans (map so_many (take i steps)) old → EndsInSteps (take i steps) old → TurnsMade plans (get_or steps i (0, 0)).0 (Some (get_or steps i (0, 0)).1) old new → EndsInSteps (take (i + 1) steps) new
+ending_next plans steps i old new below f ends t q same =
+    let e = get_or steps i (0, 0) in
+    let p = e.0 in
+    let n = t.0 in
+    let ports = ports_of old.trace.items in
+    let turns = turns_push q i steps e (get_is steps i (0, 0) below) in
+    let events : events_in q (ports_of new.trace.items) ≡ events_in q ports + events_in q (replicate n p) = ap (events_in q) t.1.trace ∙ events_push q n p ports in
+    let within = (within_turns (IsDone plans old.ports.items) q (take i steps) ports f).within in
+    let few = t.2.0 in
+    elim (eqb_tells p q) [
+      | inl is ↦
+          let own : events_in q (replicate n p) ≡ n = ap (λ r. events_in r (replicate n p)) (sym is.1) ∙ ap length (own_events n p) ∙ length-replicate n p in
+          let more : cond (p == q) e.1 0 ≡ e.1 = ap (λ (b : Bool). cond b e.1 0) is.0 in
+          let before : events_in q ports ≡ turns_by q (take i steps) = omega (arith, turns, events, within, few, own, more, same) in
+          let all : e.1 ≡ n = omega (arith, turns, events, within, few, own, more, same) in
+          t.3 q (λ h. ap Some all) (ends q before)
+      | inr other ↦
+          let none : events_in q (replicate n p) ≡ 0 = ap length (other_events q n p (λ h. absurd (other.1 (sym h)))) in
+          let more : cond (p == q) e.1 0 ≡ 0 = ap (λ (b : Bool). cond b e.1 0) other.0 in
+          let before : events_in q ports ≡ turns_by q (take i steps) = omega (arith, turns, events, none, more, same) in
+          t.3 q (λ h. absurd (other.1 (sym h))) (ends q before)
+    ]
+
 -- what the turns make of each port
-pub turns_told : (D : ℕ → Type 0) (p : PlanView) (ports : List ℕ) (q : ℕ) (P : Type 0) → (D q → P) → (length p.ports ≤ q → P) → Follows D (turns_of p) ports → HaveMade p.rest (turns_by q p.steps) (events_in q ports) P
-turns_told D p ports q P done past f = at p.rest refl f
+pub turns_told : (D : ℕ → Type 0) (p : PlanView) (ports : List ℕ) (q : ℕ) (calls : List Called) → (D q → AreAllMade (get_or p.ports q []) calls) → (length p.ports ≤ q → AreAllMade (get_or p.ports q []) calls) → (p.rest ≡ false → events_in q ports ≡ turns_by q p.steps → EndInStep calls) → Follows D (turns_of p) ports → HaveMade p.rest (turns_by q p.steps) (events_in q ports) (get_or p.ports q []) calls
+turns_told D p ports q calls done past ends f = at p.rest refl f
   where
-    at : (rest : Bool) → p.rest ≡ rest → Follows D (map so_many p.steps ++ cond rest (map to_its_end (range_with_len 0 (length p.ports))) []) ports → HaveMade rest (turns_by q p.steps) (events_in q ports) P
+    at : (rest : Bool) → p.rest ≡ rest → Follows D (map so_many p.steps ++ cond rest (map to_its_end (range_with_len 0 (length p.ports))) []) ports → HaveMade rest (turns_by q p.steps) (events_in q ports) (get_or p.ports q []) calls
     at true is g = elim (cases_lt q (length p.ports)) [
       | inl below ↦ done (rest_done D (map so_many p.steps) (length p.ports) q ports below g)
       | inr beyond ↦ past beyond
     ]
     at false is g =
         let w = within_turns D q p.steps ports (subst (λ (es : List (ℕ × Option ℕ)). Follows D es ports) (append-nil (map so_many p.steps)) g) in
-        (w.within, λ less. done (w.done less))
+        (w.within, ends is, λ less. done (w.done less))

@@ -1,5 +1,5 @@
 -- The calls that a replay lists, port by port.
-use Rattle.std.specs.Prelude.{ℕ, ◌≡◌, ◌<◌, ◌≤◌, ◌==◌, Bool, true, false, List, length, map, take, filter, sum_by, IsSome}
+use Rattle.std.specs.Prelude.{ℕ, ◌≡◌, ◌<◌, ◌≤◌, ◌==◌, ⊤, [], ◌∷◌, Bool, true, false, List, length, map, take, filter, sum_by, IsSome}
 use Rattle.std.specs.List.{AllByRecursion}
 use Rattle.partial_model.specs.declared.call.Call.{Call}
 use Rattle.partial_model.specs.declared.call.Called.{Called}
@@ -20,7 +20,14 @@ AreFirstOf plan calls = map (λ c. c.call) calls ≡ take (length calls) plan
 abbrev pub AreAllMade : List Call → List Called → Type 0
 AreAllMade plan calls = (length calls ≡ length plan) × AllByRecursion (λ c. IsSome c.finish) calls
 
--- With the rest P holds. Without it so many turns make as many steps, or fewer, and then P holds.
-abbrev pub HaveMade : Bool → ℕ → ℕ → Type 0 → Type 0
-HaveMade true turns steps P = P
-HaveMade false turns steps P = (steps ≤ turns) × (steps < turns → P)
+-- the last of them has made a step
+abbrev pub EndInStep : List Called → Type 0
+EndInStep [] = ⊤
+EndInStep (c ∷ []) = 0 < c.steps
+EndInStep (c ∷ d ∷ cs) = EndInStep (d ∷ cs)
+
+-- With the rest all calls are made. Without it so many turns make as many steps, and then no call is begun
+-- behind the last step; or they make fewer, and then all calls are made.
+abbrev pub HaveMade : Bool → ℕ → ℕ → List Call → List Called → Type 0
+HaveMade true turns steps plan calls = AreAllMade plan calls
+HaveMade false turns steps plan calls = (steps ≤ turns) × (steps ≡ turns → EndInStep calls) × (steps < turns → AreAllMade plan calls)

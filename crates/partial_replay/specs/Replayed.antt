@@ -13,7 +13,7 @@ use Rattle.partial_replay.specs.Place.{HasLeastPlace}
 use Rattle.partial_replay.specs.Trace.{entry_of, moments_by, ports_of}
 use Rattle.partial_replay.specs.CallSteps.{AreStepsOf}
 use Rattle.partial_replay.specs.Turns.{turns_of, turns_by, ports_in}
-use Rattle.partial_replay.specs.Listed.{calls_by, steps_by, AreFirstOf, AreAllMade, HaveMade}
+use Rattle.partial_replay.specs.Listed.{calls_by, steps_by, AreFirstOf, HaveMade}
 
 -- the outcome of a replay of the plan
 pub record IsReplayOf (p : PlanView) (outcome : Outcome) : Type 0 where
@@ -39,4 +39,4 @@ pub record IsReplayOf (p : PlanView) (outcome : Outcome) : Type 0 where
   -- the trace's events are of the plan's turns in order, of each port the first ones, as many as its calls have steps
   pub turns : ports_of outcome.trace.items ≡ ports_in (turns_of p) (λ q. steps_by q outcome.calls.items)
   -- each port makes a step in each of its turns until all its calls are made, and with the rest all are
-  pub made : (q : ℕ) → HaveMade p.rest (turns_by q p.steps) (steps_by q outcome.calls.items) (AreAllMade (get_or p.ports q []) (calls_by q outcome.calls.items))
+  pub made : (q : ℕ) → HaveMade p.rest (turns_by q p.steps) (steps_by q outcome.calls.items) (get_or p.ports q []) (calls_by q outcome.calls.items)

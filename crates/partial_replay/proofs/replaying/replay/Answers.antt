@@ -1,12 +1,14 @@
-use Rattle.std.proofs.Common.{ℕ, ◌≡◌, ◌++◌, ◌∙◌, Bool, cond, List, [], length, get_or, Option, Some, None, map, ap, subst, sym, arith}
+use Rattle.std.proofs.Common.{ℕ, ◌≡◌, ◌++◌, ◌∙◌, Bool, false, cond, List, [], length, get_or, Option, Some, None, map, ap, subst, sym, arith}
 use Rattle.std.specs.List.{range_with_len}
+use Rattle.std.proofs.lemmas.List.{take_all}
+use Rattle.std.proofs.lemmas.Bool.{false≢true}
 use Rattle.partial_model.specs.declared.history.Opening.{Opening}
 use Rattle.partial_replay.specs.Trace.{ports_of}
 use Rattle.partial_replay.specs.Turns.{so_many, to_its_end, turns_of}
-use Rattle.partial_replay.proofs.TurnLaws.{followed, followed_next, followed_all, next_end}
+use Rattle.partial_replay.proofs.TurnLaws.{followed, followed_next, followed_all, next_end, ending_next}
 use Rattle.partial_model.specs.declared.call.Call.{Call}
 use Rattle.partial_replay.specs.declared.run.Run.{Run}
-use Rattle.partial_replay.specs.RunState.{AreStarted, IsRun, HasFollowed, TurnsMade, Tells}
+use Rattle.partial_replay.specs.RunState.{AreStarted, EndsInSteps, IsRun, HasFollowed, TurnsMade, Tells}
 use Rattle.partial_replay.specs.Replayed.{IsReplayOf}
 use Rattle.partial_replay.specs.RunState.{ArePlans}
 use Rattle.partial_replay.proofs.Plans.{are_plans}
@@ -29,9 +31,9 @@ returns c =
     let plans = c.ports-plans.result.now in
     let outcome = c.in_ok-into_outcome.field-0 in
     let is = c.ports-plans.ensures.value in
-    let told : (run : Run) → c.if-rest.run ≡ run → IsRun plans run → AreStarted run.ports.items → run.sizes ≡ p.sizes → run.opening.values ≡ p.initial → HasFollowed plans (turns_of p) run → IsReplayOf p outcome = λ run same w started sizes values f.
+    let told : (run : Run) → c.if-rest.run ≡ run → IsRun plans run → AreStarted run.ports.items → run.sizes ≡ p.sizes → run.opening.values ≡ p.initial → HasFollowed plans (turns_of p) run → (p.rest ≡ false → EndsInSteps p.steps run) → IsReplayOf p outcome = λ run same w started sizes values f ends.
     replay_told p run outcome (subst (λ (l : List (List Call)). IsRun l run) is w) started sizes values
-    (subst (λ (l : List (List Call)). HasFollowed l (turns_of p) run) is f)
+    (subst (λ (l : List (List Call)). HasFollowed l (turns_of p) run) is f) ends
     (subst (λ (l : List (List Call)). Tells l run outcome) is (subst (λ (v : Run). Tells plans v outcome) same c.in_ok-into_outcome.ensures)) in
     let steps : length c.steps-p-items.result.now ≡ length p.steps = ap length c.steps-p-items.ensures.value in
     let front = followed_all plans p.steps c.loop-p.p-index c.loop-p.run (omega (arith, c.loop-p-test.false, steps)) c.loop-p.invariant.turns in
@@ -42,10 +44,10 @@ returns c =
           let f : HasFollowed plans (turns_of p) w.loop-p-then-rest.run =
           subst (λ (b : Bool). HasFollowed plans (map so_many p.steps ++ cond b (map to_its_end (range_with_len 0 (length p.ports))) []) w.loop-p-then-rest.run) w.if-rest.ensures.value
           (subst (λ n. HasFollowed plans (map so_many p.steps ++ map to_its_end (range_with_len 0 n)) w.loop-p-then-rest.run) all i.turns) in
-          told w.loop-p-then-rest.run w.run-is i.run i.started i.sizes i.values f
+          told w.loop-p-then-rest.run w.run-is i.run i.started i.sizes i.values f (λ no. absurd (false≢true (sym no ∙ sym w.if-rest.ensures.value)))
       | else-rest w ↦
           let i = c.loop-p.invariant in
-          told c.loop-p.run w.run-is i.run i.started i.sizes i.values (subst (λ (b : Bool). HasFollowed plans (map so_many p.steps ++ cond b (map to_its_end (range_with_len 0 (length p.ports))) []) c.loop-p.run) w.if-rest.ensures.value front)
+          told c.loop-p.run w.run-is i.run i.started i.sizes i.values (subst (λ (b : Bool). HasFollowed plans (map so_many p.steps ++ cond b (map to_its_end (range_with_len 0 (length p.ports))) []) c.loop-p.run) w.if-rest.ensures.value front) (λ no. subst (λ (l : List (ℕ × ℕ)). EndsInSteps l c.loop-p.run) (take_all c.loop-p.p-index p.steps (omega (arith, c.loop-p-test.false, steps))) i.ending)
     ]
 
 pub loop-p-init : goal.loop-p-init
@@ -57,6 +59,7 @@ loop-p-init c =
       sizes = run.opening.0 ∙ c.sizes.ensures.value;
       values = run.opening.1 ∙ c.initial.ensures.value;
       turns = ap ports_of run.trace;
+      ending = run.ending;
     }
 
 pub loop-p-preserved : goal.loop-p-preserved
@@ -74,6 +77,7 @@ loop-p-preserved c =
       sizes = same.sizes ∙ old.sizes;
       values = ap (λ (o : Opening). o.values) same.opening ∙ old.values;
       turns = followed_next c.ports-plans.result.now c.args.plan.now.steps c.loop-p.p-index c.loop-p.run c.turns.new.self (omega (arith, c.loop-p-test.true, steps)) old.turns t;
+      ending = ending_next c.ports-plans.result.now c.args.plan.now.steps c.loop-p.p-index c.loop-p.run c.turns.new.self (omega (arith, c.loop-p-test.true, steps)) old.turns old.ending t;
     }
 
 pub loop-p-then-rest-init : goal.loop-p-then-rest-init

@@ -1,7 +1,7 @@
 use Rattle.std.proofs.Common.{◌≡◌, ◌++◌, map, take}
 use Rattle.std.specs.List.{range_with_len}
 use Rattle.partial_replay.specs.Turns.{so_many, to_its_end}
-use Rattle.partial_replay.specs.RunState.{AreStarted, IsRun, HasFollowed}
+use Rattle.partial_replay.specs.RunState.{AreStarted, EndsInSteps, IsRun, HasFollowed}
 use Rattle.partial_replay.proofs.replaying.replay.Given as goal
 
 -- the state stays lawful, is of the plan's sizes and values, and has followed the turns so far
@@ -12,6 +12,7 @@ invariant-loop-p l = record {
   sizes : l.run.sizes ≡ l.plan.sizes;
   values : l.run.opening.values ≡ l.plan.initial;
   turns : HasFollowed l.plans (map so_many (take l.p-index l.plan.steps)) l.run;
+  ending : EndsInSteps (take l.p-index l.plan.steps) l.run;
 }
 
 abbrev pub invariant-loop-p-then-rest : goal.invariant-loop-p-then-rest

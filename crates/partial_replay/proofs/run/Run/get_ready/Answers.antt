@@ -3,7 +3,7 @@ use Rattle.partial_model.specs.declared.call.Call.{Call}
 use Rattle.partial_replay.specs.PortState.{KeepsFit, KeepsMade}
 use Rattle.partial_replay.proofs.RunSteps.{begin_keeps, ports_length, got, none_of, some_of, is_some_of, match_bool, begun_done, port_in, idle_between, left_is, left_ready}
 use Rattle.partial_replay.proofs.PortLaws.{get_set}
-use Rattle.partial_replay.proofs.PortSteps.{started_but, started_idle}
+use Rattle.partial_replay.proofs.PortSteps.{ending_but, started_but, started_idle}
 use Rattle.partial_replay.proofs.TurnLaws.{done_set}
 use Rattle.partial_replay.proofs.run.Run.get_ready.Goals as goal
 
@@ -103,3 +103,9 @@ returns-clause-left c =
     let now = left_is c.args.plans.now _ c.args.p calls new plan (get_set ports c.args.p port new here) in
     let old = left_is c.args.plans.now ports c.args.p calls port plan here in
     omega (arith, less, now, old)
+
+pub returns-then-is_some-clause-ending : goal.returns-then-is_some-clause-ending
+returns-then-is_some-clause-ending c q other ends = ending_but c.args.self.now.ports.items c.args.p c.index_mut-port.result.now q other ends
+
+pub returns-clause-ending : goal.returns-clause-ending
+returns-clause-ending c q other ends = ending_but c.args.self.now.ports.items c.args.p c.begin_next.new.self q other ends

@@ -6,7 +6,7 @@ use Rattle.partial_replay.specs.PortState.{MayStep, StepMade}
 use Rattle.partial_replay.specs.RunState.{IsRunOf}
 use Rattle.partial_replay.proofs.RunSteps.{may_step, step_keeps, ports_length, got, left_is, left_falls, port_in}
 use Rattle.partial_replay.proofs.PortLaws.{get_set}
-use Rattle.partial_replay.proofs.PortSteps.{started_set, step_started}
+use Rattle.partial_replay.proofs.PortSteps.{ending_with, started_set, step_ending, step_started}
 use Rattle.partial_replay.proofs.TurnLaws.{done_set, by_step, stepped_done}
 use Rattle.partial_replay.proofs.run.Run.make_step.Goals as goal
 
@@ -99,3 +99,14 @@ returns-clause-started c =
     let many = ports_length opened.opening opened.history.items 0 c.args.plans.now run.parts ports run.fit in
     let here : slice_get ports c.args.p ≡ Some port = got ports c.args.p port (omega (arith, many, c.requires.port)) c.index_mut-port.ensures.value in
     on_ok_weaker c.make_step.result (λ m. started_set ports c.args.p port c.make_step.new.self here c.requires.ready.4 (step_started calls _ _ _ _ _ _ port c.make_step.new.self m)) c.make_step.ensures
+
+pub returns-clause-ending : goal.returns-clause-ending
+returns-clause-ending c =
+    let run = c.requires.run in
+    let ports = c.args.self.now.ports.items in
+    let port = c.index_mut-port.result.now in
+    let calls = c.as_slice-calls.result.now in
+    let opened = c.args.self.now in
+    let many = ports_length opened.opening opened.history.items 0 c.args.plans.now run.parts ports run.fit in
+    let here : slice_get ports c.args.p ≡ Some port = got ports c.args.p port (omega (arith, many, c.requires.port)) c.index_mut-port.ensures.value in
+    on_ok_weaker c.make_step.result (λ m. ending_with ports c.args.p port c.make_step.new.self here (step_ending calls _ _ _ _ _ _ port c.make_step.new.self m)) c.make_step.ensures

@@ -4,7 +4,7 @@ use Rattle.partial_model.specs.declared.history.Opening.{Opening}
 use Rattle.partial_words.specs.declared.step.Event.{Event}
 use Rattle.partial_words.specs.Chain.{AreOpeningWords}
 use Rattle.partial_replay.specs.RunState.{IsRunOf}
-use Rattle.partial_replay.proofs.Opens.{opens_run, fresh_started}
+use Rattle.partial_replay.proofs.Opens.{opens_run, fresh_started, fresh_ending}
 use Rattle.partial_replay.proofs.run.Run.open.Goals as goal
 
 pub returns-clause-run : goal.returns-clause-run
@@ -19,3 +19,6 @@ returns-clause-run c =
 
 pub returns-clause-started : goal.returns-clause-started
 returns-clause-started c = fresh_started c.args.sizes c.in_ok-fresh_ports.field-0.items c.in_ok-fresh_ports.ensures.1
+
+pub returns-clause-ending : goal.returns-clause-ending
+returns-clause-ending c = λ q none. fresh_ending c.args.sizes c.in_ok-fresh_ports.field-0.items c.in_ok-fresh_ports.ensures.1 q

@@ -1,6 +1,6 @@
-use Rattle.std.proofs.Common.{Bool, ◌∙◌, subst, arith}
+use Rattle.std.proofs.Common.{◌≡◌, Some, Bool, ◌∙◌, subst, arith}
 use Rattle.partial_replay.specs.RunState.{TurnMade}
-use Rattle.partial_replay.proofs.TurnLaws.{step_more, steps_end}
+use Rattle.partial_replay.proofs.TurnLaws.{step_more, steps_end, ending_turns, ending_last}
 use Rattle.partial_replay.proofs.run.Run.turns.Goals as goal
 
 pub loop-preserved : goal.loop-preserved
@@ -11,6 +11,7 @@ loop-preserved c =
     record {
       run = c.in_ok-turn.ensures.run;
       started = c.in_ok-turn.ensures.started;
+      ending = ending_turns c.args.plans.now c.args.p c.loop.counter c.args.self.now c.loop.self c.turn.new.self old.ending turn;
       same = record { sizes = same.sizes ∙ old.same.sizes; opening = same.opening ∙ old.same.opening };
       steps = step_more c.args.plans.now c.args.p c.loop.counter c.args.self.now c.loop.self c.turn.new.self old.steps turn;
     }
@@ -19,4 +20,9 @@ pub returns-then-not-branch-clause-turns : goal.returns-then-not-branch-clause-t
 returns-then-not-branch-clause-turns c =
     let old = c.loop.invariant in
     let turn = subst (λ (b : Bool). TurnMade c.args.plans.now c.args.p c.loop.self b c.turn.new.self) c.if-not-branch.true c.in_ok-turn.ensures.turn in
-    (c.loop.counter, steps_end c.args.plans.now c.args.p c.loop.counter c.args.self.now c.loop.self c.turn.new.self old.steps turn, (omega (arith, c.loop-test.true), λ _. turn.done))
+    (c.loop.counter, steps_end c.args.plans.now c.args.p c.loop.counter c.args.self.now c.loop.self c.turn.new.self old.steps turn, (omega (arith, c.loop-test.true), λ _. turn.done), ending_last c.args.plans.now c.args.p c.loop.counter (Some c.args.count) c.args.self.now c.loop.self c.turn.new.self old.ending turn (λ same. let is : c.args.count ≡ c.loop.counter = cc in omega (arith, is, c.loop-test.true)))
+
+pub returns-after-loop-clause-turns : goal.returns-after-loop-clause-turns
+returns-after-loop-clause-turns c =
+    let old = c.loop.invariant in
+    (c.loop.counter, old.steps, (omega (arith, c.loop-test.false, c.loop.auto.counter-end), λ less. absurd (omega (arith, less, c.loop-test.false))), λ q all e. old.ending q e)
