@@ -24,7 +24,8 @@ use Rattle.partial_replay.proofs.PortLaws.{get_below}
 use Rattle.partial_replay.specs.Trace.{Moment}
 use Rattle.partial_replay.specs.CallSteps.{AreStepsOf}
 use Rattle.partial_replay.specs.PortState.{IsGoing}
-use Rattle.partial_replay.specs.RunState.{ArePortsMade, AreStarted, EndsInStep}
+use Rattle.partial_replay.specs.RunState.{ArePortsMade, AreStarted}
+use Rattle.partial_replay.specs.TurnState.{EndsInStep}
 use Rattle.partial_replay.specs.Listed.{EndInStep}
 
 -- one fresh port more

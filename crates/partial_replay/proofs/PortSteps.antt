@@ -31,7 +31,8 @@ use Rattle.partial_replay.specs.Listed.{EndInStep}
 use Rattle.std.specs.Option.{is_some, IsSome}
 use Rattle.partial_replay.specs.CallSteps.{stage_of, refusal_of, Makes, last_behind, IsCallOf, AreStepsOf}
 use Rattle.partial_replay.specs.PortState.{IsUnderWay, IsBetween, PortFits, IsGoing, PortMade, KeepsMade, unfinished_call, began_at, refused_call, ended_call, one_step_more, GoesOn, Ends, StepMade}
-use Rattle.partial_replay.specs.RunState.{EndsInStep, ArePortsMade, AreStarted, AreStartedBut, left_over, unvalued}
+use Rattle.partial_replay.specs.RunState.{ArePortsMade, AreStarted, AreStartedBut, left_over, unvalued}
+use Rattle.partial_replay.specs.TurnState.{EndsInStep}
 use Rattle.partial_replay.proofs.PortLaws.{same_eqb, get_set, get_set_other}
 use Rattle.partial_replay.proofs.Opens.{over_none}
 use Rattle.partial_replay.proofs.Told.{begun_by}

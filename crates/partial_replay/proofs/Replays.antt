@@ -26,7 +26,8 @@ use Rattle.partial_replay.specs.Trace.{entry_of, moments_by, ports_of, events_in
 use Rattle.partial_replay.specs.Turns.{turns_of, turns_by, ports_in}
 use Rattle.partial_replay.specs.Listed.{calls_by, steps_by, AreFirstOf, AreAllMade, EndInStep, HaveMade}
 use Rattle.partial_replay.specs.Replayed.{IsReplayOf}
-use Rattle.partial_replay.specs.RunState.{AreStarted, EndsInStep, EndsInSteps, IsDone, HasFollowed, IsRun, IsRunOf, Tells, calls_in}
+use Rattle.partial_replay.specs.RunState.{AreStarted, IsRun, IsRunOf, Tells, calls_in}
+use Rattle.partial_replay.specs.TurnState.{EndsInStep, EndsInSteps, IsDone, HasFollowed}
 use Rattle.partial_replay.proofs.PortLaws.{get_below}
 use Rattle.partial_replay.proofs.RunSteps.{port_in, ports_length}
 use Rattle.partial_replay.proofs.Told.{begun_by, least_told, run_legal, listed_at, none_listed, first_begun, all_made}

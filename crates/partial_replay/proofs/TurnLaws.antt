@@ -20,7 +20,8 @@ use Rattle.partial_replay.specs.declared.port.Port.{Port}
 use Rattle.partial_replay.specs.declared.run.Run.{Run}
 use Rattle.partial_replay.specs.Trace.{ports_of}
 use Rattle.partial_replay.specs.Trace.{events_in}
-use Rattle.partial_replay.specs.RunState.{IsDone, IsReady, StayDone, GoesOnBy, TurnMade, StepsMade, TurnsMade, StaysEnding, StaysEndingBut, StaysEndingWith, EndsInStep, EndsInSteps, HasTurns, Follows, HasFollowed}
+use Rattle.partial_replay.specs.RunState.{IsReady}
+use Rattle.partial_replay.specs.TurnState.{IsDone, StayDone, GoesOnBy, TurnMade, StepsMade, TurnsMade, StaysEnding, StaysEndingBut, StaysEndingWith, EndsInStep, EndsInSteps, HasTurns, Follows, HasFollowed}
 use Rattle.partial_replay.proofs.PortLaws.{get_set, get_set_other, take_next, get_is, same_eqb}
 
 -- a port in another state: the ports that have made all their calls have still made them where this one has

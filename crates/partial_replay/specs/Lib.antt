@@ -4,6 +4,7 @@ pub mod Turns
 pub mod CallSteps
 pub mod PortState
 pub mod RunState
+pub mod TurnState
 pub mod Listed
 pub mod Replayed
 pub mod Alone

@@ -162,11 +162,12 @@ IsEndedCall port number call way log r c = (note : Option Note) × IsNoteFrom lo
 abbrev pub KeepsFit : List Call → ℕ → Port → Port → Type 0
 KeepsFit calls seen old new = (o : Opening) (log : List Applied) (p : ℕ) (x : Part) → length log ≡ seen → PortFits o log calls p x old → PortFits o log calls p x new
 
--- the call under way has made these events since the machine was at s between calls, where the history has n entries
+-- how long the history was before the first of the events, or is with n entries where there is none
 abbrev pub began_at : ℕ → List Moment → ℕ
 began_at n [] = n
 began_at n (x ∷ xs) = x.before
 
+-- the call under way has made these events since the machine was at s between calls; the history has n entries
 pub record IsGoing (n : ℕ) (calls : List Call) (done : List Called) (s core : CoreState) (own : List Moment) (way : UnderWay) : Type 0 where
   pub call : Call
   pub next : slice_get calls (length done) ≡ Some call

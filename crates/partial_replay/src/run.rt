@@ -38,7 +38,8 @@ fn opening_words(alloc: Global, sizes: Sizes, initial: &[u64]) -> Result<Vec<u64
 }
 
 impl Run {
-    ghost use Rattle.partial_replay.specs.RunState.{ArePlans, AreStarted, EndsInSteps, GoesOnBy, IsDone, IsReady, IsRun, IsSameOpening, StayDone, StaysEndingBut, StaysEndingWith, Tells, TurnMade, TurnsMade, left_at};
+    ghost use Rattle.partial_replay.specs.RunState.{ArePlans, AreStarted, IsReady, IsRun, IsSameOpening, Tells, left_at};
+    ghost use Rattle.partial_replay.specs.TurnState.{EndsInSteps, GoesOnBy, IsDone, StayDone, StaysEndingBut, StaysEndingWith, TurnMade, TurnsMade};
 
     /// The replay as it opens, with the ports of a plan.
     pub fn open(

@@ -8,7 +8,8 @@ use Rattle.partial_replay.specs.Turns.{so_many, to_its_end, turns_of}
 use Rattle.partial_replay.proofs.TurnLaws.{followed, followed_next, followed_all, next_end, ending_next}
 use Rattle.partial_model.specs.declared.call.Call.{Call}
 use Rattle.partial_replay.specs.declared.run.Run.{Run}
-use Rattle.partial_replay.specs.RunState.{AreStarted, EndsInSteps, IsRun, HasFollowed, TurnsMade, Tells}
+use Rattle.partial_replay.specs.RunState.{AreStarted, IsRun, Tells}
+use Rattle.partial_replay.specs.TurnState.{EndsInSteps, HasFollowed, TurnsMade}
 use Rattle.partial_replay.specs.Replayed.{IsReplayOf}
 use Rattle.partial_replay.specs.RunState.{ArePlans}
 use Rattle.partial_replay.proofs.Plans.{are_plans}

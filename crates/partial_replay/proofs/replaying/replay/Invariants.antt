@@ -1,7 +1,8 @@
 use Rattle.std.proofs.Common.{◌≡◌, ◌++◌, map, take}
 use Rattle.std.specs.List.{range_with_len}
 use Rattle.partial_replay.specs.Turns.{so_many, to_its_end}
-use Rattle.partial_replay.specs.RunState.{AreStarted, EndsInSteps, IsRun, HasFollowed}
+use Rattle.partial_replay.specs.RunState.{AreStarted, IsRun}
+use Rattle.partial_replay.specs.TurnState.{EndsInSteps, HasFollowed}
 use Rattle.partial_replay.proofs.replaying.replay.Given as goal
 
 -- the state stays lawful, is of the plan's sizes and values, and has followed the turns so far

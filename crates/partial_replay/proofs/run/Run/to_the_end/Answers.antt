@@ -1,5 +1,5 @@
 use Rattle.std.proofs.Common.{◌≡◌, None, Some, ◌+◌, Bool, ◌∙◌, subst}
-use Rattle.partial_replay.specs.RunState.{TurnMade}
+use Rattle.partial_replay.specs.TurnState.{TurnMade}
 use Rattle.partial_replay.proofs.TurnLaws.{step_more, steps_end, ending_turns, ending_last}
 use Rattle.partial_replay.proofs.run.Run.to_the_end.Goals as goal
 

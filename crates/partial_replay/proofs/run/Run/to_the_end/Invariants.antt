@@ -1,5 +1,6 @@
 use Rattle.std.proofs.Common.{ℕ}
-use Rattle.partial_replay.specs.RunState.{AreStarted, StaysEnding, IsRun, IsSameOpening, StepsMade, left_at}
+use Rattle.partial_replay.specs.RunState.{AreStarted, IsRun, IsSameOpening, left_at}
+use Rattle.partial_replay.specs.TurnState.{StaysEnding, StepsMade}
 use Rattle.partial_replay.proofs.run.Run.to_the_end.Given as goal
 
 -- the state stays lawful, and a step was made in each turn

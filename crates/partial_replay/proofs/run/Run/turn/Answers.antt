@@ -1,6 +1,7 @@
 use Rattle.std.proofs.Common.{Bool, subst}
 use Rattle.std.specs.Bool.{MatchBool}
-use Rattle.partial_replay.specs.RunState.{AreStarted, IsDone, IsReady}
+use Rattle.partial_replay.specs.RunState.{AreStarted, IsReady}
+use Rattle.partial_replay.specs.TurnState.{IsDone}
 use Rattle.partial_replay.proofs.TurnLaws.{turn_stepped}
 use Rattle.partial_replay.proofs.run.Run.turn.Goals as goal
 

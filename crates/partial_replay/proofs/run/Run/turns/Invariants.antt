@@ -1,4 +1,5 @@
-use Rattle.partial_replay.specs.RunState.{AreStarted, StaysEnding, IsRun, IsSameOpening, StepsMade}
+use Rattle.partial_replay.specs.RunState.{AreStarted, IsRun, IsSameOpening}
+use Rattle.partial_replay.specs.TurnState.{StaysEnding, StepsMade}
 use Rattle.partial_replay.proofs.run.Run.turns.Given as goal
 
 -- the state stays lawful, and a step was made in each turn
