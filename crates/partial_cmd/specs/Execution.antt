@@ -53,7 +53,7 @@ text_of outcome = outcome_text outcome.opening outcome.history.items outcome.cal
 pub record IsReplayed (text : Option (List ℕ)) (p : PlanView) (outcome : Outcome) : Type 0 where
   pub plan : IsPlan p
   pub read : IfSome text (λ bytes. bytes ≡ plan_text p)
-  pub replayed : IsReplayOf p.sizes p.initial outcome
+  pub replayed : IsReplayOf p outcome
 
 -- the text of a plan's replay was written
 abbrev pub WritesOutcome : Option (List ℕ) → Option (List ℕ) → Option (List ℕ) → Type 0

@@ -1,7 +1,12 @@
 pub mod Places
 pub mod PortLaws
 pub mod RunLaws
+pub mod Traces
+pub mod PortSteps
 pub mod RunSteps
+pub mod TurnLaws
 pub mod Opens
 pub mod Plans
 pub mod Told
+pub mod Replays
+pub mod Alone

@@ -19,7 +19,14 @@ use Rattle.partial_replay.specs.RunState.{PortsFit, IsRunOf, FreshFrom, AreFresh
 use Rattle.std.specs.Option.{IsSome}
 use Rattle.std.proofs.lemmas.Bool.{false≢true}
 use Rattle.partial_model.specs.declared.history.Applied.{Applied}
+use Rattle.partial_replay.specs.Place.{HasLeastPlace}
 use Rattle.partial_replay.proofs.PortLaws.{get_below}
+use Rattle.partial_replay.specs.Trace.{Moment}
+use Rattle.partial_replay.specs.CallSteps.{AreStepsOf}
+use Rattle.partial_replay.specs.PortState.{IsGoing}
+use Rattle.partial_replay.specs.RunState.{ArePortsMade, AreStarted}
+use Rattle.partial_replay.specs.TurnState.{EndsInStep}
+use Rattle.partial_replay.specs.Listed.{EndInStep}
 
 -- one fresh port more
 pub fresh_push : (z : Layout) (p : ℕ) (ports : List Port) (port : Port) → FreshFrom z p ports → port.number ≡ p + length ports → port.core ≡ fresh z port.number → port.finished.items ≡ [] → port.under_way ≡ None → FreshFrom z p (ports ++ port ∷ [])
@@ -41,6 +48,7 @@ fresh_fits z o calls p port m number core finished none =
       written = ap (λ (d : List Called). places_written (notes_in d)) finished;
       made = subst (λ (d : List Called). map (λ (c : Called). c.call) d ≡ take (length d) calls) (sym finished) refl;
       few = let n : length port.finished.items ≡ 0 = ap length finished in omega (arith, n);
+      least = subst (AllByRecursion (HasLeastPlace o [])) (sym finished) tt;
       way = subst (λ (f : Option UnderWay). MatchOption f (IsBetween x port.core) (IsUnderWay 0 calls x port.core port.finished.items)) (sym none) (record { rest = refl; machine = core });
     }
 
@@ -50,11 +58,44 @@ fresh_ports_fit z o p [] (t ∷ ports) m w n = absurd (omega (arith, n))
 fresh_ports_fit z o p (c ∷ plans) [] m w n = absurd (omega (arith, n))
 fresh_ports_fit z o p (c ∷ plans) (t ∷ ports) m w n = (fresh_fits z o c p t m w.0 w.1 w.2 w.3, fresh_ports_fit z o (p + 1) plans ports m w.4 (omega (arith, n)))
 
+fresh_at : (z : Layout) (p i : ℕ) (ports : List Port) (port : Port) → FreshFrom z p ports → slice_get ports i ≡ Some port → (port.core ≡ fresh z (p + i)) × (port.finished.items ≡ []) × (port.under_way ≡ None)
+fresh_at z p i [] port w t = let bad : None ≡ Some port = t in cc
+fresh_at z p zero (u ∷ ports) port w t =
+    let same : u ≡ port = cc in
+    let here : p ≡ p + 0 = omega arith in
+    (ap (λ (v : Port). v.core) (sym same) ∙ w.1 ∙ ap (fresh z) here, ap (λ (v : Port). v.finished.items) (sym same) ∙ w.2, ap (λ (v : Port). v.under_way) (sym same) ∙ w.3)
+fresh_at z p (suc i) (u ∷ ports) port w t =
+    let f = fresh_at z (p + 1) i ports port w.4 t in
+    let next : p + 1 + i ≡ p + suc i = omega arith in
+    (f.0 ∙ ap (fresh z) next, f.1, f.2)
+
+-- fresh ports have made no call
+fresh_made : (plans : List (List Call)) (z : Layout) (ports : List Port) → FreshFrom z 0 ports → ArePortsMade plans z ports [] []
+fresh_made plans z ports w q calls port c t =
+    let f = fresh_at z 0 q ports port w t in
+    let here : 0 + q ≡ q = omega arith in
+    let core : port.core ≡ fresh z q = f.0 ∙ ap (fresh z) here in
+    let nil : List Moment = [] in
+    record {
+      done = [];
+      own = [];
+      at = fresh z q;
+      is = refl;
+      led = subst (λ (d : List Called). AreStepsOf (fresh z q) d [] (fresh z q)) (sym f.1) (refl, refl);
+      going = subst (λ (g : Option UnderWay). MatchOption g ((nil ≡ []) × (port.core ≡ fresh z q)) (IsGoing 0 calls port.finished.items (fresh z q) port.core [])) (sym f.2) (refl, core);
+    }
+
+pub fresh_started : (z : Layout) (ports : List Port) → FreshFrom z 0 ports → AreStarted ports
+fresh_started z ports w q port way t is = let f = fresh_at z 0 q ports port w t in let bad : None ≡ Some way = sym f.2 ∙ is in cc
+
+pub fresh_ending : (z : Layout) (ports : List Port) → FreshFrom z 0 ports → (q : ℕ) → EndsInStep ports q
+fresh_ending z ports w q port t none = let f = fresh_at z 0 q ports port w t in subst EndInStep (sym f.1) tt
+
 -- a replay opens lawful
 pub opens_run : (plans : List (List Call)) (z : Layout) (o : Opening) (words : List ℕ) (ports : List Port) → IsLayout z → length o.values ≡ z.m → o.first ≡ pool_base z → AreOpeningWords z o.values words → length plans ≤ 64 → AreFreshPorts z (length plans) ports → IsRunOf plans z o words ports [] []
 opens_run plans z o words ports sizes values first opening few fresh =
     let lawful = opens_lawful z o words (length plans) (record { sizes = sizes; values = values; stamps = first; words = opening }) few in
-    record { parts = fresh_parts z 0 (length plans); opened = words; opens = opening; lawful = lawful.0; without = lawful.1; fit = fresh_ports_fit z o 0 plans ports (sym values) fresh.1 fresh.0; leads = refl }
+    record { parts = fresh_parts z 0 (length plans); opened = words; opens = opening; lawful = lawful.0; without = lawful.1; fit = fresh_ports_fit z o 0 plans ports (sym values) fresh.1 fresh.0; leads = refl; entries = refl; senders = tt; made = fresh_made plans z ports fresh.1 }
 
 pub listed_length : (plans : List (List Call)) (ports : List Port) → AreListed plans ports → length ports ≡ length plans
 listed_length [] [] w = refl
@@ -116,7 +157,7 @@ over_is port calls way call c under get is =
     ∙ ap (λ (f : Option Call). left_over port f (Some way)) (sym get)
     ∙ ap (λ (f : Option UnderWay). left_over port (slice_get calls (length port.finished.items)) f) (sym under)
 
-over_none : (port : Port) (call : Option Call) → left_over port call None ≡ []
+pub over_none : (port : Port) (call : Option Call) → left_over port call None ≡ []
 over_none port None = refl
 over_none port (Some c) = refl
 

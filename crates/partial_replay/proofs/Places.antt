@@ -18,7 +18,7 @@ use Rattle.partial_model.proofs.NotesLemmas.{AllByRecursion-get}
 use Rattle.partial_core.specs.declared.stage.Reply.{Reply}
 use Rattle.partial_core.specs.declared.stage.Reply.TheVariants as reply
 use Rattle.partial_core.specs.Lawful.{answer_for}
-use Rattle.partial_replay.specs.Place.{IsPlaceFrom, IsNoteFrom, prefix_from}
+use Rattle.partial_replay.specs.Place.{IsPlaceFrom, IsNoteFrom, IsLeastFrom, prefix_from}
 
 -- no two places have one stamp
 pub one_place : (h : List Applied) (i k : ℕ) (a b : Applied) → HaveDistinctStamps h → slice_get h i ≡ Some a → slice_get h k ≡ Some b → a.stamp ≡ b.stamp → i ≡ k
@@ -82,6 +82,26 @@ shows_same o h j began n s found hist behind below stamp place =
           shows_entry o h j began n s found l hist behind (stamp_behind o j (take n h) (Some (l.entry)) s (ap (last_entry j) (sym whole) ∙ l.from n (both.0)) stamp) place
     ]
 
+-- before the entry with a stamp no prefix shows that stamp
+not_before : (o : Opening) (h : List Applied) (j k i s : ℕ) (e : Applied) → IsHistory o h → j < length o.values → slice_get h k ≡ Some e → e.stamp ≡ s → i ≤ k → stamp_of o (take i h) j ≡ s → ⊥
+not_before o h j k i s e hist below stands stamp before shows =
+    let whole : take i (take i h) ≡ take i h = take-take i i h (omega arith) in
+    elim (last_at None j (take i h)) [
+      | inl all ↦
+          let first : initial_stamp o j ≡ s = stamp_behind o j (take i h) None s (ap (last_entry j) (sym whole) ∙ all i) shows in
+          AllByRecursion-get (λ (f : Applied). (a : ℕ) → a < length o.values → f.stamp ≢ initial_stamp o a) h k e hist.not_initial stands j below (stamp ∙ sym first)
+      | inr l ↦
+          let both = front_place h i (l.place) (l.entry) (l.stands) in
+          let last : (l.entry).stamp ≡ s = stamp_behind o j (take i h) (Some (l.entry)) s (ap (last_entry j) (sym whole) ∙ l.from i (both.0)) shows in
+          let same : l.place ≡ k = one_place h (l.place) k (l.entry) e hist.distinct both.1 stands (last ∙ sym stamp) in
+          omega (arith, same, both.0, before)
+    ]
+
+-- the prefix that is found is the least one
+least_prefix : (o : Opening) (h : List Applied) (j began s : ℕ) (found : Option ℕ) → IsHistory o h → j < length o.values → IsPlaceFrom h began s found → (i : ℕ) → began ≤ i → i < prefix_from began found → stamp_of o (take i h) j ≡ s → ⊥
+least_prefix o h j began s None hist below place i from within shows = omega (arith, from, within)
+least_prefix o h j began s (Some k) hist below place i from within shows = not_before o h j k i s (place.1.0) hist below place.1.1 place.1.2 (omega (arith, within)) shows
+
 -- what the note that is found says of a call whose note of some place is legal
 pub record FindsPlace (o : Opening) (h : List Applied) (p began : ℕ) (c : Call) (a : Answer) (n : Note) (found : Option Note) : Type 0 where
   pub note : Note
@@ -91,6 +111,7 @@ pub record FindsPlace (o : Opening) (h : List Applied) (p began : ℕ) (c : Call
   pub behind : began ≤ place_of note
   pub within : shown_by note ≤ shown_by n
   pub wrote' : wrote (Some note) ≡ wrote (Some n)
+  pub least : IsLeastFrom o h began c a note
 
 -- the place of an entry is found where the entry stands from the begin on
 found_at : (o : Opening) (h : List Applied) (began s k : ℕ) (e : Applied) (found : Option ℕ) → IsHistory o h → began ≤ k → slice_get h k ≡ Some e → e.stamp ≡ s → IsPlaceFrom h began s found → found ≡ Some k
@@ -100,10 +121,10 @@ found_at o h began s k e (Some i) hist behind stands stamp place = ap Some (one_
 pub finds_place : (o : Opening) (h : List Applied) (p began : ℕ) (c : Call) (r : Reply) (n : Note) (found : Option Note) → IsHistory o h → Fits (length o.values) c (answer_for r) (Some n) → IsTrueOf o h p c (answer_for r) n → began ≤ place_of n → IsNoteFrom h began r found → FindsPlace o h p began c (answer_for r) n found
 finds_place o h p began (call.Update j v) (reply.Applied s) (note.Wrote k) found hist fits w behind place =
     let is = found_at o h began s k (record { port = p; component = j; value = v; stamp = s }) (place.0) hist behind w refl place.1 in
-    record { note = note.Wrote k; is = place.2 ∙ ap (option_map note.Wrote) is; fits = fits; true' = w; behind = behind; within = omega arith; wrote' = refl }
+    record { note = note.Wrote k; is = place.2 ∙ ap (option_map note.Wrote) is; fits = fits; true' = w; behind = behind; within = omega arith; wrote' = refl; least = tt }
 finds_place o h p began (call.Update j v) (reply.Lost by) (note.Lost k) found hist fits w behind place =
     let is = found_at o h began by k (w.0) (place.0) hist behind (w.1) (w.3) place.1 in
-    record { note = note.Lost k; is = place.2 ∙ ap (option_map note.Lost) is; fits = fits; true' = w; behind = behind; within = omega arith; wrote' = refl }
+    record { note = note.Lost k; is = place.2 ∙ ap (option_map note.Lost) is; fits = fits; true' = w; behind = behind; within = omega arith; wrote' = refl; least = tt }
 finds_place o h p began (call.Read j) (reply.Read v s) (note.Saw n) found hist fits w behind place =
     let l = shows_same o h j began n s (place.0) hist behind fits (sym (w.2)) place.1 in
     let m = prefix_from began (place.0) in
@@ -115,10 +136,11 @@ finds_place o h p began (call.Read j) (reply.Read v s) (note.Saw n) found hist f
       behind = l.behind;
       within = l.least;
       wrote' = refl;
+      least = λ i from below shows. least_prefix o h j began s (place.0) hist fits place.1 i from below (sym shows.1);
     }
 finds_place o h p began (call.UpdateIf j x v) (reply.Applied s) (note.Wrote k) found hist fits w behind place =
     let is = found_at o h began s k (record { port = p; component = j; value = v; stamp = s }) (place.0) hist behind (w.0) refl place.1 in
-    record { note = note.Wrote k; is = place.2 ∙ ap (option_map note.Wrote) is; fits = fits; true' = w; behind = behind; within = omega arith; wrote' = refl }
+    record { note = note.Wrote k; is = place.2 ∙ ap (option_map note.Wrote) is; fits = fits; true' = w; behind = behind; within = omega arith; wrote' = refl; least = tt }
 finds_place o h p began (call.UpdateIf j x v) (reply.Changed t) (note.Saw n) found hist fits w behind place =
     let l = shows_same o h j began n t (place.0) hist behind fits (w.1) place.1 in
     let m = prefix_from began (place.0) in
@@ -130,6 +152,7 @@ finds_place o h p began (call.UpdateIf j x v) (reply.Changed t) (note.Saw n) fou
       behind = l.behind;
       within = l.least;
       wrote' = refl;
+      least = λ i from below shows. least_prefix o h j began t (place.0) hist fits place.1 i from below shows;
     }
 finds_place o h p began (call.Scan js) (reply.Applied s) (note.Wrote k) found hist fits w behind place = absurd w
 finds_place o h p began _ _ _ found hist fits w behind place = absurd w

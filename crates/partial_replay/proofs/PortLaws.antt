@@ -1,7 +1,8 @@
 -- How a port of a replay goes on as its part's port.
-use Rattle.std.proofs.Common.{ℕ, zero, suc, ◌≡◌, ◌+◌, ◌<◌, ◌≤◌, ◌++◌, Bool, true, false, cond, List, [], ◌∷◌, length, take, map, get_or, Option, Some, None, IfSome, IsSomeAnd, MatchOption, MatchBool, slice_get, nat_lt, refl, sym, ◌∙◌, ap, subst, arith, length-append}
+use Rattle.std.proofs.Common.{ℕ, ◌==◌, ◌≢◌, set, inl, inr, zero, suc, ◌≡◌, ◌+◌, ◌<◌, ◌≤◌, ◌++◌, Bool, true, false, cond, List, [], ◌∷◌, length, take, map, get_or, Option, Some, None, IfSome, IsSomeAnd, MatchOption, MatchBool, slice_get, nat_lt, refl, sym, ◌∙◌, ap, subst, arith, length-append}
 use Rattle.std.specs.List.{AllByRecursion, cons_option}
 use Rattle.std.specs.Option.{option_map, option_map_or}
+use Rattle.std.proofs.lemmas.Bool.Decides.{eqb_tells}
 use Rattle.std.proofs.lemmas.Bool.{ltb-true, ltb-false, false≢true}
 use Rattle.std.proofs.lemmas.List.{append-nil, length_push, map_push}
 use Rattle.partial_model.specs.declared.history.Applied.{Applied}
@@ -13,13 +14,16 @@ use Rattle.partial_model.specs.declared.call.Refused.TheVariants as refused
 use Rattle.partial_model.specs.declared.call.Answer.{Answer}
 use Rattle.partial_model.specs.declared.call.Answer.TheVariants as answer
 use Rattle.partial_model.specs.declared.call.Note.{Note}
+use Rattle.partial_model.specs.declared.call.Note.TheVariants as note
+use Rattle.partial_replay.specs.Place.{Shows, IsLeastFrom, HasLeastPlace}
+use Rattle.std.proofs.lemmas.List.{take-append-le}
 use Rattle.partial_model.specs.declared.call.Called.{Called}
 use Rattle.partial_model.specs.declared.call.Finish.{Finish}
 use Rattle.std.specs.declared.vec.Vec.{Vec}
 use Rattle.std.specs.declared.alloc.Global.{Global}
 use Rattle.partial_model.specs.Notes.{Noted, indices_of, ClaimsPool, LegalNotes, IsLegal, MayBeRefused, seen_by, seen_after, shown_by, place_of}
 use Rattle.partial_model.specs.Outcome.{noted_of, places_written, wrote}
-use Rattle.partial_model.proofs.NotesLemmas.{LegalNotes-push, LegalNotes-grows, seen_by-push, places_written-push}
+use Rattle.partial_model.proofs.NotesLemmas.{AllByRecursion-push, LegalNotes-push, LegalNotes-grows, seen_by-push, places_written-push}
 use Rattle.partial_words.specs.declared.step.Step.{Step}
 use Rattle.partial_words.specs.declared.step.Event.{Event}
 use Rattle.partial_words.specs.Step.{answer_of, words_after}
@@ -29,7 +33,11 @@ use Rattle.partial_core.specs.Machine.{CoreState, at_stage, advance, step_of, re
 use Rattle.partial_core.specs.Lawful.{Part, core_of, port_of, is_begun, is_at_rest, IsMachineOf, MayBegin, MayBeginAt, call_at}
 use Rattle.partial_replay.specs.declared.port.Port.{Port}
 use Rattle.partial_replay.specs.declared.port.UnderWay.{UnderWay}
-use Rattle.partial_replay.specs.PortState.{IsServed, stage_of, refusal_of, end_of, ends_of, IsFinished, AreFinished, notes_in, IsUnderWay, IsBetween, PortFits, refused_call, entry_at, one_step_more, IsEndedCall, GoesOn, Ends, StepMade}
+use Rattle.partial_replay.specs.CallSteps.{stage_of, refusal_of}
+use Rattle.partial_replay.specs.PortState.{IsServed, end_of, ends_of, IsFinished, AreFinished, notes_in, IsUnderWay, IsBetween, PortFits, refused_call, entry_at, one_step_more, IsEndedCall, GoesOn, Ends, StepMade}
+
+pub same_eqb : (a b : ℕ) → a ≡ b → (a == b) ≡ true
+same_eqb a b h = elim (eqb_tells a b) [ inl w ↦ w.0 | inr w ↦ absurd (w.1 h) ]
 
 -- the element at a place
 pub get_is : {A : Type 0} (xs : List A) (k : ℕ) (d : A) → k < length xs → slice_get xs k ≡ Some (get_or xs k d)
@@ -48,6 +56,19 @@ pub get_below : {A : Type 0} (xs : List A) (k : ℕ) (x : A) → slice_get xs k 
 get_below [] k x s = let bad : None ≡ Some x = s in cc
 get_below (y ∷ ys) zero x s = omega arith
 get_below (y ∷ ys) (suc k) x s = let below = get_below ys k x s in omega arith
+
+-- another element at a place
+pub get_set : {A : Type 0} (xs : List A) (i : ℕ) (a b : A) → slice_get xs i ≡ Some a → slice_get (set xs i b) i ≡ Some b
+get_set [] i a b s = let bad : None ≡ Some a = s in cc
+get_set (x ∷ xs) zero a b s = refl
+get_set (x ∷ xs) (suc i) a b s = get_set xs i a b s
+
+pub get_set_other : {A : Type 0} (xs : List A) (i q : ℕ) (b : A) → q ≢ i → slice_get (set xs i b) q ≡ slice_get xs q
+get_set_other [] i q b d = refl
+get_set_other (x ∷ xs) zero zero b d = absurd (d refl)
+get_set_other (x ∷ xs) zero (suc q) b d = refl
+get_set_other (x ∷ xs) (suc i) zero b d = refl
+get_set_other (x ∷ xs) (suc i) (suc q) b d = get_set_other xs i q b (λ h. d (ap suc h))
 
 -- the finished calls with one more
 ended_here : (n low : ℕ) (c : Called) → low ≤ n → IsFinished n low c → end_of low c ≤ n
@@ -89,6 +110,26 @@ pub finished_grows : (n m p k low : ℕ) (cs : List Called) → n ≤ m → AreF
 finished_grows n m p k low [] more w = tt
 finished_grows n m p k low (c ∷ cs) more w = (w.0, w.1, finished_grows_here n m low c more w.2, finished_grows n m p (k + 1) (end_of low c) cs more w.3)
 
+-- the history grows: what a call saw is still the least
+least_from_grows : (o : Opening) (h es : List Applied) (began n : ℕ) (c : Call) (a : Answer) (note : Note) → shown_by note ≤ n → n ≤ length h → IsLeastFrom o h began c a note → IsLeastFrom o (h ++ es) began c a note
+least_from_grows o h es began n c a (note.Wrote k) within below w = tt
+least_from_grows o h es began n c a (note.Lost k) within below w = tt
+least_from_grows o h es began n c a (note.Saw m) within below w = λ i from less shows.
+    let front : take i (h ++ es) ≡ take i h = take-append-le i h es (omega (arith, less, within, below)) in
+    w i from less (subst (λ (l : List Applied). Shows o l c a) front shows)
+
+least_note_grows : (o : Opening) (h es : List Applied) (began n : ℕ) (c : Call) (a : Answer) (note : Option Note) → n ≤ length h → IfSome note (λ m. (began ≤ place_of m) × (shown_by m ≤ n)) → IfSome note (IsLeastFrom o h began c a) → IfSome note (IsLeastFrom o (h ++ es) began c a)
+least_note_grows o h es began n c a None below w l = tt
+least_note_grows o h es began n c a (Some m) below w l = least_from_grows o h es began n c a m w.1 below l
+
+least_place_grows : (o : Opening) (h es : List Applied) (began : ℕ) (c : Call) (f : Option Finish) → IsSomeAnd f (λ (g : Finish). (began ≤ g.ended) × (g.ended ≤ length h) × IfSome g.note (λ m. (began ≤ place_of m) × (shown_by m ≤ g.ended))) → IfSome f (λ (g : Finish). IfSome g.note (IsLeastFrom o h began c g.answer)) → IfSome f (λ (g : Finish). IfSome g.note (IsLeastFrom o (h ++ es) began c g.answer))
+least_place_grows o h es began c None w l = absurd w
+least_place_grows o h es began c (Some g) w l = least_note_grows o h es began g.ended c g.answer g.note w.1 w.2 l
+
+pub least_grow : (o : Opening) (log es : List Applied) (p k low : ℕ) (cs : List Called) → AreFinished (length log) p k low cs → AllByRecursion (HasLeastPlace o log) cs → AllByRecursion (HasLeastPlace o (log ++ es)) cs
+least_grow o log es p k low [] w l = tt
+least_grow o log es p k low (c ∷ cs) w l = (least_place_grows o log es c.began c.call c.finish w.2.ended l.0, least_grow o log es p (k + 1) (end_of low c) cs w.3 l.1)
+
 -- a call that has ended
 pub record EndedCall (o : Opening) (log : List Applied) (p : ℕ) (number : ℕ) (low seen : ℕ) (call : Call) (c : Called) : Type 0 where
   pub answer : Answer
@@ -101,6 +142,7 @@ pub record EndedCall (o : Opening) (log : List Applied) (p : ℕ) (number : ℕ)
   pub finish : c.finish ≡ Some (record { ended = length log; answer = answer; note = note })
   pub placed : IfSome note (λ n. (c.began ≤ place_of n) × (shown_by n ≤ length log))
   pub legal : IsLegal o log p seen (record { call = call; answer = answer; note = note })
+  pub least : IfSome note (IsLeastFrom o log c.began call answer)
 
 -- the finished calls of a port, and the places that they have written
 pub record DoneFits (o : Opening) (log : List Applied) (calls : List Call) (p : ℕ) (done : List Called) (places : List ℕ) : Type 0 where
@@ -110,9 +152,10 @@ pub record DoneFits (o : Opening) (log : List Applied) (calls : List Call) (p : 
   pub written : places_written (notes_in done) ≡ places
   pub made : map (λ (c : Called). c.call) done ≡ take (length done) calls
   pub few : length done ≤ length calls
+  pub least : AllByRecursion (HasLeastPlace o log) done
 
 pub done_of : (o : Opening) (log : List Applied) (calls : List Call) (p : ℕ) (x : Part) (port : Port) → PortFits o log calls p x port → DoneFits o log calls p port.finished.items (places_written x.notes)
-done_of o log calls p x port w = record { finished = w.finished; legal = w.legal; shown = w.shown; written = w.written; made = w.made; few = w.few }
+done_of o log calls p x port w = record { finished = w.finished; legal = w.legal; shown = w.shown; written = w.written; made = w.made; few = w.few; least = w.least }
 
 pub done_grows : (o : Opening) (log es : List Applied) (calls : List Call) (p : ℕ) (done : List Called) (places : List ℕ) → DoneFits o log calls p done places → DoneFits o (log ++ es) calls p done places
 done_grows o log es calls p done places w =
@@ -123,6 +166,7 @@ done_grows o log es calls p done places w =
       written = w.written;
       made = w.made;
       few = w.few;
+      least = least_grow o log es p 0 0 done w.finished w.least;
     }
 
 ended_finish : (o : Opening) (log : List Applied) (p number low seen : ℕ) (call : Call) (c : Called) (e : EndedCall o log p number low seen call c) → IsFinished (length log) low c
@@ -150,12 +194,13 @@ push_fits o log calls p done places call c w next e =
       written = ap places_written pushed ∙ places_written-push (notes_in done) n ∙ ap (λ (l : List ℕ). l ++ wrote (e.note)) w.written;
       made = map_push (λ (c : Called). c.call) done c ∙ ap (λ (d : Call). map (λ (c : Called). c.call) done ++ d ∷ []) (e.call') ∙ ap (λ (l : List Call). l ++ call ∷ []) w.made ∙ sym (ap (λ n. take n calls) longer ∙ take_next calls (length done) call next);
       few = omega (arith, longer, below);
+      least = AllByRecursion-push (HasLeastPlace o log) done c w.least (subst (λ (f : Option Finish). IfSome f (λ (f : Finish). IfSome f.note (IsLeastFrom o log c.began c.call f.answer))) (sym (e.finish)) (subst (λ (d : Call). IfSome e.note (IsLeastFrom o log c.began d e.answer)) (sym (e.call')) e.least));
     }
 
 -- a port with these finished calls
 pub fits_with : (o : Opening) (log : List Applied) (calls : List Call) (p : ℕ) (x : Part) (port : Port) (places : List ℕ) → port.number ≡ p → port_of x ≡ p → port.core.sizes.m ≡ length o.values → DoneFits o log calls p port.finished.items places → places ≡ places_written x.notes → MatchOption port.under_way (IsBetween x port.core) (IsUnderWay (length log) calls x port.core port.finished.items) → PortFits o log calls p x port
 fits_with o log calls p x port places number part sizes w same way =
-    record { number = number; part = part; sizes = sizes; finished = w.finished; legal = w.legal; shown = w.shown; written = w.written ∙ same; made = w.made; few = w.few; way = way }
+    record { number = number; part = part; sizes = sizes; finished = w.finished; legal = w.legal; shown = w.shown; written = w.written ∙ same; made = w.made; few = w.few; least = w.least; way = way }
 
 -- a refusal at once
 refused_update : (s : CoreState) (j : ℕ) (cause : Refused) (a b : Bool) → nat_lt j s.sizes.m ≡ a → s.pool_spent ≡ b → cond a (cond b (Some refused.PoolSpent) None) (Some refused.Component) ≡ Some cause → (c : Call) → indices_of c ≡ j ∷ [] → ClaimsPool c → MayBeRefused s.sizes.m c cause
@@ -266,6 +311,7 @@ refused_fits o log calls p x port new call cause w none next refusal number core
       finish = refl;
       placed = tt;
       legal = (may, tt);
+      least = tt;
     } in
     let pushed : DoneFits o log calls p (port.finished.items ++ c ∷ []) (places_written x.notes ++ []) = push_fits o log calls p port.finished.items (places_written x.notes) call c (done_of o log calls p x port w) next e in
     let sizes : new.core.sizes.m ≡ length o.values = ap (λ (s : CoreState). s.sizes.m) core ∙ w.sizes in

@@ -28,6 +28,7 @@ use Rattle.partial_core.proofs.PartLemmas.{led_push, port_led, sizes_led}
 use Rattle.partial_replay.specs.declared.port.Port.{Port}
 use Rattle.partial_replay.specs.declared.port.UnderWay.{UnderWay}
 use Rattle.partial_replay.specs.PortState.{ends_of, notes_in, IsUnderWay, IsBetween, PortFits, one_step_more, ended_call, GoesOn, Ends}
+use Rattle.partial_replay.specs.Place.{IsLeastFrom}
 use Rattle.partial_replay.proofs.Places.{finds_place}
 use Rattle.partial_replay.proofs.PortLaws.{DoneFits, EndedCall, done_of, done_grows, push_fits, fits_with}
 
@@ -224,6 +225,7 @@ module _ (z : Layout) (o : Opening) (words : List ℕ) (before : List Part) (x :
           finish = ap (λ (f : Option Note). Some (record { ended = length log2; answer = answer.Refused cause; note = f })) e.noted;
           placed = tt;
           legal = (may, tt);
+          least = tt;
         }) refl
 
     noted_fits : (r : Reply) → new.number ≡ port.number → reply_of (advance port.core a) ≡ Some r → Ends calls log2 port new way (advance port.core a) r → IsNoteOf y r l.new → PortFits o log2 calls p y new
@@ -248,6 +250,7 @@ module _ (z : Layout) (o : Opening) (words : List ℕ) (before : List Part) (x :
           within = omega (arith, more, u.within);
           finish = ap (λ (f : Option Note). Some (record { ended = length log2; answer = answer_for r; note = f })) (found.is);
           placed = placed;
+          least = subst (λ (d : Call). IsLeastFrom o log2 way.began d (answer_for r) (found.note)) call' (found.least);
           legal = subst (λ (d : Call). IsLegal o log2 p (seen_by 0 (notes_in port.finished.items)) (record { call = d; answer = answer_for r; note = Some (found.note) })) call' (found.fits, (found.true', omega (arith, w.shown, u.behind, found.behind)));
         }) (found.wrote' ∙ sym (append-nil (wrote (Some (n.note)))))
 

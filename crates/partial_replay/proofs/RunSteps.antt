@@ -1,7 +1,6 @@
 -- A turn of a port among the others.
 use Rattle.std.proofs.Common.{ℕ, zero, suc, ◌≡◌, ◌+◌, ◌-◌, ◌*◌, ◌<◌, ◌≤◌, ◌==◌, ◌++◌, Bool, true, false, cond, List, [], ◌∷◌, length, get_or, set, Option, Some, None, MatchOption, MatchBool, slice_get, refl, sym, ◌∙◌, ap, subst, arith, length-append, get_or-set_other}
 use Rattle.std.specs.Option.{option_map_or, is_some, IsSome}
-use Rattle.std.specs.Bool.{OnTrue}
 use Rattle.std.proofs.lemmas.Bool.{false≢true}
 use Rattle.std.proofs.lemmas.List.{append-nil, length_push}
 use Rattle.partial_model.specs.declared.history.Applied.{Applied}
@@ -28,10 +27,14 @@ use Rattle.partial_core.proofs.Frames.{if_some_at}
 use Rattle.partial_core.proofs.AllSteps.{steps_stay_lawful}
 use Rattle.partial_replay.specs.declared.port.Port.{Port}
 use Rattle.partial_replay.specs.declared.port.UnderWay.{UnderWay}
-use Rattle.partial_replay.specs.PortState.{IsExchangeWithin, notes_in, IsUnderWay, IsBetween, PortFits, entry_at, one_step_more, ended_call, GoesOn, Ends, StepMade, MayStep, KeepsFit}
-use Rattle.partial_replay.specs.RunState.{PortsFit, IsRunOf, left_of, left_at}
-use Rattle.partial_replay.proofs.PortLaws.{finished_grows, get_below, get_is}
+use Rattle.partial_replay.specs.PortState.{KeepsMade, IsExchangeWithin, notes_in, IsUnderWay, IsBetween, PortFits, entry_at, one_step_more, ended_call, GoesOn, Ends, StepMade, MayStep, KeepsFit}
+use Rattle.partial_replay.specs.RunState.{AreStartedBut, PortsFit, IsRunOf, left_of, left_at}
+use Rattle.partial_replay.proofs.PortLaws.{least_grow, finished_grows, get_below, get_is}
 use Rattle.partial_replay.proofs.RunLaws.{due_step, machine_port, leads_push, step_fits}
+use Rattle.partial_replay.proofs.PortSteps.{ports_step, ports_begin, log_long}
+use Rattle.std.specs.List.{AllByRecursion}
+use Rattle.partial_model.proofs.NotesLemmas.{AllByRecursion-push}
+use Rattle.partial_replay.proofs.Traces.{IsOfComponent, entries_push}
 
 -- another port's history grows
 way_grows : (log es : List Applied) (calls : List Call) (x : Part) (core : CoreState) (done : List Called) (way : Option UnderWay) → MatchOption way (IsBetween x core) (IsUnderWay (length log) calls x core done) → MatchOption way (IsBetween x core) (IsUnderWay (length (log ++ es)) calls x core done)
@@ -51,6 +54,7 @@ fits_grows o log es calls p x port w =
       written = w.written;
       made = w.made;
       few = w.few;
+      least = least_grow o log es p 0 0 port.finished.items w.finished w.least;
       way = way_grows log es calls x port.core port.finished.items port.under_way w.way;
     }
 
@@ -104,14 +108,9 @@ set_here [] i a b = refl
 set_here (x ∷ xs) zero a b = refl
 set_here {A} (x ∷ xs) (suc i) a b = ap (λ (l : List A). x ∷ l) (set_here xs i a b)
 
-pub get_set : {A : Type 0} (xs : List A) (i : ℕ) (a b : A) → slice_get xs i ≡ Some a → slice_get (set xs i b) i ≡ Some b
-get_set [] i a b s = let bad : None ≡ Some a = s in cc
-get_set (x ∷ xs) zero a b s = refl
-get_set (x ∷ xs) (suc i) a b s = get_set xs i a b s
-
 -- a call begins, or is refused at once: the words and the history stay
-pub begin_keeps : (plans : List (List Call)) (z : Layout) (o : Opening) (words : List ℕ) (ports : List Port) (log : List Applied) (trace : List Event) (i : ℕ) (calls : List Call) (port new : Port) → IsRunOf plans z o words ports log trace → slice_get plans i ≡ Some calls → slice_get ports i ≡ Some port → KeepsFit calls (length log) port new → IsRunOf plans z o words (set ports i new) log trace
-begin_keeps plans z o words ports log trace i calls port new w c t keeps =
+pub begin_keeps : (plans : List (List Call)) (z : Layout) (o : Opening) (words : List ℕ) (ports : List Port) (log : List Applied) (trace : List Event) (i : ℕ) (calls : List Call) (port new : Port) → IsRunOf plans z o words ports log trace → slice_get plans i ≡ Some calls → slice_get ports i ≡ Some port → KeepsFit calls (length log) port new → KeepsMade calls (length log) port new → IsRunOf plans z o words (set ports i new) log trace
+begin_keeps plans z o words ports log trace i calls port new w c t keeps keeps_made =
     let at = at_port o log 0 plans w.parts ports i calls port w.fit c t in
     let same = append-nil log in
     let fits : PortFits o (log ++ []) calls (0 + i) (at.x) new = subst (λ (l : List Applied). PortFits o l calls (0 + i) (at.x) new) (sym same) (keeps o log (0 + i) (at.x) refl (at.fits)) in
@@ -122,6 +121,9 @@ begin_keeps plans z o words ports log trace i calls port new w c t keeps =
       lawful = w.lawful;
       without = w.without;
       leads = w.leads;
+      entries = w.entries;
+      senders = w.senders;
+      made = ports_begin plans z ports log trace i calls port new w.made c t keeps_made;
       fit = subst (λ (l : List Part). PortsFit o log 0 plans l (set ports i new)) (sym (at.is)) (subst (λ (l : List Applied). PortsFit o l 0 plans ((at.before) ++ (at.x) ∷ (at.after)) (set ports i new)) same (at.replace [] (at.x) new fits));
     }
 
@@ -145,6 +147,19 @@ exchange_within_at z words (ClaimingRecord c old) step n e f = let is : Add (z.m
 exchange_within_at z words (StoringRecord c old at k) step n e f = let is : Store (at + k) (get_or (record_block old c.value 0 []) k 0) ≡ step = cc in subst (IsExchangeWithin words) is tt
 exchange_within_at z words (Exchanging c old at) step n e f = let is : Exchange c.component old at ≡ step = cc in let sound = f refl in subst (IsExchangeWithin words) is (let top = (sound.2).1 in omega (arith, n, top))
 exchange_within_at z words (Finished r) step n e f = let bad : None ≡ Some step = e in cc
+
+-- only component words are exchanged
+component_at : (z : Layout) (s : Stage) (step : Step) → step_at z s ≡ Some step → (is_begun s ≡ false → IsStage z s) → IsOfComponent z.m step
+component_at z Idle step e f = let bad : None ≡ Some step = e in cc
+component_at z (ReadBegun j) step e f = let is : Load j ≡ step = cc in subst (IsOfComponent z.m) is tt
+component_at z (LoadingValue stamp) step e f = let is : Load (stamp + 1) ≡ step = cc in subst (IsOfComponent z.m) is tt
+component_at z (UpdateBegun c) step e f = let is : Load (c.component) ≡ step = cc in subst (IsOfComponent z.m) is tt
+component_at z (LoadingListHead c old) step e f = let is : Load (z.m + 1) ≡ step = cc in subst (IsOfComponent z.m) is tt
+component_at z (LoadingSlotCounter c old) step e f = let is : Load (z.m) ≡ step = cc in subst (IsOfComponent z.m) is tt
+component_at z (ClaimingRecord c old) step e f = let is : Add (z.m + 2) 3 ≡ step = cc in subst (IsOfComponent z.m) is tt
+component_at z (StoringRecord c old at k) step e f = let is : Store (at + k) (get_or (record_block old c.value 0 []) k 0) ≡ step = cc in subst (IsOfComponent z.m) is tt
+component_at z (Exchanging c old at) step e f = let is : Exchange c.component old at ≡ step = cc in let sound = f refl in subst (IsOfComponent z.m) is (sound.0)
+component_at z (Finished r) step e f = let bad : None ≡ Some step = e in cc
 
 -- the entry of a won exchange is the one that the machine adds
 entry_is_at : (z : Layout) (words : List ℕ) (c : CoreState) (s : Stage) (step : Step) (number a : ℕ) → a ≡ answer_of words step → c.port ≡ number → step_at z s ≡ Some step → ((ch : Change) (old at : ℕ) → s ≡ Exchanging ch old at → (get_or words (at + 1) 0 ≡ ch.value) × (ch.component < at)) → entry_at (words_after words step) number step a ≡ added_at c.port s a
@@ -202,8 +217,8 @@ may_step plans z o words ports log trace i calls port way w c t is =
     }
 
 -- a step keeps the replay's state
-pub step_keeps : (plans : List (List Call)) (z : Layout) (o : Opening) (words words' : List ℕ) (ports : List Port) (log log' : List Applied) (trace trace' : List Event) (i : ℕ) (calls : List Call) (port new : Port) → IsRunOf plans z o words ports log trace → slice_get plans i ≡ Some calls → slice_get ports i ≡ Some port → StepMade calls words words' trace trace' log log' port new → IsRunOf plans z o words' (set ports i new) log' trace'
-step_keeps plans z o words words' ports log log' trace trace' i calls port new w c t m =
+pub step_keeps : (plans : List (List Call)) (z : Layout) (o : Opening) (words words' : List ℕ) (ports : List Port) (log log' : List Applied) (trace trace' : List Event) (i : ℕ) (calls : List Call) (port new : Port) → IsRunOf plans z o words ports log trace → slice_get plans i ≡ Some calls → slice_get ports i ≡ Some port → AreStartedBut i ports → StepMade calls words words' trace trace' log log' port new → IsRunOf plans z o words' (set ports i new) log' trace'
+step_keeps plans z o words words' ports log log' trace trace' i calls port new w c t started m =
     let at = at_port o log 0 plans w.parts ports i calls port w.fit c t in
     let u = under_way o log calls (0 + i) (at.x) port (m.way) (at.fits) m.was in
     let lawful : Lawful z o words ((at.before) ++ (at.x) ∷ (at.after)) log = subst (λ (l : List Part). Lawful z o words l log) (at.is) w.lawful in
@@ -217,6 +232,10 @@ step_keeps plans z o words words' ports log log' trace trace' i calls port new w
     let y = moved port.core a log l.new (at.x) in
     let fits = step_fits z o words (at.before) (at.x) (at.after) log calls (0 + i) port new (m.step) (m.way) (at.fits) u l (reply_of (advance port.core a)) refl m.number m.falls after in
     let event : Event = record { port = port.number; step = m.step; answer = a } in
+    let sizes = sizes_here' z o log (at.x) port.core known u.machine in
+    let component : IsOfComponent z.m (m.step) = component_at z port.core.stage (m.step) (ap (λ (s : Layout). step_at s port.core.stage) sizes ∙ m.due) (λ b. subst (λ (d : CoreState). IsStage z d.stage) (sym (middle port.core (at.x) (is_begun port.core.stage) u.machine b)) (stage_known z o log (at.x) known)) in
+    let entries = entries_push z.m words' trace trace' log log' port.number (m.step) a w.entries component m.trace_is m.log_is in
+    let here : port.number ≡ i = (at.fits).number ∙ omega arith in
     record {
       parts = (at.before) ++ y ∷ (at.after);
       opened = w.opened;
@@ -225,6 +244,9 @@ step_keeps plans z o words words' ports log log' trace trace' i calls port new w
       without = subst (λ (ws : List ℕ). IsWithoutScans z ws ((at.before) ++ y ∷ (at.after)) log') (sym m.words_are) (subst (λ (k : List Applied). IsWithoutScans z (words_after words (m.step)) ((at.before) ++ y ∷ (at.after)) k) (sym log_is) l.without);
       fit = subst (λ (k : List Applied). PortsFit o k 0 plans ((at.before) ++ y ∷ (at.after)) (set ports i new)) (sym log_is) (at.replace (added port.core a) y new fits);
       leads = subst (λ (ws : List ℕ). Leads w.opened trace' ws) (sym m.words_are) (subst (λ (es : List Event). Leads w.opened es (words_after words (m.step))) (sym m.trace_is) (leads_push w.opened words trace event w.leads l.answers));
+      entries = entries;
+      senders = subst (AllByRecursion (λ (e : Event). e.port < length plans)) (sym m.trace_is) (AllByRecursion-push (λ (e : Event). e.port < length plans) trace event w.senders (let below = get_below plans i calls c in omega (arith, below, here)));
+      made = ports_step plans z words words' ports log log' trace trace' i calls port new w.made (log_long z.m trace log w.entries) (log_long z.m trace' log' entries) started c t here m;
     }
 
 -- the steps that the port has left
@@ -293,9 +315,14 @@ pub is_some_of : {A : Type 0} (f : Option A) → IsSome f → (a : A) × (f ≡ 
 is_some_of None w = absurd (false≢true w)
 is_some_of (Some a) w = (a, refl)
 
-pub on_true : (b : Bool) (P Q R : Type 0) → MatchBool b P Q → (P → R) → OnTrue b R
-on_true true P Q R m f = f m
-on_true false P Q R m f = tt
+pub match_bool : (b : Bool) (P Q R S : Type 0) → MatchBool b P Q → (P → R) → (Q → S) → MatchBool b R S
+match_bool true P Q R S m f g = f m
+match_bool false P Q R S m f g = g m
+
+-- a port that had made all its calls begins none
+pub begun_done : (b : Bool) (calls : List Call) (port new : Port) → length port.finished.items ≡ length calls → length port.finished.items ≤ length new.finished.items → MatchBool b (IsSome new.under_way × (length new.finished.items < length calls)) ((new.under_way ≡ None) × (length new.finished.items ≡ length calls)) → (new.under_way ≡ None) × (length new.finished.items ≡ length calls)
+begun_done true calls port new all more m = let below = m.1 in absurd (omega (arith, all, more, below))
+begun_done false calls port new all more m = m
 
 -- a port that a run has at a place, with the part that it fits
 pub port_in : (plans : List (List Call)) (z : Layout) (o : Opening) (words : List ℕ) (ports : List Port) (log : List Applied) (trace : List Event) (i : ℕ) (calls : List Call) (port : Port) → IsRunOf plans z o words ports log trace → slice_get plans i ≡ Some calls → slice_get ports i ≡ Some port → (x : Part) × PortFits o log calls (0 + i) x port

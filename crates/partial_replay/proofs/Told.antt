@@ -1,8 +1,8 @@
 -- The calls that a replay tells are a legal outcome.
-use Rattle.std.proofs.Common.{ℕ, ◌≡◌, ◌≢◌, ◌+◌, ◌<◌, ◌≤◌, ◌++◌, ◌==◌, Bool, true, false, cond, List, [], ◌∷◌, length, Option, Some, None, IfSome, IsSomeAnd, MatchOption, slice_get, refl, sym, ◌∙◌, ap, subst, inl, inr, arith, append_assoc}
-use Rattle.std.specs.List.{filter, filter_map}
+use Rattle.std.proofs.Common.{ℕ, zero, suc, ◌⊎◌, map, take, ◌≡◌, ◌≢◌, ◌+◌, ◌<◌, ◌≤◌, ◌++◌, ◌==◌, Bool, true, false, cond, List, [], ◌∷◌, length, Option, Some, None, IfSome, IsSomeAnd, MatchOption, slice_get, refl, sym, ◌∙◌, ap, subst, inl, inr, arith, append_assoc}
+use Rattle.std.specs.List.{filter, filter_map, AllByRecursion}
 use Rattle.std.proofs.lemmas.List.Elements.{filter-append, filter_map-append}
-use Rattle.std.proofs.lemmas.List.{append-nil}
+use Rattle.std.proofs.lemmas.List.{append-nil, length_push, map_push}
 use Rattle.std.proofs.lemmas.Bool.{ne_eqb}
 use Rattle.std.proofs.lemmas.Bool.Decides.{eqb_tells}
 use Rattle.partial_model.specs.declared.history.Applied.{Applied}
@@ -17,11 +17,13 @@ use Rattle.partial_words.specs.declared.step.Event.{Event}
 use Rattle.partial_core.specs.Lawful.{Part, port_of, notes_by}
 use Rattle.partial_replay.specs.declared.port.Port.{Port}
 use Rattle.partial_replay.specs.declared.port.UnderWay.{UnderWay}
+use Rattle.partial_replay.specs.Place.{HasLeastPlace}
+use Rattle.partial_replay.specs.Listed.{calls_by, AreFirstOf, AreAllMade}
+use Rattle.std.specs.Option.{IsSome}
+use Rattle.partial_replay.proofs.PortLaws.{take_next, same_eqb}
+use Rattle.partial_replay.proofs.Opens.{over_none, none_over}
 use Rattle.partial_replay.specs.PortState.{AreFinished, IsUnderWay, IsBetween, PortFits, end_of, ends_of, notes_in, unfinished_call}
 use Rattle.partial_replay.specs.RunState.{PortsFit, IsRunOf, left_over, calls_in}
-
-same_eqb : (a b : ℕ) → a ≡ b → (a == b) ≡ true
-same_eqb a b h = elim (eqb_tells a b) [ inl w ↦ w.0 | inr w ↦ absurd (w.1 h) ]
 
 notes_split : (p : ℕ) (xs ys : List Called) → notes_of p (xs ++ ys) ≡ notes_of p xs ++ notes_of p ys
 notes_split p xs ys = ap (filter_map noted_of) (filter-append (λ (c : Called). c.port == p) xs ys) ∙ filter_map-append noted_of (filter (λ (c : Called). c.port == p) xs) (filter (λ (c : Called). c.port == p) ys)
@@ -47,6 +49,97 @@ over_notes : (p : ℕ) (port : Port) (call : Option Call) (way : Option UnderWay
 over_notes p port (Some call) (Some way) = over_kept (unfinished_call port.number (length port.finished.items) call way) (port.number == p) refl
 over_notes p port None way = refl
 over_notes p port (Some call) None = refl
+
+-- the calls that are listed for a port
+split_calls : (p : ℕ) (calls : List Call) (plans : List (List Call)) (port : Port) (ports : List Port) → calls_by p (calls_in (calls ∷ plans) (port ∷ ports)) ≡ (calls_by p port.finished.items ++ calls_by p (left_over port (slice_get calls (length port.finished.items)) port.under_way)) ++ calls_by p (calls_in plans ports)
+split_calls p calls plans port ports =
+    let over = left_over port (slice_get calls (length port.finished.items)) port.under_way in
+    filter-append (λ (c : Called). c.port == p) (port.finished.items ++ over) (calls_in plans ports)
+    ∙ ap (λ (l : List Called). l ++ calls_by p (calls_in plans ports)) (filter-append (λ (c : Called). c.port == p) port.finished.items over)
+
+over_own : (p : ℕ) (port : Port) (call : Option Call) (way : Option UnderWay) → port.number ≡ p → calls_by p (left_over port call way) ≡ left_over port call way
+over_own p port (Some call) (Some way) h = ap (λ (b : Bool). cond b (left_over port (Some call) (Some way)) []) (same_eqb port.number p h)
+over_own p port None way h = refl
+over_own p port (Some call) None h = refl
+
+over_other : (p : ℕ) (port : Port) (call : Option Call) (way : Option UnderWay) → port.number ≢ p → calls_by p (left_over port call way) ≡ []
+over_other p port (Some call) (Some way) h = ap (λ (b : Bool). cond b (left_over port (Some call) (Some way)) []) (ne_eqb port.number p h)
+over_other p port None way h = refl
+over_other p port (Some call) None h = refl
+
+-- a port that isn't p lists no call of port p
+split_other : (o : Opening) (log : List Applied) (p q : ℕ) (calls : List Call) (plans : List (List Call)) (x : Part) (port : Port) (ports : List Port) → q ≢ p → PortFits o log calls q x port → calls_by p (calls_in (calls ∷ plans) (port ∷ ports)) ≡ calls_by p (calls_in plans ports)
+split_other o log p q calls plans x port ports away w =
+    split_calls p calls plans port ports
+    ∙ ap (λ (l : List Called). (l ++ calls_by p (left_over port (slice_get calls (length port.finished.items)) port.under_way)) ++ calls_by p (calls_in plans ports)) (other_filter (length log) q p 0 0 port.finished.items w.finished away)
+    ∙ ap (λ (l : List Called). l ++ calls_by p (calls_in plans ports)) (over_other p port (slice_get calls (length port.finished.items)) port.under_way (λ h. away (sym w.number ∙ h)))
+
+-- ports behind number p list no call of port p, and neither do those before it
+pub none_listed : (o : Opening) (log : List Applied) (p q : ℕ) (plans : List (List Call)) (parts : List Part) (ports : List Port) → (p < q) ⊎ (q + length plans ≤ p) → PortsFit o log q plans parts ports → calls_by p (calls_in plans ports) ≡ []
+none_listed o log p q [] [] [] out w = refl
+none_listed o log p q [] [] (t ∷ ports) out w = absurd w
+none_listed o log p q [] (x ∷ parts) ports out w = absurd w
+none_listed o log p q (c ∷ plans) [] ports out w = absurd w
+none_listed o log p q (c ∷ plans) (x ∷ parts) [] out w = absurd w
+none_listed o log p q (c ∷ plans) (x ∷ parts) (t ∷ ports) out w =
+    let away : q ≢ p = λ h. elim out [ inl less ↦ omega (arith, less, h) | inr more ↦ omega (arith, more, h) ] in
+    let rest : (p < q + 1) ⊎ (q + 1 + length plans ≤ p) = elim out [ inl less ↦ inl (omega (arith, less)) | inr more ↦ inr (omega (arith, more)) ] in
+    split_other o log p q c plans x t ports away w.0 ∙ none_listed o log p (q + 1) plans parts ports rest w.1
+
+-- the calls that a port has begun: the finished ones, and the one under way
+abbrev pub begun_by : List Call → Port → List Called
+begun_by calls port = port.finished.items ++ left_over port (slice_get calls (length port.finished.items)) port.under_way
+
+pub listed_at : (o : Opening) (log : List Applied) (q i : ℕ) (plans : List (List Call)) (parts : List Part) (ports : List Port) (calls : List Call) (port : Port) → PortsFit o log q plans parts ports → slice_get plans i ≡ Some calls → slice_get ports i ≡ Some port → calls_by (q + i) (calls_in plans ports) ≡ begun_by calls port
+listed_at o log q i [] parts ports calls port w c t = let bad : None ≡ Some calls = c in cc
+listed_at o log q i (d ∷ plans) [] ports calls port w c t = absurd w
+listed_at o log q i (d ∷ plans) (x ∷ parts) [] calls port w c t = absurd w
+listed_at o log q zero (d ∷ plans) (x ∷ parts) (u ∷ ports) calls port w c t =
+    let is : d ≡ calls = cc in
+    let same : u ≡ port = cc in
+    let here : q + 0 ≡ q = omega arith in
+    ap (λ n. calls_by n (calls_in (d ∷ plans) (u ∷ ports))) here
+    ∙ split_calls q d plans u ports
+    ∙ ap (λ (l : List Called). (l ++ calls_by q (left_over u (slice_get d (length u.finished.items)) u.under_way)) ++ calls_by q (calls_in plans ports)) (own_filter (length log) q 0 0 u.finished.items w.0.finished)
+    ∙ ap (λ (l : List Called). (u.finished.items ++ l) ++ calls_by q (calls_in plans ports)) (over_own q u (slice_get d (length u.finished.items)) u.under_way w.0.number)
+    ∙ ap (λ (l : List Called). begun_by d u ++ l) (none_listed o log q (q + 1) plans parts ports (inl (omega arith)) w.1)
+    ∙ append-nil (begun_by d u)
+    ∙ ap (λ (e : List Call). begun_by e u) is ∙ ap (begun_by calls) same
+listed_at o log q (suc i) (d ∷ plans) (x ∷ parts) (u ∷ ports) calls port w c t =
+    let next : q + suc i ≡ q + 1 + i = omega arith in
+    ap (λ n. calls_by n (calls_in (d ∷ plans) (u ∷ ports))) next
+    ∙ split_other o log (q + 1 + i) q d plans x u ports (λ h. omega (arith, h)) w.0
+    ∙ listed_at o log (q + 1) i plans parts ports calls port w.1 c t
+
+-- the calls that a port has begun are the first of the plan's
+first_over : (n : ℕ) (calls : List Call) (x : Part) (port : Port) (way : Option UnderWay) → map (λ (c : Called). c.call) port.finished.items ≡ take (length port.finished.items) calls → MatchOption way (IsBetween x port.core) (IsUnderWay n calls x port.core port.finished.items) → AreFirstOf calls (port.finished.items ++ left_over port (slice_get calls (length port.finished.items)) way)
+first_over n calls x port None made w =
+    let none : port.finished.items ++ left_over port (slice_get calls (length port.finished.items)) None ≡ port.finished.items = ap (λ (l : List Called). port.finished.items ++ l) (over_none port (slice_get calls (length port.finished.items))) ∙ append-nil port.finished.items in
+    subst (AreFirstOf calls) (sym none) made
+first_over n calls x port (Some way) made w =
+    let c = unfinished_call port.number (length port.finished.items) w.call way in
+    let over : left_over port (slice_get calls (length port.finished.items)) (Some way) ≡ c ∷ [] = ap (λ (f : Option Call). left_over port f (Some way)) w.next in
+    subst (λ (l : List Called). AreFirstOf calls (port.finished.items ++ l)) (sym over)
+    (map_push (λ (d : Called). d.call) port.finished.items c
+    ∙ ap (λ (l : List Call). l ++ w.call ∷ []) made
+    ∙ sym (ap (λ k. take k calls) (length_push port.finished.items c) ∙ take_next calls (length port.finished.items) (w.call) w.next))
+
+pub first_begun : (o : Opening) (log : List Applied) (calls : List Call) (p : ℕ) (x : Part) (port : Port) → PortFits o log calls p x port → AreFirstOf calls (begun_by calls port)
+first_begun o log calls p x port w = first_over (length log) calls x port port.under_way w.made w.way
+
+-- where no call is under way, the calls that a port has begun are finished
+ended_calls : (n p k low : ℕ) (cs : List Called) → AreFinished n p k low cs → AllByRecursion (λ (c : Called). IsSome c.finish) cs
+ended_calls n p k low [] w = tt
+ended_calls n p k low (c ∷ cs) w = (has_ended c.finish _ w.2.ended, ended_calls n p (k + 1) (end_of low c) cs w.3)
+  where
+    has_ended : (f : Option Finish) (P : Finish → Type 0) → IsSomeAnd f P → IsSome f
+    has_ended None P h = absurd h
+    has_ended (Some g) P h = refl
+
+pub all_made : (o : Opening) (log : List Applied) (calls : List Call) (p : ℕ) (x : Part) (port : Port) → PortFits o log calls p x port → port.under_way ≡ None → length port.finished.items ≡ length calls → AreAllMade calls (begun_by calls port)
+all_made o log calls p x port w none all =
+    let is : begun_by calls port ≡ port.finished.items = ap (λ (l : List Called). port.finished.items ++ l) (sym (none_over port (slice_get calls (length port.finished.items)) none)) ∙ append-nil port.finished.items in
+    subst (AreAllMade calls) (sym is) (all, ended_calls (length log) p 0 0 port.finished.items w.finished)
 
 -- what is noted of one port's calls and of those behind it
 head_notes : (p : ℕ) (calls : List Call) (plans : List (List Call)) (port : Port) (ports : List Port) (own : List Noted) → notes_of p port.finished.items ≡ own → notes_of p (calls_in (calls ∷ plans) (port ∷ ports)) ≡ own ++ notes_of p (calls_in plans ports)
@@ -160,6 +253,26 @@ time_told o log q (c ∷ plans) (x ∷ parts) (t ∷ ports) b w begins =
     (λ d at number. begins d (omega (arith, at)) number)
     (λ d goes next. over_time n q c x t call t.under_way d tail w.0.number w.0.way (subst (λ (m : ℕ). GoesBehind d q m (ends_of 0 t.finished.items)) (omega arith) goes) next
     (λ e more. time_told o log (q + 1) plans parts ports e w.1 more)))
+
+AllByRecursion-append : {A : Type 0} (P : A → Type 0) (xs ys : List A) → AllByRecursion P xs → AllByRecursion P ys → AllByRecursion P (xs ++ ys)
+AllByRecursion-append P [] ys a b = b
+AllByRecursion-append P (x ∷ xs) ys a b = (a.0, AllByRecursion-append P xs ys a.1 b)
+
+-- what each call saw is the least prefix that shows it
+least_over : (o : Opening) (log : List Applied) (port : Port) (call : Option Call) (way : Option UnderWay) → AllByRecursion (HasLeastPlace o log) (left_over port call way)
+least_over o log port (Some call) (Some way) = (tt, tt)
+least_over o log port None way = tt
+least_over o log port (Some call) None = tt
+
+pub least_told : (o : Opening) (log : List Applied) (q : ℕ) (plans : List (List Call)) (parts : List Part) (ports : List Port) → PortsFit o log q plans parts ports → AllByRecursion (HasLeastPlace o log) (calls_in plans ports)
+least_told o log q [] [] [] w = tt
+least_told o log q [] [] (t ∷ ports) w = absurd w
+least_told o log q [] (x ∷ parts) ports w = absurd w
+least_told o log q (c ∷ plans) [] ports w = absurd w
+least_told o log q (c ∷ plans) (x ∷ parts) [] w = absurd w
+least_told o log q (c ∷ plans) (x ∷ parts) (t ∷ ports) w =
+    let over = left_over t (slice_get c (length t.finished.items)) t.under_way in
+    AllByRecursion-append (HasLeastPlace o log) (t.finished.items ++ over) (calls_in plans ports) (AllByRecursion-append (HasLeastPlace o log) t.finished.items over w.0.least (least_over o log t (slice_get c (length t.finished.items)) t.under_way)) (least_told o log (q + 1) plans parts ports w.1)
 
 -- the calls of a replay are a legal outcome of its history
 pub run_legal : (plans : List (List Call)) (z : Layout) (o : Opening) (words : List ℕ) (ports : List Port) (log : List Applied) (trace : List Event) → IsRunOf plans z o words ports log trace → LegalOutcome o log (calls_in plans ports)

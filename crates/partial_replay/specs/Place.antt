@@ -1,7 +1,14 @@
 -- Where in the history a call has its place: the entry with a stamp, from the call's begin on.
-use Rattle.std.specs.Prelude.{ℕ, ◌≡◌, ◌≢◌, ◌+◌, ◌≤◌, List, Option, Some, None, MatchOption, slice_get}
+use Rattle.std.specs.Prelude.{ℕ, ◌≡◌, ◌≢◌, ◌+◌, ◌<◌, ◌≤◌, ⊤, List, map, take, Option, Some, None, IfSome, MatchOption, slice_get}
 use Rattle.std.specs.Option.{option_map}
 use Rattle.partial_model.specs.declared.history.Applied.{Applied}
+use Rattle.partial_model.specs.declared.history.Opening.{Opening}
+use Rattle.partial_model.specs.declared.call.Call.{Call}
+use Rattle.partial_model.specs.declared.call.Call.TheVariants as call
+use Rattle.partial_model.specs.declared.call.Answer.{Answer}
+use Rattle.partial_model.specs.declared.call.Answer.TheVariants as answer
+use Rattle.partial_model.specs.declared.call.Called.{Called}
+use Rattle.partial_model.specs.History.{value_of, stamp_of}
 use Rattle.partial_model.specs.declared.call.Note.{Note}
 use Rattle.partial_model.specs.declared.call.Note.TheVariants as note
 use Rattle.partial_core.specs.declared.stage.Reply.{Reply}
@@ -31,3 +38,18 @@ IsNoteFrom h began (reply.Lost by) result = (found : Option ℕ) × IsPlaceFrom 
 IsNoteFrom h began (reply.Read v s) result = (found : Option ℕ) × IsPlaceFrom h began s found × (result ≡ Some (note.Saw (prefix_from began found)))
 IsNoteFrom h began (reply.Changed by) result = (found : Option ℕ) × IsPlaceFrom h began by found × (result ≡ Some (note.Saw (prefix_from began found)))
 IsNoteFrom h began (reply.Refused cause) result = result ≡ None
+
+-- the history shows the answer: the values, of a read the stamp too, and of a changed component the stamp
+abbrev pub Shows : Opening → List Applied → Call → Answer → Type 0
+Shows o h (call.Scan js) (answer.Scanned vs c b) = vs ≡ map (λ j. value_of o h j) js
+Shows o h (call.Read j) (answer.Read v s) = (v ≡ value_of o h j) × (s ≡ stamp_of o h j)
+Shows o h (call.UpdateIf j x v) (answer.Changed t) = stamp_of o h j ≡ t
+Shows o h _ _ = ⊤
+
+-- what a call saw is the least prefix from its begin on that shows its answer
+abbrev pub IsLeastFrom : Opening → List Applied → ℕ → Call → Answer → Note → Type 0
+IsLeastFrom o h began c a (note.Saw n) = (i : ℕ) → began ≤ i → i < n → ¬ Shows o (take i h) c a
+IsLeastFrom o h began c a _ = ⊤
+
+abbrev pub HasLeastPlace : Opening → List Applied → Called → Type 0
+HasLeastPlace o h c = IfSome c.finish (λ f. IfSome f.note (IsLeastFrom o h c.began c.call f.answer))

@@ -18,11 +18,15 @@ use Rattle.partial_words.specs.declared.step.Event.{Event}
 use Rattle.partial_words.specs.Step.{word_of, answer_of, words_after}
 use Rattle.partial_words.specs.Record.{value_of}
 use Rattle.partial_core.specs.declared.stage.Reply.{Reply}
-use Rattle.partial_core.specs.declared.stage.Stage.{Stage}
-use Rattle.partial_core.specs.declared.stage.Stage.TheVariants.{Idle, ReadBegun, UpdateBegun}
-use Rattle.partial_core.specs.Machine.{CoreState, at_stage, advance, step_of, reply_of, read_refusal, update_refusal, IsPossible, steps_left}
+use Rattle.partial_core.specs.declared.stage.Stage.TheVariants.{Idle}
+use Rattle.partial_core.specs.Machine.{CoreState, at_stage, advance, step_of, reply_of, IsPossible, steps_left}
 use Rattle.partial_core.specs.Lawful.{Part, core_of, port_of, is_begun, is_at_rest, IsMachineOf, begun_with, call_at, first_at, answer_for}
-use Rattle.partial_replay.specs.Place.{IsNoteFrom}
+use Rattle.partial_words.specs.Layout.{Layout}
+use Rattle.partial_core.specs.Machine.{fresh}
+use Rattle.partial_replay.specs.Trace.{Moment}
+use Rattle.partial_replay.specs.CallSteps.{stage_of, refusal_of, Makes, AreStepsOf}
+use Rattle.partial_replay.specs.Place.{IsNoteFrom, HasLeastPlace}
+use Rattle.std.specs.List.{AllByRecursion}
 use Rattle.partial_replay.specs.declared.port.Port.{Port}
 use Rattle.partial_replay.specs.declared.port.UnderWay.{UnderWay}
 
@@ -30,20 +34,6 @@ use Rattle.partial_replay.specs.declared.port.UnderWay.{UnderWay}
 abbrev pub IsServed : Call → Type 0
 IsServed (call.Scan js) = ⊥
 IsServed _ = ⊤
-
--- the stage at which a call begins
-abbrev pub stage_of : Call → Stage
-stage_of (call.Update j v) = UpdateBegun (record { component = j; expected = None; value = v })
-stage_of (call.Scan js) = Idle
-stage_of (call.Read j) = ReadBegun j
-stage_of (call.UpdateIf j s v) = UpdateBegun (record { component = j; expected = Some s; value = v })
-
--- why a call is refused at once
-abbrev pub refusal_of : CoreState → Call → Option Refused
-refusal_of s (call.Update j v) = update_refusal s j
-refusal_of s (call.Scan js) = None
-refusal_of s (call.Read j) = read_refusal s j
-refusal_of s (call.UpdateIf j x v) = update_refusal s j
 
 -- how long the history was at the end of a call, and of the last of several
 abbrev pub end_of : ℕ → Called → ℕ
@@ -96,6 +86,8 @@ pub record PortFits (o : Opening) (log : List Applied) (calls : List Call) (p : 
   -- the finished calls are the first of the plan's
   pub made : map (λ c. c.call) port.finished.items ≡ take (length port.finished.items) calls
   pub few : length port.finished.items ≤ length calls
+  -- what they saw is the least prefix that shows it
+  pub least : AllByRecursion (HasLeastPlace o log) port.finished.items
   pub way : MatchOption port.under_way (IsBetween x port.core) (IsUnderWay (length log) calls x port.core port.finished.items)
 
 -- the entry of a won exchange, whose record stands in the words
@@ -169,3 +161,30 @@ IsEndedCall port number call way log r c = (note : Option Note) × IsNoteFrom lo
 -- a port goes on as its part's port, in whatever lawful state, while the history has so many entries
 abbrev pub KeepsFit : List Call → ℕ → Port → Port → Type 0
 KeepsFit calls seen old new = (o : Opening) (log : List Applied) (p : ℕ) (x : Part) → length log ≡ seen → PortFits o log calls p x old → PortFits o log calls p x new
+
+-- how long the history was before the first of the events, or is with n entries where there is none
+abbrev pub began_at : ℕ → List Moment → ℕ
+began_at n [] = n
+began_at n (x ∷ xs) = x.before
+
+-- the call under way has made these events since the machine was at s between calls; the history has n entries
+pub record IsGoing (n : ℕ) (calls : List Call) (done : List Called) (s core : CoreState) (own : List Moment) (way : UnderWay) : Type 0 where
+  pub call : Call
+  pub next : slice_get calls (length done) ≡ Some call
+  pub begins : refusal_of s call ≡ None
+  pub makes : Makes (at_stage s (stage_of call)) own core
+  pub steps : length own ≡ way.steps
+  pub began : way.began ≡ began_at n own
+
+-- the port's events are the steps of its calls, and then of the one under way
+pub record PortMade (z : Layout) (n : ℕ) (calls : List Call) (p : ℕ) (xs : List Moment) (port : Port) : Type 0 where
+  pub done : List Moment
+  pub own : List Moment
+  pub at : CoreState
+  pub is : xs ≡ done ++ own
+  pub led : AreStepsOf (fresh z p) port.finished.items done at
+  pub going : MatchOption port.under_way ((own ≡ []) × (port.core ≡ at)) (IsGoing n calls port.finished.items at port.core own)
+
+-- the port's events are still the steps of its calls
+abbrev pub KeepsMade : List Call → ℕ → Port → Port → Type 0
+KeepsMade calls seen old new = (z : Layout) (p : ℕ) (xs : List Moment) → PortMade z seen calls p xs old → PortMade z seen calls p xs new

@@ -1,21 +1,42 @@
--- What a replay tells: a legal outcome of one history, with the words and the steps that led to them.
-use Rattle.std.specs.Prelude.{ℕ, ◌≡◌, List, length}
+-- What a replay of a plan tells: a legal outcome of one history, with the words and the steps that led to them.
+use Rattle.std.specs.Prelude.{ℕ, ◌≡◌, List, [], length, get_or, filter_map}
 use Rattle.partial_model.specs.Outcome.{LegalOutcome}
-use Rattle.partial_words.specs.Layout.{Layout, pool_base}
+use Rattle.partial_words.specs.Layout.{pool_base}
+use Rattle.partial_words.specs.Record.{value_of}
 use Rattle.partial_words.specs.Step.{Leads}
 use Rattle.partial_words.specs.Chain.{Agrees, AreOpeningWords}
+use Rattle.partial_core.specs.Machine.{CoreState, fresh}
+use Rattle.partial_text.specs.PlanText.{PlanView}
 use Rattle.partial_text.specs.declared.outcome.Outcome.{Outcome}
+use Rattle.std.specs.List.{AllByRecursion}
+use Rattle.partial_replay.specs.Place.{HasLeastPlace}
+use Rattle.partial_replay.specs.Trace.{entry_of, moments_by, ports_of}
+use Rattle.partial_replay.specs.CallSteps.{AreStepsOf}
+use Rattle.partial_replay.specs.Turns.{turns_of, turns_by, ports_in}
+use Rattle.partial_replay.specs.Listed.{calls_by, steps_by, AreFirstOf, HaveMade}
 
--- the outcome of a replay on a memory of these sizes that opens with these values
-pub record IsReplayOf (sizes : Layout) (initial : List ℕ) (outcome : Outcome) : Type 0 where
-  -- it opened with the values, each with a record's word number for its first stamp
-  pub values : outcome.opening.values ≡ initial
-  pub first : outcome.opening.first ≡ pool_base sizes
+-- the outcome of a replay of the plan
+pub record IsReplayOf (p : PlanView) (outcome : Outcome) : Type 0 where
+  -- it opened with the plan's values, each with a record's word number for its first stamp
+  pub values : outcome.opening.values ≡ p.initial
+  pub first : outcome.opening.first ≡ pool_base p.sizes
   -- the calls are a legal outcome of the history, and the words agree with it
   pub legal : LegalOutcome outcome.opening outcome.history.items outcome.calls.items
   pub agrees : Agrees outcome.opening outcome.words.items outcome.history.items
+  -- what a call saw is the least prefix from its begin on that shows its answer
+  pub places : AllByRecursion (HasLeastPlace outcome.opening outcome.history.items) outcome.calls.items
+  -- the calls of each port are the first of the plan's, in order
+  pub calls : (q : ℕ) → AreFirstOf (get_or p.ports q []) (calls_by q outcome.calls.items)
   -- the trace leads from the words at opening to the words
   pub opened : List ℕ
-  pub opens : AreOpeningWords sizes initial opened
+  pub opens : AreOpeningWords p.sizes p.initial opened
   pub leads : Leads opened outcome.trace.items outcome.words.items
   pub steps : outcome.steps ≡ length outcome.trace.items
+  -- its won exchanges of component words are the history, in order
+  pub entries : outcome.history.items ≡ filter_map (entry_of p.sizes.m (value_of outcome.words.items)) outcome.trace.items
+  -- each port's events are the steps of its calls, call by call
+  pub events : (q : ℕ) → (last : CoreState) × AreStepsOf (fresh p.sizes q) (calls_by q outcome.calls.items) (moments_by p.sizes.m q outcome.trace.items) last
+  -- the trace's events are of the plan's turns in order, of each port the first ones, as many as its calls have steps
+  pub turns : ports_of outcome.trace.items ≡ ports_in (turns_of p) (λ q. steps_by q outcome.calls.items)
+  -- each port makes a step in each of its turns until all its calls are made, and with the rest all are
+  pub made : (q : ℕ) → HaveMade p.rest (turns_by q p.steps) (steps_by q outcome.calls.items) (get_or p.ports q []) (calls_by q outcome.calls.items)

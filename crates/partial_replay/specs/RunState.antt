@@ -1,6 +1,6 @@
 -- The state of a replay: lawful, with a part for each port, and a trace that leads to its words.
-use Rattle.std.specs.Prelude.{ℕ, ◌≡◌, ◌+◌, ◌*◌, ◌-◌, ◌<◌, ◌^◌, ⊤, zero, suc, List, [], ◌∷◌, length, slice_get, Option, Some, None, IsSome, ◌++◌}
-use Rattle.std.specs.List.{AllByRecursion}
+use Rattle.std.specs.Prelude.{ℕ, ◌≡◌, ◌≢◌, ◌+◌, ◌*◌, ◌-◌, ◌<◌, ◌^◌, ⊤, zero, suc, List, [], ◌∷◌, length, slice_get, Option, Some, None, IsSome, ◌++◌, map}
+use Rattle.std.specs.List.{AllByRecursion, filter_map}
 use Rattle.partial_model.specs.declared.history.Applied.{Applied}
 use Rattle.partial_model.specs.declared.history.Opening.{Opening}
 use Rattle.partial_model.specs.declared.call.Call.{Call}
@@ -15,7 +15,9 @@ use Rattle.partial_core.specs.Lawful.{Part, Lawful, IsWithoutScans}
 use Rattle.partial_replay.specs.declared.port.Port.{Port}
 use Rattle.partial_replay.specs.declared.port.UnderWay.{UnderWay}
 use Rattle.partial_replay.specs.declared.run.Run.{Run}
-use Rattle.partial_replay.specs.PortState.{PortFits, IsServed, unfinished_call}
+use Rattle.partial_text.specs.declared.outcome.Outcome.{Outcome}
+use Rattle.partial_replay.specs.Trace.{entry_of, moments_by}
+use Rattle.partial_replay.specs.PortState.{PortFits, PortMade, IsServed, unfinished_call}
 
 -- the ports from number p on, each with its calls and its part
 abbrev pub PortsFit : Opening → List Applied → ℕ → List (List Call) → List Part → List Port → Type 0
@@ -27,6 +29,21 @@ PortsFit o log p _ _ _ = ⊥
 abbrev pub ArePlans : List (List Call) → Type 0
 ArePlans plans = AllByRecursion (λ calls. (length calls < 2 ^ 32) × AllByRecursion IsServed calls) plans
 
+-- each port's events are the steps of its calls
+abbrev pub ArePortsMade : List (List Call) → Layout → List Port → List Applied → List Event → Type 0
+ArePortsMade plans z ports log trace = (q : ℕ) (calls : List Call) (port : Port) → slice_get plans q ≡ Some calls → slice_get ports q ≡ Some port → PortMade z (length log) calls q (moments_by z.m q trace) port
+
+-- the call under way of a port has made a step
+abbrev pub AreStarted : List Port → Type 0
+AreStarted ports = (q : ℕ) (port : Port) (way : UnderWay) → slice_get ports q ≡ Some port → port.under_way ≡ Some way → 0 < way.steps
+
+abbrev pub AreStartedBut : ℕ → List Port → Type 0
+AreStartedBut p ports = (q : ℕ) (port : Port) (way : UnderWay) → q ≢ p → slice_get ports q ≡ Some port → port.under_way ≡ Some way → 0 < way.steps
+
+-- an entry without its value, which stands in its record
+abbrev pub unvalued : Applied → Applied
+unvalued e = record { port = e.port; component = e.component; value = 0; stamp = e.stamp }
+
 -- the state of a replay of these calls is lawful, and its trace leads from the words at opening to its words
 pub record IsRunOf (plans : List (List Call)) (z : Layout) (o : Opening) (words : List ℕ) (ports : List Port) (log : List Applied) (trace : List Event) : Type 0 where
   pub parts : List Part
@@ -36,6 +53,11 @@ pub record IsRunOf (plans : List (List Call)) (z : Layout) (o : Opening) (words 
   pub without : IsWithoutScans z words parts log
   pub fit : PortsFit o log 0 plans parts ports
   pub leads : Leads opened trace words
+  -- the won exchanges of component words in the trace are the history, but for the values
+  pub entries : filter_map (entry_of z.m (λ _. 0)) trace ≡ map unvalued log
+  -- each port's events are the steps of its calls
+  pub senders : AllByRecursion (λ e. e.port < length plans) trace
+  pub made : ArePortsMade plans z ports log trace
 
 abbrev pub IsRun : List (List Call) → Run → Type 0
 IsRun plans run = IsRunOf plans run.sizes run.opening run.words.items run.ports.items run.history.items run.trace.items
@@ -56,9 +78,9 @@ left_at p (calls ∷ plans) [] = 0
 left_at zero (calls ∷ plans) (port ∷ ports) = left_of calls port
 left_at (suc p) (calls ∷ plans) (port ∷ ports) = left_at p plans ports
 
--- a call of the port with that number is under way
+-- a call of the port with that number is under way, and any other call under way has made a step
 abbrev pub IsReady : ℕ → Run → Type 0
-IsReady p run = (port : Port) × (way : UnderWay) × (slice_get run.ports.items p ≡ Some port) × (port.under_way ≡ Some way)
+IsReady p run = (port : Port) × (way : UnderWay) × (slice_get run.ports.items p ≡ Some port) × (port.under_way ≡ Some way) × AreStartedBut p run.ports.items
 
 -- so many ports from that number on that have made no call
 abbrev pub FreshFrom : Layout → ℕ → List Port → Type 0
@@ -83,3 +105,12 @@ abbrev pub AreListed : List (List Call) → List Port → Type 0
 AreListed [] [] = ⊤
 AreListed (calls ∷ plans) (port ∷ ports) = (length calls < 2 ^ 32) × AllByRecursion IsServed calls × (IsSome port.under_way → length port.finished.items < length calls) × AreListed plans ports
 AreListed _ _ = ⊥
+
+-- what a replay has come to in the end
+pub record Tells (plans : List (List Call)) (run : Run) (outcome : Outcome) : Type 0 where
+  pub opening : outcome.opening ≡ run.opening
+  pub history : outcome.history.items ≡ run.history.items
+  pub calls : outcome.calls.items ≡ calls_in plans run.ports.items
+  pub words : outcome.words.items ≡ run.words.items
+  pub trace : outcome.trace.items ≡ run.trace.items
+  pub steps : outcome.steps ≡ length run.trace.items

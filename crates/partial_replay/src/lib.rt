@@ -2,11 +2,13 @@
 //! it is told. The texts of plans and outcomes are passed on.
 #![tactic(auto)]
 
+mod law;
 mod note;
 mod port;
 mod replaying;
 mod run;
 
+pub use law::one_port_is_alone;
 pub use partial_text::{Cause, Device, Outcome, OutcomeError, Plan, PlanError, write_outcome};
 pub use partial_words::Event;
 pub use replaying::{ReplayError, replay};

@@ -5,7 +5,8 @@ ghost use Rattle.std.specs.Option.{option_to_list};
 ghost use Rattle.std.specs.List.{AllByRecursion};
 ghost use Rattle.partial_core.specs.declared.stage.Stage.TheVariants.{Idle};
 ghost use Rattle.partial_core.specs.Machine.{at_stage};
-ghost use Rattle.partial_replay.specs.PortState.{IsServed, IsExchangeWithin, stage_of, refusal_of, entry_at, refused_call, unfinished_call, IsEndedCall, KeepsFit, MayStep, StepMade};
+ghost use Rattle.partial_replay.specs.CallSteps.{stage_of, refusal_of};
+ghost use Rattle.partial_replay.specs.PortState.{IsServed, IsExchangeWithin, entry_at, refused_call, unfinished_call, IsEndedCall, KeepsFit, KeepsMade, MayStep, StepMade};
 
 use crate::note::{answer_of, note_of};
 use partial_core::{Core, Reply};
@@ -108,8 +109,9 @@ impl Port {
         requires numbers { length calls.now < 2 ^ 32 }
         requires served { AllByRecursion IsServed calls.now }
         ensures fits { OnOk result (KeepsFit calls.now seen self.old self.new) }
+        ensures made { OnOk result (KeepsMade calls.now seen self.old self.new) }
         ensures more { OnOk result (length self.old.finished.items ≤ length self.new.finished.items) }
-        ensures begun { IfOk result (λ begun. MatchBool begun (IsSome self.new.under_way)
+        ensures begun { IfOk result (λ begun. MatchBool begun (IsSome self.new.under_way × (length self.new.finished.items < length calls.now))
             ((self.new.under_way ≡ None) × (length self.new.finished.items ≡ length calls.now))) }
     {
         while self.finished.len() < calls.len() {

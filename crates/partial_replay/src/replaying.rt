@@ -45,7 +45,7 @@ impl From<AllocError> for ReplayError {
 ///
 /// `Memory` where a growth was refused: the words, the trace or the calls found no room.
 pub fn replay(alloc: Global, plan: &Plan) -> Result<Outcome, ReplayError>
-    ensures { IfOk result (IsReplayOf plan.now.sizes plan.now.initial) }
+    ensures { IfOk result (IsReplayOf plan.now) }
 {
     let plans = plan.ports();
     let mut run = Run::open(alloc, plan.sizes(), plan.initial(), plans)?;

@@ -1,6 +1,6 @@
 //! A replay under way: the words, the ports that work on them, and what has happened so far.
 
-ghost use Rattle.std.specs.Prelude.{◌≡◌, ◌<◌, ◌≤◌, ◌^◌, length, slice_index, IfOk, OnOk};
+ghost use Rattle.std.specs.Prelude.{◌≡◌, ◌<◌, ◌≤◌, ◌^◌, length, slice_index, IfOk, OnOk, MatchBool, Some, None, []};
 ghost use Rattle.std.specs.Bool.{OnTrue};
 ghost use Rattle.partial_words.specs.Layout.{IsLayout};
 ghost use Rattle.partial_words.specs.Chain.{AreOpeningWords};
@@ -38,8 +38,8 @@ fn opening_words(alloc: Global, sizes: Sizes, initial: &[u64]) -> Result<Vec<u64
 }
 
 impl Run {
-    ghost use Rattle.partial_replay.specs.Replayed.{IsReplayOf};
-    ghost use Rattle.partial_replay.specs.RunState.{ArePlans, IsRun, IsReady, IsSameOpening, left_at};
+    ghost use Rattle.partial_replay.specs.RunState.{ArePlans, AreStarted, IsReady, IsRun, IsSameOpening, Tells, left_at};
+    ghost use Rattle.partial_replay.specs.TurnState.{EndsInSteps, GoesOnBy, IsDone, StayDone, StaysEndingBut, StaysEndingWith, TurnMade, TurnsMade};
 
     /// The replay as it opens, with the ports of a plan.
     pub fn open(
@@ -53,6 +53,9 @@ impl Run {
         requires ports { length plans.now ≤ 64 }
         ensures run { IfOk result (IsRun plans.now) }
         ensures opening { IfOk result (λ run. (run.sizes ≡ sizes) × (run.opening.values ≡ initial.now)) }
+        ensures trace { IfOk result (λ run. run.trace.items ≡ []) }
+        ensures started { IfOk result (λ run. AreStarted run.ports.items) }
+        ensures ending { IfOk result (EndsInSteps []) }
     {
         let first = u64::from(sizes.pool_base());
         Ok(Run {
@@ -71,10 +74,13 @@ impl Run {
     /// One turn of a port: it makes one step, or answers that it has no call left.
     pub fn turn(&mut self, p: usize, plans: &[Sequence<Call>]) -> Result<bool, AllocError>
         requires run { IsRun plans.now self.old }
+        requires started { AreStarted self.old.ports.items }
         requires plans { ArePlans plans.now }
         requires port { p < length plans.now }
         ensures run { OnOk result (IsRun plans.now self.new) }
         ensures same { OnOk result (IsSameOpening self.old self.new) }
+        ensures started { OnOk result (AreStarted self.new.ports.items) }
+        ensures turn { IfOk result (λ stepped. TurnMade plans.now p self.old stepped self.new) }
         ensures progress { IfOk result (λ stepped. OnTrue stepped (left_at p plans.now self.new.ports.items < left_at p plans.now self.old.ports.items)) }
     {
         if !self.get_ready(p, plans)? {
@@ -87,11 +93,15 @@ impl Run {
     // Begins the port's next call where none is under way, or answers that none is left.
     fn get_ready(&mut self, p: usize, plans: &[Sequence<Call>]) -> Result<bool, AllocError>
         requires run { IsRun plans.now self.old }
+        requires started { AreStarted self.old.ports.items }
         requires plans { ArePlans plans.now }
         requires port { p < length plans.now }
         ensures run { OnOk result (IsRun plans.now self.new) }
         ensures same { OnOk result (IsSameOpening self.old self.new) }
-        ensures ready { IfOk result (λ ready. OnTrue ready (IsReady p self.new)) }
+        ensures ready { IfOk result (λ ready. MatchBool ready (IsReady p self.new) (IsDone plans.now self.new.ports.items p × AreStarted self.new.ports.items)) }
+        ensures trace { OnOk result (GoesOnBy 0 p self.old self.new) }
+        ensures done { OnOk result (StayDone plans.now self.old self.new) }
+        ensures ending { OnOk result (StaysEndingBut p self.old self.new) }
         ensures left { OnOk result (left_at p plans.now self.new.ports.items ≤ left_at p plans.now self.old.ports.items) }
     {
         let calls = plans[p].as_slice();
@@ -112,6 +122,10 @@ impl Run {
         requires ready { IsReady p self.old }
         ensures run { OnOk result (IsRun plans.now self.new) }
         ensures same { OnOk result (IsSameOpening self.old self.new) }
+        ensures started { OnOk result (AreStarted self.new.ports.items) }
+        ensures trace { OnOk result (GoesOnBy 1 p self.old self.new) }
+        ensures ending { OnOk result (StaysEndingWith p self.old self.new) }
+        ensures done { OnOk result (StayDone plans.now self.old self.new) }
         ensures progress { OnOk result (left_at p plans.now self.new.ports.items < left_at p plans.now self.old.ports.items) }
     {
         let calls = plans[p].as_slice();
@@ -127,10 +141,13 @@ impl Run {
         count: u32,
     ) -> Result<(), AllocError>
         requires run { IsRun plans.now self.old }
+        requires started { AreStarted self.old.ports.items }
         requires plans { ArePlans plans.now }
         requires port { p < length plans.now }
         ensures run { OnOk result (IsRun plans.now self.new) }
         ensures same { OnOk result (IsSameOpening self.old self.new) }
+        ensures started { OnOk result (AreStarted self.new.ports.items) }
+        ensures turns { OnOk result (TurnsMade plans.now p (Some count) self.old self.new) }
     {
         for _ in 0..count {
             if !self.turn(p, plans)? {
@@ -143,10 +160,13 @@ impl Run {
     /// Turns of a port until it has no call left, however many.
     pub fn to_the_end(&mut self, p: usize, plans: &[Sequence<Call>]) -> Result<(), AllocError>
         requires run { IsRun plans.now self.old }
+        requires started { AreStarted self.old.ports.items }
         requires plans { ArePlans plans.now }
         requires port { p < length plans.now }
         ensures run { OnOk result (IsRun plans.now self.new) }
         ensures same { OnOk result (IsSameOpening self.old self.new) }
+        ensures started { OnOk result (AreStarted self.new.ports.items) }
+        ensures turns { OnOk result (TurnsMade plans.now p None self.old self.new) }
     {
         while self.turn(p, plans)? {}
         Ok(())
@@ -160,7 +180,7 @@ impl Run {
     ) -> Result<Outcome, AllocError>
         requires run { IsRun plans.now self }
         requires plans { ArePlans plans.now }
-        ensures { IfOk result (IsReplayOf self.sizes self.opening.values) }
+        ensures { IfOk result (Tells plans.now self) }
     {
         let Run {
             sizes: _,

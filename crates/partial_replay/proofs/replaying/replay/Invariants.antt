@@ -1,10 +1,26 @@
-use Rattle.std.proofs.Common.{◌≡◌}
-use Rattle.partial_replay.specs.RunState.{IsRun}
+use Rattle.std.proofs.Common.{◌≡◌, ◌++◌, map, take}
+use Rattle.std.specs.List.{range_with_len}
+use Rattle.partial_replay.specs.Turns.{so_many, to_its_end}
+use Rattle.partial_replay.specs.RunState.{AreStarted, IsRun}
+use Rattle.partial_replay.specs.TurnState.{EndsInSteps, HasFollowed}
 use Rattle.partial_replay.proofs.replaying.replay.Given as goal
 
--- the state stays lawful, and is of the plan's sizes and values
+-- the state stays lawful, is of the plan's sizes and values, and has followed the turns so far
 abbrev pub invariant-loop-p : goal.invariant-loop-p
-invariant-loop-p l = record { run : IsRun l.plans l.run; sizes : l.run.sizes ≡ l.plan.sizes; values : l.run.opening.values ≡ l.plan.initial }
+invariant-loop-p l = record {
+  run : IsRun l.plans l.run;
+  started : AreStarted l.run.ports.items;
+  sizes : l.run.sizes ≡ l.plan.sizes;
+  values : l.run.opening.values ≡ l.plan.initial;
+  turns : HasFollowed l.plans (map so_many (take l.p-index l.plan.steps)) l.run;
+  ending : EndsInSteps (take l.p-index l.plan.steps) l.run;
+}
 
 abbrev pub invariant-loop-p-then-rest : goal.invariant-loop-p-then-rest
-invariant-loop-p-then-rest l = record { run : IsRun l.plans l.run; sizes : l.run.sizes ≡ l.plan.sizes; values : l.run.opening.values ≡ l.plan.initial }
+invariant-loop-p-then-rest l = record {
+  run : IsRun l.plans l.run;
+  started : AreStarted l.run.ports.items;
+  sizes : l.run.sizes ≡ l.plan.sizes;
+  values : l.run.opening.values ≡ l.plan.initial;
+  turns : HasFollowed l.plans (map so_many l.plan.steps ++ map to_its_end (range_with_len 0 l.p)) l.run;
+}

@@ -1,6 +1,6 @@
 use Rattle.std.proofs.Common.{◌≡◌, ◌≤◌, ◌-◌, length, None}
 use Rattle.partial_core.specs.declared.stage.Stage.TheVariants.{Idle}
-use Rattle.partial_replay.specs.PortState.{KeepsFit}
+use Rattle.partial_replay.specs.PortState.{KeepsFit, KeepsMade}
 use Rattle.partial_replay.proofs.port.Port.begin_next.Given as goal
 
 -- the machine is idle, and the port goes on as its part's port
@@ -11,6 +11,7 @@ invariant-loop-self l = record {
   few : length l.self.finished.items ≤ length l.calls;
   more : length l.fn.self.finished.items ≤ length l.self.finished.items;
   fits : KeepsFit l.calls l.seen l.fn.self l.self;
+  made : KeepsMade l.calls l.seen l.fn.self l.self;
 }
 
 abbrev pub decreases-loop-self : goal.decreases-loop-self

@@ -4,7 +4,10 @@ use Rattle.std.proofs.lemmas.Result.{on_ok_weaker}
 use Rattle.partial_replay.specs.declared.port.Port.{Port}
 use Rattle.partial_replay.specs.PortState.{MayStep, StepMade}
 use Rattle.partial_replay.specs.RunState.{IsRunOf}
-use Rattle.partial_replay.proofs.RunSteps.{may_step, step_keeps, ports_length, got, get_set, left_is, left_falls}
+use Rattle.partial_replay.proofs.RunSteps.{may_step, step_keeps, ports_length, got, left_is, left_falls, port_in}
+use Rattle.partial_replay.proofs.PortLaws.{get_set}
+use Rattle.partial_replay.proofs.PortSteps.{ending_with, started_set, step_ending, step_started}
+use Rattle.partial_replay.proofs.TurnLaws.{done_set, by_step, stepped_done}
 use Rattle.partial_replay.proofs.run.Run.make_step.Goals as goal
 
 pub make_step-requires-clause-may : goal.make_step-requires-clause-may
@@ -37,7 +40,7 @@ returns-clause-run c =
     on_ok_weaker c.make_step.result (λ m.
     let made : StepMade calls opened.words.items words opened.trace.items c.make_step.new.trace.items opened.history.items c.make_step.new.history.items port c.make_step.new.self = subst (λ (ws : List ℕ). StepMade calls ws words opened.trace.items c.make_step.new.trace.items opened.history.items c.make_step.new.history.items port c.make_step.new.self) c.deref_mut.ensures.value m in
     subst (λ (ws : List ℕ). IsRunOf c.args.plans.now opened.sizes opened.opening ws (set ports c.args.p c.make_step.new.self) c.make_step.new.history.items c.make_step.new.trace.items) (sym kept)
-    (step_keeps c.args.plans.now opened.sizes opened.opening opened.words.items words ports opened.history.items c.make_step.new.history.items opened.trace.items c.make_step.new.trace.items c.args.p calls port c.make_step.new.self run plan here made)) c.make_step.ensures
+    (step_keeps c.args.plans.now opened.sizes opened.opening opened.words.items words ports opened.history.items c.make_step.new.history.items opened.trace.items c.make_step.new.trace.items c.args.p calls port c.make_step.new.self run plan here c.requires.ready.4 made)) c.make_step.ensures
 
 pub returns-clause-progress : goal.returns-clause-progress
 returns-clause-progress c =
@@ -59,3 +62,51 @@ returns-clause-progress c =
     let now = left_is c.args.plans.now _ c.args.p calls c.make_step.new.self plan (get_set ports c.args.p port c.make_step.new.self here) in
     let old = left_is c.args.plans.now ports c.args.p calls port plan here in
     omega (arith, less, now, old)) c.make_step.ensures
+
+pub returns-clause-trace : goal.returns-clause-trace
+returns-clause-trace c =
+    let run = c.requires.run in
+    let ports = c.args.self.now.ports.items in
+    let port = c.index_mut-port.result.now in
+    let calls = c.as_slice-calls.result.now in
+    let opened = c.args.self.now in
+    let many = ports_length opened.opening opened.history.items 0 c.args.plans.now run.parts ports run.fit in
+    let here : slice_get ports c.args.p ≡ Some port = got ports c.args.p port (omega (arith, many, c.requires.port)) c.index_mut-port.ensures.value in
+    let plan : slice_get c.args.plans.now c.args.p ≡ Some calls = got c.args.plans.now c.args.p c.index-plans-p.result c.requires.port c.index-plans-p.is ∙ ap Some (sym c.as_slice-calls.ensures) in
+    let fit = port_in c.args.plans.now opened.sizes opened.opening opened.words.items ports opened.history.items opened.trace.items c.args.p calls port run plan here in
+    let number : port.number ≡ c.args.p = fit.1.number ∙ omega arith in
+    on_ok_weaker c.make_step.result (λ m. by_step calls _ _ opened.trace.items c.make_step.new.trace.items _ _ port c.make_step.new.self c.args.p number m) c.make_step.ensures
+
+pub returns-clause-done : goal.returns-clause-done
+returns-clause-done c =
+    let run = c.requires.run in
+    let ports = c.args.self.now.ports.items in
+    let port = c.index_mut-port.result.now in
+    let calls = c.as_slice-calls.result.now in
+    let opened = c.args.self.now in
+    let many = ports_length opened.opening opened.history.items 0 c.args.plans.now run.parts ports run.fit in
+    let here : slice_get ports c.args.p ≡ Some port = got ports c.args.p port (omega (arith, many, c.requires.port)) c.index_mut-port.ensures.value in
+    let plan : slice_get c.args.plans.now c.args.p ≡ Some calls = got c.args.plans.now c.args.p c.index-plans-p.result c.requires.port c.index-plans-p.is ∙ ap Some (sym c.as_slice-calls.ensures) in
+    on_ok_weaker c.make_step.result (λ m. done_set c.args.plans.now ports c.args.p calls port c.make_step.new.self plan here (λ none all. absurd (stepped_done calls _ _ _ _ _ _ port c.make_step.new.self none m))) c.make_step.ensures
+
+pub returns-clause-started : goal.returns-clause-started
+returns-clause-started c =
+    let run = c.requires.run in
+    let ports = c.args.self.now.ports.items in
+    let port = c.index_mut-port.result.now in
+    let calls = c.as_slice-calls.result.now in
+    let opened = c.args.self.now in
+    let many = ports_length opened.opening opened.history.items 0 c.args.plans.now run.parts ports run.fit in
+    let here : slice_get ports c.args.p ≡ Some port = got ports c.args.p port (omega (arith, many, c.requires.port)) c.index_mut-port.ensures.value in
+    on_ok_weaker c.make_step.result (λ m. started_set ports c.args.p port c.make_step.new.self here c.requires.ready.4 (step_started calls _ _ _ _ _ _ port c.make_step.new.self m)) c.make_step.ensures
+
+pub returns-clause-ending : goal.returns-clause-ending
+returns-clause-ending c =
+    let run = c.requires.run in
+    let ports = c.args.self.now.ports.items in
+    let port = c.index_mut-port.result.now in
+    let calls = c.as_slice-calls.result.now in
+    let opened = c.args.self.now in
+    let many = ports_length opened.opening opened.history.items 0 c.args.plans.now run.parts ports run.fit in
+    let here : slice_get ports c.args.p ≡ Some port = got ports c.args.p port (omega (arith, many, c.requires.port)) c.index_mut-port.ensures.value in
+    on_ok_weaker c.make_step.result (λ m. ending_with ports c.args.p port c.make_step.new.self here (step_ending calls _ _ _ _ _ _ port c.make_step.new.self m)) c.make_step.ensures

@@ -4,7 +4,7 @@ use Rattle.partial_model.specs.declared.history.Opening.{Opening}
 use Rattle.partial_words.specs.declared.step.Event.{Event}
 use Rattle.partial_words.specs.Chain.{AreOpeningWords}
 use Rattle.partial_replay.specs.RunState.{IsRunOf}
-use Rattle.partial_replay.proofs.Opens.{opens_run}
+use Rattle.partial_replay.proofs.Opens.{opens_run, fresh_started, fresh_ending}
 use Rattle.partial_replay.proofs.run.Run.open.Goals as goal
 
 pub returns-clause-run : goal.returns-clause-run
@@ -16,3 +16,9 @@ returns-clause-run c =
     let opened = opens_run c.args.plans.now c.args.sizes o words ports c.requires.sizes (ap length values ∙ c.requires.values) (c.from-first.ensures ∙ c.pool_base.ensures) (subst (λ (l : List ℕ). AreOpeningWords c.args.sizes l words) (sym values) c.in_ok-opening_words.ensures) c.requires.ports c.in_ok-fresh_ports.ensures in
     subst (λ (h : List Applied). IsRunOf c.args.plans.now c.args.sizes o words ports h c.new-2.result.items) (sym c.new.ensures.items)
     (subst (λ (t : List Event). IsRunOf c.args.plans.now c.args.sizes o words ports [] t) (sym c.new-2.ensures.items) opened)
+
+pub returns-clause-started : goal.returns-clause-started
+returns-clause-started c = fresh_started c.args.sizes c.in_ok-fresh_ports.field-0.items c.in_ok-fresh_ports.ensures.1
+
+pub returns-clause-ending : goal.returns-clause-ending
+returns-clause-ending c = λ q none. fresh_ending c.args.sizes c.in_ok-fresh_ports.field-0.items c.in_ok-fresh_ports.ensures.1 q

@@ -1,0 +1,389 @@
+-- The events of a port are the steps of its calls.
+use Rattle.std.proofs.Common.{ℕ, ◌≢◌, ◌≤◌, suc, ◌≡◌, ◌+◌, ◌<◌, ◌==◌, ◌++◌, Bool, true, false, cond, List, [], ◌∷◌, length, map, set, Option, Some, None, IfSome, MatchOption, slice_get, refl, sym, ◌∙◌, ap, subst, inl, inr, arith, append_assoc, length-append}
+use Rattle.std.specs.List.{AllByRecursion, filter, filter_map, cons_option}
+use Rattle.std.specs.Option.{option_map}
+use Rattle.std.proofs.lemmas.List.{append-nil, length_push, length-map}
+use Rattle.std.specs.List.{sum_by}
+use Rattle.std.proofs.lemmas.List.Sums.{sum_by-cons}
+use Rattle.std.proofs.lemmas.Bool.{false≢true}
+use Rattle.std.proofs.lemmas.List.Elements.{filter-append}
+use Rattle.std.proofs.lemmas.Bool.{ne_eqb}
+use Rattle.std.proofs.lemmas.Bool.Decides.{eqb_tells}
+use Rattle.partial_model.specs.declared.history.Applied.{Applied}
+use Rattle.partial_model.specs.declared.call.Call.{Call}
+use Rattle.partial_model.specs.declared.call.Refused.{Refused}
+use Rattle.partial_model.specs.declared.call.Called.{Called}
+use Rattle.partial_model.specs.declared.call.Finish.{Finish}
+use Rattle.partial_model.specs.declared.history.Opening.{Opening}
+use Rattle.partial_words.specs.declared.step.Step.{Step}
+use Rattle.partial_words.specs.declared.step.Event.{Event}
+use Rattle.partial_words.specs.Layout.{Layout}
+use Rattle.partial_words.specs.Step.{word_of, answer_of}
+use Rattle.partial_core.specs.declared.stage.Reply.{Reply}
+use Rattle.partial_core.specs.declared.stage.Stage.{Stage}
+use Rattle.partial_core.specs.declared.stage.Stage.TheVariants.{Idle, ReadBegun, LoadingValue, UpdateBegun, LoadingListHead, LoadingSlotCounter, ClaimingRecord, StoringRecord, Exchanging, Finished}
+use Rattle.partial_core.specs.Machine.{CoreState, at_stage, advance, step_of, reply_at, reply_of, fresh}
+use Rattle.partial_core.specs.Lawful.{Part, answer_for, is_at_rest}
+use Rattle.partial_replay.specs.declared.port.Port.{Port}
+use Rattle.partial_replay.specs.declared.port.UnderWay.{UnderWay}
+use Rattle.partial_replay.specs.Trace.{Moment, adds, is_won, new_of, entry_of, moments_from, moments_by, ports_of, events_in}
+use Rattle.partial_replay.specs.Listed.{EndInStep}
+use Rattle.std.specs.Option.{is_some, IsSome}
+use Rattle.partial_replay.specs.CallSteps.{stage_of, refusal_of, Makes, last_behind, IsCallOf, AreStepsOf}
+use Rattle.partial_replay.specs.PortState.{IsUnderWay, IsBetween, PortFits, IsGoing, PortMade, KeepsMade, unfinished_call, began_at, refused_call, ended_call, one_step_more, GoesOn, Ends, StepMade}
+use Rattle.partial_replay.specs.RunState.{ArePortsMade, AreStarted, AreStartedBut, left_over, unvalued}
+use Rattle.partial_replay.specs.TurnState.{EndsInStep}
+use Rattle.partial_replay.proofs.PortLaws.{same_eqb, get_set, get_set_other}
+use Rattle.partial_replay.proofs.Opens.{over_none}
+use Rattle.partial_replay.proofs.Told.{begun_by}
+
+-- one call more
+pub steps_push : (s t u : CoreState) (cs : List Called) (c : Called) (xs own : List Moment) → AreStepsOf s cs xs t → IsCallOf t c own u → length own ≡ c.steps → AreStepsOf s (cs ++ c ∷ []) (xs ++ own) u
+steps_push s t u [] c xs own w call long =
+    (own, [], u, ap (λ (l : List Moment). l ++ own) w.0 ∙ sym (append-nil own), long, subst (λ (v : CoreState). IsCallOf v c own u) w.1 call, (refl, refl))
+steps_push s t u (d ∷ cs) c xs own w call long =
+    (w.0, w.1 ++ own, w.2, ap (λ (l : List Moment). l ++ own) w.3 ∙ append_assoc (w.0) (w.1) own, w.4, w.5, steps_push (w.2) t u cs c (w.1) own w.6 call long)
+
+-- one event more of the call under way
+makes_push : (s t u : CoreState) (xs : List Moment) (x : Moment) → Makes s xs t → step_of t ≡ Some x.event.step → u ≡ advance t x.event.answer → Makes s (xs ++ x ∷ []) u
+makes_push s t u [] x m due is = (subst (λ (v : CoreState). step_of v ≡ Some x.event.step) m due, is ∙ ap (λ (v : CoreState). advance v x.event.answer) m)
+makes_push s t u (y ∷ xs) x m due is = (m.0, makes_push (advance s y.event.answer) t u xs x m.1 due is)
+
+behind_push : (n : ℕ) (xs : List Moment) (x : Moment) → last_behind n (xs ++ x ∷ []) ≡ x.behind
+behind_push n [] x = refl
+behind_push n (y ∷ xs) x = behind_push y.behind xs x
+
+began_push : (n k : ℕ) (xs : List Moment) (x : Moment) → x.before ≡ n → began_at n xs ≡ began_at k (xs ++ x ∷ [])
+began_push n k [] x is = sym is
+began_push n k (y ∷ xs) x is = refl
+
+-- a call that has made its last step, or that is left unfinished
+call_of : (s t last : CoreState) (c : Called) (own : List Moment) (x : Moment) → refusal_of s c.call ≡ None → Makes (at_stage s (stage_of c.call)) (own ++ x ∷ []) last → c.began ≡ began_at 0 (own ++ x ∷ []) → option_map (λ (f : Finish). f.answer) c.finish ≡ option_map answer_for (reply_of last) → IfSome c.finish (λ (f : Finish). f.ended ≡ x.behind) → t ≡ at_stage last Idle → IsCallOf s c (own ++ x ∷ []) t
+call_of s t last c [] x begins makes began answered ended rests = record { begins = begins; last = last; makes = makes; began = began; answered = answered; ended = ended; rests = rests }
+call_of s t last c (y ∷ own) x begins makes began answered ended rests =
+    record { begins = begins; last = last; makes = makes; began = began; answered = answered; ended = subst (λ n. IfSome c.finish (λ (f : Finish). f.ended ≡ n)) (sym (behind_push y.behind own x)) ended; rests = rests }
+
+-- a call begins at a port between calls
+pub begun_made : (z : Layout) (n : ℕ) (calls : List Call) (p : ℕ) (xs : List Moment) (port new : Port) (call : Call) → PortMade z n calls p xs port → port.under_way ≡ None → slice_get calls (length port.finished.items) ≡ Some call → refusal_of port.core call ≡ None → new.core ≡ at_stage port.core (stage_of call) → new.finished.items ≡ port.finished.items → new.under_way ≡ Some (record { began = n; steps = 0 }) → PortMade z n calls p xs new
+begun_made z n calls p xs port new call w none next refusal core finished way =
+    let nil : List Moment = [] in
+    let idle : (w.own ≡ []) × (port.core ≡ w.at) = subst (λ (f : Option UnderWay). MatchOption f ((w.own ≡ []) × (port.core ≡ w.at)) (IsGoing n calls port.finished.items w.at port.core w.own)) none w.going in
+    let going : IsGoing n calls new.finished.items w.at new.core [] (record { began = n; steps = 0 }) = record {
+      call = call;
+      next = ap (λ (d : List Called). slice_get calls (length d)) finished ∙ next;
+      begins = subst (λ (s : CoreState). refusal_of s call ≡ None) idle.1 refusal;
+      makes = core ∙ ap (λ (s : CoreState). at_stage s (stage_of call)) idle.1;
+      steps = refl;
+      began = refl;
+    } in
+    record {
+      done = w.done;
+      own = [];
+      at = w.at;
+      is = w.is ∙ ap (λ (l : List Moment). w.done ++ l) idle.0;
+      led = subst (λ (d : List Called). AreStepsOf (fresh z p) d w.done w.at) (sym finished) w.led;
+      going = subst (λ (f : Option UnderWay). MatchOption f ((nil ≡ []) × (new.core ≡ w.at)) (IsGoing n calls new.finished.items w.at new.core [])) (sym way) going;
+    }
+
+-- a call is refused at once at a port between calls
+pub refused_made : (z : Layout) (n : ℕ) (calls : List Call) (p : ℕ) (xs : List Moment) (port new : Port) (call : Call) (cause : Refused) → PortMade z n calls p xs port → port.under_way ≡ None → refusal_of port.core call ≡ Some cause → new.core ≡ port.core → new.finished.items ≡ port.finished.items ++ refused_call port.number (length port.finished.items) call n cause ∷ [] → new.under_way ≡ None → PortMade z n calls p xs new
+refused_made z n calls p xs port new call cause w none refusal core finished way =
+    let nil : List Moment = [] in
+    let idle : (w.own ≡ []) × (port.core ≡ w.at) = subst (λ (f : Option UnderWay). MatchOption f ((w.own ≡ []) × (port.core ≡ w.at)) (IsGoing n calls port.finished.items w.at port.core w.own)) none w.going in
+    let c = refused_call port.number (length port.finished.items) call n cause in
+    let here : IsCallOf w.at c [] w.at = (record { cause = cause; refused = subst (λ (s : CoreState). refusal_of s call ≡ Some cause) idle.1 refusal; finish = refl }, refl) in
+    let led = steps_push (fresh z p) w.at w.at port.finished.items c w.done [] w.led here refl in
+    record {
+      done = w.done ++ [];
+      own = [];
+      at = w.at;
+      is = w.is ∙ ap (λ (l : List Moment). w.done ++ l) idle.0 ∙ sym (append-nil (w.done ++ []));
+      led = subst (λ (d : List Called). AreStepsOf (fresh z p) d (w.done ++ []) w.at) (sym finished) led;
+      going = subst (λ (f : Option UnderWay). MatchOption f ((nil ≡ []) × (new.core ≡ w.at)) (IsGoing n calls new.finished.items w.at new.core [])) (sym way) (refl, core ∙ idle.1);
+    }
+
+-- a step of the call under way: it goes on, or it is finished
+goes_made : (z : Layout) (n k : ℕ) (calls : List Call) (p : ℕ) (xs : List Moment) (port new : Port) (way : UnderWay) (x : Moment) → (w : PortMade z n calls p xs port) → IsGoing n calls port.finished.items w.at port.core w.own way → x.before ≡ n → step_of port.core ≡ Some x.event.step → GoesOn port new way (advance port.core x.event.answer) → PortMade z k calls p (xs ++ x ∷ []) new
+goes_made z n k calls p xs port new way x w u before due g =
+    let going : IsGoing k calls new.finished.items w.at new.core (w.own ++ x ∷ []) (one_step_more way) = record {
+      call = u.call;
+      next = ap (λ (d : List Called). slice_get calls (length d)) g.finished ∙ u.next;
+      begins = u.begins;
+      makes = makes_push (at_stage w.at (stage_of u.call)) port.core new.core w.own x u.makes due g.machine;
+      steps = length_push w.own x ∙ ap (λ m. m + 1) u.steps;
+      began = u.began ∙ began_push n k w.own x before;
+    } in
+    record {
+      done = w.done;
+      own = w.own ++ x ∷ [];
+      at = w.at;
+      is = ap (λ (l : List Moment). l ++ x ∷ []) w.is ∙ append_assoc w.done w.own (x ∷ []);
+      led = subst (λ (d : List Called). AreStepsOf (fresh z p) d w.done w.at) (sym g.finished) w.led;
+      going = subst (λ (f : Option UnderWay). MatchOption f ((w.own ++ x ∷ [] ≡ []) × (new.core ≡ w.at)) (IsGoing k calls new.finished.items w.at new.core (w.own ++ x ∷ []))) (sym g.way') going;
+    }
+
+ends_made : (z : Layout) (n k : ℕ) (calls : List Call) (p : ℕ) (xs : List Moment) (port new : Port) (way : UnderWay) (x : Moment) (log : List Applied) (r : Reply) → (w : PortMade z n calls p xs port) → IsGoing n calls port.finished.items w.at port.core w.own way → x.before ≡ n → x.behind ≡ length log → step_of port.core ≡ Some x.event.step → reply_of (advance port.core x.event.answer) ≡ Some r → Ends calls log port new way (advance port.core x.event.answer) r → PortMade z k calls p (xs ++ x ∷ []) new
+ends_made z n k calls p xs port new way x log r w u before behind due replied e =
+    let nil : List Moment = [] in
+    let own = w.own ++ x ∷ [] in
+    let last = advance port.core x.event.answer in
+    let c = ended_call port.number (length port.finished.items) e.call (one_step_more way) (length log) r e.note in
+    let one : Some u.call ≡ Some e.call = sym u.next ∙ e.next in
+    let same : u.call ≡ e.call = cc in
+    let makes : Makes (at_stage w.at (stage_of u.call)) own last = makes_push (at_stage w.at (stage_of u.call)) port.core last w.own x u.makes due refl in
+    let call : IsCallOf w.at c own (at_stage last Idle) = call_of w.at (at_stage last Idle) last c w.own x
+    (subst (λ (d : Call). refusal_of w.at d ≡ None) same u.begins)
+    (subst (λ (d : Call). Makes (at_stage w.at (stage_of d)) own last) same makes)
+    (u.began ∙ began_push n 0 w.own x before)
+    (sym (ap (option_map answer_for) replied))
+    (sym behind) refl in
+    let led = steps_push (fresh z p) w.at (at_stage last Idle) port.finished.items c w.done own w.led call (length_push w.own x ∙ ap (λ m. m + 1) u.steps) in
+    record {
+      done = w.done ++ own;
+      own = [];
+      at = at_stage last Idle;
+      is = ap (λ (l : List Moment). l ++ x ∷ []) w.is ∙ append_assoc w.done w.own (x ∷ []) ∙ sym (append-nil (w.done ++ own));
+      led = subst (λ (d : List Called). AreStepsOf (fresh z p) d (w.done ++ own) (at_stage last Idle)) (sym e.finished) led;
+      going = subst (λ (f : Option UnderWay). MatchOption f ((nil ≡ []) × (new.core ≡ at_stage last Idle)) (IsGoing k calls new.finished.items (at_stage last Idle) new.core [])) (sym e.none) (refl, e.machine);
+    }
+
+after_made : (z : Layout) (n k : ℕ) (calls : List Call) (p : ℕ) (xs : List Moment) (port new : Port) (way : UnderWay) (x : Moment) (log : List Applied) (found : Option Reply) → (w : PortMade z n calls p xs port) → IsGoing n calls port.finished.items w.at port.core w.own way → x.before ≡ n → x.behind ≡ length log → step_of port.core ≡ Some x.event.step → reply_of (advance port.core x.event.answer) ≡ found → MatchOption found (GoesOn port new way (advance port.core x.event.answer)) (Ends calls log port new way (advance port.core x.event.answer)) → PortMade z k calls p (xs ++ x ∷ []) new
+after_made z n k calls p xs port new way x log None w u before behind due replied g = goes_made z n k calls p xs port new way x w u before due g
+after_made z n k calls p xs port new way x log (Some r) w u before behind due replied e = ends_made z n k calls p xs port new way x log r w u before behind due replied e
+
+-- the event of a step
+abbrev event_of : List ℕ → ℕ → Step → Event
+event_of words p step = record { port = p; step = step; answer = answer_of words step }
+
+step_made : (z : Layout) (calls : List Call) (p : ℕ) (xs : List Moment) (words words' : List ℕ) (trace trace' : List Event) (log log' : List Applied) (port new : Port) → (m : StepMade calls words words' trace trace' log log' port new) → PortMade z (length log) calls p xs port → PortMade z (length log') calls p (xs ++ record { event = event_of words port.number m.step; before = length log; behind = length log' } ∷ []) new
+step_made z calls p xs words words' trace trace' log log' port new m w =
+    let u : IsGoing (length log) calls port.finished.items w.at port.core w.own m.way = subst (λ (f : Option UnderWay). MatchOption f ((w.own ≡ []) × (port.core ≡ w.at)) (IsGoing (length log) calls port.finished.items w.at port.core w.own)) m.was w.going in
+    after_made z (length log) (length log') calls p xs port new m.way (record { event = event_of words port.number m.step; before = length log; behind = length log' }) log' (reply_of (advance port.core (answer_of words m.step))) w u refl refl m.due refl m.after
+
+-- another port's step
+own_stays : (n k : ℕ) (own : List Moment) (way : UnderWay) → length own ≡ way.steps → 0 < way.steps → began_at n own ≡ began_at k own
+own_stays n k [] way long some = absurd (omega (arith, long, some))
+own_stays n k (x ∷ own) way long some = refl
+
+going_stays : (n k : ℕ) (calls : List Call) (done : List Called) (at core : CoreState) (own : List Moment) (way : Option UnderWay) → ((v : UnderWay) → way ≡ Some v → 0 < v.steps) → MatchOption way ((own ≡ []) × (core ≡ at)) (IsGoing n calls done at core own) → MatchOption way ((own ≡ []) × (core ≡ at)) (IsGoing k calls done at core own)
+going_stays n k calls done at core own None started w = w
+going_stays n k calls done at core own (Some way) started w =
+    record { call = w.call; next = w.next; begins = w.begins; makes = w.makes; steps = w.steps; began = w.began ∙ own_stays n k own way w.steps (started way refl) }
+
+other_made : (z : Layout) (n k : ℕ) (calls : List Call) (q : ℕ) (xs : List Moment) (port : Port) → ((v : UnderWay) → port.under_way ≡ Some v → 0 < v.steps) → PortMade z n calls q xs port → PortMade z k calls q xs port
+other_made z n k calls q xs port started w = record { done = w.done; own = w.own; at = w.at; is = w.is; led = w.led; going = going_stays n k calls port.finished.items w.at port.core w.own port.under_way started w.going }
+
+-- how long the history is behind a trace
+pub long_by : ℕ → ℕ → List Event → ℕ
+long_by m n [] = n
+long_by m n (e ∷ es) = long_by m (n + adds m e) es
+
+moments_push : (m n : ℕ) (es : List Event) (e : Event) → moments_from m n (es ++ e ∷ []) ≡ moments_from m n es ++ record { event = e; before = long_by m n es; behind = long_by m n es + adds m e } ∷ []
+unfolding long_by
+moments_push m n [] e = refl
+moments_push m n (d ∷ es) e = ap (λ (l : List Moment). record { event = d; before = n; behind = n + adds m d } ∷ l) (moments_push m (n + adds m d) es e)
+
+long_push : (m n : ℕ) (es : List Event) (e : Event) → long_by m n (es ++ e ∷ []) ≡ long_by m n es + adds m e
+unfolding long_by
+long_push m n [] e = refl
+long_push m n (d ∷ es) e = long_push m (n + adds m d) es e
+
+long_entry : (b : Bool) (x : Applied) (xs : List Applied) → length (cons_option (cond b (Some x) None) xs) ≡ cond b 1 0 + length xs
+long_entry true x xs = omega arith
+long_entry false x xs = omega arith
+
+long_entries : (m n : ℕ) (es : List Event) → long_by m n es ≡ n + length (filter_map (entry_of m (λ _. 0)) es)
+unfolding long_by
+long_entries m n [] = omega arith
+long_entries m n (e ∷ es) =
+    let rest = long_entries m (n + adds m e) es in
+    let one = long_entry (is_won m e.step e.answer) (record { port = e.port; component = word_of e.step; value = 0; stamp = new_of e.step }) (filter_map (entry_of m (λ _. 0)) es) in
+    omega (arith, rest, one)
+
+-- the history is as long as the trace makes it
+pub log_long : (m : ℕ) (trace : List Event) (log : List Applied) → filter_map (entry_of m (λ _. 0)) trace ≡ map unvalued log → length log ≡ long_by m 0 trace
+log_long m trace log same = let all = long_entries m 0 trace in let long : length (filter_map (entry_of m (λ _. 0)) trace) ≡ length log = ap length same ∙ length-map log unvalued in omega (arith, all, long)
+
+by_push : (m q n k : ℕ) (trace : List Event) (e : Event) → n ≡ long_by m 0 trace → k ≡ long_by m 0 (trace ++ e ∷ []) → moments_by m q (trace ++ e ∷ []) ≡ moments_by m q trace ++ cond (e.port == q) (record { event = e; before = n; behind = k } ∷ []) []
+by_push m q n k trace e before behind =
+    let last = long_push m 0 trace e in
+    ap (filter (λ (x : Moment). x.event.port == q)) (moments_push m 0 trace e)
+    ∙ filter-append (λ (x : Moment). x.event.port == q) (moments_from m 0 trace) (record { event = e; before = long_by m 0 trace; behind = long_by m 0 trace + adds m e } ∷ [])
+    ∙ ap (λ i. moments_by m q trace ++ cond (e.port == q) (record { event = e; before = i; behind = long_by m 0 trace + adds m e } ∷ []) []) (sym before)
+    ∙ ap (λ i. moments_by m q trace ++ cond (e.port == q) (record { event = e; before = n; behind = i } ∷ []) []) (sym last ∙ sym behind)
+
+-- a step of port i, and a call that begins there
+pub ports_step : (plans : List (List Call)) (z : Layout) (words words' : List ℕ) (ports : List Port) (log log' : List Applied) (trace trace' : List Event) (i : ℕ) (calls : List Call) (port new : Port) → ArePortsMade plans z ports log trace → length log ≡ long_by z.m 0 trace → length log' ≡ long_by z.m 0 trace' → AreStartedBut i ports → slice_get plans i ≡ Some calls → slice_get ports i ≡ Some port → port.number ≡ i → StepMade calls words words' trace trace' log log' port new → ArePortsMade plans z (set ports i new) log' trace'
+ports_step plans z words words' ports log log' trace trace' i calls port new made before behind started c t number m q d u plan is =
+    let e = event_of words port.number m.step in
+    let push : moments_by z.m q trace' ≡ moments_by z.m q trace ++ cond (port.number == q) (record { event = e; before = length log; behind = length log' } ∷ []) [] =
+    ap (moments_by z.m q) m.trace_is ∙ by_push z.m q (length log) (length log') trace e before (behind ∙ ap (long_by z.m 0) m.trace_is) in
+    elim (eqb_tells q i) [
+      | inl same ↦
+          let one : Some d ≡ Some calls = sym plan ∙ ap (slice_get plans) same.1 ∙ c in
+          let two : Some u ≡ Some new = sym is ∙ ap (slice_get (set ports i new)) same.1 ∙ get_set ports i port new t in
+          let calls_same : calls ≡ d = cc in
+          let port_same : new ≡ u = cc in
+          let old : PortMade z (length log) calls q (moments_by z.m q trace) port = made q calls port (ap (slice_get plans) same.1 ∙ c) (ap (slice_get ports) same.1 ∙ t) in
+          let here : moments_by z.m q trace' ≡ moments_by z.m q trace ++ record { event = e; before = length log; behind = length log' } ∷ [] = push ∙ ap (λ (b : Bool). moments_by z.m q trace ++ cond b (record { event = e; before = length log; behind = length log' } ∷ []) []) (same_eqb port.number q (number ∙ sym same.1)) in
+          subst (λ (l : List Call). PortMade z (length log') l q (moments_by z.m q trace') u) calls_same
+          (subst (λ (v : Port). PortMade z (length log') calls q (moments_by z.m q trace') v) port_same
+          (subst (λ (xs : List Moment). PortMade z (length log') calls q xs new) (sym here) (step_made z calls q (moments_by z.m q trace) words words' trace trace' log log' port new m old)))
+      | inr other ↦
+          let here : slice_get ports q ≡ Some u = sym (get_set_other ports i q new other.1) ∙ is in
+          let none : moments_by z.m q trace' ≡ moments_by z.m q trace = push ∙ ap (λ (b : Bool). moments_by z.m q trace ++ cond b (record { event = e; before = length log; behind = length log' } ∷ []) []) (ne_eqb port.number q (λ h. other.1 (sym h ∙ number))) ∙ append-nil (moments_by z.m q trace) in
+          subst (λ (xs : List Moment). PortMade z (length log') d q xs u) (sym none) (other_made z (length log) (length log') d q (moments_by z.m q trace) u (λ v way. started q u v other.1 here way) (made q d u plan here))
+    ]
+
+pub ports_begin : (plans : List (List Call)) (z : Layout) (ports : List Port) (log : List Applied) (trace : List Event) (i : ℕ) (calls : List Call) (port new : Port) → ArePortsMade plans z ports log trace → slice_get plans i ≡ Some calls → slice_get ports i ≡ Some port → KeepsMade calls (length log) port new → ArePortsMade plans z (set ports i new) log trace
+ports_begin plans z ports log trace i calls port new made c t keeps q d u plan is = elim (eqb_tells q i) [
+  | inl same ↦
+      let one : Some d ≡ Some calls = sym plan ∙ ap (slice_get plans) same.1 ∙ c in
+      let two : Some u ≡ Some new = sym is ∙ ap (slice_get (set ports i new)) same.1 ∙ get_set ports i port new t in
+      let calls_same : calls ≡ d = cc in
+      let port_same : new ≡ u = cc in
+      let old : PortMade z (length log) calls q (moments_by z.m q trace) port = made q calls port (ap (slice_get plans) same.1 ∙ c) (ap (slice_get ports) same.1 ∙ t) in
+      subst (λ (l : List Call). PortMade z (length log) l q (moments_by z.m q trace) u) calls_same
+      (subst (λ (v : Port). PortMade z (length log) calls q (moments_by z.m q trace) v) port_same (keeps z q (moments_by z.m q trace) old))
+  | inr other ↦ made q d u plan (sym (get_set_other ports i q new other.1) ∙ is)
+]
+
+-- the calls under way have made a step
+pub started_set : (ports : List Port) (i : ℕ) (port new : Port) → slice_get ports i ≡ Some port → AreStartedBut i ports → ((way : UnderWay) → new.under_way ≡ Some way → 0 < way.steps) → AreStarted (set ports i new)
+started_set ports i port new t started own q u way is under = elim (eqb_tells q i) [
+  | inl same ↦
+      let two : Some u ≡ Some new = sym is ∙ ap (slice_get (set ports i new)) same.1 ∙ get_set ports i port new t in
+      let port_same : new ≡ u = cc in
+      own way (ap (λ (v : Port). v.under_way) port_same ∙ under)
+  | inr other ↦ started q u way other.1 (sym (get_set_other ports i q new other.1) ∙ is) under
+]
+
+pub started_but : (ports : List Port) (i : ℕ) (new : Port) → AreStarted ports → AreStartedBut i (set ports i new)
+started_but ports i new started q u way other is under = started q u way (sym (get_set_other ports i q new other) ∙ is) under
+
+pub started_idle : (ports : List Port) (i : ℕ) (port new : Port) → slice_get ports i ≡ Some port → AreStarted ports → new.under_way ≡ None → AreStarted (set ports i new)
+started_idle ports i port new t started none = started_set ports i port new t (λ q u way other is under. started q u way is under) (λ way is. let bad : None ≡ Some way = sym none ∙ is in cc)
+
+pub step_started : (calls : List Call) (words words' : List ℕ) (trace trace' : List Event) (log log' : List Applied) (port new : Port) → StepMade calls words words' trace trace' log log' port new → (way : UnderWay) → new.under_way ≡ Some way → 0 < way.steps
+step_started calls words words' trace trace' log log' port new m way is = here (reply_of (advance port.core (answer_of words m.step))) m.after
+  where
+    here : (found : Option Reply) → MatchOption found (GoesOn port new m.way (advance port.core (answer_of words m.step))) (Ends calls log' port new m.way (advance port.core (answer_of words m.step))) → 0 < way.steps
+    here None g = let one : Some (one_step_more m.way) ≡ Some way = sym g.way' ∙ is in let same : one_step_more m.way ≡ way = cc in let steps = ap (λ (v : UnderWay). v.steps) same in omega (arith, steps)
+    here (Some r) e = let bad : None ≡ Some way = sym e.none ∙ is in cc
+
+-- what a port has made in the end
+at_rest_replied : (s : CoreState) → is_at_rest s.stage ≡ false → reply_of s ≡ None
+at_rest_replied s due = at s.stage due
+  where
+    at : (g : Stage) → is_at_rest g ≡ false → reply_at g ≡ None
+    at (Finished r) e = absurd (false≢true (sym e))
+    at Idle e = refl
+    at (ReadBegun j) e = refl
+    at (LoadingValue v) e = refl
+    at (UpdateBegun c) e = refl
+    at (LoadingListHead c o) e = refl
+    at (LoadingSlotCounter c o) e = refl
+    at (ClaimingRecord c o) e = refl
+    at (StoringRecord c o a k) e = refl
+    at (Exchanging c o a) e = refl
+
+unfinished_of : (s core : CoreState) (c : Called) (own : List Moment) → refusal_of s c.call ≡ None → Makes (at_stage s (stage_of c.call)) own core → c.began ≡ began_at 0 own → 0 < length own → reply_of core ≡ None → c.finish ≡ None → IsCallOf s c own (at_stage core Idle)
+unfinished_of s core c [] begins makes began some none finish = absurd (omega (arith, some))
+unfinished_of s core c (x ∷ own) begins makes began some none finish =
+    record {
+      begins = begins;
+      last = core;
+      makes = makes;
+      began = began;
+      answered = ap (option_map (λ (f : Finish). f.answer)) finish ∙ sym (ap (option_map answer_for) none);
+      ended = subst (λ (f : Option Finish). IfSome f (λ (g : Finish). g.ended ≡ last_behind x.behind own)) (sym finish) tt;
+      rests = refl;
+    }
+
+steps_over : (z : Layout) (n : ℕ) (calls : List Call) (p : ℕ) (xs : List Moment) (x : Part) (port : Port) (way : Option UnderWay) → (w : PortMade z n calls p xs port) → MatchOption way (IsBetween x port.core) (IsUnderWay n calls x port.core port.finished.items) → ((v : UnderWay) → way ≡ Some v → 0 < v.steps) → MatchOption way ((w.own ≡ []) × (port.core ≡ w.at)) (IsGoing n calls port.finished.items w.at port.core w.own) → (t : CoreState) × AreStepsOf (fresh z p) (port.finished.items ++ left_over port (slice_get calls (length port.finished.items)) way) xs t
+steps_over z n calls p xs x port None w f started idle =
+    let is : w.done ≡ xs = sym (w.is ∙ ap (λ (l : List Moment). w.done ++ l) idle.0 ∙ append-nil w.done) in
+    let none : port.finished.items ≡ port.finished.items ++ left_over port (slice_get calls (length port.finished.items)) None = sym (ap (λ (l : List Called). port.finished.items ++ l) (over_none port (slice_get calls (length port.finished.items))) ∙ append-nil port.finished.items) in
+    (w.at, subst (λ (cs : List Called). AreStepsOf (fresh z p) cs xs w.at) none (subst (λ (l : List Moment). AreStepsOf (fresh z p) port.finished.items l w.at) is w.led))
+steps_over z n calls p xs x port (Some way) w f started u =
+    let c = unfinished_call port.number (length port.finished.items) u.call way in
+    let some : 0 < length w.own = let here = started way refl in omega (arith, here, u.steps) in
+    let call : IsCallOf w.at c w.own (at_stage port.core Idle) = unfinished_of w.at port.core c w.own u.begins u.makes (u.began ∙ own_stays n 0 w.own way u.steps (started way refl)) some (at_rest_replied port.core f.due) refl in
+    let led = steps_push (fresh z p) w.at (at_stage port.core Idle) port.finished.items c w.done w.own w.led call u.steps in
+    let over : c ∷ [] ≡ left_over port (slice_get calls (length port.finished.items)) (Some way) = sym (ap (λ (g : Option Call). left_over port g (Some way)) u.next) in
+    (at_stage port.core Idle, subst (λ (cs : List Called). AreStepsOf (fresh z p) (port.finished.items ++ cs) xs (at_stage port.core Idle)) over (subst (λ (l : List Moment). AreStepsOf (fresh z p) (port.finished.items ++ c ∷ []) l (at_stage port.core Idle)) (sym w.is) led))
+
+pub steps_begun : (z : Layout) (o : Opening) (log : List Applied) (calls : List Call) (p : ℕ) (xs : List Moment) (x : Part) (port : Port) → PortFits o log calls p x port → PortMade z (length log) calls p xs port → ((v : UnderWay) → port.under_way ≡ Some v → 0 < v.steps) → (t : CoreState) × AreStepsOf (fresh z p) (begun_by calls port) xs t
+steps_begun z o log calls p xs x port f w started = steps_over z (length log) calls p xs x port port.under_way w f.way started w.going
+
+-- a port has as many events as its calls have steps
+pub steps_sum : (s t : CoreState) (cs : List Called) (xs : List Moment) → AreStepsOf s cs xs t → length xs ≡ sum_by (λ (c : Called). c.steps) cs
+steps_sum s t [] xs w = ap length w.0
+steps_sum s t (c ∷ cs) xs w =
+    let rest = steps_sum (w.2) t cs (w.1) w.6 in
+    let all : length xs ≡ length (w.0) + length (w.1) = ap length w.3 ∙ length-append (w.0) (w.1) in
+    let sum = sum_by-cons (λ (d : Called). d.steps) c cs in
+    let one = w.4 in
+    omega (arith, rest, all, sum, one)
+
+moment_ports : (m n q : ℕ) (es : List Event) → length (filter (λ (x : Moment). x.event.port == q) (moments_from m n es)) ≡ events_in q (ports_of es)
+moment_ports m n q [] = refl
+moment_ports m n q (e ∷ es) = same_length (e.port == q) (record { event = e; before = n; behind = n + adds m e }) e.port (filter (λ (x : Moment). x.event.port == q) (moments_from m (n + adds m e) es)) (filter (λ r. r == q) (ports_of es)) (moment_ports m (n + adds m e) q es)
+  where
+    same_length : (b : Bool) (x : Moment) (p : ℕ) (xs : List Moment) (ps : List ℕ) → length xs ≡ length ps → length (cond b (x ∷ xs) xs) ≡ length (cond b (p ∷ ps) ps)
+    same_length true x p xs ps same = ap suc same
+    same_length false x p xs ps same = same
+
+pub events_steps : (s t : CoreState) (m q : ℕ) (es : List Event) (cs : List Called) → AreStepsOf s cs (moments_by m q es) t → sum_by (λ (c : Called). c.steps) cs ≡ events_in q (ports_of es)
+events_steps s t m q es cs w = sym (steps_sum s t cs (moments_by m q es) w) ∙ moment_ports m 0 q es
+
+-- no other port has events
+past_moments : (m n q k : ℕ) (es : List Event) → k ≤ q → AllByRecursion (λ (e : Event). e.port < k) es → filter (λ (x : Moment). x.event.port == q) (moments_from m n es) ≡ []
+past_moments m n q k [] past w = refl
+past_moments m n q k (e ∷ es) past w =
+    let away : e.port ≢ q = λ h. let below = w.0 in omega (arith, below, past, h) in
+    ap (λ (b : Bool). cond b (record { event = e; before = n; behind = n + adds m e } ∷ filter (λ (x : Moment). x.event.port == q) (moments_from m (n + adds m e) es)) (filter (λ (x : Moment). x.event.port == q) (moments_from m (n + adds m e) es))) (ne_eqb e.port q away)
+    ∙ past_moments m (n + adds m e) q k es past w.1
+
+pub none_moments : (m q k : ℕ) (es : List Event) → k ≤ q → AllByRecursion (λ (e : Event). e.port < k) es → moments_by m q es ≡ []
+none_moments m q k es past w = past_moments m 0 q k es past w
+
+-- the last call with a step
+pub last_step : (cs : List Called) (c : Called) → 0 < c.steps → EndInStep (cs ++ c ∷ [])
+last_step [] c some = some
+last_step (d ∷ []) c some = some
+last_step (d ∷ e ∷ cs) c some = last_step (e ∷ cs) c some
+
+pub ending_but : (ports : List Port) (i : ℕ) (new : Port) (q : ℕ) → q ≢ i → EndsInStep ports q → EndsInStep (set ports i new) q
+ending_but ports i new q other ends u is none = ends u (sym (get_set_other ports i q new other) ∙ is) none
+
+pub ending_with : (ports : List Port) (i : ℕ) (port new : Port) → slice_get ports i ≡ Some port → (new.under_way ≡ None → EndInStep new.finished.items) → (q : ℕ) → (q ≢ i → EndsInStep ports q) → EndsInStep (set ports i new) q
+ending_with ports i port new t own q ends u is none = elim (eqb_tells q i) [
+  | inl same ↦
+      let two : Some u ≡ Some new = sym is ∙ ap (slice_get (set ports i new)) same.1 ∙ get_set ports i port new t in
+      let port_same : new ≡ u = cc in
+      subst (λ (v : Port). EndInStep v.finished.items) port_same (own (ap (λ (v : Port). v.under_way) port_same ∙ none))
+  | inr other ↦ ending_but ports i new q other.1 (ends other.1) u is none
+]
+
+pub step_ending : (calls : List Call) (words words' : List ℕ) (trace trace' : List Event) (log log' : List Applied) (port new : Port) → StepMade calls words words' trace trace' log log' port new → new.under_way ≡ None → EndInStep new.finished.items
+step_ending calls words words' trace trace' log log' port new m none = here (reply_of (advance port.core (answer_of words m.step))) m.after
+  where
+    here : (found : Option Reply) → MatchOption found (GoesOn port new m.way (advance port.core (answer_of words m.step))) (Ends calls log' port new m.way (advance port.core (answer_of words m.step))) → EndInStep new.finished.items
+    here None g = let bad : None ≡ Some (one_step_more m.way) = sym none ∙ g.way' in cc
+    here (Some r) e = subst EndInStep (sym e.finished) (last_step port.finished.items (ended_call port.number (length port.finished.items) e.call (one_step_more m.way) (length log') r e.note) (omega arith))
+
+-- what a port lists ends in a step
+ending_over : (ports : List Port) (q : ℕ) (calls : List Call) (port : Port) (call : Option Call) (way : Option UnderWay) → port.under_way ≡ way → slice_get ports q ≡ Some port → EndsInStep ports q → ((v : UnderWay) → port.under_way ≡ Some v → 0 < v.steps) → (IsSome way → IsSome call) → EndInStep (port.finished.items ++ left_over port call way)
+ending_over ports q calls port None None is t ends started some = subst EndInStep (sym (append-nil port.finished.items)) (ends port t is)
+ending_over ports q calls port (Some c) None is t ends started some = subst EndInStep (sym (append-nil port.finished.items)) (ends port t is)
+ending_over ports q calls port None (Some way) is t ends started some = let bad : false ≡ true = some refl in absurd (false≢true bad)
+ending_over ports q calls port (Some c) (Some way) is t ends started some = last_step port.finished.items (unfinished_call port.number (length port.finished.items) c way) (started way is)
+
+pub ending_begun : (o : Opening) (log : List Applied) (p : ℕ) (x : Part) (ports : List Port) (q : ℕ) (calls : List Call) (port : Port) → PortFits o log calls p x port → slice_get ports q ≡ Some port → EndsInStep ports q → ((v : UnderWay) → port.under_way ≡ Some v → 0 < v.steps) → EndInStep (begun_by calls port)
+ending_begun o log p x ports q calls port w t ends started =
+    ending_over ports q calls port (slice_get calls (length port.finished.items)) port.under_way refl t ends started (next_is port.under_way w.way)
+  where
+    next_is : (way : Option UnderWay) → MatchOption way (IsBetween x port.core) (IsUnderWay (length log) calls x port.core port.finished.items) → IsSome way → IsSome (slice_get calls (length port.finished.items))
+    next_is None f some = absurd (false≢true some)
+    next_is (Some way) f some = ap is_some f.next

@@ -1,0 +1,162 @@
+-- What a replay has come to is an outcome of its plan.
+use Rattle.std.proofs.Common.{ℕ, false, zero, suc, ◌⊎◌, ◌≡◌, ◌+◌, ◌≤◌, List, [], ◌∷◌, length, get_or, Some, slice_get, refl, sym, ◌∙◌, ap, subst, inl, inr, arith}
+use Rattle.std.specs.List.{filter_map}
+use Rattle.std.proofs.lemmas.Option.{get_or_from_slice_get}
+use Rattle.partial_model.specs.declared.history.Applied.{Applied}
+use Rattle.partial_model.specs.declared.history.Opening.{Opening}
+use Rattle.partial_model.specs.declared.call.Call.{Call}
+use Rattle.partial_model.specs.declared.call.Called.{Called}
+use Rattle.partial_model.specs.Outcome.{LegalOutcome}
+use Rattle.partial_words.specs.declared.step.Event.{Event}
+use Rattle.partial_words.specs.Layout.{Layout, pool_base}
+use Rattle.partial_words.specs.Record.{value_of}
+use Rattle.partial_words.specs.Step.{Leads}
+use Rattle.partial_words.specs.Chain.{Agrees, AreOpeningWords}
+use Rattle.partial_text.specs.PlanText.{PlanView}
+use Rattle.partial_core.specs.Machine.{CoreState, fresh}
+use Rattle.partial_replay.specs.CallSteps.{AreStepsOf}
+use Rattle.partial_replay.specs.PortState.{PortFits}
+use Rattle.partial_replay.proofs.PortSteps.{ending_begun, steps_begun, events_steps, none_moments}
+use Rattle.partial_text.specs.declared.outcome.Outcome.{Outcome}
+use Rattle.partial_replay.specs.declared.port.Port.{Port}
+use Rattle.partial_replay.specs.declared.run.Run.{Run}
+use Rattle.std.specs.List.{AllByRecursion}
+use Rattle.partial_replay.specs.Place.{HasLeastPlace}
+use Rattle.partial_replay.specs.Trace.{entry_of, moments_by, ports_of, events_in}
+use Rattle.partial_replay.specs.Turns.{turns_of, turns_by, ports_in}
+use Rattle.partial_replay.specs.Listed.{calls_by, steps_by, AreFirstOf, AreAllMade, EndInStep, HaveMade}
+use Rattle.partial_replay.specs.Replayed.{IsReplayOf}
+use Rattle.partial_replay.specs.RunState.{AreStarted, IsRun, IsRunOf, Tells, calls_in}
+use Rattle.partial_replay.specs.TurnState.{EndsInStep, EndsInSteps, IsDone, HasFollowed}
+use Rattle.partial_replay.proofs.PortLaws.{get_below}
+use Rattle.partial_replay.proofs.RunSteps.{port_in, ports_length}
+use Rattle.partial_replay.proofs.Told.{begun_by, least_told, run_legal, listed_at, none_listed, first_begun, all_made}
+use Rattle.partial_replay.proofs.TurnLaws.{follows_ports, turns_told}
+use Rattle.partial_replay.proofs.Traces.{entries_told}
+
+-- a place of a list is in it or behind it
+pub at_place : {A : Type 0} (xs : List A) (i : ℕ) → ((x : A) × (slice_get xs i ≡ Some x)) ⊎ (length xs ≤ i)
+at_place [] i = inr (omega arith)
+at_place (x ∷ xs) zero = inl (x, refl)
+at_place (x ∷ xs) (suc i) = elim (at_place xs i) [ inl found ↦ inl found | inr past ↦ inr (omega (arith, past)) ]
+
+pub past_get : {A : Type 0} (xs : List A) (i : ℕ) (d : A) → length xs ≤ i → get_or xs i d ≡ d
+past_get [] i d past = refl
+past_get (x ∷ xs) zero d past = absurd (omega (arith, past))
+past_get (x ∷ xs) (suc i) d past = past_get xs i d (omega (arith, past))
+
+module _ (plans : List (List Call)) (z : Layout) (o : Opening) (words : List ℕ) (ports : List Port) (log : List Applied) (trace : List Event) (w : IsRunOf plans z o words ports log trace) where
+  -- the port of each list of calls
+  pub port_at : (q : ℕ) (calls : List Call) → slice_get plans q ≡ Some calls → (port : Port) × (slice_get ports q ≡ Some port)
+  port_at q calls c = elim (at_place ports q) [
+    | inl found ↦ found
+    | inr past ↦ let same = ports_length o log 0 plans w.parts ports w.fit in let below = get_below plans q calls c in absurd (omega (arith, same, below, past))
+  ]
+
+  pub calls_told : (q : ℕ) → AreFirstOf (get_or plans q []) (calls_by q (calls_in plans ports))
+  calls_told q = elim (at_place plans q) [
+    | inl found ↦
+        let calls = found.0 in
+        let port = port_at q calls found.1 in
+        let fits = port_in plans z o words ports log trace q calls (port.0) w found.1 port.1 in
+        let plan : get_or plans q [] ≡ calls = get_or_from_slice_get plans q calls [] found.1 in
+        let from : q ≡ 0 + q = omega arith in
+        let listed : calls_by q (calls_in plans ports) ≡ begun_by calls (port.0) = ap (λ n. calls_by n (calls_in plans ports)) from ∙ listed_at o log 0 q plans w.parts ports calls (port.0) w.fit found.1 port.1 in
+        subst (λ (l : List Called). AreFirstOf (get_or plans q []) l) (sym listed) (subst (λ (d : List Call). AreFirstOf d (begun_by calls (port.0))) (sym plan) (first_begun o log calls (0 + q) (fits.0) (port.0) fits.1))
+    | inr past ↦
+        let none : calls_by q (calls_in plans ports) ≡ [] = none_listed o log q 0 plans w.parts ports (inr (omega (arith, past))) w.fit in
+        subst (λ (l : List Called). AreFirstOf (get_or plans q []) l) (sym none) refl
+  ]
+
+  -- a port that has made all its calls lists them all, and one that the plan doesn't have lists none
+  pub done_told : (q : ℕ) → IsDone plans ports q → AreAllMade (get_or plans q []) (calls_by q (calls_in plans ports))
+  done_told q d =
+      let fits = port_in plans z o words ports log trace q d.calls d.port w d.plan d.is in
+      let plan : get_or plans q [] ≡ d.calls = get_or_from_slice_get plans q d.calls [] d.plan in
+      let from : q ≡ 0 + q = omega arith in
+      let listed : calls_by q (calls_in plans ports) ≡ begun_by d.calls d.port = ap (λ n. calls_by n (calls_in plans ports)) from ∙ listed_at o log 0 q plans w.parts ports d.calls d.port w.fit d.plan d.is in
+      subst (λ (l : List Called). AreAllMade (get_or plans q []) l) (sym listed) (subst (λ (e : List Call). AreAllMade e (begun_by d.calls d.port)) (sym plan) (all_made o log d.calls (0 + q) (fits.0) d.port fits.1 d.idle d.all))
+
+  pub past_told : (q : ℕ) → length plans ≤ q → AreAllMade (get_or plans q []) (calls_by q (calls_in plans ports))
+  past_told q past =
+      let none : calls_by q (calls_in plans ports) ≡ [] = none_listed o log q 0 plans w.parts ports (inr (omega (arith, past))) w.fit in
+      let plan : get_or plans q [] ≡ [] = past_get plans q [] past in
+      subst (λ (l : List Called). AreAllMade (get_or plans q []) l) (sym none) (sym (ap length plan), tt)
+
+  -- each port's events are the steps of the calls that it lists
+  pub events_told : AreStarted ports → (q : ℕ) → (last : CoreState) × AreStepsOf (fresh z q) (calls_by q (calls_in plans ports)) (moments_by z.m q trace) last
+  events_told started q = elim (at_place plans q) [
+    | inl found ↦
+        let calls = found.0 in
+        let port = port_at q calls found.1 in
+        let in' = port_in plans z o words ports log trace q calls (port.0) w found.1 port.1 in
+        let from : q ≡ 0 + q = omega arith in
+        let fits : PortFits o log calls q (in'.0) (port.0) = subst (λ n. PortFits o log calls n (in'.0) (port.0)) (sym from) in'.1 in
+        let listed : calls_by q (calls_in plans ports) ≡ begun_by calls (port.0) = ap (λ n. calls_by n (calls_in plans ports)) from ∙ listed_at o log 0 q plans w.parts ports calls (port.0) w.fit found.1 port.1 in
+        let steps = steps_begun z o log calls q (moments_by z.m q trace) (in'.0) (port.0) fits (w.made q calls (port.0) found.1 port.1) (λ v way. started q (port.0) v port.1 way) in
+        (steps.0, subst (λ (l : List Called). AreStepsOf (fresh z q) l (moments_by z.m q trace) (steps.0)) (sym listed) steps.1)
+    | inr past ↦
+        let none : calls_by q (calls_in plans ports) ≡ [] = none_listed o log q 0 plans w.parts ports (inr (omega (arith, past))) w.fit in
+        (fresh z q, subst (λ (l : List Called). AreStepsOf (fresh z q) l (moments_by z.m q trace) (fresh z q)) (sym none) (none_moments z.m q (length plans) trace past w.senders, refl))
+  ]
+
+  -- what a port lists ends in a step, where it has begun no call since
+  pub ending_told : AreStarted ports → (q : ℕ) → EndsInStep ports q → EndInStep (calls_by q (calls_in plans ports))
+  ending_told started q ends = elim (at_place plans q) [
+    | inl found ↦
+        let calls = found.0 in
+        let port = port_at q calls found.1 in
+        let in' = port_in plans z o words ports log trace q calls (port.0) w found.1 port.1 in
+        let from : q ≡ 0 + q = omega arith in
+        let listed : calls_by q (calls_in plans ports) ≡ begun_by calls (port.0) = ap (λ n. calls_by n (calls_in plans ports)) from ∙ listed_at o log 0 q plans w.parts ports calls (port.0) w.fit found.1 port.1 in
+        subst EndInStep (sym listed) (ending_begun o log (0 + q) (in'.0) ports q calls (port.0) in'.1 port.1 ends (λ v way. started q (port.0) v port.1 way))
+    | inr past ↦ subst EndInStep (sym (none_listed o log q 0 plans w.parts ports (inr (omega (arith, past))) w.fit)) tt
+  ]
+
+-- a run that has come to its end tells an outcome of its plan
+pub replay_told : (p : PlanView) (run : Run) (outcome : Outcome) → IsRun p.ports run → AreStarted run.ports.items → run.sizes ≡ p.sizes → run.opening.values ≡ p.initial → HasFollowed p.ports (turns_of p) run → (p.rest ≡ false → EndsInSteps p.steps run) → Tells p.ports run outcome → IsReplayOf p outcome
+replay_told p run outcome w started sizes values f ends t =
+    let z = run.sizes in
+    let o = run.opening in
+    let legal : LegalOutcome outcome.opening outcome.history.items outcome.calls.items =
+    subst (λ (h : List Applied). LegalOutcome outcome.opening h outcome.calls.items) (sym t.history)
+    (subst (λ (l : List Called). LegalOutcome outcome.opening run.history.items l) (sym t.calls)
+    (subst (λ (v : Opening). LegalOutcome v run.history.items (calls_in p.ports run.ports.items)) (sym t.opening) (run_legal p.ports z o run.words.items run.ports.items run.history.items run.trace.items w))) in
+    let agrees : Agrees outcome.opening outcome.words.items outcome.history.items =
+    subst (λ (h : List Applied). Agrees outcome.opening outcome.words.items h) (sym t.history)
+    (subst (λ (ws : List ℕ). Agrees outcome.opening ws run.history.items) (sym t.words)
+    (subst (λ (v : Opening). Agrees v run.words.items run.history.items) (sym t.opening) w.lawful.agrees)) in
+    let D = IsDone p.ports run.ports.items in
+    let calls = calls_in p.ports run.ports.items in
+    let ports = ports_of run.trace.items in
+    let events = events_told p.ports z o run.words.items run.ports.items run.history.items run.trace.items w started in
+    let steps : (q : ℕ) → steps_by q calls ≡ events_in q ports = λ q. events_steps (fresh z q) (events q).0 z.m q run.trace.items (calls_by q calls) (events q).1 in
+    let ending : (q : ℕ) → p.rest ≡ false → events_in q ports ≡ turns_by q p.steps → EndInStep (calls_by q calls) = λ q no same.
+    ending_told p.ports z o run.words.items run.ports.items run.history.items run.trace.items w started q (ends no q same) in
+    let made : (q : ℕ) → HaveMade p.rest (turns_by q p.steps) (steps_by q calls) (get_or p.ports q []) (calls_by q calls) = λ q.
+    subst (λ n. HaveMade p.rest (turns_by q p.steps) n (get_or p.ports q []) (calls_by q calls)) (sym (steps q))
+    (turns_told D p ports q (calls_by q calls)
+    (done_told p.ports z o run.words.items run.ports.items run.history.items run.trace.items w q)
+    (past_told p.ports z o run.words.items run.ports.items run.history.items run.trace.items w q) (ending q) f) in
+    let turns : ports ≡ ports_in (turns_of p) (λ q. steps_by q calls) = follows_ports D (turns_of p) ports (λ q. steps_by q calls) steps f in
+    let entries = entries_told z.m o run.words.items run.trace.items run.history.items w.lawful.history w.lawful.agrees w.entries in
+    record {
+      values = ap (λ (v : Opening). v.values) t.opening ∙ values;
+      first = ap (λ (v : Opening). v.first) t.opening ∙ w.lawful.stamps ∙ ap pool_base sizes;
+      legal = legal;
+      agrees = agrees;
+      places = subst (λ (v : Opening). AllByRecursion (HasLeastPlace v outcome.history.items) outcome.calls.items) (sym t.opening)
+          (subst (λ (h : List Applied). AllByRecursion (HasLeastPlace o h) outcome.calls.items) (sym t.history)
+          (subst (AllByRecursion (HasLeastPlace o run.history.items)) (sym t.calls) (least_told o run.history.items 0 p.ports w.parts run.ports.items w.fit)));
+      calls = λ q. subst (λ (l : List Called). AreFirstOf (get_or p.ports q []) (calls_by q l)) (sym t.calls) (calls_told p.ports z o run.words.items run.ports.items run.history.items run.trace.items w q);
+      opened = w.opened;
+      opens = subst (λ (l : Layout). AreOpeningWords l p.initial w.opened) sizes (subst (λ (l : List ℕ). AreOpeningWords z l w.opened) values w.opens);
+      leads = subst (λ (es : List Event). Leads w.opened es outcome.words.items) (sym t.trace) (subst (λ (ws : List ℕ). Leads w.opened run.trace.items ws) (sym t.words) w.leads);
+      steps = t.steps ∙ ap length (sym t.trace);
+      entries = t.history ∙ entries ∙ ap (λ (l : Layout). filter_map (entry_of l.m (value_of run.words.items)) run.trace.items) sizes ∙ ap (λ (ws : List ℕ). filter_map (entry_of p.sizes.m (value_of ws)) run.trace.items) (sym t.words) ∙ ap (filter_map (entry_of p.sizes.m (value_of outcome.words.items))) (sym t.trace);
+      events = λ q. subst (λ (l : Layout). (last : CoreState) × AreStepsOf (fresh l q) (calls_by q outcome.calls.items) (moments_by l.m q outcome.trace.items) last) sizes
+          (subst (λ (es : List Event). (last : CoreState) × AreStepsOf (fresh z q) (calls_by q outcome.calls.items) (moments_by z.m q es) last) (sym t.trace)
+          (subst (λ (l : List Called). (last : CoreState) × AreStepsOf (fresh z q) (calls_by q l) (moments_by z.m q run.trace.items) last) (sym t.calls) (events q)));
+      turns = ap ports_of t.trace ∙ turns ∙ ap (λ (l : List Called). ports_in (turns_of p) (λ q. steps_by q l)) (sym t.calls);
+      made = λ q. subst (λ (l : List Called). HaveMade p.rest (turns_by q p.steps) (steps_by q l) (get_or p.ports q []) (calls_by q l)) (sym t.calls) (made q);
+    }

@@ -1,0 +1,90 @@
+-- What a trace says, event by event.
+use Rattle.std.proofs.Common.{ℕ, suc, ◌-◌, ◌≡◌, ◌+◌, ◌<◌, ◌==◌, ◌++◌, Bool, true, false, cond, List, [], ◌∷◌, length, map, get_or, take, nat_lt, Option, Some, None, slice_get, refl, sym, ◌∙◌, ap, arith}
+use Rattle.std.specs.Bool.{⊤}
+use Rattle.std.specs.List.{filter_map, cons_option}
+use Rattle.std.proofs.lemmas.List.Elements.{filter_map-append}
+use Rattle.std.proofs.lemmas.List.{map-append}
+use Rattle.std.proofs.lemmas.Option.{get_or_from_slice_get}
+use Rattle.partial_model.specs.declared.history.Applied.{Applied}
+use Rattle.partial_model.specs.declared.history.Opening.{Opening}
+use Rattle.partial_model.specs.History as history
+use Rattle.partial_model.specs.History.{IsHistory, initial_stamp, last_entry, stamp_of}
+use Rattle.std.specs.Option.{option_map_or}
+use Rattle.std.proofs.lemmas.Bool.{false≢true}
+use Rattle.partial_words.specs.Step.{word_of}
+use Rattle.partial_model.proofs.HistoryLemmas.{last_entry-found, place_below}
+use Rattle.partial_model.proofs.NotesLemmas.{AllByRecursion-get}
+use Rattle.partial_words.specs.declared.step.Step.{Step}
+use Rattle.partial_words.specs.declared.step.Step.TheVariants.{Load, Store, Exchange, Add}
+use Rattle.partial_words.specs.declared.step.Event.{Event}
+use Rattle.partial_words.specs.Record.{value_of}
+use Rattle.partial_words.specs.Chain.{Agrees}
+use Rattle.partial_words.proofs.ChainLemmas.{value_behind_stamp}
+use Rattle.partial_replay.specs.Trace.{is_won, new_of, entry_of}
+use Rattle.partial_replay.specs.PortState.{entry_at}
+use Rattle.partial_replay.specs.RunState.{unvalued}
+
+-- an exchange is one of a component word
+abbrev pub IsOfComponent : ℕ → Step → Type 0
+IsOfComponent m (Exchange w old new) = w < m
+IsOfComponent m _ = ⊤
+
+below_is : (w m : ℕ) → w < m → nat_lt w m ≡ true
+below_is w m h = search (arith, h)
+
+entry_won : (p w old new a v : ℕ) (c b : Bool) → c ≡ true → cons_option (cond (cond c b false) (Some (record { port = p; component = w; value = 0; stamp = new })) None) [] ≡ map unvalued (cond b (record { port = p; component = w; value = v; stamp = new } ∷ []) [])
+entry_won p w old new a v true true is = refl
+entry_won p w old new a v true false is = refl
+entry_won p w old new a v false b is = absurd (false≢true is)
+
+-- the entry of an event is the one that the history gains
+entry_same : (m : ℕ) (words : List ℕ) (p : ℕ) (step : Step) (a : ℕ) → IsOfComponent m step → cons_option (entry_of m (λ _. 0) (record { port = p; step = step; answer = a })) [] ≡ map unvalued (entry_at words p step a)
+entry_same m words p (Load w) a c = refl
+entry_same m words p (Store w v) a c = refl
+entry_same m words p (Add w k) a c = refl
+entry_same m words p (Exchange w old new) a c = entry_won p w old new a (value_of words new) (nat_lt w m) (a == old) (below_is w m c)
+
+pub entries_push : (m : ℕ) (words : List ℕ) (trace trace' : List Event) (log log' : List Applied) (p : ℕ) (step : Step) (a : ℕ) → filter_map (entry_of m (λ _. 0)) trace ≡ map unvalued log → IsOfComponent m step → trace' ≡ trace ++ record { port = p; step = step; answer = a } ∷ [] → log' ≡ log ++ entry_at words p step a → filter_map (entry_of m (λ _. 0)) trace' ≡ map unvalued log'
+entries_push m words trace trace' log log' p step a same component trace_is log_is =
+    ap (filter_map (entry_of m (λ _. 0))) trace_is
+    ∙ filter_map-append (entry_of m (λ _. 0)) trace (record { port = p; step = step; answer = a } ∷ [])
+    ∙ ap (λ (l : List Applied). l ++ cons_option (entry_of m (λ _. 0) (record { port = p; step = step; answer = a })) []) same
+    ∙ ap (λ (l : List Applied). map unvalued log ++ l) (entry_same m words p step a component)
+    ∙ sym (map-append unvalued log (entry_at words p step a))
+    ∙ ap (map unvalued) (sym log_is)
+
+-- an entry with the value that its record has
+abbrev valued : (ℕ → ℕ) → Applied → Applied
+valued value e = record { port = e.port; component = e.component; value = value e.stamp; stamp = e.stamp }
+
+valued_won : (value : ℕ → ℕ) (e : Event) (b : Bool) (xs ys : List Applied) → xs ≡ map (valued value) ys → cons_option (cond b (Some (record { port = e.port; component = word_of e.step; value = value (new_of e.step); stamp = new_of e.step })) None) xs ≡ map (valued value) (cons_option (cond b (Some (record { port = e.port; component = word_of e.step; value = 0; stamp = new_of e.step })) None) ys)
+valued_won value e true xs ys same = ap (λ (l : List Applied). record { port = e.port; component = word_of e.step; value = value (new_of e.step); stamp = new_of e.step } ∷ l) same
+valued_won value e false xs ys same = same
+
+valued_trace : (m : ℕ) (value : ℕ → ℕ) (trace : List Event) → filter_map (entry_of m value) trace ≡ map (valued value) (filter_map (entry_of m (λ _. 0)) trace)
+valued_trace m value [] = refl
+valued_trace m value (e ∷ trace) = valued_won value e (is_won m e.step e.answer) (filter_map (entry_of m value) trace) (filter_map (entry_of m (λ _. 0)) trace) (valued_trace m value trace)
+
+-- the record of each entry holds its value
+entry_value : (o : Opening) (words : List ℕ) (h : List Applied) (k : ℕ) (e : Applied) → IsHistory o h → Agrees o words h → slice_get h k ≡ Some e → value_of words e.stamp ≡ e.value
+entry_value o words h k e hist agrees stands =
+    let below = place_below h k e stands in
+    let here : get_or h (k + 1 - 1) e ≡ e = ap (λ i. get_or h i e) (omega arith) ∙ get_or_from_slice_get h k e e stands in
+    let last : last_entry e.component (take (k + 1) h) ≡ Some e = last_entry-found h (k + 1) e.component e (omega arith) (omega (arith, below)) (ap (λ (f : Applied). f.component) here) ∙ ap Some here in
+    let stamp : stamp_of o (take (k + 1) h) e.component ≡ e.stamp = ap (λ (f : Option Applied). option_map_or (λ (x : Applied). x.stamp) f (initial_stamp o e.component)) last in
+    let value : history.value_of o (take (k + 1) h) e.component ≡ e.value = ap (λ (f : Option Applied). option_map_or (λ (x : Applied). x.value) f (get_or o.values e.component 0)) last in
+    ap (value_of words) (sym stamp) ∙ value_behind_stamp o words h e.component (k + 1) agrees (AllByRecursion-get (λ (f : Applied). f.component < length o.values) h k e hist.components stands) ∙ value
+
+valued_here : (value : ℕ → ℕ) (e : Applied) → value e.stamp ≡ e.value → e ≡ valued value (unvalued e)
+valued_here value e is = ap (λ v. record { port = e.port; component = e.component; value = v; stamp = e.stamp }) (sym is)
+
+valued_back : (value : ℕ → ℕ) (h : List Applied) → ((k : ℕ) (e : Applied) → slice_get h k ≡ Some e → value e.stamp ≡ e.value) → h ≡ map (valued value) (map unvalued h)
+valued_back value [] f = refl
+valued_back value (e ∷ h) f = ap (λ (x : Applied). x ∷ h) (valued_here value e (f 0 e refl)) ∙ ap (λ (l : List Applied). valued value (unvalued e) ∷ l) (valued_back value h (λ k x s. f (suc k) x s))
+
+-- the entries that the trace adds are the history, with the values that their records hold
+pub entries_told : (m : ℕ) (o : Opening) (words : List ℕ) (trace : List Event) (log : List Applied) → IsHistory o log → Agrees o words log → filter_map (entry_of m (λ _. 0)) trace ≡ map unvalued log → log ≡ filter_map (entry_of m (value_of words)) trace
+entries_told m o words trace log hist agrees same =
+    valued_back (value_of words) log (λ k e s. entry_value o words log k e hist agrees s)
+    ∙ ap (map (valued (value_of words))) (sym same)
+    ∙ sym (valued_trace m (value_of words) trace)

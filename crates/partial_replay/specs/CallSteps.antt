@@ -1,0 +1,64 @@
+-- The steps of a port's calls, call by call.
+use Rattle.std.specs.Prelude.{ℕ, ◌≡◌, List, [], ◌∷◌, ◌++◌, length, Option, Some, None, IfSome}
+use Rattle.std.specs.Option.{option_map}
+use Rattle.partial_model.specs.declared.call.Call.{Call}
+use Rattle.partial_model.specs.declared.call.Call.TheVariants as call
+use Rattle.partial_model.specs.declared.call.Refused.{Refused}
+use Rattle.partial_model.specs.declared.call.Answer.TheVariants as answer
+use Rattle.partial_model.specs.declared.call.Called.{Called}
+use Rattle.partial_core.specs.declared.stage.Stage.{Stage}
+use Rattle.partial_core.specs.declared.stage.Stage.TheVariants.{Idle, ReadBegun, UpdateBegun}
+use Rattle.partial_core.specs.Machine.{CoreState, at_stage, advance, step_of, reply_of, read_refusal, update_refusal}
+use Rattle.partial_core.specs.Lawful.{answer_for}
+use Rattle.partial_replay.specs.Trace.{Moment}
+
+-- the stage at which a call begins
+abbrev pub stage_of : Call → Stage
+stage_of (call.Update j v) = UpdateBegun (record { component = j; expected = None; value = v })
+stage_of (call.Scan js) = Idle
+stage_of (call.Read j) = ReadBegun j
+stage_of (call.UpdateIf j s v) = UpdateBegun (record { component = j; expected = Some s; value = v })
+
+-- why a call is refused at once
+abbrev pub refusal_of : CoreState → Call → Option Refused
+refusal_of s (call.Update j v) = update_refusal s j
+refusal_of s (call.Scan js) = None
+refusal_of s (call.Read j) = read_refusal s j
+refusal_of s (call.UpdateIf j x v) = update_refusal s j
+
+-- the machine makes these events, each of them its due step, and comes to that state
+abbrev pub Makes : CoreState → List Moment → CoreState → Type 0
+Makes s [] t = t ≡ s
+Makes s (x ∷ xs) t = (step_of s ≡ Some x.event.step) × Makes (advance s x.event.answer) xs t
+
+-- how long the history is behind the last of them, or where there is none
+abbrev pub last_behind : ℕ → List Moment → ℕ
+last_behind n [] = n
+last_behind n (x ∷ xs) = last_behind x.behind xs
+
+-- a call without steps: the machine refuses it at once
+pub record IsRefusedAtOnce (s : CoreState) (c : Called) : Type 0 where
+  pub cause : Refused
+  pub refused : refusal_of s c.call ≡ Some cause
+  pub finish : c.finish ≡ Some (record { ended = c.began; answer = answer.Refused cause; note = None })
+
+-- A call with steps: the machine begins it and makes its events. It begins with the history before the
+-- first one; where it has ended its answer is the machine's, and it has ended behind the last one.
+pub record HasSteps (s : CoreState) (c : Called) (first : Moment) (more : List Moment) (t : CoreState) : Type 0 where
+  pub begins : refusal_of s c.call ≡ None
+  pub last : CoreState
+  pub makes : Makes (at_stage s (stage_of c.call)) (first ∷ more) last
+  pub began : c.began ≡ first.before
+  pub answered : option_map (λ f. f.answer) c.finish ≡ option_map answer_for (reply_of last)
+  pub ended : IfSome c.finish (λ f. f.ended ≡ last_behind first.behind more)
+  pub rests : t ≡ at_stage last Idle
+
+-- a call of the machine s with its events, and the machine behind it
+abbrev pub IsCallOf : CoreState → Called → List Moment → CoreState → Type 0
+IsCallOf s c [] t = IsRefusedAtOnce s c × (t ≡ s)
+IsCallOf s c (x ∷ xs) t = HasSteps s c x xs t
+
+-- the events are the steps of the calls of the machine s, call by call, and lead to t
+abbrev pub AreStepsOf : CoreState → List Called → List Moment → CoreState → Type 0
+AreStepsOf s [] xs t = (xs ≡ []) × (t ≡ s)
+AreStepsOf s (c ∷ cs) xs t = (own behind : List Moment) × (u : CoreState) × (xs ≡ own ++ behind) × (length own ≡ c.steps) × IsCallOf s c own u × AreStepsOf u cs behind t

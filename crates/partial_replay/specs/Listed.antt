@@ -1,0 +1,33 @@
+-- The calls that a replay lists, port by port.
+use Rattle.std.specs.Prelude.{ℕ, ◌≡◌, ◌<◌, ◌≤◌, ◌==◌, ⊤, [], ◌∷◌, Bool, true, false, List, length, map, take, filter, sum_by, IsSome}
+use Rattle.std.specs.List.{AllByRecursion}
+use Rattle.partial_model.specs.declared.call.Call.{Call}
+use Rattle.partial_model.specs.declared.call.Called.{Called}
+
+-- the calls of port q, in order
+abbrev pub calls_by : ℕ → List Called → List Called
+calls_by q calls = filter (λ c. c.port == q) calls
+
+-- how many steps they have made
+abbrev pub steps_by : ℕ → List Called → ℕ
+steps_by q calls = sum_by (λ c. c.steps) (calls_by q calls)
+
+-- they are the first of the plan's calls
+abbrev pub AreFirstOf : List Call → List Called → Type 0
+AreFirstOf plan calls = map (λ c. c.call) calls ≡ take (length calls) plan
+
+-- each call of the plan is made, to its end
+abbrev pub AreAllMade : List Call → List Called → Type 0
+AreAllMade plan calls = (length calls ≡ length plan) × AllByRecursion (λ c. IsSome c.finish) calls
+
+-- the last of them has made a step
+abbrev pub EndInStep : List Called → Type 0
+EndInStep [] = ⊤
+EndInStep (c ∷ []) = 0 < c.steps
+EndInStep (c ∷ d ∷ cs) = EndInStep (d ∷ cs)
+
+-- With the rest all calls are made. Without it so many turns make as many steps, and then no call is begun
+-- behind the last step; or they make fewer, and then all calls are made.
+abbrev pub HaveMade : Bool → ℕ → ℕ → List Call → List Called → Type 0
+HaveMade true turns steps plan calls = AreAllMade plan calls
+HaveMade false turns steps plan calls = (steps ≤ turns) × (steps ≡ turns → EndInStep calls) × (steps < turns → AreAllMade plan calls)
