@@ -1,0 +1,181 @@
+-- An embedded scan as a machine: collects of its positions until two agree or one position shows a third
+-- record, and the values or the borrowed view that this gives.
+use Rattle.std.specs.Prelude.{ℕ, ◌≡◌, ◌+◌, ◌-◌, ◌*◌, ◌<◌, ◌≤◌, ◌⊎◌, ◌==◌, Bool, false, not, ◌&&◌, ◌||◌, ⊤, nat_lt, Option, Some, None, List, length, take, slice_index, slice_index_or, slice_set, count_by, if◌then◌else◌}
+use Rattle.partial_words.specs.declared.step.Step.{Step}
+use Rattle.partial_words.specs.declared.step.Step.TheVariants.{Load}
+use Rattle.partial_words.specs.Layout.{Layout, component_word, pool_base, pool_end}
+use Rattle.partial_embedded.specs.declared.embedded.Stage.{Stage}
+use Rattle.partial_embedded.specs.declared.embedded.Stage.TheVariants.{Collect, View, Len, Index, PairValue, Value, Done}
+
+-- the sizes; whether a borrowed view is shared and not loaded; how many collects were begun; whether the
+-- collect under way has shown a change; the record whose view is borrowed and that view; and the stage
+pub record EmbeddedState : Type 0 where
+  pub sizes : Layout
+  pub shares : Bool
+  pub collects : ℕ
+  pub moved : Bool
+  pub borrowed : Option ℕ
+  pub view : ℕ
+  pub stage : Stage
+
+-- of each position the latest load and whether it has changed, and the value of each component
+pub record RowsState : Type 0 where
+  pub last : List ℕ
+  pub changed : List Bool
+  pub values : List ℕ
+
+-- the machine and its buffers
+abbrev pub Pair : Type 0
+Pair = EmbeddedState × RowsState
+
+-- the buffers were made for these sizes
+pub record IsFor (s : Layout) (r : RowsState) : Type 0 where
+  pub last : length r.last ≡ s.m
+  pub changed : length r.changed ≡ s.m
+  pub values : length r.values ≡ s.m
+
+-- an embedded scan that has made no step
+abbrev pub fresh : Layout → Bool → EmbeddedState
+fresh s shares = record { sizes = s; shares = shares; collects = 1; moved = false; borrowed = None; view = 0; stage = Collect 0 }
+
+-- the step that is due
+abbrev pub step_at : Layout → List ℕ → List ℕ → Stage → Option Step
+step_at s indices last (Collect k) = Some (Load (component_word s (slice_index indices k)))
+step_at s indices last (View stamp) = Some (Load (stamp + 2))
+step_at s indices last (Len at) = Some (Load at)
+step_at s indices last (Index at left) = Some (Load at)
+step_at s indices last (PairValue at left index) = Some (Load at)
+step_at s indices last (Value k) = Some (Load (slice_index last k + 1))
+step_at s indices last Done = None
+
+abbrev pub step_of : List ℕ → Pair → Option Step
+step_of indices p = step_at p.0.sizes indices p.1.last p.0.stage
+
+-- the collect under way is the first
+abbrev pub is_first : Pair → Bool
+is_first p = p.0.collects == 1
+
+-- the load of position k differs from the one in the collect before
+abbrev pub differs : Pair → ℕ → ℕ → Bool
+differs p k x = not (is_first p) && not (slice_index p.1.last k == x)
+
+-- position k has changed before
+abbrev pub was_changed : Pair → ℕ → Bool
+was_changed p k = not (is_first p) && slice_index_or p.1.changed k false
+
+-- the machine at another stage
+abbrev pub at_stage : Pair → Stage → Pair
+at_stage p stage = (record p.0 { stage = stage }, p.1)
+
+-- the third record at a position: its view is borrowed
+abbrev pub borrow : Pair → ℕ → Pair
+borrow p x = (record p.0 { borrowed = Some x; stage = View x }, p.1)
+
+-- the load of position k is noted
+abbrev pub noted : Pair → ℕ → ℕ → Pair
+noted p k x = (record p.0 { moved = p.0.moved || differs p k x }, record p.1 { last = slice_set p.1.last k x; changed = slice_set p.1.changed k (differs p k x || was_changed p k) })
+
+-- the collect is whole: another one is made where it was the first or has shown a change
+abbrev pub after_collect : Pair → Pair
+after_collect p = if is_first p || p.0.moved then (record p.0 { collects = p.0.collects + 1; moved = false; stage = Collect 0 }, p.1) else at_stage p (Value 0)
+
+-- the position behind k, or the end of the collect
+abbrev pub go_on : ℕ → Pair → ℕ → Pair
+go_on r p k = if nat_lt (k + 1) r then at_stage p (Collect (k + 1)) else after_collect p
+
+abbrev pub after_load : ℕ → Pair → ℕ → ℕ → Pair
+after_load r p k x = if differs p k x && was_changed p k then borrow p x else go_on r (noted p k x) k
+
+-- the view of the borrowed record: it is shared, empty, or loaded
+abbrev pub after_view : EmbeddedState → ℕ → EmbeddedState
+after_view e x = record e { view = x; stage = if (x == 0) || e.shares then Done else Len x }
+
+-- so many pairs are left, from that word on
+abbrev pub pairs_from : ℕ → ℕ → Stage
+pairs_from at left = if left == 0 then Done else Index at left
+
+-- the value of a component, in the place of what was there
+abbrev pub with_value : Pair → ℕ → ℕ → Pair
+with_value p j x = (p.0, record p.1 { values = slice_set p.1.values j x })
+
+-- what an answer makes of the machine at a stage
+abbrev pub advance_at : List ℕ → Pair → Stage → ℕ → Pair
+advance_at indices p (Collect k) x = after_load (length indices) p k x
+advance_at indices p (View stamp) x = (after_view p.0 x, p.1)
+advance_at indices p (Len at) x = at_stage p (pairs_from (at + 1) x)
+advance_at indices p (Index at left) x = at_stage p (PairValue (at + 1) left x)
+advance_at indices p (PairValue at left index) x = at_stage (with_value p index x) (pairs_from (at + 1) (left - 1))
+advance_at indices p (Value k) x = at_stage (with_value p (slice_index indices k) x) (if nat_lt (k + 1) (length indices) then Value (k + 1) else Done)
+advance_at indices p Done x = p
+
+abbrev pub advance : List ℕ → Pair → ℕ → Pair
+advance indices p x = advance_at indices p p.0.stage x
+
+-- the words of a record that begins at `at` are pool words
+abbrev pub IsRecord : Layout → ℕ → Type 0
+IsRecord s at = (pool_base s ≤ at) × (at + 3 ≤ pool_end s)
+
+-- how many of the positions have changed
+abbrev pub changes : ℕ → RowsState → ℕ
+changes r rows = count_by (λ b. b) (take r rows.changed)
+
+-- how many collects there may be behind the one under way: each but the last shows a position's first change
+abbrev pub future : ℕ → Pair → ℕ
+future r p = if is_first p then r + 1 else if p.0.moved then r - changes r p.1 + 1 else r - changes r p.1
+
+-- the greatest number of steps of an embedded scan of r positions
+abbrev pub most_steps : Layout → ℕ → ℕ
+most_steps s r = r * (r + 2) + 2 * s.m + 2
+
+-- how many steps are left at most
+abbrev pub left_at : ℕ → Pair → Stage → ℕ
+left_at r p (Collect k) = r - k + r * future r p + 2 * p.0.sizes.m + 2
+left_at r p (View stamp) = 2 * p.0.sizes.m + 2
+left_at r p (Len at) = 2 * p.0.sizes.m + 1
+left_at r p (Index at left) = 2 * left
+left_at r p (PairValue at left index) = 2 * left - 1
+left_at r p (Value k) = r - k
+left_at r p Done = 0
+
+abbrev pub left_of : List ℕ → Pair → ℕ
+left_of indices p = left_at (length indices) p p.0.stage
+
+-- the positions name components, at least one and at most m
+pub record ArePositions (s : Layout) (indices : List ℕ) : Type 0 where
+  pub some : 0 < length indices
+  pub few : length indices ≤ s.m
+  pub components : (k : ℕ) → k < length indices → slice_index indices k < s.m
+
+-- the positions from one on up to another were loaded: their latest loads are records
+abbrev pub AreLoaded : Layout → RowsState → ℕ → Type 0
+AreLoaded s rows n = (k : ℕ) → k < n → IsRecord s (slice_index rows.last k)
+
+-- what is known at a stage
+abbrev pub goes_at : List ℕ → Pair → Stage → Type 0
+goes_at indices p (Collect k) = (k < length indices) × (p.0.collects + future (length indices) p ≤ length indices + 2) × (1 ≤ p.0.collects) × AreLoaded p.0.sizes p.1 (if is_first p then k else length indices) × (p.0.collects ≡ 1 → (p.0.moved ≡ false) × ((i : ℕ) → i < k → slice_index_or p.1.changed i false ≡ false))
+goes_at indices p (View stamp) = IsRecord p.0.sizes stamp
+goes_at indices p (Len at) = at < pool_end p.0.sizes
+goes_at indices p (Index at left) = (0 < left) × (left ≤ p.0.sizes.m) × (at + 2 * left ≤ pool_end p.0.sizes)
+goes_at indices p (PairValue at left index) = (0 < left) × (left ≤ p.0.sizes.m) × (at + 2 * left ≤ pool_end p.0.sizes + 1) × (index < p.0.sizes.m)
+goes_at indices p (Value k) = (k < length indices) × AreLoaded p.0.sizes p.1 (length indices)
+goes_at indices p Done = ⊤
+
+-- the machine, its positions and its buffers go together
+pub record GoTogether (indices : List ℕ) (p : Pair) : Type 0 where
+  pub positions : ArePositions p.0.sizes indices
+  pub rows : IsFor p.0.sizes p.1
+  pub collects : p.0.collects ≤ length indices + 2
+  pub stage : goes_at indices p p.0.stage
+
+-- the answers that words may give
+abbrev pub IsPossibleAt : Layout → Stage → ℕ → Type 0
+IsPossibleAt s (Collect k) x = IsRecord s x
+IsPossibleAt s (View stamp) x = (x ≡ 0) ⊎ ((pool_base s ≤ x) × (x < pool_end s))
+IsPossibleAt s (Len at) x = (x ≤ s.m) × (at + 1 + 2 * x ≤ pool_end s)
+IsPossibleAt s (Index at left) x = x < s.m
+IsPossibleAt s (PairValue at left index) x = ⊤
+IsPossibleAt s (Value k) x = ⊤
+IsPossibleAt s Done x = ⊥
+
+abbrev pub IsPossible : Pair → ℕ → Type 0
+IsPossible p x = IsPossibleAt p.0.sizes p.0.stage x

@@ -1,0 +1,218 @@
+//! The machine of an embedded scan.
+
+ghost use Rattle.std.specs.Prelude.{◌≡◌, ◌+◌, ◌*◌, ◌<◌, length};
+ghost use Rattle.partial_embedded.specs.Embedded.{Pair, RowsState, GoTogether, IsPossible, pairs_from};
+ghost use Rattle.partial_embedded.specs.declared.embedded.Stage.TheVariants.{Collect};
+
+use crate::rows::Rows;
+use partial_words::{Sizes, Step};
+use std::marker::Model;
+
+/// Where an embedded scan is: the step that is due, and what it needs for it.
+#[derive(Clone, Copy, Debug, PartialEq, Eq)]
+pub enum Stage {
+    /// Load the component word of a position.
+    Collect {
+        position: usize,
+    },
+    /// Load the reference of the view of the record with this stamp.
+    View {
+        stamp: u64,
+    },
+    /// Load the number of pairs of the view at this word.
+    Len {
+        at: u64,
+    },
+    /// Load the index of a pair at this word. So many pairs are left, this one with them.
+    Index {
+        at: u64,
+        left: u64,
+    },
+    /// Load the value of the pair with this index, at this word.
+    PairValue {
+        at: u64,
+        left: u64,
+        index: u32,
+    },
+    /// Load the value of a position's record.
+    Value {
+        position: usize,
+    },
+    /// Nothing is due.
+    Done,
+}
+
+/// An embedded scan under way. It collects the component words of its positions, again and again, until
+/// two collects agree or one position shows a third record. In the first case it loads the values of the
+/// records, in the second it borrows that record's view.
+#[derive(Debug, Drop)]
+pub struct Embedded {
+    sizes: Sizes,
+    shares: bool,
+    collects: u32,
+    moved: bool,
+    borrowed: Option<u64>,
+    view: u64,
+    stage: Stage,
+}
+
+impl Model for Embedded {
+    ghost use Rattle.partial_words.specs.Layout.{IsLayout};
+    ghost use Rattle.partial_embedded.specs.Embedded.{EmbeddedState};
+
+    ghost Value = { EmbeddedState };
+
+    ghost view = { λ e. record { sizes = e.sizes; shares = e.shares; collects = e.collects; moved = e.moved; borrowed = e.borrowed; view = e.view; stage = e.stage } };
+
+    ghost invariant = { λ e. IsLayout e.sizes };
+}
+
+impl Embedded {
+    ghost use Rattle.std.specs.Prelude.{IsSome, ◌≤◌};
+    ghost use Rattle.partial_words.specs.Layout.{pool_end};
+    ghost use Rattle.partial_embedded.specs.Embedded.{ArePositions, IsFor, IsRecord, fresh, step_of, advance, left_of, most_steps, after_load, after_view, at_stage, with_value, pairs_from, advance_at};
+
+    /// An embedded scan that has made no step. One that shares stops at the reference of a view that it
+    /// borrows; another one loads the pairs.
+    pub fn new(sizes: Sizes, shares: bool) -> Embedded
+        ensures { result ≡ fresh sizes shares }
+    {
+        let _components = sizes.m();
+        Embedded {
+            sizes,
+            shares,
+            collects: 1,
+            moved: false,
+            borrowed: None,
+            view: 0,
+            stage: Stage::Collect { position: 0 },
+        }
+    }
+
+    /// The step that is due, or `None` once the scan is finished.
+    pub fn step(&self, rows: &Rows, indices: &[u32]) -> Option<Step>
+        requires { GoTogether indices.now (self.now, rows.now) }
+        ensures { result ≡ step_of indices.now (self.now, rows.now) }
+    {
+        match self.stage {
+            Stage::Collect { position } => {
+                Some(Step::Load(self.sizes.component_word(indices[position])))
+            }
+            Stage::View { stamp } => Some(Step::Load((stamp + 2) as u32)),
+            Stage::Len { at } => Some(Step::Load(at as u32)),
+            Stage::Index { at, .. } => Some(Step::Load(at as u32)),
+            Stage::PairValue { at, .. } => Some(Step::Load(at as u32)),
+            Stage::Value { position } => Some(Step::Load((rows.latest(position) + 1) as u32)),
+            Stage::Done => None,
+        }
+    }
+
+    /// How many collects were begun, the one under way with them.
+    pub fn collects(&self) -> u32
+        ensures { result ≡ self.now.collects }
+    {
+        self.collects
+    }
+
+    /// The stamp of the record whose view is borrowed, if one is.
+    pub fn borrowed(&self) -> Option<u64>
+        ensures { result ≡ self.now.borrowed }
+    {
+        self.borrowed
+    }
+
+    /// The reference of the borrowed view: 0 where it is the empty one, or none is borrowed.
+    pub fn view(&self) -> u64
+        ensures { result ≡ self.now.view }
+    {
+        self.view
+    }
+
+    /// Takes the answer of the step that was due, with the buffers and the positions of this scan. Once
+    /// the scan is finished, the buffers have the values.
+    pub fn answer(&mut self, rows: &mut Rows, indices: &[u32], x: u64)
+        requires together { GoTogether indices.now (self.old, rows.old) }
+        requires possible { IsPossible (self.old, rows.old) x }
+        ensures state { (self.new, rows.new) ≡ advance indices.now (self.old, rows.old) x }
+    {
+        match self.stage {
+            Stage::Collect { position } => self.after_load(rows, indices, position, x),
+            Stage::View { .. } => self.after_view(x),
+            Stage::Len { at } => self.stage = pairs_from(at + 1, x),
+            Stage::Index { at, left } => {
+                self.stage = Stage::PairValue {
+                    at: at + 1,
+                    left,
+                    index: x as u32,
+                };
+            }
+            Stage::PairValue { at, left, index } => {
+                rows.set_value(index, x);
+                self.stage = pairs_from(at + 1, left - 1);
+            }
+            Stage::Value { position } => {
+                rows.set_value(indices[position], x);
+                self.stage = if position + 1 < indices.len() {
+                    Stage::Value {
+                        position: position + 1,
+                    }
+                } else {
+                    Stage::Done
+                };
+            }
+            Stage::Done => {}
+        }
+    }
+
+    // The component word of a position was loaded.
+    fn after_load(&mut self, rows: &mut Rows, indices: &[u32], position: usize, x: u64)
+        requires together { GoTogether indices.now (self.old, rows.old) }
+        requires stage { self.old.stage ≡ Collect position }
+        ensures { (self.new, rows.new) ≡ after_load (length indices.now) (self.old, rows.old) position x }
+    {
+        let first = self.collects == 1;
+        let differs = !first && rows.latest(position) != x;
+        let was_changed = !first && rows.has_changed(position);
+        if differs && was_changed {
+            self.borrowed = Some(x);
+            self.stage = Stage::View { stamp: x };
+            return;
+        }
+        rows.note(position, x, differs || was_changed);
+        self.moved = self.moved || differs;
+        if position + 1 < indices.len() {
+            self.stage = Stage::Collect {
+                position: position + 1,
+            };
+        } else if first || self.moved {
+            self.collects += 1;
+            self.moved = false;
+            self.stage = Stage::Collect { position: 0 };
+        } else {
+            self.stage = Stage::Value { position: 0 };
+        }
+    }
+
+    // The reference of the view of the borrowed record was loaded.
+    fn after_view(&mut self, x: u64)
+        ensures { self.new ≡ after_view self.old x }
+    {
+        self.view = x;
+        self.stage = if x == 0 || self.shares {
+            Stage::Done
+        } else {
+            Stage::Len { at: x }
+        };
+    }
+}
+
+// The stage with so many pairs left, from that word on.
+fn pairs_from(at: u64, left: u64) -> Stage
+    ensures { result ≡ pairs_from at left }
+{
+    if left == 0 {
+        Stage::Done
+    } else {
+        Stage::Index { at, left }
+    }
+}
