@@ -1,6 +1,6 @@
 -- An embedded scan as a machine: collects of its positions until two agree or one position shows a third
 -- record, and the values or the borrowed view that this gives.
-use Rattle.std.specs.Prelude.{ℕ, ◌≡◌, ◌+◌, ◌-◌, ◌*◌, ◌<◌, ◌≤◌, ◌⊎◌, ◌==◌, Bool, false, not, ◌&&◌, ◌||◌, ⊤, nat_lt, Option, Some, None, List, length, take, slice_index, slice_index_or, slice_set, count_by, if◌then◌else◌}
+use Rattle.std.specs.Prelude.{ℕ, ◌≡◌, ◌+◌, ◌-◌, ◌*◌, ◌<◌, ◌≤◌, ◌⊎◌, ◌==◌, Bool, false, not, ◌&&◌, ◌||◌, ⊤, nat_lt, Option, Some, None, List, length, zero, suc, [], ◌∷◌, slice_index, slice_index_or, slice_set, if◌then◌else◌}
 use Rattle.partial_words.specs.declared.step.Step.{Step}
 use Rattle.partial_words.specs.declared.step.Step.TheVariants.{Load}
 use Rattle.partial_words.specs.Layout.{Layout, component_word, pool_base, pool_end}
@@ -115,9 +115,15 @@ advance indices p x = advance_at indices p p.0.stage x
 abbrev pub IsRecord : Layout → ℕ → Type 0
 IsRecord s at = (pool_base s ≤ at) × (at + 3 ≤ pool_end s)
 
+-- how many of the first r are true
+abbrev pub count_true : ℕ → List Bool → ℕ
+count_true zero bs = 0
+count_true (suc r) [] = 0
+count_true (suc r) (b ∷ bs) = (if b then 1 else 0) + count_true r bs
+
 -- how many of the positions have changed
 abbrev pub changes : ℕ → RowsState → ℕ
-changes r rows = count_by (λ b. b) (take r rows.changed)
+changes r rows = count_true r rows.changed
 
 -- how many collects there may be behind the one under way: each but the last shows a position's first change
 abbrev pub future : ℕ → Pair → ℕ
@@ -152,7 +158,7 @@ AreLoaded s rows n = (k : ℕ) → k < n → IsRecord s (slice_index rows.last k
 
 -- what is known at a stage
 abbrev pub goes_at : List ℕ → Pair → Stage → Type 0
-goes_at indices p (Collect k) = (k < length indices) × (p.0.collects + future (length indices) p ≤ length indices + 2) × (1 ≤ p.0.collects) × AreLoaded p.0.sizes p.1 (if is_first p then k else length indices) × (p.0.collects ≡ 1 → (p.0.moved ≡ false) × ((i : ℕ) → i < k → slice_index_or p.1.changed i false ≡ false))
+goes_at indices p (Collect k) = (k < length indices) × (p.0.collects + future (length indices) p ≤ length indices + 2) × (1 ≤ p.0.collects) × AreLoaded p.0.sizes p.1 (if is_first p then k else length indices)
 goes_at indices p (View stamp) = IsRecord p.0.sizes stamp
 goes_at indices p (Len at) = at < pool_end p.0.sizes
 goes_at indices p (Index at left) = (0 < left) × (left ≤ p.0.sizes.m) × (at + 2 * left ≤ pool_end p.0.sizes)

@@ -1,6 +1,6 @@
 //! The machine of an embedded scan.
 
-ghost use Rattle.std.specs.Prelude.{◌≡◌, ◌+◌, ◌*◌, ◌<◌, length};
+ghost use Rattle.std.specs.Prelude.{◌≡◌, ◌+◌, ◌*◌, ◌<◌, ℕ, List, length};
 ghost use Rattle.partial_embedded.specs.Embedded.{Pair, RowsState, GoTogether, IsPossible, pairs_from};
 ghost use Rattle.partial_embedded.specs.declared.embedded.Stage.TheVariants.{Collect};
 
@@ -12,32 +12,17 @@ use std::marker::Model;
 #[derive(Clone, Copy, Debug, PartialEq, Eq)]
 pub enum Stage {
     /// Load the component word of a position.
-    Collect {
-        position: usize,
-    },
+    Collect { position: usize },
     /// Load the reference of the view of the record with this stamp.
-    View {
-        stamp: u64,
-    },
+    View { stamp: u64 },
     /// Load the number of pairs of the view at this word.
-    Len {
-        at: u64,
-    },
+    Len { at: u64 },
     /// Load the index of a pair at this word. So many pairs are left, this one with them.
-    Index {
-        at: u64,
-        left: u64,
-    },
+    Index { at: u64, left: u64 },
     /// Load the value of the pair with this index, at this word.
-    PairValue {
-        at: u64,
-        left: u64,
-        index: u32,
-    },
+    PairValue { at: u64, left: u64, index: u32 },
     /// Load the value of a position's record.
-    Value {
-        position: usize,
-    },
+    Value { position: usize },
     /// Nothing is due.
     Done,
 }
@@ -75,7 +60,9 @@ impl Embedded {
     /// An embedded scan that has made no step. One that shares stops at the reference of a view that it
     /// borrows; another one loads the pairs.
     pub fn new(sizes: Sizes, shares: bool) -> Embedded
-        ensures { result ≡ fresh sizes shares }
+        ensures state { result ≡ fresh sizes shares }
+        ensures together { (indices : List ℕ) (rows : RowsState) → ArePositions sizes indices → IsFor sizes rows → GoTogether indices (result, rows) }
+        ensures steps { (indices : List ℕ) (rows : RowsState) → left_of indices (result, rows) ≡ most_steps sizes (length indices) }
     {
         let _components = sizes.m();
         Embedded {
@@ -134,6 +121,17 @@ impl Embedded {
         requires together { GoTogether indices.now (self.old, rows.old) }
         requires possible { IsPossible (self.old, rows.old) x }
         ensures state { (self.new, rows.new) ≡ advance indices.now (self.old, rows.old) x }
+        ensures together { GoTogether indices.now (self.new, rows.new) }
+        ensures left { left_of indices.now (self.new, rows.new) < left_of indices.now (self.old, rows.old) }
+    {
+        self.take_in(rows, indices, x);
+    }
+
+    // What the answer makes of the machine.
+    fn take_in(&mut self, rows: &mut Rows, indices: &[u32], x: u64)
+        requires together { GoTogether indices.now (self.old, rows.old) }
+        requires possible { IsPossible (self.old, rows.old) x }
+        ensures { (self.new, rows.new) ≡ advance indices.now (self.old, rows.old) x }
     {
         match self.stage {
             Stage::Collect { position } => self.after_load(rows, indices, position, x),

@@ -1,0 +1,275 @@
+-- Each possible answer keeps the machine, its positions and its buffers together, and leaves fewer steps.
+use Rattle.std.proofs.Common.{ℕ, zero, suc, ◌≡◌, ◌+◌, ◌-◌, ◌*◌, ◌<◌, ◌≤◌, ◌==◌, Bool, true, false, cond, not, ◌&&◌, ◌||◌, ◌⊎◌, List, [], ◌∷◌, length, get_or, set, refl, sym, ◌∙◌, ap, subst, inl, inr, arith, get_or-set_other, get_or-set_same, length-set}
+use Rattle.std.proofs.lemmas.List.{set-get_or}
+use Rattle.std.proofs.lemmas.Bool.{eqb-false, eq-eqb, eqb-false, eq-eqb, ne_eqb, ltb-true, ltb-false, cases_lt, false≢true}
+use Rattle.std.proofs.lemmas.Bool.Decides.{eqb_tells}
+use Rattle.std.proofs.Math.Nat.{mul-le-mul_left}
+use Rattle.std.specs.Prelude.{nat_lt}
+use Rattle.partial_words.specs.Layout.{Layout, pool_end}
+use Rattle.partial_embedded.specs.declared.embedded.Stage.{Stage}
+use Rattle.partial_embedded.specs.declared.embedded.Stage.TheVariants.{Collect, View, Len, Index, PairValue, Value, Done}
+use Rattle.partial_embedded.specs.Embedded.{EmbeddedState, RowsState, Pair, IsFor, ArePositions, AreLoaded, IsRecord, GoTogether, IsPossible, IsPossibleAt, goes_at, left_at, left_of, count_true, changes, future, is_first, differs, was_changed, noted, borrow, go_on, after_collect, after_load, after_view, at_stage, with_value, pairs_from, advance, advance_at, most_steps, fresh}
+
+-- one position more has changed
+count_set : (l : List Bool) (r k : ℕ) → k < r → k < length l → get_or l k false ≡ false → count_true r (set l k true) ≡ count_true r l + 1
+count_set [] r k below within same = absurd (omega (arith, within))
+count_set (x ∷ l) zero k below within same = absurd (omega (arith, below))
+count_set (true ∷ l) (suc r) zero below within same = absurd (false≢true (sym same))
+count_set (false ∷ l) (suc r) zero below within same = let goal : 1 + count_true r l ≡ 0 + count_true r l + 1 = omega arith in goal
+count_set (x ∷ l) (suc r) (suc k) below within same =
+    let rest = count_set l r k (omega (arith, below)) (omega (arith, within)) same in
+    let goal : cond x 1 0 + count_true r (set l k true) ≡ cond x 1 0 + count_true r l + 1 = omega (arith, rest) in
+    goal
+
+count_few : (l : List Bool) (r : ℕ) → count_true r l ≤ r
+count_few l zero = omega arith
+count_few [] (suc r) = omega arith
+count_few (true ∷ l) (suc r) = let rest = count_few l r in let goal : 1 + count_true r l ≤ suc r = omega (arith, rest) in goal
+count_few (false ∷ l) (suc r) = let rest = count_few l r in let goal : 0 + count_true r l ≤ suc r = omega (arith, rest) in goal
+
+-- how many more collects there may be, by whether the one under way is the first and whether it has shown a change
+abbrev future_by : ℕ → ℕ → Bool → Bool → ℕ
+future_by r d first moved = cond first (r + 1) (cond moved (r - d + 1) (r - d))
+
+-- a first change leaves as many, no change changes nothing
+future_noted : (r d e : ℕ) (first moved b : Bool) → (b ≡ true → (e ≡ d + 1) × (e ≤ r)) → (first ≡ false → b ≡ false → e ≡ d) → future_by r e first (moved || b) ≤ future_by r d first moved
+future_noted r d e true moved b more same = omega arith
+future_noted r d e false true b more same = step b more (same refl)
+  where
+    step : (b : Bool) → (b ≡ true → (e ≡ d + 1) × (e ≤ r)) → (b ≡ false → e ≡ d) → r - e + 1 ≤ r - d + 1
+    step true more same = let m = more refl in let one = m.0 in omega (arith, one)
+    step false more same = let s = same refl in omega (arith, s)
+future_noted r d e false false true more same = let m = more refl in let one = m.0 in let few = m.1 in omega (arith, one, few)
+future_noted r d e false false false more same = let s = same refl refl in omega (arith, s)
+
+and_first : (f g : Bool) → (not f && g) ≡ true → f ≡ false
+and_first true g e = absurd (false≢true e)
+and_first false g e = refl
+
+and_second : (b w : Bool) → (b && w) ≡ false → b ≡ true → w ≡ false
+and_second true w e d = e
+and_second false w e d = absurd (false≢true d)
+
+-- what a load notes leaves no more collects
+module _ (r : ℕ) (p : Pair) (k x : ℕ) (below : k < r) (within : k < length p.1.changed) (both : (differs p k x && was_changed p k) ≡ false) where
+  newly : differs p k x ≡ true → (changes r (noted p k x).1 ≡ changes r p.1 + 1) × (changes r (noted p k x).1 ≤ r)
+  newly d =
+      let first : is_first p ≡ false = and_first (is_first p) (not (get_or p.1.last k 0 == x)) d in
+      let was : was_changed p k ≡ false = and_second (differs p k x) (was_changed p k) both d in
+      let unchanged : get_or p.1.changed k false ≡ false = ap (λ (f : Bool). not f && get_or p.1.changed k false) (sym first) ∙ was in
+      let is : changes r (noted p k x).1 ≡ count_true r (set p.1.changed k true) = ap (λ (b : Bool). count_true r (set p.1.changed k (b || was_changed p k))) d in
+      let more : changes r (noted p k x).1 ≡ changes r p.1 + 1 = is ∙ count_set p.1.changed r k below within unchanged in
+      (more, count_few (noted p k x).1.changed r)
+
+  unmoved : is_first p ≡ false → differs p k x ≡ false → changes r (noted p k x).1 ≡ changes r p.1
+  unmoved first d =
+      ap (λ (b : Bool). count_true r (set p.1.changed k (b || was_changed p k))) d
+      ∙ ap (λ (f : Bool). count_true r (set p.1.changed k (not f && get_or p.1.changed k false))) first
+      ∙ ap (λ (l : List Bool). count_true r l) (set-get_or p.1.changed k false)
+
+  noted_future : future r (noted p k x) ≤ future r p
+  noted_future = future_noted r (changes r p.1) (changes r (noted p k x).1) (is_first p) p.0.moved (differs p k x) newly unmoved
+
+-- what an answer leaves: the machine, its positions and its buffers go together, and there are fewer steps
+pub record Keeps (indices : List ℕ) (p q : Pair) : Type 0 where
+  pub together : GoTogether indices q
+  pub fewer : left_of indices q < left_of indices p
+
+-- the latest loads with one position more
+loaded_more : (s : Layout) (l : List ℕ) (n k x : ℕ) → k < length l → IsRecord s x → ((i : ℕ) → i < n → IsRecord s (get_or l i 0)) → (i : ℕ) → (i < n) ⊎ (i ≡ k) → IsRecord s (get_or (set l k x) i 0)
+loaded_more s l n k x below rec all i w =
+    elim (eqb_tells i k) [
+      | inl t ↦ subst (IsRecord s) (sym (ap (λ j. get_or (set l k x) j 0) t.1 ∙ get_or-set_same l k x 0 below)) rec
+      | inr t ↦ subst (IsRecord s) (sym (get_or-set_other l k i x 0 t.1)) (all i (elim w [ inl h ↦ h | inr h ↦ absurd (t.1 h) ]))
+    ]
+
+-- a position of the collect was loaded before, or is the one loaded now
+next_loaded : (f : Bool) (r k i : ℕ) → i < cond f (k + 1) r → (i < cond f k r) ⊎ (i ≡ k)
+next_loaded true r k i h = elim (cases_lt i k) [ inl below ↦ inl below | inr from ↦ inr (omega (arith, h, from)) ]
+next_loaded false r k i h = inl h
+
+all_loaded : (f : Bool) (r k i : ℕ) → r ≡ k + 1 → i < r → (i < cond f k r) ⊎ (i ≡ k)
+all_loaded true r k i last h = elim (cases_lt i k) [ inl below ↦ inl below | inr from ↦ inr (omega (arith, h, from, last)) ]
+all_loaded false r k i last h = inl h
+
+-- a collect that is not the last leaves one fewer
+one_fewer : (r d : ℕ) (first moved : Bool) → (first || moved) ≡ true → r - d + 1 ≤ future_by r d first moved
+one_fewer r d true moved e = omega arith
+one_fewer r d false true e = omega arith
+one_fewer r d false false e = absurd (false≢true e)
+
+module _ (indices : List ℕ) (p : Pair) (k x : ℕ) (w : GoTogether indices p) (stage : p.0.stage ≡ Collect k) (rec : IsRecord p.0.sizes x) where
+  r : ℕ
+  r = length indices
+
+  at_here : goes_at indices p (Collect k)
+  at_here = subst (goes_at indices p) stage w.stage
+
+  left_here : left_of indices p ≡ length indices - k + length indices * future (length indices) p + 2 * p.0.sizes.m + 2
+  left_here = ap (left_at (length indices) p) stage
+
+  within_last : k < length p.1.last
+  within_last = let h = at_here in let k_r = h.0 in omega (arith, k_r, w.positions.few, w.rows.last)
+
+  within_changed : k < length p.1.changed
+  within_changed = let h = at_here in let k_r = h.0 in omega (arith, k_r, w.positions.few, w.rows.changed)
+
+  rows_noted : IsFor p.0.sizes (noted p k x).1
+  rows_noted = record { last = length-set p.1.last k x ∙ w.rows.last; changed = length-set p.1.changed k (differs p k x || was_changed p k) ∙ w.rows.changed; values = w.rows.values }
+
+  loaded_noted : (n : ℕ) → ((i : ℕ) → i < n → (i < cond (is_first p) k (length indices)) ⊎ (i ≡ k)) → AreLoaded p.0.sizes (noted p k x).1 n
+  loaded_noted n all i below = loaded_more p.0.sizes p.1.last (cond (is_first p) k (length indices)) k x within_last rec at_here.3 i (all i below)
+
+  borrowed : Keeps indices p (borrow p x)
+  borrowed = let h = at_here in let k_r = h.0 in let l = left_here in
+      record { together = record { positions = w.positions; rows = w.rows; collects = w.collects; stage = rec }; fewer = omega (arith, k_r, l) }
+
+  module _ (both : (differs p k x && was_changed p k) ≡ false) where
+    fewer_collects : future (length indices) (noted p k x) ≤ future (length indices) p
+    fewer_collects = noted_future (length indices) p k x (at_here.0) within_changed both
+
+    next_position : k + 1 < length indices → Keeps indices p (at_stage (noted p k x) (Collect (k + 1)))
+    next_position more =
+        let f = fewer_collects in
+        let h = at_here in
+        let l = left_here in
+        let room = h.1 in
+        let times = mul-le-mul_left (length indices) f in
+        record {
+          together = record { positions = w.positions; rows = rows_noted; collects = w.collects; stage = (more, omega (arith, room, f), h.2, loaded_noted (cond (is_first p) (k + 1) (length indices)) (λ i below. next_loaded (is_first p) (length indices) k i below)) };
+          fewer = omega (arith, times, l, more);
+        }
+
+    another : length indices ≡ k + 1 → (is_first p || (noted p k x).0.moved) ≡ true → Keeps indices p (record (noted p k x).0 { collects = p.0.collects + 1; moved = false; stage = Collect 0 }, (noted p k x).1)
+    another last e =
+        let f = fewer_collects in
+        let h = at_here in
+        let l = left_here in
+        let room = h.1 in
+        let some = h.2 in
+        let q : Pair = (record (noted p k x).0 { collects = p.0.collects + 1; moved = false; stage = Collect 0 }, (noted p k x).1) in
+        let later : is_first q ≡ false = ne_eqb (p.0.collects + 1) 1 (λ same. omega (arith, some, same)) in
+        let next : future (length indices) q ≡ length indices - changes (length indices) (noted p k x).1 = ap (λ (b : Bool). future_by (length indices) (changes (length indices) (noted p k x).1) b false) later in
+        let one = one_fewer (length indices) (changes (length indices) (noted p k x).1) (is_first p) (noted p k x).0.moved e in
+        let fewer : future (length indices) q + 1 ≤ future (length indices) p = omega (arith, next, one, f) in
+        let times = mul-le-mul_left (length indices) fewer in
+        let all : AreLoaded p.0.sizes (noted p k x).1 (cond (is_first q) 0 (length indices)) = subst (λ (b : Bool). AreLoaded p.0.sizes (noted p k x).1 (cond b 0 (length indices))) (sym later) (loaded_noted (length indices) (λ i below. all_loaded (is_first p) (length indices) k i last below)) in
+        record {
+          together = record { positions = w.positions; rows = rows_noted; collects = omega (arith, room, fewer); stage = (omega (arith, last), omega (arith, room, fewer), omega arith, all) };
+          fewer = omega (arith, times, l, last);
+        }
+
+    values : length indices ≡ k + 1 → Keeps indices p (at_stage (noted p k x) (Value 0))
+    values last =
+        let l = left_here in
+        let few = w.positions.few in
+        record {
+          together = record { positions = w.positions; rows = rows_noted; collects = w.collects; stage = (omega (arith, last), loaded_noted (length indices) (λ i below. all_loaded (is_first p) (length indices) k i last below)) };
+          fewer = omega (arith, l, last, few);
+        }
+
+    whole : length indices ≡ k + 1 → (b : Bool) → (is_first p || (noted p k x).0.moved) ≡ b → Keeps indices p (cond b (record (noted p k x).0 { collects = p.0.collects + 1; moved = false; stage = Collect 0 }, (noted p k x).1) (at_stage (noted p k x) (Value 0)))
+    whole last true e = another last e
+    whole last false e = values last
+
+    on_from : (b : Bool) → nat_lt (k + 1) (length indices) ≡ b → Keeps indices p (cond b (at_stage (noted p k x) (Collect (k + 1))) (after_collect (noted p k x)))
+    on_from true e = next_position (ltb-true (k + 1) (length indices) e)
+    on_from false e = let past = ltb-false (k + 1) (length indices) e in let h = at_here in let k_r = h.0 in whole (omega (arith, past, k_r)) (is_first p || (noted p k x).0.moved) refl
+
+  pub load_kept : Keeps indices p (after_load (length indices) p k x)
+  load_kept = either (differs p k x && was_changed p k) refl
+    where
+      either : (b : Bool) → (differs p k x && was_changed p k) ≡ b → Keeps indices p (cond b (borrow p x) (go_on (length indices) (noted p k x) k))
+      either true e = borrowed
+      either false e = on_from e (nat_lt (k + 1) (length indices)) refl
+
+neither : (a b : Bool) → (a || b) ≡ false → a ≡ false
+neither true b c = absurd (false≢true (sym c))
+neither false b c = refl
+
+module _ (indices : List ℕ) (p : Pair) (x : ℕ) (w : GoTogether indices p) where
+  -- the same buffers at a stage of which something is known
+  stays : (s t : Stage) (e : EmbeddedState) → p.0.stage ≡ s → e.sizes ≡ p.0.sizes → e.collects ≡ p.0.collects → e.stage ≡ t → goes_at indices (e, p.1) t → left_at (length indices) (e, p.1) t < left_at (length indices) p s → Keeps indices p (e, p.1)
+  stays s t e stage sizes collects next goes fewer =
+      let before : left_of indices p ≡ left_at (length indices) p s = ap (left_at (length indices) p) stage in
+      let after : left_of indices (e, p.1) ≡ left_at (length indices) (e, p.1) t = ap (left_at (length indices) (e, p.1)) next in
+      record {
+        together = record { positions = subst (λ (l : Layout). ArePositions l indices) (sym sizes) w.positions; rows = subst (λ (l : Layout). IsFor l p.1) (sym sizes) w.rows; collects = omega (arith, collects, w.collects); stage = subst (goes_at indices (e, p.1)) (sym next) goes };
+        fewer = omega (arith, before, after, fewer);
+      }
+
+  here : (s : Stage) → p.0.stage ≡ s → goes_at indices p s
+  here s e = subst (goes_at indices p) e w.stage
+
+  view_kept : (stamp : ℕ) → p.0.stage ≡ View stamp → IsPossibleAt p.0.sizes (View stamp) x → Keeps indices p (after_view p.0 x, p.1)
+  view_kept stamp e possible = either ((x == 0) || p.0.shares) refl
+    where
+      either : (b : Bool) → ((x == 0) || p.0.shares) ≡ b → Keeps indices p (record p.0 { view = x; stage = cond b Done (Len x) }, p.1)
+      either true c = stays (View stamp) Done (record p.0 { view = x; stage = Done }) e refl refl refl tt (omega arith)
+      either false c = stays (View stamp) (Len x) (record p.0 { view = x; stage = Len x }) e refl refl refl (elim possible [ inl zero' ↦ absurd (false≢true (sym (neither (x == 0) p.0.shares c) ∙ eq-eqb x 0 zero')) | inr h ↦ h.1 ]) (omega arith)
+
+  -- so many pairs left
+  pairs_kept : (s : Stage) (rows : RowsState) (at left : ℕ) → p.0.stage ≡ s → IsFor p.0.sizes rows → left ≤ p.0.sizes.m → at + 2 * left ≤ pool_end p.0.sizes → 2 * left < left_at (length indices) p s → Keeps indices p (at_stage (p.0, rows) (pairs_from at left))
+  pairs_kept s rows at left e for few room fewer = either (left == 0) refl
+    where
+      before : left_of indices p ≡ left_at (length indices) p s
+      before = ap (left_at (length indices) p) e
+
+      either : (b : Bool) → (left == 0) ≡ b → Keeps indices p (at_stage (p.0, rows) (cond b Done (Index at left)))
+      either true c = let l = before in record { together = record { positions = w.positions; rows = for; collects = w.collects; stage = tt }; fewer = omega (arith, l, fewer) }
+      either false c = let l = before in let some = eqb-false left 0 c in record { together = record { positions = w.positions; rows = for; collects = w.collects; stage = (omega (arith, some), few, room) }; fewer = omega (arith, l, fewer) }
+
+  len_kept : (at : ℕ) → p.0.stage ≡ Len at → IsPossibleAt p.0.sizes (Len at) x → Keeps indices p (at_stage p (pairs_from (at + 1) x))
+  len_kept at e possible = let few = possible.0 in let room = possible.1 in pairs_kept (Len at) p.1 (at + 1) x e w.rows few (omega (arith, room)) (omega (arith, few))
+
+  index_kept : (at left : ℕ) → p.0.stage ≡ Index at left → x < p.0.sizes.m → Keeps indices p (at_stage p (PairValue (at + 1) left x))
+  index_kept at left e below =
+      let h = here (Index at left) e in
+      let some = h.0 in
+      let room = h.2 in
+      stays (Index at left) (PairValue (at + 1) left x) (record p.0 { stage = PairValue (at + 1) left x }) e refl refl refl (h.0, h.1, omega (arith, room), below) (omega (arith, some))
+
+  values_for : (j : ℕ) → IsFor p.0.sizes (with_value p j x).1
+  values_for j = record { last = w.rows.last; changed = w.rows.changed; values = length-set p.1.values j x ∙ w.rows.values }
+
+  pair_kept : (at left index : ℕ) → p.0.stage ≡ PairValue at left index → Keeps indices p (at_stage (with_value p index x) (pairs_from (at + 1) (left - 1)))
+  pair_kept at left index e =
+      let h = here (PairValue at left index) e in
+      let some = h.0 in
+      let few = h.1 in
+      let room = h.2 in
+      pairs_kept (PairValue at left index) (with_value p index x).1 (at + 1) (left - 1) e (values_for index) (omega (arith, few)) (omega (arith, some, room)) (omega (arith, some))
+
+  value_kept : (k : ℕ) → p.0.stage ≡ Value k → Keeps indices p (at_stage (with_value p (get_or indices k 0) x) (cond (nat_lt (k + 1) (length indices)) (Value (k + 1)) Done))
+  value_kept k e = either (nat_lt (k + 1) (length indices)) refl
+    where
+      q : EmbeddedState → Pair
+      q f = (f, (with_value p (get_or indices k 0) x).1)
+
+      before : left_of indices p ≡ length indices - k
+      before = ap (left_at (length indices) p) e
+
+      either : (b : Bool) → nat_lt (k + 1) (length indices) ≡ b → Keeps indices p (at_stage (with_value p (get_or indices k 0) x) (cond b (Value (k + 1)) Done))
+      either true c = let l = before in let more = ltb-true (k + 1) (length indices) c in record { together = record { positions = w.positions; rows = values_for (get_or indices k 0); collects = w.collects; stage = (more, (here (Value k) e).1) }; fewer = omega (arith, l, more) }
+      either false c = let l = before in let below = (here (Value k) e).0 in record { together = record { positions = w.positions; rows = values_for (get_or indices k 0); collects = w.collects; stage = tt }; fewer = omega (arith, l, below) }
+
+  kept_at : (s : Stage) → p.0.stage ≡ s → IsPossibleAt p.0.sizes s x → Keeps indices p (advance_at indices p s x)
+  kept_at (Collect k) e possible = load_kept indices p k x w e possible
+  kept_at (View stamp) e possible = view_kept stamp e possible
+  kept_at (Len at) e possible = len_kept at e possible
+  kept_at (Index at left) e possible = index_kept at left e possible
+  kept_at (PairValue at left index) e possible = pair_kept at left index e
+  kept_at (Value k) e possible = value_kept k e
+  kept_at Done e possible = absurd possible
+
+  pub kept : IsPossible p x → Keeps indices p (advance indices p x)
+  kept possible = kept_at p.0.stage refl possible
+
+-- a scan that has made no step goes together with its buffers and its positions
+pub fresh_together : (s : Layout) (shares : Bool) (indices : List ℕ) (rows : RowsState) → ArePositions s indices → IsFor s rows → GoTogether indices (fresh s shares, rows)
+fresh_together s shares indices rows positions for =
+    let some = positions.some in
+    record { positions = positions; rows = for; collects = omega (arith, some); stage = (some, omega arith, omega arith, λ k below. absurd (omega (arith, below))) }
+
+pub fresh_left : (s : Layout) (shares : Bool) (indices : List ℕ) (rows : RowsState) → left_of indices (fresh s shares, rows) ≡ most_steps s (length indices)
+fresh_left s shares indices rows = omega arith
