@@ -5,7 +5,7 @@ use Rattle.std.proofs.lemmas.Bool.{eqb-false, eq-eqb, eqb-false, eq-eqb, ne_eqb,
 use Rattle.std.proofs.lemmas.Bool.Decides.{eqb_tells}
 use Rattle.std.proofs.Math.Nat.{mul-le-mul_left}
 use Rattle.std.specs.Prelude.{nat_lt}
-use Rattle.partial_words.specs.Layout.{Layout, pool_end}
+use Rattle.partial_words.specs.Layout.{Layout, pool_base, pool_end}
 use Rattle.partial_embedded.specs.declared.embedded.Stage.{Stage}
 use Rattle.partial_embedded.specs.declared.embedded.Stage.TheVariants.{Collect, View, Len, Index, PairValue, Value, Done}
 use Rattle.partial_embedded.specs.Embedded.{EmbeddedState, RowsState, Pair, IsFor, ArePositions, AreLoaded, IsRecord, GoTogether, IsPossible, IsPossibleAt, goes_at, left_at, left_of, count_true, changes, future, is_first, differs, was_changed, noted, borrow, go_on, after_collect, after_load, after_view, at_stage, with_value, pairs_from, advance, advance_at, most_steps, fresh}
@@ -206,28 +206,28 @@ module _ (indices : List ℕ) (p : Pair) (x : ℕ) (w : GoTogether indices p) wh
     where
       either : (b : Bool) → ((x == 0) || p.0.shares) ≡ b → Keeps indices p (record p.0 { view = x; stage = cond b Done (Len x) }, p.1)
       either true c = stays (View stamp) Done (record p.0 { view = x; stage = Done }) e refl refl refl tt (omega arith)
-      either false c = stays (View stamp) (Len x) (record p.0 { view = x; stage = Len x }) e refl refl refl (elim possible [ inl zero' ↦ absurd (false≢true (sym (neither (x == 0) p.0.shares c) ∙ eq-eqb x 0 zero')) | inr h ↦ h.1 ]) (omega arith)
+      either false c = stays (View stamp) (Len x) (record p.0 { view = x; stage = Len x }) e refl refl refl (elim possible [ inl zero' ↦ absurd (false≢true (sym (neither (x == 0) p.0.shares c) ∙ eq-eqb x 0 zero')) | inr h ↦ h ]) (omega arith)
 
   -- so many pairs left
-  pairs_kept : (s : Stage) (rows : RowsState) (at left : ℕ) → p.0.stage ≡ s → IsFor p.0.sizes rows → left ≤ p.0.sizes.m → at + 2 * left ≤ pool_end p.0.sizes → 2 * left < left_at (length indices) p s → Keeps indices p (at_stage (p.0, rows) (pairs_from at left))
-  pairs_kept s rows at left e for few room fewer = either (left == 0) refl
+  pairs_kept : (s : Stage) (rows : RowsState) (at left : ℕ) → p.0.stage ≡ s → IsFor p.0.sizes rows → pool_base p.0.sizes ≤ at → left ≤ p.0.sizes.m → at + 2 * left ≤ pool_end p.0.sizes → 2 * left < left_at (length indices) p s → Keeps indices p (at_stage (p.0, rows) (pairs_from at left))
+  pairs_kept s rows at left e for base few room fewer = either (left == 0) refl
     where
       before : left_of indices p ≡ left_at (length indices) p s
       before = ap (left_at (length indices) p) e
 
       either : (b : Bool) → (left == 0) ≡ b → Keeps indices p (at_stage (p.0, rows) (cond b Done (Index at left)))
       either true c = let l = before in record { together = record { positions = w.positions; rows = for; collects = w.collects; stage = tt }; fewer = omega (arith, l, fewer) }
-      either false c = let l = before in let some = eqb-false left 0 c in record { together = record { positions = w.positions; rows = for; collects = w.collects; stage = (omega (arith, some), few, room) }; fewer = omega (arith, l, fewer) }
+      either false c = let l = before in let some = eqb-false left 0 c in record { together = record { positions = w.positions; rows = for; collects = w.collects; stage = (omega (arith, some), few, room, base) }; fewer = omega (arith, l, fewer) }
 
   len_kept : (at : ℕ) → p.0.stage ≡ Len at → IsPossibleAt p.0.sizes (Len at) x → Keeps indices p (at_stage p (pairs_from (at + 1) x))
-  len_kept at e possible = let few = possible.0 in let room = possible.1 in pairs_kept (Len at) p.1 (at + 1) x e w.rows few (omega (arith, room)) (omega (arith, few))
+  len_kept at e possible = let few = possible.0 in let room = possible.1 in pairs_kept (Len at) p.1 (at + 1) x e w.rows (let base = (here (Len at) e).0 in omega (arith, base)) few (omega (arith, room)) (omega (arith, few))
 
   index_kept : (at left : ℕ) → p.0.stage ≡ Index at left → x < p.0.sizes.m → Keeps indices p (at_stage p (PairValue (at + 1) left x))
   index_kept at left e below =
       let h = here (Index at left) e in
       let some = h.0 in
       let room = h.2 in
-      stays (Index at left) (PairValue (at + 1) left x) (record p.0 { stage = PairValue (at + 1) left x }) e refl refl refl (h.0, h.1, omega (arith, room), below) (omega (arith, some))
+      stays (Index at left) (PairValue (at + 1) left x) (record p.0 { stage = PairValue (at + 1) left x }) e refl refl refl (h.0, h.1, omega (arith, room), below, let base = h.3 in omega (arith, base)) (omega (arith, some))
 
   values_for : (j : ℕ) → IsFor p.0.sizes (with_value p j x).1
   values_for j = record { last = w.rows.last; changed = w.rows.changed; values = length-set p.1.values j x ∙ w.rows.values }
@@ -238,7 +238,7 @@ module _ (indices : List ℕ) (p : Pair) (x : ℕ) (w : GoTogether indices p) wh
       let some = h.0 in
       let few = h.1 in
       let room = h.2 in
-      pairs_kept (PairValue at left index) (with_value p index x).1 (at + 1) (left - 1) e (values_for index) (omega (arith, few)) (omega (arith, some, room)) (omega (arith, some))
+      pairs_kept (PairValue at left index) (with_value p index x).1 (at + 1) (left - 1) e (values_for index) (let base = h.4 in omega (arith, base)) (omega (arith, few)) (omega (arith, some, room)) (omega (arith, some))
 
   value_kept : (k : ℕ) → p.0.stage ≡ Value k → Keeps indices p (at_stage (with_value p (get_or indices k 0) x) (cond (nat_lt (k + 1) (length indices)) (Value (k + 1)) Done))
   value_kept k e = either (nat_lt (k + 1) (length indices)) refl
@@ -273,3 +273,25 @@ fresh_together s shares indices rows positions for =
 
 pub fresh_left : (s : Layout) (shares : Bool) (indices : List ℕ) (rows : RowsState) → left_of indices (fresh s shares, rows) ≡ most_steps s (length indices)
 fresh_left s shares indices rows = omega arith
+
+-- the sizes stay
+on_sizes : (r : ℕ) (p : Pair) (k : ℕ) (b c : Bool) → (cond b (at_stage p (Collect (k + 1))) (cond c (record p.0 { collects = p.0.collects + 1; moved = false; stage = Collect 0 }, p.1) (at_stage p (Value 0)))).0.sizes ≡ p.0.sizes
+on_sizes r p k true c = refl
+on_sizes r p k false true = refl
+on_sizes r p k false false = refl
+
+load_sizes : (r : ℕ) (p : Pair) (k x : ℕ) (b : Bool) → (cond b (borrow p x) (go_on r (noted p k x) k)).0.sizes ≡ p.0.sizes
+load_sizes r p k x true = refl
+load_sizes r p k x false = on_sizes r (noted p k x) k (nat_lt (k + 1) r) (is_first p || (noted p k x).0.moved)
+
+sizes_at : (indices : List ℕ) (p : Pair) (s : Stage) (x : ℕ) → (advance_at indices p s x).0.sizes ≡ p.0.sizes
+sizes_at indices p (Collect k) x = load_sizes (length indices) p k x (differs p k x && was_changed p k)
+sizes_at indices p (View stamp) x = refl
+sizes_at indices p (Len at) x = refl
+sizes_at indices p (Index at left) x = refl
+sizes_at indices p (PairValue at left index) x = refl
+sizes_at indices p (Value k) x = refl
+sizes_at indices p Done x = refl
+
+pub sizes_stay : (indices : List ℕ) (p : Pair) (x : ℕ) → (advance indices p x).0.sizes ≡ p.0.sizes
+sizes_stay indices p x = sizes_at indices p p.0.stage x

@@ -160,9 +160,9 @@ AreLoaded s rows n = (k : ℕ) → k < n → IsRecord s (slice_index rows.last k
 abbrev pub goes_at : List ℕ → Pair → Stage → Type 0
 goes_at indices p (Collect k) = (k < length indices) × (p.0.collects + future (length indices) p ≤ length indices + 2) × (1 ≤ p.0.collects) × AreLoaded p.0.sizes p.1 (if is_first p then k else length indices)
 goes_at indices p (View stamp) = IsRecord p.0.sizes stamp
-goes_at indices p (Len at) = at < pool_end p.0.sizes
-goes_at indices p (Index at left) = (0 < left) × (left ≤ p.0.sizes.m) × (at + 2 * left ≤ pool_end p.0.sizes)
-goes_at indices p (PairValue at left index) = (0 < left) × (left ≤ p.0.sizes.m) × (at + 2 * left ≤ pool_end p.0.sizes + 1) × (index < p.0.sizes.m)
+goes_at indices p (Len at) = (pool_base p.0.sizes ≤ at) × (at < pool_end p.0.sizes)
+goes_at indices p (Index at left) = (0 < left) × (left ≤ p.0.sizes.m) × (at + 2 * left ≤ pool_end p.0.sizes) × (pool_base p.0.sizes ≤ at)
+goes_at indices p (PairValue at left index) = (0 < left) × (left ≤ p.0.sizes.m) × (at + 2 * left ≤ pool_end p.0.sizes + 1) × (index < p.0.sizes.m) × (pool_base p.0.sizes ≤ at)
 goes_at indices p (Value k) = (k < length indices) × AreLoaded p.0.sizes p.1 (length indices)
 goes_at indices p Done = ⊤
 

@@ -1,1 +1,2 @@
 pub mod Embedded
+pub mod Runs

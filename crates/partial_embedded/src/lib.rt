@@ -4,6 +4,7 @@
 #![tactic(auto)]
 
 pub mod embedded;
+pub mod law;
 pub mod rows;
 
 pub use embedded::Embedded;
