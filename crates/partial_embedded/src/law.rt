@@ -1,7 +1,7 @@
 //! Laws about whole embedded scans. The functions have no code: their contracts hold of the definitions
 //! by which the machine's own contracts are stated.
 
-ghost use Rattle.partial_embedded.specs.Runs.{LoadsItsPositionsAlone, MakesFewCollects};
+ghost use Rattle.partial_embedded.specs.Runs.{EndsInEqualCollectsOrAThirdRecord, LoadsItsPositionsAlone, MakesFewCollects};
 
 /// Each step of an embedded scan is a load, and it loads no component word but those of its positions.
 pub fn loads_its_positions_alone()
@@ -11,4 +11,10 @@ pub fn loads_its_positions_alone()
 /// An embedded scan of r positions makes at most r + 2 collects, and at most `r (r + 2) + 2 m + 2` steps.
 pub fn makes_few_collects()
     ensures { MakesFewCollects }
+{}
+
+/// An embedded scan loads values only where its last two collects are equal, and it borrows a view only
+/// from a record that is the third one at some position.
+pub fn ends_in_equal_collects_or_a_third_record()
+    ensures { EndsInEqualCollectsOrAThirdRecord }
 {}
