@@ -43,7 +43,7 @@ pub fn execute<R: Read, W: Write>(
     // Which fault of the plan it is, and that a plan without a fault isn't refused.
     ensures plan { plan.new.failed ≡ false → IfSome (R.remaining plan.old.inner)
         (λ bytes. IsJudged result (judged bytes)) }
-    // Exactly the text of a legal outcome is written, which a replay of the plan has come to.
+    // Exactly the text of a legal outcome is written, of the plan's calls made in the plan's turns.
     ensures written { OnOk result
         (WritesOutcome (R.remaining plan.old.inner) (W.contents out.old.inner) (W.contents out.new.inner)) }
     // Nothing is written but after a fault of the writer, and then a part of such a text.

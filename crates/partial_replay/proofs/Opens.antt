@@ -25,7 +25,7 @@ use Rattle.partial_replay.specs.Trace.{Moment}
 use Rattle.partial_replay.specs.CallSteps.{AreStepsOf}
 use Rattle.partial_replay.specs.PortState.{IsGoing}
 use Rattle.partial_replay.specs.RunState.{ArePortsMade, AreStarted}
-use Rattle.partial_replay.specs.TurnState.{EndsInStep}
+use Rattle.partial_replay.specs.TurnState.{StopsAtStep}
 use Rattle.partial_replay.specs.Listed.{EndInStep}
 
 -- one fresh port more
@@ -88,7 +88,7 @@ fresh_made plans z ports w q calls port c t =
 pub fresh_started : (z : Layout) (ports : List Port) → FreshFrom z 0 ports → AreStarted ports
 fresh_started z ports w q port way t is = let f = fresh_at z 0 q ports port w t in let bad : None ≡ Some way = sym f.2 ∙ is in cc
 
-pub fresh_ending : (z : Layout) (ports : List Port) → FreshFrom z 0 ports → (q : ℕ) → EndsInStep ports q
+pub fresh_ending : (z : Layout) (ports : List Port) → FreshFrom z 0 ports → (q : ℕ) → StopsAtStep ports q
 fresh_ending z ports w q port t none = let f = fresh_at z 0 q ports port w t in subst EndInStep (sym f.1) tt
 
 -- a replay opens lawful

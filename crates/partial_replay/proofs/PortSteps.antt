@@ -32,7 +32,7 @@ use Rattle.std.specs.Option.{is_some, IsSome}
 use Rattle.partial_replay.specs.CallSteps.{stage_of, refusal_of, Makes, last_behind, IsCallOf, AreStepsOf}
 use Rattle.partial_replay.specs.PortState.{IsUnderWay, IsBetween, PortFits, IsGoing, PortMade, KeepsMade, unfinished_call, began_at, refused_call, ended_call, one_step_more, GoesOn, Ends, StepMade}
 use Rattle.partial_replay.specs.RunState.{ArePortsMade, AreStarted, AreStartedBut, left_over, unvalued}
-use Rattle.partial_replay.specs.TurnState.{EndsInStep}
+use Rattle.partial_replay.specs.TurnState.{StopsAtStep}
 use Rattle.partial_replay.proofs.PortLaws.{same_eqb, get_set, get_set_other}
 use Rattle.partial_replay.proofs.Opens.{over_none}
 use Rattle.partial_replay.proofs.Told.{begun_by}
@@ -354,10 +354,10 @@ last_step [] c some = some
 last_step (d ∷ []) c some = some
 last_step (d ∷ e ∷ cs) c some = last_step (e ∷ cs) c some
 
-pub ending_but : (ports : List Port) (i : ℕ) (new : Port) (q : ℕ) → q ≢ i → EndsInStep ports q → EndsInStep (set ports i new) q
+pub ending_but : (ports : List Port) (i : ℕ) (new : Port) (q : ℕ) → q ≢ i → StopsAtStep ports q → StopsAtStep (set ports i new) q
 ending_but ports i new q other ends u is none = ends u (sym (get_set_other ports i q new other) ∙ is) none
 
-pub ending_with : (ports : List Port) (i : ℕ) (port new : Port) → slice_get ports i ≡ Some port → (new.under_way ≡ None → EndInStep new.finished.items) → (q : ℕ) → (q ≢ i → EndsInStep ports q) → EndsInStep (set ports i new) q
+pub ending_with : (ports : List Port) (i : ℕ) (port new : Port) → slice_get ports i ≡ Some port → (new.under_way ≡ None → EndInStep new.finished.items) → (q : ℕ) → (q ≢ i → StopsAtStep ports q) → StopsAtStep (set ports i new) q
 ending_with ports i port new t own q ends u is none = elim (eqb_tells q i) [
   | inl same ↦
       let two : Some u ≡ Some new = sym is ∙ ap (slice_get (set ports i new)) same.1 ∙ get_set ports i port new t in
@@ -374,13 +374,13 @@ step_ending calls words words' trace trace' log log' port new m none = here (rep
     here (Some r) e = subst EndInStep (sym e.finished) (last_step port.finished.items (ended_call port.number (length port.finished.items) e.call (one_step_more m.way) (length log') r e.note) (omega arith))
 
 -- what a port lists ends in a step
-ending_over : (ports : List Port) (q : ℕ) (calls : List Call) (port : Port) (call : Option Call) (way : Option UnderWay) → port.under_way ≡ way → slice_get ports q ≡ Some port → EndsInStep ports q → ((v : UnderWay) → port.under_way ≡ Some v → 0 < v.steps) → (IsSome way → IsSome call) → EndInStep (port.finished.items ++ left_over port call way)
+ending_over : (ports : List Port) (q : ℕ) (calls : List Call) (port : Port) (call : Option Call) (way : Option UnderWay) → port.under_way ≡ way → slice_get ports q ≡ Some port → StopsAtStep ports q → ((v : UnderWay) → port.under_way ≡ Some v → 0 < v.steps) → (IsSome way → IsSome call) → EndInStep (port.finished.items ++ left_over port call way)
 ending_over ports q calls port None None is t ends started some = subst EndInStep (sym (append-nil port.finished.items)) (ends port t is)
 ending_over ports q calls port (Some c) None is t ends started some = subst EndInStep (sym (append-nil port.finished.items)) (ends port t is)
 ending_over ports q calls port None (Some way) is t ends started some = let bad : false ≡ true = some refl in absurd (false≢true bad)
 ending_over ports q calls port (Some c) (Some way) is t ends started some = last_step port.finished.items (unfinished_call port.number (length port.finished.items) c way) (started way is)
 
-pub ending_begun : (o : Opening) (log : List Applied) (p : ℕ) (x : Part) (ports : List Port) (q : ℕ) (calls : List Call) (port : Port) → PortFits o log calls p x port → slice_get ports q ≡ Some port → EndsInStep ports q → ((v : UnderWay) → port.under_way ≡ Some v → 0 < v.steps) → EndInStep (begun_by calls port)
+pub ending_begun : (o : Opening) (log : List Applied) (p : ℕ) (x : Part) (ports : List Port) (q : ℕ) (calls : List Call) (port : Port) → PortFits o log calls p x port → slice_get ports q ≡ Some port → StopsAtStep ports q → ((v : UnderWay) → port.under_way ≡ Some v → 0 < v.steps) → EndInStep (begun_by calls port)
 ending_begun o log p x ports q calls port w t ends started =
     ending_over ports q calls port (slice_get calls (length port.finished.items)) port.under_way refl t ends started (next_is port.under_way w.way)
   where

@@ -27,7 +27,7 @@ use Rattle.partial_replay.specs.Turns.{turns_of, turns_by, ports_in}
 use Rattle.partial_replay.specs.Listed.{calls_by, steps_by, AreFirstOf, AreAllMade, EndInStep, HaveMade}
 use Rattle.partial_replay.specs.Replayed.{IsReplayOf}
 use Rattle.partial_replay.specs.RunState.{AreStarted, IsRun, IsRunOf, Tells, calls_in}
-use Rattle.partial_replay.specs.TurnState.{EndsInStep, EndsInSteps, IsDone, HasFollowed}
+use Rattle.partial_replay.specs.TurnState.{StopsAtStep, StopAtSteps, IsDone, HasMadeTurns}
 use Rattle.partial_replay.proofs.PortLaws.{get_below}
 use Rattle.partial_replay.proofs.RunSteps.{port_in, ports_length}
 use Rattle.partial_replay.proofs.Told.{begun_by, least_told, run_legal, listed_at, none_listed, first_begun, all_made}
@@ -101,7 +101,7 @@ module _ (plans : List (List Call)) (z : Layout) (o : Opening) (words : List ℕ
   ]
 
   -- what a port lists ends in a step, where it has begun no call since
-  pub ending_told : AreStarted ports → (q : ℕ) → EndsInStep ports q → EndInStep (calls_by q (calls_in plans ports))
+  pub ending_told : AreStarted ports → (q : ℕ) → StopsAtStep ports q → EndInStep (calls_by q (calls_in plans ports))
   ending_told started q ends = elim (at_place plans q) [
     | inl found ↦
         let calls = found.0 in
@@ -114,7 +114,7 @@ module _ (plans : List (List Call)) (z : Layout) (o : Opening) (words : List ℕ
   ]
 
 -- a run that has come to its end tells an outcome of its plan
-pub replay_told : (p : PlanView) (run : Run) (outcome : Outcome) → IsRun p.ports run → AreStarted run.ports.items → run.sizes ≡ p.sizes → run.opening.values ≡ p.initial → HasFollowed p.ports (turns_of p) run → (p.rest ≡ false → EndsInSteps p.steps run) → Tells p.ports run outcome → IsReplayOf p outcome
+pub replay_told : (p : PlanView) (run : Run) (outcome : Outcome) → IsRun p.ports run → AreStarted run.ports.items → run.sizes ≡ p.sizes → run.opening.values ≡ p.initial → HasMadeTurns p.ports (turns_of p) run → (p.rest ≡ false → StopAtSteps p.steps run) → Tells p.ports run outcome → IsReplayOf p outcome
 replay_told p run outcome w started sizes values f ends t =
     let z = run.sizes in
     let o = run.opening in

@@ -303,6 +303,10 @@ ports_length o log q (c ∷ plans) (x ∷ parts) [] w = absurd w
 pub got : {A : Type 0} (xs : List A) (i : ℕ) (x : A) → i < length xs → x ≡ get_or xs i x → slice_get xs i ≡ Some x
 got xs i x below is = get_is xs i x below ∙ ap Some (sym is)
 
+-- the port that a turn is about
+pub port_here : (plans : List (List Call)) (z : Layout) (o : Opening) (words : List ℕ) (ports : List Port) (log : List Applied) (trace : List Event) (p : ℕ) (port : Port) → IsRunOf plans z o words ports log trace → p < length plans → port ≡ get_or ports p port → slice_get ports p ≡ Some port
+port_here plans z o words ports log trace p port w below is = let many = ports_length o log 0 plans w.parts ports w.fit in got ports p port (omega (arith, many, below)) is
+
 pub none_of : {A : Type 0} (f : Option A) → is_some f ≡ false → f ≡ None
 none_of None e = refl
 none_of (Some a) e = absurd (false≢true (sym e))

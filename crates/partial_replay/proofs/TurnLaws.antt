@@ -21,7 +21,7 @@ use Rattle.partial_replay.specs.declared.run.Run.{Run}
 use Rattle.partial_replay.specs.Trace.{ports_of}
 use Rattle.partial_replay.specs.Trace.{events_in}
 use Rattle.partial_replay.specs.RunState.{IsReady}
-use Rattle.partial_replay.specs.TurnState.{IsDone, StayDone, GoesOnBy, TurnMade, StepsMade, TurnsMade, StaysEnding, StaysEndingBut, StaysEndingWith, EndsInStep, EndsInSteps, HasTurns, Follows, HasFollowed}
+use Rattle.partial_replay.specs.TurnState.{IsDone, StayDone, GoesOnBy, TurnMade, StepsMade, TurnsMade, StayStopped, StayStoppedBut, StayStoppedWith, StopsAtStep, StopAtSteps, HasTurns, MakeTurns, HasMadeTurns}
 use Rattle.partial_replay.proofs.PortLaws.{get_set, get_set_other, take_next, get_is, same_eqb}
 
 -- a port in another state: the ports that have made all their calls have still made them where this one has
@@ -57,10 +57,10 @@ by_more : (p n k : ℕ) (old mid new : Run) → GoesOnBy n p old mid → GoesOnB
 by_more p n k old mid new a b =
     b ∙ ap (λ (l : List ℕ). l ++ replicate k p) a ∙ append_assoc (ports_of old.trace.items) (replicate n p) (replicate k p) ∙ ap (λ (l : List ℕ). ports_of old.trace.items ++ l) (replicate-append-replicate n k p)
 
-pub turn_done : (plans : List (List Call)) (p : ℕ) (old new : Run) → GoesOnBy 0 p old new → StayDone plans old new → IsDone plans new.ports.items p → StaysEndingBut p old new → TurnMade plans p old false new
+pub turn_done : (plans : List (List Call)) (p : ℕ) (old new : Run) → GoesOnBy 0 p old new → StayDone plans old new → IsDone plans new.ports.items p → StayStoppedBut p old new → TurnMade plans p old false new
 turn_done plans p old new trace kept done ending = record { trace = trace; done = done; kept = kept; ending = ending }
 
-pub turn_stepped : (plans : List (List Call)) (p : ℕ) (old mid new : Run) → GoesOnBy 0 p old mid → StayDone plans old mid → IsReady p mid → GoesOnBy 1 p mid new → StayDone plans mid new → StaysEndingBut p old mid → StaysEndingWith p mid new → TurnMade plans p old true new
+pub turn_stepped : (plans : List (List Call)) (p : ℕ) (old mid new : Run) → GoesOnBy 0 p old mid → StayDone plans old mid → IsReady p mid → GoesOnBy 1 p mid new → StayDone plans mid new → StayStoppedBut p old mid → StayStoppedWith p mid new → TurnMade plans p old true new
 turn_stepped plans p old mid new trace kept ready trace' kept' but with' =
     record { trace = by_more p 0 1 old mid new trace trace'; done = λ d. ready_done plans p mid ready (kept p d); kept = λ q d. kept' q (kept q d); ending = λ q e. with' q (λ other. but q other e) }
 
@@ -95,7 +95,7 @@ turns_grow : (D E : ℕ → Type 0) (q : ℕ) (k : Option ℕ) (m n p : ℕ) (be
 turns_grow D E q None m n p behind more none h = (more q h.0, none_more q n p behind h.1 (λ e. none (subst D e h.0)))
 turns_grow D E q (Some k) m n p behind more none h = (h.0, λ less. let d = h.1 less in (more q d.0, none_more q n p behind d.1 (λ e. none (subst D e d.0))))
 
-follows_push : (D E : ℕ → Type 0) (es : List (ℕ × Option ℕ)) (ports : List ℕ) (p n : ℕ) (k : Option ℕ) → ((r : ℕ) → D r → E r) → (D p → n ≡ 0) → HasTurns E p k n [] → Follows D es ports → Follows E (es ++ (p, k) ∷ []) (ports ++ replicate n p)
+follows_push : (D E : ℕ → Type 0) (es : List (ℕ × Option ℕ)) (ports : List ℕ) (p n : ℕ) (k : Option ℕ) → ((r : ℕ) → D r → E r) → (D p → n ≡ 0) → HasTurns E p k n [] → MakeTurns D es ports → MakeTurns E (es ++ (p, k) ∷ []) (ports ++ replicate n p)
 follows_push D E [] ports p n k more none last f = (n, [], ap (λ (l : List ℕ). l ++ replicate n p) f ∙ sym (append-nil (replicate n p)), last, refl)
 follows_push D E (e ∷ es) ports p n k more none last f =
     (f.0, f.1 ++ replicate n p, ap (λ (l : List ℕ). l ++ replicate n p) f.2 ∙ append_assoc (replicate (f.0) e.0) (f.1) (replicate n p), turns_grow D E e.0 e.1 (f.0) n p (f.1) more none f.3, follows_push D E es (f.1) p n k more none last f.4)
@@ -104,16 +104,16 @@ last_turns : (E : ℕ → Type 0) (p n : ℕ) (k : Option ℕ) → MatchOption k
 last_turns E p n None m = (m, refl)
 last_turns E p n (Some t) m = (m.0, λ less. (m.1 less, refl))
 
-pub followed : (plans : List (List Call)) (es : List (ℕ × Option ℕ)) (p : ℕ) (k : Option ℕ) (old new : Run) → HasFollowed plans es old → TurnsMade plans p k old new → HasFollowed plans (es ++ (p, k) ∷ []) new
+pub followed : (plans : List (List Call)) (es : List (ℕ × Option ℕ)) (p : ℕ) (k : Option ℕ) (old new : Run) → HasMadeTurns plans es old → TurnsMade plans p k old new → HasMadeTurns plans (es ++ (p, k) ∷ []) new
 followed plans es p k old new f t =
-    subst (Follows (IsDone plans new.ports.items) (es ++ (p, k) ∷ [])) (sym t.1.trace)
+    subst (MakeTurns (IsDone plans new.ports.items) (es ++ (p, k) ∷ [])) (sym t.1.trace)
     (follows_push (IsDone plans old.ports.items) (IsDone plans new.ports.items) es (ports_of old.trace.items) p (t.0) k t.1.kept t.1.none (last_turns (IsDone plans new.ports.items) p (t.0) k t.2) f)
 
 -- the turns of an entry that are all made in steps leave no call begun
-pub ending_turns : (plans : List (List Call)) (p n : ℕ) (old mid new : Run) → StaysEnding old mid → TurnMade plans p mid true new → StaysEnding old new
+pub ending_turns : (plans : List (List Call)) (p n : ℕ) (old mid new : Run) → StayStopped old mid → TurnMade plans p mid true new → StayStopped old new
 ending_turns plans p n old mid new s t q e = t.ending q (s q e)
 
-pub ending_last : (plans : List (List Call)) (p n : ℕ) (turns : Option ℕ) (old mid new : Run) → StaysEnding old mid → TurnMade plans p mid false new → (turns ≡ Some n → ⊥) → (q : ℕ) → (q ≡ p → turns ≡ Some n) → EndsInStep old.ports.items q → EndsInStep new.ports.items q
+pub ending_last : (plans : List (List Call)) (p n : ℕ) (turns : Option ℕ) (old mid new : Run) → StayStopped old mid → TurnMade plans p mid false new → (turns ≡ Some n → ⊥) → (q : ℕ) → (q ≡ p → turns ≡ Some n) → StopsAtStep old.ports.items q → StopsAtStep new.ports.items q
 ending_last plans p n turns old mid new s t fewer q all e = t.ending q (λ same. fewer (all same)) (s q e)
 
 -- one more entry, of the plan's
@@ -139,15 +139,15 @@ range_push a (suc n) =
 pub next_steps : (steps : List (ℕ × ℕ)) (i : ℕ) (e : ℕ × ℕ) → slice_get steps i ≡ Some e → map so_many (take (i + 1) steps) ≡ map so_many (take i steps) ++ so_many e ∷ []
 next_steps steps i e s = ap (map so_many) (take_next steps i e s) ∙ map_push so_many (take i steps) e
 
-pub followed_next : (plans : List (List Call)) (steps : List (ℕ × ℕ)) (i : ℕ) (old new : Run) → i < length steps → HasFollowed plans (map so_many (take i steps)) old → TurnsMade plans (get_or steps i (0, 0)).0 (Some (get_or steps i (0, 0)).1) old new → HasFollowed plans (map so_many (take (i + 1) steps)) new
+pub followed_next : (plans : List (List Call)) (steps : List (ℕ × ℕ)) (i : ℕ) (old new : Run) → i < length steps → HasMadeTurns plans (map so_many (take i steps)) old → TurnsMade plans (get_or steps i (0, 0)).0 (Some (get_or steps i (0, 0)).1) old new → HasMadeTurns plans (map so_many (take (i + 1) steps)) new
 followed_next plans steps i old new below f t =
     let e = get_or steps i (0, 0) in
     let next : map so_many (take (i + 1) steps) ≡ map so_many (take i steps) ++ so_many e ∷ [] = next_steps steps i e (get_is steps i (0, 0) below) in
-    subst (λ (es : List (ℕ × Option ℕ)). HasFollowed plans es new) (sym next) (followed plans (map so_many (take i steps)) e.0 (Some e.1) old new f t)
+    subst (λ (es : List (ℕ × Option ℕ)). HasMadeTurns plans es new) (sym next) (followed plans (map so_many (take i steps)) e.0 (Some e.1) old new f t)
 
 -- all entries are behind
-pub followed_all : (plans : List (List Call)) (steps : List (ℕ × ℕ)) (i : ℕ) (run : Run) → length steps ≤ i → HasFollowed plans (map so_many (take i steps)) run → HasFollowed plans (map so_many steps ++ []) run
-followed_all plans steps i run past f = subst (λ (es : List (ℕ × Option ℕ)). HasFollowed plans es run) (ap (map so_many) (take_whole steps i past) ∙ sym (append-nil (map so_many steps))) f
+pub followed_all : (plans : List (List Call)) (steps : List (ℕ × ℕ)) (i : ℕ) (run : Run) → length steps ≤ i → HasMadeTurns plans (map so_many (take i steps)) run → HasMadeTurns plans (map so_many steps ++ []) run
+followed_all plans steps i run past f = subst (λ (es : List (ℕ × Option ℕ)). HasMadeTurns plans es run) (ap (map so_many) (take_whole steps i past) ∙ sym (append-nil (map so_many steps))) f
   where
     take_whole : (xs : List (ℕ × ℕ)) (n : ℕ) → length xs ≤ n → take n xs ≡ xs
     take_whole [] zero past = refl
@@ -180,7 +180,7 @@ made_is D q (Some k) n left behind is h = elim (cases_lt n k) [
 ]
 
 -- the ports are the turns' ones, of each port the first ones, as many as it has events
-pub follows_ports : (D : ℕ → Type 0) (es : List (ℕ × Option ℕ)) (ports : List ℕ) (left : ℕ → ℕ) → ((q : ℕ) → left q ≡ events_in q ports) → Follows D es ports → ports ≡ ports_in es left
+pub follows_ports : (D : ℕ → Type 0) (es : List (ℕ × Option ℕ)) (ports : List ℕ) (left : ℕ → ℕ) → ((q : ℕ) → left q ≡ events_in q ports) → MakeTurns D es ports → ports ≡ ports_in es left
 follows_ports D [] ports left same f = f
 follows_ports D (e ∷ es) ports left same f =
     let n = f.0 in
@@ -200,7 +200,7 @@ pub record WithinTurns (D : ℕ → Type 0) (q turns events : ℕ) : Type 0 wher
   pub within : events ≤ turns
   pub done : events < turns → D q
 
-pub within_turns : (D : ℕ → Type 0) (q : ℕ) (steps : List (ℕ × ℕ)) (ports : List ℕ) → Follows D (map so_many steps) ports → WithinTurns D q (turns_by q steps) (events_in q ports)
+pub within_turns : (D : ℕ → Type 0) (q : ℕ) (steps : List (ℕ × ℕ)) (ports : List ℕ) → MakeTurns D (map so_many steps) ports → WithinTurns D q (turns_by q steps) (events_in q ports)
 within_turns D q [] ports f = let none : events_in q ports ≡ 0 = ap (events_in q) f in record { within = omega (arith, none); done = λ less. absurd (omega (arith, none, less)) }
 within_turns D q (e ∷ steps) ports f =
     let n = f.0 in
@@ -227,18 +227,18 @@ within_turns D q (e ∷ steps) ports f =
     ]
 
 -- with the rest each port has made all its calls
-ends_done : (D : ℕ → Type 0) (a n q : ℕ) (ports : List ℕ) → a ≤ q → q < a + n → Follows D (map to_its_end (range_with_len a n)) ports → D q
+ends_done : (D : ℕ → Type 0) (a n q : ℕ) (ports : List ℕ) → a ≤ q → q < a + n → MakeTurns D (map to_its_end (range_with_len a n)) ports → D q
 ends_done D a zero q ports from below f = absurd (omega (arith, from, below))
 ends_done D a (suc n) q ports from below f = elim (eqb_tells a q) [
   | inl same ↦ subst D same.1 (f.3.0)
   | inr other ↦ let away = other.1 in ends_done D (a + 1) n q (f.1) (omega (arith, from, away)) (omega (arith, below)) f.4
 ]
 
-pub rest_done : (D : ℕ → Type 0) (es : List (ℕ × Option ℕ)) (n q : ℕ) (ports : List ℕ) → q < n → Follows D (es ++ map to_its_end (range_with_len 0 n)) ports → D q
+pub rest_done : (D : ℕ → Type 0) (es : List (ℕ × Option ℕ)) (n q : ℕ) (ports : List ℕ) → q < n → MakeTurns D (es ++ map to_its_end (range_with_len 0 n)) ports → D q
 rest_done D [] n q ports below f = ends_done D 0 n q ports (omega arith) (omega (arith, below)) f
 rest_done D (e ∷ es) n q ports below f = rest_done D es n q (f.1) below f.4
 
-pub ending_next : (plans : List (List Call)) (steps : List (ℕ × ℕ)) (i : ℕ) (old new : Run) → i < length steps → HasFollowed plans (map so_many (take i steps)) old → EndsInSteps (take i steps) old → TurnsMade plans (get_or steps i (0, 0)).0 (Some (get_or steps i (0, 0)).1) old new → EndsInSteps (take (i + 1) steps) new
+pub ending_next : (plans : List (List Call)) (steps : List (ℕ × ℕ)) (i : ℕ) (old new : Run) → i < length steps → HasMadeTurns plans (map so_many (take i steps)) old → StopAtSteps (take i steps) old → TurnsMade plans (get_or steps i (0, 0)).0 (Some (get_or steps i (0, 0)).1) old new → StopAtSteps (take (i + 1) steps) new
 ending_next plans steps i old new below f ends t q same =
     let e = get_or steps i (0, 0) in
     let p = e.0 in
@@ -263,14 +263,14 @@ ending_next plans steps i old new below f ends t q same =
     ]
 
 -- what the turns make of each port
-pub turns_told : (D : ℕ → Type 0) (p : PlanView) (ports : List ℕ) (q : ℕ) (calls : List Called) → (D q → AreAllMade (get_or p.ports q []) calls) → (length p.ports ≤ q → AreAllMade (get_or p.ports q []) calls) → (p.rest ≡ false → events_in q ports ≡ turns_by q p.steps → EndInStep calls) → Follows D (turns_of p) ports → HaveMade p.rest (turns_by q p.steps) (events_in q ports) (get_or p.ports q []) calls
+pub turns_told : (D : ℕ → Type 0) (p : PlanView) (ports : List ℕ) (q : ℕ) (calls : List Called) → (D q → AreAllMade (get_or p.ports q []) calls) → (length p.ports ≤ q → AreAllMade (get_or p.ports q []) calls) → (p.rest ≡ false → events_in q ports ≡ turns_by q p.steps → EndInStep calls) → MakeTurns D (turns_of p) ports → HaveMade p.rest (turns_by q p.steps) (events_in q ports) (get_or p.ports q []) calls
 turns_told D p ports q calls done past ends f = at p.rest refl f
   where
-    at : (rest : Bool) → p.rest ≡ rest → Follows D (map so_many p.steps ++ cond rest (map to_its_end (range_with_len 0 (length p.ports))) []) ports → HaveMade rest (turns_by q p.steps) (events_in q ports) (get_or p.ports q []) calls
+    at : (rest : Bool) → p.rest ≡ rest → MakeTurns D (map so_many p.steps ++ cond rest (map to_its_end (range_with_len 0 (length p.ports))) []) ports → HaveMade rest (turns_by q p.steps) (events_in q ports) (get_or p.ports q []) calls
     at true is g = elim (cases_lt q (length p.ports)) [
       | inl below ↦ done (rest_done D (map so_many p.steps) (length p.ports) q ports below g)
       | inr beyond ↦ past beyond
     ]
     at false is g =
-        let w = within_turns D q p.steps ports (subst (λ (es : List (ℕ × Option ℕ)). Follows D es ports) (append-nil (map so_many p.steps)) g) in
+        let w = within_turns D q p.steps ports (subst (λ (es : List (ℕ × Option ℕ)). MakeTurns D es ports) (append-nil (map so_many p.steps)) g) in
         (w.within, ends is, λ less. done (w.done less))

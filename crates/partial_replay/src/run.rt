@@ -39,7 +39,7 @@ fn opening_words(alloc: Global, sizes: Sizes, initial: &[u64]) -> Result<Vec<u64
 
 impl Run {
     ghost use Rattle.partial_replay.specs.RunState.{ArePlans, AreStarted, IsReady, IsRun, IsSameOpening, Tells, left_at};
-    ghost use Rattle.partial_replay.specs.TurnState.{EndsInSteps, GoesOnBy, IsDone, StayDone, StaysEndingBut, StaysEndingWith, TurnMade, TurnsMade};
+    ghost use Rattle.partial_replay.specs.TurnState.{StopAtSteps, GoesOnBy, IsDone, StayDone, StayStoppedBut, StayStoppedWith, TurnMade, TurnsMade};
 
     /// The replay as it opens, with the ports of a plan.
     pub fn open(
@@ -55,7 +55,7 @@ impl Run {
         ensures opening { IfOk result (λ run. (run.sizes ≡ sizes) × (run.opening.values ≡ initial.now)) }
         ensures trace { IfOk result (λ run. run.trace.items ≡ []) }
         ensures started { IfOk result (λ run. AreStarted run.ports.items) }
-        ensures ending { IfOk result (EndsInSteps []) }
+        ensures ending { IfOk result (StopAtSteps []) }
     {
         let first = u64::from(sizes.pool_base());
         Ok(Run {
@@ -101,7 +101,7 @@ impl Run {
         ensures ready { IfOk result (λ ready. MatchBool ready (IsReady p self.new) (IsDone plans.now self.new.ports.items p × AreStarted self.new.ports.items)) }
         ensures trace { OnOk result (GoesOnBy 0 p self.old self.new) }
         ensures done { OnOk result (StayDone plans.now self.old self.new) }
-        ensures ending { OnOk result (StaysEndingBut p self.old self.new) }
+        ensures ending { OnOk result (StayStoppedBut p self.old self.new) }
         ensures left { OnOk result (left_at p plans.now self.new.ports.items ≤ left_at p plans.now self.old.ports.items) }
     {
         let calls = plans[p].as_slice();
@@ -124,7 +124,7 @@ impl Run {
         ensures same { OnOk result (IsSameOpening self.old self.new) }
         ensures started { OnOk result (AreStarted self.new.ports.items) }
         ensures trace { OnOk result (GoesOnBy 1 p self.old self.new) }
-        ensures ending { OnOk result (StaysEndingWith p self.old self.new) }
+        ensures ending { OnOk result (StayStoppedWith p self.old self.new) }
         ensures done { OnOk result (StayDone plans.now self.old self.new) }
         ensures progress { OnOk result (left_at p plans.now self.new.ports.items < left_at p plans.now self.old.ports.items) }
     {

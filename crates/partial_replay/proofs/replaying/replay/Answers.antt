@@ -9,7 +9,7 @@ use Rattle.partial_replay.proofs.TurnLaws.{followed, followed_next, followed_all
 use Rattle.partial_model.specs.declared.call.Call.{Call}
 use Rattle.partial_replay.specs.declared.run.Run.{Run}
 use Rattle.partial_replay.specs.RunState.{AreStarted, IsRun, Tells}
-use Rattle.partial_replay.specs.TurnState.{EndsInSteps, HasFollowed, TurnsMade}
+use Rattle.partial_replay.specs.TurnState.{StopAtSteps, HasMadeTurns, TurnsMade}
 use Rattle.partial_replay.specs.Replayed.{IsReplayOf}
 use Rattle.partial_replay.specs.RunState.{ArePlans}
 use Rattle.partial_replay.proofs.Plans.{are_plans}
@@ -32,9 +32,9 @@ returns c =
     let plans = c.ports-plans.result.now in
     let outcome = c.in_ok-into_outcome.field-0 in
     let is = c.ports-plans.ensures.value in
-    let told : (run : Run) → c.if-rest.run ≡ run → IsRun plans run → AreStarted run.ports.items → run.sizes ≡ p.sizes → run.opening.values ≡ p.initial → HasFollowed plans (turns_of p) run → (p.rest ≡ false → EndsInSteps p.steps run) → IsReplayOf p outcome = λ run same w started sizes values f ends.
+    let told : (run : Run) → c.if-rest.run ≡ run → IsRun plans run → AreStarted run.ports.items → run.sizes ≡ p.sizes → run.opening.values ≡ p.initial → HasMadeTurns plans (turns_of p) run → (p.rest ≡ false → StopAtSteps p.steps run) → IsReplayOf p outcome = λ run same w started sizes values f ends.
     replay_told p run outcome (subst (λ (l : List (List Call)). IsRun l run) is w) started sizes values
-    (subst (λ (l : List (List Call)). HasFollowed l (turns_of p) run) is f) ends
+    (subst (λ (l : List (List Call)). HasMadeTurns l (turns_of p) run) is f) ends
     (subst (λ (l : List (List Call)). Tells l run outcome) is (subst (λ (v : Run). Tells plans v outcome) same c.in_ok-into_outcome.ensures)) in
     let steps : length c.steps-p-items.result.now ≡ length p.steps = ap length c.steps-p-items.ensures.value in
     let front = followed_all plans p.steps c.loop-p.p-index c.loop-p.run (omega (arith, c.loop-p-test.false, steps)) c.loop-p.invariant.turns in
@@ -42,13 +42,13 @@ returns c =
       | then-rest+else-loop-p-then-rest-test w ↦
           let i = w.loop-p-then-rest.invariant in
           let all : w.loop-p-then-rest.p ≡ length p.ports = (let n = ap length is in omega (arith, n, w.loop-p-then-rest-test.false, w.loop-p-then-rest.auto.p-end)) in
-          let f : HasFollowed plans (turns_of p) w.loop-p-then-rest.run =
-          subst (λ (b : Bool). HasFollowed plans (map so_many p.steps ++ cond b (map to_its_end (range_with_len 0 (length p.ports))) []) w.loop-p-then-rest.run) w.if-rest.ensures.value
-          (subst (λ n. HasFollowed plans (map so_many p.steps ++ map to_its_end (range_with_len 0 n)) w.loop-p-then-rest.run) all i.turns) in
+          let f : HasMadeTurns plans (turns_of p) w.loop-p-then-rest.run =
+          subst (λ (b : Bool). HasMadeTurns plans (map so_many p.steps ++ cond b (map to_its_end (range_with_len 0 (length p.ports))) []) w.loop-p-then-rest.run) w.if-rest.ensures.value
+          (subst (λ n. HasMadeTurns plans (map so_many p.steps ++ map to_its_end (range_with_len 0 n)) w.loop-p-then-rest.run) all i.turns) in
           told w.loop-p-then-rest.run w.run-is i.run i.started i.sizes i.values f (λ no. absurd (false≢true (sym no ∙ sym w.if-rest.ensures.value)))
       | else-rest w ↦
           let i = c.loop-p.invariant in
-          told c.loop-p.run w.run-is i.run i.started i.sizes i.values (subst (λ (b : Bool). HasFollowed plans (map so_many p.steps ++ cond b (map to_its_end (range_with_len 0 (length p.ports))) []) c.loop-p.run) w.if-rest.ensures.value front) (λ no. subst (λ (l : List (ℕ × ℕ)). EndsInSteps l c.loop-p.run) (take_all c.loop-p.p-index p.steps (omega (arith, c.loop-p-test.false, steps))) i.ending)
+          told c.loop-p.run w.run-is i.run i.started i.sizes i.values (subst (λ (b : Bool). HasMadeTurns plans (map so_many p.steps ++ cond b (map to_its_end (range_with_len 0 (length p.ports))) []) c.loop-p.run) w.if-rest.ensures.value front) (λ no. subst (λ (l : List (ℕ × ℕ)). StopAtSteps l c.loop-p.run) (take_all c.loop-p.p-index p.steps (omega (arith, c.loop-p-test.false, steps))) i.ending)
     ]
 
 pub loop-p-init : goal.loop-p-init
@@ -96,5 +96,5 @@ loop-p-then-rest-preserved c =
       started = c.in_ok-to_the_end.ensures.started;
       sizes = same.sizes ∙ old.sizes;
       values = ap (λ (o : Opening). o.values) same.opening ∙ old.values;
-      turns = subst (λ (es : List (ℕ × Option ℕ)). HasFollowed c.ports-plans.result.now es c.to_the_end.new.self) (sym (next_end (map so_many c.args.plan.now.steps) c.loop-p-then-rest.p)) (followed c.ports-plans.result.now _ c.loop-p-then-rest.p None c.loop-p-then-rest.run c.to_the_end.new.self old.turns c.in_ok-to_the_end.ensures.turns);
+      turns = subst (λ (es : List (ℕ × Option ℕ)). HasMadeTurns c.ports-plans.result.now es c.to_the_end.new.self) (sym (next_end (map so_many c.args.plan.now.steps) c.loop-p-then-rest.p)) (followed c.ports-plans.result.now _ c.loop-p-then-rest.p None c.loop-p-then-rest.run c.to_the_end.new.self old.turns c.in_ok-to_the_end.ensures.turns);
     }

@@ -2,7 +2,7 @@ use Rattle.std.proofs.Common.{◌≡◌, ◌++◌, map, take}
 use Rattle.std.specs.List.{range_with_len}
 use Rattle.partial_replay.specs.Turns.{so_many, to_its_end}
 use Rattle.partial_replay.specs.RunState.{AreStarted, IsRun}
-use Rattle.partial_replay.specs.TurnState.{EndsInSteps, HasFollowed}
+use Rattle.partial_replay.specs.TurnState.{StopAtSteps, HasMadeTurns}
 use Rattle.partial_replay.proofs.replaying.replay.Given as goal
 
 -- the state stays lawful, is of the plan's sizes and values, and has followed the turns so far
@@ -12,8 +12,8 @@ invariant-loop-p l = record {
   started : AreStarted l.run.ports.items;
   sizes : l.run.sizes ≡ l.plan.sizes;
   values : l.run.opening.values ≡ l.plan.initial;
-  turns : HasFollowed l.plans (map so_many (take l.p-index l.plan.steps)) l.run;
-  ending : EndsInSteps (take l.p-index l.plan.steps) l.run;
+  turns : HasMadeTurns l.plans (map so_many (take l.p-index l.plan.steps)) l.run;
+  ending : StopAtSteps (take l.p-index l.plan.steps) l.run;
 }
 
 abbrev pub invariant-loop-p-then-rest : goal.invariant-loop-p-then-rest
@@ -22,5 +22,5 @@ invariant-loop-p-then-rest l = record {
   started : AreStarted l.run.ports.items;
   sizes : l.run.sizes ≡ l.plan.sizes;
   values : l.run.opening.values ≡ l.plan.initial;
-  turns : HasFollowed l.plans (map so_many l.plan.steps ++ map to_its_end (range_with_len 0 l.p)) l.run;
+  turns : HasMadeTurns l.plans (map so_many l.plan.steps ++ map to_its_end (range_with_len 0 l.p)) l.run;
 }

@@ -1,7 +1,7 @@
 use Rattle.std.proofs.Common.{◌≡◌, ◌+◌, ◌≤◌, List, length, Some, slice_get, sym, ◌∙◌, ap, subst, arith}
 use Rattle.partial_model.specs.declared.call.Call.{Call}
 use Rattle.partial_replay.specs.PortState.{KeepsFit, KeepsMade}
-use Rattle.partial_replay.proofs.RunSteps.{begin_keeps, ports_length, got, none_of, some_of, is_some_of, match_bool, begun_done, port_in, idle_between, left_is, left_ready}
+use Rattle.partial_replay.proofs.RunSteps.{port_here, begin_keeps, ports_length, got, none_of, some_of, is_some_of, match_bool, begun_done, port_in, idle_between, left_is, left_ready}
 use Rattle.partial_replay.proofs.PortLaws.{get_set}
 use Rattle.partial_replay.proofs.PortSteps.{ending_but, started_but, started_idle}
 use Rattle.partial_replay.proofs.TurnLaws.{done_set}
@@ -19,8 +19,7 @@ returns-then-is_some-clause-ready c =
     let run = c.requires.run in
     let ports = c.args.self.now.ports.items in
     let port = c.index_mut-port.result.now in
-    let many = ports_length c.args.self.now.opening c.args.self.now.history.items 0 c.args.plans.now run.parts ports run.fit in
-    let here : slice_get ports c.args.p ≡ Some port = got ports c.args.p port (omega (arith, many, c.requires.port)) c.index_mut-port.ensures.value in
+    let here = port_here c.args.plans.now _ _ _ ports _ _ c.args.p port run c.requires.port c.index_mut-port.ensures.value in
     let way = some_of port.under_way (sym c.is_some.ensures ∙ c.if-is_some.true) in
     (port, way.0, get_set ports c.args.p port port here, way.1, started_but ports c.args.p port c.requires.started)
 
@@ -29,8 +28,7 @@ begin_next-requires-clause-idle c =
     let run = c.requires.run in
     let ports = c.args.self.now.ports.items in
     let port = c.index_mut-port.result.now in
-    let many = ports_length c.args.self.now.opening c.args.self.now.history.items 0 c.args.plans.now run.parts ports run.fit in
-    let here : slice_get ports c.args.p ≡ Some port = got ports c.args.p port (omega (arith, many, c.requires.port)) c.index_mut-port.ensures.value in
+    let here = port_here c.args.plans.now _ _ _ ports _ _ c.args.p port run c.requires.port c.index_mut-port.ensures.value in
     let plan : slice_get c.args.plans.now c.args.p ≡ Some c.index-plans-p.result = got c.args.plans.now c.args.p c.index-plans-p.result c.requires.port c.index-plans-p.is in
     let fit = port_in c.args.plans.now c.args.self.now.sizes c.args.self.now.opening c.args.self.now.words.items ports c.args.self.now.history.items c.args.self.now.trace.items c.args.p c.index-plans-p.result port run plan here in
     idle_between c.args.self.now.opening c.args.self.now.history.items c.index-plans-p.result (0 + c.args.p) fit.0 port fit.1 (none_of port.under_way (sym c.is_some.ensures ∙ c.if-is_some.false))
@@ -40,8 +38,7 @@ begin_next-requires-clause-few c =
     let run = c.requires.run in
     let ports = c.args.self.now.ports.items in
     let port = c.index_mut-port.result.now in
-    let many = ports_length c.args.self.now.opening c.args.self.now.history.items 0 c.args.plans.now run.parts ports run.fit in
-    let here : slice_get ports c.args.p ≡ Some port = got ports c.args.p port (omega (arith, many, c.requires.port)) c.index_mut-port.ensures.value in
+    let here = port_here c.args.plans.now _ _ _ ports _ _ c.args.p port run c.requires.port c.index_mut-port.ensures.value in
     let plan : slice_get c.args.plans.now c.args.p ≡ Some c.index-plans-p.result = got c.args.plans.now c.args.p c.index-plans-p.result c.requires.port c.index-plans-p.is in
     let fit = port_in c.args.plans.now c.args.self.now.sizes c.args.self.now.opening c.args.self.now.words.items ports c.args.self.now.history.items c.args.self.now.trace.items c.args.p c.index-plans-p.result port run plan here in
     subst (λ (l : List Call). length port.finished.items ≤ length l) (sym c.as_slice-calls.ensures) fit.1.few
@@ -52,8 +49,7 @@ returns-clause-run c =
     let ports = c.args.self.now.ports.items in
     let port = c.index_mut-port.result.now in
     let calls = c.as_slice-calls.result.now in
-    let many = ports_length c.args.self.now.opening c.args.self.now.history.items 0 c.args.plans.now run.parts ports run.fit in
-    let here : slice_get ports c.args.p ≡ Some port = got ports c.args.p port (omega (arith, many, c.requires.port)) c.index_mut-port.ensures.value in
+    let here = port_here c.args.plans.now _ _ _ ports _ _ c.args.p port run c.requires.port c.index_mut-port.ensures.value in
     let plan : slice_get c.args.plans.now c.args.p ≡ Some calls = got c.args.plans.now c.args.p c.index-plans-p.result c.requires.port c.index-plans-p.is ∙ ap Some (sym c.as_slice-calls.ensures) in
     let seen : c.len-seen.result ≡ length c.args.self.now.history.items = omega (arith, c.len-seen.ensures, c.args.self.now.history.ok.0) in
     let keeps : KeepsFit calls (length c.args.self.now.history.items) port c.begin_next.new.self = λ o l q x n f. c.in_ok-begun.ensures.fits o l q x (n ∙ sym seen) f in
@@ -67,8 +63,7 @@ returns-clause-ready c =
     let port = c.index_mut-port.result.now in
     let new = c.begin_next.new.self in
     let calls = c.as_slice-calls.result.now in
-    let many = ports_length c.args.self.now.opening c.args.self.now.history.items 0 c.args.plans.now run.parts ports run.fit in
-    let here : slice_get ports c.args.p ≡ Some port = got ports c.args.p port (omega (arith, many, c.requires.port)) c.index_mut-port.ensures.value in
+    let here = port_here c.args.plans.now _ _ _ ports _ _ c.args.p port run c.requires.port c.index_mut-port.ensures.value in
     let plan : slice_get c.args.plans.now c.args.p ≡ Some calls = got c.args.plans.now c.args.p c.index-plans-p.result c.requires.port c.index-plans-p.is ∙ ap Some (sym c.as_slice-calls.ensures) in
     match_bool c.in_ok-begun.begun _ _ _ _ c.in_ok-begun.ensures.begun (λ b. let way = is_some_of new.under_way b.0 in (new, way.0, get_set ports c.args.p port new here, way.1, started_but ports c.args.p new c.requires.started))
     (λ b. (record { calls = calls; port = new; plan = plan; is = get_set ports c.args.p port new here; idle = b.0; all = b.1 }, started_idle ports c.args.p port new here c.requires.started b.0))
@@ -80,8 +75,7 @@ returns-clause-done c =
     let port = c.index_mut-port.result.now in
     let new = c.begin_next.new.self in
     let calls = c.as_slice-calls.result.now in
-    let many = ports_length c.args.self.now.opening c.args.self.now.history.items 0 c.args.plans.now run.parts ports run.fit in
-    let here : slice_get ports c.args.p ≡ Some port = got ports c.args.p port (omega (arith, many, c.requires.port)) c.index_mut-port.ensures.value in
+    let here = port_here c.args.plans.now _ _ _ ports _ _ c.args.p port run c.requires.port c.index_mut-port.ensures.value in
     let plan : slice_get c.args.plans.now c.args.p ≡ Some calls = got c.args.plans.now c.args.p c.index-plans-p.result c.requires.port c.index-plans-p.is ∙ ap Some (sym c.as_slice-calls.ensures) in
     done_set c.args.plans.now ports c.args.p calls port new plan here (λ none all. begun_done c.in_ok-begun.begun calls port new all c.in_ok-begun.ensures.more c.in_ok-begun.ensures.begun)
 
@@ -92,8 +86,7 @@ returns-clause-left c =
     let port = c.index_mut-port.result.now in
     let new = c.begin_next.new.self in
     let calls = c.as_slice-calls.result.now in
-    let many = ports_length c.args.self.now.opening c.args.self.now.history.items 0 c.args.plans.now run.parts ports run.fit in
-    let here : slice_get ports c.args.p ≡ Some port = got ports c.args.p port (omega (arith, many, c.requires.port)) c.index_mut-port.ensures.value in
+    let here = port_here c.args.plans.now _ _ _ ports _ _ c.args.p port run c.requires.port c.index_mut-port.ensures.value in
     let plan : slice_get c.args.plans.now c.args.p ≡ Some calls = got c.args.plans.now c.args.p c.index-plans-p.result c.requires.port c.index-plans-p.is ∙ ap Some (sym c.as_slice-calls.ensures) in
     let seen : c.len-seen.result ≡ length c.args.self.now.history.items = omega (arith, c.len-seen.ensures, c.args.self.now.history.ok.0) in
     let fit = port_in c.args.plans.now c.args.self.now.sizes c.args.self.now.opening c.args.self.now.words.items ports c.args.self.now.history.items c.args.self.now.trace.items c.args.p calls port run plan here in

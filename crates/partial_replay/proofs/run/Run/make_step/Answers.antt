@@ -4,7 +4,7 @@ use Rattle.std.proofs.lemmas.Result.{on_ok_weaker}
 use Rattle.partial_replay.specs.declared.port.Port.{Port}
 use Rattle.partial_replay.specs.PortState.{MayStep, StepMade}
 use Rattle.partial_replay.specs.RunState.{IsRunOf}
-use Rattle.partial_replay.proofs.RunSteps.{may_step, step_keeps, ports_length, got, left_is, left_falls, port_in}
+use Rattle.partial_replay.proofs.RunSteps.{port_here, may_step, step_keeps, got, left_is, left_falls, port_in}
 use Rattle.partial_replay.proofs.PortLaws.{get_set}
 use Rattle.partial_replay.proofs.PortSteps.{ending_with, started_set, step_ending, step_started}
 use Rattle.partial_replay.proofs.TurnLaws.{done_set, by_step, stepped_done}
@@ -16,8 +16,7 @@ make_step-requires-clause-may c =
     let ports = c.args.self.now.ports.items in
     let port = c.index_mut-port.result.now in
     let calls = c.as_slice-calls.result.now in
-    let many = ports_length c.args.self.now.opening c.args.self.now.history.items 0 c.args.plans.now run.parts ports run.fit in
-    let here : slice_get ports c.args.p ≡ Some port = got ports c.args.p port (omega (arith, many, c.requires.port)) c.index_mut-port.ensures.value in
+    let here = port_here c.args.plans.now _ _ _ ports _ _ c.args.p port run c.requires.port c.index_mut-port.ensures.value in
     let plan : slice_get c.args.plans.now c.args.p ≡ Some calls = got c.args.plans.now c.args.p c.index-plans-p.result c.requires.port c.index-plans-p.is ∙ ap Some (sym c.as_slice-calls.ensures) in
     let ready = c.requires.ready in
     let same : Some (ready.0) ≡ Some port = sym ready.2 ∙ here in
@@ -32,8 +31,7 @@ returns-clause-run c =
     let port = c.index_mut-port.result.now in
     let calls = c.as_slice-calls.result.now in
     let words = c.make_step.new.words in
-    let many = ports_length c.args.self.now.opening c.args.self.now.history.items 0 c.args.plans.now run.parts ports run.fit in
-    let here : slice_get ports c.args.p ≡ Some port = got ports c.args.p port (omega (arith, many, c.requires.port)) c.index_mut-port.ensures.value in
+    let here = port_here c.args.plans.now _ _ _ ports _ _ c.args.p port run c.requires.port c.index_mut-port.ensures.value in
     let plan : slice_get c.args.plans.now c.args.p ≡ Some calls = got c.args.plans.now c.args.p c.index-plans-p.result c.requires.port c.index-plans-p.is ∙ ap Some (sym c.as_slice-calls.ensures) in
     let kept = with_items_is c.args.self.now.words words (let long = c.make_step.auto.words in let front = ap length c.deref_mut.ensures.value in omega (arith, long, front, c.args.self.now.words.ok.0)) in
     let opened = c.args.self.now in
@@ -48,8 +46,7 @@ returns-clause-progress c =
     let ports = c.args.self.now.ports.items in
     let port = c.index_mut-port.result.now in
     let calls = c.as_slice-calls.result.now in
-    let many = ports_length c.args.self.now.opening c.args.self.now.history.items 0 c.args.plans.now run.parts ports run.fit in
-    let here : slice_get ports c.args.p ≡ Some port = got ports c.args.p port (omega (arith, many, c.requires.port)) c.index_mut-port.ensures.value in
+    let here = port_here c.args.plans.now _ _ _ ports _ _ c.args.p port run c.requires.port c.index_mut-port.ensures.value in
     let plan : slice_get c.args.plans.now c.args.p ≡ Some calls = got c.args.plans.now c.args.p c.index-plans-p.result c.requires.port c.index-plans-p.is ∙ ap Some (sym c.as_slice-calls.ensures) in
     let opened = c.args.self.now in
     let ready = c.requires.ready in
@@ -70,8 +67,7 @@ returns-clause-trace c =
     let port = c.index_mut-port.result.now in
     let calls = c.as_slice-calls.result.now in
     let opened = c.args.self.now in
-    let many = ports_length opened.opening opened.history.items 0 c.args.plans.now run.parts ports run.fit in
-    let here : slice_get ports c.args.p ≡ Some port = got ports c.args.p port (omega (arith, many, c.requires.port)) c.index_mut-port.ensures.value in
+    let here = port_here c.args.plans.now _ _ _ ports _ _ c.args.p port run c.requires.port c.index_mut-port.ensures.value in
     let plan : slice_get c.args.plans.now c.args.p ≡ Some calls = got c.args.plans.now c.args.p c.index-plans-p.result c.requires.port c.index-plans-p.is ∙ ap Some (sym c.as_slice-calls.ensures) in
     let fit = port_in c.args.plans.now opened.sizes opened.opening opened.words.items ports opened.history.items opened.trace.items c.args.p calls port run plan here in
     let number : port.number ≡ c.args.p = fit.1.number ∙ omega arith in
@@ -84,8 +80,7 @@ returns-clause-done c =
     let port = c.index_mut-port.result.now in
     let calls = c.as_slice-calls.result.now in
     let opened = c.args.self.now in
-    let many = ports_length opened.opening opened.history.items 0 c.args.plans.now run.parts ports run.fit in
-    let here : slice_get ports c.args.p ≡ Some port = got ports c.args.p port (omega (arith, many, c.requires.port)) c.index_mut-port.ensures.value in
+    let here = port_here c.args.plans.now _ _ _ ports _ _ c.args.p port run c.requires.port c.index_mut-port.ensures.value in
     let plan : slice_get c.args.plans.now c.args.p ≡ Some calls = got c.args.plans.now c.args.p c.index-plans-p.result c.requires.port c.index-plans-p.is ∙ ap Some (sym c.as_slice-calls.ensures) in
     on_ok_weaker c.make_step.result (λ m. done_set c.args.plans.now ports c.args.p calls port c.make_step.new.self plan here (λ none all. absurd (stepped_done calls _ _ _ _ _ _ port c.make_step.new.self none m))) c.make_step.ensures
 
@@ -96,8 +91,7 @@ returns-clause-started c =
     let port = c.index_mut-port.result.now in
     let calls = c.as_slice-calls.result.now in
     let opened = c.args.self.now in
-    let many = ports_length opened.opening opened.history.items 0 c.args.plans.now run.parts ports run.fit in
-    let here : slice_get ports c.args.p ≡ Some port = got ports c.args.p port (omega (arith, many, c.requires.port)) c.index_mut-port.ensures.value in
+    let here = port_here c.args.plans.now _ _ _ ports _ _ c.args.p port run c.requires.port c.index_mut-port.ensures.value in
     on_ok_weaker c.make_step.result (λ m. started_set ports c.args.p port c.make_step.new.self here c.requires.ready.4 (step_started calls _ _ _ _ _ _ port c.make_step.new.self m)) c.make_step.ensures
 
 pub returns-clause-ending : goal.returns-clause-ending
@@ -107,6 +101,5 @@ returns-clause-ending c =
     let port = c.index_mut-port.result.now in
     let calls = c.as_slice-calls.result.now in
     let opened = c.args.self.now in
-    let many = ports_length opened.opening opened.history.items 0 c.args.plans.now run.parts ports run.fit in
-    let here : slice_get ports c.args.p ≡ Some port = got ports c.args.p port (omega (arith, many, c.requires.port)) c.index_mut-port.ensures.value in
+    let here = port_here c.args.plans.now _ _ _ ports _ _ c.args.p port run c.requires.port c.index_mut-port.ensures.value in
     on_ok_weaker c.make_step.result (λ m. ending_with ports c.args.p port c.make_step.new.self here (step_ending calls _ _ _ _ _ _ port c.make_step.new.self m)) c.make_step.ensures
