@@ -1,2 +1,5 @@
+pub mod CheckLaws
+pub mod Decisions
 pub mod HistoryLemmas
 pub mod NotesLemmas
+pub mod PortLaws

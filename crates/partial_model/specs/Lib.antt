@@ -1,3 +1,4 @@
+pub mod Checks
 pub mod History
 pub mod Notes
 pub mod Outcome
