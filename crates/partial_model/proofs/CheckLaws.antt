@@ -38,7 +38,7 @@ Decides-is_initial o m s =
     (λ w. let j : ℕ = w.0 in let below : j < m = w.1 in let same : s ≡ o.first + 3 * j = w.2 in (omega arith, omega arith, omega arith))
     (Decides-and3 (nat_le o.first s) ((s - o.first) % 3 == 0) (nat_lt ((s - o.first) / 3) m) (Decides-nat_le o.first s) (Decides-eqb ((s - o.first) % 3) 0) (Decides-nat_lt ((s - o.first) / 3) m))
 
-Decides-are_distinct : (h : List Applied) → Decides (are_distinct h) (HaveDistinctStamps h)
+pub Decides-are_distinct : (h : List Applied) → Decides (are_distinct h) (HaveDistinctStamps h)
 Decides-are_distinct [] = Decides-always tt
 Decides-are_distinct (e ∷ h) =
     Decides-and (not (list_any (λ (f : Applied). e.stamp == f.stamp) h)) (are_distinct h) (Decides-list_none (λ (f : Applied). e.stamp == f.stamp) (λ f. e.stamp ≡ f.stamp) (λ f. Decides-eqb e.stamp f.stamp) h) (Decides-are_distinct h)
@@ -64,7 +64,7 @@ Decides-is_history o h =
 
 -- ---- one answer with its note
 
-Decides-names_components : (m : ℕ) (js : List ℕ) → Decides (names_components m js) (AllByRecursion (λ j. j < m) js)
+pub Decides-names_components : (m : ℕ) (js : List ℕ) → Decides (names_components m js) (AllByRecursion (λ j. j < m) js)
 Decides-names_components m js = Decides-list_all (λ j. nat_lt j m) (λ j. j < m) (λ j. Decides-nat_lt j m) js
 
 Decides-claims_pool : (c : Call) → Decides (claims_pool c) (ClaimsPool c)
@@ -106,7 +106,7 @@ stands_at_found None a = Decides-never (λ w. cc)
 stands_at_found (Some e) a =
     Decides-like ((e.port == a.port) && (e.component == a.component) && (e.value == a.value) && (e.stamp == a.stamp)) (λ w. ap (λ (x : Applied). Some x) w) (λ w. cc) (Decides-same_entry e a)
 
-Decides-stands_at : (h : List Applied) (k : ℕ) (a : Applied) → Decides (stands_at h k a) (slice_get h k ≡ Some a)
+pub Decides-stands_at : (h : List Applied) (k : ℕ) (a : Applied) → Decides (stands_at h k a) (slice_get h k ≡ Some a)
 Decides-stands_at h k a = stands_at_found (slice_get h k) a
 
 is_entry_found : (found : Option Applied) (j t : ℕ) → Decides (option_map_or (λ (e : Applied). (e.component == j) && (e.stamp == t)) found false) ((e : Applied) × (found ≡ Some e) × (e.component ≡ j) × (e.stamp ≡ t))

@@ -3,3 +3,5 @@ pub mod Decisions
 pub mod HistoryLemmas
 pub mod NotesLemmas
 pub mod PortLaws
+pub mod StampLaws
+pub mod WalkLaws

@@ -63,10 +63,10 @@ notes_of-below p q (c ∷ cs) w below =
     notes_of-other p c cs (omega arith) ∙ notes_of-below p c.port cs w.1 (omega arith)
 
 -- the call is unfinished, or legal where its port had seen so many entries before
-abbrev CallIsLegal : Opening → List Applied → ℕ → Called → Type 0
+abbrev pub CallIsLegal : Opening → List Applied → ℕ → Called → Type 0
 CallIsLegal o h seen c = IfSome c.finish (λ f. IsLegal o h c.port seen (record { call = c.call; answer = f.answer; note = f.note }))
 
-Decides-call_is_legal : (o : Opening) (h : List Applied) (seen : ℕ) (c : Called) → Decides (call_is_legal o h seen c) (CallIsLegal o h seen c)
+pub Decides-call_is_legal : (o : Opening) (h : List Applied) (seen : ℕ) (c : Called) → Decides (call_is_legal o h seen c) (CallIsLegal o h seen c)
 Decides-call_is_legal o h seen c = finished c.finish
   where
     finished : (f : Option Finish) → Decides (call_is_legal o h seen (record c { finish = f })) (CallIsLegal o h seen (record c { finish = f }))

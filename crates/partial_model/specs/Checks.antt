@@ -116,6 +116,10 @@ abbrev pub notes_are_legal : Opening → List Applied → ℕ → ℕ → List C
 notes_are_legal o h q seen [] = true
 notes_are_legal o h q seen (c ∷ cs) = let before = if c.port == q then seen else 0 in call_is_legal o h before c && notes_are_legal o h c.port (seen_behind before c.finish) cs
 
+-- the places of the entries by port p, from place k on
+abbrev pub places_from : List Applied → ℕ → ℕ → List ℕ
+places_from h p k = places_by p k (drop k h)
+
 -- the place that a call claims as its own entry
 abbrev pub claim_of : Option Finish → List ℕ
 claim_of None = []

@@ -4,9 +4,11 @@
 #![tactic(auto)]
 
 pub mod call;
+mod checker;
 pub mod history;
 pub mod sequence;
 
 pub use call::{Answer, Call, Called, Finish, Note, Refused};
+pub use checker::check_outcome;
 pub use history::{Applied, Opening, stamp_at, value_at};
 pub use sequence::Sequence;

@@ -1,0 +1,301 @@
+//! Whether a call's answer with its note is right.
+
+ghost use Rattle.std.specs.Prelude.{◌≡◌, ◌==◌, ◌&&◌, ◌<◌, ◌≤◌, false, true, nat_le, nat_lt, length, take, drop};
+ghost use Rattle.std.specs.List.{AllByRecursion, list_any};
+ghost use Rattle.std.specs.Option.{option_map_or};
+ghost use Rattle.partial_model.specs.History.{value_of, stamp_of};
+ghost use Rattle.partial_model.specs.Notes.{indices_of, place_of};
+ghost use Rattle.partial_model.specs.Checks.{names_components, claims_pool, claims_slot, may_be_refused, stands_at, is_entry_for, are_collects, hold, shows_stamp, saw_together, is_right, is_refusal, is_legal};
+
+use crate::call::{Answer, Call, Finish, Note, Refused};
+use crate::history::{Applied, Opening, last_entry, value_at};
+
+// Whether each of the components is there.
+fn are_components(components: &[u32], opening: &Opening) -> bool
+    ensures { result ≡ names_components (length opening.now.values) components.now }
+{
+    let count = opening.values.len();
+    components
+        .iter()
+        .all(|component| (*component as usize) < count)
+}
+
+// Whether each component that the call names is there.
+fn names_components(call: &Call, opening: &Opening) -> bool
+    ensures { result ≡ names_components (length opening.now.values) (indices_of call.now) }
+{
+    match call {
+        Call::Scan { components } => are_components(components.as_slice(), opening),
+        Call::Update { component, .. }
+        | Call::Read { component }
+        | Call::UpdateIf { component, .. } => (*component as usize) < opening.values.len(),
+    }
+}
+
+// Whether the call claims words of the pool.
+fn claims_pool(call: &Call) -> bool
+    ensures { result ≡ claims_pool call.now }
+{
+    match call {
+        Call::Update { .. } | Call::UpdateIf { .. } => true,
+        Call::Scan { components } => !components.is_empty(),
+        Call::Read { .. } => false,
+    }
+}
+
+// Whether the call claims a slot.
+fn claims_slot(call: &Call) -> bool
+    ensures { result ≡ claims_slot call.now }
+{
+    match call {
+        Call::Scan { components } => !components.is_empty(),
+        Call::Update { .. } | Call::Read { .. } | Call::UpdateIf { .. } => false,
+    }
+}
+
+// Whether the call may have been refused for this cause.
+fn may_be_refused(opening: &Opening, call: &Call, cause: Refused) -> bool
+    ensures { result ≡ may_be_refused (length opening.now.values) call.now cause }
+{
+    match cause {
+        Refused::Component => !names_components(call, opening),
+        Refused::SlotsSpent => names_components(call, opening) && claims_slot(call),
+        Refused::PoolSpent => names_components(call, opening) && claims_pool(call),
+    }
+}
+
+// Whether this entry stands at the place.
+fn stands_at(history: &[Applied], place: usize, wanted: Applied) -> bool
+    ensures { result ≡ stands_at history.now place wanted }
+{
+    match history.get(place) {
+        None => false,
+        Some(entry) => {
+            entry.port == wanted.port
+                && entry.component == wanted.component
+                && entry.value == wanted.value
+                && entry.stamp == wanted.stamp
+        }
+    }
+}
+
+// Whether the entry at the place is for the component and has the stamp.
+fn is_entry_for(history: &[Applied], place: usize, component: u32, stamp: u64) -> bool
+    ensures { result ≡ is_entry_for history.now place component stamp }
+{
+    match history.get(place) {
+        None => false,
+        Some(entry) => entry.component == component && entry.stamp == stamp,
+    }
+}
+
+// Whether the component has the stamp after these entries.
+fn has_stamp(opening: &Opening, entries: &[Applied], component: u32, stamp: u64) -> bool
+    ensures { result ≡ (stamp_of opening.now entries.now component == stamp) }
+{
+    match last_entry(entries, component) {
+        Some(entry) => entry.stamp == stamp,
+        None => {
+            let first = opening.first;
+            stamp >= first
+                && (stamp - first) % 3 == 0
+                && (stamp - first) / 3 == u64::from(component)
+        }
+    }
+}
+
+// Whether a scan of so many positions makes that many collects.
+fn are_collects(positions: usize, collects: u32, borrowed: Option<u64>) -> bool
+    ensures { result ≡ are_collects positions collects borrowed }
+{
+    if positions == 0 {
+        collects == 0 && borrowed.is_none()
+    } else {
+        collects >= 2
+            && (collects - 2) as usize <= positions
+            && (borrowed.is_none() || collects >= 3)
+    }
+}
+
+// Whether the components hold these values after the entries.
+fn hold(opening: &Opening, entries: &[Applied], components: &[u32], values: &[u64]) -> bool
+    requires { AllByRecursion (λ j. j < length opening.now.values) components.now }
+    ensures { result ≡ hold (value_of opening.now entries.now) components.now values.now }
+{
+    if components.len() != values.len() {
+        return false;
+    }
+    for (position, component) in components.iter().enumerate() {
+        if value_at(opening, entries, entries.len(), *component) != values[position] {
+            return false;
+        }
+    }
+    true
+}
+
+// Whether one of the entries is for one of the components and has the stamp.
+fn shows_stamp(entries: &[Applied], components: &[u32], stamp: u64) -> bool
+    ensures { result ≡ shows_stamp components.now stamp entries.now }
+{
+    entries.iter().any(|entry| entry.stamp == stamp && components.contains(&entry.component))
+}
+
+// Whether a scan of the components saw these values together, after the first `prefix` entries.
+fn saw_together(
+    opening: &Opening,
+    history: &[Applied],
+    components: &[u32],
+    values: &[u64],
+    collects: u32,
+    borrowed: Option<u64>,
+    prefix: usize,
+) -> bool
+    requires { AllByRecursion (λ j. j < length opening.now.values) components.now }
+    ensures { result ≡ saw_together opening.now history.now components.now values.now collects borrowed prefix }
+{
+    prefix <= history.len()
+        && hold(opening, &history[..prefix], components, values)
+        && are_collects(components.len(), collects, borrowed)
+        && match borrowed {
+            None => true,
+            Some(stamp) => shows_stamp(&history[prefix..], components, stamp),
+        }
+}
+
+// Whether a read of the component saw this value and stamp after the first `prefix` entries.
+fn saw(
+    opening: &Opening,
+    history: &[Applied],
+    component: u32,
+    value: u64,
+    stamp: u64,
+    prefix: usize,
+) -> bool
+    requires { component < length opening.now.values }
+    ensures { result ≡ nat_le prefix (length history.now)
+        && (value_of opening.now (take prefix history.now) component == value)
+        && (stamp_of opening.now (take prefix history.now) component == stamp) }
+{
+    prefix <= history.len()
+        && value_at(opening, history, prefix, component) == value
+        && has_stamp(opening, &history[..prefix], component, stamp)
+}
+
+// Whether the answer with its note fits a call of the port, and is true of the history.
+fn is_right(
+    opening: &Opening,
+    history: &[Applied],
+    port: u32,
+    call: &Call,
+    answer: &Answer,
+    note: Note,
+) -> bool
+    ensures { result ≡ is_right opening.now history.now port call.now answer.now note }
+{
+    if !names_components(call, opening) {
+        return false;
+    }
+    match (call, answer, note) {
+        (Call::Update { component, value }, Answer::Applied { stamp }, Note::Wrote(place)) => {
+            stands_at(
+                history,
+                place,
+                Applied {
+                    port,
+                    component: *component,
+                    value: *value,
+                    stamp: *stamp,
+                },
+            )
+        }
+        (Call::Update { component, .. }, Answer::Lost { by }, Note::Lost(place)) => {
+            is_entry_for(history, place, *component, *by)
+        }
+        (
+            Call::Scan { components },
+            Answer::Scanned {
+                values,
+                collects,
+                borrowed,
+            },
+            Note::Saw(prefix),
+        ) => saw_together(
+            opening,
+            history,
+            components.as_slice(),
+            values.as_slice(),
+            *collects,
+            *borrowed,
+            prefix,
+        ),
+        (Call::Read { component }, Answer::Read { value, stamp }, Note::Saw(prefix)) => {
+            saw(opening, history, *component, *value, *stamp, prefix)
+        }
+        (
+            Call::UpdateIf {
+                component,
+                expected,
+                value,
+            },
+            Answer::Applied { stamp },
+            Note::Wrote(place),
+        ) => {
+            stands_at(
+                history,
+                place,
+                Applied {
+                    port,
+                    component: *component,
+                    value: *value,
+                    stamp: *stamp,
+                },
+            ) && has_stamp(opening, &history[..place], *component, *expected)
+        }
+        (
+            Call::UpdateIf {
+                component,
+                expected,
+                ..
+            },
+            Answer::Changed { by },
+            Note::Saw(prefix),
+        ) => {
+            prefix <= history.len()
+                && has_stamp(opening, &history[..prefix], *component, *by)
+                && by != expected
+        }
+        _ => false,
+    }
+}
+
+// Before how many entries the call with this note has its place.
+fn place_of(note: Note) -> usize
+    ensures { result ≡ place_of note }
+{
+    match note {
+        Note::Wrote(place) | Note::Lost(place) => place,
+        Note::Saw(prefix) => prefix,
+    }
+}
+
+/// Whether the finish of a call is legal, where its port had seen the first `seen` entries before.
+pub fn is_legal(
+    opening: &Opening,
+    history: &[Applied],
+    seen: usize,
+    port: u32,
+    call: &Call,
+    finish: &Finish,
+) -> bool
+    ensures { result ≡ is_legal opening.now history.now port seen call.now finish.now.answer finish.now.note }
+{
+    match finish.note {
+        Some(note) => {
+            is_right(opening, history, port, call, &finish.answer, note) && seen <= place_of(note)
+        }
+        None => match &finish.answer {
+            Answer::Refused { cause } => may_be_refused(opening, call, *cause),
+            _ => false,
+        },
+    }
+}
