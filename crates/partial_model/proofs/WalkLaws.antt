@@ -1,7 +1,6 @@
--- What one step of a walk over the entries, or over the calls, leaves to be shown.
-use Rattle.std.proofs.Common.{ℕ, ◌≡◌, ◌≢◌, ◌+◌, ◌<◌, ◌≤◌, ◌==◌, Bool, true, cond, ◌&&◌, List, [], ◌∷◌, length, drop, get_or, sym, ap, ◌∙◌, Option, Some, None, IfSome, arith}
-use Rattle.std.proofs.lemmas.Bool.{eq-eqb, ne_eqb}
-use Rattle.std.proofs.lemmas.List.{drop_more, drop_all}
+-- What one call more leaves of a walk over the calls.
+use Rattle.std.proofs.Common.{ℕ, ◌≡◌, ◌+◌, ◌<◌, ◌≤◌, ◌==◌, Bool, true, cond, ◌&&◌, List, ◌∷◌, length, drop, get_or, sym, ap, ◌∙◌, Option, Some, None, IfSome, arith}
+use Rattle.std.proofs.lemmas.List.{drop_more}
 use Rattle.std.proofs.lemmas.Option.{slice_get_within}
 use Rattle.partial_model.specs.declared.history.Applied.{Applied}
 use Rattle.partial_model.specs.declared.history.Opening.{Opening}
@@ -14,23 +13,8 @@ use Rattle.partial_model.specs.declared.call.Note.TheVariants as note
 use Rattle.partial_model.specs.declared.call.Finish.{Finish}
 use Rattle.partial_model.specs.declared.call.Called.{Called}
 use Rattle.partial_model.specs.Notes.{IsTrueOf, shown_by, seen_after, place_of}
-use Rattle.partial_model.specs.Outcome.{places_by}
-use Rattle.partial_model.specs.Checks.{call_is_legal, seen_behind, notes_are_legal, places_from}
+use Rattle.partial_model.specs.Checks.{call_is_legal, seen_behind, notes_are_legal}
 use Rattle.partial_model.proofs.PortLaws.{CallIsLegal, Decides-call_is_legal}
-
--- ---- the places of a port's entries
-
-places_here : (h : List Applied) (p k : ℕ) (d : Applied) → k < length h → places_from h p k ≡ cond ((get_or h k d).port == p) (k ∷ places_from h p (k + 1)) (places_from h p (k + 1))
-places_here h p k d within = ap (places_by p k) (drop_more h k d within)
-
-pub places_from-own : (h : List Applied) (p k : ℕ) (d : Applied) → k < length h → (get_or h k d).port ≡ p → places_from h p k ≡ k ∷ places_from h p (k + 1)
-places_from-own h p k d within own = places_here h p k d within ∙ ap (λ b. cond b (k ∷ places_from h p (k + 1)) (places_from h p (k + 1))) (eq-eqb _ _ own)
-
-pub places_from-other : (h : List Applied) (p k : ℕ) (d : Applied) → k < length h → (get_or h k d).port ≢ p → places_from h p k ≡ places_from h p (k + 1)
-places_from-other h p k d within other = places_here h p k d within ∙ ap (λ b. cond b (k ∷ places_from h p (k + 1)) (places_from h p (k + 1))) (ne_eqb _ _ other)
-
-pub places_from-past : (h : List Applied) (p k : ℕ) → length h ≤ k → places_from h p k ≡ []
-places_from-past h p k past = ap (places_by p k) (drop_all k h past)
 
 -- ---- what a legal call has seen
 

@@ -1,6 +1,6 @@
 //! Whether a call's answer with its note is right.
 
-ghost use Rattle.std.specs.Prelude.{◌≡◌, ◌==◌, ◌&&◌, ◌<◌, ◌≤◌, false, true, nat_le, nat_lt, length, take, drop};
+ghost use Rattle.std.specs.Prelude.{◌≡◌, ◌==◌, ◌&&◌, ◌<◌, ◌≤◌, false, true, not, nat_le, nat_lt, length, take, drop};
 ghost use Rattle.std.specs.List.{AllByRecursion, list_any};
 ghost use Rattle.std.specs.Option.{option_map_or};
 ghost use Rattle.partial_model.specs.History.{value_of, stamp_of};
@@ -10,14 +10,20 @@ ghost use Rattle.partial_model.specs.Checks.{names_components, claims_pool, clai
 use crate::call::{Answer, Call, Finish, Note, Refused};
 use crate::history::{Applied, Opening, last_entry, value_at};
 
+// Whether the component is there.
+fn is_component(component: u32, opening: &Opening) -> bool
+    ensures { result ≡ nat_lt component (length opening.now.values) }
+{
+    (component as usize) < opening.values.len()
+}
+
 // Whether each of the components is there.
 fn are_components(components: &[u32], opening: &Opening) -> bool
     ensures { result ≡ names_components (length opening.now.values) components.now }
 {
-    let count = opening.values.len();
     components
         .iter()
-        .all(|component| (*component as usize) < count)
+        .all(|component| is_component(*component, opening))
 }
 
 // Whether each component that the call names is there.
@@ -28,7 +34,7 @@ fn names_components(call: &Call, opening: &Opening) -> bool
         Call::Scan { components } => are_components(components.as_slice(), opening),
         Call::Update { component, .. }
         | Call::Read { component }
-        | Call::UpdateIf { component, .. } => (*component as usize) < opening.values.len(),
+        | Call::UpdateIf { component, .. } => is_component(*component, opening),
     }
 }
 
@@ -64,17 +70,25 @@ fn may_be_refused(opening: &Opening, call: &Call, cause: Refused) -> bool
     }
 }
 
-// Whether this entry stands at the place.
-fn stands_at(history: &[Applied], place: usize, wanted: Applied) -> bool
-    ensures { result ≡ stands_at history.now place wanted }
+// Whether the entry at the place is that of the port's update.
+fn wrote(
+    history: &[Applied],
+    place: usize,
+    port: u32,
+    component: u32,
+    value: u64,
+    stamp: u64,
+) -> bool
+    ensures { result ≡ stands_at history.now place
+        (record { port = port; component = component; value = value; stamp = stamp }) }
 {
     match history.get(place) {
         None => false,
         Some(entry) => {
-            entry.port == wanted.port
-                && entry.component == wanted.component
-                && entry.value == wanted.value
-                && entry.stamp == wanted.stamp
+            entry.port == port
+                && entry.component == component
+                && entry.value == value
+                && entry.stamp == stamp
         }
     }
 }
@@ -162,6 +176,40 @@ fn saw_together(
         }
 }
 
+// Whether the answer with its note fits a scan of the components, and is true of the history.
+fn scan_is_right(
+    opening: &Opening,
+    history: &[Applied],
+    components: &[u32],
+    answer: &Answer,
+    note: Note,
+) -> bool
+    ensures { result ≡ is_right opening.now history.now 0 (Call.Scan components.now) answer.now note }
+{
+    match (answer, note) {
+        (
+            Answer::Scanned {
+                values,
+                collects,
+                borrowed,
+            },
+            Note::Saw(prefix),
+        ) => {
+            are_components(components, opening)
+                && saw_together(
+                    opening,
+                    history,
+                    components,
+                    values.as_slice(),
+                    *collects,
+                    *borrowed,
+                    prefix,
+                )
+        }
+        _ => false,
+    }
+}
+
 // Whether a read of the component saw this value and stamp after the first `prefix` entries.
 fn saw(
     opening: &Opening,
@@ -181,6 +229,23 @@ fn saw(
         && has_stamp(opening, &history[..prefix], component, stamp)
 }
 
+// Whether the component has that stamp and not the expected one, after the first `prefix` entries.
+fn saw_change(
+    opening: &Opening,
+    history: &[Applied],
+    component: u32,
+    expected: u64,
+    by: u64,
+    prefix: usize,
+) -> bool
+    ensures { result ≡ nat_le prefix (length history.now)
+        && (stamp_of opening.now (take prefix history.now) component == by) && not (by == expected) }
+{
+    prefix <= history.len()
+        && has_stamp(opening, &history[..prefix], component, by)
+        && by != expected
+}
+
 // Whether the answer with its note fits a call of the port, and is true of the history.
 fn is_right(
     opening: &Opening,
@@ -192,79 +257,43 @@ fn is_right(
 ) -> bool
     ensures { result ≡ is_right opening.now history.now port call.now answer.now note }
 {
-    if !names_components(call, opening) {
-        return false;
-    }
-    match (call, answer, note) {
-        (Call::Update { component, value }, Answer::Applied { stamp }, Note::Wrote(place)) => {
-            stands_at(
-                history,
-                place,
-                Applied {
-                    port,
-                    component: *component,
-                    value: *value,
-                    stamp: *stamp,
-                },
-            )
+    match call {
+        Call::Update { component, value } => match (answer, note) {
+            (Answer::Applied { stamp }, Note::Wrote(place)) => {
+                is_component(*component, opening)
+                    && wrote(history, place, port, *component, *value, *stamp)
+            }
+            (Answer::Lost { by }, Note::Lost(place)) => {
+                is_component(*component, opening) && is_entry_for(history, place, *component, *by)
+            }
+            _ => false,
+        },
+        Call::Scan { components } => {
+            scan_is_right(opening, history, components.as_slice(), answer, note)
         }
-        (Call::Update { component, .. }, Answer::Lost { by }, Note::Lost(place)) => {
-            is_entry_for(history, place, *component, *by)
-        }
-        (
-            Call::Scan { components },
-            Answer::Scanned {
-                values,
-                collects,
-                borrowed,
-            },
-            Note::Saw(prefix),
-        ) => saw_together(
-            opening,
-            history,
-            components.as_slice(),
-            values.as_slice(),
-            *collects,
-            *borrowed,
-            prefix,
-        ),
-        (Call::Read { component }, Answer::Read { value, stamp }, Note::Saw(prefix)) => {
-            saw(opening, history, *component, *value, *stamp, prefix)
-        }
-        (
-            Call::UpdateIf {
-                component,
-                expected,
-                value,
-            },
-            Answer::Applied { stamp },
-            Note::Wrote(place),
-        ) => {
-            stands_at(
-                history,
-                place,
-                Applied {
-                    port,
-                    component: *component,
-                    value: *value,
-                    stamp: *stamp,
-                },
-            ) && has_stamp(opening, &history[..place], *component, *expected)
-        }
-        (
-            Call::UpdateIf {
-                component,
-                expected,
-                ..
-            },
-            Answer::Changed { by },
-            Note::Saw(prefix),
-        ) => {
-            prefix <= history.len()
-                && has_stamp(opening, &history[..prefix], *component, *by)
-                && by != expected
-        }
-        _ => false,
+        Call::Read { component } => match (answer, note) {
+            (Answer::Read { value, stamp }, Note::Saw(prefix)) => {
+                is_component(*component, opening)
+                    && saw(opening, history, *component, *value, *stamp, prefix)
+            }
+            _ => false,
+        },
+        Call::UpdateIf {
+            component,
+            expected,
+            value,
+        } => match (answer, note) {
+            (Answer::Applied { stamp }, Note::Wrote(place)) => {
+                is_component(*component, opening)
+                    && wrote(history, place, port, *component, *value, *stamp)
+                    && has_stamp(opening, &history[..place], *component, *expected)
+            }
+            (Answer::Changed { by }, Note::Saw(prefix)) => {
+                is_component(*component, opening)
+                    && saw_change(opening, history, *component, *expected, *by, prefix)
+            }
+            _ => false,
+        },
     }
 }
 
