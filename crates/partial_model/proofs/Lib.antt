@@ -5,3 +5,4 @@ pub mod NotesLemmas
 pub mod PortLaws
 pub mod StampLaws
 pub mod WalkLaws
+pub mod WorkedRows

@@ -12,3 +12,6 @@ pub use call::{Answer, Call, Called, Finish, Note, Refused};
 pub use checker::check_outcome;
 pub use history::{Applied, Opening, stamp_at, value_at};
 pub use sequence::Sequence;
+
+#[cfg(test)]
+mod tests;
