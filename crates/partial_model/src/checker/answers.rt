@@ -3,7 +3,7 @@
 ghost use Rattle.std.specs.Prelude.{◌≡◌, ◌==◌, ◌&&◌, ◌<◌, ◌≤◌, false, true, not, nat_le, nat_lt, length, take, drop};
 ghost use Rattle.std.specs.List.{AllByRecursion, list_any};
 ghost use Rattle.std.specs.Option.{option_map_or};
-ghost use Rattle.partial_model.specs.History.{value_of, stamp_of};
+ghost use Rattle.partial_model.specs.History.{initial_stamp, value_of, stamp_of};
 ghost use Rattle.partial_model.specs.Notes.{indices_of, place_of};
 ghost use Rattle.partial_model.specs.Checks.{names_components, claims_pool, claims_slot, may_be_refused, stands_at, is_entry_for, are_collects, hold, shows_stamp, saw_together, is_right, is_refusal, is_legal};
 
@@ -103,17 +103,41 @@ fn is_entry_for(history: &[Applied], place: usize, component: u32, stamp: u64) -
     }
 }
 
+// Whether the stamp is the initial one of this component.
+fn is_initial_stamp_of(opening: &Opening, component: u32, stamp: u64) -> bool
+    ensures { result ≡ (initial_stamp opening.now component == stamp) }
+{
+    let first = opening.first;
+    stamp >= first && (stamp - first) % 3 == 0 && (stamp - first) / 3 == u64::from(component)
+}
+
 // Whether the component has the stamp after these entries.
 fn has_stamp(opening: &Opening, entries: &[Applied], component: u32, stamp: u64) -> bool
     ensures { result ≡ (stamp_of opening.now entries.now component == stamp) }
 {
     match last_entry(entries, component) {
         Some(entry) => entry.stamp == stamp,
+        None => is_initial_stamp_of(opening, component, stamp),
+    }
+}
+
+// Whether the component has the value and the stamp after these entries.
+fn has_value_and_stamp(
+    opening: &Opening,
+    entries: &[Applied],
+    component: u32,
+    value: u64,
+    stamp: u64,
+) -> bool
+    requires { component < length opening.now.values }
+    ensures { result ≡ (value_of opening.now entries.now component == value)
+        && (stamp_of opening.now entries.now component == stamp) }
+{
+    match last_entry(entries, component) {
+        Some(entry) => entry.value == value && entry.stamp == stamp,
         None => {
-            let first = opening.first;
-            stamp >= first
-                && (stamp - first) % 3 == 0
-                && (stamp - first) / 3 == u64::from(component)
+            opening.values.as_slice()[component as usize] == value
+                && is_initial_stamp_of(opening, component, stamp)
         }
     }
 }
@@ -225,8 +249,7 @@ fn saw(
         && (stamp_of opening.now (take prefix history.now) component == stamp) }
 {
     prefix <= history.len()
-        && value_at(opening, history, prefix, component) == value
-        && has_stamp(opening, &history[..prefix], component, stamp)
+        && has_value_and_stamp(opening, &history[..prefix], component, value, stamp)
 }
 
 // Whether the component has that stamp and not the expected one, after the first `prefix` entries.
