@@ -55,6 +55,8 @@ for plan in "$top"/plans/*.plan; do
     case_of "$name from a file" 0 replay "$plan"
     cp "$plan" "$room/in"
     case_of "$name from standard input" 0 replay
+    expect "" $'lawful\n' ""
+    case_of "$name checked" 0 check "$plan"
 done
 
 # Each fault.
@@ -74,6 +76,14 @@ refuses line_range 10 "line 4: range" "$head"$'port read 0\nsteps 1*2\n'
 refuses line_extra 10 "line 5: extra" "$head$tail"$'port\n'
 refuses scan_is_no_word_yet 10 "line 3: word" "$head"$'port scan 0\nsteps rest\n'
 
+# A check reads its plan as a replay does.
+expect "$head$tail" $'lawful\n' ""
+case_of check_from_standard_input 0 check
+expect "$head" "" $'partial: refused 10: line 3: end\n'
+case_of check_refuses_a_plan 1 check
+expect "" "" $'partial: refused 11: read fault\n'
+case_of check_of_missing_file 1 check "$room/missing"
+
 # A plan that is longer than a plan may be: 4,194,305 bytes.
 expect "" "" $'partial: refused 10: line 0: size\n'
 head -c 4194305 /dev/zero >"$room/in"
@@ -92,6 +102,7 @@ case_of too_many_words 2 replay one two
 case_of unknown_option 2 replay --fast
 case_of help 2 --help
 case_of help_of_replay 2 replay --help
+case_of too_many_words_to_check 2 check one two
 case_of help_as_word 2 help
 
 # A writer that fails.

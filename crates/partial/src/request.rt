@@ -13,12 +13,14 @@ pub struct Request<'a> {
     pub plan: Option<&'a str>,
 }
 
-/// The words that the program takes: `replay [PLAN]`.
+/// The words that the program takes: `replay [PLAN]` and `check [PLAN]`.
 fn command<'a>(alloc: Global) -> Result<Command<'a>, Error> {
     let replay = Command::new(alloc, "replay").arg(Arg::new(alloc, "plan"))?;
+    let check = Command::new(alloc, "check").arg(Arg::new(alloc, "plan"))?;
     let partial = Command::new(alloc, "partial")
         .subcommand_required(true)
-        .subcommand(replay)?;
+        .subcommand(replay)?
+        .subcommand(check)?;
     Ok(partial)
 }
 
@@ -32,6 +34,10 @@ pub fn request_of(alloc: Global, words: &[String]) -> Result<Request<'_>, Stop> 
     match matches.subcommand() {
         Some(("replay", found)) => Ok(Request {
             verb: Verb::Replay,
+            plan: found.get_str("plan"),
+        }),
+        Some(("check", found)) => Ok(Request {
+            verb: Verb::Check,
             plan: found.get_str("plan"),
         }),
         _ => Err(Stop::Usage),

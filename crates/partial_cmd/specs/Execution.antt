@@ -1,5 +1,5 @@
 -- What a command answers, and what it writes.
-use Rattle.std.specs.Prelude.{ℕ, ◌≡◌, List, take, Option, None, IfSome, Result, Ok, Err}
+use Rattle.std.specs.Prelude.{ℕ, ◌≡◌, List, [], ◌∷◌, ◌++◌, take, codes, Option, None, IfSome, Result, Ok, Err}
 use Rattle.std.specs.Io.KnownBytes.{Appends}
 use Rattle.partial_text.specs.declared.fault.Cause.{Cause}
 use Rattle.partial_text.specs.declared.fault.PlanError.{PlanError}
@@ -12,7 +12,10 @@ use Rattle.partial_text.specs.OutcomeText.{outcome_text}
 use Rattle.partial_replay.specs.Replayed.{IsReplayOf}
 use Rattle.partial_cmd.specs.declared.fault.Fault.{Fault}
 use Rattle.partial_cmd.specs.declared.fault.Fault.TheVariants as fault
+use Rattle.partial_cmd.specs.declared.command.Verb.{Verb}
+use Rattle.partial_cmd.specs.declared.command.Verb.TheVariants as verb
 use Rattle.partial_cmd.specs.declared.command.Verdict.{Verdict}
+use Rattle.partial_cmd.specs.declared.command.Verdict.TheVariants as verdict
 
 -- the number of a refusal
 abbrev pub code_of : Fault → ℕ
@@ -45,9 +48,15 @@ IsJudged (Err (fault.Plan e)) judged = text.Fails e judged
 IsJudged (Err (fault.Replay e)) judged = IsRead judged
 IsJudged (Err (fault.Outcome e)) judged = IsRead judged
 
--- the one text of an outcome
-abbrev pub text_of : Outcome → List ℕ
-text_of outcome = outcome_text outcome.opening outcome.history.items outcome.calls.items outcome.steps
+-- how a command ends that isn't refused: every replay is lawful
+abbrev pub verdict_of : Verb → Verdict
+verdict_of verb.Replay = verdict.Done
+verdict_of verb.Check = verdict.Lawful
+
+-- the one text that a command writes of an outcome
+abbrev pub text_of : Verb → Outcome → List ℕ
+text_of verb.Replay outcome = outcome_text outcome.opening outcome.history.items outcome.calls.items outcome.steps
+text_of verb.Check outcome = codes "lawful" ++ 10 ∷ []
 
 -- the text is that of the plan, and the outcome is one of its replay
 pub record IsReplayed (text : Option (List ℕ)) (p : PlanView) (outcome : Outcome) : Type 0 where
@@ -55,12 +64,12 @@ pub record IsReplayed (text : Option (List ℕ)) (p : PlanView) (outcome : Outco
   pub read : IfSome text (λ bytes. bytes ≡ plan_text p)
   pub replayed : IsReplayOf p outcome
 
--- the text of a plan's replay was written
-abbrev pub WritesOutcome : Option (List ℕ) → Option (List ℕ) → Option (List ℕ) → Type 0
-WritesOutcome text before after =
-    (p : PlanView) × (outcome : Outcome) × IsReplayed text p outcome × Appends before after (text_of outcome)
+-- what the verb asks for was written of a replay of the plan
+abbrev pub WritesOutcome : Verb → Option (List ℕ) → Option (List ℕ) → Option (List ℕ) → Type 0
+WritesOutcome verb text before after =
+    (p : PlanView) × (outcome : Outcome) × IsReplayed text p outcome × Appends before after (text_of verb outcome)
 
 -- a part of such a text was written, from its front
-abbrev pub WritesPart : Option (List ℕ) → Option (List ℕ) → Option (List ℕ) → Type 0
-WritesPart text before after =
-    (p : PlanView) × (outcome : Outcome) × (n : ℕ) × IsReplayed text p outcome × Appends before after (take n (text_of outcome))
+abbrev pub WritesPart : Verb → Option (List ℕ) → Option (List ℕ) → Option (List ℕ) → Type 0
+WritesPart verb text before after =
+    (p : PlanView) × (outcome : Outcome) × (n : ℕ) × IsReplayed text p outcome × Appends before after (take n (text_of verb outcome))

@@ -10,10 +10,15 @@ use crate::{Fault, Verb, Verdict, execute};
 use partial_replay::Device;
 use std::alloc::Global;
 
+/// How the command ends, and what it writes, where it isn't refused.
+fn executed(alloc: Global, verb: Verb, plan: &[u8]) -> Result<(Verdict, Vec<u8>), Fault> {
+    let mut writer = Device::new(Vec::new(alloc));
+    let verdict = execute(alloc, verb, &mut Device::new(plan), &mut writer)?;
+    Ok((verdict, writer.into_inner()))
+}
+
 /// What a replay of the plan writes, where it is done.
 fn outcome_of(alloc: Global, plan: &[u8]) -> Result<Vec<u8>, Fault> {
-    let mut writer = Device::new(Vec::new(alloc));
-    match execute(alloc, Verb::Replay, &mut Device::new(plan), &mut writer)? {
-        Verdict::Done => Ok(writer.into_inner()),
-    }
+    let (_, written) = executed(alloc, Verb::Replay, plan)?;
+    Ok(written)
 }

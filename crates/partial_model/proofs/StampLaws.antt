@@ -1,82 +1,59 @@
--- A stamp of a component never returns, since the stamps of a history are distinct.
-use Rattle.std.proofs.Common.{ℕ, zero, suc, ◌≡◌, ◌≢◌, ◌<◌, ◌≤◌, List, [], ◌∷◌, length, map, take, get_or, Option, Some, None, slice_get, refl, sym, ◌∙◌, ap, subst, inl, inr, arith}
-use Rattle.std.specs.List.{AllByRecursion}
-use Rattle.std.specs.Option.{option_map_or}
-use Rattle.std.proofs.lemmas.Bool.{cases_lt}
+-- Stamps that are compared with those before them.
+use Rattle.std.proofs.Common.{ℕ, zero, suc, ◌≡◌, ◌≢◌, ◌+◌, ◌<◌, ◌≤◌, ◌==◌, inl, inr, Bool, true, false, not, ◌&&◌, List, [], ◌∷◌, ◌++◌, length, take, get_or, refl, sym, ap, ◌∙◌, subst, arith}
+use Rattle.std.specs.List.{AllByRecursion, list_any}
+use Rattle.std.proofs.lemmas.Bool.{true≢false, or_cases}
+use Rattle.std.proofs.lemmas.List.{take_more, take_all}
+use Rattle.std.proofs.lemmas.Map.Keys.{any_passes_from_place}
+use Rattle.std.proofs.lemmas.Option.{slice_get-get_or}
+use Rattle.std.proofs.lemmas.Bool.Decides.{Decides-eqb}
 use Rattle.partial_model.specs.declared.history.Applied.{Applied}
-use Rattle.partial_model.specs.declared.history.Opening.{Opening}
-use Rattle.partial_model.specs.History.{IsHistory, HaveDistinctStamps, last_entry, initial_stamp, value_of, stamp_of}
-use Rattle.partial_model.specs.Stamps.{HasThen, StampsNeverReturn, Twice, EqualCollectsStandTogether}
-use Rattle.partial_model.proofs.HistoryLemmas.{last_at, stamp_all}
+use Rattle.partial_model.specs.History.{HaveDistinctStamps}
+use Rattle.partial_model.specs.Checks.{are_distinct}
+use Rattle.partial_model.proofs.CheckLaws.{Decides-are_distinct}
+use Rattle.partial_model.proofs.Decisions.{Decides-list_none}
+use Rattle.partial_model.proofs.NotesLemmas.{AllByRecursion-push, AllByRecursion-weaker, distinct_push}
 
--- a prefix of a prefix
-take_within : {A : Type 0} (n b : ℕ) (h : List A) → n ≤ b → take n (take b h) ≡ take n h
-take_within zero b h le = refl
-take_within (suc n) zero h le = absurd (omega (arith, le))
-take_within (suc n) (suc b) [] le = refl
-take_within (suc n) (suc b) (x ∷ h) le = ap (λ l. x ∷ l) (take_within n b h (omega (arith, le)))
+-- the first i entries have distinct stamps, of which none is above g
+pub record AreDistinctUpTo (h : List Applied) (i g : ℕ) : Type 0 where
+  pub distinct : HaveDistinctStamps (take i h)
+  pub below : AllByRecursion (λ e. e.stamp ≤ g) (take i h)
 
--- an element of a prefix stands in the whole, at that place
-in_whole : {A : Type 0} (n : ℕ) (h : List A) (k : ℕ) (e : A) → slice_get (take n h) k ≡ Some e → (k < n) × (slice_get h k ≡ Some e)
-in_whole zero h k e s = let bad : None ≡ Some e = s in cc
-in_whole (suc n) [] k e s = let bad : None ≡ Some e = s in cc
-in_whole (suc n) (x ∷ h) zero e s = (omega arith, s)
-in_whole (suc n) (x ∷ h) (suc k) e s = let w = in_whole n h k e s in let below = w.0 in (omega (arith, below), w.1)
+-- a stamp above all before it is new
+pub above_is_new : (h : List Applied) (i g : ℕ) (d : Applied) → AreDistinctUpTo h i g → i < length h → g < (get_or h i d).stamp → AreDistinctUpTo h (i + 1) (get_or h i d).stamp
+above_is_new h i g d w within above =
+    let e : Applied = get_or h i d in
+    let more : take (i + 1) h ≡ take i h ++ e ∷ [] = take_more h i d within in
+    record {
+      distinct = subst HaveDistinctStamps (sym more) (distinct_push (take i h) e w.distinct (AllByRecursion-weaker (λ (f : Applied). f.stamp ≤ g) (λ f. f.stamp ≢ e.stamp) (λ f le. omega arith) (take i h) w.below));
+      below = subst (AllByRecursion (λ (f : Applied). f.stamp ≤ e.stamp)) (sym more) (AllByRecursion-push (λ (f : Applied). f.stamp ≤ e.stamp) (take i h) e (AllByRecursion-weaker (λ (f : Applied). f.stamp ≤ g) (λ f. f.stamp ≤ e.stamp) (λ f le. omega arith) (take i h) w.below) (omega arith));
+    }
 
-found : {A : Type 0} (P : A → Type 0) (h : List A) (k : ℕ) (e : A) → AllByRecursion P h → slice_get h k ≡ Some e → P e
-found P [] k e w s = let bad : None ≡ Some e = s in cc
-found P (x ∷ h) zero e w s = let is : x ≡ e = cc in subst P is w.0
-found P (x ∷ h) (suc k) e w s = found P h k e w.1 s
+-- another stamp is new where no entry before has it
+pub unseen_is_new : (h : List Applied) (i g : ℕ) (d : Applied) → AreDistinctUpTo h i g → i < length h → (get_or h i d).stamp ≤ g → list_any (λ (f : Applied). f.stamp == (get_or h i d).stamp) (take i h) ≡ false → AreDistinctUpTo h (i + 1) g
+unseen_is_new h i g d w within le unseen =
+    let e : Applied = get_or h i d in
+    let more : take (i + 1) h ≡ take i h ++ e ∷ [] = take_more h i d within in
+    let new : AllByRecursion (λ (f : Applied). f.stamp ≢ e.stamp) (take i h) = (Decides-list_none (λ (f : Applied). f.stamp == e.stamp) (λ f. f.stamp ≡ e.stamp) (λ f. Decides-eqb f.stamp e.stamp) (take i h)).0 (ap not unseen) in
+    record {
+      distinct = subst HaveDistinctStamps (sym more) (distinct_push (take i h) e w.distinct new);
+      below = subst (AllByRecursion (λ (f : Applied). f.stamp ≤ g)) (sym more) (AllByRecursion-push (λ (f : Applied). f.stamp ≤ g) (take i h) e w.below le);
+    }
 
-each : {A : Type 0} (P : A → Type 0) (h : List A) → ((k : ℕ) (e : A) → slice_get h k ≡ Some e → P e) → AllByRecursion P h
-each P [] f = tt
-each P (x ∷ h) f = (f 0 x refl, each P h (λ k e s. f (suc k) e s))
+and_false : (b : Bool) → (b && false) ≡ false
+and_false true = refl
+and_false false = refl
 
--- entries at two places have two stamps
-distinct_at : (h : List Applied) (k q : ℕ) (e f : Applied) → HaveDistinctStamps h → slice_get h k ≡ Some e → slice_get h q ≡ Some f → k < q → e.stamp ≢ f.stamp
-distinct_at [] k q e f w s t less = let bad : None ≡ Some e = s in cc
-distinct_at (x ∷ h) k zero e f w s t less = absurd (omega (arith, less))
-distinct_at (x ∷ h) zero (suc q) e f w s t less = let is : x ≡ e = cc in subst (λ (d : Applied). d.stamp ≢ f.stamp) is (found (λ (g : Applied). x.stamp ≢ g.stamp) h q f w.0 t)
-distinct_at (x ∷ h) (suc k) (suc q) e f w s t less = distinct_at h k q e f w.1 s t (omega (arith, less))
-
--- the stamp after the first a entries is none of an entry behind them
-stamp_before : (o : Opening) (h : List Applied) (j a q : ℕ) (f : Applied) → IsHistory o h → j < length o.values → slice_get h q ≡ Some f → a ≤ q → stamp_of o (take a h) j ≢ f.stamp
-stamp_before o h j a q f w below t from =
-    stamp_all (λ (s : ℕ). s ≢ f.stamp) o j (take a h)
-    (each (λ (e : Applied). e.stamp ≢ f.stamp) (take a h) (λ k e s. let at = in_whole a h k e s in let less = at.0 in distinct_at h k q e f w.distinct at.1 t (omega (arith, less, from))))
-    (λ same. found (λ (e : Applied). (i : ℕ) → i < length o.values → e.stamp ≢ initial_stamp o i) h q f w.not_initial t j below (sym same))
-
--- what the last entry tells of the stamp and of the value
-stamp_told : (o : Opening) (h : List Applied) (j : ℕ) (f : Option Applied) → last_entry j h ≡ f → stamp_of o h j ≡ option_map_or (λ (x : Applied). x.stamp) f (initial_stamp o j)
-stamp_told o h j f e = ap (λ (g : Option Applied). option_map_or (λ (x : Applied). x.stamp) g (initial_stamp o j)) e
-
-value_told : (o : Opening) (h : List Applied) (j : ℕ) (f : Option Applied) → last_entry j h ≡ f → value_of o h j ≡ option_map_or (λ (x : Applied). x.value) f (get_or o.values j 0)
-value_told o h j f e = ap (λ (g : Option Applied). option_map_or (λ (x : Applied). x.value) g (get_or o.values j 0)) e
-
--- the same last entry at two lengths
-same_last : (o : Opening) (h : List Applied) (j a n : ℕ) (f : Option Applied) → last_entry j (take a h) ≡ f → last_entry j (take n h) ≡ f → HasThen o h j n (stamp_of o (take a h) j) (value_of o (take a h) j)
-same_last o h j a n f at_a at_n =
-    (stamp_told o (take n h) j f at_n ∙ sym (stamp_told o (take a h) j f at_a), value_told o (take n h) j f at_n ∙ sym (value_told o (take a h) j f at_a))
-
-pub stamps_never_return : StampsNeverReturn
-stamps_never_return o h j a b n w below an nb same =
-    let to_a : take a (take b h) ≡ take a h = take_within a b h (omega (arith, an, nb)) in
-    let to_n : take n (take b h) ≡ take n h = take_within n b h nb in
-    let to_b : take b (take b h) ≡ take b h = take_within b b h (omega arith) in
-    elim (last_at None j (take b h)) [
-      | inl all ↦ same_last o h j a n None (ap (last_entry j) (sym to_a) ∙ all a) (ap (last_entry j) (sym to_n) ∙ all n)
-      | inr l ↦
-          let at = in_whole b h l.place l.entry l.stands in
-          let inside = at.0 in
-          elim (cases_lt l.place a) [
-            | inl before ↦ same_last o h j a n (Some l.entry) (ap (last_entry j) (sym to_a) ∙ l.from a before) (ap (last_entry j) (sym to_n) ∙ l.from n (omega (arith, before, an)))
-            | inr from ↦ absurd (stamp_before o h j a l.place l.entry w below at.1 from (same ∙ stamp_told o (take b h) j (Some l.entry) (ap (last_entry j) (sym to_b) ∙ l.from b inside)))
-          ]
+-- a stamp that an entry before has is doubled
+pub seen_is_doubled : (h : List Applied) (i : ℕ) (d : Applied) → i < length h → list_any (λ (f : Applied). f.stamp == (get_or h i d).stamp) (take i h) ≡ true → are_distinct h ≡ false
+seen_is_doubled [] i d within seen = absurd (omega arith)
+seen_is_doubled (x ∷ h) zero d within seen = absurd (true≢false (sym seen))
+seen_is_doubled (x ∷ h) (suc i) d within seen =
+    let s : ℕ = (get_or h i d).stamp in
+    let here : i < length h = omega arith in
+    elim (or_cases (x.stamp == s) (list_any (λ (f : Applied). f.stamp == s) (take i h)) seen) [
+      | inl first ↦ ap (λ b. not b && are_distinct h) (any_passes_from_place (λ (f : Applied). x.stamp == f.stamp) h i (get_or h i d) (slice_get-get_or h i d here) first)
+      | inr later ↦ ap (λ b. not (list_any (λ (f : Applied). x.stamp == f.stamp) h) && b) (seen_is_doubled h i d here later) ∙ and_false (not (list_any (λ (f : Applied). x.stamp == f.stamp) h))
     ]
 
-pub equal_collects_stand_together : EqualCollectsStandTogether
-equal_collects_stand_together o h n [] w all = refl
-equal_collects_stand_together o h n (l ∷ ls) w all =
-    let r = all.0 in
-    let then = stamps_never_return o h l.component l.first l.second n w r.component r.before r.behind (r.first ∙ sym r.second) in
-    ap (λ s. s ∷ map (λ (t : Twice). t.stamp) ls) (sym r.first ∙ sym then.0) ∙ ap (λ (m : List ℕ). stamp_of o (take n h) l.component ∷ m) (equal_collects_stand_together o h n ls w all.1)
+pub all_are_distinct : (h : List Applied) (i g : ℕ) → AreDistinctUpTo h i g → length h ≤ i → are_distinct h ≡ true
+all_are_distinct h i g w over = (Decides-are_distinct h).1 (subst HaveDistinctStamps (take_all i h over) w.distinct)

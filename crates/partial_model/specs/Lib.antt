@@ -1,3 +1,4 @@
+pub mod Checks
 pub mod History
 pub mod Stamps
 pub mod Notes

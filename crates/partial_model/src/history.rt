@@ -28,7 +28,7 @@ pub struct Applied {
 }
 
 // The last entry for the component, sought backwards.
-fn last_entry(history: &[Applied], component: u32) -> Option<Applied>
+pub(crate) fn last_entry(history: &[Applied], component: u32) -> Option<Applied>
     ensures { result ≡ last_entry component history.now }
 {
     for index in (0..history.len()).rev() {

@@ -1,14 +1,19 @@
 //! The plain data of a partial snapshot object: the history of applied updates, the calls with their
 //! answers and notes, and the look-ups in a history. The definitions in `specs/` say when a history
-//! and a list of calls are a legal outcome.
+//! and a list of calls are a legal outcome, and `check_outcome` decides it.
 #![tactic(auto)]
 
 pub mod call;
+mod checker;
 pub mod history;
 pub mod law;
 pub mod sequence;
 
 pub use call::{Answer, Call, Called, Finish, Note, Refused};
+pub use checker::check_outcome;
 pub use history::{Applied, Opening, stamp_at, value_at};
 pub use law::{equal_collects_stand_together, stamps_never_return};
 pub use sequence::Sequence;
+
+#[cfg(test)]
+mod tests;

@@ -81,6 +81,23 @@ fn failing_reader(rt: HostRuntime) -> Result<(), Fail> {
     Ok(())
 }
 
+// A check writes its one line, or a part of it from the front.
+#[test]
+fn failing_writer_of_a_verdict(rt: HostRuntime) -> Result<(), Fail> {
+    let (_, plan, _) = ROWS[0];
+    let line = b"lawful\n";
+    for room in 0..line.len() {
+        let mut writer = filled_to(rt.alloc(), room, false);
+        let mut reader = Device::new(plan);
+        let given = execute(rt.alloc(), Verb::Check, &mut reader, &mut writer);
+        let fault = given.err().ok_or("a refusal")?;
+        assert_eq!(rt; fault.code(), 12, "after {room} bytes");
+        let taken = writer.into_inner().taken;
+        assert_eq!(rt; taken.as_slice(), &line[..room]);
+    }
+    Ok(())
+}
+
 #[test]
 fn failing_writer(rt: HostRuntime) -> Result<(), Fail> {
     let (_, plan, expected) = ROWS[0];

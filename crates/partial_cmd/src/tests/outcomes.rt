@@ -1,14 +1,26 @@
 //! The texts of outcomes.
 
-use super::outcome_of;
 use super::rows::ROWS;
+use super::{executed, outcome_of};
+use crate::{Verb, Verdict};
 use std::test::Fail;
 
 #[test]
 fn worked_rows(rt: HostRuntime) -> Result<(), Fail> {
     for (name, plan, expected) in ROWS {
-        let written = outcome_of(rt.alloc(), plan)?;
+        let (verdict, written) = executed(rt.alloc(), Verb::Replay, plan)?;
+        assert_eq!(rt; verdict, Verdict::Done, "{name}");
         assert_eq!(rt; written.as_slice(), expected, "{name}");
+    }
+    Ok(())
+}
+
+#[test]
+fn worked_rows_are_lawful(rt: HostRuntime) -> Result<(), Fail> {
+    for (name, plan, _) in ROWS {
+        let (verdict, written) = executed(rt.alloc(), Verb::Check, plan)?;
+        assert_eq!(rt; verdict, Verdict::Lawful, "{name}");
+        assert_eq!(rt; written.as_slice(), b"lawful\n".as_slice(), "{name}");
     }
     Ok(())
 }

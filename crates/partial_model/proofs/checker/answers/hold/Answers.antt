@@ -1,0 +1,18 @@
+use Rattle.std.proofs.Common.{ℕ, ◌≡◌, ◌≢◌, ◌==◌, Bool, true, false, ◌&&◌, List, [], ◌∷◌, length, refl, sym, ap, ◌∙◌, arith}
+use Rattle.partial_model.specs.History.{value_of}
+use Rattle.partial_model.specs.Checks.{hold}
+use Rattle.partial_model.proofs.checker.answers.hold.Goals as goal
+
+and_false : (b : Bool) → (b && false) ≡ false
+and_false true = refl
+and_false false = refl
+
+-- lists of two lengths hold no values
+hold-lengths : (value : ℕ → ℕ) (js vs : List ℕ) → length js ≢ length vs → hold value js vs ≡ false
+hold-lengths value [] [] other = absurd (other refl)
+hold-lengths value [] (v ∷ vs) other = refl
+hold-lengths value (j ∷ js) [] other = refl
+hold-lengths value (j ∷ js) (v ∷ vs) other = ap (λ b. (value j == v) && b) (hold-lengths value js vs (λ same. other (omega arith))) ∙ and_false (value j == v)
+
+pub returns-then-components-values : goal.returns-then-components-values
+returns-then-components-values c = sym (hold-lengths (value_of c.args.opening.now c.args.entries.now) c.args.components.now c.args.values.now c.if-components-values.true)

@@ -1,0 +1,40 @@
+//! The slow checker: whether a history and a list of calls are a legal outcome.
+
+ghost use Rattle.std.specs.Prelude.{◌≡◌};
+ghost use Rattle.std.specs.Bool.{Decides};
+ghost use Rattle.partial_model.specs.Outcome.{LegalOutcome};
+ghost use Rattle.partial_model.specs.Checks.{is_legal_outcome};
+
+mod answers;
+mod claims;
+mod entries;
+mod notes;
+mod times;
+
+use crate::call::Called;
+use crate::history::{Applied, Opening};
+
+/// Whether the history and the calls are a legal outcome, for every list of entries and of calls.
+///
+/// It is false where an entry's component isn't one of the opening, or a stamp is doubled or an initial
+/// one; where the calls aren't listed by rising port, and those of a port by number from 0 without gaps;
+/// where a call that isn't its port's last is unfinished; where an answer isn't right at the place that
+/// its note names, or that place lies outside the call; and where an entry isn't claimed by exactly one
+/// call, in the order of its port's calls.
+///
+/// It takes no memory. For each port that has calls it walks the history once.
+pub fn check_outcome(opening: &Opening, history: &[Applied], calls: &[Called]) -> bool
+    ensures { Decides result (LegalOutcome opening.now history.now calls.now) }
+{
+    passes(opening, history, calls)
+}
+
+// The tests of all clauses, each of which may take for granted that those before it passed.
+fn passes(opening: &Opening, history: &[Applied], calls: &[Called]) -> bool
+    ensures { result ≡ is_legal_outcome opening.now history.now calls.now }
+{
+    entries::is_history(opening, history)
+        && times::are_in_time(history.len(), calls)
+        && notes::notes_are_legal(opening, history, calls)
+        && claims::claim_all(history, calls)
+}
