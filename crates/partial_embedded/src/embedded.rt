@@ -98,21 +98,24 @@ impl Embedded {
     pub fn collects(&self) -> u32
         ensures { result ≡ self.now.collects }
     {
-        self.collects
+        let Embedded { collects, .. } = self;
+        *collects
     }
 
     /// The stamp of the record whose view is borrowed, if one is.
     pub fn borrowed(&self) -> Option<u64>
         ensures { result ≡ self.now.borrowed }
     {
-        self.borrowed
+        let Embedded { borrowed, .. } = self;
+        *borrowed
     }
 
     /// The reference of the borrowed view: 0 where it is the empty one, or none is borrowed.
     pub fn view(&self) -> u64
         ensures { result ≡ self.now.view }
     {
-        self.view
+        let Embedded { view, .. } = self;
+        *view
     }
 
     /// Takes the answer of the step that was due, with the buffers and the positions of this scan. Once
@@ -201,6 +204,41 @@ impl Embedded {
         } else {
             Stage::Len { at: x }
         };
+    }
+}
+
+#[cfg(test)]
+impl Embedded {
+    ghost use Rattle.std.specs.Prelude.{IsTrue, ◌↔◌, ◌≤◌};
+    ghost use Rattle.partial_words.specs.Layout.{pool_base, pool_end};
+    ghost use Rattle.partial_embedded.specs.Embedded.{IsPossibleAt};
+
+    // Whether the number may answer the step that is due.
+    pub(crate) fn may_answer(&self, x: u64) -> bool
+        ensures { IsTrue result → IsPossibleAt self.now.sizes self.now.stage x }
+    {
+        match self.stage {
+            Stage::Collect { .. } => {
+                self.is_pool_word(x) && x + 3 <= u64::from(self.sizes.pool_end())
+            }
+            Stage::View { .. } => x == 0 || self.is_pool_word(x),
+            Stage::Len { at } => {
+                self.is_pool_word(at)
+                    && x <= u64::from(self.sizes.m())
+                    && at + 1 + 2 * x <= u64::from(self.sizes.pool_end())
+            }
+            Stage::Index { .. } => x < u64::from(self.sizes.m()),
+            Stage::PairValue { .. } => true,
+            Stage::Value { .. } => true,
+            Stage::Done => false,
+        }
+    }
+
+    // Whether the number is that of a pool word.
+    fn is_pool_word(&self, x: u64) -> bool
+        ensures { IsTrue result ↔ ((pool_base self.now.sizes ≤ x) × (x < pool_end self.now.sizes)) }
+    {
+        u64::from(self.sizes.pool_base()) <= x && x < u64::from(self.sizes.pool_end())
     }
 }
 

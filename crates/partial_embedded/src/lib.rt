@@ -9,3 +9,6 @@ pub mod rows;
 
 pub use embedded::Embedded;
 pub use rows::Rows;
+
+#[cfg(test)]
+mod tests;

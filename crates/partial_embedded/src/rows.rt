@@ -79,6 +79,7 @@ impl Rows {
         requires { component < length self.now.values }
         ensures { result ≡ slice_index self.now.values component }
     {
-        self.values[component as usize]
+        let Rows { values, .. } = self;
+        values[component as usize]
     }
 }
