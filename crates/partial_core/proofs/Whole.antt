@@ -14,7 +14,7 @@ use Rattle.partial_core.specs.declared.stage.Stage.TheVariants.{Idle, ReadBegun,
 use Rattle.partial_core.specs.declared.stage.Reply.TheVariants as reply
 use Rattle.partial_core.specs.Machine.{CoreState, at_stage, advance, advance_at, step_of, step_at, expects, fits_pool, spent, IsStage, IsPossibleAt}
 use Rattle.partial_core.specs.Views.{Block, AreApart, Joined, Covers, HasFreshView, IsWithin, IsApartFrom}
-use Rattle.partial_core.specs.Lawful.{IsEntry, Part, Kept, Lawful, IsWithoutScans, MayBeginAt, IsTied, IsOwn as IsOwnBlock, Own as OwnBlock, IsKnown, AreKept, IsStampThen, IsLoaded, IsStillTrue, AreStillTrue, IfJoined, HaveOtherSlots, announcements, blocks_in, block_at, joined_in, EachTwo, CoversAll, WouldBeLawful, IsClaim, Claimed, due_at, own_at, own_of, block_of, unpublished, core_of}
+use Rattle.partial_core.specs.Lawful.{IsEntry, others_of, port_of, Part, Kept, Lawful, IsWithoutScans, MayBeginAt, IsTied, IsOwn as IsOwnBlock, Own as OwnBlock, IsKnown, AreKept, IsStampThen, IsLoaded, IsStillTrue, AreStillTrue, IfJoined, HaveOtherSlots, announcements, blocks_in, block_at, joined_in, EachTwo, CoversAll, WouldBeLawful, IsClaim, Claimed, due_at, own_at, own_of, block_of, unpublished, core_of}
 use Rattle.partial_core.proofs.Base.{Base, IsUnmarked, IsPlain, IsInRecord, IsLoadOf, AreLoaded, Own, IsOwn, IsTied as HasRecord, HaveOtherBlocks as HaveOtherRecords, AreApart as AreThreeApart, own_at as record_of_stage}
 use Rattle.partial_core.proofs.ListLemmas.{all_weaker, all_with, all_append, all_map, all_unmap, all_swap, two_append, two_front, two_back, two_across, two_map, two_unmap, map_same}
 use Rattle.partial_core.proofs.PartLemmas.{stage_at, begin_stage, stage_known, sizes_led}
@@ -243,13 +243,25 @@ own_apart z words log n (StoringRecord c old at k) inside w = word_apart z words
 own_apart z words log n (Exchanging c old at) inside w = word_apart z words log n (record { at = at; block = record_block old c.value 0 []; stored = 3 }) w inside
 own_apart z words log n _ inside w = tt
 
+-- what holds of each part holds of each other port's
+all_others : (P : Part → Type 0) (p : ℕ) (xs : List Part) → AllByRecursion P xs → AllByRecursion P (others_of p xs)
+all_others P p [] w = tt
+all_others P p (x ∷ xs) w = chosen (port_of x == p) (all_others P p xs w.1)
+  where
+    chosen : (b : Bool) → AllByRecursion P (others_of p xs) → AllByRecursion P (cond b (others_of p xs) (x ∷ others_of p xs))
+    chosen true rest = rest
+    chosen false rest = (w.0, rest)
+
 no_claim : {A : Type 0} (P : A → Type 0) (f : Option A) → f ≡ None → IfSome f P
 no_claim P f e = subst (λ (g : Option _). IfSome g P) (sym e) tt
 
 module _ (z : Layout) (o : Opening) (words : List ℕ) (parts : List Part) (log : List Applied) (w : Base z o words parts log) where
   -- no port is joined
+  nobody_of : (xs : List Part) → AllByRecursion (λ x. x.claimed ≡ None) xs → (P : ℕ → Joined → Type 0) → AllByRecursion (λ x. IfJoined x P) xs
+  nobody_of xs none P = all_weaker (λ (x : Part). x.claimed ≡ None) (λ x. IfJoined x P) (λ x e. no_claim (λ (c : Claimed). IfSome c.joined (P c.slot)) x.claimed e) xs none
+
   nobody : (P : ℕ → Joined → Type 0) → AllByRecursion (λ x. IfJoined x P) parts
-  nobody P = all_weaker (λ (x : Part). x.claimed ≡ None) (λ x. IfJoined x P) (λ x e. no_claim (λ (c : Claimed). IfSome c.joined (P c.slot)) x.claimed e) parts w.unjoined
+  nobody P = nobody_of parts w.unjoined P
 
   apart_from : (n : ℕ) → IsInRecord z log n → IsApartFrom (unpublished parts) (record { at = n; size = 1 })
   apart_from n inside = all_unpublished (AreApart (record { at = n; size = 1 })) parts (all_weaker (HasRecord z words log) (λ x. IfSome (own_of x) (λ b. AreApart (record { at = n; size = 1 }) (block_of b))) (λ x t. own_apart z words log n (core_of x).stage inside t.own) parts w.tied)
@@ -289,20 +301,20 @@ module _ (z : Layout) (o : Opening) (words : List ℕ) (parts : List Part) (log 
       )
 
   -- a record with the empty view, whose record before is within the prefix
-  plain_fresh : (k stamp : ℕ) → IsPlain o words log k stamp → HasFreshView z o words (unpublished parts) log k stamp
-  plain_fresh k stamp p = record { pairs = []; shown = inl (p.view, refl); prefix = k; contains = p.prev; without = omega arith; values = tt }
+  plain_fresh : (blocks : List Block) (k stamp : ℕ) → IsPlain o words log k stamp → HasFreshView z o words blocks log k stamp
+  plain_fresh blocks k stamp p = record { pairs = []; shown = inl (p.view, refl); prefix = k; contains = p.prev; without = omega arith; values = tt }
 
   covers_all : (stamp : ℕ) → CoversAll z words parts log stamp
   covers_all stamp = nobody (λ l j. Covers z words (unpublished parts) log stamp j)
 
-  due_lawful : (s : Stage) → IsStage z s → IfSome (record_of_stage s) (IsOwn z words log) → IfSome (due_at s) (WouldBeLawful z o words parts log)
-  due_lawful (Exchanging c old at) sound own = λ is.
+  due_lawful : (p : ℕ) (s : Stage) → IsStage z s → IfSome (record_of_stage s) (IsOwn z words log) → IfSome (due_at s) (WouldBeLawful z o words (others_of p parts) log)
+  due_lawful p (Exchanging c old at) sound own = λ is.
       let view : get_or words (at + 2) 0 ≡ 0 = own.stands 2 (omega arith) in
       let prev : get_or words at 0 ≡ old = ap (λ n. get_or words n 0) (omega arith) ∙ own.stands 0 (omega arith) in
       let below : c.component < length o.values = let b = sound.0 in omega (arith, w.values, b) in
       let stamp : stamp_of o log c.component ≡ get_or words at 0 = sym (w.agrees c.component below).0 ∙ is ∙ sym prev in
-      (plain_fresh (length log) at (record { view = view; prev = subst (IsWithin o log (length log)) stamp (stamp_within o log c.component below) }), covers_all at)
-  due_lawful _ sound own = tt
+      (plain_fresh (unpublished (others_of p parts)) (length log) at (record { view = view; prev = subst (IsWithin o log (length log)) stamp (stamp_within o log c.component below) }), nobody_of (others_of p parts) (all_others (λ (x : Part). x.claimed ≡ None) p parts w.unjoined) (λ l j. Covers z words (unpublished (others_of p parts)) log at j))
+  due_lawful p _ sound own = tt
 
   views_here : AllByRecursion (λ e. view_of words e.stamp ≡ 0) log
   views_here = all_of (λ (e : Applied). view_of words e.stamp ≡ 0) log (λ k e s. (w.views k e s).view)
@@ -353,9 +365,9 @@ module _ (z : Layout) (o : Opening) (words : List ℕ) (parts : List Part) (log 
       tied = all_with (IsKnown z o log) (λ x. HasRecord z words log x × IsUnmarked x) (IsTied z words) (λ x k t. record { own = from_record z words log (core_of x).stage (stage_known z o log x k) t.0.own; pool_marked = t.0.marked; slots_marked = λ m. absurd (false≢true (sym t.1.0 ∙ m)); lists_marked = λ m. absurd (false≢true (sym t.1.1 ∙ m)) }) parts w.known
           (all_with (HasRecord z words log) IsUnmarked (λ x. HasRecord z words log x × IsUnmarked x) (λ x t u. (t, u)) parts w.tied w.unmarked);
       apart = subst (EachTwo AreApart) (sym (plain_blocks z words parts log w.unjoined views_here)) blocks_apart;
-      fresh = λ k e s. plain_fresh k e.stamp (w.views k e s);
+      fresh = λ k e s. plain_fresh (unpublished parts) k e.stamp (w.views k e s);
       covering = all_of (λ (e : Applied). CoversAll z words parts log e.stamp) log (λ k e s. covers_all e.stamp);
-      due = all_with (IsKnown z o log) (HasRecord z words log) (λ x. IfSome (due_at (core_of x).stage) (WouldBeLawful z o words parts log)) (λ x k t. due_lawful (core_of x).stage (stage_known z o log x k) t.own) parts w.known w.tied;
+      due = all_with (IsKnown z o log) (HasRecord z words log) (λ x. IfSome (due_at (core_of x).stage) (WouldBeLawful z o words (others_of (port_of x) parts) log)) (λ x k t. due_lawful (port_of x) (core_of x).stage (stage_known z o log x k) t.own) parts w.known w.tied;
       unclaimed = λ l from below. w.slots l below;
       taken = λ l taken below. absurd (let none = w.slot_count in omega (arith, none, taken));
       claims = all_weaker (λ (x : Part). x.claimed ≡ None) (λ x. IfSome x.claimed (IsClaim z words parts)) (λ x e. no_claim (IsClaim z words parts) x.claimed e) parts w.unjoined;

@@ -268,9 +268,14 @@ due_at _ = None
 abbrev pub CoversAll : Layout → List ℕ → List Part → List Applied → ℕ → Type 0
 CoversAll z words parts log stamp = AllByRecursion (λ x. IfJoined x (λ l j. Covers z words (unpublished parts) log stamp j)) parts
 
--- if the exchange that is due won, its record's view would be fresh and covering
+-- the parts of the other ports
+abbrev pub others_of : ℕ → List Part → List Part
+others_of p [] = []
+others_of p (x ∷ xs) = if port_of x == p then others_of p xs else x ∷ others_of p xs
+
+-- if the exchange that is due won, its record's view would be fresh and covering: it is then no block of the port's own any more
 abbrev pub WouldBeLawful : Layout → Opening → List ℕ → List Part → List Applied → Due → Type 0
-WouldBeLawful z o words parts log d = slice_index words d.component ≡ d.old → HasFreshView z o words (unpublished parts) log (length log) d.at × CoversAll z words parts log d.at
+WouldBeLawful z o words others log d = slice_index words d.component ≡ d.old → HasFreshView z o words (unpublished others) log (length log) d.at × CoversAll z words others log d.at
 
 -- a slot's answer: EMPTY, or VACATED and so for ever, or the reference of a published announcement
 abbrev pub IsSlotAnswer : Layout → List ℕ → List Block → ℕ → ℕ → Type 0
@@ -331,7 +336,7 @@ pub record Lawful (z : Layout) (o : Opening) (words : List ℕ) (parts : List Pa
   pub fresh : (k : ℕ) (e : Applied) → slice_get log k ≡ Some e → HasFreshView z o words (unpublished parts) log k e.stamp
   pub covering : AllByRecursion (λ e. CoversAll z words parts log e.stamp) log
   -- so would a record whose exchange is due, if that exchange won
-  pub due : AllByRecursion (λ x. IfSome (due_at (core_of x).stage) (WouldBeLawful z o words parts log)) parts
+  pub due : AllByRecursion (λ x. IfSome (due_at (core_of x).stage) (WouldBeLawful z o words (others_of (port_of x) parts) log)) parts
   -- a slot from the counter on is EMPTY; one below it is VACATED or claimed by one port
   pub unclaimed : (l : ℕ) → slice_index words (slot_counter z) ≤ l → l < z.slots → slice_index words (slot_word z l) ≡ 0
   pub taken : (l : ℕ) → l < slice_index words (slot_counter z) → l < z.slots → (slice_index words (slot_word z l) ≡ 1) ⊎ IsClaimedIn l parts
