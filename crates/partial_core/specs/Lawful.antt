@@ -311,44 +311,59 @@ pub record IsEntry (z : Layout) (words : List ℕ) (e : Applied) : Type 0 where
 
 -- The lawful state: words, at most 64 ports with one part each, and the history of all that was applied.
 pub record Lawful (z : Layout) (o : Opening) (words : List ℕ) (parts : List Part) (log : List Applied) : Type 0 where
-  -- the memory has these sizes, and opened with these values
+  -- the sizes are in range
   pub sizes : IsLayout z
+  -- the memory opened with a value for each component
   pub values : length o.values ≡ z.m
+  -- the first initial stamp is the first word of the pool
   pub stamps : o.first ≡ pool_base z
+  -- there are as many words as the sizes say
   pub count : length words ≡ total z
-  -- each port has one part
+  -- there are at most 64 ports
   pub few : length parts ≤ 64
+  -- each port has one part
   pub ports : EachTwo HaveOtherPorts parts
-  -- the words agree with the history, and each entry's record lies in the pool
+  -- each entry is for a component, and each stamp is of one entry and is no initial one
   pub history : IsHistory o log
+  -- the words agree with the history
   pub agrees : Agrees o words log
+  -- each entry's record lies in the pool, behind the initial records and below the counter
   pub entries : AllByRecursion (IsEntry z words) log
   -- each entry is in the notes of its port, once and in the order of its calls
   pub once : (p : ℕ) → places_by p 0 log ≡ places_written (notes_by p parts)
-  -- the ports have seen a beginning of the history, their notes are legal, and their machines are where their answers lead
+  -- each port has seen a beginning of the history, its notes are legal, and its machine is where its answers lead it
   pub known : AllByRecursion (IsKnown z o log) parts
   -- the answers of loads go on being true
   pub answers : AllByRecursion (λ x. AreStillTrue z words parts x x.begun x.kept) parts
-  -- each block that isn't published belongs to one port and lies below its counter, and no two blocks share a word
+  -- each block that isn't published belongs to one port, and lies below its counter
   pub tied : AllByRecursion (IsTied z words) parts
+  -- no two blocks share a word
   pub apart : EachTwo AreApart (blocks_in z words parts log)
-  -- each entry has a fresh view, and covers the announcement of each joined port
+  -- each entry has a fresh view
   pub fresh : (k : ℕ) (e : Applied) → slice_get log k ≡ Some e → HasFreshView z o words (unpublished parts) log k e.stamp
+  -- each entry covers the announcement of each joined port
   pub covering : AllByRecursion (λ e. CoversAll z words parts log e.stamp) log
-  -- so would a record whose exchange is due, if that exchange won
+  -- a record whose exchange is due would have a fresh view and cover them, if that exchange won
   pub due : AllByRecursion (λ x. IfSome (due_at (core_of x).stage) (WouldBeLawful z o words (others_of (port_of x) parts) log)) parts
-  -- a slot from the counter on is EMPTY; one below it is VACATED or claimed by one port
+  -- a slot from the counter on is EMPTY
   pub unclaimed : (l : ℕ) → slice_index words (slot_counter z) ≤ l → l < z.slots → slice_index words (slot_word z l) ≡ 0
+  -- a slot below the counter is VACATED or claimed
   pub taken : (l : ℕ) → l < slice_index words (slot_counter z) → l < z.slots → (slice_index words (slot_word z l) ≡ 1) ⊎ IsClaimedIn l parts
+  -- a claimed slot is EMPTY before its port joins, and refers to its published announcement after
   pub claims : AllByRecursion (λ x. IfSome x.claimed (IsClaim z words parts)) parts
+  -- a slot is claimed by one port
   pub owners : EachTwo HaveOtherSlots parts
   -- the list head is none or the reference of a published list
   pub head : IsHead z words (unpublished parts) (slice_index words (list_head z))
-  -- no counter is below its region's first word, nor past its end by more than one greatest claim for each port that is marked
+  -- the pool's counter is behind the initial records
   pub pool_low : pool_base z + 3 * z.m ≤ slice_index words (pool_counter z)
+  -- it is past the pool's end by no more than one greatest claim for each port that is marked for it
   pub pool_high : slice_index words (pool_counter z) ≤ pool_end z + (4 + 2 * z.m) * marked_in parts
+  -- the slot counter is past the last slot by no more than one for each port that is marked for it
   pub slots_high : slice_index words (slot_counter z) ≤ z.slots + slots_marked_in parts
+  -- the list counter is at the first list word or behind it
   pub lists_low : list_base z ≤ slice_index words (list_counter z)
+  -- it is past the last list word by no more than one greatest claim for each port that is marked for it
   pub lists_high : slice_index words (list_counter z) ≤ list_end z + (z.slots + 2) * lists_marked_in parts
 
 -- What the one law of steps still excludes: no slot is claimed, no list is published, no port is marked for
