@@ -1,9 +1,11 @@
 -- What the answers so far tell of the state in the middle of a collect, and how a scan's collects end.
-use Rattle.std.proofs.Common.{◌-◌, zero, suc, ℕ, ◌≡◌, ◌≢◌, ◌+◌, ◌*◌, ◌<◌, ◌≤◌, ◌==◌, ◌++◌, Bool, true, false, cond, not, ◌&&◌, ◌||◌, ◌⊎◌, List, [], ◌∷◌, length, get_or, refl, sym, ◌∙◌, ap, subst, inl, inr, arith, get_or-set_other, get_or-set_same, append_assoc, append-nil, length-append}
+use Rattle.std.proofs.Common.{◌-◌, ℕ, ◌≡◌, ◌≢◌, ◌+◌, ◌*◌, ◌<◌, ◌≤◌, ◌==◌, ◌++◌, Bool, true, false, cond, not, ◌&&◌, ◌||◌, ◌⊎◌, List, [], ◌∷◌, length, get_or, refl, sym, ◌∙◌, ap, subst, inl, inr, arith, get_or-set_other, get_or-set_same, append_assoc, append-nil, length-append}
 use Rattle.std.specs.Prelude.{nat_lt}
 use Rattle.std.proofs.lemmas.Bool.{eqb-true, eqb-false, eq-eqb, ne_eqb, ltb-false, cases_lt, false≢true}
 use Rattle.std.proofs.lemmas.Bool.Decides.{eqb_tells}
+use Rattle.std.proofs.lemmas.List.{get_or_append_left}
 use Rattle.std.proofs.Math.Nat.{mul-le-mul_left}
+use Rattle.std.proofs.Math.Seq.{get_or-append_seam}
 use Rattle.partial_words.specs.Layout.{Layout}
 use Rattle.partial_embedded.specs.declared.embedded.Stage.{Stage}
 use Rattle.partial_embedded.specs.declared.embedded.Stage.TheVariants.{Collect, View, Len, Index, PairValue, Value, Done}
@@ -12,15 +14,6 @@ use Rattle.partial_embedded.specs.Runs.{Run, load_in, Changes, LastTwoAreEqual, 
 use Rattle.partial_embedded.proofs.Keeps.{kept, fresh_together}
 
 -- one answer more
-old_at : (xs : List ℕ) (x j : ℕ) → j < length xs → get_or (xs ++ x ∷ []) j 0 ≡ get_or xs j 0
-old_at [] x j below = absurd (omega (arith, below))
-old_at (y ∷ xs) x zero below = refl
-old_at (y ∷ xs) x (suc j) below = old_at xs x j (omega (arith, below))
-
-new_at : (xs : List ℕ) (x : ℕ) → get_or (xs ++ x ∷ []) (length xs) 0 ≡ x
-new_at [] x = refl
-new_at (y ∷ xs) x = new_at xs x
-
 one_longer : (xs : List ℕ) (x : ℕ) → length (xs ++ x ∷ []) ≡ length xs + 1
 one_longer xs x = length-append xs (x ∷ [])
 
@@ -52,10 +45,10 @@ trace_at r p xs _ = Unit {0}
 -- a load of an earlier collect stays where it was
 module _ (r : ℕ) (xs : List ℕ) (x c k : ℕ) (long : length xs ≡ r * c + k) (within : k < r) where
   load_old : (a i : ℕ) → r * a + i < r * c + k → load_in r (xs ++ x ∷ []) a i ≡ load_in r xs a i
-  load_old a i less = old_at xs x (r * a + i) (omega (arith, long, less))
+  load_old a i less = get_or_append_left xs (x ∷ []) 0 (r * a + i) (omega (arith, long, less))
 
   load_here : load_in r (xs ++ x ∷ []) c k ≡ x
-  load_here = ap (λ n. get_or (xs ++ x ∷ []) n 0) (sym long) ∙ new_at xs x
+  load_here = ap (λ n. get_or (xs ++ x ∷ []) n 0) (sym long) ∙ get_or-append_seam xs x [] 0
 
   -- a position of an earlier collect
   earlier : (a i : ℕ) → i < r → a + 1 ≤ c → r * a + i < r * c + k
