@@ -1,0 +1,111 @@
+-- What a port holds in the words: a slot, a block that it writes, an exchange that is due, and its marks.
+use Rattle.std.specs.Prelude.{ℕ, ◌≡◌, ◌≢◌, ◌+◌, ◌*◌, ◌==◌, ⊤, Bool, List, [], ◌∷◌, ◌++◌, length, map, filter_map, Option, Some, None, IfSome, if◌then◌else◌}
+use Rattle.std.specs.List.{AllByRecursion}
+use Rattle.std.specs.Option.{option_map}
+use Rattle.partial_model.specs.declared.history.Applied.{Applied}
+use Rattle.partial_words.specs.Layout.{Layout, pool_counter, list_counter, list_base, list_end, pool_base, pool_end}
+use Rattle.partial_words.specs.Record.{view_of, view_len}
+use Rattle.partial_state.specs.Views.{Block, Joined}
+
+-- a slot that a port has claimed and not left: EMPTY until the port joins, then its announcement's reference
+pub record Claimed : Type 0 where
+  pub slot : ℕ
+  pub joined : Option Joined
+
+-- where blocks are claimed: the pool words behind the initial records, or the list words
+pub data Space : Type 0 where
+  Pool : Space
+  Lists : Space
+
+-- the first word that is claimed, the word behind the last one, and the counter of a space
+abbrev pub first_of : Layout → Space → ℕ
+first_of z Pool = pool_base z + 3 * z.m
+first_of z Lists = list_base z
+
+abbrev pub end_of : Layout → Space → ℕ
+end_of z Pool = pool_end z
+end_of z Lists = list_end z
+
+abbrev pub counter_of : Layout → Space → ℕ
+counter_of z Pool = pool_counter z
+counter_of z Lists = list_counter z
+
+-- a block that a port writes: its space, its reference, its words, and how many of them are stored
+pub record Own : Type 0 where
+  pub space : Space
+  pub at : ℕ
+  pub words : List ℕ
+  pub stored : ℕ
+
+abbrev pub block_of : Own → Block
+block_of b = record { at = b.at; size = length b.words }
+
+-- an exchange of a component that is due: it expects the record `old`, and publishes the one at `at` with that value
+pub record Due : Type 0 where
+  pub component : ℕ
+  pub old : ℕ
+  pub value : ℕ
+  pub at : ℕ
+
+-- what a port holds
+pub record Holding : Type 0 where
+  pub port : ℕ
+  pub claimed : Option Claimed
+  pub own : Option Own
+  pub due : Option Due
+  pub pool_spent : Bool
+  pub slots_spent : Bool
+  pub lists_spent : Bool
+
+-- the blocks that aren't published yet
+abbrev pub unpublished : List Holding → List Block
+unpublished hs = filter_map (λ h. option_map block_of h.own) hs
+
+-- the announcement of a joined port, with its slot
+abbrev pub IfJoined : Holding → (ℕ → Joined → Type 0) → Type 0
+IfJoined h P = IfSome h.claimed (λ c. IfSome c.joined (P c.slot))
+
+-- the announcement of a port that is joined
+abbrev pub joined_in : Option Claimed → Option Joined
+joined_in None = None
+joined_in (Some c) = c.joined
+
+abbrev pub announcements : List Holding → List Block
+announcements hs = filter_map (λ h. option_map (λ j. record { at = j.at; size = 1 + length j.indices }) (joined_in h.claimed)) hs
+
+-- the block of the record at `stamp`, with the view behind it where it has one of its own
+abbrev pub block_at : List ℕ → ℕ → Block
+block_at words stamp = record { at = stamp; size = if view_of words stamp == stamp + 3 then 4 + 2 * view_len words (stamp + 3) else 3 }
+
+-- the initial records, the entries' records, the announcements that stand in slots, and the blocks that aren't published yet
+abbrev pub blocks_in : Layout → List ℕ → List Holding → List Applied → List Block
+blocks_in z words hs log = record { at = pool_base z; size = 3 * z.m } ∷ (map (λ e. block_at words e.stamp) log ++ (announcements hs ++ unpublished hs))
+
+-- R holds of each two of the list
+abbrev pub EachTwo : {A : Type 0} → (A → A → Type 0) → List A → Type 0
+EachTwo R [] = ⊤
+EachTwo R (x ∷ xs) = AllByRecursion (R x) xs × EachTwo R xs
+
+abbrev pub HaveOtherPorts : Holding → Holding → Type 0
+HaveOtherPorts a b = a.port ≢ b.port
+
+abbrev pub HaveOtherSlots : Holding → Holding → Type 0
+HaveOtherSlots a b = IfSome a.claimed (λ c. IfSome b.claimed (λ d. c.slot ≢ d.slot))
+
+-- the holdings of the other ports
+abbrev pub others_of : ℕ → List Holding → List Holding
+others_of p [] = []
+others_of p (h ∷ hs) = if h.port == p then others_of p hs else h ∷ others_of p hs
+
+-- how many ports are marked for the pool, for the slots and for the list words
+abbrev pub pool_marks : List Holding → ℕ
+pool_marks [] = 0
+pool_marks (h ∷ hs) = (if h.pool_spent then 1 else 0) + pool_marks hs
+
+abbrev pub slot_marks : List Holding → ℕ
+slot_marks [] = 0
+slot_marks (h ∷ hs) = (if h.slots_spent then 1 else 0) + slot_marks hs
+
+abbrev pub list_marks : List Holding → ℕ
+list_marks [] = 0
+list_marks (h ∷ hs) = (if h.lists_spent then 1 else 0) + list_marks hs
