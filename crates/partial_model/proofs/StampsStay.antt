@@ -10,25 +10,25 @@ use Rattle.partial_model.specs.Stamps.{HasThen, StampsNeverReturn, Twice, EqualC
 use Rattle.partial_model.proofs.HistoryLemmas.{last_at, stamp_all}
 
 -- a prefix of a prefix
-take_within : {A : Type 0} (n b : ℕ) (h : List A) → n ≤ b → take n (take b h) ≡ take n h
+pub take_within : {A : Type 0} (n b : ℕ) (h : List A) → n ≤ b → take n (take b h) ≡ take n h
 take_within zero b h le = refl
 take_within (suc n) zero h le = absurd (omega (arith, le))
 take_within (suc n) (suc b) [] le = refl
 take_within (suc n) (suc b) (x ∷ h) le = ap (λ l. x ∷ l) (take_within n b h (omega (arith, le)))
 
 -- an element of a prefix stands in the whole, at that place
-in_whole : {A : Type 0} (n : ℕ) (h : List A) (k : ℕ) (e : A) → slice_get (take n h) k ≡ Some e → (k < n) × (slice_get h k ≡ Some e)
+pub in_whole : {A : Type 0} (n : ℕ) (h : List A) (k : ℕ) (e : A) → slice_get (take n h) k ≡ Some e → (k < n) × (slice_get h k ≡ Some e)
 in_whole zero h k e s = let bad : None ≡ Some e = s in cc
 in_whole (suc n) [] k e s = let bad : None ≡ Some e = s in cc
 in_whole (suc n) (x ∷ h) zero e s = (omega arith, s)
 in_whole (suc n) (x ∷ h) (suc k) e s = let w = in_whole n h k e s in let below = w.0 in (omega (arith, below), w.1)
 
-found : {A : Type 0} (P : A → Type 0) (h : List A) (k : ℕ) (e : A) → AllByRecursion P h → slice_get h k ≡ Some e → P e
+pub found : {A : Type 0} (P : A → Type 0) (h : List A) (k : ℕ) (e : A) → AllByRecursion P h → slice_get h k ≡ Some e → P e
 found P [] k e w s = let bad : None ≡ Some e = s in cc
 found P (x ∷ h) zero e w s = let is : x ≡ e = cc in subst P is w.0
 found P (x ∷ h) (suc k) e w s = found P h k e w.1 s
 
-each : {A : Type 0} (P : A → Type 0) (h : List A) → ((k : ℕ) (e : A) → slice_get h k ≡ Some e → P e) → AllByRecursion P h
+pub each : {A : Type 0} (P : A → Type 0) (h : List A) → ((k : ℕ) (e : A) → slice_get h k ≡ Some e → P e) → AllByRecursion P h
 each P [] f = tt
 each P (x ∷ h) f = (f 0 x refl, each P h (λ k e s. f (suc k) e s))
 

@@ -1,0 +1,10 @@
+//! Laws about what the calls of the active set and the embedded scans know. The functions have no code:
+//! their contracts hold of the definitions by which the machines' own contracts are stated.
+
+ghost use Rattle.partial_knowledge.specs.Sets.{GetSetsKnow};
+
+/// What a getSet knows by the answers that it has kept leads on from stage to stage, in lawful words: at
+/// its end it has found each announcement of a port that joined before it.
+pub fn getsets_know()
+    ensures { GetSetsKnow }
+{}
