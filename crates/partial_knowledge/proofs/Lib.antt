@@ -1,2 +1,4 @@
 pub mod Joined
 pub mod Sets
+pub mod Chains
+pub mod Scans

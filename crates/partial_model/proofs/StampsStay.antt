@@ -33,7 +33,7 @@ each P [] f = tt
 each P (x ∷ h) f = (f 0 x refl, each P h (λ k e s. f (suc k) e s))
 
 -- entries at two places have two stamps
-distinct_at : (h : List Applied) (k q : ℕ) (e f : Applied) → HaveDistinctStamps h → slice_get h k ≡ Some e → slice_get h q ≡ Some f → k < q → e.stamp ≢ f.stamp
+pub distinct_at : (h : List Applied) (k q : ℕ) (e f : Applied) → HaveDistinctStamps h → slice_get h k ≡ Some e → slice_get h q ≡ Some f → k < q → e.stamp ≢ f.stamp
 distinct_at [] k q e f w s t less = let bad : None ≡ Some e = s in cc
 distinct_at (x ∷ h) k zero e f w s t less = absurd (omega (arith, less))
 distinct_at (x ∷ h) zero (suc q) e f w s t less = let is : x ≡ e = cc in subst (λ (d : Applied). d.stamp ≢ f.stamp) is (found (λ (g : Applied). x.stamp ≢ g.stamp) h q f w.0 t)

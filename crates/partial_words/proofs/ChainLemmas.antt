@@ -1,5 +1,6 @@
 -- Chains of records: what a step elsewhere leaves of them, what one entry more adds, and what they hold.
-use Rattle.std.proofs.Common.{ℕ, zero, suc, ◌≡◌, ◌≢◌, ◌+◌, ◌<◌, ◌==◌, ◌++◌, ◌⊎◌, Bool, true, false, cond, List, [], ◌∷◌, length, take, get_or, set, refl, sym, ◌∙◌, ap, subst, inl, inr, Option, Some, None, get_or-set_other}
+use Rattle.std.proofs.Common.{ℕ, zero, suc, ◌≡◌, ◌≢◌, ◌+◌, ◌<◌, ◌==◌, ◌++◌, ◌⊎◌, Bool, true, false, cond, List, [], ◌∷◌, length, take, get_or, set, slice_get, refl, sym, ◌∙◌, ap, subst, inl, inr, Option, Some, None, get_or-set_other, arith}
+use Rattle.std.proofs.lemmas.Bool.{eq-eqb}
 use Rattle.std.specs.List.{AllByRecursion}
 use Rattle.std.specs.Option.{option_map_or}
 use Rattle.partial_model.specs.declared.history.Applied.{Applied}
@@ -109,3 +110,50 @@ pub value_behind_stamp : (o : Opening) (words : List ℕ) (h : List Applied) (j 
 unfolding newest
 value_behind_stamp o words h j a agrees below =
     link_stands words (get_or words j 0) (chain_of o j h) (newest o j (last_from None j (take a h))) (agrees j below).1 (among_later (newest o j (last_from None j (take a h))) (record { stamp = initial_stamp o j; value = get_or o.values j 0 } ∷ []) j h a (newest_among o j (take a h)))
+
+-- the older part of a chain is a chain
+older_chain : (words : List ℕ) (at : ℕ) (l : Link) (found : List Link) (j : ℕ) (h : List Applied) → IsChain words at (links_from (l ∷ found) j h) → (from : ℕ) × IsChain words from (l ∷ found)
+unfolding links_from
+older_chain words at l found j [] c = (at, c)
+older_chain words at l found j (x ∷ h) c = step (x.component == j) (older_chain words at (record { stamp = x.stamp; value = x.value }) (l ∷ found) j h) (older_chain words at l found j h) c
+  where
+    step : (b : Bool) → (IsChain words at (links_from (record { stamp = x.stamp; value = x.value } ∷ l ∷ found) j h) → (from : ℕ) × IsChain words from (record { stamp = x.stamp; value = x.value } ∷ l ∷ found)) → (IsChain words at (links_from (l ∷ found) j h) → (from : ℕ) × IsChain words from (l ∷ found)) → IsChain words at (links_from (cond b (record { stamp = x.stamp; value = x.value } ∷ l ∷ found) (l ∷ found)) j h) → (from : ℕ) × IsChain words from (l ∷ found)
+    step true one none c = let more = one c in (prev_of words more.0, more.1.2)
+    step false one none c = none c
+
+-- the chain after the first n entries is a part of the chain
+chain_then : (words : List ℕ) (at : ℕ) (l : Link) (found : List Link) (j n : ℕ) (h : List Applied) → IsChain words at (links_from (l ∷ found) j h) → (from : ℕ) × IsChain words from (links_from (l ∷ found) j (take n h))
+unfolding links_from
+chain_then words at l found j zero h c = older_chain words at l found j h c
+chain_then words at l found j (suc n) [] c = (at, c)
+chain_then words at l found j (suc n) (x ∷ h) c = step (x.component == j) (chain_then words at (record { stamp = x.stamp; value = x.value }) (l ∷ found) j n h) (chain_then words at l found j n h) c
+  where
+    Then : List Link → Type 0
+    Then links = IsChain words at (links_from links j h) → (from : ℕ) × IsChain words from (links_from links j (take n h))
+
+    step : (b : Bool) → Then (record { stamp = x.stamp; value = x.value } ∷ l ∷ found) → Then (l ∷ found) → Then (cond b (record { stamp = x.stamp; value = x.value } ∷ l ∷ found) (l ∷ found))
+    step true one none = one
+    step false one none = none
+
+-- the first two records of a chain
+first_two : (words : List ℕ) (at : ℕ) (l k : Link) (ls : List Link) → IsChain words at (l ∷ k ∷ ls) → prev_of words l.stamp ≡ k.stamp
+first_two words at l k [] c = ap (prev_of words) c.0 ∙ sym c.2.0
+first_two words at l k (m ∷ ls) c = ap (prev_of words) c.0 ∙ sym c.2.0
+
+-- before each entry's record stands the stamp that its component had before
+pub prev_before_entry : (o : Opening) (words : List ℕ) (h : List Applied) (k : ℕ) (e : Applied) → Agrees o words h → e.component < length o.values → slice_get h k ≡ Some e → prev_of words e.stamp ≡ stamp_of o (take k h) e.component
+unfolding newest
+prev_before_entry o words h k e agrees below stands =
+    let j = e.component in
+    let initial : Link = record { stamp = initial_stamp o j; value = get_or o.values j 0 } in
+    let part = chain_then words (get_or words j 0) initial [] j (k + 1) h (agrees j below).1 in
+    let next : k + 1 ≡ suc k = omega arith in
+    let one_more : take (k + 1) h ≡ take k h ++ e ∷ [] = ap (λ n. take n h) next ∙ take_one h k e stands in
+    let links : chain_of o j (take (k + 1) h) ≡ record { stamp = e.stamp; value = e.value } ∷ chain_of o j (take k h) = ap (chain_of o j) one_more ∙ links_from-push (initial ∷ []) j (take k h) e ∙ ap (λ b. cond b (record { stamp = e.stamp; value = e.value } ∷ chain_of o j (take k h)) (chain_of o j (take k h))) (eq-eqb j j refl) in
+    let first = newest_first o j (take k h) in
+    first_two words part.0 (record { stamp = e.stamp; value = e.value }) (newest o j (last_from None j (take k h))) first.0 (subst (IsChain words part.0) (links ∙ ap (λ ls. record { stamp = e.stamp; value = e.value } ∷ ls) first.1) part.1)
+  where
+    take_one : (h : List Applied) (k : ℕ) (e : Applied) → slice_get h k ≡ Some e → take (suc k) h ≡ take k h ++ e ∷ []
+    take_one [] k e s = let bad : None ≡ Some e = s in cc
+    take_one (x ∷ h) zero e s = let is : x ≡ e = cc in ap (λ (y : Applied). y ∷ []) is
+    take_one (x ∷ h) (suc k) e s = ap (λ l. x ∷ l) (take_one h k e s)
