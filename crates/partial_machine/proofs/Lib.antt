@@ -1,2 +1,4 @@
 pub mod Indices
+pub mod Pairs
 pub mod Sound
+pub mod Submachines

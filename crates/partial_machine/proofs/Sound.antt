@@ -1,6 +1,6 @@
 -- A possible answer leaves a sound machine, with fewer steps to make.
-use Rattle.std.proofs.Common.{ℕ, ◌≡◌, ◌+◌, ◌-◌, ◌*◌, ◌<◌, ◌≤◌, ◌==◌, Bool, true, false, cond, List, [], ◌∷◌, length, get_or, Option, Some, None, IsSome, refl, sym, ◌∙◌, ap, subst, arith}
-use Rattle.std.proofs.lemmas.Bool.{false≢true, eqb-true, eqb-false, ltb-true, ltb-false}
+use Rattle.std.proofs.Common.{ℕ, ◌≡◌, ◌+◌, ◌*◌, ◌<◌, ◌≤◌, ◌==◌, Bool, true, false, cond, length, Option, Some, None, IsSome, refl, sym, ◌∙◌, ap, subst, arith}
+use Rattle.std.proofs.lemmas.Bool.{false≢true, eqb-true, eqb-false, ltb-true}
 use Rattle.std.proofs.Math.Nat.{mul-le-mul}
 use Rattle.std.specs.Prelude.{IsTrue, nat_lt}
 use Rattle.std.specs.Option.{option_map_or}
@@ -8,7 +8,7 @@ use Rattle.partial_model.specs.declared.call.Refused.TheVariants as refused
 use Rattle.partial_words.specs.declared.step.Step.{Step}
 use Rattle.partial_words.specs.Layout.{Layout, IsLayout, pool_end}
 use Rattle.partial_active.specs.Found.{IsFor as AreBuffersFor}
-use Rattle.partial_active.specs.Join.{JoinState, fits_join, join_step, join_after, join_left, step_of_join, advance_join}
+use Rattle.partial_active.specs.Join.{fits_join, join_step, join_after, join_left, step_of_join, advance_join}
 use Rattle.partial_active.specs.declared.join.JoinStage.{JoinStage}
 use Rattle.partial_active.specs.declared.join.JoinStage.TheVariants.{Claiming, Storing, Joined, Spent}
 use Rattle.partial_active.specs.GetSet as finding
@@ -21,8 +21,8 @@ use Rattle.partial_machine.specs.declared.stage.Change.{Change}
 use Rattle.partial_machine.specs.declared.stage.Reply.TheVariants as reply
 use Rattle.partial_machine.specs.declared.stage.Stage.{Stage}
 use Rattle.partial_machine.specs.declared.stage.Stage.TheVariants.{Idle, ReadBegun, LoadingValue, UpdateBegun, GettingSet, Viewing, ClaimingRecord, StoringRecord, Exchanging, ScanBegun, StoringAnnouncement, Joining, Scanning, Leaving, Finished}
-use Rattle.partial_machine.specs.Machine.{CoreState, at_stage, getting, scanning, with_getting, with_scanning, record_size, expects, overtaken, fits_pool, pool_refused, slots_refused, begin_getting, after_getting, after_scanning, begin_joining, after_joining, scanned_reply, advance_at, advance, AreComponents, IsRecord, IsUpdating, IsInPool, IsLeaving, IsSound, is_sound_at, IsMachine, IsPoolCount, IsPossible, IsPossibleAt, write_left, set_left, left_at, steps_left}
-use Rattle.partial_machine.proofs.Indices.{AreIndices, no_index, few_indices, found_kept}
+use Rattle.partial_machine.specs.Machine.{CoreState, at_stage, getting, scanning, with_getting, with_scanning, record_size, expects, overtaken, fits_pool, pool_refused, slots_refused, begin_getting, begin_joining, after_joining, scanned_reply, advance_at, advance, AreComponents, IsRecord, IsInPool, IsSound, is_sound_at, IsMachine, IsPoolCount, IsPossible, IsPossibleAt, left_at, steps_left}
+use Rattle.partial_machine.proofs.Indices.{AreIndices, few_indices, found_kept}
 
 -- what an answer leaves of a machine
 pub record Keeps (s q : CoreState) : Type 0 where
@@ -298,3 +298,6 @@ machine_on s q room x t w e possible is =
       sound = subst IsSound (sym is) k.sound;
       enough = subst (λ (z : Layout). z.m ≤ room) (sym same) w.enough;
     }
+
+pub fewer_on : (s q : CoreState) (room x : ℕ) (t : Stage) → IsMachine s room → s.stage ≡ t → IsPossibleAt s t x → q ≡ advance_at s t x → steps_left q < steps_left s
+fewer_on s q room x t w e possible is = subst (λ (v : CoreState). steps_left v < steps_left s) (sym is) (kept_at s w.sizes w.sound t x e possible).fewer

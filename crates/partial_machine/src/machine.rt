@@ -1,7 +1,7 @@
 //! The machine of one port.
 
-ghost use Rattle.std.specs.Prelude.{◌≡◌, ◌≢◌, ◌<◌, ◌≤◌, ◌+◌, ◌*◌, ◌==◌, ◌↔◌, ◌∷◌, map, length, slice_index, if◌then◌else◌, IsTrue, IfOk, OnOk, IfErr, MatchOption, None};
-ghost use Rattle.std.specs.List.{flat_map};
+ghost use Rattle.std.specs.Prelude.{◌≡◌, ◌≢◌, ◌<◌, ◌≤◌, ◌+◌, ◌*◌, ◌==◌, ◌↔◌, ◌∷◌, map, length, slice_index, nat_lt, if◌then◌else◌, IsTrue, IfOk, OnOk, IfErr, MatchOption, None};
+ghost use Rattle.std.specs.List.{flat_map, list_all};
 ghost use Rattle.std.specs.Vec.{vec_capacity};
 ghost use Rattle.partial_words.specs.Record.{pair_words};
 ghost use Rattle.partial_machine.specs.declared.stage.Stage.TheVariants.{Idle, ReadBegun, UpdateBegun, GettingSet, Viewing, ClaimingRecord, StoringRecord, Exchanging, ScanBegun, StoringAnnouncement, Joining, Scanning, Leaving, Finished};
@@ -193,11 +193,9 @@ impl Core {
     fn scan_refusal(&self, components: &[u32]) -> Option<Refused>
         ensures { result ≡ scan_refusal self.now components.now }
     {
-        let m = self.sizes.m();
-        if !components.iter().all(|component| *component < m) {
-            return Some(Refused::Component);
-        }
-        if components.is_empty() {
+        if !all_below(components, self.sizes.m()) {
+            Some(Refused::Component)
+        } else if components.is_empty() {
             None
         } else if self.pool_spent {
             Some(Refused::PoolSpent)
@@ -372,8 +370,13 @@ impl Core {
         requires possible { IsPossibleAt self.old (Viewing change old) x }
         ensures { self.new ≡ advance_at self.old (Viewing change old) x }
     {
-        self.embedded.answer(&mut self.rows, self.found.indices(), x);
-        if self.embedded.step(&self.rows, self.found.indices()).is_none() {
+        self.embedded
+            .answer(&mut self.rows, self.found.indices(), x);
+        if self
+            .embedded
+            .step(&self.rows, self.found.indices())
+            .is_none()
+        {
             self.stage = Stage::ClaimingRecord { change, old };
         }
     }
@@ -520,6 +523,13 @@ impl Core {
     {
         self.rows.value(self.asked[k])
     }
+}
+
+// Whether each index is below the number.
+fn all_below(indices: &[u32], m: u32) -> bool
+    ensures { result ≡ list_all (λ i. nat_lt i m) indices.now }
+{
+    indices.iter().all(|index| *index < m)
 }
 
 // Sets the positions of a scan. There is room for them.

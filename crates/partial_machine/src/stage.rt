@@ -15,18 +15,30 @@ pub struct Change {
 #[derive(Clone, Copy, Debug, PartialEq, Eq)]
 pub enum Reply {
     /// The update was applied, and its record has this stamp.
-    Applied { stamp: u64 },
+    Applied {
+        stamp: u64,
+    },
     /// The update was overwritten by the one with this stamp.
-    Lost { by: u64 },
+    Lost {
+        by: u64,
+    },
     /// The scan made so many collects; it borrowed the view of the record with this stamp, or none. Its
     /// values are read off the machine.
-    Scanned { collects: u32, borrowed: Option<u64> },
+    Scanned {
+        collects: u32,
+        borrowed: Option<u64>,
+    },
     /// The component's value and stamp.
-    Read { value: u64, stamp: u64 },
+    Read {
+        value: u64,
+        stamp: u64,
+    },
     /// The call was refused. The port is marked.
     Refused(Refused),
     /// The component had this stamp in place of the expected one.
-    Changed { by: u64 },
+    Changed {
+        by: u64,
+    },
 }
 
 /// The step that is due. `old` is the component's record as the update loaded it, `at` the reference
