@@ -30,6 +30,7 @@ pub record Keeps (s q : CoreState) : Type 0 where
   pub fewer : steps_left q < steps_left s
   pub sizes : q.sizes ≡ s.sizes
   pub port : q.port ≡ s.port
+  pub positions : q.asked ≡ s.asked
 
 -- a record has 3 words, or those of its pairs
 size_by : (o : Option ℕ) (b : Bool) (n m : ℕ) → n ≤ m → let z = option_map_or (λ _. 3) o (cond b 3 (4 + 2 * n)) in (3 ≤ z) × (z ≤ 4 + 2 * m)
@@ -56,8 +57,8 @@ module _ (s : CoreState) (layout : IsLayout s.sizes) (w : IsSound s) where
   few = w.indices.few
 
   -- the machine at another stage, of which something is known
-  kept_as : (q : CoreState) (t u : Stage) → s.stage ≡ t → q.stage ≡ u → q.sizes ≡ s.sizes → q.port ≡ s.port → AreComponents q.sizes q.asked → AreBuffersFor q.sizes q.found → AreIndices q.sizes.m q.found.indices → viewing.IsFor q.sizes q.rows → is_sound_at q u → left_at q u < left_at s t → Keeps s q
-  kept_as q t u e f sizes port asked found indices rows stage fewer =
+  kept_as : (q : CoreState) (t u : Stage) → s.stage ≡ t → q.stage ≡ u → q.sizes ≡ s.sizes → q.port ≡ s.port → q.asked ≡ s.asked → AreComponents q.sizes q.asked → AreBuffersFor q.sizes q.found → AreIndices q.sizes.m q.found.indices → viewing.IsFor q.sizes q.rows → is_sound_at q u → left_at q u < left_at s t → Keeps s q
+  kept_as q t u e f sizes port positions asked found indices rows stage fewer =
       let before : steps_left s ≡ left_at s t = ap (left_at s) e in
       let after : steps_left q ≡ left_at q u = ap (left_at q) f in
       record {
@@ -72,22 +73,23 @@ module _ (s : CoreState) (layout : IsLayout s.sizes) (w : IsSound s) where
         fewer = omega (arith, before, after, fewer);
         sizes = sizes;
         port = port;
+        positions = positions;
       }
 
   same_indices : AreIndices s.sizes.m s.found.indices
   same_indices = record { each = w.indices.each; distinct = w.distinct }
 
   staying : (t u : Stage) → s.stage ≡ t → is_sound_at (at_stage s u) u → left_at (at_stage s u) u < left_at s t → Keeps s (at_stage s u)
-  staying t u e stage fewer = kept_as (at_stage s u) t u e refl refl refl w.asked w.found same_indices w.rows stage fewer
+  staying t u e stage fewer = kept_as (at_stage s u) t u e refl refl refl refl w.asked w.found same_indices w.rows stage fewer
 
   refused_pool : (t : Stage) → s.stage ≡ t → 0 < left_at s t → Keeps s (pool_refused s)
-  refused_pool t e fewer = kept_as (pool_refused s) t (Finished (reply.Refused refused.PoolSpent)) e refl refl refl w.asked w.found same_indices w.rows tt fewer
+  refused_pool t e fewer = kept_as (pool_refused s) t (Finished (reply.Refused refused.PoolSpent)) e refl refl refl refl w.asked w.found same_indices w.rows tt fewer
 
   begun_kept : (c : Change) (x : ℕ) → s.stage ≡ UpdateBegun c → IsRecord s.sizes x → (b : Bool) → Keeps s (cond b (begin_getting s c x) (at_stage s (Finished (reply.Changed x))))
   begun_kept c x e rec true =
       let h = here (UpdateBegun c) e in
       let fresh = finding.fresh s.sizes s.get_set.lists_spent in
-      kept_as (begin_getting s c x) (UpdateBegun c) (GettingSet c x) e refl refl refl w.asked w.found same_indices w.rows ((h.0, rec, h.1), record { sizes = w.found; stage = tt }, refl, refl) (omega arith)
+      kept_as (begin_getting s c x) (UpdateBegun c) (GettingSet c x) e refl refl refl refl w.asked w.found same_indices w.rows ((h.0, rec, h.1), record { sizes = w.found; stage = tt }, refl, refl) (omega arith)
   begun_kept c x e rec false = staying (UpdateBegun c) (Finished (reply.Changed x)) e tt (omega arith)
 
   getting_kept : (c : Change) (old x : ℕ) → s.stage ≡ GettingSet c old → finding_answers.IsPossible (getting s) x → Keeps s (advance_at s (GettingSet c old) x)
@@ -126,7 +128,7 @@ module _ (s : CoreState) (layout : IsLayout s.sizes) (w : IsSound s) where
       found_some : (b : Bool) → (length q.1.indices == 0) ≡ b → Keeps s (next (cond b (ClaimingRecord c old) (Viewing c old)))
       found_some true none =
           let size = (size_few (next (ClaimingRecord c old)) (few_indices s.sizes.m q.1.indices named)).1 in
-          kept_as (next (ClaimingRecord c old)) (GettingSet c old) (ClaimingRecord c old) e refl refl refl w.asked buffers named w.rows h.0 (omega (arith, size, k.fewer))
+          kept_as (next (ClaimingRecord c old)) (GettingSet c old) (ClaimingRecord c old) e refl refl refl refl w.asked buffers named w.rows h.0 (omega (arith, size, k.fewer))
       found_some false some =
           let at_least : 0 < length q.1.indices = let not_none = eqb-false (length q.1.indices) 0 some in omega (arith, not_none) in
           let at_most = few_indices s.sizes.m q.1.indices named in
@@ -134,10 +136,10 @@ module _ (s : CoreState) (layout : IsLayout s.sizes) (w : IsSound s) where
           let together = viewed.fresh_together s.sizes true q.1.indices s.rows positions w.rows in
           let left = viewed.fresh_left s.sizes true q.1.indices s.rows in
           let most = most_mono s.sizes (length q.1.indices) s.sizes.m at_most in
-          kept_as (next (Viewing c old)) (GettingSet c old) (Viewing c old) e refl refl refl w.asked buffers named w.rows (h.0, together, refl, refl) (omega (arith, left, most, k.fewer))
+          kept_as (next (Viewing c old)) (GettingSet c old) (Viewing c old) e refl refl refl refl w.asked buffers named w.rows (h.0, together, refl, refl) (omega (arith, left, most, k.fewer))
 
       either : (o : Option Step) → finding.step_of q.0 ≡ o → Keeps s (option_map_or (λ _. on) o (next (cond (length q.1.indices == 0) (ClaimingRecord c old) (Viewing c old))))
-      either (Some step) due = kept_as on (GettingSet c old) (GettingSet c old) e e refl refl w.asked buffers named w.rows (h.0, k.together, same, subst IsSome (sym due) refl) (omega (arith, k.fewer))
+      either (Some step) due = kept_as on (GettingSet c old) (GettingSet c old) e e refl refl refl w.asked buffers named w.rows (h.0, k.together, same, subst IsSome (sym due) refl) (omega (arith, k.fewer))
       either None done = found_some (length q.1.indices == 0) refl
 
   viewing_kept : (c : Change) (old x : ℕ) → s.stage ≡ Viewing c old → viewing.IsPossible (scanning s) x → Keeps s (advance_at s (Viewing c old) x)
@@ -162,10 +164,10 @@ module _ (s : CoreState) (layout : IsLayout s.sizes) (w : IsSound s) where
       on = with_scanning s q
 
       either : (o : Option Step) → viewing.step_of s.found.indices q ≡ o → Keeps s (option_map_or (λ _. on) o (at_stage on (ClaimingRecord c old)))
-      either (Some step) due = kept_as on (Viewing c old) (Viewing c old) e e refl refl w.asked w.found same_indices rows (h.0, k.together, same, subst IsSome (sym due) refl) (omega (arith, k.fewer))
+      either (Some step) due = kept_as on (Viewing c old) (Viewing c old) e e refl refl refl w.asked w.found same_indices rows (h.0, k.together, same, subst IsSome (sym due) refl) (omega (arith, k.fewer))
       either None done =
           let size = (size_few (at_stage on (ClaimingRecord c old)) few).1 in
-          kept_as (at_stage on (ClaimingRecord c old)) (Viewing c old) (ClaimingRecord c old) e refl refl refl w.asked w.found same_indices rows h.0 (omega (arith, size, k.fewer))
+          kept_as (at_stage on (ClaimingRecord c old)) (Viewing c old) (ClaimingRecord c old) e refl refl refl refl w.asked w.found same_indices rows h.0 (omega (arith, size, k.fewer))
 
   scanning_kept : (x : ℕ) → s.stage ≡ Scanning → viewing.IsPossible (scanning s) x → Keeps s (advance_at s Scanning x)
   scanning_kept x e possible = either (viewing.step_of s.asked q) refl
@@ -189,8 +191,8 @@ module _ (s : CoreState) (layout : IsLayout s.sizes) (w : IsSound s) where
       on = with_scanning s q
 
       either : (o : Option Step) → viewing.step_of s.asked q ≡ o → Keeps s (option_map_or (λ _. on) o (at_stage on Leaving))
-      either (Some step) due = kept_as on Scanning Scanning e e refl refl w.asked w.found same_indices rows (k.together, same, subst IsSome (sym due) refl, h.3) (omega (arith, k.fewer))
-      either None done = kept_as (at_stage on Leaving) Scanning Leaving e refl refl refl w.asked w.found same_indices rows h.3 (omega (arith, k.fewer))
+      either (Some step) due = kept_as on Scanning Scanning e e refl refl refl w.asked w.found same_indices rows (k.together, same, subst IsSome (sym due) refl, h.3) (omega (arith, k.fewer))
+      either None done = kept_as (at_stage on Leaving) Scanning Leaving e refl refl refl refl w.asked w.found same_indices rows h.3 (omega (arith, k.fewer))
 
   record_claimed : (c : Change) (old x : ℕ) → s.stage ≡ ClaimingRecord c old → IsPoolCount s.sizes x → (b : Bool) → fits_pool s.sizes (record_size s) x ≡ b → Keeps s (cond b (at_stage s (StoringRecord c old x 0)) (pool_refused s))
   record_claimed c old x e possible true fits =
@@ -217,7 +219,7 @@ module _ (s : CoreState) (layout : IsLayout s.sizes) (w : IsSound s) where
   announcement_stored at k e true last =
       let h = here (StoringAnnouncement at k) e in
       let whole = eqb-true k (length s.asked) last in
-      kept_as (begin_joining s at) (StoringAnnouncement at k) Joining e refl refl refl w.asked w.found same_indices w.rows (h.0, h.1, refl, h.2, refl, refl) (omega (arith, whole))
+      kept_as (begin_joining s at) (StoringAnnouncement at k) Joining e refl refl refl refl w.asked w.found same_indices w.rows (h.0, h.1, refl, h.2, refl, refl) (omega (arith, whole))
   announcement_stored at k e false more =
       let h = here (StoringAnnouncement at k) e in
       let within = h.3 in
@@ -241,8 +243,8 @@ module _ (s : CoreState) (layout : IsLayout s.sizes) (w : IsSound s) where
           let after : join_left q.join.stage ≡ 1 = ap join_left is in
           let due : IsSome (step_of_join q.join) = subst (λ t. IsSome (join_step s.join.sizes s.join.announcement t)) (sym is) refl in
           let fits : IsTrue (fits_join s.join.sizes q.join.stage) = subst (λ t. IsTrue (fits_join s.join.sizes t)) (sym is) within in
-          kept_as q Joining Joining e e refl refl w.asked w.found same_indices w.rows (h.0, h.1, h.2, h.3, due, fits) (omega (arith, before, after))
-      claimed j false past = kept_as (slots_refused q) Joining (Finished (reply.Refused refused.SlotsSpent)) e refl refl refl w.asked w.found same_indices w.rows tt (omega arith)
+          kept_as q Joining Joining e e refl refl refl w.asked w.found same_indices w.rows (h.0, h.1, h.2, h.3, due, fits) (omega (arith, before, after))
+      claimed j false past = kept_as (slots_refused q) Joining (Finished (reply.Refused refused.SlotsSpent)) e refl refl refl refl w.asked w.found same_indices w.rows tt (omega arith)
 
       -- the store
       stored : (slot : ℕ) → s.join.stage ≡ Storing slot → Keeps s (after_joining q (Joined slot))
@@ -254,7 +256,7 @@ module _ (s : CoreState) (layout : IsLayout s.sizes) (w : IsSound s) where
           let positions : viewing.ArePositions s.sizes s.asked = record { some = h.0; few = w.asked.few; components = w.asked.each } in
           let together = viewed.fresh_together s.sizes false s.asked s.rows positions w.rows in
           let left = viewed.fresh_left s.sizes false s.asked s.rows in
-          kept_as (after_joining q (Joined slot)) Joining Scanning e refl refl refl w.asked w.found same_indices w.rows (together, refl, refl, (refl, omega (arith, below, slots), refl)) (omega (arith, before, left))
+          kept_as (after_joining q (Joined slot)) Joining Scanning e refl refl refl refl w.asked w.found same_indices w.rows (together, refl, refl, (refl, omega (arith, below, slots), refl)) (omega (arith, before, left))
 
       by : (j : JoinStage) → s.join.stage ≡ j → Keeps s (after_joining q (join_after s.join.sizes j x))
       by Claiming j = claimed j (nat_lt x s.join.sizes.slots) refl
@@ -276,7 +278,7 @@ module _ (s : CoreState) (layout : IsLayout s.sizes) (w : IsSound s) where
   kept_at (StoringAnnouncement at k) x e possible = announcement_stored at k e (k == length s.asked) refl
   kept_at Joining x e possible = joining_kept x e
   kept_at Scanning x e possible = scanning_kept x e possible
-  kept_at Leaving x e possible = kept_as (advance_at s Leaving x) Leaving (Finished (scanned_reply s)) e refl refl refl w.asked w.found same_indices w.rows tt (omega arith)
+  kept_at Leaving x e possible = kept_as (advance_at s Leaving x) Leaving (Finished (scanned_reply s)) e refl refl refl refl w.asked w.found same_indices w.rows tt (omega arith)
   kept_at (Finished r) x e possible = absurd possible
 
 pub kept : (s : CoreState) (x : ℕ) → IsLayout s.sizes → IsSound s → IsPossible s x → Keeps s (advance s x)
