@@ -1,6 +1,6 @@
 //! The buffers of an embedded scan.
 
-ghost use Rattle.std.specs.Prelude.{◌≡◌, ◌<◌, length, IfOk, slice_index, slice_index_or, slice_set, false};
+ghost use Rattle.std.specs.Prelude.{◌≡◌, ◌<◌, length, IfOk, slice_index, slice_index_or, slice_set, false, replicate};
 ghost use Rattle.std.specs.Vec.{vec_len};
 
 use partial_words::Sizes;
@@ -27,9 +27,11 @@ impl Model for Rows {
 impl Rows {
     ghost use Rattle.partial_embedded.specs.Embedded.{IsFor};
 
-    /// The buffers for a memory of these sizes. They are refused where the memory for them is.
+    /// The buffers for a memory of these sizes, in which nothing is loaded. They are refused where the
+    /// memory for them is.
     pub fn new(alloc: Global, sizes: Sizes) -> Result<Rows, AllocError>
-        ensures { IfOk result (IsFor sizes) }
+        ensures sizes { IfOk result (IsFor sizes) }
+        ensures empty { IfOk result (λ rows. rows ≡ record { last = replicate sizes.m 0; changed = replicate sizes.m false; values = replicate sizes.m 0 }) }
     {
         let room = sizes.m() as usize;
         Ok(Rows {

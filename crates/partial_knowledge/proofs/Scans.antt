@@ -3,7 +3,7 @@ use Rattle.std.proofs.Common.{ℕ, zero, suc, ◌≡◌, ◌≢◌, ◌+◌, ◌
 use Rattle.std.specs.List.{AllByRecursion}
 use Rattle.std.specs.Option.{option_map_or}
 use Rattle.std.specs.Prelude.{nat_lt, slice_index, slice_index_or}
-use Rattle.std.proofs.lemmas.Bool.{false≢true, cond_both, or_cases, and_parts, and_cases, ltb-true, ltb-false, eqb-true, eqb-false}
+use Rattle.std.proofs.lemmas.Bool.{false≢true, eq-eqb, cond_both, or_cases, and_parts, and_cases, ltb-true, ltb-false, eqb-true, eqb-false}
 use Rattle.std.proofs.lemmas.Bool.Decides.{eqb_tells}
 use Rattle.partial_model.specs.declared.history.Applied.{Applied}
 use Rattle.partial_model.specs.declared.history.Opening.{Opening}
@@ -158,6 +158,13 @@ module _ (o : Opening) (words : List ℕ) (hs : List Holding) (log : List Applie
           | inr e ↦ let other = e.1 in get_or-set_other p.1.last k i x 0 other ∙ knows.same first both.0 i (omega (arith, lt, other))
         ]
 
+    -- in the first collect the load is no change
+    noted_calm : is_first p ≡ true → (i : ℕ) → i < k + 1 → slice_index_or (noted p k x).1.changed i false ≡ false
+    noted_calm first i lt = elim (eqb_tells i k) [
+      | inl e ↦ ap (λ n. slice_index_or (noted p k x).1.changed n false) e.1 ∙ get_or-set_same p.1.changed k (differs p k x || was_changed p k) false in_changed ∙ ap (λ (b : Bool). (not b && not (get_or p.1.last k 0 == x)) || (not b && slice_index_or p.1.changed k false)) first
+      | inr e ↦ let other = e.1 in get_or-set_other p.1.changed k i (differs p k x || was_changed p k) false other ∙ knows.calm_first first i (omega (arith, lt, other))
+    ]
+
     -- the collect goes on
     collects_on : k + 1 < length indices → Known t (at_stage (noted p k x) (Collect (k + 1)))
     unfolding Known
@@ -168,6 +175,8 @@ module _ (o : Opening) (words : List ℕ) (hs : List Holding) (log : List Applie
       to = let to = knows.to in omega (arith, to, after);
       loaded = noted_loaded;
       same = noted_same;
+      calm_first = noted_calm;
+      calm_second = λ second i from lt. get_or-set_other p.1.changed k i (differs p k x || was_changed p k) false (omega (arith, from)) ∙ knows.calm_second second i (omega (arith, from)) lt;
       before = λ first i from lt. let b = knows.before first i (omega (arith, from)) lt in (b.0, noted_other i b.0 (omega (arith, from)) b.1, b.2);
     }
 
@@ -181,6 +190,8 @@ module _ (o : Opening) (words : List ℕ) (hs : List Holding) (log : List Applie
       to = omega arith;
       loaded = λ i lt. absurd (omega (arith, lt));
       same = λ first unmoved i lt. absurd (omega (arith, lt));
+      calm_first = λ first i lt. absurd (omega (arith, lt));
+      calm_second = λ second i from lt. noted_calm (eq-eqb p.0.collects 1 (omega (arith, second))) i (omega (arith, lt, last));
       before = λ first i from lt. let l = noted_loaded i (omega (arith, lt, last)) in (l.0, l.1, l.3);
     }
 
@@ -189,6 +200,7 @@ module _ (o : Opening) (words : List ℕ) (hs : List Holding) (log : List Applie
     unfolding Known
     agreed last first unmoved = record {
       none = knows.none;
+      two = let one = eqb-false p.0.collects 1 first in let some = begun in omega (arith, one, some);
       prefix = knows.middle;
       stamps = λ i lt. noted_same first unmoved i (omega (arith, lt, last));
       values = record { from = knows.from; to = let to = knows.to in omega (arith, to, after); values = λ i lt. absurd (omega (arith, lt)) };
@@ -208,6 +220,13 @@ module _ (o : Opening) (words : List ℕ) (hs : List Holding) (log : List Applie
         let has : HasEntry log low n.place n.entry.component = subst (HasEntry log low n.place) (sym n.component_is) (wider log low b.0 n.place (slice_index indices k) n.from (b.1.change tells.1)) in
         record {
           borrowed = refl;
+          three =
+              let one = eqb-false p.0.collects 1 tells.0 in
+              let some = begun in
+              elim (eqb_tells p.0.collects 2) [
+                | inl second ↦ absurd (false≢true (sym (knows.calm_second second.1 k (omega arith) here) ∙ tells.1))
+                | inr more ↦ let two = more.1 in omega (arith, one, two, some)
+              ];
           place = n.place;
           entry = n.entry;
           stands = n.stands;
@@ -261,8 +280,8 @@ module _ (o : Opening) (words : List ℕ) (hs : List Holding) (log : List Applie
   }
 
   -- the third record's facts, for the machine at another stage
-  abbrev third_on : (stamp : ℕ) (q : Pair) → q.0.borrowed ≡ p.0.borrowed → IsThird words log indices low p stamp → IsThird words log indices low q stamp
-  third_on stamp q same third = record { borrowed = same ∙ third.borrowed; place = third.place; entry = third.entry; stands = third.stands; is = third.is; position = third.position; within = third.within; component = third.component; begun = third.begun }
+  abbrev third_on : (stamp : ℕ) (q : Pair) → q.0.borrowed ≡ p.0.borrowed → q.0.collects ≡ p.0.collects → IsThird words log indices low p stamp → IsThird words log indices low q stamp
+  third_on stamp q same count third = record { borrowed = same ∙ third.borrowed; three = let three = third.three in omega (arith, three, count); place = third.place; entry = third.entry; stands = third.stands; is = third.is; position = third.position; within = third.within; component = third.component; begun = third.begun }
 
   -- no pair, no word
   no_pairs : (pairs : List (ℕ × ℕ)) (stamp : ℕ) → view_of words stamp ≡ 0 → HasPairs p.0.sizes words (unpublished hs) stamp pairs → length pairs ≡ 0
@@ -278,10 +297,10 @@ module _ (o : Opening) (words : List ℕ) (hs : List Holding) (log : List Applie
   step_view stamp t x third is = cond_both ((x == 0) || p.0.shares) Done (Len x) (λ stage. Knows p.0.sizes o words hs log indices low t (record p.0 { view = x; stage = stage }, p.1))
       (λ e. (
         λ none. let bad : None ≡ Some stamp = sym none ∙ third.borrowed in absurd cc,
-        λ s borrowed. subst (λ n. IsThird words log indices low (record p.0 { view = x; stage = Done }, p.1) n × (x ≡ view_of words n)) (one_stamp stamp s third.borrowed borrowed) (third_on stamp (record p.0 { view = x; stage = Done }, p.1) refl third, is),
+        λ s borrowed. subst (λ n. IsThird words log indices low (record p.0 { view = x; stage = Done }, p.1) n × (x ≡ view_of words n)) (one_stamp stamp s third.borrowed borrowed) (third_on stamp (record p.0 { view = x; stage = Done }, p.1) refl refl third, is),
         λ s borrowed shares. subst (λ n. Loads p.0.sizes o words hs log indices low (record p.0 { view = x; stage = Done }, p.1) 0) (one_stamp stamp s third.borrowed borrowed) (empty (nothing e shares)),
       ))
-      (λ e. let neither = or_false (x == 0) p.0.shares e in (stamp, third_on stamp (record p.0 { view = x; stage = Len x }, p.1) refl third, is, is, eqb-false x 0 neither.0, neither.1))
+      (λ e. let neither = or_false (x == 0) p.0.shares e in (stamp, third_on stamp (record p.0 { view = x; stage = Len x }, p.1) refl refl third, is, is, eqb-false x 0 neither.0, neither.1))
     where
       nothing : ((x == 0) || p.0.shares) ≡ true → p.0.shares ≡ false → x ≡ 0
       nothing e shares = elim (or_cases (x == 0) p.0.shares e) [ inl zero_is ↦ eqb-true x 0 zero_is | inr shared ↦ absurd (false≢true (sym shares ∙ shared)) ]
@@ -290,7 +309,7 @@ module _ (o : Opening) (words : List ℕ) (hs : List Holding) (log : List Applie
       empty zero_is =
           let f = third_fresh stamp third in
           let none = no_pairs f.pairs stamp (sym is ∙ zero_is) f.shown in
-          (stamp, third_on stamp (record p.0 { view = x; stage = Done }, p.1) refl third, is, f.pairs, 0, omega (arith, none), none_loaded stamp p.1 third f)
+          (stamp, third_on stamp (record p.0 { view = x; stage = Done }, p.1) refl refl third, is, f.pairs, 0, omega (arith, none), none_loaded stamp p.1 third f)
 
   -- the view of the third record, where it isn't the empty one
   view_here : (stamp : ℕ) (pairs : List (ℕ × ℕ)) → view_of words stamp ≢ 0 → HasPairs p.0.sizes words (unpublished hs) stamp pairs → IsView p.0.sizes words (unpublished hs) (view_of words stamp) pairs
@@ -314,15 +333,15 @@ module _ (o : Opening) (words : List ℕ) (hs : List Holding) (log : List Applie
         cond_both (x == 0) Done (Index (at + 1) x) (λ stage. Knows p.0.sizes o words hs log indices low t (at_stage p stage))
             (λ e.
             let none = eqb-true x 0 e in
-            let all : Loads p.0.sizes o words hs log indices low (at_stage p Done) 0 = (stamp, third_on stamp (at_stage p Done) refl third, view_is, f.pairs, 0, omega (arith, none, count), none_loaded stamp p.1 third f) in (
+            let all : Loads p.0.sizes o words hs log indices low (at_stage p Done) 0 = (stamp, third_on stamp (at_stage p Done) refl refl third, view_is, f.pairs, 0, omega (arith, none, count), none_loaded stamp p.1 third f) in (
               λ nothing. let bad : None ≡ Some stamp = sym nothing ∙ third.borrowed in absurd cc,
-              λ s borrowed. subst (λ n. IsThird words log indices low (at_stage p Done) n × (p.0.view ≡ view_of words n)) (one_stamp stamp s third.borrowed borrowed) (third_on stamp (at_stage p Done) refl third, view_is),
+              λ s borrowed. subst (λ n. IsThird words log indices low (at_stage p Done) n × (p.0.view ≡ view_of words n)) (one_stamp stamp s third.borrowed borrowed) (third_on stamp (at_stage p Done) refl refl third, view_is),
               λ s borrowed shares. all,
             ))
             (λ e.
             let some = eqb-false x 0 e in (
               knows.5,
-              (stamp, third_on stamp (at_stage p (Index (at + 1) x)) refl third, view_is, f.pairs, 0, omega (arith, count), none_loaded stamp p.1 third f),
+              (stamp, third_on stamp (at_stage p (Index (at + 1) x)) refl refl third, view_is, f.pairs, 0, omega (arith, count), none_loaded stamp p.1 third f),
               omega (arith, at_is, view_is),
               omega (arith, some),
             )),
@@ -348,7 +367,7 @@ module _ (o : Opening) (words : List ℕ) (hs : List Holding) (log : List Applie
       let at_is = knows.2 in
       let next = next_pair left l knows.3 (view_shown left l knows.3) in
       let index : x ≡ next.0.0 = is ∙ ap (λ n. get_or words n 0) at_is ∙ next.2 in
-      (subst (λ n. n < p.0.sizes.m) (sym index) next.4, (knows.0, (l.0, third_on l.0 (at_stage p (PairValue (at + 1) left x)) refl l.1, l.2, l.3, l.4, l.5, l.6), omega (arith, at_is), knows.3, (next.0.1, next.1 ∙ ap (λ n. Some (n, next.0.1)) (sym index))))
+      (subst (λ n. n < p.0.sizes.m) (sym index) next.4, (knows.0, (l.0, third_on l.0 (at_stage p (PairValue (at + 1) left x)) refl refl l.1, l.2, l.3, l.4, l.5, l.6), omega (arith, at_is), knows.3, (next.0.1, next.1 ∙ ap (λ n. Some (n, next.0.1)) (sym index))))
 
   pub step_pair : (at left index t x : ℕ) → index < length p.1.values → knows_at p.0.sizes o words hs log indices low high (PairValue at left index) p → x ≡ get_or words at 0 → Knows_at t (at_stage (with_value p index x) (pairs_from (at + 1) (left - 1)))
   unfolding Knows_at
@@ -381,13 +400,13 @@ module _ (o : Opening) (words : List ℕ) (hs : List Holding) (log : List Applie
       (λ e.
         let none = eqb-true (left - 1) 0 e in (
           λ nothing. let bad : None ≡ Some l.0 = sym nothing ∙ l.1.borrowed in absurd cc,
-          λ s borrowed. subst (λ n. IsThird words log indices low (at_stage (with_value p index x) Done) n × (p.0.view ≡ view_of words n)) (one_stamp l.0 s l.1.borrowed borrowed) (third_on l.0 (at_stage (with_value p index x) Done) refl l.1, l.2),
-          λ s borrowed shares. (l.0, third_on l.0 (at_stage (with_value p index x) Done) refl l.1, l.2, l.3, l.4 + 1, omega (arith, sum, some, none), next),
+          λ s borrowed. subst (λ n. IsThird words log indices low (at_stage (with_value p index x) Done) n × (p.0.view ≡ view_of words n)) (one_stamp l.0 s l.1.borrowed borrowed) (third_on l.0 (at_stage (with_value p index x) Done) refl refl l.1, l.2),
+          λ s borrowed shares. (l.0, third_on l.0 (at_stage (with_value p index x) Done) refl refl l.1, l.2, l.3, l.4 + 1, omega (arith, sum, some, none), next),
         ))
       (λ e.
         let more = eqb-false (left - 1) 0 e in (
           knows.0,
-          (l.0, third_on l.0 (at_stage (with_value p index x) (Index (at + 1) (left - 1))) refl l.1, l.2, l.3, l.4 + 1, omega (arith, sum, some), next),
+          (l.0, third_on l.0 (at_stage (with_value p index x) (Index (at + 1) (left - 1))) refl refl l.1, l.2, l.3, l.4 + 1, omega (arith, sum, some), next),
           omega (arith, at_is),
           omega (arith, more),
         ))
@@ -410,10 +429,10 @@ module _ (o : Opening) (words : List ℕ) (hs : List Holding) (log : List Applie
         ];
       } in
       cond_both (nat_lt (k + 1) (length indices)) (Value (k + 1)) Done (λ stage. Knows p.0.sizes o words hs log indices low t (at_stage (with_value p j x) stage))
-      (λ e. record { none = knows.none; prefix = knows.prefix; stamps = knows.stamps; values = next })
+      (λ e. record { none = knows.none; two = knows.two; prefix = knows.prefix; stamps = knows.stamps; values = next })
       (λ e.
         let last = ltb-false (k + 1) (length indices) e in (
-          λ none. (knows.prefix, record { from = next.from; to = next.to; values = λ i lt. next.values i (omega (arith, lt, last)) }),
+          λ none. (knows.two, knows.prefix, record { from = next.from; to = next.to; values = λ i lt. next.values i (omega (arith, lt, last)) }),
           λ s borrowed. let bad : None ≡ Some s = sym knows.none ∙ borrowed in absurd cc,
           λ s borrowed shares. let bad : None ≡ Some s = sym knows.none ∙ borrowed in absurd cc,
         ))

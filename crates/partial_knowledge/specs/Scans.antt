@@ -36,6 +36,9 @@ pub record IsCollecting (o : Opening) (log : List Applied) (indices : List ℕ) 
   pub to : middle ≤ high
   pub loaded : (i : ℕ) → i < k → (t : ℕ) × IsLatest o log indices low p.1 i t × (middle ≤ t) × (t ≤ high)
   pub same : is_first p ≡ false → p.0.moved ≡ false → (i : ℕ) → i < k → slice_index p.1.last i ≡ stamp_of o (take middle log) (slice_index indices i)
+  -- in the first collect no position has changed, and in the second none that isn't loaded yet
+  pub calm_first : is_first p ≡ true → (i : ℕ) → i < k → slice_index_or p.1.changed i false ≡ false
+  pub calm_second : p.0.collects ≡ 2 → (i : ℕ) → k ≤ i → i < length indices → slice_index_or p.1.changed i false ≡ false
   pub before : is_first p ≡ false → (i : ℕ) → k ≤ i → i < length indices → (t : ℕ) × IsLatest o log indices low p.1 i t × (t ≤ middle)
 
 -- the values of the positions after the first n entries, n between the two lengths
@@ -47,6 +50,7 @@ pub record HasValues (o : Opening) (log : List Applied) (indices : List ℕ) (lo
 -- two collects agreed: the latest loads are the stamps after the first n entries, and so many values are loaded
 pub record Agreed (o : Opening) (log : List Applied) (indices : List ℕ) (low high : ℕ) (p : Pair) (k : ℕ) : Type 0 where
   pub none : p.0.borrowed ≡ None
+  pub two : 2 ≤ p.0.collects
   pub prefix : ℕ
   pub stamps : (i : ℕ) → i < length indices → slice_index p.1.last i ≡ stamp_of o (take prefix log) (slice_index indices i)
   pub values : HasValues o log indices low high p.1 prefix k
@@ -55,6 +59,7 @@ pub record Agreed (o : Opening) (log : List Applied) (indices : List ℕ) (low h
 -- entry at `low` or later.
 pub record IsThird (words : List ℕ) (log : List Applied) (indices : List ℕ) (low : ℕ) (p : Pair) (stamp : ℕ) : Type 0 where
   pub borrowed : p.0.borrowed ≡ Some stamp
+  pub three : 3 ≤ p.0.collects
   pub place : ℕ
   pub entry : Applied
   pub stands : slice_get log place ≡ Some entry
@@ -86,7 +91,7 @@ knows_at z o words hs log indices low high (Index at left) p = (p.0.shares ≡ f
 knows_at z o words hs log indices low high (PairValue at left index) p = (p.0.shares ≡ false) × (l : Loads z o words hs log indices low p left) × (at ≡ p.0.view + 2 + 2 * l.4) × (0 < left) × ((v : ℕ) × (slice_get l.3 l.4 ≡ Some (index, v)))
 knows_at z o words hs log indices low high (Value k) p = Agreed o log indices low high p k
 knows_at z o words hs log indices low high Done p =
-    (p.0.borrowed ≡ None → (n : ℕ) × HasValues o log indices low high p.1 n (length indices))
+    (p.0.borrowed ≡ None → (2 ≤ p.0.collects) × (n : ℕ) × HasValues o log indices low high p.1 n (length indices))
     × ((stamp : ℕ) → p.0.borrowed ≡ Some stamp → IsThird words log indices low p stamp × (p.0.view ≡ view_of words stamp))
     × ((stamp : ℕ) → p.0.borrowed ≡ Some stamp → p.0.shares ≡ false → Loads z o words hs log indices low p 0)
 

@@ -1,0 +1,24 @@
+-- The words of the pairs of a record that has the values of a list of indices.
+use Rattle.std.proofs.Common.{ℕ, ◌≡◌, ◌*◌, ◌/◌, ◌%◌, ◌<◌, List, length, get_or, map, sym, ◌∙◌, ap, arith}
+use Rattle.std.proofs.lemmas.List.{length-map}
+use Rattle.std.proofs.Math.ListN as lists
+use Rattle.std.specs.List.{flat_map}
+use Rattle.partial_words.specs.Record.{pair_words}
+use Rattle.partial_words.proofs.RecordLemmas.{word_even, word_odd}
+
+module _ (value : ℕ → ℕ) (l : List ℕ) (k : ℕ) (within : k < 2 * length l) where
+  abbrev pub pairs : List (ℕ × ℕ)
+  pairs = map (λ j. (j, value j)) l
+
+  inside : k < 2 * length pairs
+  inside = let same : length pairs ≡ length l = length-map l (λ j. (j, value j)) in omega (arith, within, same)
+
+  here : get_or pairs (k / 2) (0, value 0) ≡ (get_or l (k / 2) 0, value (get_or l (k / 2) 0))
+  here = lists.get_or-map (λ j. (j, value j)) l (k / 2) 0
+
+  -- at an even place stands an index, at the odd one behind it its value
+  pub index_word : k % 2 ≡ 0 → get_or l (k / 2) 0 ≡ get_or (flat_map pair_words pairs) k 0
+  index_word even = sym (ap (λ (d : ℕ × ℕ). d.0) here) ∙ word_even pairs k (0, value 0) inside even
+
+  pub value_word : (k % 2 ≡ 0 → ⊥) → value (get_or l (k / 2) 0) ≡ get_or (flat_map pair_words pairs) k 0
+  value_word odd = sym (ap (λ (d : ℕ × ℕ). d.1) here) ∙ word_odd pairs k (0, value 0) inside odd

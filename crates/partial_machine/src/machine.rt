@@ -1,0 +1,558 @@
+//! The machine of one port.
+
+ghost use Rattle.std.specs.Prelude.{◌≡◌, ◌≢◌, ◌<◌, ◌≤◌, ◌+◌, ◌*◌, ◌==◌, ◌↔◌, ◌∷◌, map, length, slice_index, nat_lt, if◌then◌else◌, IsTrue, IfOk, OnOk, IfErr, MatchOption, None};
+ghost use Rattle.std.specs.List.{flat_map, list_all};
+ghost use Rattle.std.specs.Vec.{vec_capacity};
+ghost use Rattle.partial_words.specs.Record.{pair_words};
+ghost use Rattle.partial_machine.specs.declared.stage.Stage.TheVariants.{Idle, ReadBegun, UpdateBegun, GettingSet, Viewing, ClaimingRecord, StoringRecord, Exchanging, ScanBegun, StoringAnnouncement, Joining, Scanning, Leaving, Finished};
+ghost use Rattle.partial_machine.specs.declared.stage.Reply.TheVariants as reply;
+ghost use Rattle.partial_machine.specs.Machine.{overtaken, CoreState, IsPossibleAt};
+
+use crate::stage::{Change, Reply, Stage};
+use partial_active::{Found, GetSet, Join, Leave};
+use partial_embedded::{Embedded, Rows};
+use partial_model::Refused;
+use partial_words::{Sizes, Step, announcement_block_word};
+use std::alloc::{AllocError, Global};
+use std::marker::Model;
+
+/// One port's machine. A call is begun, its steps are made one by one and answered, and its reply is
+/// taken; the marks of spent regions stay. All memory is taken when it is made.
+#[derive(Debug, Drop)]
+pub struct Core {
+    sizes: Sizes,
+    port: u32,
+    pool_spent: bool,
+    slots_spent: bool,
+    asked: Vec<u32>,
+    join: Join,
+    leave: Leave,
+    get_set: GetSet,
+    found: Found,
+    embedded: Embedded,
+    rows: Rows,
+    stage: Stage,
+}
+
+impl Model for Core {
+    ghost use Rattle.std.specs.Vec.{vec_capacity};
+    ghost use Rattle.partial_machine.specs.Machine.{CoreState, IsMachine};
+
+    ghost Value = { CoreState };
+
+    ghost view = { λ c. record { sizes = c.sizes; port = c.port; pool_spent = c.pool_spent; slots_spent = c.slots_spent; asked = c.asked.items; join = c.join; leave = c.leave; get_set = c.get_set; found = c.found; embedded = c.embedded; rows = c.rows; stage = c.stage } };
+
+    ghost invariant = { λ c. IsMachine (record { sizes = c.sizes; port = c.port; pool_spent = c.pool_spent; slots_spent = c.slots_spent; asked = c.asked.items; join = c.join; leave = c.leave; get_set = c.get_set; found = c.found; embedded = c.embedded; rows = c.rows; stage = c.stage }) (vec_capacity c.asked) };
+}
+
+impl Core {
+    ghost use Rattle.partial_machine.specs.Machine.{fresh, lists_spent, at_stage, begin_scan, step_of, advance, advance_at, reply_of, read_refusal, update_refusal, scan_refusal, scanned_values, IsPossible, IsPossibleAt, IsInPool, steps_left, record_size, record_words, view_at, pool_refused};
+
+    /// The machine of a port that has made no call. Only where memory is refused is there none.
+    pub fn new(alloc: Global, sizes: Sizes, port: u32) -> Result<Core, AllocError>
+        requires { port < 64 }
+        ensures { IfOk result (λ core. core ≡ fresh sizes port) }
+    {
+        let room = sizes.m() as usize;
+        let _slots = sizes.slots();
+        Ok(Core {
+            sizes,
+            port,
+            pool_spent: false,
+            slots_spent: false,
+            asked: Vec::with_capacity(alloc, room)?,
+            join: Join::new(sizes, 0),
+            leave: Leave::new(sizes, 0),
+            get_set: GetSet::new(sizes, false),
+            found: Found::new(alloc, sizes)?,
+            embedded: Embedded::new(sizes, false),
+            rows: Rows::new(alloc, sizes)?,
+            stage: Stage::Idle,
+        })
+    }
+
+    /// Whether no call is begun.
+    pub fn idle(&self) -> bool
+        ensures { IsTrue result ↔ (self.now.stage ≡ Idle) }
+    {
+        matches!(self.stage, Stage::Idle)
+    }
+
+    /// Whether a pool claim of this port went past the end of the pool.
+    pub fn pool_spent(&self) -> bool
+        ensures { result ≡ self.now.pool_spent }
+    {
+        let Core { pool_spent, .. } = self;
+        *pool_spent
+    }
+
+    /// Whether a slot claim of this port went past the last slot.
+    pub fn slots_spent(&self) -> bool
+        ensures { result ≡ self.now.slots_spent }
+    {
+        let Core { slots_spent, .. } = self;
+        *slots_spent
+    }
+
+    /// Whether a claim of list words by this port went past their end. No call is refused for that.
+    pub fn lists_spent(&self) -> bool
+        ensures { result ≡ lists_spent self.now }
+    {
+        self.get_set.lists_spent()
+    }
+
+    /// Begins an update of component `component` to `value`. It is refused for an index that isn't
+    /// below the number of components, then for the mark of the pool; the machine is then unchanged.
+    pub fn begin_update(&mut self, component: u32, value: u64) -> Result<(), Refused>
+        requires { self.old.stage ≡ Idle }
+        ensures ok { OnOk result ((update_refusal self.old component ≡ None) × (self.new ≡ at_stage self.old (UpdateBegun (record { component = component; expected = None; value = value })))) }
+        ensures err { IfErr result (λ cause. (update_refusal self.old component ≡ Some cause) × (self.new ≡ self.old)) }
+    {
+        self.begin_change(Change {
+            component,
+            expected: None,
+            value,
+        })
+    }
+
+    /// Begins an update of component `component` to `value` that is applied only where the component
+    /// has the stamp `expected`. It is refused as an update is.
+    pub fn begin_update_if(
+        &mut self,
+        component: u32,
+        expected: u64,
+        value: u64,
+    ) -> Result<(), Refused>
+        requires { self.old.stage ≡ Idle }
+        ensures ok { OnOk result ((update_refusal self.old component ≡ None) × (self.new ≡ at_stage self.old (UpdateBegun (record { component = component; expected = Some expected; value = value })))) }
+        ensures err { IfErr result (λ cause. (update_refusal self.old component ≡ Some cause) × (self.new ≡ self.old)) }
+    {
+        self.begin_change(Change {
+            component,
+            expected: Some(expected),
+            value,
+        })
+    }
+
+    fn begin_change(&mut self, change: Change) -> Result<(), Refused>
+        requires { self.old.stage ≡ Idle }
+        ensures ok { OnOk result ((update_refusal self.old change.component ≡ None) × (self.new ≡ at_stage self.old (UpdateBegun change))) }
+        ensures err { IfErr result (λ cause. (update_refusal self.old change.component ≡ Some cause) × (self.new ≡ self.old)) }
+    {
+        if change.component >= self.sizes.m() {
+            return Err(Refused::Component);
+        }
+        if self.pool_spent() {
+            return Err(Refused::PoolSpent);
+        }
+        self.stage = Stage::UpdateBegun { change };
+        Ok(())
+    }
+
+    /// Begins a read of component `component`. It is refused only for an index that isn't below the
+    /// number of components; the machine is then unchanged.
+    pub fn begin_read(&mut self, component: u32) -> Result<(), Refused>
+        requires { self.old.stage ≡ Idle }
+        ensures ok { OnOk result ((read_refusal self.old component ≡ None) × (self.new ≡ at_stage self.old (ReadBegun component))) }
+        ensures err { IfErr result (λ cause. (read_refusal self.old component ≡ Some cause) × (self.new ≡ self.old)) }
+    {
+        if component >= self.sizes.m() {
+            return Err(Refused::Component);
+        }
+        self.stage = Stage::ReadBegun { component };
+        Ok(())
+    }
+
+    /// Begins a scan of these components, in this order and with repeats. It is refused for an index
+    /// that isn't below the number of components, then, where it asks for any, for the mark of the pool
+    /// and for that of the slots; the machine is then unchanged. A scan of none is finished at once.
+    pub fn begin_scan(&mut self, components: &[u32]) -> Result<(), Refused>
+        requires idle { self.old.stage ≡ Idle }
+        requires few { length components.now ≤ self.old.sizes.m }
+        ensures ok { OnOk result ((scan_refusal self.old components.now ≡ None) × (self.new ≡ begin_scan self.old components.now)) }
+        ensures err { IfErr result (λ cause. (scan_refusal self.old components.now ≡ Some cause) × (self.new ≡ self.old)) }
+    {
+        if let Some(cause) = self.scan_refusal(components) {
+            return Err(cause);
+        }
+        set_asked(&mut self.asked, components);
+        self.stage = if components.is_empty() {
+            Stage::Finished {
+                reply: Reply::Scanned {
+                    collects: 0,
+                    borrowed: None,
+                },
+            }
+        } else {
+            Stage::ScanBegun
+        };
+        Ok(())
+    }
+
+    // Why a scan of these components is refused, if it is.
+    fn scan_refusal(&self, components: &[u32]) -> Option<Refused>
+        ensures { result ≡ scan_refusal self.now components.now }
+    {
+        if !all_below(components, self.sizes.m()) {
+            Some(Refused::Component)
+        } else if components.is_empty() {
+            None
+        } else if self.pool_spent {
+            Some(Refused::PoolSpent)
+        } else if self.slots_spent {
+            Some(Refused::SlotsSpent)
+        } else {
+            None
+        }
+    }
+
+    /// The step that is due, or None where no call is begun or the call is finished.
+    pub fn step(&self) -> Option<Step>
+        ensures { result ≡ step_of self.now }
+    {
+        let sizes = &self.sizes;
+        match self.stage {
+            Stage::Idle => None,
+            Stage::ReadBegun { component } => Some(Step::Load(sizes.component_word(component))),
+            Stage::LoadingValue { stamp } => Some(Step::Load((stamp + 1) as u32)),
+            Stage::UpdateBegun { change } => {
+                Some(Step::Load(sizes.component_word(change.component)))
+            }
+            Stage::GettingSet { .. } => self.get_set.step(),
+            Stage::Viewing { .. } => self.embedded.step(&self.rows, self.found.indices()),
+            Stage::ClaimingRecord { .. } => {
+                Some(Step::Add(sizes.pool_counter(), self.record_size()))
+            }
+            Stage::StoringRecord { change, old, at, k } => Some(Step::Store(
+                (at + k) as u32,
+                self.record_word(change, old, at, k),
+            )),
+            Stage::Exchanging { change, old, at } => {
+                Some(Step::Exchange(sizes.component_word(change.component), old, at))
+            }
+            Stage::ScanBegun => Some(Step::Add(sizes.pool_counter(), 1 + self.asked.len() as u64)),
+            Stage::StoringAnnouncement { at, k } => Some(Step::Store(
+                (at + k) as u32,
+                announcement_block_word(&self.asked, k as usize),
+            )),
+            Stage::Joining => self.join.step(),
+            Stage::Scanning => self.embedded.step(&self.rows, &self.asked),
+            Stage::Leaving => self.leave.step(),
+            Stage::Finished { .. } => None,
+        }
+    }
+
+    // How many words the record of an update has.
+    fn record_size(&self) -> u64
+        ensures { result ≡ record_size self.now }
+    {
+        let pairs = self.found.indices().len() as u64;
+        match self.embedded.borrowed() {
+            Some(_) => 3,
+            None if pairs == 0 => 3,
+            None => 4 + 2 * pairs,
+        }
+    }
+
+    // Word k of the record that an update writes at `at`.
+    fn record_word(&self, change: Change, old: u64, at: u64, k: u64) -> u64
+        requires place { IsInPool self.now.sizes at (record_size self.now) }
+        requires within { k < record_size self.now }
+        ensures { result ≡ slice_index (record_words self.now change old at) k }
+    {
+        match k {
+            0 => old,
+            1 => change.value,
+            2 => self.view_at(at),
+            3 => self.found.indices().len() as u64,
+            _ => self.pair_word(k - 4),
+        }
+    }
+
+    // The reference of the view of a record at `at`: a borrowed view is shared and not copied.
+    fn view_at(&self, at: u64) -> u64
+        requires { IsInPool self.now.sizes at (record_size self.now) }
+        ensures { result ≡ view_at self.now at }
+    {
+        match self.embedded.borrowed() {
+            Some(_) => self.embedded.view(),
+            None if self.found.indices().is_empty() => 0,
+            None => at + 3,
+        }
+    }
+
+    // Word k of the pairs of an update that borrows no view, one after the other.
+    fn pair_word(&self, k: u64) -> u64
+        requires { k < 2 * length self.now.found.indices }
+        ensures { result ≡ slice_index (flat_map pair_words (map (λ j. (j, slice_index self.now.rows.values j)) self.now.found.indices)) k }
+    {
+        let index = self.found.indices()[(k / 2) as usize];
+        if k % 2 == 0 {
+            u64::from(index)
+        } else {
+            self.rows.value(index)
+        }
+    }
+
+    /// Takes in the answer to the step that is due.
+    pub fn answer(&mut self, answer: u64)
+        requires { IsPossible self.old answer }
+        ensures state { self.new ≡ advance self.old answer }
+        ensures falls { steps_left self.new < steps_left self.old }
+    {
+        match self.stage {
+            Stage::ReadBegun { .. } => self.stage = Stage::LoadingValue { stamp: answer },
+            Stage::LoadingValue { stamp } => {
+                self.stage = Stage::Finished {
+                    reply: Reply::Read {
+                        value: answer,
+                        stamp,
+                    },
+                };
+            }
+            Stage::UpdateBegun { change } => self.begun(change, answer),
+            Stage::GettingSet { change, old } => self.got(change, old, answer),
+            Stage::Viewing { change, old } => self.viewed(change, old, answer),
+            Stage::ClaimingRecord { change, old } => self.record_claimed(change, old, answer),
+            Stage::StoringRecord { change, old, at, k } => self.record_stored(change, old, at, k),
+            Stage::Exchanging { change, old, at } => {
+                self.stage = Stage::Finished {
+                    reply: exchanged(change, old, at, answer),
+                };
+            }
+            Stage::ScanBegun => self.announcement_claimed(answer),
+            Stage::StoringAnnouncement { at, k } => self.announcement_stored(at, k),
+            Stage::Joining => self.joined(answer),
+            Stage::Scanning => self.collected(answer),
+            Stage::Leaving => self.left(answer),
+            Stage::Idle | Stage::Finished { .. } => unreachable!(),
+        }
+    }
+
+    // An update has loaded its component word: it goes on where that is the stamp that it expects.
+    fn begun(&mut self, change: Change, x: u64)
+        requires stage { self.old.stage ≡ UpdateBegun change }
+        requires possible { IsPossibleAt self.old (UpdateBegun change) x }
+        ensures { self.new ≡ advance_at self.old (UpdateBegun change) x }
+    {
+        if change.expected.is_some_and(|expected| expected != x) {
+            self.stage = Stage::Finished {
+                reply: Reply::Changed { by: x },
+            };
+        } else {
+            self.get_set = GetSet::new(self.sizes, self.get_set.lists_spent());
+            self.stage = Stage::GettingSet { change, old: x };
+        }
+    }
+
+    // The getSet of an update takes its answer. Once it is finished, an embedded scan of what it found
+    // begins, where it found anything.
+    fn got(&mut self, change: Change, old: u64, x: u64)
+        requires stage { self.old.stage ≡ GettingSet change old }
+        requires possible { IsPossibleAt self.old (GettingSet change old) x }
+        ensures { self.new ≡ advance_at self.old (GettingSet change old) x }
+    {
+        self.get_set.answer(&mut self.found, x);
+        if self.get_set.step().is_some() {
+            return;
+        }
+        self.embedded = Embedded::new(self.sizes, true);
+        self.stage = if self.found.indices().is_empty() {
+            Stage::ClaimingRecord { change, old }
+        } else {
+            Stage::Viewing { change, old }
+        };
+    }
+
+    // The embedded scan of an update takes its answer.
+    fn viewed(&mut self, change: Change, old: u64, x: u64)
+        requires stage { self.old.stage ≡ Viewing change old }
+        requires possible { IsPossibleAt self.old (Viewing change old) x }
+        ensures { self.new ≡ advance_at self.old (Viewing change old) x }
+    {
+        self.embedded
+            .answer(&mut self.rows, self.found.indices(), x);
+        if self
+            .embedded
+            .step(&self.rows, self.found.indices())
+            .is_none()
+        {
+            self.stage = Stage::ClaimingRecord { change, old };
+        }
+    }
+
+    // An update has claimed the words of its record.
+    fn record_claimed(&mut self, change: Change, old: u64, at: u64)
+        requires stage { self.old.stage ≡ ClaimingRecord change old }
+        requires possible { IsPossibleAt self.old (ClaimingRecord change old) at }
+        ensures { self.new ≡ advance_at self.old (ClaimingRecord change old) at }
+    {
+        let size = self.record_size();
+        if at + size <= u64::from(self.sizes.pool_end()) {
+            self.stage = Stage::StoringRecord {
+                change,
+                old,
+                at,
+                k: 0,
+            };
+        } else {
+            self.refuse_for_pool();
+        }
+    }
+
+    // An update has stored word k of its record.
+    fn record_stored(&mut self, change: Change, old: u64, at: u64, k: u64)
+        requires stage { self.old.stage ≡ StoringRecord change old at k }
+        ensures { self.new ≡ advance_at self.old (StoringRecord change old at k) 0 }
+    {
+        let size = self.record_size();
+        self.stage = if k + 1 == size {
+            Stage::Exchanging { change, old, at }
+        } else {
+            Stage::StoringRecord {
+                change,
+                old,
+                at,
+                k: k + 1,
+            }
+        };
+    }
+
+    // A scan has claimed the words of its announcement.
+    fn announcement_claimed(&mut self, at: u64)
+        requires stage { self.old.stage ≡ ScanBegun }
+        requires possible { IsPossibleAt self.old ScanBegun at }
+        ensures { self.new ≡ advance_at self.old ScanBegun at }
+    {
+        let size = 1 + self.asked.len() as u64;
+        if at + size <= u64::from(self.sizes.pool_end()) {
+            self.stage = Stage::StoringAnnouncement { at, k: 0 };
+        } else {
+            self.refuse_for_pool();
+        }
+    }
+
+    // A claim went past the end of the pool.
+    fn refuse_for_pool(&mut self)
+        ensures { self.new ≡ pool_refused self.old }
+    {
+        self.pool_spent = true;
+        self.stage = Stage::Finished {
+            reply: Reply::Refused(Refused::PoolSpent),
+        };
+    }
+
+    // A scan has stored word k of its announcement. Once all are stored, the join begins.
+    fn announcement_stored(&mut self, at: u64, k: u64)
+        requires stage { self.old.stage ≡ StoringAnnouncement at k }
+        ensures { self.new ≡ advance_at self.old (StoringAnnouncement at k) 0 }
+    {
+        if k == self.asked.len() as u64 {
+            self.join = Join::new(self.sizes, at);
+            self.stage = Stage::Joining;
+        } else {
+            self.stage = Stage::StoringAnnouncement { at, k: k + 1 };
+        }
+    }
+
+    // The join of a scan takes its answer. Once the announcement stands in a slot, the embedded scan
+    // begins.
+    fn joined(&mut self, x: u64)
+        requires stage { self.old.stage ≡ Joining }
+        ensures { self.new ≡ advance_at self.old Joining x }
+    {
+        self.join.answer(x);
+        if let Some(slot) = self.join.joined() {
+            self.embedded = Embedded::new(self.sizes, false);
+            self.leave = Leave::new(self.sizes, slot);
+            self.stage = Stage::Scanning;
+        } else if self.join.spent() {
+            self.slots_spent = true;
+            self.stage = Stage::Finished {
+                reply: Reply::Refused(Refused::SlotsSpent),
+            };
+        }
+    }
+
+    // The embedded scan of a scan takes its answer. Once it is finished, the scan leaves.
+    fn collected(&mut self, x: u64)
+        requires stage { self.old.stage ≡ Scanning }
+        requires possible { IsPossibleAt self.old Scanning x }
+        ensures { self.new ≡ advance_at self.old Scanning x }
+    {
+        self.embedded.answer(&mut self.rows, &self.asked, x);
+        if self.embedded.step(&self.rows, &self.asked).is_none() {
+            self.stage = Stage::Leaving;
+        }
+    }
+
+    // The scan has left.
+    fn left(&mut self, x: u64)
+        requires stage { self.old.stage ≡ Leaving }
+        ensures { self.new ≡ advance_at self.old Leaving x }
+    {
+        self.leave.answer(x);
+        self.stage = Stage::Finished {
+            reply: Reply::Scanned {
+                collects: self.embedded.collects(),
+                borrowed: self.embedded.borrowed(),
+            },
+        };
+    }
+
+    /// Takes the reply of a finished call, and the machine is idle again. There is none where no call
+    /// is begun or a step is due, and then nothing changes.
+    pub fn take(&mut self) -> Option<Reply>
+        ensures reply { result ≡ reply_of self.old }
+        ensures state { MatchOption result (self.new ≡ self.old) (λ _. self.new ≡ at_stage self.old Idle) }
+    {
+        match self.stage {
+            Stage::Finished { reply } => {
+                self.stage = Stage::Idle;
+                Some(reply)
+            }
+            _ => None,
+        }
+    }
+
+    /// Value `k`, counted from 0, of the last scan that was answered, in the order of its positions. It
+    /// is there until the next call is begun.
+    pub fn scanned(&self, k: usize) -> u64
+        requires { k < length self.now.asked }
+        ensures { result ≡ slice_index (scanned_values self.now) k }
+    {
+        self.rows.value(self.asked[k])
+    }
+}
+
+// Whether each index is below the number.
+fn all_below(indices: &[u32], m: u32) -> bool
+    ensures { result ≡ list_all (λ i. nat_lt i m) indices.now }
+{
+    indices.iter().all(|index| *index < m)
+}
+
+// Sets the positions of a scan. There is room for them.
+fn set_asked(asked: &mut Vec<u32>, components: &[u32])
+    requires { length components.now ≤ vec_capacity asked.old }
+    ensures items { asked.new.items ≡ components.now }
+    ensures room { vec_capacity asked.new ≡ vec_capacity asked.old }
+{
+    asked.clear();
+    for component in components {
+        asked.push_reserved(*component);
+    }
+}
+
+// The reply to an update whose exchange found this record.
+fn exchanged(change: Change, old: u64, at: u64, found: u64) -> Reply
+    ensures { result ≡ (if found == old then reply.Applied at else overtaken change found) }
+{
+    if found == old {
+        return Reply::Applied { stamp: at };
+    }
+    match change.expected {
+        Some(_) => Reply::Changed { by: found },
+        None => Reply::Lost { by: found },
+    }
+}
