@@ -1,0 +1,4 @@
+pub mod ListLemmas
+pub mod Frames
+pub mod HoldingLemmas
+pub mod Rebuild
