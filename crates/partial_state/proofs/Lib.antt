@@ -2,3 +2,4 @@ pub mod ListLemmas
 pub mod Frames
 pub mod HoldingLemmas
 pub mod Rebuild
+pub mod Keeping

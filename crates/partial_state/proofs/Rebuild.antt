@@ -52,11 +52,11 @@ module _ (z : Layout) (words words' : List ℕ) (h h' : Holding) (m : Moves z wo
       }
 
   -- a word of another's own block stays
-  other_word : (b : Own) (n : ℕ) → list_base z ≤ b.at → n < length b.words → IfSome h.own (λ c. AreApart (block_of b) (block_of c)) → get_or words' (b.at + n) 0 ≡ get_or words (b.at + n) 0
+  pub other_word : (b : Own) (n : ℕ) → list_base z ≤ b.at → n < length b.words → IfSome h.own (λ c. AreApart (block_of b) (block_of c)) → get_or words' (b.at + n) 0 ≡ get_or words (b.at + n) 0
   other_word b n far below apart =
       m.same (b.at + n) (omega (arith, far)) (if_some (λ c. AreApart (block_of b) (block_of c)) (λ c. AreApart (word_at (b.at + n)) (block_of c)) h.own (λ c e a. part_apart (word_at (b.at + n)) (block_of b) (block_of c) (omega arith) (omega (arith, below)) a) apart)
 
-  space_far : (b : Own) → IsOwn z words b → list_base z ≤ b.at
+  pub space_far : (b : Own) → IsOwn z words b → list_base z ≤ b.at
   space_far b w = far b.space b.at w.above
     where
       far : (s : Space) (at : ℕ) → first_of z s ≤ at → list_base z ≤ at
@@ -67,7 +67,7 @@ module _ (z : Layout) (words words' : List ℕ) (h h' : Holding) (m : Moves z wo
   counter_grows Pool = m.pool
   counter_grows Lists = m.lists
 
-  own_moves : (b : Own) → IfSome h.own (λ c. AreApart (block_of b) (block_of c)) → IsOwn z words b → IsOwn z words' b
+  pub own_moves : (b : Own) → IfSome h.own (λ c. AreApart (block_of b) (block_of c)) → IsOwn z words b → IsOwn z words' b
   own_moves b apart w =
       let below = w.below in
       let few = w.few in
@@ -92,7 +92,7 @@ module _ (z : Layout) (words words' : List ℕ) (h h' : Holding) (m : Moves z wo
         lists_marked = λ t. let past = w.lists_marked t in omega (arith, past, lists);
       }
 
-  tied_moves : (v : Holding) → IsTied z words v → HaveOtherBlocks v h → IsTied z words' v
+  pub tied_moves : (v : Holding) → IsTied z words v → HaveOtherBlocks v h → IsTied z words' v
   tied_moves v w other =
       marked_moves v (if_some (IsOwn z words) (IsOwn z words') v.own (λ b e own. own_moves b (if_some_at (λ b. IfSome h.own (λ c. AreApart (block_of b) (block_of c))) v.own b e other) own) w.own) w
 
@@ -107,12 +107,6 @@ chain_stays words words' at (l ∷ k ∷ ls) all c =
     (c.0, both.1 ∙ c.1, subst (λ n. IsChain words' n (k ∷ ls)) (sym both.0) (chain_stays words words' (prev_of words at) (k ∷ ls) all.1 c.2))
 
 module _ (z : Layout) (o : Opening) (words words' : List ℕ) (before : List Holding) (h h' : Holding) (after : List Holding) (log : List Applied) (w : LawfulWords z o words (before ++ h ∷ after) log) (m : Moves z words words' h h') where
-  abbrev hs : List Holding
-  hs = before ++ h ∷ after
-
-  abbrev entries : List Block
-  entries = map (λ e. block_at words e.stamp) log
-
   -- what is apart from each block that isn't published is apart from the port's own
   from_own : (b : Block) → AllByRecursion (AreApart b) (unpublished (before ++ h ∷ after)) → IfSome h.own (λ c. AreApart b (block_of c))
   from_own b all = all_at (λ v. IfSome v.own (λ c. AreApart b (block_of c))) before h after (unpublished_all (AreApart b) (before ++ h ∷ after) all)
@@ -137,7 +131,7 @@ module _ (z : Layout) (o : Opening) (words words' : List ℕ) (before : List Hol
   pub entry_three : (k : ℕ) (e : Applied) (n : ℕ) → slice_get log k ≡ Some e → n < 3 → get_or words' (e.stamp + n) 0 ≡ get_or words (e.stamp + n) 0
   entry_three k e n s below = let size = three_words words e.stamp in entry_word k e n s (omega (arith, size, below))
 
-  entry_prev : (k : ℕ) (e : Applied) → slice_get log k ≡ Some e → get_or words' e.stamp 0 ≡ get_or words e.stamp 0
+  pub entry_prev : (k : ℕ) (e : Applied) → slice_get log k ≡ Some e → get_or words' e.stamp 0 ≡ get_or words e.stamp 0
   entry_prev k e s = let none : e.stamp ≡ e.stamp + 0 = omega arith in ap (λ n. get_or words' n 0) none ∙ entry_three k e 0 s (omega arith) ∙ ap (λ n. get_or words n 0) (sym none)
 
   initial_word : (n : ℕ) → pool_base z ≤ n → n < pool_base z + 3 * z.m → get_or words' n 0 ≡ get_or words n 0
@@ -170,8 +164,8 @@ module _ (z : Layout) (o : Opening) (words words' : List ℕ) (before : List Hol
   blocks_stay hs two = subst (λ (l : List Block). EachTwo AreApart (record { at = pool_base z; size = 3 * z.m } ∷ (l ++ (announcements hs ++ unpublished hs)))) (sym entries_stay) two
 
   -- what the ports of the other holdings own is apart from what the port owns
-  own_before : AllByRecursion (HaveOtherBlocks h) before
+  pub own_before : AllByRecursion (HaveOtherBlocks h) before
   own_before = two_before HaveOtherBlocks blocks_turn before h after (apart_others (before ++ h ∷ after) unpublished_two)
 
-  own_after : AllByRecursion (HaveOtherBlocks h) after
+  pub own_after : AllByRecursion (HaveOtherBlocks h) after
   own_after = two_after HaveOtherBlocks blocks_turn before h after (apart_others (before ++ h ∷ after) unpublished_two)
