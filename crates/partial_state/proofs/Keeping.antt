@@ -77,6 +77,19 @@ due_moves z o words words' v v' others others' log log' d f g own unjoined named
           (fresh_moves z words words' (unpublished others) (unpublished others') f o log log' g d.at prev view (length log) (length log') more (omega arith) both.0, covers prev view before both.1);
     }
 
+-- a claim whose slot stays
+pub claim_moves : (z : Layout) (words words' : List ℕ) (hs hs' : List Holding) (log log' : List Applied) (d : Claimed) → Frame z words words' (unpublished hs) (unpublished hs') → length log ≤ length log' → get_or words' (slot_word z d.slot) 0 ≡ get_or words (slot_word z d.slot) 0 → IsClaim z words hs log d → IsClaim z words' hs' log' d
+claim_moves z words words' hs hs' log log' d f longer same k =
+    let more = f.slots in
+    let below = k.below in
+    record { slot = k.slot; below = omega (arith, below, more); holds = holds z words words' hs hs' log log' f longer d.slot d.joined same k.holds }
+  where
+    holds : (z : Layout) (words words' : List ℕ) (hs hs' : List Holding) (log log' : List Applied) → Frame z words words' (unpublished hs) (unpublished hs') → length log ≤ length log' → (l : ℕ) (j : Option Joined) → get_or words' (slot_word z l) 0 ≡ get_or words (slot_word z l) 0 → MatchOption j (get_or words (slot_word z l) 0 ≡ 0) (λ j. (get_or words (slot_word z l) 0 ≡ j.at) × (j.since ≤ length log) × IsAnnounced z words (unpublished hs) j.at j.indices) → MatchOption j (get_or words' (slot_word z l) 0 ≡ 0) (λ j. (get_or words' (slot_word z l) 0 ≡ j.at) × (j.since ≤ length log') × IsAnnounced z words' (unpublished hs') j.at j.indices)
+    holds z words words' hs hs' log log' f longer l None same k = same ∙ k
+    holds z words words' hs hs' log log' f longer l (Some j) same k =
+        let since = k.1 in
+        (same ∙ k.0, omega (arith, since, longer), announced_moves z words words' (unpublished hs) (unpublished hs') f j.at j.indices k.2)
+
 module _ (z : Layout) (o : Opening) (words words' : List ℕ) (before : List Holding) (h h' : Holding) (after : List Holding) (log log' : List Applied) (w : LawfulWords z o words (before ++ h ∷ after) log) (c : Changes z o words words' before h h' after log log') where
   -- what a record covers, whatever the others hold
   covers_all : (front back : List Holding) (stamp n : ℕ) → prev_of words' stamp ≡ prev_of words stamp → view_of words' stamp ≡ view_of words stamp → IsWithin o log n (prev_of words stamp) → CoversAll z words (front ++ h ∷ back) log stamp → CoversAll z words' (front ++ h' ∷ back) log' stamp
@@ -120,17 +133,7 @@ module _ (z : Layout) (o : Opening) (words words' : List ℕ) (before : List Hol
   other_claim v other claim =
       if_some (IsClaim z words (before ++ h ∷ after) log) (IsClaim z words' (before ++ h' ∷ after) log') v.claimed (λ d e k.
           let free : IfSome h.claimed (λ b. b.slot ≢ d.slot) = if_some (λ b. IfSome v.claimed (λ d. b.slot ≢ d.slot)) (λ b. b.slot ≢ d.slot) h.claimed (λ b e' s. if_some_at (λ d. b.slot ≢ d.slot) v.claimed d e s) other in
-          let same = c.moves.slot d.slot k.slot free in
-          let more = c.moves.slots in
-          let below = k.below in
-          record { slot = k.slot; below = omega (arith, below, more); holds = holds d.slot d.joined same k.holds }) claim
-    where
-      holds : (l : ℕ) (j : Option Joined) → get_or words' (slot_word z l) 0 ≡ get_or words (slot_word z l) 0 → MatchOption j (get_or words (slot_word z l) 0 ≡ 0) (λ j. (get_or words (slot_word z l) 0 ≡ j.at) × (j.since ≤ length log) × IsAnnounced z words (unpublished (before ++ h ∷ after)) j.at j.indices) → MatchOption j (get_or words' (slot_word z l) 0 ≡ 0) (λ j. (get_or words' (slot_word z l) 0 ≡ j.at) × (j.since ≤ length log') × IsAnnounced z words' (unpublished (before ++ h' ∷ after)) j.at j.indices)
-      holds l None same k = same ∙ k
-      holds l (Some j) same k =
-          let more = c.grows.more in
-          let since = k.1 in
-          (same ∙ k.0, omega (arith, since, more), announced_moves z words words' (unpublished (before ++ h ∷ after)) (unpublished (before ++ h' ∷ after)) here j.at j.indices k.2)
+          claim_moves z words words' (before ++ h ∷ after) (before ++ h' ∷ after) log log' d here c.grows.more (c.moves.slot d.slot k.slot free) k) claim
 
   -- the claims of slots, one holding apart
   claimed_or : (l : ℕ) (front : List Holding) → IsClaimedIn l (front ++ h ∷ after) → IsClaimedIn l (front ++ h' ∷ after) ⊎ IsSomeAnd h.claimed (λ c. c.slot ≡ l)
