@@ -4,4 +4,6 @@ pub mod HoldingLemmas
 pub mod Blocks
 pub mod Rebuild
 pub mod Keeping
+pub mod Quiet
 pub mod LoadLaw
+pub mod MarkLaws

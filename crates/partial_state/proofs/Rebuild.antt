@@ -80,6 +80,21 @@ module _ (z : Layout) (words words' : List ℕ) (h h' : Holding) (m : Moves z wo
         stands = λ i stored. other_word b i (space_far b w) (omega (arith, stored, few)) apart ∙ w.stands i stored;
       }
 
+  -- an own block stays where no word of a block changes
+  pub own_stays : ((n : ℕ) → list_base z ≤ n → get_or words' n 0 ≡ get_or words n 0) → (f : Option Own) → IfSome f (IsOwn z words) → IfSome f (IsOwn z words')
+  own_stays far f w =
+      if_some (IsOwn z words) (IsOwn z words') f (λ b e own.
+          let above = space_far b own in
+          let below = own.below in
+          let more = counter_grows b.space in
+          record {
+            above = own.above;
+            within = own.within;
+            below = omega (arith, below, more);
+            few = own.few;
+            stands = λ i stored. far (b.at + i) (omega (arith, above)) ∙ own.stands i stored;
+          }) w
+
   pub marked_moves : (v : Holding) → IfSome v.own (IsOwn z words') → IsTied z words v → IsTied z words' v
   marked_moves v own w =
       let pool = m.pool in

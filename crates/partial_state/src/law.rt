@@ -1,7 +1,34 @@
 //! The laws of the kinds of step. The functions have no code: their contracts hold of the definitions by
 //! which lawful words are stated.
 
-ghost use Rattle.partial_state.specs.Effects.{LoadsAreTrue};
+ghost use Rattle.partial_state.specs.Effects.{PoolRefusalsAreKept, ListRefusalsAreKept, DuesAreKept, DropsAreKept, SlotRefusalsAreKept, LoadsAreTrue};
+
+/// A claim past the end of the pool: the port is marked, and the counter is past the end by no more than
+/// one greatest claim for each port that is marked.
+pub fn pool_refusals_are_kept()
+    ensures { PoolRefusalsAreKept }
+{}
+
+/// A claim past the last list word: the same for the list words.
+pub fn list_refusals_are_kept()
+    ensures { ListRefusalsAreKept }
+{}
+
+/// The exchange of a component comes to be due: its record stands whole and would have a fresh and
+/// covering view.
+pub fn dues_are_kept()
+    ensures { DuesAreKept }
+{}
+
+/// A block of one's own is given up: its exchange was lost, or the call is refused.
+pub fn drops_are_kept()
+    ensures { DropsAreKept }
+{}
+
+/// A claim past the last slot: the port is marked.
+pub fn slot_refusals_are_kept()
+    ensures { SlotRefusalsAreKept }
+{}
 
 /// What a load answers is true from then on, of each word but those of blocks that aren't published.
 pub fn loads_are_true()
