@@ -7,3 +7,4 @@ pub mod Keeping
 pub mod Quiet
 pub mod LoadLaw
 pub mod MarkLaws
+pub mod BlockLaws

@@ -1,7 +1,13 @@
 //! The laws of the kinds of step. The functions have no code: their contracts hold of the definitions by
 //! which lawful words are stated.
 
-ghost use Rattle.partial_state.specs.Effects.{PoolRefusalsAreKept, ListRefusalsAreKept, DuesAreKept, DropsAreKept, SlotRefusalsAreKept, LoadsAreTrue};
+ghost use Rattle.partial_state.specs.Effects.{ClaimsAreKept, PoolRefusalsAreKept, ListRefusalsAreKept, DuesAreKept, DropsAreKept, SlotRefusalsAreKept, LoadsAreTrue};
+
+/// A claim of a block within its space: the port holds a block of which nothing is stored, apart from every
+/// other one.
+pub fn claims_are_kept()
+    ensures { ClaimsAreKept }
+{}
 
 /// A claim past the end of the pool: the port is marked, and the counter is past the end by no more than
 /// one greatest claim for each port that is marked.
