@@ -165,3 +165,147 @@ module _ (z : Layout) (o : Opening) (words : List ℕ) (before : List Holding) (
 
 pub claims_are_kept : ClaimsAreKept
 claims_are_kept z o words before h after log space block w unowned idle room = claim_is_kept z o words before h after log w space block unowned idle room
+
+-- a port's own block lies within the words
+own_within : (z : Layout) (words : List ℕ) (b : Own) → IsOwn z words b → b.at + length b.words ≤ total z
+own_within z words b w = within b.space b.at (length b.words) w.within
+  where
+    within : (s : Space) (at n : ℕ) → at + n ≤ end_of z s → at + n ≤ total z
+    within Pool at n w = w
+    within Lists at n w = omega (arith, w)
+
+own_far : (z : Layout) (words : List ℕ) (b : Own) → IsOwn z words b → list_base z ≤ b.at
+own_far z words b w = far b.space b.at w.above
+  where
+    far : (s : Space) (at : ℕ) → first_of z s ≤ at → list_base z ≤ at
+    far Pool at above = omega (arith, above)
+    far Lists at above = above
+
+-- a word apart from the block isn't one of it
+not_inside : (n at k size : ℕ) → k < size → AreApart (word_at n) (record { at = at; size = size }) → n ≢ at + k
+not_inside n at k size below (inl h) = λ e. omega (arith, h, e)
+not_inside n at k size below (inr h) = λ e. omega (arith, h, e, below)
+
+counter_before : (z : Layout) (s : Space) → counter_of z s < list_base z
+counter_before z Pool = omega arith
+counter_before z Lists = omega arith
+
+pub stores_are_kept : StoresAreKept
+stores_are_kept z o words before h after log b w is idle more =
+    let b' : Own = record b { stored = b.stored + 1 } in
+    let h' : Holding = record h { own = Some (record b { stored = b.stored + 1 }) } in
+    let n = b.at + b.stored in
+    let v = get_or b.words b.stored 0 in
+    let words' = set words n v in
+    let count = w.count in
+    let tied = all_at (IsTied z words) before h after w.tied in
+    let own : IsOwn z words b = if_some_at (IsOwn z words) h.own b is tied.own in
+    let within = own_within z words b own in
+    let above = own_far z words b own in
+    let other : (k : ℕ) → k ≢ n → get_or words' k 0 ≡ get_or words k 0 = λ k differs. get_or-set_other words n k v 0 differs in
+    let low : (k : ℕ) → k < list_base z → get_or words' k 0 ≡ get_or words k 0 = λ k below. other k (λ e. omega (arith, above, below, e)) in
+    let pool = low (pool_counter z) (omega arith) in
+    let lists = low (list_counter z) (omega arith) in
+    let slots = low (slot_counter z) (omega arith) in
+    let slot_words : (l : ℕ) → l < z.slots → get_or words' (slot_word z l) 0 ≡ get_or words (slot_word z l) 0 = λ l room. low (slot_word z l) (omega (arith, room)) in
+    let m : Moves z words words' h h' = record {
+      port = refl;
+      count = length-set words n v;
+      pool = omega (arith, pool);
+      lists = omega (arith, lists);
+      slots = omega (arith, slots);
+      same = λ k far free. other k (not_inside k b.at b.stored (length b.words) more (if_some_at (λ c. AreApart (word_at k) (block_of c)) h.own b is free));
+      apart = λ x claimed free. if_some_at (λ c. AreApart x (block_of c)) h.own b is free;
+      slot = λ l room free. slot_words l room;
+      vacated = λ l room one. slot_words l room ∙ one;
+    } in
+    let counter = low (counter_of z b.space) (counter_before z b.space) in
+    let below = own.below in
+    calm z o words words' before h h' after log w (record {
+      moves = m;
+      components = λ j inside. low j (omega (arith, inside));
+      tied = record {
+        own = record {
+          above = own.above;
+          within = own.within;
+          below = omega (arith, below, counter);
+          few = omega (arith, more);
+          stands = λ i stored. elim (cases_lt i b.stored) [
+            | inl old ↦ other (b.at + i) (λ e. omega (arith, old, e)) ∙ own.stands i old
+            | inr from ↦ let last : i ≡ b.stored = omega (arith, from, stored) in ap (λ t. get_or words' (b.at + t) 0) last ∙ get_or-set_same words n v 0 (omega (arith, count, within, more)) ∙ ap (λ t. get_or b.words t 0) (sym last)
+          ];
+        };
+        pool_marked = λ t. let old = tied.pool_marked t in omega (arith, old, pool);
+        slots_marked = λ t. let old = tied.slots_marked t in omega (arith, old, slots);
+        lists_marked = λ t. let old = tied.lists_marked t in omega (arith, old, lists);
+      };
+      apart = subst (EachTwo AreApart) (sym (blocks_same z words (before ++ h ∷ after) (before ++ h' ∷ after) log (announced_same before h h' after refl) (unpublished_is before h' after (Some b') refl ∙ sym (unpublished_is before h after (Some b) is)))) w.apart;
+      due = none_here (IsDue z o words' h' (others_of h'.port (before ++ h' ∷ after)) log) h.due idle;
+      claimed = refl;
+      slot_words = slot_words;
+      counts = λ l inside room. omega (arith, inside, slots);
+      head = head_stays z o words words' before h h' after log w m (low (list_head z) (omega arith));
+      pool_high = pool_stays before h h' after (get_or words' (pool_counter z) 0) (pool_end z) (4 + 2 * z.m) refl (let high = w.pool_high in omega (arith, pool, high));
+      slots_high = slots_stay before h h' after (get_or words' (slot_counter z) 0) z.slots refl (let high = w.slots_high in omega (arith, slots, high));
+      lists_high = lists_stay before h h' after (get_or words' (list_counter z) 0) (list_end z) (z.slots + 2) refl (let high = w.lists_high in omega (arith, lists, high));
+    })
+
+-- a block that is published is apart from all that aren't
+pub own_freed : (before : List Holding) (h h' : Holding) (after : List Holding) (b : Own) → h.own ≡ Some b → h'.own ≡ None → EachTwo AreApart (unpublished (before ++ h ∷ after)) → IsApartFrom (unpublished (before ++ h' ∷ after)) (block_of b)
+own_freed before h h' after b is none two = (two_take AreApart apart_turns (block_of b) (unpublished (before ++ h' ∷ after)) (unpublished (before ++ h ∷ after)) (own_added before h h' after b none is) two).1
+
+pub publishings_are_kept : PublishingsAreKept
+publishings_are_kept z o words before h after log old at list w idle is normal holds =
+    let b : Own = record { space = Lists; at = at; words = list_block list; stored = length (list_block list) } in
+    let h' : Holding = record h { own = None } in
+    let n = list_head z in
+    let v = cond (get_or words n 0 == old) at (get_or words n 0) in
+    let words' = set words n v in
+    let count = w.count in
+    let some = w.sizes.slots.0 in
+    let tied = all_at (IsTied z words) before h after w.tied in
+    let own : IsOwn z words b = if_some_at (IsOwn z words) h.own b is tied.own in
+    let other : (k : ℕ) → k ≢ n → get_or words' k 0 ≡ get_or words k 0 = λ k differs. get_or-set_other words n k v 0 differs in
+    let now : get_or words' (list_head z) 0 ≡ v = get_or-set_same words n v 0 (omega (arith, count, some)) in
+    let pool : get_or words' (pool_counter z) 0 ≡ get_or words (pool_counter z) 0 = other (pool_counter z) (λ e. omega (arith, e)) in
+    let lists : get_or words' (list_counter z) 0 ≡ get_or words (list_counter z) 0 = other (list_counter z) (λ e. omega (arith, e)) in
+    let slots : get_or words' (slot_counter z) 0 ≡ get_or words (slot_counter z) 0 = other (slot_counter z) (λ e. omega (arith, e)) in
+    let slot_words : (l : ℕ) → l < z.slots → get_or words' (slot_word z l) 0 ≡ get_or words (slot_word z l) 0 = λ l room. other (slot_word z l) (λ e. omega (arith, e)) in
+    let far : (k : ℕ) → list_base z ≤ k → get_or words' k 0 ≡ get_or words k 0 = λ k above. other k (λ e. omega (arith, above, e)) in
+    let m : Moves z words words' h h' = record { port = refl; count = length-set words n v; pool = omega (arith, pool); lists = omega (arith, lists); slots = omega (arith, slots); same = λ k above free. far k above; apart = λ x claimed free. tt; slot = λ l room free. slot_words l room; vacated = λ l room one. slot_words l room ∙ one } in
+    let frame = frame_of z words words' h h' m before after in
+    let above = own.above in
+    let within = own.within in
+    let below = own.below in
+    let long = length-pairs list in
+    let published : IsPublishedList z words' (unpublished (before ++ h' ∷ after)) at list = record {
+      whole = record {
+        from = own.above;
+        to = omega (arith, within, long);
+        normal = normal;
+        stands = λ k inside. (omega (arith, within, inside, count, frame.count), far (at + k) (omega (arith, above)) ∙ own.stands k inside);
+        within = λ x held. (holds x held).0;
+        vacated = λ x held. slot_words x (holds x held).0 ∙ (holds x held).1;
+      };
+      below = omega (arith, below, lists);
+      apart = own_freed before h h' after b is refl (unpublished_two z o words words' before h h' after log w m);
+    } in
+    let head : IsHead z words' (unpublished (before ++ h' ∷ after)) (get_or words (list_head z) 0) = head_moves z words words' (unpublished (before ++ h ∷ after)) (unpublished (before ++ h' ∷ after)) frame (get_or words (list_head z) 0) w.head in
+    calm z o words words' before h h' after log w (record {
+      moves = m;
+      components = λ j inside. other j (λ e. omega (arith, inside, e));
+      tied = record { own = tt; pool_marked = λ t. let old = tied.pool_marked t in omega (arith, old, pool); slots_marked = λ t. let old = tied.slots_marked t in omega (arith, old, slots); lists_marked = λ t. let old = tied.lists_marked t in omega (arith, old, lists) };
+      apart = block_given_up z words before h h' after log h.own refl refl refl w.apart;
+      due = none_here (IsDue z o words' h' (others_of h'.port (before ++ h' ∷ after)) log) h.due idle;
+      claimed = refl;
+      slot_words = slot_words;
+      counts = λ l inside room. omega (arith, inside, slots);
+      head = subst (IsHead z words' (unpublished (before ++ h' ∷ after))) (sym now) (either z words' (unpublished (before ++ h' ∷ after)) (get_or words n 0 == old) at (get_or words n 0) (inr (list, published)) head);
+      pool_high = pool_stays before h h' after (get_or words' (pool_counter z) 0) (pool_end z) (4 + 2 * z.m) refl (let high = w.pool_high in omega (arith, pool, high));
+      slots_high = slots_stay before h h' after (get_or words' (slot_counter z) 0) z.slots refl (let high = w.slots_high in omega (arith, slots, high));
+      lists_high = lists_stay before h h' after (get_or words' (list_counter z) 0) (list_end z) (z.slots + 2) refl (let high = w.lists_high in omega (arith, lists, high));
+    })
+  where
+    either : (z : Layout) (words : List ℕ) (us : List Block) (t : Bool) (x y : ℕ) → IsHead z words us x → IsHead z words us y → IsHead z words us (cond t x y)
+    either z words us true x y p q = p
+    either z words us false x y p q = q

@@ -1,7 +1,7 @@
 //! The laws of the kinds of step. The functions have no code: their contracts hold of the definitions by
 //! which lawful words are stated.
 
-ghost use Rattle.partial_state.specs.Effects.{ClaimsAreKept, PoolRefusalsAreKept, ListRefusalsAreKept, DuesAreKept, DropsAreKept, SlotRefusalsAreKept, LoadsAreTrue};
+ghost use Rattle.partial_state.specs.Effects.{ClaimsAreKept, PoolRefusalsAreKept, ListRefusalsAreKept, StoresAreKept, DuesAreKept, DropsAreKept, SlotRefusalsAreKept, PublishingsAreKept, LoadsAreTrue};
 
 /// A claim of a block within its space: the port holds a block of which nothing is stored, apart from every
 /// other one.
@@ -20,6 +20,11 @@ pub fn list_refusals_are_kept()
     ensures { ListRefusalsAreKept }
 {}
 
+/// A store of the next word of a block of one's own, that no other port reads yet.
+pub fn stores_are_kept()
+    ensures { StoresAreKept }
+{}
+
 /// The exchange of a component comes to be due: its record stands whole and would have a fresh and
 /// covering view.
 pub fn dues_are_kept()
@@ -34,6 +39,12 @@ pub fn drops_are_kept()
 /// A claim past the last slot: the port is marked.
 pub fn slot_refusals_are_kept()
     ensures { SlotRefusalsAreKept }
+{}
+
+/// An exchange of the list head: where it is won the list that the port has written is published, and
+/// else it is given up.
+pub fn publishings_are_kept()
+    ensures { PublishingsAreKept }
 {}
 
 /// What a load answers is true from then on, of each word but those of blocks that aren't published.
