@@ -8,3 +8,4 @@ pub mod Quiet
 pub mod LoadLaw
 pub mod MarkLaws
 pub mod BlockLaws
+pub mod SlotLaws

@@ -1,7 +1,7 @@
 //! The laws of the kinds of step. The functions have no code: their contracts hold of the definitions by
 //! which lawful words are stated.
 
-ghost use Rattle.partial_state.specs.Effects.{ClaimsAreKept, PoolRefusalsAreKept, ListRefusalsAreKept, StoresAreKept, DuesAreKept, DropsAreKept, SlotRefusalsAreKept, PublishingsAreKept, LoadsAreTrue};
+ghost use Rattle.partial_state.specs.Effects.{ClaimsAreKept, PoolRefusalsAreKept, ListRefusalsAreKept, StoresAreKept, DuesAreKept, DropsAreKept, SlotClaimsAreKept, SlotRefusalsAreKept, JoinsAreKept, LeavesAreKept, PublishingsAreKept, LoadsAreTrue};
 
 /// A claim of a block within its space: the port holds a block of which nothing is stored, apart from every
 /// other one.
@@ -36,9 +36,24 @@ pub fn drops_are_kept()
     ensures { DropsAreKept }
 {}
 
+/// A claim of a slot, which is EMPTY.
+pub fn slot_claims_are_kept()
+    ensures { SlotClaimsAreKept }
+{}
+
 /// A claim past the last slot: the port is marked.
 pub fn slot_refusals_are_kept()
     ensures { SlotRefusalsAreKept }
+{}
+
+/// A join: the announcement that the port has written is published in its slot.
+pub fn joins_are_kept()
+    ensures { JoinsAreKept }
+{}
+
+/// A leave: the slot is VACATED, and stays so for ever.
+pub fn leaves_are_kept()
+    ensures { LeavesAreKept }
 {}
 
 /// An exchange of the list head: where it is won the list that the port has written is published, and
