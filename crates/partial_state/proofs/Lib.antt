@@ -9,3 +9,4 @@ pub mod LoadLaw
 pub mod MarkLaws
 pub mod BlockLaws
 pub mod SlotLaws
+pub mod WinLaw

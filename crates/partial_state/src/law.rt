@@ -1,7 +1,7 @@
 //! The laws of the kinds of step. The functions have no code: their contracts hold of the definitions by
 //! which lawful words are stated.
 
-ghost use Rattle.partial_state.specs.Effects.{ClaimsAreKept, PoolRefusalsAreKept, ListRefusalsAreKept, StoresAreKept, DuesAreKept, DropsAreKept, SlotClaimsAreKept, SlotRefusalsAreKept, JoinsAreKept, LeavesAreKept, PublishingsAreKept, LoadsAreTrue};
+ghost use Rattle.partial_state.specs.Effects.{ClaimsAreKept, PoolRefusalsAreKept, ListRefusalsAreKept, StoresAreKept, DuesAreKept, DropsAreKept, WinsAreKept, SlotClaimsAreKept, SlotRefusalsAreKept, JoinsAreKept, LeavesAreKept, PublishingsAreKept, LoadsAreTrue};
 
 /// A claim of a block within its space: the port holds a block of which nothing is stored, apart from every
 /// other one.
@@ -34,6 +34,11 @@ pub fn dues_are_kept()
 /// A block of one's own is given up: its exchange was lost, or the call is refused.
 pub fn drops_are_kept()
     ensures { DropsAreKept }
+{}
+
+/// A won exchange of a component: its record is published, and the history gains its entry.
+pub fn wins_are_kept()
+    ensures { WinsAreKept }
 {}
 
 /// A claim of a slot, which is EMPTY.
