@@ -1,0 +1,12 @@
+pub mod ListLemmas
+pub mod Frames
+pub mod HoldingLemmas
+pub mod Blocks
+pub mod Rebuild
+pub mod Keeping
+pub mod Quiet
+pub mod LoadLaw
+pub mod MarkLaws
+pub mod BlockLaws
+pub mod SlotLaws
+pub mod WinLaw

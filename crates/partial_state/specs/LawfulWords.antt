@@ -1,5 +1,5 @@
 -- Lawful words: what stands in them, whose it is, and the history that they agree with.
-use Rattle.std.specs.Prelude.{ℕ, ◌≡◌, ◌+◌, ◌*◌, ◌<◌, ◌≤◌, ◌⊎◌, true, List, [], ◌∷◌, length, slice_index, slice_get, Some, IfSome, IsSomeAnd, MatchOption}
+use Rattle.std.specs.Prelude.{ℕ, ◌≡◌, ◌+◌, ◌*◌, ◌<◌, ◌≤◌, ◌⊎◌, true, List, [], ◌∷◌, length, slice_index, slice_get, Some, None, IfSome, IsSomeAnd, MatchOption}
 use Rattle.std.specs.List.{AllByRecursion}
 use Rattle.partial_model.specs.declared.history.Applied.{Applied}
 use Rattle.partial_model.specs.declared.history.Opening.{Opening}
@@ -9,7 +9,7 @@ use Rattle.partial_words.specs.Record.{prev_of, value_of}
 use Rattle.partial_words.specs.Chain.{Agrees}
 use Rattle.partial_state.specs.Views.{AreApart, HasFreshView, Covers, IsWithin, IsAnnounced, IsHead}
 use Rattle.partial_state.specs.Holdings.Space.{Pool}
-use Rattle.partial_state.specs.Holdings.{Claimed, Own, Due, Holding, first_of, end_of, counter_of, block_of, block_at, unpublished, blocks_in, others_of, IfJoined, EachTwo, HaveOtherPorts, HaveOtherSlots, pool_marks, slot_marks, list_marks}
+use Rattle.partial_state.specs.Holdings.{Claimed, Own, Due, Holding, first_of, end_of, counter_of, block_of, block_at, unpublished, blocks_in, others_of, IfJoined, joined_in, EachTwo, HaveOtherPorts, HaveOtherSlots, pool_marks, slot_marks, list_marks}
 
 -- a block of a port's own lies in its space and below the counter, and holds what is stored
 pub record IsOwn (z : Layout) (words : List ℕ) (b : Own) : Type 0 where
@@ -42,13 +42,15 @@ abbrev pub CoversAll : Layout → List ℕ → List Holding → List Applied →
 CoversAll z words hs log stamp = AllByRecursion (λ h. IfJoined h (λ l j. Covers z words (unpublished hs) log stamp j)) hs
 
 -- The exchange is due: the port's own block is that record and stands whole, the record before it is one of the
--- history, and if the exchange won, its view would be fresh and covering; it is then no block of the port's own any more.
+-- history, the port isn't joined, and if the exchange won, its view would be fresh and covering; it is then no block of
+-- the port's own any more.
 pub record IsDue (z : Layout) (o : Opening) (words : List ℕ) (h : Holding) (others : List Holding) (log : List Applied) (d : Due) : Type 0 where
   pub component : d.component < z.m
   pub own : IsSomeAnd h.own (λ b. (b.space ≡ Pool) × (block_of b ≡ block_at words d.at) × (b.stored ≡ length b.words))
   pub prev : prev_of words d.at ≡ d.old
   pub value : value_of words d.at ≡ d.value
   pub before : IsWithin o log (length log) d.old
+  pub unjoined : joined_in h.claimed ≡ None
   pub would : slice_index words d.component ≡ d.old → HasFreshView z o words (unpublished others) log (length log) d.at × CoversAll z words others log d.at
 
 -- an entry's record lies in the pool, behind the initial records and below the counter

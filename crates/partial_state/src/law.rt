@@ -1,9 +1,73 @@
 //! The laws of the kinds of step. The functions have no code: their contracts hold of the definitions by
 //! which lawful words are stated.
 
-ghost use Rattle.partial_state.specs.Effects.{ClaimsAreKept, PoolRefusalsAreKept, ListRefusalsAreKept, StoresAreKept, DuesAreKept, DropsAreKept, WinsAreKept, SlotClaimsAreKept, SlotRefusalsAreKept, JoinsAreKept, LeavesAreKept, PublishingsAreKept, LoadsAreTrue, OpeningIsLawful};
+ghost use Rattle.partial_state.specs.Effects.{ClaimsAreKept, PoolRefusalsAreKept, ListRefusalsAreKept, StoresAreKept, DuesAreKept, DropsAreKept, WinsAreKept, SlotClaimsAreKept, SlotRefusalsAreKept, JoinsAreKept, LeavesAreKept, PublishingsAreKept, LoadsAreTrue};
 
-/// Words as they open are lawful.
-pub fn opening_is_lawful()
-    ensures { OpeningIsLawful }
+/// A claim of a block within its space: the port holds a block of which nothing is stored, apart from every
+/// other one.
+pub fn claims_are_kept()
+    ensures { ClaimsAreKept }
+{}
+
+/// A claim past the end of the pool: the port is marked, and the counter is past the end by no more than
+/// one greatest claim for each port that is marked.
+pub fn pool_refusals_are_kept()
+    ensures { PoolRefusalsAreKept }
+{}
+
+/// A claim past the last list word: the same for the list words.
+pub fn list_refusals_are_kept()
+    ensures { ListRefusalsAreKept }
+{}
+
+/// A store of the next word of a block of one's own, that no other port reads yet.
+pub fn stores_are_kept()
+    ensures { StoresAreKept }
+{}
+
+/// The exchange of a component comes to be due: its record stands whole and would have a fresh and
+/// covering view.
+pub fn dues_are_kept()
+    ensures { DuesAreKept }
+{}
+
+/// A block of one's own is given up: its exchange was lost, or the call is refused.
+pub fn drops_are_kept()
+    ensures { DropsAreKept }
+{}
+
+/// A won exchange of a component: its record is published, and the history gains its entry.
+pub fn wins_are_kept()
+    ensures { WinsAreKept }
+{}
+
+/// A claim of a slot, which is EMPTY.
+pub fn slot_claims_are_kept()
+    ensures { SlotClaimsAreKept }
+{}
+
+/// A claim past the last slot: the port is marked.
+pub fn slot_refusals_are_kept()
+    ensures { SlotRefusalsAreKept }
+{}
+
+/// A join: the announcement that the port has written is published in its slot.
+pub fn joins_are_kept()
+    ensures { JoinsAreKept }
+{}
+
+/// A leave: the slot is VACATED, and stays so for ever.
+pub fn leaves_are_kept()
+    ensures { LeavesAreKept }
+{}
+
+/// An exchange of the list head: where it is won the list that the port has written is published, and
+/// else it is given up.
+pub fn publishings_are_kept()
+    ensures { PublishingsAreKept }
+{}
+
+/// What a load answers is true from then on, of each word but those of blocks that aren't published.
+pub fn loads_are_true()
+    ensures { LoadsAreTrue }
 {}

@@ -1,0 +1,311 @@
+-- The steps by which a block is claimed and written, and by which a list is published.
+use Rattle.std.proofs.Common.{ℕ, zero, suc, ◌≡◌, ◌≢◌, ◌+◌, ◌*◌, ◌<◌, ◌≤◌, ◌==◌, ◌++◌, ◌^◌, ◌%◌, Bool, true, false, cond, List, [], ◌∷◌, length, map, get_or, set, Option, Some, None, IfSome, MatchOption, slice_get, refl, sym, ◌∙◌, ap, subst, inl, inr, arith, get_or-set_other, get_or-set_same, length-set}
+use Rattle.std.specs.List.{AllByRecursion, cons_option}
+use Rattle.std.specs.Option.{option_map}
+use Rattle.std.proofs.lemmas.Bool.{cases_lt, eqb-true}
+use Rattle.partial_intervals.specs.Intervals.{Ranges}
+use Rattle.partial_model.specs.declared.history.Applied.{Applied}
+use Rattle.partial_model.specs.declared.history.Opening.{Opening}
+use Rattle.partial_words.specs.Layout.{Layout, slot_counter, list_head, pool_counter, list_counter, slot_word, list_base, list_end, pool_base, pool_end, total}
+use Rattle.partial_words.specs.Record.{view_of, view_len, view_block}
+use Rattle.partial_words.specs.VacatedList.{list_block}
+use Rattle.partial_words.proofs.RecordLemmas.{length-pairs}
+use Rattle.partial_state.specs.Views.{Block, AreApart, Joined, HasPairs, IsApartFrom, IsAnnounced, IsPublishedList, IsHead}
+use Rattle.partial_state.specs.Holdings.{Claimed, Own, Due, Holding, Space, first_of, end_of, counter_of, block_of, block_at, announcements, unpublished, blocks_in, others_of, joined_in, EachTwo, pool_marks, list_marks}
+use Rattle.partial_state.specs.Holdings.Space.{Pool, Lists}
+use Rattle.partial_state.specs.LawfulWords.{LawfulWords, IsOwn, IsTied, IsClaim, IsDue, IsEntry}
+use Rattle.partial_state.specs.Effects.{IsKept, ClaimsAreKept, StoresAreKept, PublishingsAreKept}
+use Rattle.partial_state.proofs.ListLemmas.{all_at, all_append, all_map, all_of, all_found, all_weaker, two_take, two_put}
+use Rattle.partial_state.proofs.Frames.{IsClaimedBlock, word_at, apart_turns, head_moves}
+use Rattle.partial_state.proofs.HoldingLemmas.{if_some, if_some_at, some_here, none_here, if_all, all_unpublished}
+use Rattle.partial_state.proofs.Blocks.{announcement_of, unpublished_is, unpublished_same, announced_same, own_added, blocks_same, own_block_added}
+use Rattle.partial_state.proofs.Rebuild.{Moves, frame_of, space_far, own_stays, unpublished_two}
+use Rattle.partial_state.proofs.Quiet.{calm, pool_stays, slots_stay, lists_stay, fits_word, head_stays}
+use Rattle.partial_state.proofs.LoadLaw.{match_some}
+use Rattle.partial_state.proofs.MarkLaws.{block_given_up}
+
+-- a record of the history with its view lies below the pool's counter
+entry_below : (z : Layout) (words : List ℕ) (us : List Block) (stamp : ℕ) (pairs : List (ℕ × ℕ)) → HasPairs z words us stamp pairs → stamp + 3 ≤ get_or words (pool_counter z) 0 → stamp + (block_at words stamp).size ≤ get_or words (pool_counter z) 0
+entry_below z words us stamp pairs shown low = either (view_of words stamp == stamp + 3) refl shown
+  where
+    sized : (b : Bool) (n : ℕ) → stamp + 3 ≤ get_or words (pool_counter z) 0 → (b ≡ true → stamp + (4 + 2 * n) ≤ get_or words (pool_counter z) 0) → stamp + cond b (4 + 2 * n) 3 ≤ get_or words (pool_counter z) 0
+    sized true n low f = f refl
+    sized false n low f = low
+
+    either : (b : Bool) → (view_of words stamp == stamp + 3) ≡ b → HasPairs z words us stamp pairs → stamp + (block_at words stamp).size ≤ get_or words (pool_counter z) 0
+    either b e (inl h) = sized (view_of words stamp == stamp + 3) (view_len words (stamp + 3)) low (λ t. let is = eqb-true (view_of words stamp) (stamp + 3) t in let none = h.0 in absurd (omega (arith, is, none)))
+    either b e (inr h) = sized (view_of words stamp == stamp + 3) (view_len words (stamp + 3)) low (λ t.
+        let is : view_of words stamp ≡ stamp + 3 = eqb-true (view_of words stamp) (stamp + 3) t in
+        let first : get_or words (view_of words stamp + 0) 0 ≡ length pairs = (h.stands 0 (omega arith)).1 in
+        let count : get_or words (stamp + 3) 0 ≡ length pairs = ap (λ n. get_or words n 0) (omega (arith, is)) ∙ first in
+        let below = h.below in
+        let long = length-pairs pairs in
+        omega (arith, is, count, below, long))
+
+-- what holds of each announcement holds of each port's
+all_announcements : (P : Block → Type 0) (hs : List Holding) → AllByRecursion (λ h. IfSome h.claimed (λ c. IfSome c.joined (λ j. P (announcement_of j)))) hs → AllByRecursion P (announcements hs)
+all_announcements P [] w = tt
+all_announcements P (h ∷ hs) w = more P (joined_in h.claimed) (announcements hs) (joined P h.claimed w.0) (all_announcements P hs w.1)
+  where
+    joined : (P : Block → Type 0) (f : Option Claimed) → IfSome f (λ c. IfSome c.joined (λ j. P (announcement_of j))) → IfSome (joined_in f) (λ j. P (announcement_of j))
+    joined P None w = tt
+    joined P (Some c) w = w
+
+    more : (P : Block → Type 0) (f : Option Joined) (rest : List Block) → IfSome f (λ j. P (announcement_of j)) → AllByRecursion P rest → AllByRecursion P (cons_option (option_map announcement_of f) rest)
+    more P None rest w v = v
+    more P (Some j) rest w v = (w, v)
+
+-- all words of blocks are claimed
+pub all_claimed : (z : Layout) (o : Opening) (words : List ℕ) (hs : List Holding) (log : List Applied) → LawfulWords z o words hs log → AllByRecursion (IsClaimedBlock z words) (blocks_in z words hs log)
+all_claimed z o words hs log w = (
+    inr (omega arith, w.pool_low),
+    all_append (IsClaimedBlock z words) (map (λ e. block_at words e.stamp) log) (announcements hs ++ unpublished hs)
+        (all_map (IsClaimedBlock z words) (λ (e : Applied). block_at words e.stamp) log (all_of (λ (e : Applied). IsClaimedBlock z words (block_at words e.stamp)) log (λ k e s.
+            let entry : IsEntry z words e = all_found (IsEntry z words) log k e w.entries s in
+            let above = entry.above in
+            let fresh = w.fresh k e s in
+            inr (omega (arith, above), entry_below z words (unpublished hs) e.stamp fresh.pairs fresh.shown entry.below))))
+        (all_append (IsClaimedBlock z words) (announcements hs) (unpublished hs)
+            (all_announcements (IsClaimedBlock z words) hs (all_weaker (λ (h : Holding). IfSome h.claimed (IsClaim z words hs log)) (λ h. IfSome h.claimed (λ c. IfSome c.joined (λ j. IsClaimedBlock z words (announcement_of j)))) (λ h k. if_some (IsClaim z words hs log) (λ c. IfSome c.joined (λ j. IsClaimedBlock z words (announcement_of j))) h.claimed (λ c e claim. if_all (λ j. IsClaimedBlock z words (announcement_of j)) c.joined (λ j is.
+                let a : IsAnnounced z words (unpublished hs) j.at j.indices = (match_some (get_or words (slot_word z c.slot) 0 ≡ 0) (λ j. (get_or words (slot_word z c.slot) 0 ≡ j.at) × (j.since ≤ length log) × IsAnnounced z words (unpublished hs) j.at j.indices) c.joined j is claim.holds).2 in
+                let above = a.above in
+                let below = a.below in
+                inr (omega (arith, above), omega (arith, below)))) k) hs w.claims))
+            (all_unpublished (IsClaimedBlock z words) hs (all_weaker (IsTied z words) (λ h. IfSome h.own (λ b. IsClaimedBlock z words (block_of b))) (λ h t. if_some (IsOwn z words) (λ b. IsClaimedBlock z words (block_of b)) h.own (λ b e own. own_claimed b.space b.at (length b.words) own.above own.within own.below) t.own) hs w.tied))),
+  )
+  where
+    own_claimed : (s : Space) (at n : ℕ) → first_of z s ≤ at → at + n ≤ end_of z s → at + n ≤ get_or words (counter_of z s) 0 → IsClaimedBlock z words (record { at = at; size = n })
+    own_claimed Pool at n above within below = inr (omega (arith, above), below)
+    own_claimed Lists at n above within below = inl (within, below)
+
+module _ (z : Layout) (o : Opening) (words : List ℕ) (before : List Holding) (h : Holding) (after : List Holding) (log : List Applied) (w : LawfulWords z o words (before ++ h ∷ after) log) where
+  -- a block from the counter on is apart from each that is claimed
+  fresh_apart : (s : Space) (n : ℕ) → get_or words (counter_of z s) 0 + n ≤ end_of z s → (b : Block) → IsClaimedBlock z words b → AreApart b (record { at = get_or words (counter_of z s) 0; size = n })
+  fresh_apart Pool n room b (inl k) = let low = w.pool_low in let a = k.0 in inl (omega (arith, low, a))
+  fresh_apart Pool n room b (inr k) = inl k.1
+  fresh_apart Lists n room b (inl k) = inl k.1
+  fresh_apart Lists n room b (inr k) = let a = k.0 in inr (omega (arith, room, a))
+
+  module _ (space : Space) (block : List ℕ) (unowned : h.own ≡ None) (idle : h.due ≡ None) (room : get_or words (counter_of z space) 0 + length block ≤ end_of z space) where
+    -- the claimed words
+    claimed : List ℕ
+    claimed = set words (counter_of z space) ((get_or words (counter_of z space) 0 + length block) % 2 ^ 64)
+
+    counter_low : (s : Space) → z.m + 2 ≤ counter_of z s
+    counter_low Pool = omega arith
+    counter_low Lists = omega arith
+
+    counter_high : (s : Space) → counter_of z s ≤ z.m + 3
+    counter_high Pool = omega arith
+    counter_high Lists = omega arith
+
+    end_high : (s : Space) → end_of z s ≤ pool_end z
+    end_high Pool = omega arith
+    end_high Lists = omega arith
+
+    start_low : (s : Space) → first_of z s ≤ get_or words (counter_of z s) 0
+    start_low Pool = w.pool_low
+    start_low Lists = w.lists_low
+
+    now : get_or claimed (counter_of z space) 0 ≡ get_or words (counter_of z space) 0 + length block
+    unfolding claimed
+    now =
+        let count = w.count in
+        let some = w.sizes.slots.0 in
+        let most = counter_high space in
+        let end = end_high space in
+        get_or-set_same words (counter_of z space) ((get_or words (counter_of z space) 0 + length block) % 2 ^ 64) 0 (omega (arith, count, some, most)) ∙ fits_word z (get_or words (counter_of z space) 0 + length block) w.sizes (omega (arith, room, end))
+
+    other : (k : ℕ) → k ≢ counter_of z space → get_or claimed k 0 ≡ get_or words k 0
+    unfolding claimed
+    other k differs = get_or-set_other words (counter_of z space) k ((get_or words (counter_of z space) 0 + length block) % 2 ^ 64) 0 differs
+
+    -- the counter of a space is where it was, or behind the block
+    counter_now : (s t : Space) → (get_or claimed (counter_of z t) 0 ≡ get_or words (counter_of z t) 0 + length block) → ((k : ℕ) → k ≢ counter_of z t → get_or claimed k 0 ≡ get_or words k 0) → get_or words (counter_of z t) 0 + length block ≤ end_of z t → (get_or words (counter_of z s) 0 ≤ get_or claimed (counter_of z s) 0) × ((n : ℕ) → get_or words (counter_of z s) 0 ≤ end_of z s + n → get_or claimed (counter_of z s) 0 ≤ end_of z s + n)
+    counter_now Pool Pool now other room = (omega (arith, now), λ n high. omega (arith, now, room))
+    counter_now Lists Lists now other room = (omega (arith, now), λ n high. omega (arith, now, room))
+    counter_now Pool Lists now other room = let same = other (pool_counter z) (λ e. omega (arith, e)) in (omega (arith, same), λ n high. omega (arith, same, high))
+    counter_now Lists Pool now other room = let same = other (list_counter z) (λ e. omega (arith, e)) in (omega (arith, same), λ n high. omega (arith, same, high))
+
+    pub claim_is_kept : IsKept z o words before h after log (set words (counter_of z space) ((get_or words (counter_of z space) 0 + length block) % 2 ^ 64)) (record h { own = Some (record { space = space; at = get_or words (counter_of z space) 0; words = block; stored = 0 }) }) log
+    unfolding claimed
+    claim_is_kept =
+        let h' : Holding = record h { own = Some (record { space = space; at = get_or words (counter_of z space) 0; words = block; stored = 0 }) } in
+        let b : Own = record { space = space; at = get_or words (counter_of z space) 0; words = block; stored = 0 } in
+        let most = counter_high space in
+        let least = counter_low space in
+        let pool = counter_now Pool space now other room in
+        let lists = counter_now Lists space now other room in
+        let slots : get_or claimed (slot_counter z) 0 ≡ get_or words (slot_counter z) 0 = other (slot_counter z) (λ e. omega (arith, e, least)) in
+        let slot_words : (l : ℕ) → l < z.slots → get_or claimed (slot_word z l) 0 ≡ get_or words (slot_word z l) 0 = λ l inside. other (slot_word z l) (λ e. omega (arith, e, most)) in
+        let far : (k : ℕ) → list_base z ≤ k → get_or claimed k 0 ≡ get_or words k 0 = λ k above. other k (λ e. omega (arith, above, e, most)) in
+        let m : Moves z words claimed h h' = record { port = refl; count = length-set words (counter_of z space) ((get_or words (counter_of z space) 0 + length block) % 2 ^ 64); pool = pool.0; lists = lists.0; slots = omega (arith, slots); same = λ k above free. far k above; apart = λ x taken free. fresh_apart space (length block) room x taken; slot = λ l inside free. slot_words l inside; vacated = λ l inside one. slot_words l inside ∙ one } in
+        let tied = all_at (IsTied z words) before h after w.tied in
+        let added = own_block_added z words (before ++ h' ∷ after) (before ++ h ∷ after) log (block_of b) (announced_same before h' h after refl) (own_added before h' h after b unowned refl) in
+        let free = all_weaker (IsClaimedBlock z words) (AreApart (block_of b)) (λ x taken. apart_turns x (block_of b) (fresh_apart space (length block) room x taken)) (blocks_in z words (before ++ h ∷ after) log) (all_claimed z o words (before ++ h ∷ after) log w) in
+        calm z o words claimed before h h' after log w (record {
+          moves = m;
+          components = λ j below. other j (λ e. omega (arith, below, e, least));
+          tied = record {
+            own = record { above = start_low space; within = room; below = omega (arith, now); few = omega arith; stands = λ i stored. absurd (omega (arith, stored)) };
+            pool_marked = λ t. let old = tied.pool_marked t in let more = pool.0 in omega (arith, old, more);
+            slots_marked = λ t. let old = tied.slots_marked t in omega (arith, old, slots);
+            lists_marked = λ t. let old = tied.lists_marked t in let more = lists.0 in omega (arith, old, more);
+          };
+          apart = two_put AreApart apart_turns (block_of b) (blocks_in z words (before ++ h ∷ after) log) (blocks_in z words (before ++ h' ∷ after) log) added w.apart free;
+          due = none_here (IsDue z o claimed h' (others_of h'.port (before ++ h' ∷ after)) log) h.due idle;
+          claimed = refl;
+          slot_words = slot_words;
+          counts = λ l below inside. omega (arith, below, slots);
+          head = head_stays z o words claimed before h h' after log w m (other (list_head z) (λ e. omega (arith, e, least)));
+          pool_high = pool_stays before h h' after (get_or claimed (pool_counter z) 0) (pool_end z) (4 + 2 * z.m) refl (pool.1 ((4 + 2 * z.m) * pool_marks (before ++ h ∷ after)) w.pool_high);
+          slots_high = slots_stay before h h' after (get_or claimed (slot_counter z) 0) z.slots refl (let high = w.slots_high in omega (arith, slots, high));
+          lists_high = lists_stay before h h' after (get_or claimed (list_counter z) 0) (list_end z) (z.slots + 2) refl (lists.1 ((z.slots + 2) * list_marks (before ++ h ∷ after)) w.lists_high);
+        })
+
+pub claims_are_kept : ClaimsAreKept
+claims_are_kept z o words before h after log space block w unowned idle room = claim_is_kept z o words before h after log w space block unowned idle room
+
+-- a port's own block lies within the words
+own_within : (z : Layout) (words : List ℕ) (b : Own) → IsOwn z words b → b.at + length b.words ≤ total z
+own_within z words b w = within b.space b.at (length b.words) w.within
+  where
+    within : (s : Space) (at n : ℕ) → at + n ≤ end_of z s → at + n ≤ total z
+    within Pool at n w = w
+    within Lists at n w = omega (arith, w)
+
+own_far : (z : Layout) (words : List ℕ) (b : Own) → IsOwn z words b → list_base z ≤ b.at
+own_far z words b w = far b.space b.at w.above
+  where
+    far : (s : Space) (at : ℕ) → first_of z s ≤ at → list_base z ≤ at
+    far Pool at above = omega (arith, above)
+    far Lists at above = above
+
+-- a word apart from the block isn't one of it
+not_inside : (n at k size : ℕ) → k < size → AreApart (word_at n) (record { at = at; size = size }) → n ≢ at + k
+not_inside n at k size below (inl h) = λ e. omega (arith, h, e)
+not_inside n at k size below (inr h) = λ e. omega (arith, h, e, below)
+
+counter_before : (z : Layout) (s : Space) → counter_of z s < list_base z
+counter_before z Pool = omega arith
+counter_before z Lists = omega arith
+
+pub stores_are_kept : StoresAreKept
+stores_are_kept z o words before h after log b w is idle more =
+    let b' : Own = record b { stored = b.stored + 1 } in
+    let h' : Holding = record h { own = Some (record b { stored = b.stored + 1 }) } in
+    let n = b.at + b.stored in
+    let v = get_or b.words b.stored 0 in
+    let words' = set words n v in
+    let count = w.count in
+    let tied = all_at (IsTied z words) before h after w.tied in
+    let own : IsOwn z words b = if_some_at (IsOwn z words) h.own b is tied.own in
+    let within = own_within z words b own in
+    let above = own_far z words b own in
+    let other : (k : ℕ) → k ≢ n → get_or words' k 0 ≡ get_or words k 0 = λ k differs. get_or-set_other words n k v 0 differs in
+    let low : (k : ℕ) → k < list_base z → get_or words' k 0 ≡ get_or words k 0 = λ k below. other k (λ e. omega (arith, above, below, e)) in
+    let pool = low (pool_counter z) (omega arith) in
+    let lists = low (list_counter z) (omega arith) in
+    let slots = low (slot_counter z) (omega arith) in
+    let slot_words : (l : ℕ) → l < z.slots → get_or words' (slot_word z l) 0 ≡ get_or words (slot_word z l) 0 = λ l room. low (slot_word z l) (omega (arith, room)) in
+    let m : Moves z words words' h h' = record {
+      port = refl;
+      count = length-set words n v;
+      pool = omega (arith, pool);
+      lists = omega (arith, lists);
+      slots = omega (arith, slots);
+      same = λ k far free. other k (not_inside k b.at b.stored (length b.words) more (if_some_at (λ c. AreApart (word_at k) (block_of c)) h.own b is free));
+      apart = λ x claimed free. if_some_at (λ c. AreApart x (block_of c)) h.own b is free;
+      slot = λ l room free. slot_words l room;
+      vacated = λ l room one. slot_words l room ∙ one;
+    } in
+    let counter = low (counter_of z b.space) (counter_before z b.space) in
+    let below = own.below in
+    calm z o words words' before h h' after log w (record {
+      moves = m;
+      components = λ j inside. low j (omega (arith, inside));
+      tied = record {
+        own = record {
+          above = own.above;
+          within = own.within;
+          below = omega (arith, below, counter);
+          few = omega (arith, more);
+          stands = λ i stored. elim (cases_lt i b.stored) [
+            | inl old ↦ other (b.at + i) (λ e. omega (arith, old, e)) ∙ own.stands i old
+            | inr from ↦ let last : i ≡ b.stored = omega (arith, from, stored) in ap (λ t. get_or words' (b.at + t) 0) last ∙ get_or-set_same words n v 0 (omega (arith, count, within, more)) ∙ ap (λ t. get_or b.words t 0) (sym last)
+          ];
+        };
+        pool_marked = λ t. let old = tied.pool_marked t in omega (arith, old, pool);
+        slots_marked = λ t. let old = tied.slots_marked t in omega (arith, old, slots);
+        lists_marked = λ t. let old = tied.lists_marked t in omega (arith, old, lists);
+      };
+      apart = subst (EachTwo AreApart) (sym (blocks_same z words (before ++ h ∷ after) (before ++ h' ∷ after) log (announced_same before h h' after refl) (unpublished_is before h' after (Some b') refl ∙ sym (unpublished_is before h after (Some b) is)))) w.apart;
+      due = none_here (IsDue z o words' h' (others_of h'.port (before ++ h' ∷ after)) log) h.due idle;
+      claimed = refl;
+      slot_words = slot_words;
+      counts = λ l inside room. omega (arith, inside, slots);
+      head = head_stays z o words words' before h h' after log w m (low (list_head z) (omega arith));
+      pool_high = pool_stays before h h' after (get_or words' (pool_counter z) 0) (pool_end z) (4 + 2 * z.m) refl (let high = w.pool_high in omega (arith, pool, high));
+      slots_high = slots_stay before h h' after (get_or words' (slot_counter z) 0) z.slots refl (let high = w.slots_high in omega (arith, slots, high));
+      lists_high = lists_stay before h h' after (get_or words' (list_counter z) 0) (list_end z) (z.slots + 2) refl (let high = w.lists_high in omega (arith, lists, high));
+    })
+
+-- a block that is published is apart from all that aren't
+pub own_freed : (before : List Holding) (h h' : Holding) (after : List Holding) (b : Own) → h.own ≡ Some b → h'.own ≡ None → EachTwo AreApart (unpublished (before ++ h ∷ after)) → IsApartFrom (unpublished (before ++ h' ∷ after)) (block_of b)
+own_freed before h h' after b is none two = (two_take AreApart apart_turns (block_of b) (unpublished (before ++ h' ∷ after)) (unpublished (before ++ h ∷ after)) (own_added before h h' after b none is) two).1
+
+pub publishings_are_kept : PublishingsAreKept
+publishings_are_kept z o words before h after log old at list w idle is normal holds =
+    let b : Own = record { space = Lists; at = at; words = list_block list; stored = length (list_block list) } in
+    let h' : Holding = record h { own = None } in
+    let n = list_head z in
+    let v = cond (get_or words n 0 == old) at (get_or words n 0) in
+    let words' = set words n v in
+    let count = w.count in
+    let some = w.sizes.slots.0 in
+    let tied = all_at (IsTied z words) before h after w.tied in
+    let own : IsOwn z words b = if_some_at (IsOwn z words) h.own b is tied.own in
+    let other : (k : ℕ) → k ≢ n → get_or words' k 0 ≡ get_or words k 0 = λ k differs. get_or-set_other words n k v 0 differs in
+    let now : get_or words' (list_head z) 0 ≡ v = get_or-set_same words n v 0 (omega (arith, count, some)) in
+    let pool : get_or words' (pool_counter z) 0 ≡ get_or words (pool_counter z) 0 = other (pool_counter z) (λ e. omega (arith, e)) in
+    let lists : get_or words' (list_counter z) 0 ≡ get_or words (list_counter z) 0 = other (list_counter z) (λ e. omega (arith, e)) in
+    let slots : get_or words' (slot_counter z) 0 ≡ get_or words (slot_counter z) 0 = other (slot_counter z) (λ e. omega (arith, e)) in
+    let slot_words : (l : ℕ) → l < z.slots → get_or words' (slot_word z l) 0 ≡ get_or words (slot_word z l) 0 = λ l room. other (slot_word z l) (λ e. omega (arith, e)) in
+    let far : (k : ℕ) → list_base z ≤ k → get_or words' k 0 ≡ get_or words k 0 = λ k above. other k (λ e. omega (arith, above, e)) in
+    let m : Moves z words words' h h' = record { port = refl; count = length-set words n v; pool = omega (arith, pool); lists = omega (arith, lists); slots = omega (arith, slots); same = λ k above free. far k above; apart = λ x claimed free. tt; slot = λ l room free. slot_words l room; vacated = λ l room one. slot_words l room ∙ one } in
+    let frame = frame_of z words words' h h' m before after in
+    let above = own.above in
+    let within = own.within in
+    let below = own.below in
+    let long = length-pairs list in
+    let published : IsPublishedList z words' (unpublished (before ++ h' ∷ after)) at list = record {
+      whole = record {
+        from = own.above;
+        to = omega (arith, within, long);
+        normal = normal;
+        stands = λ k inside. (omega (arith, within, inside, count, frame.count), far (at + k) (omega (arith, above)) ∙ own.stands k inside);
+        within = λ x held. (holds x held).0;
+        vacated = λ x held. slot_words x (holds x held).0 ∙ (holds x held).1;
+      };
+      below = omega (arith, below, lists);
+      apart = own_freed before h h' after b is refl (unpublished_two z o words words' before h h' after log w m);
+    } in
+    let head : IsHead z words' (unpublished (before ++ h' ∷ after)) (get_or words (list_head z) 0) = head_moves z words words' (unpublished (before ++ h ∷ after)) (unpublished (before ++ h' ∷ after)) frame (get_or words (list_head z) 0) w.head in
+    calm z o words words' before h h' after log w (record {
+      moves = m;
+      components = λ j inside. other j (λ e. omega (arith, inside, e));
+      tied = record { own = tt; pool_marked = λ t. let old = tied.pool_marked t in omega (arith, old, pool); slots_marked = λ t. let old = tied.slots_marked t in omega (arith, old, slots); lists_marked = λ t. let old = tied.lists_marked t in omega (arith, old, lists) };
+      apart = block_given_up z words before h h' after log h.own refl refl refl w.apart;
+      due = none_here (IsDue z o words' h' (others_of h'.port (before ++ h' ∷ after)) log) h.due idle;
+      claimed = refl;
+      slot_words = slot_words;
+      counts = λ l inside room. omega (arith, inside, slots);
+      head = subst (IsHead z words' (unpublished (before ++ h' ∷ after))) (sym now) (either z words' (unpublished (before ++ h' ∷ after)) (get_or words n 0 == old) at (get_or words n 0) (inr (list, published)) head);
+      pool_high = pool_stays before h h' after (get_or words' (pool_counter z) 0) (pool_end z) (4 + 2 * z.m) refl (let high = w.pool_high in omega (arith, pool, high));
+      slots_high = slots_stay before h h' after (get_or words' (slot_counter z) 0) z.slots refl (let high = w.slots_high in omega (arith, slots, high));
+      lists_high = lists_stay before h h' after (get_or words' (list_counter z) 0) (list_end z) (z.slots + 2) refl (let high = w.lists_high in omega (arith, lists, high));
+    })
+  where
+    either : (z : Layout) (words : List ℕ) (us : List Block) (t : Bool) (x y : ℕ) → IsHead z words us x → IsHead z words us y → IsHead z words us (cond t x y)
+    either z words us true x y p q = p
+    either z words us false x y p q = q

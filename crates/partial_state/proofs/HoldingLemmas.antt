@@ -1,0 +1,189 @@
+-- Holdings with one in the place of another: their blocks, the other ports' ones, and how many are marked.
+use Rattle.std.proofs.Common.{ℕ, suc, ◌≡◌, ◌≢◌, ◌+◌, ◌*◌, ◌<◌, ◌≤◌, ◌==◌, ◌++◌, Bool, true, false, cond, List, [], ◌∷◌, length, map, filter_map, get_or, Option, Some, None, IfSome, IsSomeAnd, refl, sym, ◌∙◌, ap, subst, inl, inr, arith}
+use Rattle.std.specs.List.{AllByRecursion, cons_option}
+use Rattle.std.specs.Option.{option_map}
+use Rattle.std.proofs.lemmas.Bool.{ne_eqb}
+use Rattle.partial_words.specs.Record.{view_of, view_len}
+use Rattle.partial_state.specs.Views.{Block, AreApart, Joined}
+use Rattle.partial_state.specs.Holdings.{Own, Holding, EachTwo, IfJoined, block_of, block_at, unpublished, others_of, pool_marks, slot_marks, list_marks, HaveOtherPorts, HaveOtherSlots}
+
+-- what holds of the value in an option
+pub if_some : {A : Type 0} (P Q : A → Type 0) (found : Option A) → ((a : A) → found ≡ Some a → P a → Q a) → IfSome found P → IfSome found Q
+if_some P Q None f w = tt
+if_some P Q (Some a) f w = f a refl w
+
+pub if_some_at : {A : Type 0} (P : A → Type 0) (found : Option A) (a : A) → found ≡ Some a → IfSome found P → P a
+if_some_at P found a e w = let h : IfSome (Some a) P = subst (λ (f : Option _). IfSome f P) e w in h
+
+pub some_here : {A : Type 0} (P : A → Type 0) (found : Option A) (a : A) → found ≡ Some a → P a → IfSome found P
+some_here P found a e p = subst (λ (f : Option _). IfSome f P) (sym e) p
+
+pub none_here : {A : Type 0} (P : A → Type 0) (found : Option A) → found ≡ None → IfSome found P
+none_here P found e = subst (λ (f : Option _). IfSome f P) (sym e) tt
+
+pub if_all : {A : Type 0} (P : A → Type 0) (found : Option A) → ((a : A) → found ≡ Some a → P a) → IfSome found P
+if_all P None f = tt
+if_all P (Some a) f = f a refl
+
+pub some_found : {A : Type 0} (P : A → Type 0) (found : Option A) → IsSomeAnd found P → (a : A) × (found ≡ Some a) × P a
+some_found P None w = absurd w
+some_found P (Some a) w = (a, refl, w)
+
+pub found_some : {A : Type 0} (P : A → Type 0) (found : Option A) (a : A) → found ≡ Some a → P a → IsSomeAnd found P
+found_some P found a e p = subst (λ (f : Option _). IsSomeAnd f P) (sym e) p
+
+pub joined_weaker : (h : Holding) (P Q : ℕ → Joined → Type 0) → ((l : ℕ) (j : Joined) → P l j → Q l j) → IfJoined h P → IfJoined h Q
+joined_weaker h P Q f w = if_some (λ c. IfSome c.joined (P c.slot)) (λ c. IfSome c.joined (Q c.slot)) h.claimed (λ c e v. if_some (P c.slot) (Q c.slot) c.joined (λ j e' p. f c.slot j p) v) w
+
+-- the values that a list's elements have, with one element apart
+cons_append : {A : Type 0} (f : Option A) (xs ys : List A) → cons_option f (xs ++ ys) ≡ cons_option f xs ++ ys
+cons_append None xs ys = refl
+cons_append (Some a) xs ys = refl
+
+pub filter_split : {A B : Type 0} (f : A → Option B) (before : List A) (x : A) (after : List A) → filter_map f (before ++ x ∷ after) ≡ filter_map f before ++ cons_option (f x) (filter_map f after)
+filter_split f [] x after = refl
+filter_split f (b ∷ before) x after = ap (λ (l : List _). cons_option (f b) l) (filter_split f before x after) ∙ cons_append (f b) (filter_map f before) (cons_option (f x) (filter_map f after))
+
+pub filter_append : {A B : Type 0} (f : A → Option B) (xs ys : List A) → filter_map f (xs ++ ys) ≡ filter_map f xs ++ filter_map f ys
+filter_append f [] ys = refl
+filter_append f (x ∷ xs) ys = ap (λ (l : List _). cons_option (f x) l) (filter_append f xs ys) ∙ cons_append (f x) (filter_map f xs) (filter_map f ys)
+
+-- what holds of each block that isn't published holds of each port's, and the other way
+found_more : (P : Block → Type 0) (f : Option Own) (rest : List Block) → IfSome f (λ b. P (block_of b)) → AllByRecursion P rest → AllByRecursion P (cons_option (option_map block_of f) rest)
+found_more P None rest w v = v
+found_more P (Some b) rest w v = (w, v)
+
+pub all_unpublished : (P : Block → Type 0) (hs : List Holding) → AllByRecursion (λ h. IfSome h.own (λ b. P (block_of b))) hs → AllByRecursion P (unpublished hs)
+all_unpublished P [] w = tt
+all_unpublished P (h ∷ hs) w = found_more P h.own (unpublished hs) w.0 (all_unpublished P hs w.1)
+
+found_less : (P : Block → Type 0) (f : Option Own) (rest : List Block) → AllByRecursion P (cons_option (option_map block_of f) rest) → IfSome f (λ b. P (block_of b)) × AllByRecursion P rest
+found_less P None rest w = (tt, w)
+found_less P (Some b) rest w = (w.0, w.1)
+
+pub unpublished_all : (P : Block → Type 0) (hs : List Holding) → AllByRecursion P (unpublished hs) → AllByRecursion (λ h. IfSome h.own (λ b. P (block_of b))) hs
+unpublished_all P [] w = tt
+unpublished_all P (h ∷ hs) w = let both = found_less P h.own (unpublished hs) w in (both.0, unpublished_all P hs both.1)
+
+-- the ports' blocks that aren't published are apart
+abbrev pub HaveOtherBlocks : Holding → Holding → Type 0
+HaveOtherBlocks a b = IfSome a.own (λ x. IfSome b.own (λ y. AreApart (block_of x) (block_of y)))
+
+one_less : (f : Option Own) (rest : List Block) → EachTwo AreApart (cons_option (option_map block_of f) rest) → IfSome f (λ a. AllByRecursion (AreApart (block_of a)) rest) × EachTwo AreApart rest
+one_less None rest w = (tt, w)
+one_less (Some a) rest w = (w.0, w.1)
+
+uncross : (f : Option Own) (hs : List Holding) → IfSome f (λ a. AllByRecursion (AreApart (block_of a)) (unpublished hs)) → AllByRecursion (λ h. IfSome f (λ a. IfSome h.own (λ b. AreApart (block_of a) (block_of b)))) hs
+uncross None hs w = nothing hs
+  where
+    nothing : (ys : List Holding) → AllByRecursion (λ y. Unit {0}) ys
+    nothing [] = tt
+    nothing (y ∷ ys) = (tt, nothing ys)
+uncross (Some a) hs w = unpublished_all (AreApart (block_of a)) hs w
+
+pub apart_others : (hs : List Holding) → EachTwo AreApart (unpublished hs) → EachTwo HaveOtherBlocks hs
+apart_others [] w = tt
+apart_others (h ∷ hs) w = let both = one_less h.own (unpublished hs) w in (uncross h.own hs both.0, apart_others hs both.1)
+
+owns_turn : (a b : Option Own) → IfSome a (λ x. IfSome b (λ y. AreApart (block_of x) (block_of y))) → IfSome b (λ x. IfSome a (λ y. AreApart (block_of x) (block_of y)))
+owns_turn None None w = w
+owns_turn None (Some b) w = tt
+owns_turn (Some a) None w = tt
+owns_turn (Some a) (Some b) w = elim w [ inl h ↦ inr h | inr h ↦ inl h ]
+
+pub blocks_turn : (x y : Holding) → HaveOtherBlocks x y → HaveOtherBlocks y x
+blocks_turn x y w = owns_turn x.own y.own w
+
+pub ports_turn : (x y : Holding) → HaveOtherPorts x y → HaveOtherPorts y x
+ports_turn x y w = λ e. w (sym e)
+
+pub slots_turn : (x y : Holding) → HaveOtherSlots x y → HaveOtherSlots y x
+slots_turn x y w = if_all (λ c. IfSome x.claimed (λ d. c.slot ≢ d.slot)) y.claimed (λ c e. if_all (λ d. c.slot ≢ d.slot) x.claimed (λ d e' same. if_some_at (λ c. d.slot ≢ c.slot) y.claimed c e (if_some_at (λ d. IfSome y.claimed (λ c. d.slot ≢ c.slot)) x.claimed d e' w) (sym same)))
+
+-- the other ports' holdings, with one holding apart
+cond_append : {A : Type 0} (t : Bool) (b : A) (xs ys zs : List A) → xs ≡ ys ++ zs → cond t xs (b ∷ xs) ≡ cond t ys (b ∷ ys) ++ zs
+cond_append true b xs ys zs e = e
+cond_append false b xs ys zs e = ap (λ (l : List _). b ∷ l) e
+
+pub others_append : (p : ℕ) (before after : List Holding) → others_of p (before ++ after) ≡ others_of p before ++ others_of p after
+others_append p [] after = refl
+others_append p (b ∷ before) after = cond_append (b.port == p) b (others_of p (before ++ after)) (others_of p before) (others_of p after) (others_append p before after)
+
+pub others_split : (p : ℕ) (before : List Holding) (h : Holding) (after : List Holding) → (h.port == p) ≡ false → others_of p (before ++ h ∷ after) ≡ others_of p before ++ h ∷ others_of p after
+others_split p before h after e = others_append p before (h ∷ after) ∙ ap (λ (t : Bool). others_of p before ++ cond t (others_of p after) (h ∷ others_of p after)) e
+
+pub others_gone : (p : ℕ) (before : List Holding) (h : Holding) (after : List Holding) → (h.port == p) ≡ true → others_of p (before ++ h ∷ after) ≡ others_of p before ++ others_of p after
+others_gone p before h after e = others_append p before (h ∷ after) ∙ ap (λ (t : Bool). others_of p before ++ cond t (others_of p after) (h ∷ others_of p after)) e
+
+pub others_all : (h : Holding) (hs : List Holding) → AllByRecursion (HaveOtherPorts h) hs → others_of h.port hs ≡ hs
+others_all h [] w = refl
+others_all h (x ∷ hs) w = ap (λ (t : Bool). cond t (others_of h.port hs) (x ∷ others_of h.port hs)) (ne_eqb x.port h.port (λ e. w.0 (sym e))) ∙ ap (λ (l : List Holding). x ∷ l) (others_all h hs w.1)
+
+-- what holds of each holding holds of each other port's
+pub all_others : (P : Holding → Type 0) (p : ℕ) (hs : List Holding) → AllByRecursion P hs → AllByRecursion P (others_of p hs)
+all_others P p [] w = tt
+all_others P p (h ∷ hs) w = chosen P p h hs (h.port == p) w.0 (all_others P p hs w.1)
+  where
+    chosen : (P : Holding → Type 0) (p : ℕ) (h : Holding) (hs : List Holding) (b : Bool) → P h → AllByRecursion P (others_of p hs) → AllByRecursion P (cond b (others_of p hs) (h ∷ others_of p hs))
+    chosen P p h hs true first rest = rest
+    chosen P p h hs false first rest = (first, rest)
+
+-- how many have the mark
+abbrev pub marks : (Holding → Bool) → List Holding → ℕ
+marks m [] = 0
+marks m (h ∷ hs) = cond (m h) 1 0 + marks m hs
+
+pub marks_same : (m : Holding → Bool) (before : List Holding) (h h' : Holding) (after : List Holding) → m h' ≡ m h → marks m (before ++ h' ∷ after) ≡ marks m (before ++ h ∷ after)
+marks_same m [] h h' after e = ap (λ b. cond b 1 0 + marks m after) e
+marks_same m (b ∷ before) h h' after e = ap (λ n. cond (m b) 1 0 + n) (marks_same m before h h' after e)
+
+pub marks_more : (m : Holding → Bool) (before : List Holding) (h h' : Holding) (after : List Holding) → m h ≡ false → m h' ≡ true → marks m (before ++ h' ∷ after) ≡ 1 + marks m (before ++ h ∷ after)
+marks_more m [] h h' after e f =
+    let one : ◌≡◌ {A = ℕ} (cond (m h') 1 0) 1 = ap (λ b. cond b 1 0) f in
+    let none : ◌≡◌ {A = ℕ} (cond (m h) 1 0) 0 = ap (λ b. cond b 1 0) e in
+    omega (arith, one, none)
+marks_more m (b ∷ before) h h' after e f =
+    let rest = marks_more m before h h' after e f in
+    ap (λ n. cond (m b) 1 0 + n) rest ∙ omega arith
+
+pub marks_few : (m : Holding → Bool) (hs : List Holding) → marks m hs ≤ length hs
+marks_few m [] = omega arith
+marks_few m (h ∷ hs) = few (m h) (marks m hs) (length hs) (marks_few m hs)
+  where
+    few : (b : Bool) (m n : ℕ) → m ≤ n → cond b 1 0 + m ≤ suc n
+    few true m n w = omega arith
+    few false m n w = omega arith
+
+pub pool_is : (hs : List Holding) → pool_marks hs ≡ marks (λ h. h.pool_spent) hs
+pool_is [] = refl
+pool_is (h ∷ hs) = ap (λ n. cond h.pool_spent 1 0 + n) (pool_is hs)
+
+pub slots_are : (hs : List Holding) → slot_marks hs ≡ marks (λ h. h.slots_spent) hs
+slots_are [] = refl
+slots_are (h ∷ hs) = ap (λ n. cond h.slots_spent 1 0 + n) (slots_are hs)
+
+pub lists_are : (hs : List Holding) → list_marks hs ≡ marks (λ h. h.lists_spent) hs
+lists_are [] = refl
+lists_are (h ∷ hs) = ap (λ n. cond h.lists_spent 1 0 + n) (lists_are hs)
+
+-- a record has at least three words
+pub three_words : (words : List ℕ) (stamp : ℕ) → 3 ≤ (block_at words stamp).size
+three_words words stamp = least (view_of words stamp == stamp + 3) (view_len words (stamp + 3))
+  where
+    least : (b : Bool) (n : ℕ) → 3 ≤ cond b (4 + 2 * n) 3
+    least true n = omega arith
+    least false n = omega arith
+
+-- a record's block stays where its words do
+pub block_stays : (words words' : List ℕ) (stamp : ℕ) → ((n : ℕ) → n < (block_at words stamp).size → get_or words' (stamp + n) 0 ≡ get_or words (stamp + n) 0) → block_at words' stamp ≡ block_at words stamp
+block_stays words words' stamp same =
+    let size = three_words words stamp in
+    let view : view_of words' stamp ≡ view_of words stamp = same 2 (omega (arith, size)) in
+    ap (λ (v : ℕ). record { at = stamp; size = cond (v == stamp + 3) (4 + 2 * view_len words' (stamp + 3)) 3 }) view ∙ either words words' stamp same (view_of words stamp == stamp + 3) refl
+  where
+    either : (words words' : List ℕ) (stamp : ℕ) → ((n : ℕ) → n < (block_at words stamp).size → get_or words' (stamp + n) 0 ≡ get_or words (stamp + n) 0) → (b : Bool) → (view_of words stamp == stamp + 3) ≡ b → ◌≡◌ {A = Block} (record { at = stamp; size = cond (view_of words stamp == stamp + 3) (4 + 2 * view_len words' (stamp + 3)) 3 }) (block_at words stamp)
+    either words words' stamp same true e =
+        let inside : 3 < (block_at words stamp).size = subst (λ (t : Bool). 3 < cond t (4 + 2 * view_len words (stamp + 3)) 3) (sym e) (omega arith) in
+        ap (λ (n : ℕ). record { at = stamp; size = cond (view_of words stamp == stamp + 3) (4 + 2 * n) 3 }) (same 3 inside)
+    either words words' stamp same false e =
+        ap (λ (t : Bool). record { at = stamp; size = cond t (4 + 2 * view_len words' (stamp + 3)) 3 }) e ∙ sym (ap (λ (t : Bool). record { at = stamp; size = cond t (4 + 2 * view_len words (stamp + 3)) 3 }) e)

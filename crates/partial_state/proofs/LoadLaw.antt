@@ -1,0 +1,58 @@
+-- What a load answers is true from then on.
+use Rattle.std.proofs.Common.{ℕ, ◌≡◌, ◌+◌, ◌<◌, ◌≤◌, List, [], ◌∷◌, length, take, get_or, Option, Some, None, IfSome, IsSomeAnd, MatchOption, refl, sym, ◌∙◌, ap, subst, inl, inr, arith}
+use Rattle.std.specs.List.{AllByRecursion}
+use Rattle.std.proofs.lemmas.Bool.{cases_lt}
+use Rattle.std.proofs.lemmas.List.{take_all}
+use Rattle.partial_model.specs.declared.history.Applied.{Applied}
+use Rattle.partial_model.specs.declared.history.Opening.{Opening}
+use Rattle.partial_model.specs.History.{stamp_of}
+use Rattle.partial_words.specs.Layout.{Layout, slot_counter, slot_word, list_base, total}
+use Rattle.partial_state.specs.Views.{Joined, IsAnnounced, IsHead}
+use Rattle.partial_state.specs.Holdings.{Claimed, Holding, unpublished, IfJoined}
+use Rattle.partial_state.specs.LawfulWords.{LawfulWords, IsClaimedIn, IsClaim}
+use Rattle.partial_state.specs.Loads.{IsSlotAnswer, IsPublished, IsLoaded}
+use Rattle.partial_state.specs.Effects.{LoadsAreTrue}
+use Rattle.partial_state.proofs.ListLemmas.{all_weaker}
+use Rattle.partial_state.proofs.HoldingLemmas.{if_some, if_all, if_some_at, some_found}
+
+-- what holds of each claim holds of the slot's
+pub claim_found : (P : Claimed → Type 0) (l : ℕ) (hs : List Holding) → IsClaimedIn l hs → AllByRecursion (λ h. IfSome h.claimed P) hs → (c : Claimed) × (c.slot ≡ l) × P c
+claim_found P l [] k all = absurd k
+claim_found P l (h ∷ hs) (inl k) all = let found = some_found (λ c. c.slot ≡ l) h.claimed k in (found.0, found.2, if_some_at P h.claimed found.0 found.1 all.0)
+claim_found P l (h ∷ hs) (inr k) all = claim_found P l hs k all.1
+
+pub match_some : {A : Type 0} (P : Type 0) (Q : A → Type 0) (f : Option A) (a : A) → f ≡ Some a → MatchOption f P Q → Q a
+match_some P Q f a e w = let h : MatchOption (Some a) P Q = subst (λ (f : Option _). MatchOption f P Q) e w in h
+
+-- a slot below the last holds what a slot may hold
+slot_now : (z : Layout) (o : Opening) (words : List ℕ) (hs : List Holding) (log : List Applied) (l : ℕ) → LawfulWords z o words hs log → l < z.slots → IsSlotAnswer z words (unpublished hs) l (get_or words (slot_word z l) 0)
+slot_now z o words hs log l w room =
+    elim (cases_lt l (get_or words (slot_counter z) 0)) [
+      | inr from ↦ inl (w.unclaimed l from room)
+      | inl below ↦ elim (w.taken l below room) [
+        | inl one ↦ inr (inl (one, one))
+        | inr k ↦ let found = claim_found (IsClaim z words hs log) l hs k w.claims in held found.0.slot found.0.joined found.1 found.2.holds
+      ]
+    ]
+  where
+    held : (m : ℕ) (f : Option Joined) → m ≡ l → MatchOption f (get_or words (slot_word z m) 0 ≡ 0) (λ j. (get_or words (slot_word z m) 0 ≡ j.at) × (j.since ≤ length log) × IsAnnounced z words (unpublished hs) j.at j.indices) → IsSlotAnswer z words (unpublished hs) l (get_or words (slot_word z l) 0)
+    held m None is k = inl (ap (λ n. get_or words (slot_word z n) 0) (sym is) ∙ k)
+    held m (Some j) is k = let holds : get_or words (slot_word z l) 0 ≡ j.at = ap (λ n. get_or words (slot_word z n) 0) (sym is) ∙ k.0 in inr (inr (j.indices, subst (λ n. IsAnnounced z words (unpublished hs) n j.indices) (sym holds) k.2))
+
+-- what a joined port's claim says of its announcement
+joined_all : (z : Layout) (o : Opening) (words : List ℕ) (hs : List Holding) (log : List Applied) (P : ℕ → Joined → Type 0) → LawfulWords z o words hs log → ((c : Claimed) (j : Joined) → IsClaim z words hs log c → get_or words (slot_word z c.slot) 0 ≡ j.at → P c.slot j) → AllByRecursion (λ h. IfJoined h P) hs
+joined_all z o words hs log P w f =
+    all_weaker (λ (h : Holding). IfSome h.claimed (IsClaim z words hs log)) (λ h. IfJoined h P) (λ h k. if_some (IsClaim z words hs log) (λ c. IfSome c.joined (P c.slot)) h.claimed (λ c e claim. if_all (P c.slot) c.joined (λ j is. f c j claim (match_some (get_or words (slot_word z c.slot) 0 ≡ 0) (λ j. (get_or words (slot_word z c.slot) 0 ≡ j.at) × (j.since ≤ length log) × IsAnnounced z words (unpublished hs) j.at j.indices) c.joined j is claim.holds).0)) k) hs w.claims
+
+pub loads_are_true : LoadsAreTrue
+loads_are_true z o words hs log n w below far =
+    let values = w.values in
+    record {
+      within = omega arith;
+      component = λ inside. (w.agrees n (omega (arith, values, inside))).0 ∙ ap (λ (l : List Applied). stamp_of o l n) (sym (take_all (length log) log (omega arith)));
+      head = λ is. subst (λ t. IsHead z words (unpublished hs) (get_or words t 0)) (sym is) w.head;
+      slot = λ l room is. subst (λ t. IsSlotAnswer z words (unpublished hs) l (get_or words t 0)) (sym is) (slot_now z o words hs log l w room);
+      block = λ inside. (refl, far inside);
+      counter = λ is. joined_all z o words hs log (λ l j. j.since < length log → l < get_or words n 0) w (λ c j k at since. subst (λ t. c.slot < get_or words t 0) (sym is) k.below);
+      joined = joined_all z o words hs log (λ l j. j.since < length log → n ≡ slot_word z l → get_or words n 0 ≡ j.at) w (λ c j k at since is. ap (λ t. get_or words t 0) is ∙ at);
+    }

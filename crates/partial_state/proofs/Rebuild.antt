@@ -1,0 +1,186 @@
+-- Lawful words with one port's holding in the place of another, and with other words.
+use Rattle.std.proofs.Common.{ℕ, ◌≡◌, ◌≢◌, ◌+◌, ◌*◌, ◌<◌, ◌≤◌, ◌⊎◌, ◌==◌, ◌++◌, Bool, true, false, cond, List, [], ◌∷◌, length, map, get_or, Option, Some, None, IfSome, IsSomeAnd, MatchOption, slice_get, refl, sym, ◌∙◌, ap, subst, inl, inr, arith}
+use Rattle.std.specs.List.{AllByRecursion}
+use Rattle.std.proofs.lemmas.Bool.{ne_eqb, eq-eqb, cases_lt}
+use Rattle.partial_model.specs.declared.history.Applied.{Applied}
+use Rattle.partial_model.specs.declared.history.Opening.{Opening}
+use Rattle.partial_model.specs.History.{IsHistory, initial_stamp, stamp_of}
+use Rattle.partial_model.proofs.HistoryLemmas.{place_below}
+use Rattle.partial_words.specs.Layout.{Layout, slot_counter, list_head, pool_counter, list_counter, slot_word, list_base, list_end, pool_base, pool_end}
+use Rattle.partial_words.specs.Record.{prev_of, value_of, view_of}
+use Rattle.partial_words.specs.Chain.{Agrees, Link, IsChain, chain_of}
+use Rattle.partial_words.proofs.ChainLemmas.{chain_all}
+use Rattle.partial_state.specs.Views.{Block, AreApart, Joined, HasFreshView, IsWithin, Covers, IsAnnounced, IsApartFrom, IsHead}
+use Rattle.partial_state.specs.Holdings.{Claimed, Own, Due, Holding, Space, first_of, end_of, counter_of, block_of, block_at, announcements, unpublished, blocks_in, others_of, IfJoined, joined_in, EachTwo, HaveOtherPorts, HaveOtherSlots, pool_marks, slot_marks, list_marks}
+use Rattle.partial_state.specs.Holdings.Space.{Pool, Lists}
+use Rattle.partial_state.specs.LawfulWords.{LawfulWords, IsOwn, IsTied, IsClaimedIn, IsClaim, CoversAll, IsDue, IsEntry}
+use Rattle.partial_state.specs.Loads.{Kept, IsLoaded}
+use Rattle.partial_state.specs.Effects.{IsKept}
+use Rattle.partial_state.proofs.ListLemmas.{all_at, all_before, all_after, all_join, all_with, all_weaker, all_append, all_back, all_unmap, two_before, two_after, two_join, two_back, two_across, map_same, length_same, all_of, all_found}
+use Rattle.partial_state.proofs.Frames.{Frame, Grows, IsClaimedBlock, word_at, part_apart, within_more, within_grows, published_moves, announced_moves, head_moves, slot_moves, fresh_moves, covers_moves, covers_newer}
+use Rattle.partial_state.proofs.HoldingLemmas.{if_some, if_some_at, some_here, none_here, if_all, some_found, found_some, joined_weaker, all_unpublished, unpublished_all, HaveOtherBlocks, apart_others, blocks_turn, ports_turn, slots_turn, others_split, others_gone, three_words, block_stays}
+
+-- What a step does to the words of others, where its port holds h before and h' behind it.
+pub record Moves (z : Layout) (words words' : List ℕ) (h h' : Holding) : Type 0 where
+  pub port : h'.port ≡ h.port
+  pub count : length words' ≡ length words
+  pub pool : get_or words (pool_counter z) 0 ≤ get_or words' (pool_counter z) 0
+  pub lists : get_or words (list_counter z) 0 ≤ get_or words' (list_counter z) 0
+  pub slots : get_or words (slot_counter z) 0 ≤ get_or words' (slot_counter z) 0
+  -- of the words of blocks none changes but those of its own block
+  pub same : (w : ℕ) → list_base z ≤ w → IfSome h.own (λ b. AreApart (word_at w) (block_of b)) → get_or words' w 0 ≡ get_or words w 0
+  pub apart : (b : Block) → IsClaimedBlock z words b → IfSome h.own (λ c. AreApart b (block_of c)) → IfSome h'.own (λ c. AreApart b (block_of c))
+  -- of the slots none changes but its own
+  pub slot : (l : ℕ) → l < z.slots → IfSome h.claimed (λ c. c.slot ≢ l) → get_or words' (slot_word z l) 0 ≡ get_or words (slot_word z l) 0
+  pub vacated : (l : ℕ) → l < z.slots → get_or words (slot_word z l) 0 ≡ 1 → get_or words' (slot_word z l) 0 ≡ 1
+
+module _ (z : Layout) (words words' : List ℕ) (h h' : Holding) (m : Moves z words words' h h') where
+  -- the frame, whatever the others hold
+  pub frame_of : (before after : List Holding) → Frame z words words' (unpublished (before ++ h ∷ after)) (unpublished (before ++ h' ∷ after))
+  frame_of before after =
+      record {
+        count = m.count;
+        pool = m.pool;
+        lists = m.lists;
+        slots = m.slots;
+        same = λ w far p. m.same w far (all_at (λ v. IfSome v.own (λ b. AreApart (word_at w) (block_of b))) before h after (unpublished_all (AreApart (word_at w)) (before ++ h ∷ after) p.apart));
+        apart = λ b claimed apart.
+            let P : Holding → Type 0 = λ v. IfSome v.own (λ c. AreApart b (block_of c)) in
+            let all = unpublished_all (AreApart b) (before ++ h ∷ after) apart in
+            all_unpublished (AreApart b) (before ++ h' ∷ after) (all_join P before h' after (all_before P before h after all) (m.apart b claimed (all_at P before h after all)) (all_after P before h after all));
+        vacated = m.vacated;
+      }
+
+  -- a word of another's own block stays
+  pub other_word : (b : Own) (n : ℕ) → list_base z ≤ b.at → n < length b.words → IfSome h.own (λ c. AreApart (block_of b) (block_of c)) → get_or words' (b.at + n) 0 ≡ get_or words (b.at + n) 0
+  other_word b n far below apart =
+      m.same (b.at + n) (omega (arith, far)) (if_some (λ c. AreApart (block_of b) (block_of c)) (λ c. AreApart (word_at (b.at + n)) (block_of c)) h.own (λ c e a. part_apart (word_at (b.at + n)) (block_of b) (block_of c) (omega arith) (omega (arith, below)) a) apart)
+
+  pub space_far : (b : Own) → IsOwn z words b → list_base z ≤ b.at
+  space_far b w = far b.space b.at w.above
+    where
+      far : (s : Space) (at : ℕ) → first_of z s ≤ at → list_base z ≤ at
+      far Pool at above = omega (arith, above)
+      far Lists at above = above
+
+  counter_grows : (s : Space) → get_or words (counter_of z s) 0 ≤ get_or words' (counter_of z s) 0
+  counter_grows Pool = m.pool
+  counter_grows Lists = m.lists
+
+  pub own_moves : (b : Own) → IfSome h.own (λ c. AreApart (block_of b) (block_of c)) → IsOwn z words b → IsOwn z words' b
+  own_moves b apart w =
+      let below = w.below in
+      let few = w.few in
+      let more = counter_grows b.space in
+      record {
+        above = w.above;
+        within = w.within;
+        below = omega (arith, below, more);
+        few = w.few;
+        stands = λ i stored. other_word b i (space_far b w) (omega (arith, stored, few)) apart ∙ w.stands i stored;
+      }
+
+  -- an own block stays where no word of a block changes
+  pub own_stays : ((n : ℕ) → list_base z ≤ n → get_or words' n 0 ≡ get_or words n 0) → (f : Option Own) → IfSome f (IsOwn z words) → IfSome f (IsOwn z words')
+  own_stays far f w =
+      if_some (IsOwn z words) (IsOwn z words') f (λ b e own.
+          let above = space_far b own in
+          let below = own.below in
+          let more = counter_grows b.space in
+          record {
+            above = own.above;
+            within = own.within;
+            below = omega (arith, below, more);
+            few = own.few;
+            stands = λ i stored. far (b.at + i) (omega (arith, above)) ∙ own.stands i stored;
+          }) w
+
+  pub marked_moves : (v : Holding) → IfSome v.own (IsOwn z words') → IsTied z words v → IsTied z words' v
+  marked_moves v own w =
+      let pool = m.pool in
+      let slots = m.slots in
+      let lists = m.lists in
+      record {
+        own = own;
+        pool_marked = λ t. let past = w.pool_marked t in omega (arith, past, pool);
+        slots_marked = λ t. let past = w.slots_marked t in omega (arith, past, slots);
+        lists_marked = λ t. let past = w.lists_marked t in omega (arith, past, lists);
+      }
+
+  pub tied_moves : (v : Holding) → IsTied z words v → HaveOtherBlocks v h → IsTied z words' v
+  tied_moves v w other =
+      marked_moves v (if_some (IsOwn z words) (IsOwn z words') v.own (λ b e own. own_moves b (if_some_at (λ b. IfSome h.own (λ c. AreApart (block_of b) (block_of c))) v.own b e other) own) w.own) w
+
+-- a chain whose words stay
+pub chain_stays : (words words' : List ℕ) (at : ℕ) (links : List Link) → AllByRecursion (λ l. (get_or words' l.stamp 0 ≡ get_or words l.stamp 0) × (get_or words' (l.stamp + 1) 0 ≡ get_or words (l.stamp + 1) 0)) links → IsChain words at links → IsChain words' at links
+chain_stays words words' at [] all c = c
+chain_stays words words' at (l ∷ []) all c =
+    let both : (get_or words' at 0 ≡ get_or words at 0) × (get_or words' (at + 1) 0 ≡ get_or words (at + 1) 0) = subst (λ n. (get_or words' n 0 ≡ get_or words n 0) × (get_or words' (n + 1) 0 ≡ get_or words (n + 1) 0)) c.0 all.0 in
+    (c.0, both.1 ∙ c.1, both.0 ∙ c.2)
+chain_stays words words' at (l ∷ k ∷ ls) all c =
+    let both : (get_or words' at 0 ≡ get_or words at 0) × (get_or words' (at + 1) 0 ≡ get_or words (at + 1) 0) = subst (λ n. (get_or words' n 0 ≡ get_or words n 0) × (get_or words' (n + 1) 0 ≡ get_or words (n + 1) 0)) c.0 all.0 in
+    (c.0, both.1 ∙ c.1, subst (λ n. IsChain words' n (k ∷ ls)) (sym both.0) (chain_stays words words' (prev_of words at) (k ∷ ls) all.1 c.2))
+
+module _ (z : Layout) (o : Opening) (words words' : List ℕ) (before : List Holding) (h h' : Holding) (after : List Holding) (log : List Applied) (w : LawfulWords z o words (before ++ h ∷ after) log) (m : Moves z words words' h h') where
+  -- what is apart from each block that isn't published is apart from the port's own
+  from_own : (b : Block) → AllByRecursion (AreApart b) (unpublished (before ++ h ∷ after)) → IfSome h.own (λ c. AreApart b (block_of c))
+  from_own b all = all_at (λ v. IfSome v.own (λ c. AreApart b (block_of c))) before h after (unpublished_all (AreApart b) (before ++ h ∷ after) all)
+
+  pub entry_free : (k : ℕ) (e : Applied) → slice_get log k ≡ Some e → AllByRecursion (AreApart (block_at words e.stamp)) (unpublished (before ++ h ∷ after))
+  entry_free k e s =
+      let across = two_across AreApart (map (λ e. block_at words e.stamp) log) (announcements (before ++ h ∷ after) ++ unpublished (before ++ h ∷ after)) w.apart.1 in
+      let each = all_unmap (λ b. AllByRecursion (AreApart b) (announcements (before ++ h ∷ after) ++ unpublished (before ++ h ∷ after))) (λ e. block_at words e.stamp) log across in
+      all_back (AreApart (block_at words e.stamp)) (announcements (before ++ h ∷ after)) (unpublished (before ++ h ∷ after)) (all_found (λ (e : Applied). AllByRecursion (AreApart (block_at words e.stamp)) (announcements (before ++ h ∷ after) ++ unpublished (before ++ h ∷ after))) log k e each s)
+
+  pub unpublished_two : EachTwo AreApart (unpublished (before ++ h ∷ after))
+  unpublished_two = two_back AreApart (announcements (before ++ h ∷ after)) (unpublished (before ++ h ∷ after)) (two_back AreApart (map (λ e. block_at words e.stamp) log) (announcements (before ++ h ∷ after) ++ unpublished (before ++ h ∷ after)) w.apart.1)
+
+  -- the words of records of the history stay
+  pub entry_word : (k : ℕ) (e : Applied) (n : ℕ) → slice_get log k ≡ Some e → n < (block_at words e.stamp).size → get_or words' (e.stamp + n) 0 ≡ get_or words (e.stamp + n) 0
+  entry_word k e n s below =
+      let entry : IsEntry z words e = all_found (IsEntry z words) log k e w.entries s in
+      let above = entry.above in
+      let b = block_at words e.stamp in
+      m.same (e.stamp + n) (omega (arith, above)) (if_some (λ c. AreApart (block_at words e.stamp) (block_of c)) (λ c. AreApart (word_at (e.stamp + n)) (block_of c)) h.own (λ c is a. part_apart (word_at (e.stamp + n)) (block_at words e.stamp) (block_of c) (omega arith) (omega (arith, below)) a) (from_own b (entry_free k e s)))
+
+  pub entry_three : (k : ℕ) (e : Applied) (n : ℕ) → slice_get log k ≡ Some e → n < 3 → get_or words' (e.stamp + n) 0 ≡ get_or words (e.stamp + n) 0
+  entry_three k e n s below = let size = three_words words e.stamp in entry_word k e n s (omega (arith, size, below))
+
+  pub entry_prev : (k : ℕ) (e : Applied) → slice_get log k ≡ Some e → get_or words' e.stamp 0 ≡ get_or words e.stamp 0
+  entry_prev k e s = let none : e.stamp ≡ e.stamp + 0 = omega arith in ap (λ n. get_or words' n 0) none ∙ entry_three k e 0 s (omega arith) ∙ ap (λ n. get_or words n 0) (sym none)
+
+  initial_word : (n : ℕ) → pool_base z ≤ n → n < pool_base z + 3 * z.m → get_or words' n 0 ≡ get_or words n 0
+  initial_word n from to =
+      let b : Block = record { at = pool_base z; size = 3 * z.m } in
+      let free = all_back (AreApart b) (announcements (before ++ h ∷ after)) (unpublished (before ++ h ∷ after)) (all_back (AreApart b) (map (λ e. block_at words e.stamp) log) (announcements (before ++ h ∷ after) ++ unpublished (before ++ h ∷ after)) w.apart.0) in
+      m.same n (omega (arith, from)) (if_some (λ c. AreApart (record { at = pool_base z; size = 3 * z.m }) (block_of c)) (λ c. AreApart (word_at n) (block_of c)) h.own (λ c is a. part_apart (word_at n) (record { at = pool_base z; size = 3 * z.m }) (block_of c) from (omega (arith, to)) a) (from_own b free))
+
+  -- the chains stay
+  pub chain_moves : (j : ℕ) → j < length o.values → IsChain words' (get_or words j 0) (chain_of o j log)
+  chain_moves j below =
+      let base = w.stamps in
+      let values = w.values in
+      let P : ℕ → Type 0 = λ s. (get_or words' s 0 ≡ get_or words s 0) × (get_or words' (s + 1) 0 ≡ get_or words (s + 1) 0) in
+      chain_stays words words' (get_or words j 0) (chain_of o j log)
+      (chain_all P o j log (all_of (λ (e : Applied). P e.stamp) log (λ k e s. (entry_prev k e s, entry_three k e 1 s (omega arith)))) (initial_word (initial_stamp o j) (omega (arith, base)) (omega (arith, base, values, below)), initial_word (initial_stamp o j + 1) (omega (arith, base)) (omega (arith, base, values, below))))
+      (w.agrees j below).1
+
+  pub agrees_stay : ((j : ℕ) → j < z.m → get_or words' j 0 ≡ get_or words j 0) → Agrees o words' log
+  agrees_stay same j below =
+      let values = w.values in
+      let now = same j (omega (arith, values, below)) in
+      (now ∙ (w.agrees j below).0, subst (λ n. IsChain words' n (chain_of o j log)) (sym now) (chain_moves j below))
+
+  -- the blocks of the records of the history stay
+  pub entries_stay : map (λ e. block_at words' e.stamp) log ≡ map (λ e. block_at words e.stamp) log
+  entries_stay = map_same (λ (e : Applied). block_at words' e.stamp) (λ (e : Applied). block_at words e.stamp) log (all_of (λ (e : Applied). block_at words' e.stamp ≡ block_at words e.stamp) log (λ k e s. block_stays words words' e.stamp (λ n below. entry_word k e n s below)))
+
+  pub blocks_stay : (hs : List Holding) → EachTwo AreApart (blocks_in z words hs log) → EachTwo AreApart (blocks_in z words' hs log)
+  blocks_stay hs two = subst (λ (l : List Block). EachTwo AreApart (record { at = pool_base z; size = 3 * z.m } ∷ (l ++ (announcements hs ++ unpublished hs)))) (sym entries_stay) two
+
+  -- what the ports of the other holdings own is apart from what the port owns
+  pub own_before : AllByRecursion (HaveOtherBlocks h) before
+  own_before = two_before HaveOtherBlocks blocks_turn before h after (apart_others (before ++ h ∷ after) unpublished_two)
+
+  pub own_after : AllByRecursion (HaveOtherBlocks h) after
+  own_after = two_after HaveOtherBlocks blocks_turn before h after (apart_others (before ++ h ∷ after) unpublished_two)

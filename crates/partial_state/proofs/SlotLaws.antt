@@ -1,0 +1,177 @@
+-- The steps on slots: a claim, a join and a leave.
+use Rattle.std.proofs.Common.{ℕ, ◌≡◌, ◌≢◌, ◌+◌, ◌*◌, ◌<◌, ◌≤◌, ◌⊎◌, ◌++◌, ◌^◌, ◌%◌, List, ◌∷◌, length, get_or, set, Option, Some, None, IfSome, IsSomeAnd, MatchOption, refl, sym, ◌∙◌, ap, subst, inl, inr, arith, get_or-set_other, get_or-set_same, length-set}
+use Rattle.std.specs.List.{AllByRecursion}
+use Rattle.std.proofs.lemmas.Bool.Decides.{eqb_tells}
+use Rattle.partial_model.specs.declared.history.Applied.{Applied}
+use Rattle.partial_model.specs.declared.history.Opening.{Opening}
+use Rattle.partial_words.specs.Layout.{Layout, slot_counter, list_head, pool_counter, list_counter, slot_word, list_base, list_end, pool_base, pool_end, total}
+use Rattle.partial_words.specs.Announcement.{announcement_block}
+use Rattle.partial_state.specs.Views.{Block, AreApart, Joined, IsAnnounced, IsApartFrom}
+use Rattle.partial_state.specs.Holdings.{Claimed, Own, Due, Holding, block_of, announcements, unpublished, blocks_in, others_of, joined_in, EachTwo, HaveOtherSlots}
+use Rattle.partial_state.specs.Holdings.Space.{Pool}
+use Rattle.partial_state.specs.LawfulWords.{LawfulWords, IsOwn, IsTied, IsClaim, IsDue}
+use Rattle.partial_state.specs.Effects.{SlotClaimsAreKept, JoinsAreKept, LeavesAreKept}
+use Rattle.partial_state.proofs.ListLemmas.{all_at, two_take, two_put}
+use Rattle.partial_state.proofs.Frames.{apart_turns}
+use Rattle.partial_state.proofs.HoldingLemmas.{if_some, if_some_at, none_here, some_found}
+use Rattle.partial_state.proofs.Blocks.{announcement_of, unpublished_same, announced_same, own_added, announcement_added, own_block_added, announced_block_added}
+use Rattle.partial_state.proofs.Rebuild.{Moves, own_stays, unpublished_two}
+use Rattle.partial_state.proofs.Quiet.{quiet, pool_stays, slots_stay, lists_stay, slots_bound, fits_word, head_stays, due_stays}
+use Rattle.partial_state.proofs.MarkLaws.{blocks_kept}
+use Rattle.partial_state.proofs.BlockLaws.{own_freed}
+
+-- no slot is claimed where there is no claim, and where there is one it is its own
+none_claimed : (P : Claimed → Type 0) (f : Option Claimed) → f ≡ None → IsSomeAnd f P → ⊥
+none_claimed P f e k = let h : IsSomeAnd None P = subst (λ (f : Option Claimed). IsSomeAnd f P) e k in h
+
+one_claimed : (P : Claimed → Type 0) (f : Option Claimed) (c : Claimed) → f ≡ Some c → IsSomeAnd f P → P c
+one_claimed P f c e k = let h : IsSomeAnd (Some c) P = subst (λ (f : Option Claimed). IsSomeAnd f P) e k in h
+
+pub slot_claims_are_kept : SlotClaimsAreKept
+slot_claims_are_kept z o words before h after log w unclaimed room =
+    let n = slot_counter z in
+    let first = get_or words (slot_counter z) 0 in
+    let c : Claimed = record { slot = get_or words (slot_counter z) 0; joined = None } in
+    let h' : Holding = record h { claimed = Some (record { slot = get_or words (slot_counter z) 0; joined = None }) } in
+    let v = (get_or words n 0 + 1) % 2 ^ 64 in
+    let words' = set words n v in
+    let count = w.count in
+    let some = w.sizes.slots.0 in
+    let now : get_or words' (slot_counter z) 0 ≡ get_or words (slot_counter z) 0 + 1 = get_or-set_same words (slot_counter z) v 0 (omega (arith, count, some)) ∙ fits_word z (get_or words (slot_counter z) 0 + 1) w.sizes (omega (arith, room)) in
+    let other : (k : ℕ) → k ≢ n → get_or words' k 0 ≡ get_or words k 0 = λ k differs. get_or-set_other words n k v 0 differs in
+    let lists : get_or words' (list_counter z) 0 ≡ get_or words (list_counter z) 0 = other (list_counter z) (λ e. omega (arith, e)) in
+    let pool : get_or words' (pool_counter z) 0 ≡ get_or words (pool_counter z) 0 = other (pool_counter z) (λ e. omega (arith, e)) in
+    let slot_words : (l : ℕ) → l < z.slots → get_or words' (slot_word z l) 0 ≡ get_or words (slot_word z l) 0 = λ l room. other (slot_word z l) (λ e. omega (arith, e)) in
+    let far : (k : ℕ) → list_base z ≤ k → get_or words' k 0 ≡ get_or words k 0 = λ k above. other k (λ e. omega (arith, above, e)) in
+    let components : (j : ℕ) → j < z.m → get_or words' j 0 ≡ get_or words j 0 = λ j below. other j (λ e. omega (arith, below, e)) in
+    let m : Moves z words words' h h' = record { port = refl; count = length-set words n v; pool = omega (arith, pool); lists = omega (arith, lists); slots = omega (arith, now); same = λ k above free. far k above; apart = λ b claimed free. free; slot = λ l room free. slot_words l room; vacated = λ l room one. slot_words l room ∙ one } in
+    let tied = all_at (IsTied z words) before h after w.tied in
+    quiet z o words words' before h h' after log w (record {
+      moves = m;
+      components = components;
+      tied = record { own = own_stays z words words' h h' m far h.own tied.own; pool_marked = λ t. let old = tied.pool_marked t in omega (arith, old, pool); slots_marked = λ t. let old = tied.slots_marked t in omega (arith, now, old); lists_marked = λ t. let old = tied.lists_marked t in omega (arith, old, lists) };
+      apart = blocks_kept z words before h h' after log refl (sym (ap joined_in unclaimed)) w.apart;
+      due = due_stays z o words words' before h h' after log w m refl refl (λ e. refl) far components;
+      taken = λ l below inside k. elim k [ inl t ↦ absurd (none_claimed (λ c. c.slot ≡ l) h.claimed unclaimed t) | inr from ↦ let is : get_or words (slot_counter z) 0 ≡ l = omega (arith, from, below, now) in inr is ];
+      claim = record { slot = room; below = omega (arith, now); holds = slot_words (get_or words (slot_counter z) 0) room ∙ w.unclaimed (get_or words (slot_counter z) 0) (omega arith) room };
+      owners = λ v k other. if_some (IsClaim z words (before ++ h ∷ after) log) (λ d. get_or words (slot_counter z) 0 ≢ d.slot) v.claimed (λ d e claim. let below = claim.below in λ is. omega (arith, is, below)) k;
+      joined = inr tt;
+      head = head_stays z o words words' before h h' after log w m (other (list_head z) (λ e. omega (arith, e)));
+      pool_high = pool_stays before h h' after (get_or words' (pool_counter z) 0) (pool_end z) (4 + 2 * z.m) refl (let high = w.pool_high in omega (arith, pool, high));
+      slots_high = slots_stay before h h' after (get_or words' (slot_counter z) 0) z.slots refl (omega (arith, now, room));
+      lists_high = lists_stay before h h' after (get_or words' (list_counter z) 0) (list_end z) (z.slots + 2) refl (let high = w.lists_high in omega (arith, lists, high));
+    })
+
+pub leaves_are_kept : LeavesAreKept
+leaves_are_kept z o words before h after log slot j w is =
+    let c : Claimed = record { slot = slot; joined = Some j } in
+    let h' : Holding = record h { claimed = None } in
+    let n = slot_word z slot in
+    let words' = set words n 1 in
+    let count = w.count in
+    let claim : IsClaim z words (before ++ h ∷ after) log c = if_some_at (IsClaim z words (before ++ h ∷ after) log) h.claimed c is (all_at (λ v. IfSome v.claimed (IsClaim z words (before ++ h ∷ after) log)) before h after w.claims) in
+    let room : slot < z.slots = claim.slot in
+    let now : get_or words' (slot_word z slot) 0 ≡ 1 = get_or-set_same words (slot_word z slot) 1 0 (omega (arith, count, room)) in
+    let other : (k : ℕ) → k ≢ n → get_or words' k 0 ≡ get_or words k 0 = λ k differs. get_or-set_other words n k 1 0 differs in
+    let lists : get_or words' (list_counter z) 0 ≡ get_or words (list_counter z) 0 = other (list_counter z) (λ e. omega (arith, e)) in
+    let pool : get_or words' (pool_counter z) 0 ≡ get_or words (pool_counter z) 0 = other (pool_counter z) (λ e. omega (arith, e)) in
+    let slots : get_or words' (slot_counter z) 0 ≡ get_or words (slot_counter z) 0 = other (slot_counter z) (λ e. omega (arith, e)) in
+    let far : (k : ℕ) → list_base z ≤ k → get_or words' k 0 ≡ get_or words k 0 = λ k above. other k (λ e. omega (arith, above, e, room)) in
+    let components : (i : ℕ) → i < z.m → get_or words' i 0 ≡ get_or words i 0 = λ i below. other i (λ e. omega (arith, below, e)) in
+    let left : (l : ℕ) → slot ≡ l → get_or words' (slot_word z l) 0 ≡ 1 = λ l e. ap (λ t. get_or words' (slot_word z t) 0) (sym e) ∙ now in
+    let m : Moves z words words' h h' = record {
+      port = refl;
+      count = length-set words n 1;
+      pool = omega (arith, pool);
+      lists = omega (arith, lists);
+      slots = omega (arith, slots);
+      same = λ k above free. far k above;
+      apart = λ b claimed free. free;
+      slot = λ l inside free. let differs = if_some_at (λ c. c.slot ≢ l) h.claimed c is free in other (slot_word z l) (λ e. differs (omega (arith, e)));
+      vacated = λ l inside one. elim (eqb_tells slot l) [ inl t ↦ left l t.1 | inr t ↦ let differs : slot ≢ l = t.1 in other (slot_word z l) (λ e. differs (omega (arith, e))) ∙ one ];
+    } in
+    let tied = all_at (IsTied z words) before h after w.tied in
+    quiet z o words words' before h h' after log w (record {
+      moves = m;
+      components = components;
+      tied = record { own = own_stays z words words' h h' m far h.own tied.own; pool_marked = λ t. let old = tied.pool_marked t in omega (arith, old, pool); slots_marked = λ t. let old = tied.slots_marked t in omega (arith, old, slots); lists_marked = λ t. let old = tied.lists_marked t in omega (arith, old, lists) };
+      apart = (two_take AreApart apart_turns (announcement_of j) (blocks_in z words (before ++ h' ∷ after) log) (blocks_in z words (before ++ h ∷ after) log) (announced_block_added z words (before ++ h ∷ after) (before ++ h' ∷ after) log (announcement_of j) (unpublished_same before h h' after refl) (announcement_added before h h' after j refl (ap joined_in is))) w.apart).0;
+      due = due_stays z o words words' before h h' after log w m refl refl (λ e. refl) far components;
+      taken = λ l below inside k. elim k [ inl t ↦ inl (left l (one_claimed (λ c. c.slot ≡ l) h.claimed c is t)) | inr from ↦ absurd (omega (arith, from, below, slots)) ];
+      claim = tt;
+      owners = λ v k other. tt;
+      joined = inr tt;
+      head = head_stays z o words words' before h h' after log w m (other (list_head z) (λ e. omega (arith, e)));
+      pool_high = pool_stays before h h' after (get_or words' (pool_counter z) 0) (pool_end z) (4 + 2 * z.m) refl (let high = w.pool_high in omega (arith, pool, high));
+      slots_high = slots_stay before h h' after (get_or words' (slot_counter z) 0) z.slots refl (let high = w.slots_high in omega (arith, slots, high));
+      lists_high = lists_stay before h h' after (get_or words' (list_counter z) 0) (list_end z) (z.slots + 2) refl (let high = w.lists_high in omega (arith, lists, high));
+    })
+
+pub joins_are_kept : JoinsAreKept
+joins_are_kept z o words before h after log slot at indices w is idle owned few each =
+    let c : Claimed = record { slot = slot; joined = None } in
+    let b : Own = record { space = Pool; at = at; words = announcement_block indices; stored = 1 + length indices } in
+    let j : Joined = record { at = at; indices = indices; since = length log } in
+    let h' : Holding = record h { own = None; claimed = Some (record { slot = slot; joined = Some (record { at = at; indices = indices; since = length log }) }) } in
+    let between : Holding = record h { own = None } in
+    let n = slot_word z slot in
+    let words' = set words n at in
+    let count = w.count in
+    let claim : IsClaim z words (before ++ h ∷ after) log c = if_some_at (IsClaim z words (before ++ h ∷ after) log) h.claimed c is (all_at (λ v. IfSome v.claimed (IsClaim z words (before ++ h ∷ after) log)) before h after w.claims) in
+    let room : slot < z.slots = claim.slot in
+    let empty : get_or words (slot_word z slot) 0 ≡ 0 = claim.holds in
+    let now : get_or words' (slot_word z slot) 0 ≡ at = get_or-set_same words (slot_word z slot) at 0 (omega (arith, count, room)) in
+    let other : (k : ℕ) → k ≢ n → get_or words' k 0 ≡ get_or words k 0 = λ k differs. get_or-set_other words n k at 0 differs in
+    let lists : get_or words' (list_counter z) 0 ≡ get_or words (list_counter z) 0 = other (list_counter z) (λ e. omega (arith, e)) in
+    let pool : get_or words' (pool_counter z) 0 ≡ get_or words (pool_counter z) 0 = other (pool_counter z) (λ e. omega (arith, e)) in
+    let slots : get_or words' (slot_counter z) 0 ≡ get_or words (slot_counter z) 0 = other (slot_counter z) (λ e. omega (arith, e)) in
+    let far : (k : ℕ) → list_base z ≤ k → get_or words' k 0 ≡ get_or words k 0 = λ k above. other k (λ e. omega (arith, above, e, room)) in
+    let m : Moves z words words' h h' = record {
+      port = refl;
+      count = length-set words n at;
+      pool = omega (arith, pool);
+      lists = omega (arith, lists);
+      slots = omega (arith, slots);
+      same = λ k above free. far k above;
+      apart = λ b claimed free. tt;
+      slot = λ l inside free. let differs = if_some_at (λ c. c.slot ≢ l) h.claimed c is free in other (slot_word z l) (λ e. differs (omega (arith, e)));
+      vacated = λ l inside one. elim (eqb_tells slot l) [ inl t ↦ let none : get_or words (slot_word z l) 0 ≡ 0 = ap (λ t. get_or words (slot_word z t) 0) (sym t.1) ∙ empty in absurd (omega (arith, none, one)) | inr t ↦ let differs : slot ≢ l = t.1 in other (slot_word z l) (λ e. differs (omega (arith, e))) ∙ one ];
+    } in
+    let tied = all_at (IsTied z words) before h after w.tied in
+    let own : IsOwn z words b = if_some_at (IsOwn z words) h.own b owned tied.own in
+    let above = own.above in
+    let within = own.within in
+    let below = own.below in
+    let size : length (announcement_block indices) ≡ 1 + length indices = omega arith in
+    let same : block_of b ≡ announcement_of j = ap (λ n. record { at = at; size = n }) size in
+    let taken = two_take AreApart apart_turns (block_of b) (blocks_in z words (before ++ between ∷ after) log) (blocks_in z words (before ++ h ∷ after) log) (own_block_added z words (before ++ h ∷ after) (before ++ between ∷ after) log (block_of b) (announced_same before h between after refl) (own_added before h between after b refl owned)) w.apart in
+    let free : AllByRecursion (AreApart (announcement_of j)) (blocks_in z words (before ++ between ∷ after) log) = subst (λ (x : Block). AllByRecursion (AreApart x) (blocks_in z words (before ++ between ∷ after) log)) same taken.1 in
+    let added = announced_block_added z words (before ++ h' ∷ after) (before ++ between ∷ after) log (announcement_of j) (unpublished_same before h' between after refl) (announcement_added before h' between after j (ap joined_in is) refl) in
+    let announced : IsAnnounced z words' (unpublished (before ++ h' ∷ after)) at indices = record {
+      whole = record {
+        from = omega (arith, above);
+        to = omega (arith, within, size);
+        count = few;
+        each = each;
+        stands = λ k inside. (let long = m.count in omega (arith, within, inside, count, long), far (at + k) (omega (arith, above)) ∙ own.stands k (omega (arith, inside, size)));
+      };
+      above = own.above;
+      below = omega (arith, below, size, pool);
+      apart = subst (IsApartFrom (unpublished (before ++ h' ∷ after))) same (own_freed before h h' after b owned refl (unpublished_two z o words words' before h h' after log w m));
+    } in
+    let inside = claim.below in
+    quiet z o words words' before h h' after log w (record {
+      moves = m;
+      components = λ i below. other i (λ e. omega (arith, below, e));
+      tied = record { own = tt; pool_marked = λ t. let old = tied.pool_marked t in omega (arith, old, pool); slots_marked = λ t. let old = tied.slots_marked t in omega (arith, old, slots); lists_marked = λ t. let old = tied.lists_marked t in omega (arith, old, lists) };
+      apart = two_put AreApart apart_turns (announcement_of j) (blocks_in z words (before ++ between ∷ after) log) (blocks_in z words (before ++ h' ∷ after) log) added taken.0 free;
+      due = none_here (IsDue z o words' h' (others_of h'.port (before ++ h' ∷ after)) log) h.due idle;
+      taken = λ l below room k. elim k [ inl t ↦ let e : slot ≡ l = one_claimed (λ c. c.slot ≡ l) h.claimed c is t in inr e | inr from ↦ absurd (omega (arith, from, below, slots)) ];
+      claim = record { slot = room; below = omega (arith, inside, slots); holds = (now, omega arith, announced) };
+      owners = λ v k other. if_some_at (λ c. IfSome v.claimed (λ d. c.slot ≢ d.slot)) h.claimed c is other;
+      joined = inr (let late : length log ≤ length log = omega arith in late);
+      head = head_stays z o words words' before h h' after log w m (other (list_head z) (λ e. omega (arith, e)));
+      pool_high = pool_stays before h h' after (get_or words' (pool_counter z) 0) (pool_end z) (4 + 2 * z.m) refl (let high = w.pool_high in omega (arith, pool, high));
+      slots_high = slots_stay before h h' after (get_or words' (slot_counter z) 0) z.slots refl (let high = w.slots_high in omega (arith, slots, high));
+      lists_high = lists_stay before h h' after (get_or words' (list_counter z) 0) (list_end z) (z.slots + 2) refl (let high = w.lists_high in omega (arith, lists, high));
+    })
