@@ -2,3 +2,11 @@
 //! by which the machine's own contracts are stated.
 
 ghost use Rattle.partial_lawful.specs.Lawful.{OpensLawful, StepsStayLawful};
+
+/// The one law of steps: from a lawful state the due step of any port, answered by the plain meaning
+/// of that step on the words, leads to a lawful state. The answer is a possible one; the history
+/// gains one entry exactly at a won exchange of a component word; and where the step ends a call
+/// that isn't refused, the port notes the call with its answer and its place, within the call.
+pub fn steps_stay_lawful()
+    ensures { StepsStayLawful }
+{}
