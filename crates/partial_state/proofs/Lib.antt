@@ -10,3 +10,4 @@ pub mod MarkLaws
 pub mod BlockLaws
 pub mod SlotLaws
 pub mod WinLaw
+pub mod OpeningLaw
