@@ -1,25 +1,24 @@
 -- The steps by which a block is claimed and written, and by which a list is published.
-use Rattle.std.proofs.Common.{ℕ, zero, suc, ◌≡◌, ◌≢◌, ◌+◌, ◌*◌, ◌<◌, ◌≤◌, ◌==◌, ◌++◌, ◌^◌, ◌%◌, Bool, true, false, cond, List, [], ◌∷◌, length, map, get_or, set, Option, Some, None, IfSome, MatchOption, slice_get, refl, sym, ◌∙◌, ap, subst, inl, inr, arith, get_or-set_other, get_or-set_same, length-set}
+use Rattle.std.proofs.Common.{ℕ, ◌≡◌, ◌≢◌, ◌+◌, ◌*◌, ◌<◌, ◌≤◌, ◌==◌, ◌++◌, ◌^◌, ◌%◌, Bool, true, false, cond, List, [], ◌∷◌, length, map, get_or, set, Option, Some, None, IfSome, refl, sym, ◌∙◌, ap, subst, inl, inr, arith, get_or-set_other, get_or-set_same, length-set}
 use Rattle.std.specs.List.{AllByRecursion, cons_option}
 use Rattle.std.specs.Option.{option_map}
 use Rattle.std.proofs.lemmas.Bool.{cases_lt, eqb-true}
-use Rattle.partial_intervals.specs.Intervals.{Ranges}
 use Rattle.partial_model.specs.declared.history.Applied.{Applied}
 use Rattle.partial_model.specs.declared.history.Opening.{Opening}
-use Rattle.partial_words.specs.Layout.{Layout, slot_counter, list_head, pool_counter, list_counter, slot_word, list_base, list_end, pool_base, pool_end, total}
-use Rattle.partial_words.specs.Record.{view_of, view_len, view_block}
+use Rattle.partial_words.specs.Layout.{Layout, slot_counter, list_head, pool_counter, list_counter, slot_word, list_base, list_end, pool_end, total}
+use Rattle.partial_words.specs.Record.{view_of, view_len}
 use Rattle.partial_words.specs.VacatedList.{list_block}
 use Rattle.partial_words.proofs.RecordLemmas.{length-pairs}
 use Rattle.partial_state.specs.Views.{Block, AreApart, Joined, HasPairs, IsApartFrom, IsAnnounced, IsPublishedList, IsHead}
-use Rattle.partial_state.specs.Holdings.{Claimed, Own, Due, Holding, Space, first_of, end_of, counter_of, block_of, block_at, announcements, unpublished, blocks_in, others_of, joined_in, EachTwo, pool_marks, list_marks}
+use Rattle.partial_state.specs.Holdings.{Claimed, Own, Holding, Space, first_of, end_of, counter_of, block_of, block_at, announcements, unpublished, blocks_in, others_of, joined_in, EachTwo, pool_marks, list_marks}
 use Rattle.partial_state.specs.Holdings.Space.{Pool, Lists}
 use Rattle.partial_state.specs.LawfulWords.{LawfulWords, IsOwn, IsTied, IsClaim, IsDue, IsEntry}
 use Rattle.partial_state.specs.Effects.{IsKept, ClaimsAreKept, StoresAreKept, PublishingsAreKept}
 use Rattle.partial_state.proofs.ListLemmas.{all_at, all_append, all_map, all_of, all_found, all_weaker, two_take, two_put}
 use Rattle.partial_state.proofs.Frames.{IsClaimedBlock, word_at, apart_turns, head_moves}
-use Rattle.partial_state.proofs.HoldingLemmas.{if_some, if_some_at, some_here, none_here, if_all, all_unpublished}
-use Rattle.partial_state.proofs.Blocks.{announcement_of, unpublished_is, unpublished_same, announced_same, own_added, blocks_same, own_block_added}
-use Rattle.partial_state.proofs.Rebuild.{Moves, frame_of, space_far, own_stays, unpublished_two}
+use Rattle.partial_state.proofs.HoldingLemmas.{if_some, if_some_at, none_here, if_all, all_unpublished}
+use Rattle.partial_state.proofs.Blocks.{announcement_of, unpublished_is, announced_same, own_added, blocks_same, own_block_added}
+use Rattle.partial_state.proofs.Rebuild.{Moves, frame_of, unpublished_two}
 use Rattle.partial_state.proofs.Quiet.{calm, pool_stays, slots_stay, lists_stay, fits_word, head_stays}
 use Rattle.partial_state.proofs.LoadLaw.{match_some}
 use Rattle.partial_state.proofs.MarkLaws.{block_given_up}
@@ -58,21 +57,21 @@ all_announcements P (h ∷ hs) w = more P (joined_in h.claimed) (announcements h
 -- all words of blocks are claimed
 pub all_claimed : (z : Layout) (o : Opening) (words : List ℕ) (hs : List Holding) (log : List Applied) → LawfulWords z o words hs log → AllByRecursion (IsClaimedBlock z words) (blocks_in z words hs log)
 all_claimed z o words hs log w = (
-    inr (omega arith, w.pool_low),
-    all_append (IsClaimedBlock z words) (map (λ e. block_at words e.stamp) log) (announcements hs ++ unpublished hs)
-        (all_map (IsClaimedBlock z words) (λ (e : Applied). block_at words e.stamp) log (all_of (λ (e : Applied). IsClaimedBlock z words (block_at words e.stamp)) log (λ k e s.
-            let entry : IsEntry z words e = all_found (IsEntry z words) log k e w.entries s in
-            let above = entry.above in
-            let fresh = w.fresh k e s in
-            inr (omega (arith, above), entry_below z words (unpublished hs) e.stamp fresh.pairs fresh.shown entry.below))))
-        (all_append (IsClaimedBlock z words) (announcements hs) (unpublished hs)
-            (all_announcements (IsClaimedBlock z words) hs (all_weaker (λ (h : Holding). IfSome h.claimed (IsClaim z words hs log)) (λ h. IfSome h.claimed (λ c. IfSome c.joined (λ j. IsClaimedBlock z words (announcement_of j)))) (λ h k. if_some (IsClaim z words hs log) (λ c. IfSome c.joined (λ j. IsClaimedBlock z words (announcement_of j))) h.claimed (λ c e claim. if_all (λ j. IsClaimedBlock z words (announcement_of j)) c.joined (λ j is.
-                let a : IsAnnounced z words (unpublished hs) j.at j.indices = (match_some (get_or words (slot_word z c.slot) 0 ≡ 0) (λ j. (get_or words (slot_word z c.slot) 0 ≡ j.at) × (j.since ≤ length log) × IsAnnounced z words (unpublished hs) j.at j.indices) c.joined j is claim.holds).2 in
-                let above = a.above in
-                let below = a.below in
-                inr (omega (arith, above), omega (arith, below)))) k) hs w.claims))
-            (all_unpublished (IsClaimedBlock z words) hs (all_weaker (IsTied z words) (λ h. IfSome h.own (λ b. IsClaimedBlock z words (block_of b))) (λ h t. if_some (IsOwn z words) (λ b. IsClaimedBlock z words (block_of b)) h.own (λ b e own. own_claimed b.space b.at (length b.words) own.above own.within own.below) t.own) hs w.tied))),
-  )
+  inr (omega arith, w.pool_low),
+  all_append (IsClaimedBlock z words) (map (λ e. block_at words e.stamp) log) (announcements hs ++ unpublished hs)
+      (all_map (IsClaimedBlock z words) (λ (e : Applied). block_at words e.stamp) log (all_of (λ (e : Applied). IsClaimedBlock z words (block_at words e.stamp)) log (λ k e s.
+      let entry : IsEntry z words e = all_found (IsEntry z words) log k e w.entries s in
+      let above = entry.above in
+      let fresh = w.fresh k e s in
+      inr (omega (arith, above), entry_below z words (unpublished hs) e.stamp fresh.pairs fresh.shown entry.below))))
+      (all_append (IsClaimedBlock z words) (announcements hs) (unpublished hs)
+      (all_announcements (IsClaimedBlock z words) hs (all_weaker (λ (h : Holding). IfSome h.claimed (IsClaim z words hs log)) (λ h. IfSome h.claimed (λ c. IfSome c.joined (λ j. IsClaimedBlock z words (announcement_of j)))) (λ h k. if_some (IsClaim z words hs log) (λ c. IfSome c.joined (λ j. IsClaimedBlock z words (announcement_of j))) h.claimed (λ c e claim. if_all (λ j. IsClaimedBlock z words (announcement_of j)) c.joined (λ j is.
+      let a : IsAnnounced z words (unpublished hs) j.at j.indices = (match_some (get_or words (slot_word z c.slot) 0 ≡ 0) (λ j. (get_or words (slot_word z c.slot) 0 ≡ j.at) × (j.since ≤ length log) × IsAnnounced z words (unpublished hs) j.at j.indices) c.joined j is claim.holds).2 in
+      let above = a.above in
+      let below = a.below in
+      inr (omega (arith, above), omega (arith, below)))) k) hs w.claims))
+      (all_unpublished (IsClaimedBlock z words) hs (all_weaker (IsTied z words) (λ h. IfSome h.own (λ b. IsClaimedBlock z words (block_of b))) (λ h t. if_some (IsOwn z words) (λ b. IsClaimedBlock z words (block_of b)) h.own (λ b e own. own_claimed b.space b.at (length b.words) own.above own.within own.below) t.own) hs w.tied))),
+)
   where
     own_claimed : (s : Space) (at n : ℕ) → first_of z s ≤ at → at + n ≤ end_of z s → at + n ≤ get_or words (counter_of z s) 0 → IsClaimedBlock z words (record { at = at; size = n })
     own_claimed Pool at n above within below = inr (omega (arith, above), below)

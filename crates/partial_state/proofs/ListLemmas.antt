@@ -1,5 +1,5 @@
 -- One element of a list in the place of another.
-use Rattle.std.proofs.Common.{ℕ, zero, suc, map, ◌∙◌, ◌≡◌, ◌+◌, ◌<◌, ◌≤◌, ◌++◌, List, [], ◌∷◌, length, refl, sym, ap, subst, Some, None, slice_get, append_assoc, arith}
+use Rattle.std.proofs.Common.{ℕ, zero, suc, map, ◌∙◌, ◌≡◌, ◌<◌, ◌≤◌, ◌++◌, List, [], ◌∷◌, length, refl, sym, ap, subst, Some, None, slice_get, append_assoc, arith}
 use Rattle.std.proofs.lemmas.List.{length_push}
 use Rattle.partial_model.proofs.HistoryLemmas.{place_below}
 use Rattle.partial_model.proofs.NotesLemmas.{slice_get_last}

@@ -1,10 +1,9 @@
 -- Words as they open are lawful.
-use Rattle.std.proofs.Common.{ℕ, zero, suc, ◌≡◌, ◌+◌, ◌*◌, ◌<◌, ◌≤◌, ◌==◌, ◌++◌, true, false, List, [], ◌∷◌, length, get_or, Option, Some, None, IfSome, slice_get, refl, sym, ap, subst, inl, arith, ◌∙◌}
+use Rattle.std.proofs.Common.{ℕ, zero, suc, ◌≡◌, ◌+◌, ◌*◌, ◌<◌, ◌≤◌, ◌++◌, false, List, [], ◌∷◌, length, get_or, Some, None, IfSome, refl, sym, ap, subst, inl, arith, ◌∙◌}
 use Rattle.std.specs.List.{AllByRecursion}
 use Rattle.std.proofs.lemmas.Bool.Decides.{nat_tests}
-use Rattle.partial_model.specs.declared.history.Opening.{Opening}
-use Rattle.partial_words.specs.Layout.{Layout, slot_counter, list_head, pool_counter, list_counter, slot_word, list_base, list_end, pool_base, pool_end}
-use Rattle.partial_words.specs.Chain.{OpensWith, opening_word}
+use Rattle.partial_words.specs.Layout.{Layout, slot_counter, list_head, pool_counter, list_counter, slot_word, list_base, pool_base}
+use Rattle.partial_words.specs.Chain.{opening_word}
 use Rattle.partial_words.proofs.LayoutLemmas.{opening_agrees}
 use Rattle.partial_state.specs.Views.{Block, AreApart}
 use Rattle.partial_state.specs.Holdings.{Holding, EachTwo, HaveOtherPorts, HaveOtherSlots, announcements, unpublished}

@@ -1,24 +1,20 @@
 -- Lawful words with one port's holding in the place of another, and with other words.
-use Rattle.std.proofs.Common.{ℕ, ◌≡◌, ◌≢◌, ◌+◌, ◌*◌, ◌<◌, ◌≤◌, ◌⊎◌, ◌==◌, ◌++◌, Bool, true, false, cond, List, [], ◌∷◌, length, map, get_or, Option, Some, None, IfSome, IsSomeAnd, MatchOption, slice_get, refl, sym, ◌∙◌, ap, subst, inl, inr, arith}
+use Rattle.std.proofs.Common.{ℕ, ◌≡◌, ◌≢◌, ◌+◌, ◌*◌, ◌<◌, ◌≤◌, ◌++◌, List, [], ◌∷◌, length, map, get_or, Option, Some, IfSome, slice_get, sym, ◌∙◌, ap, subst, arith}
 use Rattle.std.specs.List.{AllByRecursion}
-use Rattle.std.proofs.lemmas.Bool.{ne_eqb, eq-eqb, cases_lt}
 use Rattle.partial_model.specs.declared.history.Applied.{Applied}
 use Rattle.partial_model.specs.declared.history.Opening.{Opening}
-use Rattle.partial_model.specs.History.{IsHistory, initial_stamp, stamp_of}
-use Rattle.partial_model.proofs.HistoryLemmas.{place_below}
-use Rattle.partial_words.specs.Layout.{Layout, slot_counter, list_head, pool_counter, list_counter, slot_word, list_base, list_end, pool_base, pool_end}
-use Rattle.partial_words.specs.Record.{prev_of, value_of, view_of}
+use Rattle.partial_model.specs.History.{initial_stamp}
+use Rattle.partial_words.specs.Layout.{Layout, slot_counter, pool_counter, list_counter, slot_word, list_base, pool_base}
+use Rattle.partial_words.specs.Record.{prev_of}
 use Rattle.partial_words.specs.Chain.{Agrees, Link, IsChain, chain_of}
 use Rattle.partial_words.proofs.ChainLemmas.{chain_all}
-use Rattle.partial_state.specs.Views.{Block, AreApart, Joined, HasFreshView, IsWithin, Covers, IsAnnounced, IsApartFrom, IsHead}
-use Rattle.partial_state.specs.Holdings.{Claimed, Own, Due, Holding, Space, first_of, end_of, counter_of, block_of, block_at, announcements, unpublished, blocks_in, others_of, IfJoined, joined_in, EachTwo, HaveOtherPorts, HaveOtherSlots, pool_marks, slot_marks, list_marks}
+use Rattle.partial_state.specs.Views.{Block, AreApart}
+use Rattle.partial_state.specs.Holdings.{Own, Holding, Space, first_of, counter_of, block_of, block_at, announcements, unpublished, blocks_in, EachTwo}
 use Rattle.partial_state.specs.Holdings.Space.{Pool, Lists}
-use Rattle.partial_state.specs.LawfulWords.{LawfulWords, IsOwn, IsTied, IsClaimedIn, IsClaim, CoversAll, IsDue, IsEntry}
-use Rattle.partial_state.specs.Loads.{Kept, IsLoaded}
-use Rattle.partial_state.specs.Effects.{IsKept}
-use Rattle.partial_state.proofs.ListLemmas.{all_at, all_before, all_after, all_join, all_with, all_weaker, all_append, all_back, all_unmap, two_before, two_after, two_join, two_back, two_across, map_same, length_same, all_of, all_found}
-use Rattle.partial_state.proofs.Frames.{Frame, Grows, IsClaimedBlock, word_at, part_apart, within_more, within_grows, published_moves, announced_moves, head_moves, slot_moves, fresh_moves, covers_moves, covers_newer}
-use Rattle.partial_state.proofs.HoldingLemmas.{if_some, if_some_at, some_here, none_here, if_all, some_found, found_some, joined_weaker, all_unpublished, unpublished_all, HaveOtherBlocks, apart_others, blocks_turn, ports_turn, slots_turn, others_split, others_gone, three_words, block_stays}
+use Rattle.partial_state.specs.LawfulWords.{LawfulWords, IsOwn, IsTied, IsEntry}
+use Rattle.partial_state.proofs.ListLemmas.{all_at, all_before, all_after, all_join, all_back, all_unmap, two_before, two_after, two_back, two_across, map_same, all_of, all_found}
+use Rattle.partial_state.proofs.Frames.{Frame, IsClaimedBlock, word_at, part_apart}
+use Rattle.partial_state.proofs.HoldingLemmas.{if_some, if_some_at, all_unpublished, unpublished_all, HaveOtherBlocks, apart_others, blocks_turn, three_words, block_stays}
 
 -- What a step does to the words of others, where its port holds h before and h' behind it.
 pub record Moves (z : Layout) (words words' : List ℕ) (h h' : Holding) : Type 0 where
@@ -84,16 +80,16 @@ module _ (z : Layout) (words words' : List ℕ) (h h' : Holding) (m : Moves z wo
   pub own_stays : ((n : ℕ) → list_base z ≤ n → get_or words' n 0 ≡ get_or words n 0) → (f : Option Own) → IfSome f (IsOwn z words) → IfSome f (IsOwn z words')
   own_stays far f w =
       if_some (IsOwn z words) (IsOwn z words') f (λ b e own.
-          let above = space_far b own in
-          let below = own.below in
-          let more = counter_grows b.space in
-          record {
-            above = own.above;
-            within = own.within;
-            below = omega (arith, below, more);
-            few = own.few;
-            stands = λ i stored. far (b.at + i) (omega (arith, above)) ∙ own.stands i stored;
-          }) w
+      let above = space_far b own in
+      let below = own.below in
+      let more = counter_grows b.space in
+      record {
+        above = own.above;
+        within = own.within;
+        below = omega (arith, below, more);
+        few = own.few;
+        stands = λ i stored. far (b.at + i) (omega (arith, above)) ∙ own.stands i stored;
+      }) w
 
   pub marked_moves : (v : Holding) → IfSome v.own (IsOwn z words') → IsTied z words v → IsTied z words' v
   marked_moves v own w =
