@@ -15,9 +15,6 @@ if_some P Q (Some a) f w = f a refl w
 pub if_some_at : {A : Type 0} (P : A → Type 0) (found : Option A) (a : A) → found ≡ Some a → IfSome found P → P a
 if_some_at P found a e w = let h : IfSome (Some a) P = subst (λ (f : Option _). IfSome f P) e w in h
 
-pub some_here : {A : Type 0} (P : A → Type 0) (found : Option A) (a : A) → found ≡ Some a → P a → IfSome found P
-some_here P found a e p = subst (λ (f : Option _). IfSome f P) (sym e) p
-
 pub none_here : {A : Type 0} (P : A → Type 0) (found : Option A) → found ≡ None → IfSome found P
 none_here P found e = subst (λ (f : Option _). IfSome f P) (sym e) tt
 
@@ -118,15 +115,6 @@ others_gone p before h after e = others_append p before (h ∷ after) ∙ ap (λ
 pub others_all : (h : Holding) (hs : List Holding) → AllByRecursion (HaveOtherPorts h) hs → others_of h.port hs ≡ hs
 others_all h [] w = refl
 others_all h (x ∷ hs) w = ap (λ (t : Bool). cond t (others_of h.port hs) (x ∷ others_of h.port hs)) (ne_eqb x.port h.port (λ e. w.0 (sym e))) ∙ ap (λ (l : List Holding). x ∷ l) (others_all h hs w.1)
-
--- what holds of each holding holds of each other port's
-pub all_others : (P : Holding → Type 0) (p : ℕ) (hs : List Holding) → AllByRecursion P hs → AllByRecursion P (others_of p hs)
-all_others P p [] w = tt
-all_others P p (h ∷ hs) w = chosen P p h hs (h.port == p) w.0 (all_others P p hs w.1)
-  where
-    chosen : (P : Holding → Type 0) (p : ℕ) (h : Holding) (hs : List Holding) (b : Bool) → P h → AllByRecursion P (others_of p hs) → AllByRecursion P (cond b (others_of p hs) (h ∷ others_of p hs))
-    chosen P p h hs true first rest = rest
-    chosen P p h hs false first rest = (first, rest)
 
 -- how many have the mark
 abbrev pub marks : (Holding → Bool) → List Holding → ℕ

@@ -2,6 +2,7 @@ pub mod ListLemmas
 pub mod Frames
 pub mod HoldingLemmas
 pub mod Blocks
+pub mod Claimed
 pub mod Rebuild
 pub mod Keeping
 pub mod Quiet

@@ -12,8 +12,9 @@ use Rattle.partial_state.specs.Views.{Block, AreApart}
 use Rattle.partial_state.specs.Holdings.{Own, Holding, Space, first_of, counter_of, block_of, block_at, announcements, unpublished, blocks_in, EachTwo}
 use Rattle.partial_state.specs.Holdings.Space.{Pool, Lists}
 use Rattle.partial_state.specs.LawfulWords.{LawfulWords, IsOwn, IsTied, IsEntry}
-use Rattle.partial_state.proofs.ListLemmas.{all_at, all_before, all_after, all_join, all_back, all_unmap, two_before, two_after, two_back, two_across, map_same, all_of, all_found}
+use Rattle.partial_state.proofs.ListLemmas.{all_at, all_before, all_after, all_join, two_before, two_after, map_same, all_of, all_found}
 use Rattle.partial_state.proofs.Frames.{Frame, IsClaimedBlock, word_at, part_apart}
+use Rattle.partial_state.proofs.Claimed.{unpublished_two, entry_free, initial_free}
 use Rattle.partial_state.proofs.HoldingLemmas.{if_some, if_some_at, all_unpublished, unpublished_all, HaveOtherBlocks, apart_others, blocks_turn, three_words, block_stays}
 
 -- What a step does to the words of others, where its port holds h before and h' behind it.
@@ -122,22 +123,13 @@ module _ (z : Layout) (o : Opening) (words words' : List ℕ) (before : List Hol
   from_own : (b : Block) → AllByRecursion (AreApart b) (unpublished (before ++ h ∷ after)) → IfSome h.own (λ c. AreApart b (block_of c))
   from_own b all = all_at (λ v. IfSome v.own (λ c. AreApart b (block_of c))) before h after (unpublished_all (AreApart b) (before ++ h ∷ after) all)
 
-  pub entry_free : (k : ℕ) (e : Applied) → slice_get log k ≡ Some e → AllByRecursion (AreApart (block_at words e.stamp)) (unpublished (before ++ h ∷ after))
-  entry_free k e s =
-      let across = two_across AreApart (map (λ e. block_at words e.stamp) log) (announcements (before ++ h ∷ after) ++ unpublished (before ++ h ∷ after)) w.apart.1 in
-      let each = all_unmap (λ b. AllByRecursion (AreApart b) (announcements (before ++ h ∷ after) ++ unpublished (before ++ h ∷ after))) (λ e. block_at words e.stamp) log across in
-      all_back (AreApart (block_at words e.stamp)) (announcements (before ++ h ∷ after)) (unpublished (before ++ h ∷ after)) (all_found (λ (e : Applied). AllByRecursion (AreApart (block_at words e.stamp)) (announcements (before ++ h ∷ after) ++ unpublished (before ++ h ∷ after))) log k e each s)
-
-  pub unpublished_two : EachTwo AreApart (unpublished (before ++ h ∷ after))
-  unpublished_two = two_back AreApart (announcements (before ++ h ∷ after)) (unpublished (before ++ h ∷ after)) (two_back AreApart (map (λ e. block_at words e.stamp) log) (announcements (before ++ h ∷ after) ++ unpublished (before ++ h ∷ after)) w.apart.1)
-
   -- the words of records of the history stay
   pub entry_word : (k : ℕ) (e : Applied) (n : ℕ) → slice_get log k ≡ Some e → n < (block_at words e.stamp).size → get_or words' (e.stamp + n) 0 ≡ get_or words (e.stamp + n) 0
   entry_word k e n s below =
       let entry : IsEntry z words e = all_found (IsEntry z words) log k e w.entries s in
       let above = entry.above in
       let b = block_at words e.stamp in
-      m.same (e.stamp + n) (omega (arith, above)) (if_some (λ c. AreApart (block_at words e.stamp) (block_of c)) (λ c. AreApart (word_at (e.stamp + n)) (block_of c)) h.own (λ c is a. part_apart (word_at (e.stamp + n)) (block_at words e.stamp) (block_of c) (omega arith) (omega (arith, below)) a) (from_own b (entry_free k e s)))
+      m.same (e.stamp + n) (omega (arith, above)) (if_some (λ c. AreApart (block_at words e.stamp) (block_of c)) (λ c. AreApart (word_at (e.stamp + n)) (block_of c)) h.own (λ c is a. part_apart (word_at (e.stamp + n)) (block_at words e.stamp) (block_of c) (omega arith) (omega (arith, below)) a) (from_own b (entry_free z o words (before ++ h ∷ after) log w k e s)))
 
   pub entry_three : (k : ℕ) (e : Applied) (n : ℕ) → slice_get log k ≡ Some e → n < 3 → get_or words' (e.stamp + n) 0 ≡ get_or words (e.stamp + n) 0
   entry_three k e n s below = let size = three_words words e.stamp in entry_word k e n s (omega (arith, size, below))
@@ -148,8 +140,7 @@ module _ (z : Layout) (o : Opening) (words words' : List ℕ) (before : List Hol
   initial_word : (n : ℕ) → pool_base z ≤ n → n < pool_base z + 3 * z.m → get_or words' n 0 ≡ get_or words n 0
   initial_word n from to =
       let b : Block = record { at = pool_base z; size = 3 * z.m } in
-      let free = all_back (AreApart b) (announcements (before ++ h ∷ after)) (unpublished (before ++ h ∷ after)) (all_back (AreApart b) (map (λ e. block_at words e.stamp) log) (announcements (before ++ h ∷ after) ++ unpublished (before ++ h ∷ after)) w.apart.0) in
-      m.same n (omega (arith, from)) (if_some (λ c. AreApart (record { at = pool_base z; size = 3 * z.m }) (block_of c)) (λ c. AreApart (word_at n) (block_of c)) h.own (λ c is a. part_apart (word_at n) (record { at = pool_base z; size = 3 * z.m }) (block_of c) from (omega (arith, to)) a) (from_own b free))
+      m.same n (omega (arith, from)) (if_some (λ c. AreApart (record { at = pool_base z; size = 3 * z.m }) (block_of c)) (λ c. AreApart (word_at n) (block_of c)) h.own (λ c is a. part_apart (word_at n) (record { at = pool_base z; size = 3 * z.m }) (block_of c) from (omega (arith, to)) a) (from_own b (initial_free z o words (before ++ h ∷ after) log w)))
 
   -- the chains stay
   pub chain_moves : (j : ℕ) → j < length o.values → IsChain words' (get_or words j 0) (chain_of o j log)
@@ -176,7 +167,7 @@ module _ (z : Layout) (o : Opening) (words words' : List ℕ) (before : List Hol
 
   -- what the ports of the other holdings own is apart from what the port owns
   pub own_before : AllByRecursion (HaveOtherBlocks h) before
-  own_before = two_before HaveOtherBlocks blocks_turn before h after (apart_others (before ++ h ∷ after) unpublished_two)
+  own_before = two_before HaveOtherBlocks blocks_turn before h after (apart_others (before ++ h ∷ after) (unpublished_two z o words (before ++ h ∷ after) log w))
 
   pub own_after : AllByRecursion (HaveOtherBlocks h) after
-  own_after = two_after HaveOtherBlocks blocks_turn before h after (apart_others (before ++ h ∷ after) unpublished_two)
+  own_after = two_after HaveOtherBlocks blocks_turn before h after (apart_others (before ++ h ∷ after) (unpublished_two z o words (before ++ h ∷ after) log w))

@@ -11,9 +11,10 @@ use Rattle.partial_state.specs.LawfulWords.{IsOwn, IsTied, IsClaim, IsDue}
 use Rattle.partial_state.specs.Effects.{SlotClaimsAreKept, JoinsAreKept, LeavesAreKept}
 use Rattle.partial_state.proofs.ListLemmas.{all_at, two_take, two_put}
 use Rattle.partial_state.proofs.Frames.{apart_turns}
+use Rattle.partial_state.proofs.Claimed.{unpublished_two}
 use Rattle.partial_state.proofs.HoldingLemmas.{if_some, if_some_at, none_here}
 use Rattle.partial_state.proofs.Blocks.{announcement_of, unpublished_same, announced_same, own_added, announcement_added, own_block_added, announced_block_added}
-use Rattle.partial_state.proofs.Rebuild.{Moves, own_stays, unpublished_two}
+use Rattle.partial_state.proofs.Rebuild.{Moves, own_stays}
 use Rattle.partial_state.proofs.Quiet.{quiet, pool_stays, slots_stay, lists_stay, fits_word, head_stays, due_stays}
 use Rattle.partial_state.proofs.MarkLaws.{blocks_kept}
 use Rattle.partial_state.proofs.BlockLaws.{own_freed}
@@ -155,7 +156,7 @@ joins_are_kept z o words before h after log slot at indices w is idle owned few 
       };
       above = own.above;
       below = omega (arith, below, size, pool);
-      apart = subst (IsApartFrom (unpublished (before ++ h' ∷ after))) same (own_freed before h h' after b owned refl (unpublished_two z o words words' before h h' after log w m));
+      apart = subst (IsApartFrom (unpublished (before ++ h' ∷ after))) same (own_freed before h h' after b owned refl (unpublished_two z o words (before ++ h ∷ after) log w));
     } in
     let inside = claim.below in
     quiet z o words words' before h h' after log w (record {
