@@ -14,7 +14,7 @@ use Rattle.partial_state.specs.Effects.{IsKept, ClaimsAreKept, StoresAreKept, Pu
 use Rattle.partial_state.proofs.ListLemmas.{all_at, all_weaker, two_take, two_put}
 use Rattle.partial_state.proofs.Frames.{IsClaimedBlock, word_at, apart_turns, head_moves}
 use Rattle.partial_state.proofs.Claimed.{unpublished_two, all_claimed}
-use Rattle.partial_state.proofs.HoldingLemmas.{if_some_at, none_here}
+use Rattle.partial_state.proofs.HoldingLemmas.{own_far, if_some_at, none_here}
 use Rattle.partial_state.proofs.Blocks.{unpublished_is, announced_same, own_added, blocks_same, own_block_added}
 use Rattle.partial_state.proofs.Rebuild.{Moves, frame_of}
 use Rattle.partial_state.proofs.Quiet.{calm, pool_stays, slots_stay, lists_stay, fits_word, head_stays}
@@ -115,13 +115,6 @@ own_within z words b w = within b.space b.at (length b.words) w.within
     within : (s : Space) (at n : ℕ) → at + n ≤ end_of z s → at + n ≤ total z
     within Pool at n w = w
     within Lists at n w = omega (arith, w)
-
-own_far : (z : Layout) (words : List ℕ) (b : Own) → IsOwn z words b → list_base z ≤ b.at
-own_far z words b w = far b.space b.at w.above
-  where
-    far : (s : Space) (at : ℕ) → first_of z s ≤ at → list_base z ≤ at
-    far Pool at above = omega (arith, above)
-    far Lists at above = above
 
 -- a word apart from the block isn't one of it
 not_inside : (n at k size : ℕ) → k < size → AreApart (word_at n) (record { at = at; size = size }) → n ≢ at + k

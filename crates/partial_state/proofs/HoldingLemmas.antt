@@ -4,8 +4,11 @@ use Rattle.std.specs.List.{AllByRecursion, cons_option}
 use Rattle.std.specs.Option.{option_map}
 use Rattle.std.proofs.lemmas.Bool.{ne_eqb}
 use Rattle.partial_words.specs.Record.{view_of, view_len}
+use Rattle.partial_words.specs.Layout.{Layout, list_base}
+use Rattle.partial_state.specs.LawfulWords.{IsOwn}
+use Rattle.partial_state.specs.Holdings.Space.{Pool, Lists}
 use Rattle.partial_state.specs.Views.{Block, AreApart, Joined}
-use Rattle.partial_state.specs.Holdings.{Own, Holding, EachTwo, IfJoined, block_of, block_at, unpublished, others_of, pool_marks, slot_marks, list_marks, HaveOtherPorts, HaveOtherSlots}
+use Rattle.partial_state.specs.Holdings.{Own, Holding, Space, first_of, EachTwo, IfJoined, block_of, block_at, unpublished, others_of, pool_marks, slot_marks, list_marks, HaveOtherPorts, HaveOtherSlots}
 
 -- what holds of the value in an option
 pub if_some : {A : Type 0} (P Q : A → Type 0) (found : Option A) → ((a : A) → found ≡ Some a → P a → Q a) → IfSome found P → IfSome found Q
@@ -175,3 +178,11 @@ block_stays words words' stamp same =
         ap (λ (n : ℕ). record { at = stamp; size = cond (view_of words stamp == stamp + 3) (4 + 2 * n) 3 }) (same 3 inside)
     either words words' stamp same false e =
         ap (λ (t : Bool). record { at = stamp; size = cond t (4 + 2 * view_len words' (stamp + 3)) 3 }) e ∙ sym (ap (λ (t : Bool). record { at = stamp; size = cond t (4 + 2 * view_len words (stamp + 3)) 3 }) e)
+
+-- a port's own block lies behind the slots
+pub own_far : (z : Layout) (words : List ℕ) (b : Own) → IsOwn z words b → list_base z ≤ b.at
+own_far z words b w = far b.space b.at w.above
+  where
+    far : (s : Space) (at : ℕ) → first_of z s ≤ at → list_base z ≤ at
+    far Pool at above = omega (arith, above)
+    far Lists at above = above

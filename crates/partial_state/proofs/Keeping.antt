@@ -17,8 +17,8 @@ use Rattle.partial_state.specs.Loads.{Kept, IsLoaded}
 use Rattle.partial_state.specs.Effects.{IsKept}
 use Rattle.partial_state.proofs.ListLemmas.{all_at, all_before, all_after, all_join, all_weaker, two_before, two_after, two_join, length_same, all_of, all_found}
 use Rattle.partial_state.proofs.Frames.{Frame, Grows, within_more, within_grows, published_moves, announced_moves, head_moves, slot_moves, fresh_moves, covers_moves, covers_newer}
-use Rattle.partial_state.proofs.HoldingLemmas.{if_some, if_some_at, some_found, found_some, joined_weaker, HaveOtherBlocks, blocks_turn, ports_turn, slots_turn, others_split, block_stays, three_words}
-use Rattle.partial_state.proofs.Rebuild.{Moves, frame_of, tied_moves, space_far, other_word, entry_three, entry_prev, own_before, own_after}
+use Rattle.partial_state.proofs.HoldingLemmas.{own_far, if_some, if_some_at, some_found, found_some, joined_weaker, HaveOtherBlocks, blocks_turn, ports_turn, slots_turn, others_split, block_stays, three_words}
+use Rattle.partial_state.proofs.Rebuild.{Moves, frame_of, tied_moves, other_word, entry_three, entry_prev, own_before, own_after}
 
 -- an entry of the new history that the old one hadn't
 pub record IsNew (z : Layout) (o : Opening) (words : List ℕ) (hs : List Holding) (log : List Applied) (k : ℕ) (e : Applied) : Type 0 where
@@ -124,7 +124,7 @@ module _ (z : Layout) (o : Opening) (words words' : List ℕ) (before : List Hol
       let at : b.at ≡ d.at = ap (λ (x : Block). x.at) block in
       let size : length b.words ≡ (block_at words d.at).size = ap (λ (x : Block). x.size) block in
       let moved : IsDue z o words' v (front ++ h' ∷ back) log' d = due_moves z o words words' v v (front ++ h ∷ back) (front ++ h' ∷ back) log log' d (frame_of z words words' h h' c.moves front back) c.grows refl due'.unjoined c.named
-      (λ n below. subst (λ t. get_or words' (t + n) 0 ≡ get_or words (t + n) 0) at (other_word z words words' h h' c.moves b n (space_far z words words' h h' c.moves b own) (omega (arith, below, size)) free))
+      (λ n below. subst (λ t. get_or words' (t + n) 0 ≡ get_or words (t + n) 0) at (other_word z words words' h h' c.moves b n (own_far z words b own) (omega (arith, below, size)) free))
       (λ prev view within all. covers_all front back d.at (length log) prev view within all) due' in
       subst (λ (l : List Holding). IsDue z o words' v l log' d) (sym is') moved
 

@@ -13,8 +13,8 @@ use Rattle.partial_state.specs.LawfulWords.{LawfulWords, IsOwn, IsTied, IsClaim,
 use Rattle.partial_state.specs.Effects.{IsKept}
 use Rattle.partial_state.proofs.ListLemmas.{all_at, all_weaker}
 use Rattle.partial_state.proofs.Frames.{Frame, stays, head_moves, covers_moves}
-use Rattle.partial_state.proofs.HoldingLemmas.{if_some, if_some_at, some_found, joined_weaker, others_gone, marks_same, marks_more, marks_few, pool_is, slots_are, lists_are}
-use Rattle.partial_state.proofs.Rebuild.{Moves, frame_of, agrees_stay, blocks_stay, space_far}
+use Rattle.partial_state.proofs.HoldingLemmas.{own_far, if_some, if_some_at, some_found, joined_weaker, others_gone, marks_same, marks_more, marks_few, pool_is, slots_are, lists_are}
+use Rattle.partial_state.proofs.Rebuild.{Moves, frame_of, agrees_stay, blocks_stay}
 use Rattle.partial_state.proofs.Keeping.{due_moves, claim_moves, keeps}
 
 -- what a step changes that adds nothing to the history
@@ -150,7 +150,7 @@ module _ (z : Layout) (o : Opening) (words words' : List ℕ) (before : List Hol
           let b = found.0 in
           let tied = all_at (IsTied z words) before h after w.tied in
           let at : b.at ≡ d.at = ap (λ (x : Block). x.at) found.2.1 in
-          let above = space_far z words words' h h' m b (if_some_at (IsOwn z words) h.own b found.1 tied.own) in
+          let above = own_far z words b (if_some_at (IsOwn z words) h.own b found.1 tied.own) in
           due_moves z o words words' h h' others others log log d f (stays o log) own (unjoined k.unjoined) (λ j old below within is. sym (components j below) ∙ is) (λ n below. far (d.at + n) (omega (arith, above, at)))
           (λ prev view within all. all_weaker (λ v. IfJoined v (λ l j. Covers z words us log d.at j)) (λ v. IfJoined v (λ l j. Covers z words' us log d.at j)) (λ v. joined_weaker v (λ l j. Covers z words us log d.at j) (λ l j. Covers z words' us log d.at j) (λ l j. covers_moves z words words' us us f o log log (stays o log) d.at prev view (length log) j within)) others all) k
 

@@ -9,13 +9,13 @@ use Rattle.partial_words.specs.Record.{prev_of}
 use Rattle.partial_words.specs.Chain.{Agrees, Link, IsChain, chain_of}
 use Rattle.partial_words.proofs.ChainLemmas.{chain_all}
 use Rattle.partial_state.specs.Views.{Block, AreApart}
-use Rattle.partial_state.specs.Holdings.{Own, Holding, Space, first_of, counter_of, block_of, block_at, announcements, unpublished, blocks_in, EachTwo}
+use Rattle.partial_state.specs.Holdings.{Own, Holding, Space, counter_of, block_of, block_at, announcements, unpublished, blocks_in, EachTwo}
 use Rattle.partial_state.specs.Holdings.Space.{Pool, Lists}
 use Rattle.partial_state.specs.LawfulWords.{LawfulWords, IsOwn, IsTied, IsEntry}
 use Rattle.partial_state.proofs.ListLemmas.{all_at, all_before, all_after, all_join, two_before, two_after, map_same, all_of, all_found}
 use Rattle.partial_state.proofs.Frames.{Frame, IsClaimedBlock, word_at, part_apart}
 use Rattle.partial_state.proofs.Claimed.{unpublished_two, entry_free, initial_free}
-use Rattle.partial_state.proofs.HoldingLemmas.{if_some, if_some_at, all_unpublished, unpublished_all, HaveOtherBlocks, apart_others, blocks_turn, three_words, block_stays}
+use Rattle.partial_state.proofs.HoldingLemmas.{own_far, if_some, if_some_at, all_unpublished, unpublished_all, HaveOtherBlocks, apart_others, blocks_turn, three_words, block_stays}
 
 -- What a step does to the words of others, where its port holds h before and h' behind it.
 pub record Moves (z : Layout) (words words' : List ℕ) (h h' : Holding) : Type 0 where
@@ -53,13 +53,6 @@ module _ (z : Layout) (words words' : List ℕ) (h h' : Holding) (m : Moves z wo
   other_word b n far below apart =
       m.same (b.at + n) (omega (arith, far)) (if_some (λ c. AreApart (block_of b) (block_of c)) (λ c. AreApart (word_at (b.at + n)) (block_of c)) h.own (λ c e a. part_apart (word_at (b.at + n)) (block_of b) (block_of c) (omega arith) (omega (arith, below)) a) apart)
 
-  pub space_far : (b : Own) → IsOwn z words b → list_base z ≤ b.at
-  space_far b w = far b.space b.at w.above
-    where
-      far : (s : Space) (at : ℕ) → first_of z s ≤ at → list_base z ≤ at
-      far Pool at above = omega (arith, above)
-      far Lists at above = above
-
   counter_grows : (s : Space) → get_or words (counter_of z s) 0 ≤ get_or words' (counter_of z s) 0
   counter_grows Pool = m.pool
   counter_grows Lists = m.lists
@@ -74,14 +67,14 @@ module _ (z : Layout) (words words' : List ℕ) (h h' : Holding) (m : Moves z wo
         within = w.within;
         below = omega (arith, below, more);
         few = w.few;
-        stands = λ i stored. other_word b i (space_far b w) (omega (arith, stored, few)) apart ∙ w.stands i stored;
+        stands = λ i stored. other_word b i (own_far z words b w) (omega (arith, stored, few)) apart ∙ w.stands i stored;
       }
 
   -- an own block stays where no word of a block changes
   pub own_stays : ((n : ℕ) → list_base z ≤ n → get_or words' n 0 ≡ get_or words n 0) → (f : Option Own) → IfSome f (IsOwn z words) → IfSome f (IsOwn z words')
   own_stays far f w =
       if_some (IsOwn z words) (IsOwn z words') f (λ b e own.
-      let above = space_far b own in
+      let above = own_far z words b own in
       let below = own.below in
       let more = counter_grows b.space in
       record {
