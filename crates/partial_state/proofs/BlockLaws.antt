@@ -1,82 +1,24 @@
 -- The steps by which a block is claimed and written, and by which a list is published.
-use Rattle.std.proofs.Common.{ℕ, zero, suc, ◌≡◌, ◌≢◌, ◌+◌, ◌*◌, ◌<◌, ◌≤◌, ◌==◌, ◌++◌, ◌^◌, ◌%◌, Bool, true, false, cond, List, [], ◌∷◌, length, map, get_or, set, Option, Some, None, IfSome, MatchOption, slice_get, refl, sym, ◌∙◌, ap, subst, inl, inr, arith, get_or-set_other, get_or-set_same, length-set}
-use Rattle.std.specs.List.{AllByRecursion, cons_option}
-use Rattle.std.specs.Option.{option_map}
-use Rattle.std.proofs.lemmas.Bool.{cases_lt, eqb-true}
-use Rattle.partial_intervals.specs.Intervals.{Ranges}
+use Rattle.std.proofs.Common.{ℕ, ◌≡◌, ◌≢◌, ◌+◌, ◌*◌, ◌<◌, ◌≤◌, ◌==◌, ◌++◌, ◌^◌, ◌%◌, Bool, true, false, cond, List, ◌∷◌, length, get_or, set, Some, None, refl, sym, ◌∙◌, ap, subst, inl, inr, arith, get_or-set_other, get_or-set_same, length-set}
+use Rattle.std.proofs.lemmas.Bool.{cases_lt}
 use Rattle.partial_model.specs.declared.history.Applied.{Applied}
 use Rattle.partial_model.specs.declared.history.Opening.{Opening}
-use Rattle.partial_words.specs.Layout.{Layout, slot_counter, list_head, pool_counter, list_counter, slot_word, list_base, list_end, pool_base, pool_end, total}
-use Rattle.partial_words.specs.Record.{view_of, view_len, view_block}
+use Rattle.partial_words.specs.Layout.{Layout, slot_counter, list_head, pool_counter, list_counter, slot_word, list_base, list_end, pool_end, total}
 use Rattle.partial_words.specs.VacatedList.{list_block}
 use Rattle.partial_words.proofs.RecordLemmas.{length-pairs}
-use Rattle.partial_state.specs.Views.{Block, AreApart, Joined, HasPairs, IsApartFrom, IsAnnounced, IsPublishedList, IsHead}
-use Rattle.partial_state.specs.Holdings.{Claimed, Own, Due, Holding, Space, first_of, end_of, counter_of, block_of, block_at, announcements, unpublished, blocks_in, others_of, joined_in, EachTwo, pool_marks, list_marks}
+use Rattle.partial_state.specs.Views.{Block, AreApart, IsApartFrom, IsPublishedList, IsHead}
+use Rattle.partial_state.specs.Holdings.{Own, Holding, Space, first_of, end_of, counter_of, block_of, unpublished, blocks_in, others_of, EachTwo, pool_marks, list_marks}
 use Rattle.partial_state.specs.Holdings.Space.{Pool, Lists}
-use Rattle.partial_state.specs.LawfulWords.{LawfulWords, IsOwn, IsTied, IsClaim, IsDue, IsEntry}
+use Rattle.partial_state.specs.LawfulWords.{LawfulWords, IsOwn, IsTied, IsDue}
 use Rattle.partial_state.specs.Effects.{IsKept, ClaimsAreKept, StoresAreKept, PublishingsAreKept}
-use Rattle.partial_state.proofs.ListLemmas.{all_at, all_append, all_map, all_of, all_found, all_weaker, two_take, two_put}
+use Rattle.partial_state.proofs.ListLemmas.{all_at, all_weaker, two_take, two_put}
 use Rattle.partial_state.proofs.Frames.{IsClaimedBlock, word_at, apart_turns, head_moves}
-use Rattle.partial_state.proofs.HoldingLemmas.{if_some, if_some_at, some_here, none_here, if_all, all_unpublished}
-use Rattle.partial_state.proofs.Blocks.{announcement_of, unpublished_is, unpublished_same, announced_same, own_added, blocks_same, own_block_added}
-use Rattle.partial_state.proofs.Rebuild.{Moves, frame_of, space_far, own_stays, unpublished_two}
+use Rattle.partial_state.proofs.Claimed.{unpublished_two, all_claimed}
+use Rattle.partial_state.proofs.HoldingLemmas.{own_far, if_some_at, none_here}
+use Rattle.partial_state.proofs.Blocks.{unpublished_is, announced_same, own_added, blocks_same, own_block_added}
+use Rattle.partial_state.proofs.Rebuild.{Moves, frame_of}
 use Rattle.partial_state.proofs.Quiet.{calm, pool_stays, slots_stay, lists_stay, fits_word, head_stays}
-use Rattle.partial_state.proofs.LoadLaw.{match_some}
 use Rattle.partial_state.proofs.MarkLaws.{block_given_up}
-
--- a record of the history with its view lies below the pool's counter
-entry_below : (z : Layout) (words : List ℕ) (us : List Block) (stamp : ℕ) (pairs : List (ℕ × ℕ)) → HasPairs z words us stamp pairs → stamp + 3 ≤ get_or words (pool_counter z) 0 → stamp + (block_at words stamp).size ≤ get_or words (pool_counter z) 0
-entry_below z words us stamp pairs shown low = either (view_of words stamp == stamp + 3) refl shown
-  where
-    sized : (b : Bool) (n : ℕ) → stamp + 3 ≤ get_or words (pool_counter z) 0 → (b ≡ true → stamp + (4 + 2 * n) ≤ get_or words (pool_counter z) 0) → stamp + cond b (4 + 2 * n) 3 ≤ get_or words (pool_counter z) 0
-    sized true n low f = f refl
-    sized false n low f = low
-
-    either : (b : Bool) → (view_of words stamp == stamp + 3) ≡ b → HasPairs z words us stamp pairs → stamp + (block_at words stamp).size ≤ get_or words (pool_counter z) 0
-    either b e (inl h) = sized (view_of words stamp == stamp + 3) (view_len words (stamp + 3)) low (λ t. let is = eqb-true (view_of words stamp) (stamp + 3) t in let none = h.0 in absurd (omega (arith, is, none)))
-    either b e (inr h) = sized (view_of words stamp == stamp + 3) (view_len words (stamp + 3)) low (λ t.
-        let is : view_of words stamp ≡ stamp + 3 = eqb-true (view_of words stamp) (stamp + 3) t in
-        let first : get_or words (view_of words stamp + 0) 0 ≡ length pairs = (h.stands 0 (omega arith)).1 in
-        let count : get_or words (stamp + 3) 0 ≡ length pairs = ap (λ n. get_or words n 0) (omega (arith, is)) ∙ first in
-        let below = h.below in
-        let long = length-pairs pairs in
-        omega (arith, is, count, below, long))
-
--- what holds of each announcement holds of each port's
-all_announcements : (P : Block → Type 0) (hs : List Holding) → AllByRecursion (λ h. IfSome h.claimed (λ c. IfSome c.joined (λ j. P (announcement_of j)))) hs → AllByRecursion P (announcements hs)
-all_announcements P [] w = tt
-all_announcements P (h ∷ hs) w = more P (joined_in h.claimed) (announcements hs) (joined P h.claimed w.0) (all_announcements P hs w.1)
-  where
-    joined : (P : Block → Type 0) (f : Option Claimed) → IfSome f (λ c. IfSome c.joined (λ j. P (announcement_of j))) → IfSome (joined_in f) (λ j. P (announcement_of j))
-    joined P None w = tt
-    joined P (Some c) w = w
-
-    more : (P : Block → Type 0) (f : Option Joined) (rest : List Block) → IfSome f (λ j. P (announcement_of j)) → AllByRecursion P rest → AllByRecursion P (cons_option (option_map announcement_of f) rest)
-    more P None rest w v = v
-    more P (Some j) rest w v = (w, v)
-
--- all words of blocks are claimed
-pub all_claimed : (z : Layout) (o : Opening) (words : List ℕ) (hs : List Holding) (log : List Applied) → LawfulWords z o words hs log → AllByRecursion (IsClaimedBlock z words) (blocks_in z words hs log)
-all_claimed z o words hs log w = (
-    inr (omega arith, w.pool_low),
-    all_append (IsClaimedBlock z words) (map (λ e. block_at words e.stamp) log) (announcements hs ++ unpublished hs)
-        (all_map (IsClaimedBlock z words) (λ (e : Applied). block_at words e.stamp) log (all_of (λ (e : Applied). IsClaimedBlock z words (block_at words e.stamp)) log (λ k e s.
-            let entry : IsEntry z words e = all_found (IsEntry z words) log k e w.entries s in
-            let above = entry.above in
-            let fresh = w.fresh k e s in
-            inr (omega (arith, above), entry_below z words (unpublished hs) e.stamp fresh.pairs fresh.shown entry.below))))
-        (all_append (IsClaimedBlock z words) (announcements hs) (unpublished hs)
-            (all_announcements (IsClaimedBlock z words) hs (all_weaker (λ (h : Holding). IfSome h.claimed (IsClaim z words hs log)) (λ h. IfSome h.claimed (λ c. IfSome c.joined (λ j. IsClaimedBlock z words (announcement_of j)))) (λ h k. if_some (IsClaim z words hs log) (λ c. IfSome c.joined (λ j. IsClaimedBlock z words (announcement_of j))) h.claimed (λ c e claim. if_all (λ j. IsClaimedBlock z words (announcement_of j)) c.joined (λ j is.
-                let a : IsAnnounced z words (unpublished hs) j.at j.indices = (match_some (get_or words (slot_word z c.slot) 0 ≡ 0) (λ j. (get_or words (slot_word z c.slot) 0 ≡ j.at) × (j.since ≤ length log) × IsAnnounced z words (unpublished hs) j.at j.indices) c.joined j is claim.holds).2 in
-                let above = a.above in
-                let below = a.below in
-                inr (omega (arith, above), omega (arith, below)))) k) hs w.claims))
-            (all_unpublished (IsClaimedBlock z words) hs (all_weaker (IsTied z words) (λ h. IfSome h.own (λ b. IsClaimedBlock z words (block_of b))) (λ h t. if_some (IsOwn z words) (λ b. IsClaimedBlock z words (block_of b)) h.own (λ b e own. own_claimed b.space b.at (length b.words) own.above own.within own.below) t.own) hs w.tied))),
-  )
-  where
-    own_claimed : (s : Space) (at n : ℕ) → first_of z s ≤ at → at + n ≤ end_of z s → at + n ≤ get_or words (counter_of z s) 0 → IsClaimedBlock z words (record { at = at; size = n })
-    own_claimed Pool at n above within below = inr (omega (arith, above), below)
-    own_claimed Lists at n above within below = inl (within, below)
 
 module _ (z : Layout) (o : Opening) (words : List ℕ) (before : List Holding) (h : Holding) (after : List Holding) (log : List Applied) (w : LawfulWords z o words (before ++ h ∷ after) log) where
   -- a block from the counter on is apart from each that is claimed
@@ -173,13 +115,6 @@ own_within z words b w = within b.space b.at (length b.words) w.within
     within : (s : Space) (at n : ℕ) → at + n ≤ end_of z s → at + n ≤ total z
     within Pool at n w = w
     within Lists at n w = omega (arith, w)
-
-own_far : (z : Layout) (words : List ℕ) (b : Own) → IsOwn z words b → list_base z ≤ b.at
-own_far z words b w = far b.space b.at w.above
-  where
-    far : (s : Space) (at : ℕ) → first_of z s ≤ at → list_base z ≤ at
-    far Pool at above = omega (arith, above)
-    far Lists at above = above
 
 -- a word apart from the block isn't one of it
 not_inside : (n at k size : ℕ) → k < size → AreApart (word_at n) (record { at = at; size = size }) → n ≢ at + k
@@ -288,7 +223,7 @@ publishings_are_kept z o words before h after log old at list w idle is normal h
         vacated = λ x held. slot_words x (holds x held).0 ∙ (holds x held).1;
       };
       below = omega (arith, below, lists);
-      apart = own_freed before h h' after b is refl (unpublished_two z o words words' before h h' after log w m);
+      apart = own_freed before h h' after b is refl (unpublished_two z o words (before ++ h ∷ after) log w);
     } in
     let head : IsHead z words' (unpublished (before ++ h' ∷ after)) (get_or words (list_head z) 0) = head_moves z words words' (unpublished (before ++ h ∷ after)) (unpublished (before ++ h' ∷ after)) frame (get_or words (list_head z) 0) w.head in
     calm z o words words' before h h' after log w (record {

@@ -1,6 +1,5 @@
 -- What a step leaves of all that is published: blocks, and all that is said by them.
-use Rattle.std.proofs.Common.{ℕ, ◌≡◌, ◌≢◌, ◌+◌, ◌*◌, ◌<◌, ◌≤◌, ◌⊎◌, List, length, take, get_or, slice_get, Some, None, IfSome, refl, sym, ◌∙◌, ap, subst, inl, inr, arith}
-use Rattle.std.specs.List.{AllByRecursion}
+use Rattle.std.proofs.Common.{ℕ, ◌≡◌, ◌+◌, ◌<◌, ◌≤◌, ◌⊎◌, List, length, take, get_or, slice_get, Some, refl, sym, ◌∙◌, ap, subst, inl, inr, arith}
 use Rattle.std.proofs.lemmas.Bool.{cases_lt}
 use Rattle.partial_intervals.specs.Intervals.{Ranges}
 use Rattle.partial_model.specs.declared.history.Applied.{Applied}
@@ -74,6 +73,24 @@ begun_back o log log' since n prev g within w = elim (cases_lt w.0 (length log))
   | inr from ↦ absurd (g.newer w.0 w.1 w.3 from n (subst (IsWithin o log n) (sym w.4) within))
 ]
 
+-- all words of what is published are claimed
+pub view_claimed : (z : Layout) (words : List ℕ) (us : List Block) (at : ℕ) (pairs : List (ℕ × ℕ)) → IsView z words us at pairs → IsClaimedBlock z words (record { at = at; size = length (view_block pairs) })
+view_claimed z words us at pairs w = let above = w.above in inr (omega (arith, above), w.below)
+
+pub announcement_claimed : (z : Layout) (words : List ℕ) (us : List Block) (at : ℕ) (indices : List ℕ) → IsAnnounced z words us at indices → IsClaimedBlock z words (record { at = at; size = 1 + length indices })
+announcement_claimed z words us at indices w = let above = w.above in let below = w.below in inr (omega (arith, above), omega (arith, below))
+
+pub list_claimed : (z : Layout) (words : List ℕ) (us : List Block) (at : ℕ) (list : Ranges) → IsPublishedList z words us at list → IsClaimedBlock z words (record { at = at; size = length (list_block list) })
+list_claimed z words us at list w = let to = w.whole.to in let pairs = length-pairs list in inl (omega (arith, to, pairs), w.below)
+
+-- a word of a published block is published
+pub block_published : (z : Layout) (words : List ℕ) (us : List Block) (b : Block) (w : ℕ) → IsClaimedBlock z words b → IsApartFrom us b → b.at ≤ w → w < b.at + b.size → IsPublished z words us w
+block_published z words us b w claimed apart from to =
+    record {
+      claimed = elim claimed [ inl h ↦ let a = h.0 in let c = h.1 in inl (omega (arith, a, to), omega (arith, c, to)) | inr h ↦ let a = h.0 in let c = h.1 in inr (omega (arith, a, from), omega (arith, c, to)) ];
+      apart = parts_apart us (word_at w) b from (omega (arith, to)) apart;
+    }
+
 module _ (z : Layout) (words words' : List ℕ) (us us' : List Block) (f : Frame z words words' us us') where
   pub published_moves : (w : ℕ) → IsPublished z words us w → IsPublished z words' us' w
   published_moves w p =
@@ -85,17 +102,9 @@ module _ (z : Layout) (words words' : List ℕ) (us us' : List Block) (f : Frame
         apart = f.apart (word_at w) claimed p.apart;
       }
 
-  pub claimed_moves : (b : Block) → IsClaimedBlock z words b → IsClaimedBlock z words' b
-  claimed_moves b (inl h) = let more = f.lists in let c = h.1 in inl (h.0, omega (arith, c, more))
-  claimed_moves b (inr h) = let more = f.pool in let c = h.1 in inr (h.0, omega (arith, c, more))
-
   -- no word of a published block changes
   pub block_same : (b : Block) (w : ℕ) → list_base z ≤ b.at → IsClaimedBlock z words b → IsApartFrom us b → b.at ≤ w → w < b.at + b.size → get_or words' w 0 ≡ get_or words w 0
-  block_same b w far claimed apart from to =
-      f.same w (omega (arith, far, from)) (record {
-        claimed = elim claimed [ inl h ↦ let a = h.0 in let c = h.1 in inl (omega (arith, a, to), omega (arith, c, to)) | inr h ↦ let a = h.0 in let c = h.1 in inr (omega (arith, a, from), omega (arith, c, to)) ];
-        apart = parts_apart us (word_at w) b from (omega (arith, to)) apart;
-      })
+  block_same b w far claimed apart from to = f.same w (omega (arith, far, from)) (block_published z words us b w claimed apart from to)
 
   pub stands_moves : (at : ℕ) (block : List ℕ) → list_base z ≤ at → IsClaimedBlock z words (record { at = at; size = length block }) → IsApartFrom us (record { at = at; size = length block }) → StandsAt words at block → StandsAt words' at block
   stands_moves at block far claimed apart w k below =
@@ -110,7 +119,7 @@ module _ (z : Layout) (words words' : List ℕ) (us us' : List Block) (f : Frame
       let above = w.above in
       let below = w.below in
       let more = f.pool in
-      let claimed : IsClaimedBlock z words block = inr (omega (arith, above), below) in
+      let claimed = view_claimed z words us at pairs w in
       record {
         above = w.above;
         within = w.within;
@@ -131,7 +140,7 @@ module _ (z : Layout) (words words' : List ℕ) (us us' : List Block) (f : Frame
       let above = w.above in
       let below = w.below in
       let more = f.pool in
-      let claimed : IsClaimedBlock z words block = inr (omega (arith, above), omega (arith, below)) in
+      let claimed = announcement_claimed z words us at indices w in
       let size : length (announcement_block indices) ≡ 1 + length indices = omega arith in
       let a = w.whole in
       record {
@@ -154,9 +163,7 @@ module _ (z : Layout) (words words' : List ℕ) (us us' : List Block) (f : Frame
       let more = f.lists in
       let a = w.whole in
       let from = a.from in
-      let to = a.to in
-      let pairs = length-pairs list in
-      let claimed : IsClaimedBlock z words block = inl (omega (arith, to, pairs), below) in
+      let claimed = list_claimed z words us at list w in
       record {
         whole = record {
           from = a.from;

@@ -1,11 +1,14 @@
 -- Holdings with one in the place of another: their blocks, the other ports' ones, and how many are marked.
-use Rattle.std.proofs.Common.{ℕ, suc, ◌≡◌, ◌≢◌, ◌+◌, ◌*◌, ◌<◌, ◌≤◌, ◌==◌, ◌++◌, Bool, true, false, cond, List, [], ◌∷◌, length, map, filter_map, get_or, Option, Some, None, IfSome, IsSomeAnd, refl, sym, ◌∙◌, ap, subst, inl, inr, arith}
+use Rattle.std.proofs.Common.{ℕ, suc, ◌≡◌, ◌≢◌, ◌+◌, ◌*◌, ◌<◌, ◌≤◌, ◌==◌, ◌++◌, Bool, true, false, cond, List, [], ◌∷◌, length, filter_map, get_or, Option, Some, None, IfSome, IsSomeAnd, refl, sym, ◌∙◌, ap, subst, inl, inr, arith}
 use Rattle.std.specs.List.{AllByRecursion, cons_option}
 use Rattle.std.specs.Option.{option_map}
 use Rattle.std.proofs.lemmas.Bool.{ne_eqb}
 use Rattle.partial_words.specs.Record.{view_of, view_len}
+use Rattle.partial_words.specs.Layout.{Layout, list_base}
+use Rattle.partial_state.specs.LawfulWords.{IsOwn}
+use Rattle.partial_state.specs.Holdings.Space.{Pool, Lists}
 use Rattle.partial_state.specs.Views.{Block, AreApart, Joined}
-use Rattle.partial_state.specs.Holdings.{Own, Holding, EachTwo, IfJoined, block_of, block_at, unpublished, others_of, pool_marks, slot_marks, list_marks, HaveOtherPorts, HaveOtherSlots}
+use Rattle.partial_state.specs.Holdings.{Own, Holding, Space, first_of, EachTwo, IfJoined, block_of, block_at, unpublished, others_of, pool_marks, slot_marks, list_marks, HaveOtherPorts, HaveOtherSlots}
 
 -- what holds of the value in an option
 pub if_some : {A : Type 0} (P Q : A → Type 0) (found : Option A) → ((a : A) → found ≡ Some a → P a → Q a) → IfSome found P → IfSome found Q
@@ -14,9 +17,6 @@ if_some P Q (Some a) f w = f a refl w
 
 pub if_some_at : {A : Type 0} (P : A → Type 0) (found : Option A) (a : A) → found ≡ Some a → IfSome found P → P a
 if_some_at P found a e w = let h : IfSome (Some a) P = subst (λ (f : Option _). IfSome f P) e w in h
-
-pub some_here : {A : Type 0} (P : A → Type 0) (found : Option A) (a : A) → found ≡ Some a → P a → IfSome found P
-some_here P found a e p = subst (λ (f : Option _). IfSome f P) (sym e) p
 
 pub none_here : {A : Type 0} (P : A → Type 0) (found : Option A) → found ≡ None → IfSome found P
 none_here P found e = subst (λ (f : Option _). IfSome f P) (sym e) tt
@@ -119,15 +119,6 @@ pub others_all : (h : Holding) (hs : List Holding) → AllByRecursion (HaveOther
 others_all h [] w = refl
 others_all h (x ∷ hs) w = ap (λ (t : Bool). cond t (others_of h.port hs) (x ∷ others_of h.port hs)) (ne_eqb x.port h.port (λ e. w.0 (sym e))) ∙ ap (λ (l : List Holding). x ∷ l) (others_all h hs w.1)
 
--- what holds of each holding holds of each other port's
-pub all_others : (P : Holding → Type 0) (p : ℕ) (hs : List Holding) → AllByRecursion P hs → AllByRecursion P (others_of p hs)
-all_others P p [] w = tt
-all_others P p (h ∷ hs) w = chosen P p h hs (h.port == p) w.0 (all_others P p hs w.1)
-  where
-    chosen : (P : Holding → Type 0) (p : ℕ) (h : Holding) (hs : List Holding) (b : Bool) → P h → AllByRecursion P (others_of p hs) → AllByRecursion P (cond b (others_of p hs) (h ∷ others_of p hs))
-    chosen P p h hs true first rest = rest
-    chosen P p h hs false first rest = (first, rest)
-
 -- how many have the mark
 abbrev pub marks : (Holding → Bool) → List Holding → ℕ
 marks m [] = 0
@@ -187,3 +178,11 @@ block_stays words words' stamp same =
         ap (λ (n : ℕ). record { at = stamp; size = cond (view_of words stamp == stamp + 3) (4 + 2 * n) 3 }) (same 3 inside)
     either words words' stamp same false e =
         ap (λ (t : Bool). record { at = stamp; size = cond t (4 + 2 * view_len words' (stamp + 3)) 3 }) e ∙ sym (ap (λ (t : Bool). record { at = stamp; size = cond t (4 + 2 * view_len words (stamp + 3)) 3 }) e)
+
+-- a port's own block lies behind the slots
+pub own_far : (z : Layout) (words : List ℕ) (b : Own) → IsOwn z words b → list_base z ≤ b.at
+own_far z words b w = far b.space b.at w.above
+  where
+    far : (s : Space) (at : ℕ) → first_of z s ≤ at → list_base z ≤ at
+    far Pool at above = omega (arith, above)
+    far Lists at above = above

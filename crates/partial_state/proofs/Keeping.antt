@@ -1,24 +1,24 @@
 -- What a step changes, and that lawful words stay lawful by it and what was loaded true.
-use Rattle.std.proofs.Common.{ℕ, ◌≡◌, ◌≢◌, ◌+◌, ◌*◌, ◌<◌, ◌≤◌, ◌⊎◌, ◌==◌, ◌++◌, Bool, true, false, cond, List, [], ◌∷◌, length, map, take, get_or, Option, Some, None, IfSome, IsSomeAnd, MatchOption, slice_get, refl, sym, ◌∙◌, ap, subst, inl, inr, arith}
+use Rattle.std.proofs.Common.{ℕ, ◌≡◌, ◌≢◌, ◌+◌, ◌*◌, ◌<◌, ◌≤◌, ◌⊎◌, ◌++◌, List, [], ◌∷◌, length, get_or, Option, Some, None, IfSome, IsSomeAnd, MatchOption, slice_get, refl, sym, ◌∙◌, ap, subst, inl, inr, arith}
 use Rattle.std.specs.List.{AllByRecursion}
-use Rattle.std.proofs.lemmas.Bool.{ne_eqb, eq-eqb, cases_lt}
+use Rattle.std.proofs.lemmas.Bool.{ne_eqb, cases_lt}
 use Rattle.partial_model.specs.declared.history.Applied.{Applied}
 use Rattle.partial_model.specs.declared.history.Opening.{Opening}
-use Rattle.partial_model.specs.History.{IsHistory, initial_stamp, stamp_of}
+use Rattle.partial_model.specs.History.{IsHistory, stamp_of}
 use Rattle.partial_model.proofs.HistoryLemmas.{place_below}
-use Rattle.partial_words.specs.Layout.{Layout, slot_counter, list_head, pool_counter, list_counter, slot_word, list_base, list_end, pool_base, pool_end}
+use Rattle.partial_words.specs.Layout.{Layout, slot_counter, list_head, pool_counter, list_counter, slot_word, list_end, pool_end}
 use Rattle.partial_words.specs.Record.{prev_of, value_of, view_of}
 use Rattle.partial_words.specs.Chain.{Agrees}
-use Rattle.partial_state.specs.Views.{Block, AreApart, Joined, HasFreshView, IsWithin, Covers, IsAnnounced, IsApartFrom, IsHead}
-use Rattle.partial_state.specs.Holdings.{Claimed, Own, Due, Holding, first_of, end_of, counter_of, block_of, block_at, announcements, unpublished, blocks_in, others_of, IfJoined, joined_in, EachTwo, HaveOtherPorts, HaveOtherSlots, pool_marks, slot_marks, list_marks}
+use Rattle.partial_state.specs.Views.{Block, AreApart, Joined, HasFreshView, IsWithin, Covers, IsAnnounced, IsHead}
+use Rattle.partial_state.specs.Holdings.{Claimed, Own, Due, Holding, block_of, block_at, unpublished, blocks_in, others_of, IfJoined, joined_in, EachTwo, HaveOtherPorts, HaveOtherSlots, pool_marks, slot_marks, list_marks}
 use Rattle.partial_state.specs.Holdings.Space.{Pool}
 use Rattle.partial_state.specs.LawfulWords.{LawfulWords, IsOwn, IsTied, IsClaimedIn, IsClaim, CoversAll, IsDue, IsEntry}
 use Rattle.partial_state.specs.Loads.{Kept, IsLoaded}
 use Rattle.partial_state.specs.Effects.{IsKept}
-use Rattle.partial_state.proofs.ListLemmas.{all_at, all_before, all_after, all_join, all_with, all_weaker, two_before, two_after, two_join, length_same, all_of, all_found}
+use Rattle.partial_state.proofs.ListLemmas.{all_at, all_before, all_after, all_join, all_weaker, two_before, two_after, two_join, length_same, all_of, all_found}
 use Rattle.partial_state.proofs.Frames.{Frame, Grows, within_more, within_grows, published_moves, announced_moves, head_moves, slot_moves, fresh_moves, covers_moves, covers_newer}
-use Rattle.partial_state.proofs.HoldingLemmas.{if_some, if_some_at, some_here, none_here, if_all, some_found, found_some, joined_weaker, HaveOtherBlocks, blocks_turn, ports_turn, slots_turn, others_split, others_gone, block_stays, three_words, all_others}
-use Rattle.partial_state.proofs.Rebuild.{Moves, frame_of, tied_moves, space_far, other_word, entry_three, entry_prev, own_before, own_after}
+use Rattle.partial_state.proofs.HoldingLemmas.{own_far, if_some, if_some_at, some_found, found_some, joined_weaker, HaveOtherBlocks, blocks_turn, ports_turn, slots_turn, others_split, block_stays, three_words}
+use Rattle.partial_state.proofs.Rebuild.{Moves, frame_of, tied_moves, other_word, entry_three, entry_prev, own_before, own_after}
 
 -- an entry of the new history that the old one hadn't
 pub record IsNew (z : Layout) (o : Opening) (words : List ℕ) (hs : List Holding) (log : List Applied) (k : ℕ) (e : Applied) : Type 0 where
@@ -124,16 +124,16 @@ module _ (z : Layout) (o : Opening) (words words' : List ℕ) (before : List Hol
       let at : b.at ≡ d.at = ap (λ (x : Block). x.at) block in
       let size : length b.words ≡ (block_at words d.at).size = ap (λ (x : Block). x.size) block in
       let moved : IsDue z o words' v (front ++ h' ∷ back) log' d = due_moves z o words words' v v (front ++ h ∷ back) (front ++ h' ∷ back) log log' d (frame_of z words words' h h' c.moves front back) c.grows refl due'.unjoined c.named
-          (λ n below. subst (λ t. get_or words' (t + n) 0 ≡ get_or words (t + n) 0) at (other_word z words words' h h' c.moves b n (space_far z words words' h h' c.moves b own) (omega (arith, below, size)) free))
-          (λ prev view within all. covers_all front back d.at (length log) prev view within all) due' in
+      (λ n below. subst (λ t. get_or words' (t + n) 0 ≡ get_or words (t + n) 0) at (other_word z words words' h h' c.moves b n (own_far z words b own) (omega (arith, below, size)) free))
+      (λ prev view within all. covers_all front back d.at (length log) prev view within all) due' in
       subst (λ (l : List Holding). IsDue z o words' v l log' d) (sym is') moved
 
   -- a claim of another port
   other_claim : (v : Holding) → HaveOtherSlots h v → IfSome v.claimed (IsClaim z words (before ++ h ∷ after) log) → IfSome v.claimed (IsClaim z words' (before ++ h' ∷ after) log')
   other_claim v other claim =
       if_some (IsClaim z words (before ++ h ∷ after) log) (IsClaim z words' (before ++ h' ∷ after) log') v.claimed (λ d e k.
-          let free : IfSome h.claimed (λ b. b.slot ≢ d.slot) = if_some (λ b. IfSome v.claimed (λ d. b.slot ≢ d.slot)) (λ b. b.slot ≢ d.slot) h.claimed (λ b e' s. if_some_at (λ d. b.slot ≢ d.slot) v.claimed d e s) other in
-          claim_moves z words words' (before ++ h ∷ after) (before ++ h' ∷ after) log log' d here c.grows.more (c.moves.slot d.slot k.slot free) k) claim
+      let free : IfSome h.claimed (λ b. b.slot ≢ d.slot) = if_some (λ b. IfSome v.claimed (λ d. b.slot ≢ d.slot)) (λ b. b.slot ≢ d.slot) h.claimed (λ b e' s. if_some_at (λ d. b.slot ≢ d.slot) v.claimed d e s) other in
+      claim_moves z words words' (before ++ h ∷ after) (before ++ h' ∷ after) log log' d here c.grows.more (c.moves.slot d.slot k.slot free) k) claim
 
   -- the claims of slots, one holding apart
   claimed_or : (l : ℕ) (front : List Holding) → IsClaimedIn l (front ++ h ∷ after) → IsClaimedIn l (front ++ h' ∷ after) ⊎ IsSomeAnd h.claimed (λ c. c.slot ≡ l)

@@ -2,6 +2,7 @@ pub mod ListLemmas
 pub mod Frames
 pub mod HoldingLemmas
 pub mod Blocks
+pub mod Claimed
 pub mod Rebuild
 pub mod Keeping
 pub mod Quiet
@@ -10,3 +11,4 @@ pub mod MarkLaws
 pub mod BlockLaws
 pub mod SlotLaws
 pub mod WinLaw
+pub mod OpeningLaw

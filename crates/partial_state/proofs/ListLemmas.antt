@@ -1,5 +1,5 @@
 -- One element of a list in the place of another.
-use Rattle.std.proofs.Common.{ℕ, zero, suc, map, ◌∙◌, ◌≡◌, ◌+◌, ◌<◌, ◌≤◌, ◌++◌, List, [], ◌∷◌, length, refl, sym, ap, subst, Some, None, slice_get, append_assoc, arith}
+use Rattle.std.proofs.Common.{ℕ, zero, suc, map, ◌∙◌, ◌≡◌, ◌<◌, ◌≤◌, ◌++◌, List, [], ◌∷◌, length, refl, sym, ap, subst, Some, None, slice_get, append_assoc, arith}
 use Rattle.std.proofs.lemmas.List.{length_push}
 use Rattle.partial_model.proofs.HistoryLemmas.{place_below}
 use Rattle.partial_model.proofs.NotesLemmas.{slice_get_last}
@@ -23,11 +23,6 @@ module _ {A : Type 0} (P : A → Type 0) where
   all_join [] x after w p v = (p, v)
   all_join (b ∷ before) x after w p v = (w.0, all_join before x after w.1 p v)
 
--- what holds of each element, where two facts hold of each
-pub all_with : {A : Type 0} (P Q R : A → Type 0) → ((x : A) → P x → Q x → R x) → (xs : List A) → AllByRecursion P xs → AllByRecursion Q xs → AllByRecursion R xs
-all_with P Q R f [] p q = tt
-all_with P Q R f (x ∷ xs) p q = (f x p.0 q.0, all_with P Q R f xs p.1 q.1)
-
 pub all_weaker : {A : Type 0} (P R : A → Type 0) → ((x : A) → P x → R x) → (xs : List A) → AllByRecursion P xs → AllByRecursion R xs
 all_weaker P R f [] p = tt
 all_weaker P R f (x ∷ xs) p = (f x p.0, all_weaker P R f xs p.1)
@@ -50,11 +45,6 @@ pub length_same : {A : Type 0} (before : List A) (x y : A) (after : List A) → 
 length_same [] x y after = refl
 length_same (b ∷ before) x y after = ap suc (length_same before x y after)
 
--- one element more
-pub two_push : {A : Type 0} (R : A → A → Type 0) (xs : List A) (y : A) → EachTwo R xs → AllByRecursion (λ x. R x y) xs → EachTwo R (xs ++ y ∷ [])
-two_push R [] y w v = (tt, tt)
-two_push R (x ∷ xs) y w v = (all_join (R x) xs y [] w.0 v.0 tt, two_push R xs y w.1 v.1)
-
 -- two lists, one behind the other
 pub all_append : {A : Type 0} (P : A → Type 0) (xs ys : List A) → AllByRecursion P xs → AllByRecursion P ys → AllByRecursion P (xs ++ ys)
 all_append P [] ys v w = w
@@ -67,14 +57,6 @@ all_front P (x ∷ xs) ys w = (w.0, all_front P xs ys w.1)
 pub all_back : {A : Type 0} (P : A → Type 0) (xs ys : List A) → AllByRecursion P (xs ++ ys) → AllByRecursion P ys
 all_back P [] ys w = w
 all_back P (x ∷ xs) ys w = all_back P xs ys w.1
-
-pub two_append : {A : Type 0} (R : A → A → Type 0) (xs ys : List A) → EachTwo R xs → EachTwo R ys → AllByRecursion (λ x. AllByRecursion (R x) ys) xs → EachTwo R (xs ++ ys)
-two_append R [] ys v w c = w
-two_append R (x ∷ xs) ys v w c = (all_append (R x) xs ys v.0 c.0, two_append R xs ys v.1 w c.1)
-
-pub two_front : {A : Type 0} (R : A → A → Type 0) (xs ys : List A) → EachTwo R (xs ++ ys) → EachTwo R xs
-two_front R [] ys w = tt
-two_front R (x ∷ xs) ys w = (all_front (R x) xs ys w.0, two_front R xs ys w.1)
 
 pub two_back : {A : Type 0} (R : A → A → Type 0) (xs ys : List A) → EachTwo R (xs ++ ys) → EachTwo R ys
 two_back R [] ys w = w
@@ -93,22 +75,9 @@ pub all_unmap : {A B : Type 0} (P : B → Type 0) (g : A → B) (xs : List A) �
 all_unmap P g [] w = tt
 all_unmap P g (x ∷ xs) w = (w.0, all_unmap P g xs w.1)
 
-pub two_map : {A B : Type 0} (R : B → B → Type 0) (g : A → B) (xs : List A) → EachTwo (λ x y. R (g x) (g y)) xs → EachTwo R (map g xs)
-two_map R g [] w = tt
-two_map R g (x ∷ xs) w = (all_map (R (g x)) g xs w.0, two_map R g xs w.1)
-
-pub two_unmap : {A B : Type 0} (R : B → B → Type 0) (g : A → B) (xs : List A) → EachTwo R (map g xs) → EachTwo (λ x y. R (g x) (g y)) xs
-two_unmap R g [] w = tt
-two_unmap R g (x ∷ xs) w = (all_unmap (R (g x)) g xs w.0, two_unmap R g xs w.1)
-
 pub map_same : {A B : Type 0} (g h : A → B) (xs : List A) → AllByRecursion (λ x. g x ≡ h x) xs → map g xs ≡ map h xs
 map_same g h [] w = refl
 map_same g h (x ∷ xs) w = ap (λ y. y ∷ map g xs) w.0 ∙ ap (λ (l : List _). h x ∷ l) (map_same g h xs w.1)
-
--- each with each, the other way round
-pub all_swap : {A B : Type 0} (Q : A → B → Type 0) (xs : List A) (ys : List B) → AllByRecursion (λ x. AllByRecursion (λ y. Q x y) ys) xs → AllByRecursion (λ y. AllByRecursion (λ x. Q x y) xs) ys
-all_swap Q xs [] w = tt
-all_swap Q xs (y ∷ ys) w = (all_weaker (λ x. Q x y × AllByRecursion (λ z. Q x z) ys) (λ x. Q x y) (λ x h. h.0) xs w, all_swap Q xs ys (all_weaker (λ x. Q x y × AllByRecursion (λ z. Q x z) ys) (λ x. AllByRecursion (λ z. Q x z) ys) (λ x h. h.1) xs w))
 
 -- xs is ys with x added at some place
 abbrev pub Adds : {A : Type 0} → A → List A → List A → Type 0

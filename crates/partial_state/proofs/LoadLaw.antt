@@ -1,18 +1,19 @@
 -- What a load answers is true from then on.
-use Rattle.std.proofs.Common.{ℕ, ◌≡◌, ◌+◌, ◌<◌, ◌≤◌, List, [], ◌∷◌, length, take, get_or, Option, Some, None, IfSome, IsSomeAnd, MatchOption, refl, sym, ◌∙◌, ap, subst, inl, inr, arith}
+use Rattle.std.proofs.Common.{ℕ, ◌≡◌, ◌<◌, ◌≤◌, List, [], ◌∷◌, length, get_or, Option, Some, None, IfSome, MatchOption, refl, sym, ◌∙◌, ap, subst, inl, inr, arith}
 use Rattle.std.specs.List.{AllByRecursion}
 use Rattle.std.proofs.lemmas.Bool.{cases_lt}
 use Rattle.std.proofs.lemmas.List.{take_all}
 use Rattle.partial_model.specs.declared.history.Applied.{Applied}
 use Rattle.partial_model.specs.declared.history.Opening.{Opening}
 use Rattle.partial_model.specs.History.{stamp_of}
-use Rattle.partial_words.specs.Layout.{Layout, slot_counter, slot_word, list_base, total}
+use Rattle.partial_words.specs.Layout.{Layout, slot_counter, slot_word}
 use Rattle.partial_state.specs.Views.{Joined, IsAnnounced, IsHead}
 use Rattle.partial_state.specs.Holdings.{Claimed, Holding, unpublished, IfJoined}
 use Rattle.partial_state.specs.LawfulWords.{LawfulWords, IsClaimedIn, IsClaim}
-use Rattle.partial_state.specs.Loads.{IsSlotAnswer, IsPublished, IsLoaded}
+use Rattle.partial_state.specs.Loads.{IsSlotAnswer}
 use Rattle.partial_state.specs.Effects.{LoadsAreTrue}
 use Rattle.partial_state.proofs.ListLemmas.{all_weaker}
+use Rattle.partial_state.proofs.Claimed.{match_some}
 use Rattle.partial_state.proofs.HoldingLemmas.{if_some, if_all, if_some_at, some_found}
 
 -- what holds of each claim holds of the slot's
@@ -20,9 +21,6 @@ pub claim_found : (P : Claimed → Type 0) (l : ℕ) (hs : List Holding) → IsC
 claim_found P l [] k all = absurd k
 claim_found P l (h ∷ hs) (inl k) all = let found = some_found (λ c. c.slot ≡ l) h.claimed k in (found.0, found.2, if_some_at P h.claimed found.0 found.1 all.0)
 claim_found P l (h ∷ hs) (inr k) all = claim_found P l hs k all.1
-
-pub match_some : {A : Type 0} (P : Type 0) (Q : A → Type 0) (f : Option A) (a : A) → f ≡ Some a → MatchOption f P Q → Q a
-match_some P Q f a e w = let h : MatchOption (Some a) P Q = subst (λ (f : Option _). MatchOption f P Q) e w in h
 
 -- a slot below the last holds what a slot may hold
 slot_now : (z : Layout) (o : Opening) (words : List ℕ) (hs : List Holding) (log : List Applied) (l : ℕ) → LawfulWords z o words hs log → l < z.slots → IsSlotAnswer z words (unpublished hs) l (get_or words (slot_word z l) 0)

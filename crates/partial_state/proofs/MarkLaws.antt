@@ -1,16 +1,15 @@
 -- The steps that change no block and no slot: an exchange comes to be due, a block is given up, and claims that are refused.
-use Rattle.std.proofs.Common.{ℕ, ◌≡◌, ◌≢◌, ◌+◌, ◌*◌, ◌<◌, ◌≤◌, ◌++◌, ◌^◌, ◌%◌, true, false, List, ◌∷◌, length, get_or, set, Option, Some, None, IfSome, refl, sym, ◌∙◌, ap, subst, arith, get_or-set_other, get_or-set_same, length-set}
+use Rattle.std.proofs.Common.{ℕ, ◌≡◌, ◌≢◌, ◌+◌, ◌*◌, ◌<◌, ◌≤◌, ◌++◌, ◌^◌, ◌%◌, true, List, ◌∷◌, get_or, set, Option, Some, None, IfSome, refl, sym, ◌∙◌, ap, subst, arith, get_or-set_other, get_or-set_same, length-set}
 use Rattle.std.proofs.lemmas.Bool.{eq-eqb}
 use Rattle.partial_model.specs.declared.history.Applied.{Applied}
-use Rattle.partial_model.specs.declared.history.Opening.{Opening}
-use Rattle.partial_words.specs.Layout.{Layout, slot_counter, list_head, pool_counter, list_counter, slot_word, list_base, list_end, pool_end, total}
+use Rattle.partial_words.specs.Layout.{Layout, slot_counter, list_head, pool_counter, list_counter, slot_word, list_base, list_end, pool_end}
 use Rattle.partial_state.specs.Views.{Block, AreApart}
-use Rattle.partial_state.specs.Holdings.{Own, Due, Holding, block_of, blocks_in, others_of, joined_in, EachTwo}
-use Rattle.partial_state.specs.LawfulWords.{LawfulWords, IsOwn, IsTied, IsDue}
-use Rattle.partial_state.specs.Effects.{IsKept, DuesAreKept, DropsAreKept, PoolRefusalsAreKept, ListRefusalsAreKept, SlotRefusalsAreKept}
+use Rattle.partial_state.specs.Holdings.{Own, Holding, block_of, blocks_in, others_of, joined_in, EachTwo}
+use Rattle.partial_state.specs.LawfulWords.{IsTied, IsDue}
+use Rattle.partial_state.specs.Effects.{DuesAreKept, DropsAreKept, PoolRefusalsAreKept, ListRefusalsAreKept, SlotRefusalsAreKept}
 use Rattle.partial_state.proofs.ListLemmas.{all_at, two_take}
-use Rattle.partial_state.proofs.Frames.{IsClaimedBlock, apart_turns}
-use Rattle.partial_state.proofs.HoldingLemmas.{if_some, others_gone}
+use Rattle.partial_state.proofs.Frames.{apart_turns}
+use Rattle.partial_state.proofs.HoldingLemmas.{others_gone}
 use Rattle.partial_state.proofs.Blocks.{unpublished_same, announced_same, own_added, blocks_same, own_block_added}
 use Rattle.partial_state.proofs.Rebuild.{Moves, own_stays}
 use Rattle.partial_state.proofs.Quiet.{calm, pool_stays, slots_stay, lists_stay, pool_rises, slots_rise, lists_rise, pool_bound, slots_bound, lists_bound, fits_word, head_stays, due_stays}

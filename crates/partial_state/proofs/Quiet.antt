@@ -1,23 +1,21 @@
 -- The steps that add nothing to the history, and what most steps leave as it was.
-use Rattle.std.proofs.Common.{ℕ, ◌≡◌, ◌≢◌, ◌+◌, ◌*◌, ◌<◌, ◌≤◌, ◌⊎◌, ◌==◌, ◌++◌, ◌^◌, ◌%◌, Bool, true, false, List, [], ◌∷◌, length, get_or, Option, Some, None, IfSome, IsSomeAnd, slice_get, refl, sym, ◌∙◌, ap, subst, inl, inr, arith}
-use Rattle.std.specs.List.{AllByRecursion}
+use Rattle.std.proofs.Common.{ℕ, ◌≡◌, ◌≢◌, ◌+◌, ◌*◌, ◌<◌, ◌≤◌, ◌⊎◌, ◌++◌, ◌^◌, ◌%◌, true, false, List, ◌∷◌, length, get_or, Option, None, IfSome, IsSomeAnd, refl, sym, ◌∙◌, ap, subst, inl, inr, arith}
 use Rattle.std.proofs.lemmas.Bool.{eq-eqb}
 use Rattle.std.proofs.Math.Nat.{mul-le-mul_left}
 use Rattle.partial_model.specs.declared.history.Applied.{Applied}
 use Rattle.partial_model.specs.declared.history.Opening.{Opening}
 use Rattle.partial_model.proofs.HistoryLemmas.{place_below}
-use Rattle.partial_words.specs.Layout.{Layout, IsLayout, slot_counter, list_head, pool_counter, list_counter, slot_word, list_base, list_end, pool_base, pool_end}
-use Rattle.partial_words.specs.Record.{prev_of, view_of}
-use Rattle.partial_state.specs.Views.{Block, AreApart, Joined, Covers, IsWithin, IsHead}
+use Rattle.partial_words.specs.Layout.{Layout, IsLayout, slot_counter, list_head, pool_counter, list_counter, slot_word, list_base, list_end, pool_end}
+use Rattle.partial_state.specs.Views.{Block, AreApart, Covers, IsHead}
 use Rattle.partial_state.specs.Holdings.{Claimed, Own, Due, Holding, block_of, block_at, unpublished, blocks_in, others_of, IfJoined, joined_in, EachTwo, HaveOtherSlots, pool_marks, slot_marks, list_marks}
 use Rattle.partial_state.specs.Holdings.Space.{Pool}
-use Rattle.partial_state.specs.LawfulWords.{LawfulWords, IsOwn, IsTied, IsClaim, CoversAll, IsDue}
+use Rattle.partial_state.specs.LawfulWords.{LawfulWords, IsOwn, IsTied, IsClaim, IsDue}
 use Rattle.partial_state.specs.Effects.{IsKept}
 use Rattle.partial_state.proofs.ListLemmas.{all_at, all_weaker}
 use Rattle.partial_state.proofs.Frames.{Frame, stays, head_moves, covers_moves}
-use Rattle.partial_state.proofs.HoldingLemmas.{if_some, if_some_at, some_found, joined_weaker, others_gone, marks, marks_same, marks_more, marks_few, pool_is, slots_are, lists_are}
-use Rattle.partial_state.proofs.Rebuild.{Moves, frame_of, agrees_stay, blocks_stay, space_far}
-use Rattle.partial_state.proofs.Keeping.{Changes, due_moves, claim_moves, keeps}
+use Rattle.partial_state.proofs.HoldingLemmas.{own_far, if_some, if_some_at, some_found, joined_weaker, others_gone, marks_same, marks_more, marks_few, pool_is, slots_are, lists_are}
+use Rattle.partial_state.proofs.Rebuild.{Moves, frame_of, agrees_stay, blocks_stay}
+use Rattle.partial_state.proofs.Keeping.{due_moves, claim_moves, keeps}
 
 -- what a step changes that adds nothing to the history
 pub record Quiet (z : Layout) (o : Opening) (words words' : List ℕ) (before : List Holding) (h h' : Holding) (after : List Holding) (log : List Applied) : Type 0 where
@@ -152,7 +150,7 @@ module _ (z : Layout) (o : Opening) (words words' : List ℕ) (before : List Hol
           let b = found.0 in
           let tied = all_at (IsTied z words) before h after w.tied in
           let at : b.at ≡ d.at = ap (λ (x : Block). x.at) found.2.1 in
-          let above = space_far z words words' h h' m b (if_some_at (IsOwn z words) h.own b found.1 tied.own) in
+          let above = own_far z words b (if_some_at (IsOwn z words) h.own b found.1 tied.own) in
           due_moves z o words words' h h' others others log log d f (stays o log) own (unjoined k.unjoined) (λ j old below within is. sym (components j below) ∙ is) (λ n below. far (d.at + n) (omega (arith, above, at)))
           (λ prev view within all. all_weaker (λ v. IfJoined v (λ l j. Covers z words us log d.at j)) (λ v. IfJoined v (λ l j. Covers z words' us log d.at j)) (λ v. joined_weaker v (λ l j. Covers z words us log d.at j) (λ l j. Covers z words' us log d.at j) (λ l j. covers_moves z words words' us us f o log log (stays o log) d.at prev view (length log) j within)) others all) k
 

@@ -1,24 +1,21 @@
 -- Lawful words with one port's holding in the place of another, and with other words.
-use Rattle.std.proofs.Common.{ℕ, ◌≡◌, ◌≢◌, ◌+◌, ◌*◌, ◌<◌, ◌≤◌, ◌⊎◌, ◌==◌, ◌++◌, Bool, true, false, cond, List, [], ◌∷◌, length, map, get_or, Option, Some, None, IfSome, IsSomeAnd, MatchOption, slice_get, refl, sym, ◌∙◌, ap, subst, inl, inr, arith}
+use Rattle.std.proofs.Common.{ℕ, ◌≡◌, ◌≢◌, ◌+◌, ◌*◌, ◌<◌, ◌≤◌, ◌++◌, List, [], ◌∷◌, length, map, get_or, Option, Some, IfSome, slice_get, sym, ◌∙◌, ap, subst, arith}
 use Rattle.std.specs.List.{AllByRecursion}
-use Rattle.std.proofs.lemmas.Bool.{ne_eqb, eq-eqb, cases_lt}
 use Rattle.partial_model.specs.declared.history.Applied.{Applied}
 use Rattle.partial_model.specs.declared.history.Opening.{Opening}
-use Rattle.partial_model.specs.History.{IsHistory, initial_stamp, stamp_of}
-use Rattle.partial_model.proofs.HistoryLemmas.{place_below}
-use Rattle.partial_words.specs.Layout.{Layout, slot_counter, list_head, pool_counter, list_counter, slot_word, list_base, list_end, pool_base, pool_end}
-use Rattle.partial_words.specs.Record.{prev_of, value_of, view_of}
+use Rattle.partial_model.specs.History.{initial_stamp}
+use Rattle.partial_words.specs.Layout.{Layout, slot_counter, pool_counter, list_counter, slot_word, list_base, pool_base}
+use Rattle.partial_words.specs.Record.{prev_of}
 use Rattle.partial_words.specs.Chain.{Agrees, Link, IsChain, chain_of}
 use Rattle.partial_words.proofs.ChainLemmas.{chain_all}
-use Rattle.partial_state.specs.Views.{Block, AreApart, Joined, HasFreshView, IsWithin, Covers, IsAnnounced, IsApartFrom, IsHead}
-use Rattle.partial_state.specs.Holdings.{Claimed, Own, Due, Holding, Space, first_of, end_of, counter_of, block_of, block_at, announcements, unpublished, blocks_in, others_of, IfJoined, joined_in, EachTwo, HaveOtherPorts, HaveOtherSlots, pool_marks, slot_marks, list_marks}
+use Rattle.partial_state.specs.Views.{Block, AreApart}
+use Rattle.partial_state.specs.Holdings.{Own, Holding, Space, counter_of, block_of, block_at, announcements, unpublished, blocks_in, EachTwo}
 use Rattle.partial_state.specs.Holdings.Space.{Pool, Lists}
-use Rattle.partial_state.specs.LawfulWords.{LawfulWords, IsOwn, IsTied, IsClaimedIn, IsClaim, CoversAll, IsDue, IsEntry}
-use Rattle.partial_state.specs.Loads.{Kept, IsLoaded}
-use Rattle.partial_state.specs.Effects.{IsKept}
-use Rattle.partial_state.proofs.ListLemmas.{all_at, all_before, all_after, all_join, all_with, all_weaker, all_append, all_back, all_unmap, two_before, two_after, two_join, two_back, two_across, map_same, length_same, all_of, all_found}
-use Rattle.partial_state.proofs.Frames.{Frame, Grows, IsClaimedBlock, word_at, part_apart, within_more, within_grows, published_moves, announced_moves, head_moves, slot_moves, fresh_moves, covers_moves, covers_newer}
-use Rattle.partial_state.proofs.HoldingLemmas.{if_some, if_some_at, some_here, none_here, if_all, some_found, found_some, joined_weaker, all_unpublished, unpublished_all, HaveOtherBlocks, apart_others, blocks_turn, ports_turn, slots_turn, others_split, others_gone, three_words, block_stays}
+use Rattle.partial_state.specs.LawfulWords.{LawfulWords, IsOwn, IsTied, IsEntry}
+use Rattle.partial_state.proofs.ListLemmas.{all_at, all_before, all_after, all_join, two_before, two_after, map_same, all_of, all_found}
+use Rattle.partial_state.proofs.Frames.{Frame, IsClaimedBlock, word_at, part_apart}
+use Rattle.partial_state.proofs.Claimed.{unpublished_two, entry_free, initial_free}
+use Rattle.partial_state.proofs.HoldingLemmas.{own_far, if_some, if_some_at, all_unpublished, unpublished_all, HaveOtherBlocks, apart_others, blocks_turn, three_words, block_stays}
 
 -- What a step does to the words of others, where its port holds h before and h' behind it.
 pub record Moves (z : Layout) (words words' : List ℕ) (h h' : Holding) : Type 0 where
@@ -56,13 +53,6 @@ module _ (z : Layout) (words words' : List ℕ) (h h' : Holding) (m : Moves z wo
   other_word b n far below apart =
       m.same (b.at + n) (omega (arith, far)) (if_some (λ c. AreApart (block_of b) (block_of c)) (λ c. AreApart (word_at (b.at + n)) (block_of c)) h.own (λ c e a. part_apart (word_at (b.at + n)) (block_of b) (block_of c) (omega arith) (omega (arith, below)) a) apart)
 
-  pub space_far : (b : Own) → IsOwn z words b → list_base z ≤ b.at
-  space_far b w = far b.space b.at w.above
-    where
-      far : (s : Space) (at : ℕ) → first_of z s ≤ at → list_base z ≤ at
-      far Pool at above = omega (arith, above)
-      far Lists at above = above
-
   counter_grows : (s : Space) → get_or words (counter_of z s) 0 ≤ get_or words' (counter_of z s) 0
   counter_grows Pool = m.pool
   counter_grows Lists = m.lists
@@ -77,23 +67,23 @@ module _ (z : Layout) (words words' : List ℕ) (h h' : Holding) (m : Moves z wo
         within = w.within;
         below = omega (arith, below, more);
         few = w.few;
-        stands = λ i stored. other_word b i (space_far b w) (omega (arith, stored, few)) apart ∙ w.stands i stored;
+        stands = λ i stored. other_word b i (own_far z words b w) (omega (arith, stored, few)) apart ∙ w.stands i stored;
       }
 
   -- an own block stays where no word of a block changes
   pub own_stays : ((n : ℕ) → list_base z ≤ n → get_or words' n 0 ≡ get_or words n 0) → (f : Option Own) → IfSome f (IsOwn z words) → IfSome f (IsOwn z words')
   own_stays far f w =
       if_some (IsOwn z words) (IsOwn z words') f (λ b e own.
-          let above = space_far b own in
-          let below = own.below in
-          let more = counter_grows b.space in
-          record {
-            above = own.above;
-            within = own.within;
-            below = omega (arith, below, more);
-            few = own.few;
-            stands = λ i stored. far (b.at + i) (omega (arith, above)) ∙ own.stands i stored;
-          }) w
+      let above = own_far z words b own in
+      let below = own.below in
+      let more = counter_grows b.space in
+      record {
+        above = own.above;
+        within = own.within;
+        below = omega (arith, below, more);
+        few = own.few;
+        stands = λ i stored. far (b.at + i) (omega (arith, above)) ∙ own.stands i stored;
+      }) w
 
   pub marked_moves : (v : Holding) → IfSome v.own (IsOwn z words') → IsTied z words v → IsTied z words' v
   marked_moves v own w =
@@ -126,22 +116,13 @@ module _ (z : Layout) (o : Opening) (words words' : List ℕ) (before : List Hol
   from_own : (b : Block) → AllByRecursion (AreApart b) (unpublished (before ++ h ∷ after)) → IfSome h.own (λ c. AreApart b (block_of c))
   from_own b all = all_at (λ v. IfSome v.own (λ c. AreApart b (block_of c))) before h after (unpublished_all (AreApart b) (before ++ h ∷ after) all)
 
-  pub entry_free : (k : ℕ) (e : Applied) → slice_get log k ≡ Some e → AllByRecursion (AreApart (block_at words e.stamp)) (unpublished (before ++ h ∷ after))
-  entry_free k e s =
-      let across = two_across AreApart (map (λ e. block_at words e.stamp) log) (announcements (before ++ h ∷ after) ++ unpublished (before ++ h ∷ after)) w.apart.1 in
-      let each = all_unmap (λ b. AllByRecursion (AreApart b) (announcements (before ++ h ∷ after) ++ unpublished (before ++ h ∷ after))) (λ e. block_at words e.stamp) log across in
-      all_back (AreApart (block_at words e.stamp)) (announcements (before ++ h ∷ after)) (unpublished (before ++ h ∷ after)) (all_found (λ (e : Applied). AllByRecursion (AreApart (block_at words e.stamp)) (announcements (before ++ h ∷ after) ++ unpublished (before ++ h ∷ after))) log k e each s)
-
-  pub unpublished_two : EachTwo AreApart (unpublished (before ++ h ∷ after))
-  unpublished_two = two_back AreApart (announcements (before ++ h ∷ after)) (unpublished (before ++ h ∷ after)) (two_back AreApart (map (λ e. block_at words e.stamp) log) (announcements (before ++ h ∷ after) ++ unpublished (before ++ h ∷ after)) w.apart.1)
-
   -- the words of records of the history stay
   pub entry_word : (k : ℕ) (e : Applied) (n : ℕ) → slice_get log k ≡ Some e → n < (block_at words e.stamp).size → get_or words' (e.stamp + n) 0 ≡ get_or words (e.stamp + n) 0
   entry_word k e n s below =
       let entry : IsEntry z words e = all_found (IsEntry z words) log k e w.entries s in
       let above = entry.above in
       let b = block_at words e.stamp in
-      m.same (e.stamp + n) (omega (arith, above)) (if_some (λ c. AreApart (block_at words e.stamp) (block_of c)) (λ c. AreApart (word_at (e.stamp + n)) (block_of c)) h.own (λ c is a. part_apart (word_at (e.stamp + n)) (block_at words e.stamp) (block_of c) (omega arith) (omega (arith, below)) a) (from_own b (entry_free k e s)))
+      m.same (e.stamp + n) (omega (arith, above)) (if_some (λ c. AreApart (block_at words e.stamp) (block_of c)) (λ c. AreApart (word_at (e.stamp + n)) (block_of c)) h.own (λ c is a. part_apart (word_at (e.stamp + n)) (block_at words e.stamp) (block_of c) (omega arith) (omega (arith, below)) a) (from_own b (entry_free z o words (before ++ h ∷ after) log w k e s)))
 
   pub entry_three : (k : ℕ) (e : Applied) (n : ℕ) → slice_get log k ≡ Some e → n < 3 → get_or words' (e.stamp + n) 0 ≡ get_or words (e.stamp + n) 0
   entry_three k e n s below = let size = three_words words e.stamp in entry_word k e n s (omega (arith, size, below))
@@ -152,8 +133,7 @@ module _ (z : Layout) (o : Opening) (words words' : List ℕ) (before : List Hol
   initial_word : (n : ℕ) → pool_base z ≤ n → n < pool_base z + 3 * z.m → get_or words' n 0 ≡ get_or words n 0
   initial_word n from to =
       let b : Block = record { at = pool_base z; size = 3 * z.m } in
-      let free = all_back (AreApart b) (announcements (before ++ h ∷ after)) (unpublished (before ++ h ∷ after)) (all_back (AreApart b) (map (λ e. block_at words e.stamp) log) (announcements (before ++ h ∷ after) ++ unpublished (before ++ h ∷ after)) w.apart.0) in
-      m.same n (omega (arith, from)) (if_some (λ c. AreApart (record { at = pool_base z; size = 3 * z.m }) (block_of c)) (λ c. AreApart (word_at n) (block_of c)) h.own (λ c is a. part_apart (word_at n) (record { at = pool_base z; size = 3 * z.m }) (block_of c) from (omega (arith, to)) a) (from_own b free))
+      m.same n (omega (arith, from)) (if_some (λ c. AreApart (record { at = pool_base z; size = 3 * z.m }) (block_of c)) (λ c. AreApart (word_at n) (block_of c)) h.own (λ c is a. part_apart (word_at n) (record { at = pool_base z; size = 3 * z.m }) (block_of c) from (omega (arith, to)) a) (from_own b (initial_free z o words (before ++ h ∷ after) log w)))
 
   -- the chains stay
   pub chain_moves : (j : ℕ) → j < length o.values → IsChain words' (get_or words j 0) (chain_of o j log)
@@ -180,7 +160,7 @@ module _ (z : Layout) (o : Opening) (words words' : List ℕ) (before : List Hol
 
   -- what the ports of the other holdings own is apart from what the port owns
   pub own_before : AllByRecursion (HaveOtherBlocks h) before
-  own_before = two_before HaveOtherBlocks blocks_turn before h after (apart_others (before ++ h ∷ after) unpublished_two)
+  own_before = two_before HaveOtherBlocks blocks_turn before h after (apart_others (before ++ h ∷ after) (unpublished_two z o words (before ++ h ∷ after) log w))
 
   pub own_after : AllByRecursion (HaveOtherBlocks h) after
-  own_after = two_after HaveOtherBlocks blocks_turn before h after (apart_others (before ++ h ∷ after) unpublished_two)
+  own_after = two_after HaveOtherBlocks blocks_turn before h after (apart_others (before ++ h ∷ after) (unpublished_two z o words (before ++ h ∷ after) log w))

@@ -1,22 +1,21 @@
 -- The steps on slots: a claim, a join and a leave.
-use Rattle.std.proofs.Common.{ℕ, ◌≡◌, ◌≢◌, ◌+◌, ◌*◌, ◌<◌, ◌≤◌, ◌⊎◌, ◌++◌, ◌^◌, ◌%◌, List, ◌∷◌, length, get_or, set, Option, Some, None, IfSome, IsSomeAnd, MatchOption, refl, sym, ◌∙◌, ap, subst, inl, inr, arith, get_or-set_other, get_or-set_same, length-set}
+use Rattle.std.proofs.Common.{ℕ, ◌≡◌, ◌≢◌, ◌+◌, ◌*◌, ◌<◌, ◌≤◌, ◌++◌, ◌^◌, ◌%◌, ◌∷◌, length, get_or, set, Option, Some, None, IfSome, IsSomeAnd, refl, sym, ◌∙◌, ap, subst, inl, inr, arith, get_or-set_other, get_or-set_same, length-set}
 use Rattle.std.specs.List.{AllByRecursion}
 use Rattle.std.proofs.lemmas.Bool.Decides.{eqb_tells}
-use Rattle.partial_model.specs.declared.history.Applied.{Applied}
-use Rattle.partial_model.specs.declared.history.Opening.{Opening}
-use Rattle.partial_words.specs.Layout.{Layout, slot_counter, list_head, pool_counter, list_counter, slot_word, list_base, list_end, pool_base, pool_end, total}
+use Rattle.partial_words.specs.Layout.{slot_counter, list_head, pool_counter, list_counter, slot_word, list_base, list_end, pool_end}
 use Rattle.partial_words.specs.Announcement.{announcement_block}
 use Rattle.partial_state.specs.Views.{Block, AreApart, Joined, IsAnnounced, IsApartFrom}
-use Rattle.partial_state.specs.Holdings.{Claimed, Own, Due, Holding, block_of, announcements, unpublished, blocks_in, others_of, joined_in, EachTwo, HaveOtherSlots}
+use Rattle.partial_state.specs.Holdings.{Claimed, Own, Holding, block_of, unpublished, blocks_in, others_of, joined_in}
 use Rattle.partial_state.specs.Holdings.Space.{Pool}
-use Rattle.partial_state.specs.LawfulWords.{LawfulWords, IsOwn, IsTied, IsClaim, IsDue}
+use Rattle.partial_state.specs.LawfulWords.{IsOwn, IsTied, IsClaim, IsDue}
 use Rattle.partial_state.specs.Effects.{SlotClaimsAreKept, JoinsAreKept, LeavesAreKept}
 use Rattle.partial_state.proofs.ListLemmas.{all_at, two_take, two_put}
 use Rattle.partial_state.proofs.Frames.{apart_turns}
-use Rattle.partial_state.proofs.HoldingLemmas.{if_some, if_some_at, none_here, some_found}
+use Rattle.partial_state.proofs.Claimed.{unpublished_two}
+use Rattle.partial_state.proofs.HoldingLemmas.{if_some, if_some_at, none_here}
 use Rattle.partial_state.proofs.Blocks.{announcement_of, unpublished_same, announced_same, own_added, announcement_added, own_block_added, announced_block_added}
-use Rattle.partial_state.proofs.Rebuild.{Moves, own_stays, unpublished_two}
-use Rattle.partial_state.proofs.Quiet.{quiet, pool_stays, slots_stay, lists_stay, slots_bound, fits_word, head_stays, due_stays}
+use Rattle.partial_state.proofs.Rebuild.{Moves, own_stays}
+use Rattle.partial_state.proofs.Quiet.{quiet, pool_stays, slots_stay, lists_stay, fits_word, head_stays, due_stays}
 use Rattle.partial_state.proofs.MarkLaws.{blocks_kept}
 use Rattle.partial_state.proofs.BlockLaws.{own_freed}
 
@@ -157,7 +156,7 @@ joins_are_kept z o words before h after log slot at indices w is idle owned few 
       };
       above = own.above;
       below = omega (arith, below, size, pool);
-      apart = subst (IsApartFrom (unpublished (before ++ h' ∷ after))) same (own_freed before h h' after b owned refl (unpublished_two z o words words' before h h' after log w m));
+      apart = subst (IsApartFrom (unpublished (before ++ h' ∷ after))) same (own_freed before h h' after b owned refl (unpublished_two z o words (before ++ h ∷ after) log w));
     } in
     let inside = claim.below in
     quiet z o words words' before h h' after log w (record {

@@ -10,14 +10,14 @@ use Rattle.partial_model.specs.declared.history.Opening.{Opening}
 use Rattle.partial_model.specs.History.{IsHistory, initial_stamp, stamp_of}
 use Rattle.partial_model.proofs.HistoryLemmas.{stamp_of-push}
 use Rattle.partial_model.proofs.NotesLemmas.{distinct_push, slice_get_grows, AllByRecursion-push}
-use Rattle.partial_words.specs.Layout.{Layout, slot_counter, list_head, pool_counter, list_counter, slot_word, list_base, list_end, pool_base, pool_end, total}
-use Rattle.partial_words.specs.Record.{prev_of, value_of, view_of}
-use Rattle.partial_words.specs.Chain.{Agrees, IsChain, chain_of}
+use Rattle.partial_words.specs.Layout.{Layout, slot_counter, list_head, pool_counter, list_counter, slot_word, list_end, pool_base, pool_end}
+use Rattle.partial_words.specs.Record.{prev_of, view_of}
+use Rattle.partial_words.specs.Chain.{IsChain, chain_of}
 use Rattle.partial_words.proofs.ChainLemmas.{chain_cons, links_from-push}
 use Rattle.partial_state.specs.Views.{Block, AreApart, Joined, HasFreshView, Covers, IsWithin}
 use Rattle.partial_state.specs.Holdings.{Claimed, Own, Due, Holding, Space, first_of, end_of, counter_of, block_of, block_at, announcements, unpublished, blocks_in, others_of, IfJoined, joined_in, EachTwo, HaveOtherPorts}
 use Rattle.partial_state.specs.Holdings.Space.{Pool}
-use Rattle.partial_state.specs.LawfulWords.{LawfulWords, IsOwn, IsTied, IsClaim, CoversAll, IsDue, IsEntry}
+use Rattle.partial_state.specs.LawfulWords.{LawfulWords, IsOwn, IsTied, IsDue}
 use Rattle.partial_state.specs.Effects.{IsKept, WinsAreKept}
 use Rattle.partial_state.proofs.ListLemmas.{all_at, all_front, all_back, all_join, all_weaker, all_unmap, all_of, all_found, two_before, two_after, two_take, two_put, Adds, adds_behind, found_before, found_last}
 use Rattle.partial_state.proofs.Frames.{Frame, Grows, apart_turns, fresh_moves, covers_moves}
@@ -25,7 +25,7 @@ use Rattle.partial_state.proofs.HoldingLemmas.{if_some_at, some_found, joined_we
 use Rattle.partial_state.proofs.Blocks.{unpublished_is, announced_same, own_added, own_block_added}
 use Rattle.partial_state.proofs.Rebuild.{Moves, chain_moves, entries_stay}
 use Rattle.partial_state.proofs.Keeping.{IsNew, keeps}
-use Rattle.partial_state.proofs.Quiet.{pool_stays, slots_stay, lists_stay, taken_stays, claim_stays, owners_stay, head_stays}
+use Rattle.partial_state.proofs.Quiet.{pool_stays, slots_stay, lists_stay, taken_stays, claim_stays, head_stays}
 
 map_push : {A B : Type 0} (f : A → B) (xs : List A) (y : A) → map f (xs ++ y ∷ []) ≡ map f xs ++ f y ∷ []
 map_push f [] y = refl
@@ -44,10 +44,10 @@ unjoined_if P (Some c) e = subst (λ (j : Option Joined). IfSome j (P c.slot)) (
 -- where a block of a port's own lies in the pool
 pub own_in_pool : (z : Layout) (words : List ℕ) (b : Own) → b.space ≡ Pool → IsOwn z words b → (pool_base z + 3 * z.m ≤ b.at) × (b.at + length b.words ≤ pool_end z) × (b.at + length b.words ≤ get_or words (pool_counter z) 0)
 own_in_pool z words b e w = (
-    subst (λ (s : Space). first_of z s ≤ b.at) e w.above,
-    subst (λ (s : Space). b.at + length b.words ≤ end_of z s) e w.within,
-    subst (λ (s : Space). b.at + length b.words ≤ get_or words (counter_of z s) 0) e w.below,
-  )
+  subst (λ (s : Space). first_of z s ≤ b.at) e w.above,
+  subst (λ (s : Space). b.at + length b.words ≤ end_of z s) e w.within,
+  subst (λ (s : Space). b.at + length b.words ≤ get_or words (counter_of z s) 0) e w.below,
+)
 
 module _ (z : Layout) (o : Opening) (words : List ℕ) (before : List Holding) (h : Holding) (after : List Holding) (log : List Applied) (d : Due) (w : LawfulWords z o words (before ++ h ∷ after) log) (is : h.due ≡ Some d) (won : get_or words d.component 0 ≡ d.old) where
   abbrev behind : Holding
@@ -216,9 +216,10 @@ module _ (z : Layout) (o : Opening) (words : List ℕ) (before : List Holding) (
   would : HasFreshView z o words (unpublished holdings_after) log (length log) d.at × AllByRecursion (λ v. IfJoined v (λ l j. Covers z words (unpublished holdings_after) log d.at j)) (before ++ after)
   would =
       let both = due.would won in
-      let U : List Block → Type 0 = λ us. AllByRecursion (λ v. IfJoined v (λ l j. Covers z words us log d.at j)) (others_of h.port (before ++ h ∷ after)) in
-      (subst (λ (us : List Block). HasFreshView z o words us log (length log) d.at) unpublished_now both.0,
-       subst (AllByRecursion (λ v. IfJoined v (λ l j. Covers z words (unpublished holdings_after) log d.at j))) others_are (subst U unpublished_now both.1))
+      let U : List Block → Type 0 = λ us. AllByRecursion (λ v. IfJoined v (λ l j. Covers z words us log d.at j)) (others_of h.port (before ++ h ∷ after)) in (
+        subst (λ (us : List Block). HasFreshView z o words us log (length log) d.at) unpublished_now both.0,
+        subst (AllByRecursion (λ v. IfJoined v (λ l j. Covers z words (unpublished holdings_after) log d.at j))) others_are (subst U unpublished_now both.1),
+      )
 
   prev_now : prev_of exchanged d.at ≡ prev_of words d.at
   prev_now = let far = published.far in higher d.at (omega (arith, far))

@@ -3,14 +3,14 @@ use Rattle.std.specs.Prelude.{ℕ, zero, suc, ◌≡◌, ◌+◌, ◌*◌, ◌<�
 use Rattle.partial_intervals.specs.Intervals.{Ranges, Holds, IsNormal}
 use Rattle.partial_model.specs.declared.history.Applied.{Applied}
 use Rattle.partial_model.specs.declared.history.Opening.{Opening}
-use Rattle.partial_words.specs.declared.step.Step.TheVariants.{Load, Store, Exchange, Add}
-use Rattle.partial_words.specs.Layout.{Layout, component_word, slot_counter, list_head, pool_counter, list_counter, slot_word, list_base, list_end, pool_base, pool_end, total}
+use Rattle.partial_words.specs.declared.step.Step.TheVariants.{Store, Exchange, Add}
+use Rattle.partial_words.specs.Layout.{Layout, component_word, slot_counter, list_head, pool_counter, list_counter, slot_word, list_base, list_end, pool_end, total}
 use Rattle.partial_words.specs.Announcement.{announcement_block}
 use Rattle.partial_words.specs.VacatedList.{list_block}
 use Rattle.partial_words.specs.Chain.{OpensWith}
 use Rattle.partial_words.specs.Step.{words_after}
 use Rattle.partial_state.specs.Views.{Joined}
-use Rattle.partial_state.specs.Holdings.{Claimed, Own, Due, Holding, Space, counter_of, end_of, others_of, unpublished}
+use Rattle.partial_state.specs.Holdings.{Own, Due, Holding, Space, counter_of, end_of, others_of, unpublished}
 use Rattle.partial_state.specs.Holdings.Space.{Pool, Lists}
 use Rattle.partial_state.specs.LawfulWords.{LawfulWords, IsDue}
 use Rattle.partial_state.specs.Loads.{Kept, IsLoaded, IsPublished}
@@ -76,7 +76,7 @@ abbrev pub WinsAreKept : Type 0
 WinsAreKept = (z : Layout) (o : Opening) (words : List ℕ) (before : List Holding) (h : Holding) (after : List Holding) (log : List Applied) (d : Due) →
     LawfulWords z o words (before ++ h ∷ after) log → h.due ≡ Some d → slice_index words d.component ≡ d.old →
     IsKept z o words before h after log (words_after words (Exchange (component_word z d.component) d.old d.at)) (record h { own = None; due = None })
-      (log ++ record { port = h.port; component = d.component; value = d.value; stamp = d.at } ∷ [])
+    (log ++ record { port = h.port; component = d.component; value = d.value; stamp = d.at } ∷ [])
 
 -- a claim of a slot
 abbrev pub SlotClaimsAreKept : Type 0

@@ -1,5 +1,5 @@
 -- What a port holds in the words: a slot, a block that it writes, an exchange that is due, and its marks.
-use Rattle.std.specs.Prelude.{ℕ, ◌≡◌, ◌≢◌, ◌+◌, ◌*◌, ◌==◌, ⊤, Bool, List, [], ◌∷◌, ◌++◌, length, map, filter_map, Option, Some, None, IfSome, if◌then◌else◌}
+use Rattle.std.specs.Prelude.{ℕ, ◌≢◌, ◌+◌, ◌*◌, ◌==◌, ⊤, Bool, List, [], ◌∷◌, ◌++◌, length, map, filter_map, Option, Some, None, IfSome, if◌then◌else◌}
 use Rattle.std.specs.List.{AllByRecursion}
 use Rattle.std.specs.Option.{option_map}
 use Rattle.partial_model.specs.declared.history.Applied.{Applied}

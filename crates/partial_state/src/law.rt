@@ -1,7 +1,12 @@
 //! The laws of the kinds of step. The functions have no code: their contracts hold of the definitions by
 //! which lawful words are stated.
 
-ghost use Rattle.partial_state.specs.Effects.{ClaimsAreKept, PoolRefusalsAreKept, ListRefusalsAreKept, StoresAreKept, DuesAreKept, DropsAreKept, WinsAreKept, SlotClaimsAreKept, SlotRefusalsAreKept, JoinsAreKept, LeavesAreKept, PublishingsAreKept, LoadsAreTrue};
+ghost use Rattle.partial_state.specs.Effects.{OpeningIsLawful, ClaimsAreKept, PoolRefusalsAreKept, ListRefusalsAreKept, StoresAreKept, DuesAreKept, DropsAreKept, WinsAreKept, SlotClaimsAreKept, SlotRefusalsAreKept, JoinsAreKept, LeavesAreKept, PublishingsAreKept, LoadsAreTrue};
+
+/// Words as they open, with at most 64 ports that hold nothing, are lawful.
+pub fn opening_is_lawful()
+    ensures { OpeningIsLawful }
+{}
 
 /// A claim of a block within its space: the port holds a block of which nothing is stored, apart from every
 /// other one.

@@ -1,0 +1,96 @@
+-- Words as they open are lawful.
+use Rattle.std.proofs.Common.{ℕ, zero, suc, ◌≡◌, ◌+◌, ◌*◌, ◌<◌, ◌≤◌, ◌++◌, false, List, [], ◌∷◌, length, get_or, Some, None, IfSome, refl, sym, ap, subst, inl, arith, ◌∙◌}
+use Rattle.std.specs.List.{AllByRecursion}
+use Rattle.std.proofs.lemmas.Bool.Decides.{nat_tests}
+use Rattle.partial_words.specs.Layout.{Layout, slot_counter, list_head, pool_counter, list_counter, slot_word, list_base, pool_base}
+use Rattle.partial_words.specs.Chain.{opening_word}
+use Rattle.partial_words.proofs.LayoutLemmas.{opening_agrees}
+use Rattle.partial_state.specs.Views.{Block, AreApart}
+use Rattle.partial_state.specs.Holdings.{Holding, EachTwo, HaveOtherPorts, HaveOtherSlots, announcements, unpublished}
+use Rattle.partial_state.specs.LawfulWords.{IsTied}
+use Rattle.partial_state.specs.Effects.{idle_holdings, OpeningIsLawful}
+
+-- ports that hold nothing
+abbrev idle : ℕ → Holding
+idle p = record { port = p; claimed = None; own = None; due = None; pool_spent = false; slots_spent = false; lists_spent = false }
+
+idle_length : (p n : ℕ) → length (idle_holdings p n) ≡ n
+idle_length p zero = refl
+idle_length p (suc n) = ap suc (idle_length (p + 1) n)
+
+-- what holds of each of them
+idle_all : (P : Holding → Type 0) → ((p : ℕ) → P (idle p)) → (p n : ℕ) → AllByRecursion P (idle_holdings p n)
+idle_all P f p zero = tt
+idle_all P f p (suc n) = (f p, idle_all P f (p + 1) n)
+
+idle_other : (q p n : ℕ) → q < p → AllByRecursion (HaveOtherPorts (idle q)) (idle_holdings p n)
+idle_other q p zero below = tt
+idle_other q p (suc n) below = (λ e. omega (arith, below, e), idle_other q (p + 1) n (omega arith))
+
+idle_ports : (p n : ℕ) → EachTwo HaveOtherPorts (idle_holdings p n)
+idle_ports p zero = tt
+idle_ports p (suc n) = (idle_other p (p + 1) n (omega arith), idle_ports (p + 1) n)
+
+idle_slots : (p n : ℕ) → EachTwo HaveOtherSlots (idle_holdings p n)
+idle_slots p zero = tt
+idle_slots p (suc n) = (idle_all (HaveOtherSlots (idle p)) (λ q. tt) (p + 1) n, idle_slots (p + 1) n)
+
+none_unpublished : (p n : ℕ) → unpublished (idle_holdings p n) ≡ []
+none_unpublished p zero = refl
+none_unpublished p (suc n) = none_unpublished (p + 1) n
+
+none_announced : (p n : ℕ) → announcements (idle_holdings p n) ≡ []
+none_announced p zero = refl
+none_announced p (suc n) = none_announced (p + 1) n
+
+pool_opens : (z : Layout) (initial : List ℕ) → opening_word z initial (pool_counter z) ≡ pool_base z + 3 * z.m
+pool_opens z initial = grind (arith, nat_tests)
+
+slot_opens : (z : Layout) (initial : List ℕ) → 1 ≤ z.slots → opening_word z initial (slot_counter z) ≡ 0
+slot_opens z initial some = grind (arith, nat_tests)
+
+list_opens : (z : Layout) (initial : List ℕ) → 1 ≤ z.slots → opening_word z initial (list_head z) ≡ 0
+list_opens z initial some = grind (arith, nat_tests)
+
+lists_open : (z : Layout) (initial : List ℕ) → 1 ≤ z.slots → opening_word z initial (list_counter z) ≡ list_base z
+lists_open z initial some = grind (arith, nat_tests)
+
+slots_open : (z : Layout) (initial : List ℕ) (l : ℕ) → l < z.slots → opening_word z initial (slot_word z l) ≡ 0
+slots_open z initial l below = grind (arith, nat_tests)
+
+pub opening_is_lawful : OpeningIsLawful
+opening_is_lawful z o words n opens few =
+    let some = opens.sizes.slots.0 in
+    let pool : get_or words (pool_counter z) 0 ≡ pool_base z + 3 * z.m = opens.words.each (pool_counter z) (omega (arith, some)) ∙ pool_opens z o.values in
+    let slots : get_or words (slot_counter z) 0 ≡ 0 = opens.words.each (slot_counter z) (omega (arith, some)) ∙ slot_opens z o.values some in
+    let head : get_or words (list_head z) 0 ≡ 0 = opens.words.each (list_head z) (omega (arith, some)) ∙ list_opens z o.values some in
+    let lists : get_or words (list_counter z) 0 ≡ list_base z = opens.words.each (list_counter z) (omega (arith, some)) ∙ lists_open z o.values some in
+    let room = opens.sizes.pool.0 in
+    let count = idle_length 0 n in
+    let blocks : announcements (idle_holdings 0 n) ++ unpublished (idle_holdings 0 n) ≡ [] = ap (λ (l : List Block). l ++ unpublished (idle_holdings 0 n)) (none_announced 0 n) ∙ none_unpublished 0 n in
+    record {
+      sizes = opens.sizes;
+      values = opens.values;
+      stamps = opens.stamps;
+      count = opens.words.count;
+      few = omega (arith, count, few);
+      ports = idle_ports 0 n;
+      history = record { components = tt; distinct = tt; not_initial = tt };
+      agrees = opening_agrees z o words opens;
+      entries = tt;
+      tied = idle_all (IsTied z words) (λ p. record { own = tt; pool_marked = λ m. cc; slots_marked = λ m. cc; lists_marked = λ m. cc }) 0 n;
+      apart = subst (λ (l : List Block). EachTwo AreApart (record { at = pool_base z; size = 3 * z.m } ∷ l)) (sym blocks) (tt, tt);
+      fresh = λ k e s. let bad : None ≡ Some e = s in cc;
+      covering = tt;
+      due = idle_all (λ h. IfSome h.due _) (λ p. tt) 0 n;
+      unclaimed = λ l from below. opens.words.each (slot_word z l) (omega (arith, below)) ∙ slots_open z o.values l below;
+      taken = λ l below inside. absurd (omega (arith, slots, below));
+      claims = idle_all (λ h. IfSome h.claimed _) (λ p. tt) 0 n;
+      owners = idle_slots 0 n;
+      head = inl head;
+      pool_low = omega (arith, pool);
+      pool_high = omega (arith, pool, room);
+      slots_high = omega (arith, slots);
+      lists_low = omega (arith, lists);
+      lists_high = omega (arith, lists);
+    }
