@@ -1,6 +1,6 @@
 -- What a getSet knows leads on, in lawful words.
 use Rattle.std.proofs.Common.{ℕ, ◌≡◌, ◌+◌, ◌-◌, ◌*◌, ◌<◌, ◌≤◌, ◌⊎◌, min, Bool, true, false, ◌&&◌, not, eqb, ltb, Option, Some, None, List, [], ◌∷◌, ◌++◌, length, take, get_or, slice_index, cond, IsSome, inl, inr, refl, sym, ap, subst, ◌∙◌, arith}
-use Rattle.std.proofs.lemmas.Bool.{false≢true, cases_eq, cases_lt, cond_both, ltb-false, eqb-true, eqb-false}
+use Rattle.std.proofs.lemmas.Bool.{false≢true, and_parts, cases_eq, cases_lt, cond_both, ltb-false, eqb-true, eqb-false}
 use Rattle.std.proofs.lemmas.List.{take_more, take_all, get_or-take, length_push}
 use Rattle.partial_model.specs.declared.history.Applied.{Applied}
 use Rattle.partial_model.specs.declared.history.Opening.{Opening}
@@ -51,7 +51,11 @@ module _ (z : Layout) (o : Opening) (words : List ℕ) (hs : List Holding) (log 
   found_after_walk : (p : Pair) (slot : ℕ) → p.0.end ≤ slot → walks z words hs low p slot → Knows z words hs low (after_walk p)
   found_after_walk p slot over k =
       let all : FindsJoined hs low p.1.indices = λ l j joins since. k.complete l j joins since (let below = k.ended l j joins since in omega (arith, below, over)) in
-      cond_both (p.0.noted && not p.0.lists_spent) (Claim (next_words p.1)) Done (λ stage. Knows z words hs low (record p.0 { stage = stage }, p.1)) (λ e. (k.noted, all)) (λ e. (k.noted, all))
+      cond_both (p.0.noted && not p.0.lists_spent) (Claim (next_words p.1)) Done (λ stage. Knows z words hs low (record p.0 { stage = stage }, p.1)) (λ e. ((k.noted, all), unmarked p.0.lists_spent (and_parts p.0.noted (not p.0.lists_spent) e).1)) (λ e. (k.noted, all))
+    where
+      unmarked : (b : Bool) → not b ≡ true → b ≡ false
+      unmarked true e = absurd (false≢true e)
+      unmarked false e = refl
 
   knows_at_slot : (p : Pair) (slot : ℕ) → walks z words hs low p slot → Knows z words hs low (at_slot p slot)
   knows_at_slot p slot k = cond_both (ltb slot p.0.end) (record p.0 { stage = Slot slot }, p.1) (after_walk p) (λ q. Knows z words hs low q)
@@ -420,7 +424,7 @@ module _ (o : Opening) (words : List ℕ) (hs : List Holding) (log : List Applie
   on_at (Slot slot) k due goes knows possible f = let h = f (slot_word p.0.sizes slot) refl in (step_slot slot k h.0 goes knows h.1).1
   on_at (Len slot at) k due goes knows possible f = (step_len slot at k goes knows (f at refl).1).1
   on_at (Index slot at left) k due goes knows possible f = (step_index slot at left k goes knows (f at refl).1).1
-  on_at (Claim count) k due goes knows possible f = cond_both (ltb (list_end p.0.sizes) (k.answer + count)) (record p.0 { lists_spent = true; stage = Done }, p.1) (in_stage p (Write k.answer 0 count (length p.1.next))) (λ q. Knows p.0.sizes words hs low q) (λ e. knows) (λ e. knows)
+  on_at (Claim count) k due goes knows possible f = cond_both (ltb (list_end p.0.sizes) (k.answer + count)) (record p.0 { lists_spent = true; stage = Done }, p.1) (in_stage p (Write k.answer 0 count (length p.1.next))) (λ q. Knows p.0.sizes words hs low q) (λ e. knows.0) (λ e. knows.0)
   on_at (Write at i count word) k due goes knows possible f = cond_both (eqb (i + 1) count) (Publish at) (Write at (i + 1) count (slice_index (list_block p.1.next) (i + 1))) (λ stage. Knows p.0.sizes words hs low (in_stage p stage)) (λ e. knows) (λ e. knows)
   on_at (Publish at) k due goes knows possible f = knows
   on_at Done k due goes knows possible f = absurd (false≢true due)

@@ -1,5 +1,5 @@
 -- What a getSet knows at each of its stages by the answers that it has kept, in lawful words.
-use Rattle.std.specs.Prelude.{ℕ, ◌≡◌, ◌+◌, ◌*◌, ◌<◌, ◌≤◌, ⊤, true, List, [], ◌∷◌, length, take, slice_index, Option, Some, None}
+use Rattle.std.specs.Prelude.{ℕ, ◌≡◌, ◌+◌, ◌*◌, ◌<◌, ◌≤◌, ⊤, true, false, List, [], ◌∷◌, length, take, slice_index, Option, Some, None}
 use Rattle.partial_intervals.specs.Intervals.{Ranges, lowest, Holds}
 use Rattle.partial_words.specs.declared.step.Step.{Step}
 use Rattle.partial_words.specs.declared.step.Step.TheVariants.{Load, Store, Exchange, Add}
@@ -61,7 +61,7 @@ walks z words hs low p slot = HasWalked z words hs low p.0.end p.1.read p.1.next
 abbrev pub has_found : Layout → List ℕ → List Holding → ℕ → Pair → Type 0
 has_found z words hs low p = AreVacated z words p.1.next × FindsJoined hs low p.1.indices
 
--- what is known at a stage, of the ports that joined below `low`
+-- what is known at a stage, of the ports that joined below `low`; a claim is made only where the port isn't marked
 abbrev pub knows_at : Layout → List ℕ → List Holding → ℕ → Stage → Pair → Type 0
 knows_at z words hs low Head p = ⊤
 knows_at z words hs low (ListLen at) p = (list : Ranges) × IsPublishedList z words (unpublished hs) at list
@@ -71,7 +71,7 @@ knows_at z words hs low Counter p = AreVacated z words p.1.read
 knows_at z words hs low (Slot slot) p = walks z words hs low p slot
 knows_at z words hs low (Len slot at) p = walks z words hs low p slot × ((named : List ℕ) × IsAnnounced z words (unpublished hs) at named × IsInSlot hs low slot at)
 knows_at z words hs low (Index slot at left) p = walks z words hs low p slot × ((a : ℕ) × (named : List ℕ) × (i : ℕ) × HasReadNamed z words hs low slot at left p.1.indices a named i)
-knows_at z words hs low (Claim count) p = has_found z words hs low p
+knows_at z words hs low (Claim count) p = has_found z words hs low p × (p.0.lists_spent ≡ false)
 knows_at z words hs low (Write at k count word) p = has_found z words hs low p
 knows_at z words hs low (Publish at) p = has_found z words hs low p
 knows_at z words hs low Done p = has_found z words hs low p

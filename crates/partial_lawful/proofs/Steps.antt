@@ -22,7 +22,7 @@ use Rattle.partial_state.specs.Loads.{Kept, IsLoaded}
 use Rattle.partial_state.specs.Effects.{State, Keeps, IsKept as IsKeptBy}
 use Rattle.partial_state.proofs.LoadLaw.{loads_are_true}
 use Rattle.partial_knowledge.specs.Sets.{IsReadable}
-use Rattle.partial_lawful.specs.Lawful.{Part, Lawful, core_of, port_of, holding_of, holding_at, holdings, joined_since, joins_at, claimed_at, own_at, due_at, is_begun, is_at_rest, MayBegin, MayBeginAt, IsTrueYet, IsKnown, AreKept, AreNotesOf, added_at, first_at, notes_by}
+use Rattle.partial_lawful.specs.Lawful.{Part, Lawful, core_of, port_of, holding_of, holding_at, holdings, led_by, joined_from, joined_since, joins_at, claimed_at, own_at, due_at, is_begun, is_at_rest, MayBegin, MayBeginAt, IsTrueYet, IsKnown, AreKept, AreNotesOf, added_at, first_at, notes_by}
 use Rattle.partial_lawful.proofs.Going.{knows_at, Knows}
 use Rattle.partial_lawful.proofs.Calls.{led, IsLed, HasGone, called_on, last_at, joined_push}
 use Rattle.partial_lawful.proofs.Parts.{seen_within, known_grows, gone, gone_core, known_on, known_end, holdings_split, all_at, changed, once_same}
@@ -143,3 +143,67 @@ module _ (z : Layout) (o : Opening) (words : List ℕ) (before : List Part) (x :
     ends n written legal shown rest noted =
         let pushed = seen_by-push 0 x.notes n in
         made (n ∷ []) (lawful_then (n ∷ []) written (λ hs here true_now. known_end z o (words_after words step) hs log x (answer_of words step) n here possible_here true_now legal (omega (arith, pushed, shown)) (ap (λ (u : Stage). is_at_rest (advance_at (core_of x) u (answer_of words step)).stage) e ∙ ap (λ (c : CoreState). is_at_rest c.stage) leads ∙ rest))) noted
+
+  -- a load changes no word, and what the port holds stays
+  module _ (s : Stage) (n : ℕ) (t : CoreState) (e : (core_of x).stage ≡ s) (due : step_at (core_of x) s ≡ Some (Load n)) (leads : advance_at (core_of x) s (get_or words n 0) ≡ t) (added : added_at (core_of x).port s (get_or words n 0) ≡ []) (readable : IsReadable z words all_hold n) (possible : IsPossibleAt (core_of x) s (get_or words n 0)) (holds : holding_at t (cond (joins_at (core_of x) s) (length log) (joined_since x)) ≡ holding_in (core_of x) s (joined_since x)) where
+    load_keeps : IsKeptBy z o words (holdings before) (holding_of x) (holdings after) log words (holding_in (core_of x) s (joined_since x)) log
+    load_keeps = subst (λ (u : Stage). IsKeptBy z o words (holdings before) (holding_of x) (holdings after) log words (holding_in (core_of x) u (joined_since x)) log) e (record { lawful = memory_here; loads = λ m k l. l })
+
+    load_yet : (hs : List Holding) → hs ≡ holdings before ++ holding_in (core_of x) s (joined_since x) ∷ holdings after → IsLoaded z o words hs log n (record { answer = get_or words n 0; at = length log })
+    load_yet hs is =
+        let same : all_hold ≡ hs = holdings_split before x after ∙ ap (λ (u : Stage). holdings before ++ holding_in (core_of x) u (joined_since x) ∷ holdings after) e ∙ sym is in
+        subst (λ (ks : List Holding). IsLoaded z o words ks log n (record { answer = get_or words n 0; at = length log })) same (loads_are_true z o words all_hold log n w.memory readable.0 readable.1)
+
+    load_within : n < length words
+    load_within = let count = w.memory.count in let below = readable.0 in omega (arith, count, below)
+
+    pub load_quiet : is_at_rest s ≡ false → AreNotesOf (gone x log (get_or words n 0) []) (reply_of t) [] → LeadsAt z o words before x after log (core_of x) s (Load n)
+    load_quiet going noted = quiet s (Load n) t (holding_in (core_of x) s (joined_since x)) e due leads added load_within possible holds load_keeps load_yet going noted
+
+    pub load_ends : (note : Noted) → places_written (note ∷ []) ≡ [] → IsLegal o log (port_of x) (seen_by 0 x.notes) note → seen_after (seen_by 0 x.notes) note.note ≤ length log → is_at_rest t.stage ≡ true → AreNotesOf (gone x log (get_or words n 0) (note ∷ [])) (reply_of t) (note ∷ []) → LeadsAt z o words before x after log (core_of x) s (Load n)
+    load_ends note written legal shown rest noted = ends s (Load n) t (holding_in (core_of x) s (joined_since x)) e due leads added load_within possible holds load_keeps load_yet note written legal shown rest noted
+
+-- a machine that may begin is begun or idle
+no_begin : (s : CoreState) (t : Stage) → MayBeginAt s t → is_begun t ≡ false → is_at_rest t ≡ false → ⊥
+no_begin s Idle w begun rest = cc
+no_begin s (ReadBegun j) w begun rest = cc
+no_begin s (UpdateBegun c) w begun rest = cc
+no_begin s ScanBegun w begun rest = cc
+no_begin s _ w begun rest = w
+
+-- what a port in the middle of a call knows
+pub record IsGoing (z : Layout) (o : Opening) (words : List ℕ) (hs : List Holding) (log : List Applied) (x : Part) (s : Stage) : Type 0 where
+  pub high : ℕ
+  pub order : first_at x.kept ≤ high
+  pub inside : high ≤ length log
+  pub behind : x.since ≤ first_at x.kept
+  pub low : seen_by 0 x.notes ≤ first_at x.kept
+  pub more : (k : Kept) → first_at (x.kept ++ k ∷ []) ≡ first_at x.kept
+  pub knows : knows_at z o words hs log x.begun (first_at x.kept) (joined_since x) high (core_of x) s
+
+going_from : (z : Layout) (o : Opening) (words : List ℕ) (hs : List Holding) (log : List Applied) (x : Part) (ks : List Kept) (s : Stage) → x.kept ≡ ks → LawfulWords z o words hs log → IsKnown z o words hs log x → (core_of x).stage ≡ s → is_begun s ≡ false → is_at_rest s ≡ false → IsGoing z o words hs log x s
+going_from z o words hs log x [] s is w k e begun rest =
+    let same : core_of x ≡ x.begun = ap (led_by x.begun) is in
+    absurd (no_begin x.begun x.begun.stage k.begun (ap (λ (c : CoreState). is_begun c.stage) (sym same) ∙ ap is_begun e ∙ begun) (ap (λ (c : CoreState). is_at_rest c.stage) (sym same) ∙ ap is_at_rest e ∙ rest))
+going_from z o words hs log x (f ∷ ks) s is w k e begun rest =
+    let kept : AreKept z o words hs log x.since x.begun (f ∷ ks) = subst (AreKept z o words hs log x.since x.begun) is k.kept in
+    let first : first_at x.kept ≡ f.at = ap first_at is in
+    let gone_on = called_on z o words hs log w x.begun x.since f ks k.sizes k.sound k.begun kept in
+    let order = gone_on.order in
+    let behind = kept.0.behind in
+    let earlier = k.earlier (ap is_at_rest e ∙ rest) in
+    let knows : Knows z o words hs log x.begun f.at (joined_from 0 x.begun (f ∷ ks)) (last_at x.since (f ∷ ks)) (led_by x.begun (f ∷ ks)) = gone_on.knows in
+    let knows_x : Knows z o words hs log x.begun f.at (joined_since x) (last_at x.since (f ∷ ks)) (core_of x) = subst (λ (l : List Kept). Knows z o words hs log x.begun f.at (joined_from 0 x.begun l) (last_at x.since (f ∷ ks)) (led_by x.begun l)) (sym is) knows in
+    record {
+      high = last_at x.since (f ∷ ks);
+      order = omega (arith, first, order);
+      inside = gone_on.inside;
+      behind = omega (arith, first, behind);
+      low = omega (arith, first, behind, earlier);
+      more = λ n. ap (λ (l : List Kept). first_at (l ++ n ∷ [])) is ∙ sym first;
+      knows = subst (λ (n : ℕ). knows_at z o words hs log x.begun n (joined_since x) (last_at x.since (f ∷ ks)) (core_of x) s) (sym first) (subst (λ (t : Stage). knows_at z o words hs log x.begun f.at (joined_since x) (last_at x.since (f ∷ ks)) (core_of x) t) e knows_x);
+    }
+
+module _ (z : Layout) (o : Opening) (words : List ℕ) (before : List Part) (x : Part) (after : List Part) (log : List Applied) (w : Lawful z o words (before ++ x ∷ after) log) where
+  pub going : (s : Stage) → (core_of x).stage ≡ s → is_begun s ≡ false → is_at_rest s ≡ false → IsGoing z o words (holdings (before ++ x ∷ after)) log x s
+  going s e begun rest = going_from z o words (holdings (before ++ x ∷ after)) log x x.kept s refl w.memory (known_here z o words before x after log w) e begun rest
