@@ -33,12 +33,12 @@ wider : (log : List Applied) (low a b c : ℕ) → a ≤ b → HasEntry log low 
 wider log low a b c le h = let below = h.5 in (h.0, h.1, h.2, h.3, h.4, omega (arith, below, le))
 
 -- the element at a place
-there : {A : Type 0} (xs : List A) (i : ℕ) → i < length xs → (x : A) × (slice_get xs i ≡ Some x)
+pub there : {A : Type 0} (xs : List A) (i : ℕ) → i < length xs → (x : A) × (slice_get xs i ≡ Some x)
 there [] i lt = absurd (omega (arith, lt))
 there (x ∷ xs) zero lt = (x, refl)
 there (x ∷ xs) (suc i) lt = there xs i (omega (arith, lt))
 
-got : {A : Type 0} (xs : List A) (i : ℕ) (x d : A) → slice_get xs i ≡ Some x → get_or xs i d ≡ x
+pub got : {A : Type 0} (xs : List A) (i : ℕ) (x d : A) → slice_get xs i ≡ Some x → get_or xs i d ≡ x
 got [] i x d e = let bad : None ≡ Some x = e in absurd cc
 got (y ∷ xs) zero x d e = let is : y ≡ x = cc in is
 got (y ∷ xs) (suc i) x d e = got xs i x d e

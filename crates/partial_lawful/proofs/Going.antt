@@ -17,6 +17,7 @@ use Rattle.partial_active.specs.GetSetAnswers as finding_answers
 use Rattle.partial_active.specs.declared.get_set.Stage.{Stage as SetStage}
 use Rattle.partial_active.specs.declared.get_set.Stage.TheVariants.{Head, ListLen, ListLow, ListHigh, Counter, Slot, Len as NamedLen, Index as NamedIndex, Claim, Write, Publish, Done as SetDone}
 use Rattle.partial_embedded.specs.Embedded as viewing
+use Rattle.partial_embedded.proofs.Keeps as viewed
 use Rattle.partial_embedded.specs.declared.embedded.Stage.{Stage as ViewStage}
 use Rattle.partial_embedded.specs.declared.embedded.Stage.TheVariants.{Collect, View, Len, Index, PairValue, Value, Done}
 use Rattle.partial_machine.specs.declared.stage.Change.{Change}
@@ -68,7 +69,7 @@ module _ (z : Layout) (o : Opening) (words : List ℕ) (hs : List Holding) (log 
   knows_at since high s (StoringAnnouncement at k) = KnowsScan begun s
   knows_at since high s Joining = KnowsScan begun s
   knows_at since high s Scanning = KnowsScan begun s × (first ≤ since) × (since ≤ high) × (s.embedded.shares ≡ false) × scans.Knows z o words hs log s.asked since high (scanning s)
-  knows_at since high s Leaving = KnowsScan begun s × (first ≤ since) × (since ≤ length log) × (s.embedded.shares ≡ false) × is_finished z o words hs log s.asked since (scanning s)
+  knows_at since high s Leaving = KnowsScan begun s × (first ≤ since) × (since ≤ length log) × (s.embedded.shares ≡ false) × (s.embedded.collects ≤ length s.asked + 2) × is_finished z o words hs log s.asked since (scanning s)
   knows_at since high s (Finished r) = Unit {0}
 
   abbrev pub Knows : ℕ → ℕ → CoreState → Type 0
@@ -90,7 +91,7 @@ set_finished z y words hs low head (Publish at) p e knows = absurd cc
 set_finished z y words hs low head SetDone p e knows = knows.1
 
 -- an embedded scan without a due step is finished
-view_finished : (z : Layout) (o : Opening) (words : List ℕ) (hs : List Holding) (log : List Applied) (indices : List ℕ) (low high : ℕ) (last : List ℕ) (y : Layout) (stage : ViewStage) (p : viewing.Pair) → high ≤ length log → viewing.step_at y indices last stage ≡ None → scans.knows_at z o words hs log indices low high stage p → is_finished z o words hs log indices low p
+pub view_finished : (z : Layout) (o : Opening) (words : List ℕ) (hs : List Holding) (log : List Applied) (indices : List ℕ) (low high : ℕ) (last : List ℕ) (y : Layout) (stage : ViewStage) (p : viewing.Pair) → high ≤ length log → viewing.step_at y indices last stage ≡ None → scans.knows_at z o words hs log indices low high stage p → is_finished z o words hs log indices low p
 view_finished z o words hs log indices low high last y (Collect k) p inside e knows = absurd cc
 view_finished z o words hs log indices low high last y (View stamp) p inside e knows = absurd cc
 view_finished z o words hs log indices low high last y (Len at) p inside e knows = absurd cc
@@ -100,7 +101,7 @@ view_finished z o words hs log indices low high last y (Value k) p inside e know
 view_finished z o words hs log indices low high last y Done p inside e knows = (λ none. let h = knows.0 none in (h.0, h.1, record { from = h.2.from; to = let to = h.2.to in omega (arith, to, inside); values = h.2.values }), knows.1, knows.2)
 
 -- each step of an embedded scan is a load
-view_loads : (y : Layout) (indices last : List ℕ) (stage : ViewStage) → IsSome (viewing.step_at y indices last stage) → (n : ℕ) × (viewing.step_at y indices last stage ≡ Some (Load n))
+pub view_loads : (y : Layout) (indices last : List ℕ) (stage : ViewStage) → IsSome (viewing.step_at y indices last stage) → (n : ℕ) × (viewing.step_at y indices last stage ≡ Some (Load n))
 view_loads y indices last (Collect k) due = (slice_index indices k, refl)
 view_loads y indices last (View stamp) due = (stamp + 2, refl)
 view_loads y indices last (Len at) due = (at, refl)
@@ -124,7 +125,7 @@ scan_begins z y shares o words hs log indices low high rows order = record {
 }
 
 -- whether a borrowed view is shared stays what it was
-view_shares : (indices : List ℕ) (p : viewing.Pair) (stage : ViewStage) (x : ℕ) → (viewing.advance_at indices p stage x).0.shares ≡ p.0.shares
+pub view_shares : (indices : List ℕ) (p : viewing.Pair) (stage : ViewStage) (x : ℕ) → (viewing.advance_at indices p stage x).0.shares ≡ p.0.shares
 view_shares indices p (Collect k) x = cond_both (viewing.differs p k x && viewing.was_changed p k) (viewing.borrow p x) (viewing.go_on (length indices) (viewing.noted p k x) k) (λ (q : viewing.Pair). q.0.shares ≡ p.0.shares) (λ e. refl)
     (λ e. cond_both (nat_lt (k + 1) (length indices)) (viewing.at_stage (viewing.noted p k x) (Collect (k + 1))) (viewing.after_collect (viewing.noted p k x)) (λ (q : viewing.Pair). q.0.shares ≡ p.0.shares) (λ f. refl)
     (λ f. cond_both (viewing.is_first p || (p.0.moved || viewing.differs p k x)) (record (viewing.noted p k x).0 { collects = p.0.collects + 1; moved = false; stage = Collect 0 }, (viewing.noted p k x).1) (viewing.at_stage (viewing.noted p k x) (Value 0)) (λ (q : viewing.Pair). q.0.shares ≡ p.0.shares) (λ g. refl) (λ g. refl)))
@@ -136,10 +137,10 @@ view_shares indices p (Value k) x = refl
 view_shares indices p Done x = refl
 
 -- what a getSet knows leads on, of sizes that are known
-set_leads : (z : Layout) (o : Opening) (words : List ℕ) (hs : List Holding) (log : List Applied) (low : ℕ) (p : finding.Pair) → p.0.sizes ≡ z → LawfulWords z o words hs log → finding_answers.GoTogether p → sets.Knows z words hs low p → sets.KnowsOn z o words hs log low p
+pub set_leads : (z : Layout) (o : Opening) (words : List ℕ) (hs : List Holding) (log : List Applied) (low : ℕ) (p : finding.Pair) → p.0.sizes ≡ z → LawfulWords z o words hs log → finding_answers.GoTogether p → sets.Knows z words hs low p → sets.KnowsOn z o words hs log low p
 set_leads z o words hs log low p e w together knows = subst (λ (y : Layout). LawfulWords y o words hs log → sets.Knows y words hs low p → sets.KnowsOn y o words hs log low p) e (λ v k. getsets_know o words hs log low p v together k) w knows
 
-view_leads : (z : Layout) (o : Opening) (words : List ℕ) (hs : List Holding) (log : List Applied) (indices : List ℕ) (low high : ℕ) (p : viewing.Pair) → p.0.sizes ≡ z → LawfulWords z o words hs log → viewing.GoTogether indices p → low ≤ high → high ≤ length log → scans.Knows z o words hs log indices low high p → scans.KnowsOn z o words hs log indices low high p
+pub view_leads : (z : Layout) (o : Opening) (words : List ℕ) (hs : List Holding) (log : List Applied) (indices : List ℕ) (low high : ℕ) (p : viewing.Pair) → p.0.sizes ≡ z → LawfulWords z o words hs log → viewing.GoTogether indices p → low ≤ high → high ≤ length log → scans.Knows z o words hs log indices low high p → scans.KnowsOn z o words hs log indices low high p
 view_leads z o words hs log indices low high p e w together order inside knows = subst (λ (y : Layout). LawfulWords y o words hs log → scans.Knows y o words hs log indices low high p → scans.KnowsOn y o words hs log indices low high p) e (λ v k. embedded_scans_know o words hs log indices low high p v together order inside k) w knows
 
 -- what is kept of a getSet's answer
@@ -208,21 +209,22 @@ module _ (z : Layout) (o : Opening) (words : List ℕ) (hs : List Holding) (log 
       let h = here (Viewing c old) e in
       view_then (with_scanning s (viewing.advance s.found.indices (scanning s) k.answer)) c old e knows.0 knows.1 (view_on s.found.indices first h.2 h.1 h.3 order knows.2 yet)
 
-  scan_then : (t : CoreState) → t.stage ≡ Scanning → KnowsScan begun t → first ≤ since → since ≤ k.at → t.embedded.shares ≡ false → scans.Knows z o words hs log t.asked since k.at (scanning t) → Then since (after_scanning t t.asked Leaving)
-  scan_then t e knows from to shares known = by_step (viewing.step_of t.asked (scanning t)) refl
+  scan_then : (t : CoreState) → t.stage ≡ Scanning → KnowsScan begun t → first ≤ since → since ≤ k.at → t.embedded.shares ≡ false → t.embedded.collects ≤ length t.asked + 2 → scans.Knows z o words hs log t.asked since k.at (scanning t) → Then since (after_scanning t t.asked Leaving)
+  scan_then t e knows from to shares few known = by_step (viewing.step_of t.asked (scanning t)) refl
     where
       Case : Option Step → Type 0
       Case f = Knows z o words hs log begun first since k.at (option_map_or (λ _. t) f (at_stage t Leaving))
 
       by_step : (f : Option Step) → viewing.step_of t.asked (scanning t) ≡ f → Case (viewing.step_of t.asked (scanning t))
       by_step (Some step) is = subst Case (sym is) (subst (λ (u : Stage). knows_at z o words hs log begun first since k.at t u) (sym e) (knows, from, to, shares, known))
-      by_step None is = subst Case (sym is) (record { called = knows.called; asked = knows.asked }, from, omega (arith, to, within), shares, view_finished z o words hs log t.asked since k.at t.rows.last t.embedded.sizes t.embedded.stage (scanning t) within is known)
+      by_step None is = subst Case (sym is) (record { called = knows.called; asked = knows.asked }, from, omega (arith, to, within), shares, few, view_finished z o words hs log t.asked since k.at t.rows.last t.embedded.sizes t.embedded.stage (scanning t) within is known)
 
-  scanning_on : s.stage ≡ Scanning → knows_at z o words hs log begun first since high s Scanning → IsTrueYet z o words hs log (viewing.step_of s.asked (scanning s)) k → Then since (advance_at s Scanning k.answer)
-  scanning_on e knows yet =
+  scanning_on : s.stage ≡ Scanning → knows_at z o words hs log begun first since high s Scanning → viewing.IsPossible (scanning s) k.answer → IsTrueYet z o words hs log (viewing.step_of s.asked (scanning s)) k → Then since (advance_at s Scanning k.answer)
+  scanning_on e knows possible yet =
       let h = here Scanning e in
+      let kept = viewed.kept s.asked (scanning s) k.answer h.0 possible in
       let to = knows.2 in
-      scan_then (with_scanning s (viewing.advance s.asked (scanning s) k.answer)) e (record { called = knows.0.called; asked = knows.0.asked }) knows.1 (omega (arith, to, after)) (view_shares s.asked (scanning s) s.embedded.stage k.answer ∙ knows.3) (view_on s.asked since h.1 h.0 h.2 to knows.4 yet)
+      scan_then (with_scanning s (viewing.advance s.asked (scanning s) k.answer)) e (record { called = knows.0.called; asked = knows.0.asked }) knows.1 (omega (arith, to, after)) (view_shares s.asked (scanning s) s.embedded.stage k.answer ∙ knows.3) kept.together.collects (view_on s.asked since h.1 h.0 h.2 to knows.4 yet)
 
   -- a join that has stored its announcement begins the embedded scan
   join_then : (t : CoreState) (j : JoinStage) (n : ℕ) → t.stage ≡ Joining → KnowsScan begun t → first ≤ n → n ≤ k.at → Then n (after_joining t j)
@@ -263,6 +265,6 @@ module _ (z : Layout) (o : Opening) (words : List ℕ) (hs : List Holding) (log 
   on_at ScanBegun e knows possible yet = absurd knows
   on_at (StoringAnnouncement at n) e knows possible yet = cond_both (n == length s.asked) (begin_joining s at) (at_stage s (StoringAnnouncement at (n + 1))) (λ (t : CoreState). Knows z o words hs log begun first since k.at t) (λ last. record { called = knows.called; asked = knows.asked }) (λ more. record { called = knows.called; asked = knows.asked })
   on_at Joining e knows possible yet = joining_on s.join.stage refl e knows
-  on_at Scanning e knows possible yet = scanning_on e knows yet
+  on_at Scanning e knows possible yet = scanning_on e knows possible yet
   on_at Leaving e knows possible yet = tt
   on_at (Finished r) e knows possible yet = absurd possible

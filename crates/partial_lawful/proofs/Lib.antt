@@ -2,3 +2,5 @@ pub mod Going
 pub mod Calls
 pub mod Parts
 pub mod Steps
+pub mod Reading
+pub mod Leaves

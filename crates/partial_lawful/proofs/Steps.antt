@@ -207,3 +207,33 @@ going_from z o words hs log x (f ∷ ks) s is w k e begun rest =
 module _ (z : Layout) (o : Opening) (words : List ℕ) (before : List Part) (x : Part) (after : List Part) (log : List Applied) (w : Lawful z o words (before ++ x ∷ after) log) where
   pub going : (s : Stage) → (core_of x).stage ≡ s → is_begun s ≡ false → is_at_rest s ≡ false → IsGoing z o words (holdings (before ++ x ∷ after)) log x s
   going s e begun rest = going_from z o words (holdings (before ++ x ∷ after)) log x x.kept s refl w.memory (known_here z o words before x after log w) e begun rest
+
+-- a machine behind its first answer isn't begun
+not_begun : (z : Layout) (o : Opening) (words : List ℕ) (hs : List Holding) (log : List Applied) (begun : CoreState) (first since high : ℕ) (s : CoreState) (t : Stage) → knows_at z o words hs log begun first since high s t → is_begun t ≡ false
+not_begun z o words hs log begun first since high s Idle w = refl
+not_begun z o words hs log begun first since high s (ReadBegun j) w = absurd w
+not_begun z o words hs log begun first since high s (LoadingValue stamp) w = refl
+not_begun z o words hs log begun first since high s (UpdateBegun c) w = absurd w
+not_begun z o words hs log begun first since high s (GettingSet c old) w = refl
+not_begun z o words hs log begun first since high s (Viewing c old) w = refl
+not_begun z o words hs log begun first since high s (ClaimingRecord c old) w = refl
+not_begun z o words hs log begun first since high s (StoringRecord c old at k) w = refl
+not_begun z o words hs log begun first since high s (Exchanging c old at) w = refl
+not_begun z o words hs log begun first since high s ScanBegun w = absurd w
+not_begun z o words hs log begun first since high s (StoringAnnouncement at k) w = refl
+not_begun z o words hs log begun first since high s Joining w = refl
+not_begun z o words hs log begun first since high s Scanning w = refl
+not_begun z o words hs log begun first since high s Leaving w = refl
+not_begun z o words hs log begun first since high s (Finished r) w = refl
+
+starting_from : (z : Layout) (o : Opening) (words : List ℕ) (hs : List Holding) (log : List Applied) (x : Part) (ks : List Kept) → x.kept ≡ ks → LawfulWords z o words hs log → IsKnown z o words hs log x → is_begun (core_of x).stage ≡ true → x.kept ≡ []
+starting_from z o words hs log x [] is w k begun = is
+starting_from z o words hs log x (f ∷ ks) is w k begun =
+    let kept : AreKept z o words hs log x.since x.begun (f ∷ ks) = subst (AreKept z o words hs log x.since x.begun) is k.kept in
+    let gone_on = called_on z o words hs log w x.begun x.since f ks k.sizes k.sound k.begun kept in
+    let no : is_begun (led_by x.begun (f ∷ ks)).stage ≡ false = not_begun z o words hs log x.begun f.at (joined_from 0 x.begun (f ∷ ks)) (last_at x.since (f ∷ ks)) (led_by x.begun (f ∷ ks)) (led_by x.begun (f ∷ ks)).stage gone_on.knows in
+    absurd (false≢true (sym no ∙ ap (λ (l : List Kept). is_begun (led_by x.begun l).stage) (sym is) ∙ begun))
+
+-- a port whose call has made no step keeps no answer
+pub starting : (z : Layout) (o : Opening) (words : List ℕ) (hs : List Holding) (log : List Applied) (x : Part) → LawfulWords z o words hs log → IsKnown z o words hs log x → is_begun (core_of x).stage ≡ true → x.kept ≡ []
+starting z o words hs log x w k begun = starting_from z o words hs log x x.kept refl w k begun
