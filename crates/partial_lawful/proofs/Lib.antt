@@ -4,3 +4,4 @@ pub mod Parts
 pub mod Steps
 pub mod Reading
 pub mod Leaves
+pub mod Joins
