@@ -5,3 +5,4 @@ pub mod Steps
 pub mod Reading
 pub mod Leaves
 pub mod Joins
+pub mod Exchange

@@ -85,7 +85,7 @@ module _ (z : Layout) (o : Opening) (words : List ℕ) (before : List Part) (x :
   memory_at s e = subst (λ (t : Stage). LawfulWords z o words (holdings before ++ holding_in (core_of x) t (joined_since x) ∷ holdings after) log) e memory_here
 
   -- what the part holds behind one answer more
-  holding_gone : (s : Stage) (t : CoreState) (l : List Applied) (a : ℕ) (new : List Noted) → (core_of x).stage ≡ s → advance_at (core_of x) s a ≡ t → holding_of (gone x l a new) ≡ holding_at t (cond (joins_at (core_of x) s) (length l) (joined_since x))
+  pub holding_gone : (s : Stage) (t : CoreState) (l : List Applied) (a : ℕ) (new : List Noted) → (core_of x).stage ≡ s → advance_at (core_of x) s a ≡ t → holding_of (gone x l a new) ≡ holding_at t (cond (joins_at (core_of x) s) (length l) (joined_since x))
   holding_gone s t l a new e leads =
       let core = gone_core x l a new ∙ ap (λ (u : Stage). advance_at (core_of x) u a) e ∙ leads in
       let since = joined_push 0 x.begun x.kept (record { answer = a; at = length l }) ∙ ap (λ (u : Stage). cond (joins_at (core_of x) u) (length l) (joined_since x)) e in
