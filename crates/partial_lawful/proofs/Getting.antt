@@ -8,6 +8,7 @@ use Rattle.partial_intervals.specs.Intervals.{Ranges, highest}
 use Rattle.partial_words.specs.declared.step.Step.{Step}
 use Rattle.partial_words.specs.declared.step.Step.TheVariants.{Load, Store, Exchange, Add}
 use Rattle.partial_words.specs.Layout.{Layout, list_counter, list_end, list_head, list_base}
+use Rattle.partial_words.specs.Step.{answer_of, words_after, word_of}
 use Rattle.partial_words.specs.VacatedList.{list_block}
 use Rattle.partial_words.proofs.RecordLemmas.{length-pairs}
 use Rattle.partial_active.specs.GetSet as finding
@@ -24,13 +25,14 @@ use Rattle.partial_machine.specs.declared.stage.Stage.{Stage}
 use Rattle.partial_machine.specs.declared.stage.Stage.TheVariants.{GettingSet, Viewing, ClaimingRecord}
 use Rattle.partial_machine.specs.Machine.{CoreState, getting, with_getting, after_getting, advance_at, step_at, reply_of, reply_at, is_sound_at}
 use Rattle.partial_state.specs.Holdings.{Own, Holding}
+use Rattle.partial_state.specs.Effects.{IsKept}
 use Rattle.partial_state.proofs.LoadLaw.{loads_are_true}
 use Rattle.partial_state.specs.LawfulWords.{LawfulWords}
 use Rattle.partial_knowledge.specs.Sets as sets
 use Rattle.partial_knowledge.proofs.Sets.{getsets_know}
-use Rattle.partial_lawful.specs.Lawful.{Part, Lawful, core_of, holdings, holding_of, joined_since, own_list, holding_at, first_at, AreNotesOf}
+use Rattle.partial_lawful.specs.Lawful.{Part, Lawful, core_of, holdings, holding_of, joined_since, own_list, holding_at, first_at, AreNotesOf, IsTrueYet}
 use Rattle.partial_lawful.proofs.Parts.{gone}
-use Rattle.partial_lawful.proofs.Steps.{LeadsAt, holding_in, sizes_here, sound_at, going, load_quiet}
+use Rattle.partial_lawful.proofs.Steps.{LeadsAt, holding_in, sizes_here, sound_at, memory_at, going, quiet, load_quiet}
 
 -- what a port holds in a getSet
 abbrev in_set : CoreState → Option Own → Bool → Holding
@@ -166,3 +168,40 @@ module _ (z : Layout) (o : Opening) (words : List ℕ) (before : List Part) (x :
       load_quiet z o words before x after log w (GettingSet c old) n (advance_at (core_of x) (GettingSet c old) (get_or words n 0)) e due refl refl readable possible
       (holds_then (get_or words n 0) (own_list s.found.next s.get_set.stage) s.get_set.lists_spent (calm.1.0 ∙ sym calm.0) calm.1.1)
       refl (silent (get_or words n 0))
+
+  -- what is known and what goes together at a stage of the getSet
+  known_at : (stage : SetStage) → (core_of x).get_set.stage ≡ stage → sets.knows_at z words (holdings (before ++ x ∷ after)) (first_at x.kept) stage (getting (core_of x))
+  known_at stage is = subst (λ (t : SetStage). sets.knows_at z words (holdings (before ++ x ∷ after)) (first_at x.kept) t (getting (core_of x))) is knows
+
+  goes_at : (stage : SetStage) → (core_of x).get_set.stage ≡ stage → finding_answers.goes_at stage (getting (core_of x))
+  goes_at stage is = let h = gets in let together = h.1.stage in subst (λ (t : SetStage). finding_answers.goes_at t (getting (core_of x))) is together
+
+  -- the step that is due at a stage of the getSet
+  due_at : (stage : SetStage) (step : Step) → (core_of x).get_set.stage ≡ stage → finding.step_at z (core_of x).get_set.head stage ≡ Some step → step_at (core_of x) (GettingSet c old) ≡ Some step
+  due_at stage step is due = ap (λ (y : Layout). finding.step_at y (core_of x).get_set.head (core_of x).get_set.stage) same_sizes ∙ ap (finding.step_at z (core_of x).get_set.head) is ∙ due
+
+  -- the words with what the port holds, as it is named
+  memory_in : (own : Option Own) (spent : Bool) → own_list (core_of x).found.next (core_of x).get_set.stage ≡ own → (core_of x).get_set.lists_spent ≡ spent → LawfulWords z o words (holdings before ++ in_set (core_of x) own spent ∷ holdings after) log
+  memory_in own spent owns marks =
+      subst (λ (b : Bool). LawfulWords z o words (holdings before ++ in_set (core_of x) own b ∷ holdings after) log) marks
+      (subst (λ (f : Option Own). LawfulWords z o words (holdings before ++ in_set (core_of x) f (core_of x).get_set.lists_spent ∷ holdings after) log) owns (memory_at z o words before x after log w (GettingSet c old) e))
+
+  -- a step that isn't a load, from what it does to the words and to what the port holds
+  made : (stage : SetStage) (step : Step) (own own' : Option Own) (spent spent' : Bool) → (core_of x).get_set.stage ≡ stage → finding.step_at z (core_of x).get_set.head stage ≡ Some step → word_of step < length words →
+      own_list (core_of x).found.next stage ≡ own → (core_of x).get_set.lists_spent ≡ spent →
+      finding_answers.is_possible_at stage (getting (core_of x)) (answer_of words step) →
+      own_list (finding.advance_at stage (getting (core_of x)) (answer_of words step)).1.next (finding.advance_at stage (getting (core_of x)) (answer_of words step)).0.stage ≡ own' → (finding.advance_at stage (getting (core_of x)) (answer_of words step)).0.lists_spent ≡ spent' →
+      (LawfulWords z o words (holdings before ++ in_set (core_of x) own spent ∷ holdings after) log → IsKept z o words (holdings before) (in_set (core_of x) own spent) (holdings after) log (words_after words step) (in_set (core_of x) own' spent') log) →
+      ((hs : List Holding) → IsTrueYet z o (words_after words step) hs log (Some step) (record { answer = answer_of words step; at = length log })) →
+      LeadsAt z o words before x after log (core_of x) (GettingSet c old) step
+  made stage step own own' spent spent' is due within owns marks possible owns' marks' kept yet =
+      let a : ℕ = answer_of words step in
+      let now : own_list (core_of x).found.next (core_of x).get_set.stage ≡ own = ap (own_list (core_of x).found.next) is ∙ owns in
+      let keeps : IsKept z o words (holdings before) (in_set (core_of x) own spent) (holdings after) log (words_after words step) (in_set (core_of x) own' spent') log = kept (memory_in own spent now marks) in
+      let keeps_marked = subst (λ (b : Bool). IsKept z o words (holdings before) (in_set (core_of x) own b) (holdings after) log (words_after words step) (in_set (core_of x) own' spent') log) (sym marks) keeps in
+      let keeps_owned = subst (λ (f : Option Own). IsKept z o words (holdings before) (in_set (core_of x) f (core_of x).get_set.lists_spent) (holdings after) log (words_after words step) (in_set (core_of x) own' spent') log) (sym now) keeps_marked in
+      let keeps_here : IsKept z o words (holdings before) (holding_of x) (holdings after) log (words_after words step) (in_set (core_of x) own' spent') log = subst (λ (v : Stage). IsKept z o words (holdings before) (holding_in (core_of x) v (joined_since x)) (holdings after) log (words_after words step) (in_set (core_of x) own' spent') log) (sym e) keeps_owned in
+      quiet z o words before x after log w (GettingSet c old) step (advance_at (core_of x) (GettingSet c old) (answer_of words step)) (in_set (core_of x) own' spent') e (due_at stage step is due) refl refl within
+      (subst (λ (t : SetStage). finding_answers.is_possible_at t (getting (core_of x)) (answer_of words step)) (sym is) possible)
+      (holds_then a own' spent' (ap (λ (t : SetStage). own_list (finding.advance_at t (getting (core_of x)) a).1.next (finding.advance_at t (getting (core_of x)) a).0.stage) is ∙ owns') (ap (λ (t : SetStage). (finding.advance_at t (getting (core_of x)) a).0.lists_spent) is ∙ marks'))
+      keeps_here (λ hs same. yet hs) refl (silent a)
