@@ -25,7 +25,11 @@ use Rattle.partial_machine.specs.declared.stage.Stage.{Stage}
 use Rattle.partial_machine.specs.declared.stage.Stage.TheVariants.{GettingSet, Viewing, ClaimingRecord}
 use Rattle.partial_machine.specs.Machine.{CoreState, getting, with_getting, after_getting, advance_at, step_at, reply_of, reply_at, is_sound_at}
 use Rattle.partial_state.specs.Holdings.{Own, Holding}
+use Rattle.partial_state.specs.Holdings.Space.{Lists}
 use Rattle.partial_state.specs.Effects.{IsKept}
+use Rattle.partial_state.proofs.Quiet.{lists_bound}
+use Rattle.partial_state.proofs.MarkLaws.{list_refusals_are_kept}
+use Rattle.partial_state.proofs.BlockLaws.{claims_are_kept, stores_are_kept, publishings_are_kept}
 use Rattle.partial_state.proofs.LoadLaw.{loads_are_true}
 use Rattle.partial_state.specs.LawfulWords.{LawfulWords}
 use Rattle.partial_knowledge.specs.Sets as sets
@@ -205,3 +209,118 @@ module _ (z : Layout) (o : Opening) (words : List ℕ) (before : List Part) (x :
       (subst (λ (t : SetStage). finding_answers.is_possible_at t (getting (core_of x)) (answer_of words step)) (sym is) possible)
       (holds_then a own' spent' (ap (λ (t : SetStage). own_list (finding.advance_at t (getting (core_of x)) a).1.next (finding.advance_at t (getting (core_of x)) a).0.stage) is ∙ owns') (ap (λ (t : SetStage). (finding.advance_at t (getting (core_of x)) a).0.lists_spent) is ∙ marks'))
       keeps_here (λ hs same. yet hs) refl (silent a)
+
+  -- how many words the next list has
+  block_length : (next : Ranges) → length (list_block next) ≡ 1 + 2 * length next
+  block_length next = let pairs = length-pairs next in omega (arith, pairs)
+
+  -- the list that the getSet writes, with so many of its words stored
+  abbrev listed : ℕ → ℕ → Option Own
+  listed at stored = Some (record { space = Lists; at = at; words = list_block (core_of x).found.next; stored = stored })
+
+  -- the claim of the words of a list, within the list words or past their end
+  claim_leads : (count : ℕ) → (core_of x).get_set.stage ≡ Claim count → LeadsAt z o words before x after log (core_of x) (GettingSet c old) (Add (list_counter z) count)
+  claim_leads count is = by_room (ltb (list_end s.get_set.sizes) (n + count)) refl
+    where
+      s : CoreState
+      s = core_of x
+
+      n : ℕ
+      n = get_or words (list_counter z) 0
+
+      has : finding_answers.HasNext (getting s) count
+      has = goes_at (Claim count) is
+
+      unmarked : s.get_set.lists_spent ≡ false
+      unmarked = let k = known_at (Claim count) is in k.1
+
+      end_is : list_end s.get_set.sizes ≡ list_end z
+      end_is = ap list_end same_sizes
+
+      within : word_of (Add (list_counter z) count) < length words
+      within = let long = w.memory.count in let some = w.memory.sizes.slots.0 in omega (arith, long, some)
+
+      possible : finding_answers.IsListClaim s.get_set.sizes n
+      possible = subst (λ (y : Layout). finding_answers.IsListClaim y n) (sym same_sizes) (w.memory.lists_low, lists_bound z o words (holdings (before ++ x ∷ after)) log w.memory)
+
+      length_is : length (list_block s.found.next) ≡ count
+      length_is = let long = block_length s.found.next in let counts = has.count in omega (arith, long, counts)
+
+      few : count ≤ z.slots + 2
+      few =
+          let counts = has.count in
+          let most = length_normal s.found.next s.get_set.sizes.slots has.next has.within in
+          let slots : s.get_set.sizes.slots ≡ z.slots = ap (λ (y : Layout). y.slots) same_sizes in
+          omega (arith, counts, most, slots)
+
+      by_room : (b : Bool) → ltb (list_end s.get_set.sizes) (n + count) ≡ b → LeadsAt z o words before x after log s (GettingSet c old) (Add (list_counter z) count)
+      by_room true past =
+          let beyond = ltb-true (list_end s.get_set.sizes) (n + count) past in
+          let p : finding.Pair = getting s in
+          let spent : Bool → finding.Pair = λ b. cond b (record p.0 { lists_spent = true; stage = Done }, p.1) (finding.in_stage p (Write n 0 count (length p.1.next))) in
+          made (Claim count) (Add (list_counter z) count) None None false true is refl within refl unmarked possible
+          (ap (λ (b : Bool). own_list (spent b).1.next (spent b).0.stage) past) (ap (λ (b : Bool). (spent b).0.lists_spent) past)
+          (λ m. list_refusals_are_kept z o words (holdings before) (in_set s None false) (holdings after) log count m refl few (omega (arith, beyond, end_is)))
+          (λ hs. tt)
+      by_room false fits =
+          let room = ltb-false (list_end s.get_set.sizes) (n + count) fits in
+          let p : finding.Pair = getting s in
+          let claimed : Bool → finding.Pair = λ b. cond b (record p.0 { lists_spent = true; stage = Done }, p.1) (finding.in_stage p (Write n 0 count (length p.1.next))) in
+          made (Claim count) (Add (list_counter z) count) None (listed n 0) false false is refl within refl unmarked possible
+          (ap (λ (b : Bool). own_list (claimed b).1.next (claimed b).0.stage) fits) (ap (λ (b : Bool). (claimed b).0.lists_spent) fits ∙ unmarked)
+          (λ m. subst (λ i. IsKept z o words (holdings before) (in_set s None false) (holdings after) log (words_after words (Add (list_counter z) i)) (in_set s (listed n 0) false) log) length_is
+          (claims_are_kept z o words (holdings before) (in_set s None false) (holdings after) log Lists (list_block s.found.next) m refl refl (omega (arith, room, end_is, length_is))))
+          (λ hs. tt)
+
+  -- the store of the next word of the list
+  write_leads : (at k count word : ℕ) → (core_of x).get_set.stage ≡ Write at k count word → LeadsAt z o words before x after log (core_of x) (GettingSet c old) (Store (at + k) word)
+  write_leads at k count word is =
+      let s : CoreState = core_of x in
+      let goes = goes_at (Write at k count word) is in
+      let less = goes.1 in
+      let room = goes.2 in
+      let counts = goes.0.count in
+      let long = w.memory.count in
+      let end_is : list_end s.get_set.sizes ≡ list_end z = ap list_end same_sizes in
+      let length_is : length (list_block s.found.next) ≡ count = (let blocks = block_length s.found.next in omega (arith, blocks, counts)) in
+      made (Write at k count word) (Store (at + k) word) (listed at k) (listed at (k + 1)) s.get_set.lists_spent s.get_set.lists_spent is refl (omega (arith, less, room, long, end_is)) refl refl tt
+      (cond_both (eqb (k + 1) count) (Publish at) (Write at (k + 1) count (get_or (list_block s.found.next) (k + 1) 0)) (λ (t : SetStage). own_list s.found.next t ≡ listed at (k + 1))
+          (λ last. let whole = eqb-true (k + 1) count last in ap (listed at) (omega (arith, whole, length_is)))
+          (λ more. refl))
+      refl
+      (λ m. subst (λ v. IsKept z o words (holdings before) (in_set s (listed at k) s.get_set.lists_spent) (holdings after) log (words_after words (Store (at + k) v)) (in_set s (listed at (k + 1)) s.get_set.lists_spent) log) (sym goes.3)
+      (stores_are_kept z o words (holdings before) (in_set s (listed at k) s.get_set.lists_spent) (holdings after) log (record { space = Lists; at = at; words = list_block s.found.next; stored = k }) m refl refl (omega (arith, less, length_is))))
+      (λ hs. tt)
+
+  -- the exchange of the list head
+  publish_leads : (at : ℕ) → (core_of x).get_set.stage ≡ Publish at → LeadsAt z o words before x after log (core_of x) (GettingSet c old) (Exchange (list_head z) (core_of x).get_set.head at)
+  publish_leads at is =
+      let s : CoreState = core_of x in
+      let goes = goes_at (Publish at) is in
+      let known = known_at (Publish at) is in
+      let long = w.memory.count in
+      let some = w.memory.sizes.slots.0 in
+      made (Publish at) (Exchange (list_head z) s.get_set.head at) (listed at (length (list_block s.found.next))) None s.get_set.lists_spent s.get_set.lists_spent is refl (omega (arith, long, some)) refl refl tt refl refl
+      (λ m. publishings_are_kept z o words (holdings before) (in_set s (listed at (length (list_block s.found.next))) s.get_set.lists_spent) (holdings after) log s.get_set.head at s.found.next m refl refl goes.0 known.0)
+      (λ hs. tt)
+
+  -- the step that is due at a stage of the getSet
+  stage_leads : (stage : SetStage) (step : Step) → (core_of x).get_set.stage ≡ stage → finding.step_at z (core_of x).get_set.head stage ≡ Some step → LeadsAt z o words before x after log (core_of x) (GettingSet c old) step
+  stage_leads stage step is due = by_step stage step is due (due_at stage step is due)
+    where
+      Led : Step → Type 0
+      Led t = LeadsAt z o words before x after log (core_of x) (GettingSet c old) t
+
+      by_step : (u : SetStage) (t : Step) → (core_of x).get_set.stage ≡ u → finding.step_at z (core_of x).get_set.head u ≡ Some t → step_at (core_of x) (GettingSet c old) ≡ Some t → Led t
+      by_step u (Load n) at due here = load_leads n here
+      by_step (Claim count) t at due here = let same : Add (list_counter z) count ≡ t = cc in subst Led same (claim_leads count at)
+      by_step (Write a k count word) t at due here = let same : Store (a + k) word ≡ t = cc in subst Led same (write_leads a k count word at)
+      by_step (Publish a) t at due here = let same : Exchange (list_head z) (core_of x).get_set.head a ≡ t = cc in subst Led same (publish_leads a at)
+      by_step Done t at due here = absurd cc
+      by_step u t at due here = absurd cc
+
+-- the due step of a getSet under way in an update
+pub getting_leads : (z : Layout) (o : Opening) (words : List ℕ) (before : List Part) (x : Part) (after : List Part) (log : List Applied) (w : Lawful z o words (before ++ x ∷ after) log) (c : Change) (old : ℕ) (step : Step) → (core_of x).stage ≡ GettingSet c old → step_at (core_of x) (GettingSet c old) ≡ Some step → LeadsAt z o words before x after log (core_of x) (GettingSet c old) step
+getting_leads z o words before x after log w c old step e due =
+    stage_leads z o words before x after log w c old e (core_of x).get_set.stage step refl
+    (ap (λ (y : Layout). finding.step_at y (core_of x).get_set.head (core_of x).get_set.stage) (sym (same_sizes z o words before x after log w c old e)) ∙ due)
