@@ -1,13 +1,13 @@
 -- The steps of a getSet under way in an update.
-use Rattle.std.proofs.Common.{ℕ, ◌≡◌, ◌+◌, ◌-◌, ◌*◌, ◌<◌, ◌≤◌, ◌==◌, ◌⊎◌, ◌&&◌, ◌++◌, not, eqb, ltb, Bool, true, false, cond, Option, Some, None, IsSome, List, [], ◌∷◌, length, get_or, inl, inr, refl, sym, ap, subst, ◌∙◌, arith, min}
-use Rattle.std.proofs.lemmas.Bool.{cond_both, ltb-true, ltb-false, eqb-true, eqb-false, cases_lt}
+use Rattle.std.proofs.Common.{ℕ, ◌≡◌, ◌+◌, ◌-◌, ◌*◌, ◌<◌, ◌≤◌, ◌==◌, ◌⊎◌, ◌&&◌, ◌++◌, not, eqb, ltb, Bool, true, false, cond, Option, Some, None, List, [], ◌∷◌, length, get_or, inl, inr, refl, sym, ap, subst, ◌∙◌, arith, min}
+use Rattle.std.proofs.lemmas.Bool.{cond_both, ltb-true, ltb-false, eqb-true}
 use Rattle.std.specs.Option.{option_map_or}
 use Rattle.partial_model.specs.declared.history.Applied.{Applied}
 use Rattle.partial_model.specs.declared.history.Opening.{Opening}
 use Rattle.partial_intervals.specs.Intervals.{Ranges, highest}
 use Rattle.partial_words.specs.declared.step.Step.{Step}
 use Rattle.partial_words.specs.declared.step.Step.TheVariants.{Load, Store, Exchange, Add}
-use Rattle.partial_words.specs.Layout.{Layout, list_counter, list_end, list_head, list_base}
+use Rattle.partial_words.specs.Layout.{Layout, list_counter, list_end, list_head}
 use Rattle.partial_words.specs.Step.{answer_of, words_after, word_of}
 use Rattle.partial_words.specs.VacatedList.{list_block}
 use Rattle.partial_words.proofs.RecordLemmas.{length-pairs}
@@ -117,9 +117,11 @@ calm_load y head n (ListLen at) p a e = (refl, cond_both (eqb a 0) Counter (List
 calm_load y head n (ListLow at left) p a e = (refl, (refl, refl))
 calm_load y head n (ListHigh at left lo) p a e = (refl, cond_both (eqb left 1) Counter (ListLow (at + 1) (left - 1)) (λ stage. IsCalm p.0.lists_spent (record p.0 { stage = stage }, record p.1 { read = p.1.read ++ (lo, a) ∷ [] })) (λ f. (refl, refl)) (λ f. (refl, refl)))
 calm_load y head n Counter p a e = (refl, calm_come (record p.0 { end = min a p.0.sizes.slots; passed = 0 }, p.1) 0)
-calm_load y head n (Slot slot) p a e =
-    (refl, cond_both (eqb a 0) (finding.come_to p (slot + 1)) (cond (eqb a 1) (finding.come_to (finding.note_slot p slot) (slot + 1)) (finding.in_stage p (Len slot a))) (IsCalm p.0.lists_spent) (λ f. calm_come p (slot + 1))
-    (λ f. cond_both (eqb a 1) (finding.come_to (finding.note_slot p slot) (slot + 1)) (finding.in_stage p (Len slot a)) (IsCalm p.0.lists_spent) (λ g. calm_come (finding.note_slot p slot) (slot + 1)) (λ g. (refl, refl))))
+calm_load y head n (Slot slot) p a e = (
+  refl,
+  cond_both (eqb a 0) (finding.come_to p (slot + 1)) (cond (eqb a 1) (finding.come_to (finding.note_slot p slot) (slot + 1)) (finding.in_stage p (Len slot a))) (IsCalm p.0.lists_spent) (λ f. calm_come p (slot + 1))
+      (λ f. cond_both (eqb a 1) (finding.come_to (finding.note_slot p slot) (slot + 1)) (finding.in_stage p (Len slot a)) (IsCalm p.0.lists_spent) (λ g. calm_come (finding.note_slot p slot) (slot + 1)) (λ g. (refl, refl))),
+)
 calm_load y head n (Len slot at) p a e = (refl, cond_both (eqb a 0) (finding.come_to p (slot + 1)) (finding.in_stage p (Index slot (at + 1) a)) (IsCalm p.0.lists_spent) (λ f. calm_come p (slot + 1)) (λ f. (refl, refl)))
 calm_load y head n (Index slot at left) p a e =
     let q : finding.Pair = (p.0, record p.1 { indices = with_index p.1.indices a }) in
@@ -254,12 +256,12 @@ module _ (z : Layout) (o : Opening) (words : List ℕ) (before : List Part) (x :
           omega (arith, counts, most, slots)
 
       by_room : (b : Bool) → ltb (list_end s.get_set.sizes) (n + count) ≡ b → LeadsAt z o words before x after log s (GettingSet c old) (Add (list_counter z) count)
-      by_room true past =
-          let beyond = ltb-true (list_end s.get_set.sizes) (n + count) past in
+      by_room true over =
+          let beyond = ltb-true (list_end s.get_set.sizes) (n + count) over in
           let p : finding.Pair = getting s in
           let spent : Bool → finding.Pair = λ b. cond b (record p.0 { lists_spent = true; stage = Done }, p.1) (finding.in_stage p (Write n 0 count (length p.1.next))) in
           made (Claim count) (Add (list_counter z) count) None None false true is refl within refl unmarked possible
-          (ap (λ (b : Bool). own_list (spent b).1.next (spent b).0.stage) past) (ap (λ (b : Bool). (spent b).0.lists_spent) past)
+          (ap (λ (b : Bool). own_list (spent b).1.next (spent b).0.stage) over) (ap (λ (b : Bool). (spent b).0.lists_spent) over)
           (λ m. list_refusals_are_kept z o words (holdings before) (in_set s None false) (holdings after) log count m refl few (omega (arith, beyond, end_is)))
           (λ hs. tt)
       by_room false fits =
@@ -285,8 +287,8 @@ module _ (z : Layout) (o : Opening) (words : List ℕ) (before : List Part) (x :
       let length_is : length (list_block s.found.next) ≡ count = (let blocks = block_length s.found.next in omega (arith, blocks, counts)) in
       made (Write at k count word) (Store (at + k) word) (listed at k) (listed at (k + 1)) s.get_set.lists_spent s.get_set.lists_spent is refl (omega (arith, less, room, long, end_is)) refl refl tt
       (cond_both (eqb (k + 1) count) (Publish at) (Write at (k + 1) count (get_or (list_block s.found.next) (k + 1) 0)) (λ (t : SetStage). own_list s.found.next t ≡ listed at (k + 1))
-          (λ last. let whole = eqb-true (k + 1) count last in ap (listed at) (omega (arith, whole, length_is)))
-          (λ more. refl))
+      (λ last. let whole = eqb-true (k + 1) count last in ap (listed at) (omega (arith, whole, length_is)))
+      (λ more. refl))
       refl
       (λ m. subst (λ v. IsKept z o words (holdings before) (in_set s (listed at k) s.get_set.lists_spent) (holdings after) log (words_after words (Store (at + k) v)) (in_set s (listed at (k + 1)) s.get_set.lists_spent) log) (sym goes.3)
       (stores_are_kept z o words (holdings before) (in_set s (listed at k) s.get_set.lists_spent) (holdings after) log (record { space = Lists; at = at; words = list_block s.found.next; stored = k }) m refl refl (omega (arith, less, length_is))))
