@@ -6,3 +6,4 @@ pub mod Reading
 pub mod Leaves
 pub mod Joins
 pub mod Exchange
+pub mod Getting
