@@ -7,3 +7,4 @@ pub mod Leaves
 pub mod Joins
 pub mod Exchange
 pub mod Getting
+pub mod Claims
