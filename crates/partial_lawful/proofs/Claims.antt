@@ -147,7 +147,7 @@ module _ (z : Layout) (o : Opening) (words : List ℕ) (before : List Part) (x :
           let k = known_here z o words before x after log w in
           let may = subst (MayBeginAt x.begun) called k.begun in
           quiet z o words before x after log w ScanBegun (Add (pool_counter z) (1 + length s.asked)) t (holding_at t (joined_since x)) e due (ap (λ (b : Bool). cond b (at_stage s (StoringAnnouncement a 0)) (pool_refused s)) over) refl counter_inside pool_possible refl keeps (λ ks is. tt) refl
-            (record { none = refl; call = call.Scan x.begun.asked; made = ap (call_at x.begun) called; may = (names_all x.begun.sizes.m x.begun.asked may.1.each, may.0) })
+            (record { none = refl; call = call.Scan x.begun.asked; made = ap (call_at x.begun) called; may = (names_all x.begun.sizes.m x.begun.asked k.sound.asked.each, may.0) })
 
   -- a word of the announcement is stored
   pub announcement_stored : (at k : ℕ) → s.stage ≡ StoringAnnouncement at k → LeadsAt z o words before x after log s (StoringAnnouncement at k) (Store (at + k) (slice_index (announcement_block s.asked) k))

@@ -18,7 +18,7 @@ use Rattle.partial_embedded.specs.Embedded as viewing
 use Rattle.partial_machine.specs.declared.stage.Reply.TheVariants as reply
 use Rattle.partial_machine.specs.declared.stage.Stage.{Stage}
 use Rattle.partial_machine.specs.declared.stage.Stage.TheVariants.{ScanBegun, Joining, Scanning, Finished}
-use Rattle.partial_machine.specs.Machine.{CoreState, advance_at, step_at, after_joining, slots_refused, reply_at}
+use Rattle.partial_machine.specs.Machine.{CoreState, advance_at, step_at, after_joining, slots_refused, reply_at, IsSound}
 use Rattle.partial_state.specs.Holdings.{Holding, slot_marks}
 use Rattle.partial_state.specs.LawfulWords.{LawfulWords}
 use Rattle.partial_state.specs.Effects.{State, Keeps, IsKept}
@@ -39,8 +39,8 @@ pub same_step : {a b : Step} → Some a ≡ Some b → a ≡ b
 same_step {a} {b} e = cc
 
 -- a scan of some positions may be refused for want of slots
-scan_refused : (z : Layout) (x : Part) (m : ℕ) → MayBeginAt x.begun ScanBegun → x.begun.sizes.m ≡ m → MayBeRefused m (call.Scan x.begun.asked) refused.SlotsSpent
-scan_refused z x m may same = (names_all m x.begun.asked (λ k lt. let below = may.1.each k lt in omega (arith, below, same)), may.0)
+scan_refused : (s : CoreState) → IsSound s → MayBeginAt s ScanBegun → MayBeRefused s.sizes.m (call.Scan s.asked) refused.SlotsSpent
+scan_refused s sound may = (names_all s.sizes.m s.asked sound.asked.each, may.0)
 
 module _ (z : Layout) (o : Opening) (words : List ℕ) (before : List Part) (x : Part) (after : List Part) (log : List Applied) (w : Lawful z o words (before ++ x ∷ after) log) (e : (core_of x).stage ≡ Joining) where
   abbrev s : CoreState
@@ -110,7 +110,7 @@ module _ (z : Layout) (o : Opening) (words : List ℕ) (before : List Part) (x :
         let k = known_here z o words before x after log w in
         let begun = subst (MayBeginAt x.begun) known.called k.begun in
         quiet z o words before x after log w Joining (Add (slot_counter z) 1) t dropped e due (leads false over) refl inside possible (since_same t) keeps_x (λ ks is. tt) refl
-          (record { none = refl; call = call.Scan x.begun.asked; made = ap (call_at x.begun) known.called; may = scan_refused z x x.begun.sizes.m begun refl })
+          (record { none = refl; call = call.Scan x.begun.asked; made = ap (call_at x.begun) known.called; may = scan_refused x.begun k.sound begun })
 
     pub slot_claimed : LeadsAt z o words before x after log s Joining (Add (slot_counter z) 1)
     slot_claimed = either (nat_lt (get_or words (slot_counter z) 0) s.join.sizes.slots) refl

@@ -167,6 +167,13 @@ module _ (z : Layout) (o : Opening) (words : List ℕ) (before : List Part) (x :
       by_borrowed None is known some few shares = saw_own known some few is
       by_borrowed (Some stamp) is known some few shares = saw_borrowed stamp known some few shares is
 
+  -- the step that is due
+  pub leave_due : step_at s Leaving ≡ Some (Store (slot_word z s.leave.slot) 1)
+  leave_due =
+      let sound = sound_at z o words before x after log w Leaving e in
+      let leave_sizes : s.leave.sizes ≡ z = sound.0 ∙ sizes_here z o words before x after log w in
+      ap (λ (b : Bool). cond b None (Some (Store (slot_word s.leave.sizes s.leave.slot) 1))) sound.2 ∙ ap (λ (y : Layout). Some (Store (slot_word y s.leave.slot) 1)) leave_sizes
+
   -- the scan's store that leaves its slot
   pub leaves : LeadsAt z o words before x after log s Leaving (Store (slot_word z s.leave.slot) 1)
   leaves =
@@ -176,9 +183,7 @@ module _ (z : Layout) (o : Opening) (words : List ℕ) (before : List Part) (x :
       let k = known_here z o words before x after log w in
       let sound = sound_at z o words before x after log w Leaving e in
       let sizes = sizes_here z o words before x after log w in
-      let leave_sizes : s.leave.sizes ≡ z = sound.0 ∙ sizes in
       let slot : s.leave.slot < z.slots = subst (λ (y : Layout). s.leave.slot < y.slots) sizes sound.1 in
-      let due : step_at s Leaving ≡ Some (Store (slot_word z s.leave.slot) 1) = ap (λ (b : Bool). cond b None (Some (Store (slot_word s.leave.sizes s.leave.slot) 1))) sound.2 ∙ ap (λ (y : Layout). Some (Store (slot_word y s.leave.slot) 1)) leave_sizes in
       let t : CoreState = record s { leave = record s.leave { left = true }; stage = Finished (scanned_reply s) } in
       let held = holding_in s Leaving (joined_since x) in
       let keeps = leaves_are_kept z o words (holdings before) held (holdings after) log s.leave.slot (record { at = s.join.announcement; indices = s.asked; since = joined_since x }) (memory_at z o words before x after log w Leaving e) refl in
@@ -193,7 +198,7 @@ module _ (z : Layout) (o : Opening) (words : List ℕ) (before : List Part) (x :
       let from = seen.from in
       let inside = seen.together.within in
       let count = w.memory.count in
-      ends z o words before x after log w Leaving (Store (slot_word z s.leave.slot) 1) t (record held { claimed = None }) e due refl refl (omega (arith, slot, count)) refl refl keeps_x (λ ks is. tt)
+      ends z o words before x after log w Leaving (Store (slot_word z s.leave.slot) 1) t (record held { claimed = None }) e leave_due refl refl (omega (arith, slot, count)) refl refl keeps_x (λ ks is. tt)
         n refl (names, (seen.together, omega (arith, low, first, from))) inside refl
         (record {
           call = call.Scan s.asked;

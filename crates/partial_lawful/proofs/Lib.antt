@@ -8,3 +8,5 @@ pub mod Joins
 pub mod Exchange
 pub mod Getting
 pub mod Claims
+pub mod AllSteps
+pub mod Opened

@@ -68,12 +68,12 @@ is_at_rest Idle = true
 is_at_rest (Finished r) = true
 is_at_rest _ = false
 
--- a call may begin: its components are there, and the port isn't marked for what it claims
+-- a call may begin: it names a component that is there, or some positions, and the port isn't marked for what it claims
 abbrev pub MayBeginAt : CoreState → Stage → Type 0
 MayBeginAt s Idle = ⊤
 MayBeginAt s (ReadBegun j) = j < s.sizes.m
 MayBeginAt s (UpdateBegun c) = (c.component < s.sizes.m) × (s.pool_spent ≡ false)
-MayBeginAt s ScanBegun = (0 < length s.asked) × AreComponents s.sizes s.asked × (s.pool_spent ≡ false) × (s.slots_spent ≡ false)
+MayBeginAt s ScanBegun = (0 < length s.asked) × (s.pool_spent ≡ false) × (s.slots_spent ≡ false)
 MayBeginAt s _ = ⊥
 
 abbrev pub MayBegin : CoreState → Type 0
@@ -86,7 +86,7 @@ begun_like s c = record s { asked = c.asked; stage = c.stage }
 -- The machine c is the port's: it has just begun a call where the port's machine was at rest, or it is
 -- where the kept answers lead.
 abbrev pub IsMachineOf : CoreState → Part → Type 0
-IsMachineOf c x = MatchBool (is_begun c.stage) ((is_at_rest (core_of x).stage ≡ true) × (c ≡ begun_like (core_of x) c) × MayBegin c) (c ≡ core_of x)
+IsMachineOf c x = MatchBool (is_begun c.stage) ((is_at_rest (core_of x).stage ≡ true) × (c ≡ begun_like (core_of x) c) × AreComponents c.sizes c.asked × MayBegin c) (c ≡ core_of x)
 
 -- an update, conditional where a stamp is expected
 abbrev pub update_call : ℕ → Option ℕ → ℕ → Call

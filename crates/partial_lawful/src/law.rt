@@ -3,6 +3,11 @@
 
 ghost use Rattle.partial_lawful.specs.Lawful.{OpensLawful, StepsStayLawful};
 
+/// A memory as it opens is lawful, with nothing applied and no call made.
+pub fn memory_opens_lawful()
+    ensures { OpensLawful }
+{}
+
 /// The one law of steps: from a lawful state the due step of any port, answered by the plain meaning
 /// of that step on the words, leads to a lawful state. The answer is a possible one; the history
 /// gains one entry exactly at a won exchange of a component word; and where the step ends a call
