@@ -562,21 +562,13 @@ fn exchanged(change: Change, old: u64, at: u64, found: u64) -> Reply
 
 #[cfg(test)]
 impl Core {
-    ghost use Rattle.partial_machine.specs.Machine.{advance, IsPossible};
-    ghost use Rattle.partial_machine.specs.Driven.{IsDriven, FitsView, fits_at};
-
-    // Whether the number may answer the step that is due. The getSets of this machine read no list.
-    pub(crate) fn may_answer(&self, x: u64) -> bool
-        requires { IsDriven self.now }
-        ensures { IsTrue result → IsPossible self.now x × IsDriven (advance self.now x) }
-    {
-        let _stage = &self.stage;
-        self.fits(x)
-    }
+    ghost use Rattle.partial_machine.specs.Machine.{IsSound};
+    ghost use Rattle.partial_machine.specs.Driven.{FitsView, fits_at};
 
     // Whether the number fits the step that is due.
-    fn fits(&self, x: u64) -> bool
-        ensures { IsTrue result → fits_at self.now self.now.stage x }
+    pub(crate) fn fits(&self, x: u64) -> bool
+        ensures sound { IsSound self.now }
+        ensures fits { IsTrue result → fits_at self.now self.now.stage x }
     {
         let sizes = &self.sizes;
         match self.stage {

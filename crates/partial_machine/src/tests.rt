@@ -1,6 +1,7 @@
 //! The machine driven over a plain list of words, alone or with the steps of another one between its own.
 
-ghost use Rattle.std.specs.Prelude.{◌≡◌, OnOk, length};
+ghost use Rattle.std.specs.Prelude.{◌≡◌, IsTrue, OnOk, length};
+ghost use Rattle.partial_machine.specs.Machine.{advance, IsPossible};
 ghost use Rattle.partial_machine.specs.Driven.{IsDriven};
 
 use crate::{Core, Reply};
@@ -24,6 +25,14 @@ fn opened(alloc: Global, sizes: Sizes, initial: &[u64]) -> Result<Vec<u64>, Allo
     Ok(words)
 }
 
+// Whether the number may answer the step that is due. The getSets of the machine read no list.
+fn may_answer(core: &Core, x: u64) -> bool
+    requires { IsDriven core.now }
+    ensures { IsTrue result → IsPossible core.now x × IsDriven (advance core.now x) }
+{
+    core.fits(x)
+}
+
 // Makes so many steps of a call on the words, or all that are left of it.
 fn drive(
     rt: &impl Abort,
@@ -42,7 +51,7 @@ fn drive(
         };
         assert!(rt; (step.word() as usize) < words.len());
         let x = step.perform(words);
-        assert!(rt; core.may_answer(x));
+        assert!(rt; may_answer(core, x));
         core.answer(x);
         steps.push(step)?;
     }
