@@ -3,4 +3,5 @@ pub mod Pairs
 pub mod Sound
 pub mod StepCounts
 pub mod ScanCounts
+mod Driven
 pub mod Submachines

@@ -8,3 +8,6 @@ pub mod stage;
 
 pub use machine::Core;
 pub use stage::{Change, Reply, Stage};
+
+#[cfg(test)]
+mod tests;
