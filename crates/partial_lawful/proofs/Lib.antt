@@ -7,3 +7,5 @@ pub mod Leaves
 pub mod Joins
 pub mod Exchange
 pub mod Getting
+pub mod StoredFacts
+pub mod Stored
