@@ -88,7 +88,7 @@ pub record HasViewed (o : Opening) (words : List ℕ) (log : List Applied) (firs
   pub own : s.embedded.borrowed ≡ None → (n : ℕ) × HasValues o log s.found.indices first (length log) s.rows n (length s.found.indices)
   pub borrowed : (stamp : ℕ) → s.embedded.borrowed ≡ Some stamp → IsThird words log s.found.indices first (scanning s) stamp × (s.embedded.view ≡ view_of words stamp)
 
-module _ (z : Layout) (o : Opening) (words : List ℕ) (before : List Holding) (h : Holding) (after : List Holding) (log : List Applied) (w : LawfulWords z o words (before ++ h ∷ after) log) (s : CoreState) (c : Change) (old at : ℕ) (own : h.own ≡ Some (record { space = Pool; at = at; words = record_words s c old at; stored = length (record_words s c old at) })) (first : ℕ) (inside : first ≤ length log) (below : c.component < z.m) (loaded : old ≡ stamp_of o (take first log) c.component) (named : AreComponents z s.found.indices) (finds : AllByRecursion (λ v. IfJoined v (λ l j. j.since < first → HasAll s.found.indices j)) (before ++ after)) where
+module _ (z : Layout) (o : Opening) (words : List ℕ) (before : List Holding) (h : Holding) (after : List Holding) (log : List Applied) (w : LawfulWords z o words (before ++ h ∷ after) log) (s : CoreState) (c : Change) (old at : ℕ) (own : h.own ≡ Some (record { space = Pool; at = at; words = record_words s c old at; stored = length (record_words s c old at) })) (first : ℕ) (inside : first ≤ length log) (below : c.component < z.m) (loaded : old ≡ stamp_of o (take first log) c.component) (finds : AllByRecursion (λ v. IfJoined v (λ l j. j.since < first → HasAll s.found.indices j)) (before ++ after)) where
   abbrev hs : List Holding
   hs = before ++ h ∷ after
 
@@ -241,3 +241,74 @@ module _ (z : Layout) (o : Opening) (words : List ℕ) (before : List Holding) (
       };
       covers = all_weaker (λ (v : Holding). IfJoined v (λ l j. j.since < first → HasAll s.found.indices j)) (λ v. IfJoined v (λ l j. Covers z words us log at j)) (λ v k. joined_weaker v (λ l j. j.since < first → HasAll s.found.indices j) (λ l j. Covers z words us log at j) (λ l j all begun. names_found j (all (joined_below j.since begun))) k) (before ++ after) finds;
     }
+
+  -- the view of a third record is borrowed: it is fresh and covering as that record's is
+  module _ (stamp : ℕ) (some : s.embedded.borrowed ≡ Some stamp) (third : IsThird words log s.found.indices first (scanning s) stamp) (shared : s.embedded.view ≡ view_of words stamp) (owned : AreOwned words log) where
+    bare : own_pairs s ≡ []
+    bare = ap (λ (f : Option ℕ). option_map_or (λ _. []) f (map {B = ℕ × ℕ} (λ j. (j, get_or s.rows.values j 0)) s.found.indices)) some
+
+    three_long : length (record_words s c old at) ≡ 3
+    three_long = ap (λ (ps : List (ℕ × ℕ)). length (record_block old c.value (view_at s at) ps)) bare
+
+    view_same : view_of words at ≡ view_of words third.entry.stamp
+    view_same = let r = reads in r.view ∙ ap (λ (f : Option ℕ). option_map_or (λ _. s.embedded.view) f (cond (length s.found.indices == 0) 0 (at + 3))) some ∙ shared ∙ ap (view_of words) (sym third.is)
+
+    theirs : HasFreshView z o words (unpublished hs) log third.place third.entry.stamp
+    theirs = w.fresh third.place third.entry third.stands
+
+    -- what the third record shows, this one shows
+    shown_here : (ps : List (ℕ × ℕ)) → HasPairs z words (unpublished hs) third.entry.stamp ps → HasPairs z words us at ps
+    shown_here ps shows = subst (λ v. ((v ≡ 0) × (ps ≡ [])) ⊎ IsView z words us v ps) (sym view_same) (pairs_move z words words (unpublished hs) us frame third.entry.stamp ps refl shows)
+
+    third_since : (since : ℕ) → since ≤ first → IsBegunSince log since (prev_of words third.entry.stamp)
+    third_since since order =
+        let begun = subst (λ t. IsBegunSince log first (prev_of words t)) (sym third.is) third.begun in
+        let from = begun.2 in
+        (begun.0, begun.1, omega (arith, order, from), begun.3, begun.4)
+
+    -- no entry's record begins where the port's own does
+    elsewhere : (k : ℕ) (e : Applied) → slice_get log k ≡ Some e → e.stamp ≢ at
+    elsewhere k e is same =
+        let apart = (apart_less (block_at words e.stamp) (entry_free z o words hs log w k e is)).1 in
+        let size = three_words words e.stamp in
+        let own_size = three_long in
+        elim apart [ inl front ↦ omega (arith, front, size, same) | inr behind ↦ omega (arith, behind, own_size, same) ]
+
+    view_elsewhere : view_of words at ≢ at + 3
+    view_elsewhere e = elim (owned third.place third.entry third.stands) [
+      | inl none ↦ let same = view_same in omega (arith, e, same, none)
+      | inr its ↦ let same = view_same in let is = its.3 in elsewhere its.0 its.1 its.2 (omega (arith, e, same, is))
+    ]
+
+    shows_borrowed : Shows
+    shows_borrowed =
+        let fresh = theirs in
+        let within = place_below log third.place third.entry third.stands in
+        let without = fresh.without in
+        let from : first < fresh.prefix = begun_within o log first fresh.prefix (prev_of words third.entry.stamp) w.history (third_since first (omega arith)) fresh.contains in
+        let covering = found (λ (d : Applied). CoversAll z words hs log d.stamp) log third.place third.entry w.covering third.stands in
+        let P : Holding → Type 0 = λ v. IfJoined v (λ l j. Covers z words (unpublished hs) log third.entry.stamp j) in
+        let others : AllByRecursion P (before ++ after) = all_append P before after (all_before P before h after covering) (all_after P before h after covering) in
+        record {
+          size = three_long ∙ sym (ap (λ (t : Bool). cond t (4 + 2 * get_or words (at + 3) 0) 3) (ne_eqb (view_of words at) (at + 3) view_elsewhere));
+          fresh = record {
+            pairs = fresh.pairs;
+            shown = shown_here fresh.pairs fresh.shown;
+            prefix = fresh.prefix;
+            contains = prev_within fresh.prefix (omega (arith, from));
+            without = omega (arith, within, without);
+            values = fresh.values;
+          };
+          covers = all_weaker P (λ v. IfJoined v (λ l j. Covers z words us log at j)) (λ v k. joined_weaker v (λ l j. Covers z words (unpublished hs) log third.entry.stamp j) (λ l j. Covers z words us log at j) (λ l j covers begun.
+            let since = joined_below j.since begun in
+            let names = covers (third_since j.since (omega (arith, since))) in
+            (names.0, shown_here names.0 names.1, names.2)) k) (before ++ after) others;
+        }
+
+  -- the record's exchange may be due
+  pub record_due : joined_in h.claimed ≡ None → HasViewed o words log first s → AreOwned words log → AreComponents z s.found.indices → IsDue z o words h (others_of h.port hs) log (record { component = c.component; old = old; value = c.value; at = at })
+  record_due free viewed owned indices = due_of free (by_borrowed s.embedded.borrowed refl)
+    where
+      by_borrowed : (f : Option ℕ) → s.embedded.borrowed ≡ f → Shows
+      by_borrowed None is = let own = viewed.own is in shows_own is own.0 own.1 indices.few indices.each
+      by_borrowed (Some stamp) is = let third = viewed.borrowed stamp is in shows_borrowed stamp is third.0 third.1 owned
