@@ -1,5 +1,5 @@
 -- The store of a word of an update's record: behind the last one the exchange is due.
-use Rattle.std.proofs.Common.{ℕ, ◌≡◌, ◌+◌, ◌<◌, ◌≤◌, ◌==◌, ◌++◌, Bool, true, false, cond, Option, Some, None, IfSome, List, [], ◌∷◌, length, get_or, slice_get, inl, inr, refl, sym, ap, subst, ◌∙◌, arith}
+use Rattle.std.proofs.Common.{ℕ, ◌≡◌, ◌+◌, ◌<◌, ◌≤◌, ◌==◌, ◌++◌, Bool, true, false, cond, Option, Some, None, IfSome, List, ◌∷◌, length, get_or, slice_get, inl, inr, refl, sym, ap, subst, ◌∙◌, arith}
 use Rattle.std.specs.List.{AllByRecursion}
 use Rattle.std.proofs.lemmas.Bool.{eqb-true}
 use Rattle.partial_model.specs.declared.history.Applied.{Applied}
@@ -7,19 +7,18 @@ use Rattle.partial_model.specs.declared.history.Opening.{Opening}
 use Rattle.partial_model.proofs.StampsStay.{found}
 use Rattle.partial_words.specs.declared.step.Step.{Step}
 use Rattle.partial_words.specs.declared.step.Step.TheVariants.{Store}
-use Rattle.partial_words.specs.Layout.{Layout, pool_end, list_base, total}
-use Rattle.partial_words.specs.Record.{view_of}
+use Rattle.partial_words.specs.Layout.{Layout, pool_end}
 use Rattle.partial_words.specs.Step.{words_after}
 use Rattle.partial_machine.specs.declared.stage.Change.{Change}
 use Rattle.partial_machine.specs.declared.stage.Stage.{Stage}
 use Rattle.partial_machine.specs.declared.stage.Stage.TheVariants.{StoringRecord, Exchanging}
-use Rattle.partial_machine.specs.Machine.{CoreState, at_stage, advance_at, step_at, AreComponents, record_words, record_size, scanning, is_sound_at}
+use Rattle.partial_machine.specs.Machine.{CoreState, at_stage, AreComponents, record_words, record_size, scanning, is_sound_at}
 use Rattle.partial_state.specs.Views.{Joined, IsBegunSince}
 use Rattle.partial_state.specs.Holdings.{Claimed, Holding, Own, Due, IfJoined, unpublished}
 use Rattle.partial_state.specs.Holdings.Space.{Pool}
-use Rattle.partial_state.specs.LawfulWords.{LawfulWords, IsEntry}
-use Rattle.partial_state.specs.Loads.{IsLoaded, IsPublished}
-use Rattle.partial_state.specs.Effects.{State, Keeps, IsKept}
+use Rattle.partial_state.specs.LawfulWords.{IsEntry}
+use Rattle.partial_state.specs.Loads.{IsPublished}
+use Rattle.partial_state.specs.Effects.{IsKept}
 use Rattle.partial_state.proofs.BlockLaws.{stores_are_kept}
 use Rattle.partial_state.proofs.MarkLaws.{dues_are_kept}
 use Rattle.partial_state.proofs.LoadLaw.{loads_are_true}
