@@ -38,39 +38,39 @@ use Rattle.partial_lawful.proofs.StoredFacts.{IsOwned, AreOwned, HasViewed, leng
 finds_all : (hs : List Holding) (low : ℕ) (indices : List ℕ) → sets.FindsJoined hs low indices → AllByRecursion (λ v. IfJoined v (λ l j. j.since < low → sets.HasAll indices j)) hs
 finds_all hs low indices finds =
     all_of (λ (v : Holding). IfJoined v (λ l j. j.since < low → sets.HasAll indices j)) hs (λ i v is.
-      if_all (λ (c : Claimed). IfSome c.joined (λ j. j.since < low → sets.HasAll indices j)) v.claimed (λ c claimed.
-        if_all (λ (j : Joined). j.since < low → sets.HasAll indices j) c.joined (λ j joined.
-          finds c.slot j (i, v, is, claimed ∙ ap (λ (f : Option Joined). Some (record { slot = c.slot; joined = f })) joined))))
+    if_all (λ (c : Claimed). IfSome c.joined (λ j. j.since < low → sets.HasAll indices j)) v.claimed (λ c claimed.
+    if_all (λ (j : Joined). j.since < low → sets.HasAll indices j) c.joined (λ j joined.
+    finds c.slot j (i, v, is, claimed ∙ ap (λ (f : Option Joined). Some (record { slot = c.slot; joined = f })) joined))))
 
 -- what an update has viewed, in words in which the entries' records are the same
 viewed_then : (z : Layout) (o : Opening) (words words' : List ℕ) (hs : List Holding) (log : List Applied) (first : ℕ) (s : CoreState) → first ≤ length log → ((q : ℕ) (d : Applied) (n : ℕ) → slice_get log q ≡ Some d → n < 3 → get_or words' (d.stamp + n) 0 ≡ get_or words (d.stamp + n) 0) → IsViewed z o words hs log first s → HasViewed o words' log first s
 viewed_then z o words words' hs log first s inside same viewed = elim viewed.1 [
-    | inl nothing ↦ record {
-        own = λ none. (first, record { from = omega arith; to = inside; values = λ i lt. let empty = nothing.0 in absurd (omega (arith, lt, empty)) });
-        borrowed = λ stamp some. let bad : None ≡ Some stamp = sym nothing.1 ∙ some in absurd cc;
-      }
-    | inr finished ↦ record {
-        own = λ none. let own = finished.0 none in (own.1, own.2);
-        borrowed = λ stamp some.
-          let known = finished.1 stamp some in
-          let third : IsThird words log s.found.indices first (scanning s) stamp = known.0 in
-          let at : (n : ℕ) → n < 3 → get_or words' (stamp + n) 0 ≡ get_or words (stamp + n) 0 = λ n lt. subst (λ t. get_or words' (t + n) 0 ≡ get_or words (t + n) 0) third.is (same third.place third.entry n third.stands lt) in
-          let prev : get_or words' stamp 0 ≡ get_or words stamp 0 = ap (λ n. get_or words' n 0) (omega arith) ∙ at 0 (omega arith) ∙ ap (λ n. get_or words n 0) (omega arith) in
-          let now : IsThird words' log s.found.indices first (scanning s) stamp = record {
-            borrowed = third.borrowed;
-            three = third.three;
-            place = third.place;
-            entry = third.entry;
-            stands = third.stands;
-            is = third.is;
-            position = third.position;
-            within = third.within;
-            component = third.component;
-            begun = subst (IsBegunSince log first) (sym prev) third.begun;
-          } in
-          (now, known.1 ∙ sym (at 2 (omega arith)));
-      }
-  ]
+  | inl nothing ↦ record {
+    own = λ none. (first, record { from = omega arith; to = inside; values = λ i lt. let empty = nothing.0 in absurd (omega (arith, lt, empty)) });
+    borrowed = λ stamp some. let bad : None ≡ Some stamp = sym nothing.1 ∙ some in absurd cc;
+  }
+  | inr finished ↦ record {
+    own = λ none. let own = finished.0 none in (own.1, own.2);
+    borrowed = λ stamp some.
+        let known = finished.1 stamp some in
+        let third : IsThird words log s.found.indices first (scanning s) stamp = known.0 in
+        let at : (n : ℕ) → n < 3 → get_or words' (stamp + n) 0 ≡ get_or words (stamp + n) 0 = λ n lt. subst (λ t. get_or words' (t + n) 0 ≡ get_or words (t + n) 0) third.is (same third.place third.entry n third.stands lt) in
+        let prev : get_or words' stamp 0 ≡ get_or words stamp 0 = ap (λ n. get_or words' n 0) (omega arith) ∙ at 0 (omega arith) ∙ ap (λ n. get_or words n 0) (omega arith) in
+        let now : IsThird words' log s.found.indices first (scanning s) stamp = record {
+          borrowed = third.borrowed;
+          three = third.three;
+          place = third.place;
+          entry = third.entry;
+          stands = third.stands;
+          is = third.is;
+          position = third.position;
+          within = third.within;
+          component = third.component;
+          begun = subst (IsBegunSince log first) (sym prev) third.begun;
+        } in
+        (now, known.1 ∙ sym (at 2 (omega arith)));
+  }
+]
 
 module _ (z : Layout) (o : Opening) (words : List ℕ) (before : List Part) (x : Part) (after : List Part) (log : List Applied) (w : Lawful z o words (before ++ x ∷ after) log) (c : Change) (old at k : ℕ) (e : (core_of x).stage ≡ StoringRecord c old at k) where
   abbrev s : CoreState
@@ -162,7 +162,7 @@ module _ (z : Layout) (o : Opening) (words : List ℕ) (before : List Part) (x :
         let viewed : HasViewed o words' log first s = viewed_then z o words words' (holdings (before ++ x ∷ after)) log first s inside entry_stays known.1 in
         let owned_then : AreOwned words' log = λ q d is. subst (IsOwned log) (sym (entry_stays q d 2 is (omega arith))) (owned q d is) in
         let dues = dues_are_kept z o words' (holdings before) (record held { own = Some whole }) (holdings after) log due all_stored.lawful
-            (record_due z o words' (holdings before) (record held { own = Some whole }) (holdings after) log all_stored.lawful s c old at refl first inside below known.0.stamp (others_found first known.1.0) refl viewed owned_then indices) in
+        (record_due z o words' (holdings before) (record held { own = Some whole }) (holdings after) log all_stored.lawful s c old at refl first inside below known.0.stamp (others_found first known.1.0) refl viewed owned_then indices) in
         keeps_then z o (record { words = words; holdings = hs; log = log }) (record { words = words'; holdings = holdings before ++ record held { own = Some whole } ∷ holdings after; log = log }) (record { words = words'; holdings = holdings before ++ record held { own = Some whole; due = Some due } ∷ holdings after; log = log }) all_stored dues
 
     last_stored : LeadsAt z o words before x after log s (StoringRecord c old at k) step

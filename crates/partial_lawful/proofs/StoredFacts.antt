@@ -154,14 +154,14 @@ module _ (z : Layout) (o : Opening) (words : List ℕ) (before : List Holding) (
 
   due_of : joined_in h.claimed ≡ None → Shows → IsDue z o words h (others_of h.port hs) log (record { component = c.component; old = old; value = c.value; at = at })
   due_of free shows = subst (λ (l : List Holding). IsDue z o words h l log (record { component = c.component; old = old; value = c.value; at = at })) (sym others_are) (record {
-      component = below;
-      own = found_some (λ (b : Own). (b.space ≡ Pool) × (block_of b ≡ block_at words at) × (b.stored ≡ length b.words)) h.own block own (refl, ap (λ n. record { at = at; size = n }) shows.size, refl);
-      prev = prev_is;
-      value = let r = reads in r.value;
-      before = within_more o log first (length log) old inside old_within;
-      unjoined = free;
-      would = λ now. (shows.fresh, shows.covers);
-    })
+    component = below;
+    own = found_some (λ (b : Own). (b.space ≡ Pool) × (block_of b ≡ block_at words at) × (b.stored ≡ length b.words)) h.own block own (refl, ap (λ n. record { at = at; size = n }) shows.size, refl);
+    prev = prev_is;
+    value = let r = reads in r.value;
+    before = within_more o log first (length log) old inside old_within;
+    unjoined = free;
+    would = λ now. (shows.fresh, shows.covers);
+  })
 
   -- nothing is borrowed: the view is the record's own, with the values after one prefix
   module _ (none : s.embedded.borrowed ≡ None) (n : ℕ) (values : HasValues o log s.found.indices first (length log) s.rows n (length s.found.indices)) (few : length s.found.indices ≤ z.m) (each : (i : ℕ) → i < length s.found.indices → get_or s.found.indices i 0 < z.m) where
@@ -300,9 +300,9 @@ module _ (z : Layout) (o : Opening) (words : List ℕ) (before : List Holding) (
             values = fresh.values;
           };
           covers = all_weaker P (λ v. IfJoined v (λ l j. Covers z words us log at j)) (λ v k. joined_weaker v (λ l j. Covers z words (unpublished hs) log third.entry.stamp j) (λ l j. Covers z words us log at j) (λ l j covers begun.
-            let since = joined_below j.since begun in
-            let names = covers (third_since j.since (omega (arith, since))) in
-            (names.0, shown_here names.0 names.1, names.2)) k) (before ++ after) others;
+              let since = joined_below j.since begun in
+              let names = covers (third_since j.since (omega (arith, since))) in
+              (names.0, shown_here names.0 names.1, names.2)) k) (before ++ after) others;
         }
 
   -- the record's exchange may be due
