@@ -3,10 +3,12 @@ pub mod Calls
 pub mod Parts
 pub mod Steps
 pub mod Reading
+pub mod Getting
 pub mod Leaves
 pub mod Joins
-pub mod Exchange
-pub mod Getting
 pub mod Claims
+pub mod StoredFacts
+pub mod Stored
+pub mod Exchange
 pub mod AllSteps
 pub mod Opened
