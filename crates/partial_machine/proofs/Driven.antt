@@ -1,14 +1,14 @@
 -- A number that fits the step of a driven machine is a possible answer, and leaves the machine driven.
-use Rattle.std.proofs.Common.{ℕ, ◌≡◌, ◌+◌, ◌-◌, ◌*◌, ◌<◌, ◌≤◌, ◌==◌, min, Bool, true, false, cond, eqb, ltb, not, ◌&&◌, ◌||◌, ◌⊎◌, List, [], ◌∷◌, ◌++◌, length, get_or, Option, Some, None, refl, sym, ◌∙◌, ap, subst, arith, inl, inr}
-use Rattle.std.proofs.lemmas.Bool.{false≢true, cond_both, eq-eqb, eqb-true, eqb-false, ltb-true, ltb-false}
+use Rattle.std.proofs.Common.{ℕ, ◌≡◌, ◌+◌, ◌-◌, ◌*◌, ◌<◌, ◌≤◌, ◌==◌, min, Bool, true, false, cond, ltb, not, ◌&&◌, ◌||◌, List, [], length, get_or, Option, Some, None, refl, sym, ap, subst, arith, inl}
+use Rattle.std.proofs.lemmas.Bool.{eqb-false}
 use Rattle.std.specs.Prelude.{nat_lt, IsSome}
 use Rattle.std.specs.Option.{option_map_or}
 use Rattle.partial_words.specs.declared.step.Step.{Step}
-use Rattle.partial_words.specs.declared.step.Step.TheVariants.{Load, Store, Exchange, Add}
-use Rattle.partial_words.specs.Layout.{Layout, IsLayout, list_end, pool_base, pool_end}
+use Rattle.partial_words.specs.declared.step.Step.TheVariants.{Load, Add}
+use Rattle.partial_words.specs.Layout.{list_end, pool_base}
 use Rattle.partial_active.specs.Found.{begins_at}
 use Rattle.partial_active.specs.IndexSet.{with_index}
-use Rattle.partial_active.specs.Join.{JoinState, join_after, advance_join}
+use Rattle.partial_active.specs.Join.{join_after, advance_join}
 use Rattle.partial_active.specs.declared.join.JoinStage.{JoinStage}
 use Rattle.partial_active.specs.declared.join.JoinStage.TheVariants.{Claiming, Storing, Joined, Spent}
 use Rattle.partial_active.specs.declared.get_set.Stage as sets
@@ -21,7 +21,7 @@ use Rattle.partial_embedded.specs.Embedded as viewing
 use Rattle.partial_machine.specs.declared.stage.Stage.{Stage}
 use Rattle.partial_machine.specs.declared.stage.Stage.TheVariants.{Idle, ReadBegun, LoadingValue, UpdateBegun, GettingSet, Viewing, ClaimingRecord, StoringRecord, Exchanging, ScanBegun, StoringAnnouncement, Joining, Scanning, Leaving, Finished}
 use Rattle.partial_machine.specs.declared.stage.Reply.TheVariants as reply
-use Rattle.partial_machine.specs.Machine.{CoreState, IsSound, is_sound_at, IsPossible, IsPossibleAt, at_stage, getting, scanning, with_getting, with_scanning, begin_getting, begin_joining, after_getting, after_scanning, after_joining, pool_refused, fits_pool, record_size, expects, advance, advance_at}
+use Rattle.partial_machine.specs.Machine.{CoreState, IsSound, is_sound_at, IsPossibleAt, at_stage, getting, scanning, with_getting, with_scanning, begin_getting, begin_joining, after_joining, pool_refused, fits_pool, record_size, expects, advance_at}
 use Rattle.partial_machine.specs.Driven.{reads_no_list, is_in_view, is_driven_at, IsDriven, FitsSet, FitsView, fits_at}
 
 -- the walk reads no list

@@ -1,6 +1,6 @@
 -- What the tests know of a machine that they drive: its getSets read no list of vacated slots. So they can
 -- tell from the step that is due whether a number may answer it.
-use Rattle.std.specs.Prelude.{ℕ, ◌≡◌, ◌+◌, ◌*◌, ◌<◌, ◌≤◌, ◌⊎◌, Option, Some, None, IsSome, List, []}
+use Rattle.std.specs.Prelude.{ℕ, ◌≡◌, ◌+◌, ◌*◌, ◌<◌, ◌≤◌, ◌⊎◌, Option, Some, None, IsSome, []}
 use Rattle.partial_words.specs.declared.step.Step.{Step}
 use Rattle.partial_words.specs.declared.step.Step.TheVariants.{Load, Store, Exchange, Add}
 use Rattle.partial_words.specs.Layout.{Layout, list_head, list_base, pool_base, pool_end}

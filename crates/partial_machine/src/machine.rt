@@ -629,7 +629,7 @@ impl Core {
     pub(crate) fn may_scan(&self, positions: &[u32]) -> bool
         ensures { IsTrue result → (self.now.stage ≡ Idle) × (length positions.now ≤ self.now.sizes.m) }
     {
-        matches!(self.stage, Stage::Idle) && positions.len() <= self.sizes.m() as usize
+        self.idle() && positions.len() <= self.sizes.m() as usize
     }
 }
 
