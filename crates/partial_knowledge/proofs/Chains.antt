@@ -74,12 +74,12 @@ entry_since o log j low b has =
 -- a stamp is an initial one or that of an entry before
 pub stamp_within : (o : Opening) (log : List Applied) (n j : ℕ) → j < length o.values → IsWithin o log n (stamp_of o (take n log) j)
 stamp_within o log n j below = elim (last_at None j (take n log)) [
-    | inl all ↦ inl (j, below, stamp_told o (take n log) j None (ap (last_entry j) (sym whole) ∙ all n))
-    | inr l ↦
-        let at = in_whole n log l.place l.entry l.stands in
-        let inside = at.0 in
-        inr (l.place, l.entry, inside, at.1, sym (stamp_told o (take n log) j (Some l.entry) (ap (last_entry j) (sym whole) ∙ l.from n inside)))
-  ]
+  | inl all ↦ inl (j, below, stamp_told o (take n log) j None (ap (last_entry j) (sym whole) ∙ all n))
+  | inr l ↦
+      let at = in_whole n log l.place l.entry l.stands in
+      let inside = at.0 in
+      inr (l.place, l.entry, inside, at.1, sym (stamp_told o (take n log) j (Some l.entry) (ap (last_entry j) (sym whole) ∙ l.from n inside)))
+]
   where
     whole : take n (take n log) ≡ take n log
     whole = take_within n n log (omega arith)

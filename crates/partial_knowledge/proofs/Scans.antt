@@ -63,9 +63,9 @@ differs_tells p k x d =
 
 agrees_tells : (p : Pair) (k x : ℕ) → is_first p ≡ false → differs p k x ≡ false → get_or p.1.last k 0 ≡ x
 agrees_tells p k x first d = elim (eqb_tells (get_or p.1.last k 0) x) [
-    | inl t ↦ t.1
-    | inr t ↦ absurd (false≢true (sym d ∙ ap (λ b. not b && not (get_or p.1.last k 0 == x)) first ∙ ap not t.0))
-  ]
+  | inl t ↦ t.1
+  | inr t ↦ absurd (false≢true (sym d ∙ ap (λ b. not b && not (get_or p.1.last k 0 == x)) first ∙ ap not t.0))
+]
 
 changed_tells : (p : Pair) (k : ℕ) → was_changed p k ≡ true → (is_first p ≡ false) × (slice_index_or p.1.changed k false ≡ true)
 changed_tells p k c =
@@ -398,18 +398,18 @@ module _ (o : Opening) (words : List ℕ) (hs : List Holding) (log : List Applie
       } in
       cond_both (left - 1 == 0) Done (Index (at + 1) (left - 1)) (λ stage. Knows p.0.sizes o words hs log indices low t (at_stage (with_value p index x) stage))
       (λ e.
-        let none = eqb-true (left - 1) 0 e in (
-          λ nothing. let bad : None ≡ Some l.0 = sym nothing ∙ l.1.borrowed in absurd cc,
-          λ s borrowed. subst (λ n. IsThird words log indices low (at_stage (with_value p index x) Done) n × (p.0.view ≡ view_of words n)) (one_stamp l.0 s l.1.borrowed borrowed) (third_on l.0 (at_stage (with_value p index x) Done) refl refl l.1, l.2),
-          λ s borrowed shares. (l.0, third_on l.0 (at_stage (with_value p index x) Done) refl refl l.1, l.2, l.3, l.4 + 1, omega (arith, sum, some, none), next),
-        ))
+      let none = eqb-true (left - 1) 0 e in (
+        λ nothing. let bad : None ≡ Some l.0 = sym nothing ∙ l.1.borrowed in absurd cc,
+        λ s borrowed. subst (λ n. IsThird words log indices low (at_stage (with_value p index x) Done) n × (p.0.view ≡ view_of words n)) (one_stamp l.0 s l.1.borrowed borrowed) (third_on l.0 (at_stage (with_value p index x) Done) refl refl l.1, l.2),
+        λ s borrowed shares. (l.0, third_on l.0 (at_stage (with_value p index x) Done) refl refl l.1, l.2, l.3, l.4 + 1, omega (arith, sum, some, none), next),
+      ))
       (λ e.
-        let more = eqb-false (left - 1) 0 e in (
-          knows.0,
-          (l.0, third_on l.0 (at_stage (with_value p index x) (Index (at + 1) (left - 1))) refl refl l.1, l.2, l.3, l.4 + 1, omega (arith, sum, some), next),
-          omega (arith, at_is),
-          omega (arith, more),
-        ))
+      let more = eqb-false (left - 1) 0 e in (
+        knows.0,
+        (l.0, third_on l.0 (at_stage (with_value p index x) (Index (at + 1) (left - 1))) refl refl l.1, l.2, l.3, l.4 + 1, omega (arith, sum, some), next),
+        omega (arith, at_is),
+        omega (arith, more),
+      ))
 
   pub step_value : (k t x : ℕ) → k < length indices → slice_index indices k < length p.1.values → high ≤ t → Agreed o log indices low high p k → x ≡ get_or words (slice_index p.1.last k + 1) 0 → Knows_at t (at_stage (with_value p (slice_index indices k) x) (cond (nat_lt (k + 1) (length indices)) (Value (k + 1)) Done))
   unfolding Knows_at
@@ -431,11 +431,11 @@ module _ (o : Opening) (words : List ℕ) (hs : List Holding) (log : List Applie
       cond_both (nat_lt (k + 1) (length indices)) (Value (k + 1)) Done (λ stage. Knows p.0.sizes o words hs log indices low t (at_stage (with_value p j x) stage))
       (λ e. record { none = knows.none; two = knows.two; prefix = knows.prefix; stamps = knows.stamps; values = next })
       (λ e.
-        let last = ltb-false (k + 1) (length indices) e in (
-          λ none. (knows.two, knows.prefix, record { from = next.from; to = next.to; values = λ i lt. next.values i (omega (arith, lt, last)) }),
-          λ s borrowed. let bad : None ≡ Some s = sym knows.none ∙ borrowed in absurd cc,
-          λ s borrowed shares. let bad : None ≡ Some s = sym knows.none ∙ borrowed in absurd cc,
-        ))
+      let last = ltb-false (k + 1) (length indices) e in (
+        λ none. (knows.two, knows.prefix, record { from = next.from; to = next.to; values = λ i lt. next.values i (omega (arith, lt, last)) }),
+        λ s borrowed. let bad : None ≡ Some s = sym knows.none ∙ borrowed in absurd cc,
+        λ s borrowed shares. let bad : None ≡ Some s = sym knows.none ∙ borrowed in absurd cc,
+      ))
 
 module _ (o : Opening) (words : List ℕ) (hs : List Holding) (log : List Applied) (indices : List ℕ) (low high : ℕ) (p : Pair) (w : LawfulWords p.0.sizes o words hs log) (together : GoTogether indices p) (order : low ≤ high) where
   -- the words that are to be loaded

@@ -126,17 +126,21 @@ module _ (o : Opening) (words : List ℕ) (hs : List Holding) (log : List Applie
   step_head : (k : Kept) → IsLoaded p.0.sizes o words hs log (list_head p.0.sizes) k → Leads Head k.answer
   unfolding Leads
   step_head k l = elim (l.head refl) [
-      | inl none ↦
-          (inl none, cond_both (eqb k.answer 0) Counter (ListLen k.answer) (λ stage. Knows p.0.sizes words hs low (record p.0 { head = k.answer; stage = stage }, record p.1 { indices = []; read = []; next = [] }))
-            (λ e. λ x holds. let inside = holds.1 in absurd (omega (arith, inside)))
-            (λ e. absurd (eqb-false k.answer 0 e none)))
-      | inr list ↦
-          let from = list.1.whole.from in
-          let to = list.1.whole.to in
-          (inr (from, omega (arith, to)), cond_both (eqb k.answer 0) Counter (ListLen k.answer) (λ stage. Knows p.0.sizes words hs low (record p.0 { head = k.answer; stage = stage }, record p.1 { indices = []; read = []; next = [] }))
-            (λ e. λ x holds. let inside = holds.1 in absurd (omega (arith, inside)))
-            (λ e. list))
-    ]
+    | inl none ↦ (
+      inl none,
+      cond_both (eqb k.answer 0) Counter (ListLen k.answer) (λ stage. Knows p.0.sizes words hs low (record p.0 { head = k.answer; stage = stage }, record p.1 { indices = []; read = []; next = [] }))
+          (λ e. λ x holds. let inside = holds.1 in absurd (omega (arith, inside)))
+          (λ e. absurd (eqb-false k.answer 0 e none)),
+    )
+    | inr list ↦
+        let from = list.1.whole.from in
+        let to = list.1.whole.to in (
+          inr (from, omega (arith, to)),
+          cond_both (eqb k.answer 0) Counter (ListLen k.answer) (λ stage. Knows p.0.sizes words hs low (record p.0 { head = k.answer; stage = stage }, record p.1 { indices = []; read = []; next = [] }))
+              (λ e. λ x holds. let inside = holds.1 in absurd (omega (arith, inside)))
+              (λ e. list),
+        )
+  ]
 
   step_list_len : (at : ℕ) (k : Kept) → goes_at (ListLen at) p → knows_at p.0.sizes words hs low (ListLen at) p → IsLoaded p.0.sizes o words hs log at k → Leads (ListLen at) k.answer
   unfolding Leads

@@ -91,8 +91,8 @@ module _ (z : Layout) (o : Opening) (words : List ℕ) (before : List Part) (x :
       } in
       let memory = memory_here z o words before x after log w in
       let keeps : Keeps z o (record { words = words; holdings = holdings before ++ holding_of x ∷ holdings after; log = log }) (record { words = words; holdings = holdings before ++ holding_of y ∷ holdings after; log = log ++ [] }) =
-          subst (λ (h : Holding). Keeps z o (record { words = words; holdings = holdings before ++ holding_of x ∷ holdings after; log = log }) (record { words = words; holdings = holdings before ++ h ∷ holdings after; log = log ++ [] })) (sym holds)
-          (subst (λ (l : List Applied). Keeps z o (record { words = words; holdings = holdings before ++ holding_of x ∷ holdings after; log = log }) (record { words = words; holdings = holdings before ++ holding_of x ∷ holdings after; log = l })) (sym nil) (record { lawful = memory; loads = λ n k l. l })) in
+      subst (λ (h : Holding). Keeps z o (record { words = words; holdings = holdings before ++ holding_of x ∷ holdings after; log = log }) (record { words = words; holdings = holdings before ++ h ∷ holdings after; log = log ++ [] })) (sym holds)
+      (subst (λ (l : List Applied). Keeps z o (record { words = words; holdings = holdings before ++ holding_of x ∷ holdings after; log = log }) (record { words = words; holdings = holdings before ++ holding_of x ∷ holdings after; log = l })) (sym nil) (record { lawful = memory; loads = λ n k l. l })) in
       subst (λ (l : List Applied). Lawful z o words (before ++ y ∷ after) l) nil
       (changed z o words words before x y after log [] w keeps (λ p. ap (λ (l : List Applied). places_by p 0 l) nil ∙ w.once p ∙ sym (once_same p before x y after port refl)) (subst (λ (l : List Applied). IsKnown z o words (holdings (before ++ y ∷ after)) l y) (sym nil) known))
 

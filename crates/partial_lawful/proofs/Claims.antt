@@ -117,7 +117,7 @@ module _ (z : Layout) (o : Opening) (words : List ℕ) (before : List Part) (x :
           let k = known_here z o words before x after log w in
           let below : c.component < x.begun.sizes.m = (subst (MayBeginAt x.begun) called k.begun).0 in
           quiet z o words before x after log w (ClaimingRecord c old) (Add (pool_counter z) (record_size s)) (pool_refused s) (holding_at (pool_refused s) (joined_since x)) e due (ap (λ (b : Bool). cond b (at_stage s (StoringRecord c old a 0)) (pool_refused s)) over) refl counter_inside pool_possible refl keeps (λ ks is. tt) refl
-            (record { none = refl; call = update_call c.component c.expected c.value; made = ap (call_at x.begun) called; may = may_refuse c.expected below })
+          (record { none = refl; call = update_call c.component c.expected c.value; made = ap (call_at x.begun) called; may = may_refuse c.expected below })
         where
           may_refuse : (f : Option ℕ) → c.component < x.begun.sizes.m → MayBeRefused x.begun.sizes.m (update_call c.component f c.value) refused.PoolSpent
           may_refuse None below = ((below, tt), tt)
@@ -147,7 +147,7 @@ module _ (z : Layout) (o : Opening) (words : List ℕ) (before : List Part) (x :
           let k = known_here z o words before x after log w in
           let may = subst (MayBeginAt x.begun) called k.begun in
           quiet z o words before x after log w ScanBegun (Add (pool_counter z) (1 + length s.asked)) t (holding_at t (joined_since x)) e due (ap (λ (b : Bool). cond b (at_stage s (StoringAnnouncement a 0)) (pool_refused s)) over) refl counter_inside pool_possible refl keeps (λ ks is. tt) refl
-            (record { none = refl; call = call.Scan x.begun.asked; made = ap (call_at x.begun) called; may = (names_all x.begun.sizes.m x.begun.asked k.sound.asked.each, may.0) })
+          (record { none = refl; call = call.Scan x.begun.asked; made = ap (call_at x.begun) called; may = (names_all x.begun.sizes.m x.begun.asked k.sound.asked.each, may.0) })
 
   -- a word of the announcement is stored
   pub announcement_stored : (at k : ℕ) → s.stage ≡ StoringAnnouncement at k → LeadsAt z o words before x after log s (StoringAnnouncement at k) (Store (at + k) (slice_index (announcement_block s.asked) k))
@@ -179,7 +179,7 @@ module _ (z : Layout) (o : Opening) (words : List ℕ) (before : List Part) (x :
       either true last =
           let all : 1 + length s.asked ≡ k + 1 = let is = eqb-true k (length s.asked) last in omega (arith, is) in
           quiet z o words before x after log w (StoringAnnouncement at k) (Store (at + k) (slice_index (announcement_block s.asked) k)) (begin_joining s at) (record (holding_in s (StoringAnnouncement at k) (joined_since x)) { own = Some (record { space = Pool; at = at; words = announcement_block s.asked; stored = k + 1 }) }) e refl (ap (λ (b : Bool). cond b (begin_joining s at) (at_stage s (StoringAnnouncement at (k + 1)))) last) refl inside refl
-            (ap (λ n. record (holding_in s (StoringAnnouncement at k) (joined_since x)) { own = Some (record { space = Pool; at = at; words = announcement_block s.asked; stored = n }) }) all) kept_stores (λ ks is. tt) refl refl
+          (ap (λ n. record (holding_in s (StoringAnnouncement at k) (joined_since x)) { own = Some (record { space = Pool; at = at; words = announcement_block s.asked; stored = n }) }) all) kept_stores (λ ks is. tt) refl refl
       either false more =
           quiet z o words before x after log w (StoringAnnouncement at k) (Store (at + k) (slice_index (announcement_block s.asked) k)) (at_stage s (StoringAnnouncement at (k + 1))) (record (holding_in s (StoringAnnouncement at k) (joined_since x)) { own = Some (record { space = Pool; at = at; words = announcement_block s.asked; stored = k + 1 }) }) e refl (ap (λ (b : Bool). cond b (begin_joining s at) (at_stage s (StoringAnnouncement at (k + 1)))) more) refl inside refl
-            refl kept_stores (λ ks is. tt) refl refl
+          refl kept_stores (λ ks is. tt) refl refl

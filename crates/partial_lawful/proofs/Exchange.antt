@@ -127,15 +127,15 @@ module _ (z : Layout) (o : Opening) (words : List ℕ) (before : List Part) (x :
       let low = g.low in
       let behind = over.behind in
       ends z o words before x after log w (Exchanging c old at) step (at_stage s (Finished (reply.Lost found))) dropped e refl leads (nothing_added lost) inside possible refl (lost_keeps lost) (λ ks is. tt)
-        n refl (below_values, ((over.entry, over.stands, over.component, over.stamp ∙ sym now), omega (arith, low, behind))) (omega (arith, within)) refl
-        (record {
-          call = call.Update c.component c.value;
-          note = note.Lost over.place;
-          is = refl;
-          made = call_made None is;
-          behind = let more = g.more (record { answer = found; at = length log }) in omega (arith, more, behind);
-          within = omega (arith, within);
-        })
+      n refl (below_values, ((over.entry, over.stands, over.component, over.stamp ∙ sym now), omega (arith, low, behind))) (omega (arith, within)) refl
+      (record {
+        call = call.Update c.component c.value;
+        note = note.Lost over.place;
+        is = refl;
+        made = call_made None is;
+        behind = let more = g.more (record { answer = found; at = length log }) in omega (arith, more, behind);
+        within = omega (arith, within);
+      })
   lost_at (Some t) is lost =
       let g = going z o words before x after log w (Exchanging c old at) e refl refl in
       let n : Noted = record { call = call.UpdateIf c.component t c.value; answer = answer.Changed found; note = Some (note.Saw (length log)) } in
@@ -145,15 +145,15 @@ module _ (z : Layout) (o : Opening) (words : List ℕ) (before : List Part) (x :
       let order = g.order in
       let last = g.inside in
       ends z o words before x after log w (Exchanging c old at) step (at_stage s (Finished (reply.Changed found))) dropped e refl leads (nothing_added lost) inside possible refl (lost_keeps lost) (λ ks is. tt)
-        n refl (below_values, ((omega arith, sym (stamp_then z o words before x after log w c.component below), other), seen_here z o words before x after log w)) (omega arith) refl
-        (record {
-          call = call.UpdateIf c.component t c.value;
-          note = note.Saw (length log);
-          is = refl;
-          made = call_made (Some t) is;
-          behind = let more = g.more (record { answer = found; at = length log }) in omega (arith, more, order, last);
-          within = omega arith;
-        })
+      n refl (below_values, ((omega arith, sym (stamp_then z o words before x after log w c.component below), other), seen_here z o words before x after log w)) (omega arith) refl
+      (record {
+        call = call.UpdateIf c.component t c.value;
+        note = note.Saw (length log);
+        is = refl;
+        made = call_made (Some t) is;
+        behind = let more = g.more (record { answer = found; at = length log }) in omega (arith, more, order, last);
+        within = omega arith;
+      })
 
   -- the exchange is won: the history gains the entry
   abbrev entry : Applied
@@ -208,7 +208,7 @@ module _ (z : Layout) (o : Opening) (words : List ℕ) (before : List Part) (x :
       let keeps : IsKept z o words (holdings before) (holding_of x) (holdings after) log words' (holding_of y) won_log = subst (λ (h : Holding). IsKept z o words (holdings before) (holding_of x) (holdings after) log words' h won_log) (sym holds) (kept_here words' dropped won_log (wins_are_kept z o words (holdings before) held (holdings after) log due (memory_at z o words before x after log w (Exchanging c old at) e) refl is)) in
       let split = holdings_split before y after in
       let here : IsKnown z o words' (holdings (before ++ y ∷ after)) won_log x = known_grows z o words words' hs (holdings (before ++ y ∷ after)) log (entry ∷ [])
-          (λ n k l. subst (λ (ks : List Holding). IsLoaded z o words' ks won_log n k) (sym split) (keeps.loads n k (subst (λ (ks : List Holding). IsLoaded z o words ks log n k) (holdings_split before x after) l))) x (known_here z o words before x after log w) in
+      (λ n k l. subst (λ (ks : List Holding). IsLoaded z o words' ks won_log n k) (sym split) (keeps.loads n k (subst (λ (ks : List Holding). IsLoaded z o words ks log n k) (holdings_split before x after) l))) x (known_here z o words before x after log w) in
       let longer : length won_log ≡ length log + 1 = length_push log entry in
       let pushed = seen_by-push 0 x.notes won_note in
       let due_step : step_of s ≡ Some step = ap (λ (u : Stage). step_at s u) e in

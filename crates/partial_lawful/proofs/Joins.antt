@@ -89,7 +89,7 @@ module _ (z : Layout) (o : Opening) (words : List ℕ) (before : List Part) (x :
         let keeps = slot_claims_are_kept z o words (holdings before) (held Claiming) (holdings after) log memory refl below in
         let keeps_x = kept_here (words_after words (Add (slot_counter z) 1)) (held (Storing n)) log (subst (λ (h : Holding). IsKept z o words (holdings before) h (holdings after) log (words_after words (Add (slot_counter z) 1)) (held (Storing n)) log) (sym (ap held at)) keeps) in
         quiet z o words before x after log w Joining (Add (slot_counter z) 1) t (held (Storing n)) e due (leads true room) refl inside possible (since_same t ∙ ap (λ (u : Stage). holding_in t u (joined_since x)) e) keeps_x (λ ks is. tt) refl
-          (subst (λ (u : Stage). AreNotesOf (gone x log n []) (reply_at u) []) (sym e) refl)
+        (subst (λ (u : Stage). AreNotesOf (gone x log n []) (reply_at u) []) (sym e) refl)
 
     -- all slots were claimed before
     spent : nat_lt (get_or words (slot_counter z) 0) s.join.sizes.slots ≡ false → LeadsAt z o words before x after log s Joining (Add (slot_counter z) 1)
@@ -110,7 +110,7 @@ module _ (z : Layout) (o : Opening) (words : List ℕ) (before : List Part) (x :
         let k = known_here z o words before x after log w in
         let begun = subst (MayBeginAt x.begun) known.called k.begun in
         quiet z o words before x after log w Joining (Add (slot_counter z) 1) t dropped e due (leads false over) refl inside possible (since_same t) keeps_x (λ ks is. tt) refl
-          (record { none = refl; call = call.Scan x.begun.asked; made = ap (call_at x.begun) known.called; may = scan_refused x.begun k.sound begun })
+        (record { none = refl; call = call.Scan x.begun.asked; made = ap (call_at x.begun) known.called; may = scan_refused x.begun k.sound begun })
 
     pub slot_claimed : LeadsAt z o words before x after log s Joining (Add (slot_counter z) 1)
     slot_claimed = either (nat_lt (get_or words (slot_counter z) 0) s.join.sizes.slots) refl
@@ -136,7 +136,7 @@ module _ (z : Layout) (o : Opening) (words : List ℕ) (before : List Part) (x :
       let count = w.memory.count in
       let due : step_at s Joining ≡ Some (Store (slot_word z slot) s.join.announcement) = ap (λ (i : JoinStage). join_step s.join.sizes s.join.announcement i) at ∙ ap (λ (y : Layout). Some (Store (slot_word y slot) s.join.announcement)) join_sizes in
       quiet z o words before x after log w Joining (Store (slot_word z slot) s.join.announcement) t (holding_at t (length log)) e due (ap (λ (i : JoinStage). let j = join_after s.join.sizes i 0 in after_joining (record s { join = record s.join { stage = j } }) j) at) refl (omega (arith, below, count)) (omega arith)
-        (ap (λ (b : Bool). holding_at t (cond b (length log) (joined_since x))) (ap is_storing at)) keeps_x (λ ks is. tt) refl refl
+      (ap (λ (b : Bool). holding_at t (cond b (length log) (joined_since x))) (ap is_storing at)) keeps_x (λ ks is. tt) refl refl
 
   -- a join that isn't finished
   pub joining_leads : (step : Step) → step_at s Joining ≡ Some step → LeadsAt z o words before x after log s Joining step

@@ -140,10 +140,10 @@ module _ (z : Layout) (o : Opening) (words : List ℕ) (before : List Part) (x :
         together = record {
           within = omega (arith, to, inside);
           values = same_map (slice_index s.rows.values) (value_of o (take loaded.prefix log)) s.asked (λ i lt.
-            let at = named_at (λ j. Contains (map (λ (q : ℕ × ℕ). q.0) named.0) j) s.asked named.2 i lt in
-            let pair = pair_of named.0 at.0 (slice_index s.asked i) at.1 at.2 in
-            let mine = same_length z words hs l.0 named.0 l.3 named.1 loaded.shown at.0 (slice_index s.asked i) pair.0 pair.1 in
-            loaded.loaded at.0 (let below = place_below l.3 at.0 (slice_index s.asked i, mine.0) mine.1 in omega (arith, all, below)) (slice_index s.asked i) mine.0 mine.1);
+              let at = named_at (λ j. Contains (map (λ (q : ℕ × ℕ). q.0) named.0) j) s.asked named.2 i lt in
+              let pair = pair_of named.0 at.0 (slice_index s.asked i) at.1 at.2 in
+              let mine = same_length z words hs l.0 named.0 l.3 named.1 loaded.shown at.0 (slice_index s.asked i) pair.0 pair.1 in
+              loaded.loaded at.0 (let below = place_below l.3 at.0 (slice_index s.asked i, mine.0) mine.1 in omega (arith, all, below)) (slice_index s.asked i) mine.0 mine.1);
           collects = are_collects (length s.asked) s.embedded.collects s.embedded.borrowed some (omega (arith, three)) few (λ _. three);
           borrowed = subst (λ (f : Option ℕ). IfSome f (λ t. (k j : ℕ) × (loaded.prefix ≤ k) × Contains s.asked j × IsEntryFor log k j t)) stamp_is (third.place, slice_index s.asked third.position, to, (third.position, third.within, in_list s.asked third.position third.within), (third.entry, third.stands, third.component, third.is));
         };
@@ -199,15 +199,15 @@ module _ (z : Layout) (o : Opening) (words : List ℕ) (before : List Part) (x :
       let inside = seen.together.within in
       let count = w.memory.count in
       ends z o words before x after log w Leaving (Store (slot_word z s.leave.slot) 1) t (record held { claimed = None }) e leave_due refl refl (omega (arith, slot, count)) refl refl keeps_x (λ ks is. tt)
-        n refl (names, (seen.together, omega (arith, low, first, from))) inside refl
-        (record {
-          call = call.Scan s.asked;
-          note = note.Saw seen.prefix;
-          is = ap (λ (c : CoreState). record { call = call.Scan s.asked; answer = answer.Scanned (scanned_values c) s.embedded.collects s.embedded.borrowed; note = Some (note.Saw seen.prefix) } ∷ []) (sym (core_is n));
-          made = ap (call_at x.begun) known.0.called ∙ ap (λ js. Some (call.Scan js)) (sym known.0.asked);
-          behind = let more = g.more (record { answer = 0; at = length log }) in omega (arith, more, first, from);
-          within = inside;
-        })
+      n refl (names, (seen.together, omega (arith, low, first, from))) inside refl
+      (record {
+        call = call.Scan s.asked;
+        note = note.Saw seen.prefix;
+        is = ap (λ (c : CoreState). record { call = call.Scan s.asked; answer = answer.Scanned (scanned_values c) s.embedded.collects s.embedded.borrowed; note = Some (note.Saw seen.prefix) } ∷ []) (sym (core_is n));
+        made = ap (call_at x.begun) known.0.called ∙ ap (λ js. Some (call.Scan js)) (sym known.0.asked);
+        behind = let more = g.more (record { answer = 0; at = length log }) in omega (arith, more, first, from);
+        within = inside;
+      })
     where
       core_is : (n : Noted) → core_of (gone x log 0 (n ∷ [])) ≡ record s { leave = record s.leave { left = true }; stage = Finished (scanned_reply s) }
       core_is n = gone_core x log 0 (n ∷ []) ∙ ap (λ u. advance_at s u 0) e

@@ -34,18 +34,21 @@ fresh_sound z p =
 
 fresh_known : (z : Layout) (o : Opening) (words : List ℕ) (hs : List Holding) (p n : ℕ) → p + n ≤ 64 → AllByRecursion (IsKnown z o words hs []) (fresh_parts z p n)
 fresh_known z o words hs p zero few = tt
-fresh_known z o words hs p (suc n) few = (record {
-  port = omega (arith, few);
-  sizes = refl;
-  seen = refl;
-  notes = tt;
-  shown = omega arith;
-  sound = fresh_sound z p;
-  begun = tt;
-  since = omega arith;
-  earlier = λ rest. omega arith;
-  kept = tt;
-}, fresh_known z o words hs (p + 1) n (omega (arith, few)))
+fresh_known z o words hs p (suc n) few = (
+  record {
+    port = omega (arith, few);
+    sizes = refl;
+    seen = refl;
+    notes = tt;
+    shown = omega arith;
+    sound = fresh_sound z p;
+    begun = tt;
+    since = omega arith;
+    earlier = λ rest. omega arith;
+    kept = tt;
+  },
+  fresh_known z o words hs (p + 1) n (omega (arith, few)),
+)
 
 fresh_notes : (z : Layout) (q p n : ℕ) → notes_by q (fresh_parts z p n) ≡ []
 fresh_notes z q p zero = refl

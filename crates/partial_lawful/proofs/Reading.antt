@@ -95,8 +95,8 @@ module _ (z : Layout) (o : Opening) (words : List ℕ) (before : List Part) (x :
       let s = standing z o words hs log w.memory first stamp (subst (IsWithin o log first) (sym known.2) (stamp_within o log first j below)) in
       let value : a ≡ value_of o (take first log) j = ap (λ m. get_or words (m + 1) 0) known.2 ∙ value_behind_stamp o words log j first w.memory.agrees below in
       load_ends z o words before x after log w (LoadingValue stamp) (stamp + 1) (at_stage (core_of x) (Finished (reply.Read a stamp))) e refl refl refl (standing_word z o words hs log w.memory stamp 1 (omega arith) s) tt refl
-        n refl (below, ((omega (arith, order, inside), value, known.2), g.low)) (omega (arith, order, inside)) refl
-        (record { call = call.Read j; note = note.Saw first; is = refl; made = ap (call_at x.begun) known.1; behind = let more = g.more (record { answer = a; at = length log }) in omega (arith, more); within = omega (arith, order, inside) })
+      n refl (below, ((omega (arith, order, inside), value, known.2), g.low)) (omega (arith, order, inside)) refl
+      (record { call = call.Read j; note = note.Saw first; is = refl; made = ap (call_at x.begun) known.1; behind = let more = g.more (record { answer = a; at = length log }) in omega (arith, more); within = omega (arith, order, inside) })
 
   -- a call that has made no step keeps no answer, and its machine is the one that has begun it
   pub none_kept : (t : Stage) → (core_of x).stage ≡ t → is_begun t ≡ true → x.kept ≡ []
@@ -117,16 +117,16 @@ module _ (z : Layout) (o : Opening) (words : List ℕ) (before : List Part) (x :
       let begun = begun_here (UpdateBegun c) e refl in
       let kept = none_kept (UpdateBegun c) e refl in
       load_ends z o words before x after log w (UpdateBegun c) c.component (at_stage (core_of x) (Finished (reply.Changed a))) e refl (ap (λ b. cond b (begin_getting (core_of x) c a) (at_stage (core_of x) (Finished (reply.Changed a)))) other) refl
-        (component_readable c.component below) (at_sizes (λ y. IsRecord y a) (component_record c.component below)) refl
-        n refl (omega (arith, below, values), ((omega arith, sym (stamp_then c.component below), differs), seen_here z o words before x after log w)) (omega arith) refl
-        (record {
-          call = call.UpdateIf c.component expected c.value;
-          note = note.Saw (length log);
-          is = refl;
-          made = ap (call_at x.begun) (sym (ap (λ (d : CoreState). d.stage) begun) ∙ e) ∙ ap (λ (f : Option ℕ). Some (update_call c.component f c.value)) is;
-          behind = let first : first_at (x.kept ++ record { answer = a; at = length log } ∷ []) ≡ length log = ap (λ (l : List Kept). first_at (l ++ record { answer = a; at = length log } ∷ [])) kept in omega (arith, first);
-          within = omega arith;
-        })
+      (component_readable c.component below) (at_sizes (λ y. IsRecord y a) (component_record c.component below)) refl
+      n refl (omega (arith, below, values), ((omega arith, sym (stamp_then c.component below), differs), seen_here z o words before x after log w)) (omega arith) refl
+      (record {
+        call = call.UpdateIf c.component expected c.value;
+        note = note.Saw (length log);
+        is = refl;
+        made = ap (call_at x.begun) (sym (ap (λ (d : CoreState). d.stage) begun) ∙ e) ∙ ap (λ (f : Option ℕ). Some (update_call c.component f c.value)) is;
+        behind = let first : first_at (x.kept ++ record { answer = a; at = length log } ∷ []) ≡ length log = ap (λ (l : List Kept). first_at (l ++ record { answer = a; at = length log } ∷ [])) kept in omega (arith, first);
+        within = omega arith;
+      })
 
   -- an update goes on where the component has the stamp that it expects
   pub update_begun : (c : Change) → (core_of x).stage ≡ UpdateBegun c → LeadsAt z o words before x after log (core_of x) (UpdateBegun c) (Load c.component)
@@ -137,7 +137,7 @@ module _ (z : Layout) (o : Opening) (words : List ℕ) (before : List Part) (x :
           let a = get_or words c.component 0 in
           let below : c.component < z.m = of_sizes (λ y. c.component < y.m) (sound_at z o words before x after log w (UpdateBegun c) e).0 in
           load_quiet z o words before x after log w (UpdateBegun c) c.component (begin_getting (core_of x) c a) e refl (ap (λ b. cond b (begin_getting (core_of x) c a) (at_stage (core_of x) (Finished (reply.Changed a)))) is) refl
-            (component_readable c.component below) (at_sizes (λ y. IsRecord y a) (component_record c.component below)) refl refl refl
+          (component_readable c.component below) (at_sizes (λ y. IsRecord y a) (component_record c.component below)) refl refl refl
       by_expected false is = stamp_changed c c.expected refl e is
 
   -- what an embedded scan is to load may be loaded, and what it answers is possible
@@ -162,9 +162,9 @@ module _ (z : Layout) (o : Opening) (words : List ℕ) (before : List Part) (x :
       let next = viewing.step_of s.found.indices (scanning t) in
       subst (λ (f : Step). LeadsAt z o words before x after log s (Viewing c old) f) (sym now.1)
       (load_quiet z o words before x after log w (Viewing c old) n (after_scanning t s.found.indices (ClaimingRecord c old)) e (due ∙ ap (λ (f : Step). Some f) now.1) refl refl now.2 now.3
-        (option_either next t (at_stage t (ClaimingRecord c old)) (λ u. holding_at u (joined_since x) ≡ holding_in s (Viewing c old) (joined_since x)) (ap (λ (u : Stage). holding_in t u (joined_since x)) e) refl)
-        refl
-        (option_either next t (at_stage t (ClaimingRecord c old)) (λ u. AreNotesOf (gone x log (get_or words n 0) []) (reply_of u) []) (subst (λ (u : Stage). AreNotesOf (gone x log (get_or words n 0) []) (reply_at u) []) (sym e) refl) refl))
+      (option_either next t (at_stage t (ClaimingRecord c old)) (λ u. holding_at u (joined_since x) ≡ holding_in s (Viewing c old) (joined_since x)) (ap (λ (u : Stage). holding_in t u (joined_since x)) e) refl)
+      refl
+      (option_either next t (at_stage t (ClaimingRecord c old)) (λ u. AreNotesOf (gone x log (get_or words n 0) []) (reply_of u) []) (subst (λ (u : Stage). AreNotesOf (gone x log (get_or words n 0) []) (reply_at u) []) (sym e) refl) refl))
 
   -- an embedded scan of a scan's positions
   pub scanning_leads : (step : Step) → (core_of x).stage ≡ Scanning → step_at (core_of x) Scanning ≡ Some step → LeadsAt z o words before x after log (core_of x) Scanning step
@@ -178,6 +178,6 @@ module _ (z : Layout) (o : Opening) (words : List ℕ) (before : List Part) (x :
       let next = viewing.step_of s.asked (scanning t) in
       subst (λ (f : Step). LeadsAt z o words before x after log s Scanning f) (sym now.1)
       (load_quiet z o words before x after log w Scanning n (after_scanning t s.asked Leaving) e (due ∙ ap (λ (f : Step). Some f) now.1) refl refl now.2 now.3
-        (option_either next t (at_stage t Leaving) (λ u. holding_at u (joined_since x) ≡ holding_in s Scanning (joined_since x)) (ap (λ (u : Stage). holding_in t u (joined_since x)) e) refl)
-        refl
-        (option_either next t (at_stage t Leaving) (λ u. AreNotesOf (gone x log (get_or words n 0) []) (reply_of u) []) (subst (λ (u : Stage). AreNotesOf (gone x log (get_or words n 0) []) (reply_at u) []) (sym e) refl) refl))
+      (option_either next t (at_stage t Leaving) (λ u. holding_at u (joined_since x) ≡ holding_in s Scanning (joined_since x)) (ap (λ (u : Stage). holding_in t u (joined_since x)) e) refl)
+      refl
+      (option_either next t (at_stage t Leaving) (λ u. AreNotesOf (gone x log (get_or words n 0) []) (reply_of u) []) (subst (λ (u : Stage). AreNotesOf (gone x log (get_or words n 0) []) (reply_at u) []) (sym e) refl) refl))

@@ -112,16 +112,16 @@ module _ (z : Layout) (o : Opening) (words : List ℕ) (before : List Part) (x :
         let split = holdings_split before y after ∙ ap (λ (h : Holding). holdings before ++ h ∷ holdings after) (holding_then new) in
         let nil = append-nil log in
         let grown = known_grows z o words (words_after words step) all_hold (holdings (before ++ y ∷ after)) log []
-            (λ n k l. subst (λ (hs : List Holding). IsLoaded z o (words_after words step) hs (log ++ []) n k) (sym split) (subst (λ (m : List Applied). IsLoaded z o (words_after words step) (holdings before ++ h' ∷ holdings after) m n k) (sym nil) (keeps.loads n k (subst (λ (hs : List Holding). IsLoaded z o words hs log n k) (holdings_split before x after) l)))) x known_here in
+        (λ n k l. subst (λ (hs : List Holding). IsLoaded z o (words_after words step) hs (log ++ []) n k) (sym split) (subst (λ (m : List Applied). IsLoaded z o (words_after words step) (holdings before ++ h' ∷ holdings after) m n k) (sym nil) (keeps.loads n k (subst (λ (hs : List Holding). IsLoaded z o words hs log n k) (holdings_split before x after) l)))) x known_here in
         let here : IsKnown z o (words_after words step) (holdings (before ++ y ∷ after)) log x = subst (λ (m : List Applied). IsKnown z o (words_after words step) (holdings (before ++ y ∷ after)) m x) nil grown in
         let true_now : IsTrueYet z o (words_after words step) (holdings (before ++ y ∷ after)) log (step_of (core_of x)) (record { answer = answer_of words step; at = length log }) = subst (λ (f : Option Step). IsTrueYet z o (words_after words step) (holdings (before ++ y ∷ after)) log f (record { answer = answer_of words step; at = length log })) (sym due_here) (yet (holdings (before ++ y ∷ after)) split) in
         let keeps_nil : Keeps z o (record { words = words; holdings = holdings before ++ holding_of x ∷ holdings after; log = log }) (record { words = words_after words step; holdings = holdings before ++ holding_of y ∷ holdings after; log = log ++ [] }) =
-            subst (λ (h : Holding). Keeps z o (record { words = words; holdings = holdings before ++ holding_of x ∷ holdings after; log = log }) (record { words = words_after words step; holdings = holdings before ++ h ∷ holdings after; log = log ++ [] })) (sym (holding_then new))
-            (subst (λ (m : List Applied). Keeps z o (record { words = words; holdings = holdings before ++ holding_of x ∷ holdings after; log = log }) (record { words = words_after words step; holdings = holdings before ++ h' ∷ holdings after; log = m })) (sym nil) keeps) in
+        subst (λ (h : Holding). Keeps z o (record { words = words; holdings = holdings before ++ holding_of x ∷ holdings after; log = log }) (record { words = words_after words step; holdings = holdings before ++ h ∷ holdings after; log = log ++ [] })) (sym (holding_then new))
+        (subst (λ (m : List Applied). Keeps z o (record { words = words; holdings = holdings before ++ holding_of x ∷ holdings after; log = log }) (record { words = words_after words step; holdings = holdings before ++ h' ∷ holdings after; log = m })) (sym nil) keeps) in
         subst (λ (m : List Applied). Lawful z o (words_after words step) (before ++ y ∷ after) m) nil
         (changed z o words (words_after words step) before x y after log [] w keeps_nil
-          (λ p. ap (λ (m : List Applied). places_by p 0 m) nil ∙ w.once p ∙ sym (once_same p before x y after refl (written_same x.notes new written)))
-          (subst (λ (m : List Applied). IsKnown z o (words_after words step) (holdings (before ++ y ∷ after)) m y) (sym nil) (known (holdings (before ++ y ∷ after)) here true_now)))
+        (λ p. ap (λ (m : List Applied). places_by p 0 m) nil ∙ w.once p ∙ sym (once_same p before x y after refl (written_same x.notes new written)))
+        (subst (λ (m : List Applied). IsKnown z o (words_after words step) (holdings (before ++ y ∷ after)) m y) (sym nil) (known (holdings (before ++ y ∷ after)) here true_now)))
 
     made : (new : List Noted) → Lawful z o (words_after words step) (before ++ gone x log (answer_of words step) new ∷ after) log → AreNotesOf (gone x log (answer_of words step) new) (reply_of t) new → LeadsAt z o words before x after log (core_of x) s step
     made new lawful noted =

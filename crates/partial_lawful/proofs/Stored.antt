@@ -32,7 +32,7 @@ use Rattle.partial_lawful.proofs.Going.{IsViewed}
 use Rattle.partial_lawful.proofs.Parts.{holdings_split}
 use Rattle.partial_lawful.proofs.Steps.{LeadsAt, holding_in, sizes_here, sound_here, sound_at, memory_at, going, quiet}
 use Rattle.partial_lawful.proofs.Joins.{keeps_then}
-use Rattle.partial_lawful.proofs.StoredFacts.{IsOwned, AreOwned, HasViewed, length_record, record_due}
+use Rattle.partial_lawful.proofs.StoredFacts.{HasViewed, length_record, record_due}
 
 -- the announcement of each port that had joined was found
 finds_all : (hs : List Holding) (low : ℕ) (indices : List ℕ) → sets.FindsJoined hs low indices → AllByRecursion (λ v. IfJoined v (λ l j. j.since < low → sets.HasAll indices j)) hs
@@ -132,7 +132,7 @@ module _ (z : Layout) (o : Opening) (words : List ℕ) (before : List Part) (x :
       sym (then'.block (omega (arith, above))).0
 
   -- the last word is stored: the exchange is due
-  module _ (owned : AreOwned words log) (last : (k + 1 == record_size s) ≡ true) where
+  module _ (last : (k + 1 == record_size s) ≡ true) where
     abbrev due : Due
     due = record { component = c.component; old = old; value = c.value; at = at }
 
@@ -160,9 +160,8 @@ module _ (z : Layout) (o : Opening) (words : List ℕ) (before : List Part) (x :
         let below : c.component < z.m = subst (λ (y : Layout). c.component < y.m) sizes sound.0.0 in
         let indices : AreComponents z s.found.indices = subst (λ (y : Layout). AreComponents y s.found.indices) sizes (sound_here z o words before x after log w).indices in
         let viewed : HasViewed o words' log first s = viewed_then z o words words' (holdings (before ++ x ∷ after)) log first s inside entry_stays known.1 in
-        let owned_then : AreOwned words' log = λ q d is. subst (IsOwned log) (sym (entry_stays q d 2 is (omega arith))) (owned q d is) in
         let dues = dues_are_kept z o words' (holdings before) (record held { own = Some whole }) (holdings after) log due all_stored.lawful
-        (record_due z o words' (holdings before) (record held { own = Some whole }) (holdings after) log all_stored.lawful s c old at refl first inside below known.0.stamp (others_found first known.1.0) refl viewed owned_then indices) in
+        (record_due z o words' (holdings before) (record held { own = Some whole }) (holdings after) log all_stored.lawful s c old at refl first inside below known.0.stamp (others_found first known.1.0) refl viewed indices) in
         keeps_then z o (record { words = words; holdings = hs; log = log }) (record { words = words'; holdings = holdings before ++ record held { own = Some whole } ∷ holdings after; log = log }) (record { words = words'; holdings = holdings before ++ record held { own = Some whole; due = Some due } ∷ holdings after; log = log }) all_stored dues
 
     last_stored : LeadsAt z o words before x after log s (StoringRecord c old at k) step
@@ -172,9 +171,9 @@ module _ (z : Layout) (o : Opening) (words : List ℕ) (before : List Part) (x :
         quiet z o words before x after log w (StoringRecord c old at k) step t h' e refl (ap (λ (b : Bool). at_stage s (cond b (Exchanging c old at) (StoringRecord c old at (k + 1)))) last) refl inside refl refl (kept_here h' comes_due) (λ ks is. tt) refl refl
 
   -- a word of the record is stored
-  pub record_stored : AreOwned words log → LeadsAt z o words before x after log s (StoringRecord c old at k) step
-  record_stored owned = either (k + 1 == record_size s) refl
+  pub record_stored : LeadsAt z o words before x after log s (StoringRecord c old at k) step
+  record_stored = either (k + 1 == record_size s) refl
     where
       either : (b : Bool) → (k + 1 == record_size s) ≡ b → LeadsAt z o words before x after log s (StoringRecord c old at k) step
-      either true last = last_stored owned last
+      either true last = last_stored last
       either false more = word_stored more

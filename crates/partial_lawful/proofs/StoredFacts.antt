@@ -16,7 +16,7 @@ use Rattle.partial_words.proofs.RecordLemmas.{length-record_block, reads_back}
 use Rattle.partial_active.specs.IndexSet.{has_index}
 use Rattle.partial_machine.specs.declared.stage.Change.{Change}
 use Rattle.partial_machine.specs.Machine.{CoreState, AreComponents, record_words, record_size, own_pairs, view_at, scanning}
-use Rattle.partial_state.specs.Views.{Block, Joined, HasPairs, IsView, HasFreshView, IsWithin, IsBegunSince, Covers, Names, AreApart, IsApartFrom}
+use Rattle.partial_state.specs.Views.{IsViewOf, Block, Joined, HasPairs, IsView, HasFreshView, IsWithin, IsBegunSince, Covers, Names, AreApart, IsApartFrom}
 use Rattle.partial_state.specs.Holdings.{Own, Holding, EachTwo, IfJoined, HaveOtherPorts, block_of, block_at, joined_in, others_of, unpublished}
 use Rattle.partial_state.specs.Holdings.Space.{Pool}
 use Rattle.partial_state.specs.LawfulWords.{LawfulWords, IsTied, IsOwn, IsDue, CoversAll}
@@ -76,12 +76,23 @@ view_stands words at old v view (p ∷ ps) some stands = λ k lt.
     (omega (arith, inside), ap (λ n. get_or words n 0) (omega arith) ∙ h.1)
 
 -- a view stands behind the record of an entry, or is none
-abbrev pub IsOwned : List Applied → ℕ → Type 0
+abbrev IsOwned : List Applied → ℕ → Type 0
 IsOwned log v = (v ≡ 0) ⊎ ((k : ℕ) × (e : Applied) × (slice_get log k ≡ Some e) × (v ≡ e.stamp + 3))
 
--- the view of each entry is none, or stands behind the record of an entry
-abbrev pub AreOwned : List ℕ → List Applied → Type 0
-AreOwned words log = (k : ℕ) (e : Applied) → slice_get log k ≡ Some e → IsOwned log (view_of words e.stamp)
+-- an entry's view is of such a kind
+entry_owned : (log : List Applied) (k : ℕ) (e : Applied) (v : ℕ) → slice_get log k ≡ Some e → IsViewOf log e.stamp v → IsOwned log v
+entry_owned log k e v is (inl none) = inl none
+entry_owned log k e v is (inr (inl own)) = inr (k, e, is, own)
+entry_owned log k e v is (inr (inr its)) = inr its
+
+-- a record's view that is none or its own, and one that it shares
+own_or_none : (log : List Applied) (at v : ℕ) (b : Bool) → v ≡ cond b 0 (at + 3) → IsViewOf log at v
+own_or_none log at v true e = inl e
+own_or_none log at v false e = inr (inl e)
+
+shared_view : (log : List Applied) (stamp v u : ℕ) → v ≡ u → IsOwned log u → IsViewOf log stamp v
+shared_view log stamp v u same (inl none) = inl (same ∙ none)
+shared_view log stamp v u same (inr its) = inr (inr (its.0, its.1, its.2, same ∙ its.3))
 
 -- what an update has viewed: the values after one prefix, or a third record with its view
 pub record HasViewed (o : Opening) (words : List ℕ) (log : List Applied) (first : ℕ) (s : CoreState) : Type 0 where
@@ -234,6 +245,7 @@ module _ (z : Layout) (o : Opening) (words : List ℕ) (before : List Holding) (
       fresh = record {
         pairs = pairs;
         shown = shown;
+        owner = own_or_none log at (view_of words at) (length s.found.indices == 0) (view_is (length s.found.indices == 0) refl);
         prefix = n;
         contains = prev_within n values.from;
         without = values.to;
@@ -243,7 +255,7 @@ module _ (z : Layout) (o : Opening) (words : List ℕ) (before : List Holding) (
     }
 
   -- the view of a third record is borrowed: it is fresh and covering as that record's is
-  module _ (stamp : ℕ) (some : s.embedded.borrowed ≡ Some stamp) (third : IsThird words log s.found.indices first (scanning s) stamp) (shared : s.embedded.view ≡ view_of words stamp) (owned : AreOwned words log) where
+  module _ (stamp : ℕ) (some : s.embedded.borrowed ≡ Some stamp) (third : IsThird words log s.found.indices first (scanning s) stamp) (shared : s.embedded.view ≡ view_of words stamp) where
     bare : own_pairs s ≡ []
     bare = ap (λ (f : Option ℕ). option_map_or (λ _. []) f (map {B = ℕ × ℕ} (λ j. (j, get_or s.rows.values j 0)) s.found.indices)) some
 
@@ -274,8 +286,11 @@ module _ (z : Layout) (o : Opening) (words : List ℕ) (before : List Holding) (
         let own_size = three_long in
         elim apart [ inl front ↦ omega (arith, front, size, same) | inr behind ↦ omega (arith, behind, own_size, same) ]
 
+    owned : IsOwned log (view_of words third.entry.stamp)
+    owned = let fresh = theirs in entry_owned log third.place third.entry (view_of words third.entry.stamp) third.stands fresh.owner
+
     view_elsewhere : view_of words at ≢ at + 3
-    view_elsewhere e = elim (owned third.place third.entry third.stands) [
+    view_elsewhere e = elim owned [
       | inl none ↦ let same = view_same in omega (arith, e, same, none)
       | inr its ↦ let same = view_same in let is = its.3 in elsewhere its.0 its.1 its.2 (omega (arith, e, same, is))
     ]
@@ -294,6 +309,7 @@ module _ (z : Layout) (o : Opening) (words : List ℕ) (before : List Holding) (
           fresh = record {
             pairs = fresh.pairs;
             shown = shown_here fresh.pairs fresh.shown;
+            owner = shared_view log at (view_of words at) (view_of words third.entry.stamp) view_same owned;
             prefix = fresh.prefix;
             contains = prev_within fresh.prefix (omega (arith, from));
             without = omega (arith, within, without);
@@ -306,9 +322,9 @@ module _ (z : Layout) (o : Opening) (words : List ℕ) (before : List Holding) (
         }
 
   -- the record's exchange may be due
-  pub record_due : joined_in h.claimed ≡ None → HasViewed o words log first s → AreOwned words log → AreComponents z s.found.indices → IsDue z o words h (others_of h.port hs) log (record { component = c.component; old = old; value = c.value; at = at })
-  record_due free viewed owned indices = due_of free (by_borrowed s.embedded.borrowed refl)
+  pub record_due : joined_in h.claimed ≡ None → HasViewed o words log first s → AreComponents z s.found.indices → IsDue z o words h (others_of h.port hs) log (record { component = c.component; old = old; value = c.value; at = at })
+  record_due free viewed indices = due_of free (by_borrowed s.embedded.borrowed refl)
     where
       by_borrowed : (f : Option ℕ) → s.embedded.borrowed ≡ f → Shows
       by_borrowed None is = let own = viewed.own is in shows_own is own.0 own.1 indices.few indices.each
-      by_borrowed (Some stamp) is = let third = viewed.borrowed stamp is in shows_borrowed stamp is third.0 third.1 owned
+      by_borrowed (Some stamp) is = let third = viewed.borrowed stamp is in shows_borrowed stamp is third.0 third.1

@@ -11,7 +11,7 @@ use Rattle.partial_words.specs.Record.{StandsAt, view_block, prev_of, view_of}
 use Rattle.partial_words.specs.Announcement.{announcement_block}
 use Rattle.partial_words.specs.VacatedList.{list_block}
 use Rattle.partial_words.proofs.RecordLemmas.{length-pairs}
-use Rattle.partial_state.specs.Views.{Block, AreApart, Joined, HasFreshView, HasPairs, IsView, IsWithin, IsBegunSince, Covers, Names, IsAnnounced, IsPublishedList, IsApartFrom, IsHead}
+use Rattle.partial_state.specs.Views.{IsViewOf, Block, AreApart, Joined, HasFreshView, HasPairs, IsView, IsWithin, IsBegunSince, Covers, Names, IsAnnounced, IsPublishedList, IsApartFrom, IsHead}
 use Rattle.partial_state.specs.Loads.{IsPublished, IsSlotAnswer}
 use Rattle.partial_state.proofs.ListLemmas.{all_weaker}
 
@@ -90,6 +90,12 @@ block_published z words us b w claimed apart from to =
       claimed = elim claimed [ inl h ↦ let a = h.0 in let c = h.1 in inl (omega (arith, a, to), omega (arith, c, to)) | inr h ↦ let a = h.0 in let c = h.1 in inr (omega (arith, a, from), omega (arith, c, to)) ];
       apart = parts_apart us (word_at w) b from (omega (arith, to)) apart;
     }
+
+-- whose block a view stands in
+owned_moves : (o : Opening) (log log' : List Applied) (stamp v v' : ℕ) → Grows o log log' → v' ≡ v → IsViewOf log stamp v → IsViewOf log' stamp v'
+owned_moves o log log' stamp v v' g same (inl none) = inl (same ∙ none)
+owned_moves o log log' stamp v v' g same (inr (inl own)) = inr (inl (same ∙ own))
+owned_moves o log log' stamp v v' g same (inr (inr its)) = inr (inr (its.0, its.1, g.longer its.0 its.1 its.2, same ∙ its.3))
 
 module _ (z : Layout) (words words' : List ℕ) (us us' : List Block) (f : Frame z words words' us us') where
   pub published_moves : (w : ℕ) → IsPublished z words us w → IsPublished z words' us' w
@@ -197,6 +203,7 @@ module _ (z : Layout) (words words' : List ℕ) (us us' : List Block) (f : Frame
         record {
           pairs = w.pairs;
           shown = pairs_move stamp w.pairs view w.shown;
+          owner = owned_moves o log log' stamp (view_of words stamp) (view_of words' stamp) g view w.owner;
           prefix = w.prefix;
           contains = subst (IsWithin o log' w.prefix) (sym prev) (within_grows o log log' w.prefix (prev_of words stamp) g w.contains);
           without = omega (arith, without, later);

@@ -41,11 +41,16 @@ HasPairs z words unpublished stamp pairs = ((view_of words stamp ≡ 0) × (pair
 abbrev pub IsWithin : Opening → List Applied → ℕ → ℕ → Type 0
 IsWithin o log n stamp = ((j : ℕ) × (j < length o.values) × (stamp ≡ initial_stamp o j)) ⊎ ((k : ℕ) × (e : Applied) × (k < n) × (slice_get log k ≡ Some e) × (e.stamp ≡ stamp))
 
+-- the view of the record at `stamp` is none, stands behind the record itself, or behind the record of an entry
+abbrev pub IsViewOf : List Applied → ℕ → ℕ → Type 0
+IsViewOf log stamp view = (view ≡ 0) ⊎ (view ≡ stamp + 3) ⊎ ((k : ℕ) × (e : Applied) × (slice_get log k ≡ Some e) × (view ≡ e.stamp + 3))
+
 -- The record at `stamp`, whose place in the history is k or would be, has a fresh view: the values after
 -- one prefix of the history that contains the record before it and doesn't contain itself.
 pub record HasFreshView (z : Layout) (o : Opening) (words : List ℕ) (unpublished : List Block) (log : List Applied) (k stamp : ℕ) : Type 0 where
   pub pairs : List (ℕ × ℕ)
   pub shown : HasPairs z words unpublished stamp pairs
+  pub owner : IsViewOf log stamp (view_of words stamp)
   pub prefix : ℕ
   pub contains : IsWithin o log prefix (prev_of words stamp)
   pub without : prefix ≤ k
