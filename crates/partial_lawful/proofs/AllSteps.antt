@@ -60,7 +60,7 @@ begun_sound s _ is may = absurd (false≢true is)
 
 module _ (z : Layout) (o : Opening) (words : List ℕ) (before : List Part) (x : Part) (after : List Part) (log : List Applied) (w : Lawful z o words (before ++ x ∷ after) log) where
   -- a call begins where the machine is at rest: nothing else changes
-  begin_lawful : (c : CoreState) → is_at_rest (core_of x).stage ≡ true → c ≡ begun_like (core_of x) c → AreComponents c.sizes c.asked → MayBegin c → is_begun c.stage ≡ true → let y : Part = record { seen = x.seen; notes = x.notes; begun = c; kept = []; since = seen_by 0 x.notes } in Lawful z o words (before ++ y ∷ after) log
+  pub begin_lawful : (c : CoreState) → is_at_rest (core_of x).stage ≡ true → c ≡ begun_like (core_of x) c → AreComponents c.sizes c.asked → MayBegin c → is_begun c.stage ≡ true → let y : Part = record { seen = x.seen; notes = x.notes; begun = c; kept = []; since = seen_by 0 x.notes } in Lawful z o words (before ++ y ∷ after) log
   begin_lawful c rest same asked may begun =
       let y : Part = record { seen = x.seen; notes = x.notes; begun = c; kept = []; since = seen_by 0 x.notes } in
       let k = known_here z o words before x after log w in

@@ -12,3 +12,4 @@ pub mod Stored
 pub mod Exchange
 pub mod AllSteps
 pub mod Opened
+pub mod Ordered

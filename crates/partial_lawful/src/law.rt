@@ -2,6 +2,7 @@
 //! by which the machine's own contracts are stated.
 
 ghost use Rattle.partial_lawful.specs.Lawful.{OpensLawful, StepsStayLawful};
+ghost use Rattle.partial_lawful.specs.Orderly.{LawfulIsOrderly, StepsAreOrderly};
 
 /// A memory as it opens is lawful, with nothing applied and no call made.
 pub fn memory_opens_lawful()
@@ -14,4 +15,15 @@ pub fn memory_opens_lawful()
 /// that isn't refused, the port notes the call with its answer and its place, within the call.
 pub fn steps_stay_lawful()
     ensures { StepsStayLawful }
+{}
+
+/// The words of a lawful state are orderly, as the active set asks of the words that answer a getSet.
+pub fn lawful_words_are_orderly()
+    ensures { LawfulIsOrderly }
+{}
+
+/// Each step of a port leads from orderly words to such as come from them: a slot goes from EMPTY to an
+/// announcement and from that to VACATED alone, and no published block changes.
+pub fn steps_are_orderly()
+    ensures { StepsAreOrderly }
 {}
