@@ -1,0 +1,276 @@
+//! The search for the place of a scan: the values that are wanted, and the components that differ.
+
+ghost use Rattle.std.specs.Prelude.{ℕ, ◌≡◌, ◌==◌, ◌+◌, ◌<◌, ◌≤◌, false, Some, None, IfOk, length, slice_index, slice_index_or, slice_set, slice_get, count_by};
+ghost use Rattle.std.specs.List.{AllByRecursion};
+ghost use Rattle.partial_model.specs.declared.history.Applied.{Applied};
+ghost use Rattle.partial_model.specs.declared.history.Opening.{Opening};
+ghost use Rattle.partial_words.specs.Chain.{Agrees};
+ghost use Rattle.partial_words.specs.Record.{prev_of, value_of};
+ghost use Rattle.partial_places.specs.ScanPlace.{AllHave, AreComponents, AreMarked, AreMarksOf, AreWanted, HasRecord, HasRecords, IsEmpty, IsLeast, IsLeft, ShowsValues, marks_before, values_after, values_now};
+
+use partial_model::Applied;
+use partial_words::{prev_of, value_of};
+use std::alloc::{AllocError, Global};
+use std::marker::Model;
+
+// Which components are marked, and how many.
+#[derive(Debug, Drop)]
+struct Marks {
+    marks: Vec<bool>,
+    count: usize,
+}
+
+impl Model for Marks {
+    ghost use Rattle.std.specs.Prelude.{◌≡◌, Bool, List, count_by};
+
+    ghost Value = { List Bool };
+
+    ghost view = { λ m. m.marks.items };
+
+    ghost invariant = { λ m. m.count ≡ count_by (λ b. b) m.marks.items };
+}
+
+impl Marks {
+    // Marks the component, or takes its mark away.
+    fn set(&mut self, component: usize, marked: bool)
+        requires { component < length self.old }
+        ensures { self.new ≡ slice_set self.old component marked }
+    {
+        let before = self.marks[component];
+        self.marks[component] = marked;
+        if marked && !before {
+            self.count += 1;
+        }
+        if before && !marked {
+            self.count -= 1;
+        }
+    }
+
+    // Whether no component is marked.
+    fn are_none(&self) -> bool
+        ensures { result ≡ (count_by (λ b. b) self.now == 0) }
+    {
+        self.count == 0
+    }
+}
+
+// Sets the value that each component is to have, and marks those that have another value now.
+fn want(
+    wanted: &mut [Option<u64>],
+    differing: &mut Marks,
+    words: &[u64],
+    components: &[u32],
+    values: &[u64],
+)
+    requires room { length wanted.old ≡ length differing.old }
+    requires none { (j : ℕ) → slice_index_or wanted.old j None ≡ None }
+    requires clear { (j : ℕ) → slice_index_or differing.old j false ≡ false }
+    requires records { HasRecords words.now (length wanted.old) }
+    requires components { AllByRecursion (λ j. j < length wanted.old) components.now }
+    requires values { length values.now ≡ length components.now }
+    ensures wanted_room { length wanted.new ≡ length wanted.old }
+    ensures differing_room { length differing.new ≡ length differing.old }
+    ensures wanted { AreWanted wanted.new components.now values.now (length components.now) }
+    ensures marked { AreMarked wanted.new differing.new (values_now words.now) }
+{
+    for k in 0..components.len() {
+        let component = components[k] as usize;
+        let value = values[k];
+        wanted[component] = Some(value);
+        let now = value_of(words, words[component] as usize);
+        differing.set(component, value != now);
+    }
+}
+
+// Takes an entry of the history back: its component is marked by the value that it had before.
+fn take_back(wanted: &[Option<u64>], differing: &mut Marks, words: &[u64], entry: Applied)
+    requires room { length wanted.now ≡ length differing.old }
+    requires record { HasRecord words.now (length wanted.now) entry }
+    ensures { differing.new ≡ marks_before (slice_index_or wanted.now entry.component None) differing.old entry.component (value_of words.now (prev_of words.now entry.stamp)) }
+{
+    let component = entry.component as usize;
+    if let Some(value) = wanted[component] {
+        let before = prev_of(words, entry.stamp as usize);
+        differing.set(component, value != value_of(words, before as usize));
+    }
+}
+
+// The least prefix from `began` on after which each component has the value that it is to have, where
+// there is one. The marks are those of the whole history first, and those at `began` at the end.
+fn least_prefix(
+    wanted: &[Option<u64>],
+    differing: &mut Marks,
+    words: &[u64],
+    history: &[Applied],
+    began: usize,
+) -> usize
+    requires room { length wanted.now ≡ length differing.old }
+    requires entries { (k : ℕ) (e : Applied) → slice_get history.now k ≡ Some e → HasRecord words.now (length wanted.now) e }
+    ensures room { length differing.new ≡ length differing.old }
+    ensures others { (j : ℕ) → slice_index_or wanted.now j None ≡ None → slice_index_or differing.new j false ≡ slice_index_or differing.old j false }
+    ensures least { (o : Opening) (shown : ℕ) → Agrees o words.now history.now → AreComponents o wanted.now
+        → AreMarked wanted.now differing.old (values_now words.now) → began ≤ shown → shown ≤ length history.now
+        → AllHave wanted.now (values_after o history.now shown)
+        → IsLeast (λ n. AllHave wanted.now (values_after o history.now n)) began (length history.now) result }
+{
+    let mut least = history.len();
+    for place in (began..history.len()).rev() {
+        let entry = history[place];
+        take_back(wanted, differing, words, entry);
+        if differing.are_none() {
+            least = place;
+        }
+    }
+    least
+}
+
+// Takes all wanted values and all marks away.
+fn forget(wanted: &mut [Option<u64>], differing: &mut Marks, components: &[u32])
+    requires room { length wanted.old ≡ length differing.old }
+    requires components { AllByRecursion (λ j. j < length wanted.old) components.now }
+    requires only { IsLeft wanted.old components.now 0 }
+    requires others { AreMarksOf wanted.old differing.old }
+    ensures wanted_room { length wanted.new ≡ length wanted.old }
+    ensures empty { IsEmpty wanted.new differing.new }
+{
+    for k in 0..components.len() {
+        let component = components[k] as usize;
+        wanted[component] = None;
+        differing.set(component, false);
+    }
+}
+
+/// The scratch room of the search for the place of a scan: of each component the value that it is to
+/// have, and whether it differs. It is empty between searches. A contract sees it as the number of
+/// components that it has room for.
+#[derive(Debug, Drop)]
+pub struct Wanted {
+    wanted: Vec<Option<u64>>,
+    differing: Marks,
+}
+
+impl Model for Wanted {
+    ghost use Rattle.std.specs.Prelude.{ℕ};
+    ghost use Rattle.std.specs.Vec.{vec_len};
+    ghost use Rattle.partial_places.specs.ScanPlace.{IsEmpty};
+
+    ghost Value = { ℕ };
+
+    ghost view = { λ w. vec_len w.wanted };
+
+    ghost invariant = { λ w. IsEmpty w.wanted.items w.differing };
+}
+
+impl Wanted {
+    /// The room for so many components. It is refused where the memory for it is.
+    pub fn new(alloc: Global, components: usize) -> Result<Wanted, AllocError>
+        ensures { IfOk result (λ room. room ≡ components) }
+    {
+        Ok(Wanted {
+            wanted: vec![in alloc; None; components]?,
+            differing: Marks {
+                marks: vec![in alloc; false; components]?,
+                count: 0,
+            },
+        })
+    }
+
+    /// The least prefix of the history, from `began` on, that shows the values at the positions, where
+    /// one does. The words are those after the whole history. The work is a constant amount for each
+    /// position and each entry from `began` on.
+    pub fn scan_place(
+        &mut self,
+        history: &[Applied],
+        words: &[u64],
+        began: usize,
+        components: &[u32],
+        values: &[u64],
+    ) -> usize
+        requires records { HasRecords words.now self.old }
+        requires entries { (k : ℕ) (e : Applied) → slice_get history.now k ≡ Some e → HasRecord words.now self.old e }
+        requires components { AllByRecursion (λ j. j < self.old) components.now }
+        requires values { length values.now ≡ length components.now }
+        ensures room { self.new ≡ self.old }
+        ensures least { (o : Opening) (shown : ℕ) → Agrees o words.now history.now → AllByRecursion (λ j. j < length o.values) components.now
+            → began ≤ shown → shown ≤ length history.now → ShowsValues o history.now components.now values.now shown
+            → IsLeast (ShowsValues o history.now components.now values.now) began (length history.now) result }
+    {
+        want(
+            &mut self.wanted,
+            &mut self.differing,
+            words,
+            components,
+            values,
+        );
+        let least = least_prefix(&self.wanted, &mut self.differing, words, history, began);
+        forget(&mut self.wanted, &mut self.differing, components);
+        least
+    }
+}
+
+#[cfg(test)]
+mod tests {
+    use super::*;
+    use std::test::Fail;
+
+    // The place of a scan in a history of four entries over two components: 7 for component 0, 30 for
+    // component 1, and 10 and 7 for component 0. They hold 10 and 20 before it.
+    fn place(room: &mut Wanted, began: usize, components: &[u32], values: &[u64]) -> usize
+        requires room { room.old ≡ 2 }
+        requires components { AllByRecursion (λ j. j < 2) components.now }
+        requires values { length values.now ≡ length components.now }
+        ensures { room.new ≡ 2 }
+    {
+        let entry = |component, value, stamp| Applied {
+            port: 0,
+            component,
+            value,
+            stamp,
+        };
+        let history = [
+            entry(0, 7, 8),
+            entry(1, 30, 11),
+            entry(0, 10, 14),
+            entry(0, 7, 17),
+        ];
+        let words = [
+            17, 11, 0, 10, 0, 0, 20, 0, 2, 7, 0, 5, 30, 0, 8, 10, 0, 14, 7, 0,
+        ];
+        room.scan_place(&history, &words, began, components, values)
+    }
+
+    #[test]
+    fn least_places(rt: HostRuntime) -> Result<(), Fail> {
+        let mut room = Wanted::new(rt.alloc(), 2)?;
+        assert_eq!(rt; place(&mut room, 0, &[0, 1], &[7, 30]), 2);
+        assert_eq!(rt; place(&mut room, 3, &[1, 0], &[30, 7]), 4);
+        assert_eq!(rt; place(&mut room, 4, &[0, 1], &[7, 30]), 4);
+        assert_eq!(rt; place(&mut room, 1, &[1], &[20]), 1);
+        Ok(())
+    }
+
+    #[test]
+    fn value_set_back(rt: HostRuntime) -> Result<(), Fail> {
+        let mut room = Wanted::new(rt.alloc(), 2)?;
+        assert_eq!(rt; place(&mut room, 0, &[0], &[10]), 0);
+        assert_eq!(rt; place(&mut room, 1, &[0], &[10]), 3);
+        assert_eq!(rt; place(&mut room, 0, &[0, 1], &[10, 30]), 3);
+        Ok(())
+    }
+
+    #[test]
+    fn repeated_positions(rt: HostRuntime) -> Result<(), Fail> {
+        let mut room = Wanted::new(rt.alloc(), 2)?;
+        assert_eq!(rt; place(&mut room, 0, &[0, 0, 1], &[7, 7, 20]), 1);
+        assert_eq!(rt; place(&mut room, 1, &[0, 1, 0], &[10, 30, 10]), 3);
+        Ok(())
+    }
+
+    #[test]
+    fn no_positions(rt: HostRuntime) -> Result<(), Fail> {
+        let mut room = Wanted::new(rt.alloc(), 2)?;
+        assert_eq!(rt; place(&mut room, 0, &[], &[]), 0);
+        assert_eq!(rt; place(&mut room, 2, &[], &[]), 2);
+        Ok(())
+    }
+}
