@@ -88,7 +88,7 @@ pub record IsFoundFrom (Holds : ℕ → Type 0) (place end least : ℕ) : Type 0
   pub found : (least ≡ end) ⊎ Holds least
   pub none : (i : ℕ) → place ≤ i → i < least → ¬ Holds i
 
-pub found_at_end : (Holds : ℕ → Type 0) (place end : ℕ) → place ≡ end → IsFoundFrom Holds place end end
+found_at_end : (Holds : ℕ → Type 0) (place end : ℕ) → place ≡ end → IsFoundFrom Holds place end end
 found_at_end Holds place end is = record { behind = omega (arith, is); within = omega arith; found = inl refl; none = λ i from below. absurd (omega (arith, is, from, below)) }
 
 found_here : (Holds : ℕ → Type 0) (place end : ℕ) → place ≤ end → Holds place → IsFoundFrom Holds place end place
@@ -124,7 +124,7 @@ pub record IsSearched (o : Opening) (wanted : List (Option ℕ)) (marks : List B
   pub marked : AreMarked wanted marks (values_after o h place)
   pub found : IsFoundFrom (λ n. AllHave wanted (values_after o h n)) place (length h) least
 
-pub searched_at_end : (o : Opening) (wanted : List (Option ℕ)) (marks : List Bool) (words : List ℕ) (h : List Applied) (place : ℕ) → Agrees o words h → AreComponents o wanted → AreMarked wanted marks (values_now words) → place ≡ length h → IsSearched o wanted marks h place (length h)
+searched_at_end : (o : Opening) (wanted : List (Option ℕ)) (marks : List Bool) (words : List ℕ) (h : List Applied) (place : ℕ) → Agrees o words h → AreComponents o wanted → AreMarked wanted marks (values_now words) → place ≡ length h → IsSearched o wanted marks h place (length h)
 searched_at_end o wanted marks words h place agrees below marked is = record {
   marked = λ j. marked j ∙ same (get_or wanted j None) (values_now words j) (values_after o h place j) (λ v wants. now_is_after o words h j agrees (below j v wants) ∙ ap (λ n. values_after o h n j) (sym is));
   found = found_at_end (λ n. AllHave wanted (values_after o h n)) place (length h) is;
@@ -139,26 +139,56 @@ marked_back o wanted marks words h place least e agrees below stands within s =
     marks_at (get_or wanted e.component None) wanted marks e.component (value_of words (prev_of words e.stamp)) (values_after o h (place + 1)) (values_after o h place) refl within (λ v wants. value_before o words h place e agrees (below e.component v wants) stands) (λ j other. value_beside o h place j e stands other) s.marked
 
 -- where all have their values, the place is the least so far
-pub searched_here : (o : Opening) (wanted : List (Option ℕ)) (marks after : List Bool) (words : List ℕ) (h : List Applied) (place least : ℕ) (e : Applied) → Agrees o words h → AreComponents o wanted → slice_get h place ≡ Some e → e.component < length marks → after ≡ marks_before (get_or wanted e.component None) marks e.component (value_of words (prev_of words e.stamp)) → count_by (λ b. b) after ≡ 0 → IsSearched o wanted marks h (place + 1) least → IsSearched o wanted after h place place
+searched_here : (o : Opening) (wanted : List (Option ℕ)) (marks after : List Bool) (words : List ℕ) (h : List Applied) (place least : ℕ) (e : Applied) → Agrees o words h → AreComponents o wanted → slice_get h place ≡ Some e → e.component < length marks → after ≡ marks_before (get_or wanted e.component None) marks e.component (value_of words (prev_of words e.stamp)) → count_by (λ b. b) after ≡ 0 → IsSearched o wanted marks h (place + 1) least → IsSearched o wanted after h place place
 searched_here o wanted marks after words h place least e agrees below stands within is none s =
     let marked = subst (λ ms. AreMarked wanted ms (values_after o h place)) (sym is) (marked_back o wanted marks words h place least e agrees below stands within s) in
     record { marked = marked; found = found_here (λ n. AllHave wanted (values_after o h n)) place (length h) (omega (arith, slice_get_within h place e stands)) (have_unmarked wanted after (values_after o h place) marked none) }
 
 -- where some differ, it isn't
-pub searched_past : (o : Opening) (wanted : List (Option ℕ)) (marks after : List Bool) (words : List ℕ) (h : List Applied) (place least : ℕ) (e : Applied) → Agrees o words h → AreComponents o wanted → slice_get h place ≡ Some e → e.component < length marks → after ≡ marks_before (get_or wanted e.component None) marks e.component (value_of words (prev_of words e.stamp)) → count_by (λ b. b) after ≢ 0 → IsSearched o wanted marks h (place + 1) least → IsSearched o wanted after h place least
+searched_past : (o : Opening) (wanted : List (Option ℕ)) (marks after : List Bool) (words : List ℕ) (h : List Applied) (place least : ℕ) (e : Applied) → Agrees o words h → AreComponents o wanted → slice_get h place ≡ Some e → e.component < length marks → after ≡ marks_before (get_or wanted e.component None) marks e.component (value_of words (prev_of words e.stamp)) → count_by (λ b. b) after ≢ 0 → IsSearched o wanted marks h (place + 1) least → IsSearched o wanted after h place least
 searched_past o wanted marks after words h place least e agrees below stands within is some s =
     let marked = subst (λ ms. AreMarked wanted ms (values_after o h place)) (sym is) (marked_back o wanted marks words h place least e agrees below stands within s) in
     record { marked = marked; found = found_later (λ n. AllHave wanted (values_after o h n)) place (length h) least (λ all. some (unmarked_have wanted after (values_after o h place) marked all)) s.found }
 
 -- an entry taken back leaves the room, and the marks of what isn't wanted
-pub length_before : (w : Option ℕ) (marks : List Bool) (c x : ℕ) → length (marks_before w marks c x) ≡ length marks
+length_before : (w : Option ℕ) (marks : List Bool) (c x : ℕ) → length (marks_before w marks c x) ≡ length marks
 length_before None marks c x = refl
 length_before (Some v) marks c x = length-set marks c (not (v == x))
 
-pub others_before : (w : Option ℕ) (wanted : List (Option ℕ)) (marks : List Bool) (c x j : ℕ) → get_or wanted c None ≡ w → get_or wanted j None ≡ None → get_or (marks_before w marks c x) j false ≡ get_or marks j false
+others_before : (w : Option ℕ) (wanted : List (Option ℕ)) (marks : List Bool) (c x j : ℕ) → get_or wanted c None ≡ w → get_or wanted j None ≡ None → get_or (marks_before w marks c x) j false ≡ get_or marks j false
 others_before None wanted marks c x j is none = refl
 others_before (Some v) wanted marks c x j is none =
     get_or-set_other marks c j (not (v == x)) false (λ same. let bad : None ≡ Some v = sym none ∙ ap (λ n. get_or wanted n None) same ∙ is in cc)
+
+-- what is known when the entries from a place on have been taken back, from the marks of the whole history
+pub record IsWalked (wanted : List (Option ℕ)) (first marks : List Bool) (words : List ℕ) (h : List Applied) (began place least : ℕ) : Type 0 where
+  pub room : length marks ≡ length first
+  pub others : (j : ℕ) → get_or wanted j None ≡ None → get_or marks j false ≡ get_or first j false
+  pub behind : began ≤ length h → began ≤ place
+  pub searched : (o : Opening) → began ≤ length h → Agrees o words h → AreComponents o wanted → AreMarked wanted first (values_now words) → IsSearched o wanted marks h place least
+
+pub walked_at_end : (wanted : List (Option ℕ)) (first : List Bool) (words : List ℕ) (h : List Applied) (began : ℕ) → IsWalked wanted first first words h began (length h) (length h)
+walked_at_end wanted first words h began = record {
+  room = refl;
+  others = λ j is. refl;
+  behind = λ is. is;
+  searched = λ o behind agrees below marked. searched_at_end o wanted first words h (length h) agrees below marked refl;
+}
+
+-- one entry more is taken back, and the least place is its own where none differs now
+pub walked_back : (wanted : List (Option ℕ)) (first marks after : List Bool) (words : List ℕ) (h : List Applied) (began place before least next : ℕ) (e : Applied) → slice_get h before ≡ Some e → place ≡ before + 1 → began ≤ before → length wanted ≡ length first → e.component < length wanted → after ≡ marks_before (get_or wanted e.component None) marks e.component (value_of words (prev_of words e.stamp)) → ((count_by (λ b. b) after ≡ 0) × (next ≡ before)) ⊎ ((count_by (λ b. b) after ≢ 0) × (next ≡ least)) → IsWalked wanted first marks words h began place least → IsWalked wanted first after words h began before next
+walked_back wanted first marks after words h began place before least next e stands at from rooms component taken which w = record {
+  room = ap length taken ∙ length_before (get_or wanted e.component None) marks e.component (value_of words (prev_of words e.stamp)) ∙ w.room;
+  others = λ j is. ap (λ (ms : List Bool). get_or ms j false) taken ∙ others_before (get_or wanted e.component None) wanted marks e.component (value_of words (prev_of words e.stamp)) j refl is ∙ w.others j is;
+  behind = λ _. from;
+  searched = λ o behind agrees below marked.
+  let within : e.component < length marks = omega (arith, component, rooms, w.room) in
+  let later : IsSearched o wanted marks h (before + 1) least = subst (λ n. IsSearched o wanted marks h n least) at (w.searched o behind agrees below marked) in
+  elim which [
+    | inl here ↦ subst (IsSearched o wanted after h before) (sym here.1) (searched_here o wanted marks after words h before least e agrees below stands within taken here.0 later)
+    | inr past ↦ subst (IsSearched o wanted after h before) (sym past.1) (searched_past o wanted marks after words h before least e agrees below stands within taken past.0 later)
+  ];
+}
 
 -- one position more
 pub wanted_more : (wanted : List (Option ℕ)) (components values : List ℕ) (k c v : ℕ) → get_or components k 0 ≡ c → get_or values k 0 ≡ v → c < length wanted → AreWanted wanted components values k → AreWanted (set wanted c (Some v)) components values (k + 1)

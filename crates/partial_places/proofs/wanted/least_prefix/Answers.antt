@@ -1,65 +1,44 @@
-use Rattle.std.proofs.Common.{◌≡◌, ◌≢◌, ◌+◌, ◌-◌, ◌<◌, ◌≤◌, List, Bool, false, count_by, length, get_or, None, Some, slice_get, refl, sym, ap, ◌∙◌, subst, arith}
+use Rattle.std.proofs.Common.{ℕ, ◌≡◌, ◌≢◌, ◌+◌, ◌-◌, ◌<◌, ◌≤◌, ◌⊎◌, List, Bool, Option, count_by, length, get_or, None, Some, slice_get, refl, sym, ◌∙◌, subst, inl, inr, arith}
 use Rattle.std.proofs.lemmas.Bool.{eqb-true, eq-eqb, false≢true}
 use Rattle.std.proofs.lemmas.Option.{slice_get-get_or}
 use Rattle.partial_model.specs.declared.history.Applied.{Applied}
 use Rattle.partial_words.specs.Record.{prev_of, value_of}
-use Rattle.partial_places.specs.ScanPlace.{AllHave, values_after}
-use Rattle.partial_places.proofs.ScanPlaces.{IsFoundFrom, IsSearched, searched_at_end, searched_here, searched_past, found_least, length_before, others_before}
+use Rattle.partial_places.specs.ScanPlace.{AllHave, HasRecord, marks_before, values_after}
+use Rattle.partial_places.proofs.ScanPlaces.{IsFoundFrom, IsWalked, walked_at_end, walked_back, found_least}
 use Rattle.partial_places.proofs.wanted.least_prefix.Goals as goal
 
+-- the entry before a place
+abbrev entry_before : List Applied → ℕ → Applied
+entry_before h place = get_or h (place - 1) (record { port = 0; component = 0; value = 0; stamp = 0 })
+
+entry_stands : (h : List Applied) (began place : ℕ) → began < place → place ≤ length h → slice_get h (place - 1) ≡ Some (entry_before h place)
+entry_stands h began place below within = slice_get-get_or h (place - 1) (record { port = 0; component = 0; value = 0; stamp = 0 }) (omega (arith, below, within))
+
+-- one step of the loop, whichever place is the least then
+stepped : (wanted : List (Option ℕ)) (first marks after : List Bool) (words : List ℕ) (h : List Applied) (began place least next : ℕ) → began < place → place ≤ length h → length wanted ≡ length first → ((k : ℕ) (e : Applied) → slice_get h k ≡ Some e → HasRecord words (length wanted) e) → after ≡ marks_before (get_or wanted (entry_before h place).component None) marks (entry_before h place).component (value_of words (prev_of words (entry_before h place).stamp)) → ((count_by (λ b. b) after ≡ 0) × (next ≡ place - 1)) ⊎ ((count_by (λ b. b) after ≢ 0) × (next ≡ least)) → IsWalked wanted first marks words h began place least → IsWalked wanted first after words h began (place - 1) next
+stepped wanted first marks after words h began place least next below within rooms entries taken which walked =
+    let stands = entry_stands h began place below within in
+    walked_back wanted first marks after words h began place (place - 1) least next (entry_before h place) stands (omega (arith, below)) (omega (arith, below)) rooms (entries (place - 1) (entry_before h place) stands).component taken which walked
+
 pub loop-place-init : goal.loop-place-init
-loop-place-init c = record {
-  room = refl;
-  others = λ j is. refl;
-  behind = λ is. is;
-  searched = λ o behind agrees below marked. searched_at_end o c.args.wanted.now c.args.differing.now c.args.words.now c.args.history.now (length c.args.history.now) agrees below marked refl;
-}
+loop-place-init c = walked_at_end c.args.wanted.now c.args.differing.now c.args.words.now c.args.history.now c.args.began
 
 pub take_back-requires-clause-record : goal.take_back-requires-clause-record
 take_back-requires-clause-record c =
-    let place = c.loop-place.place - 1 in
-    let within : place < length c.args.history.now = omega (arith, c.loop-place.auto.place, c.loop-place-test.true) in
-    c.requires.entries place (get_or c.args.history.now place (record { port = 0; component = 0; value = 0; stamp = 0 })) (slice_get-get_or c.args.history.now place (record { port = 0; component = 0; value = 0; stamp = 0 }) within)
+    let h = c.args.history.now in
+    c.requires.entries (c.loop-place.place - 1) (entry_before h c.loop-place.place) (entry_stands h c.args.began c.loop-place.place c.loop-place-test.true c.loop-place.auto.place)
 
 pub loop-place-preserved-then-are_none : goal.loop-place-preserved-then-are_none
 loop-place-preserved-then-are_none c =
-    let h = c.args.history.now in
-    let place = c.loop-place.place - 1 in
-    let within : place < length h = omega (arith, c.loop-place.auto.place, c.loop-place-test.true) in
-    let e : Applied = get_or h place (record { port = 0; component = 0; value = 0; stamp = 0 }) in
-    let stands : slice_get h place ≡ Some e = slice_get-get_or h place (record { port = 0; component = 0; value = 0; stamp = 0 }) within in
-    let room : e.component < length c.loop-place.differing = omega (arith, (c.requires.entries place e stands).component, c.requires.room, c.loop-place.invariant.room) in
-    let back : c.loop-place.place ≡ place + 1 = omega (arith, c.loop-place-test.true) in
-    let w = get_or c.args.wanted.now e.component None in
-    let x = value_of c.args.words.now (prev_of c.args.words.now e.stamp) in
     let none : count_by (λ b. b) c.take_back.new.differing ≡ 0 = eqb-true (count_by (λ b. b) c.take_back.new.differing) 0 (sym c.are_none.ensures ∙ c.if-are_none.true) in
-    record {
-      room = ap length c.take_back.ensures ∙ length_before w c.loop-place.differing e.component x ∙ c.loop-place.invariant.room;
-      others = λ j is. ap (λ (ms : List Bool). get_or ms j false) c.take_back.ensures ∙ others_before w c.args.wanted.now c.loop-place.differing e.component x j refl is ∙ c.loop-place.invariant.others j is;
-      behind = λ _. omega (arith, c.loop-place-test.true);
-      searched = λ o behind agrees below marked. searched_here o c.args.wanted.now c.loop-place.differing c.take_back.new.differing c.args.words.now h place c.loop-place.least e agrees below stands room c.take_back.ensures none
-          (subst (λ n. IsSearched o c.args.wanted.now c.loop-place.differing h n c.loop-place.least) back (c.loop-place.invariant.searched o behind agrees below marked));
-    }
+    stepped c.args.wanted.now c.args.differing.now c.loop-place.differing c.take_back.new.differing c.args.words.now c.args.history.now c.args.began c.loop-place.place c.loop-place.least (c.loop-place.place - 1)
+    c.loop-place-test.true c.loop-place.auto.place c.requires.room c.requires.entries c.take_back.ensures (inl (none, refl)) c.loop-place.invariant
 
 pub loop-place-preserved : goal.loop-place-preserved
 loop-place-preserved c =
-    let h = c.args.history.now in
-    let place = c.loop-place.place - 1 in
-    let within : place < length h = omega (arith, c.loop-place.auto.place, c.loop-place-test.true) in
-    let e : Applied = get_or h place (record { port = 0; component = 0; value = 0; stamp = 0 }) in
-    let stands : slice_get h place ≡ Some e = slice_get-get_or h place (record { port = 0; component = 0; value = 0; stamp = 0 }) within in
-    let room : e.component < length c.loop-place.differing = omega (arith, (c.requires.entries place e stands).component, c.requires.room, c.loop-place.invariant.room) in
-    let back : c.loop-place.place ≡ place + 1 = omega (arith, c.loop-place-test.true) in
-    let w = get_or c.args.wanted.now e.component None in
-    let x = value_of c.args.words.now (prev_of c.args.words.now e.stamp) in
     let some : count_by (λ b. b) c.take_back.new.differing ≢ 0 = λ is. absurd (false≢true (sym (sym c.are_none.ensures ∙ c.if-are_none.false) ∙ eq-eqb (count_by (λ b. b) c.take_back.new.differing) 0 is)) in
-    record {
-      room = ap length c.take_back.ensures ∙ length_before w c.loop-place.differing e.component x ∙ c.loop-place.invariant.room;
-      others = λ j is. ap (λ (ms : List Bool). get_or ms j false) c.take_back.ensures ∙ others_before w c.args.wanted.now c.loop-place.differing e.component x j refl is ∙ c.loop-place.invariant.others j is;
-      behind = λ _. omega (arith, c.loop-place-test.true);
-      searched = λ o behind agrees below marked. searched_past o c.args.wanted.now c.loop-place.differing c.take_back.new.differing c.args.words.now h place c.loop-place.least e agrees below stands room c.take_back.ensures some
-          (subst (λ n. IsSearched o c.args.wanted.now c.loop-place.differing h n c.loop-place.least) back (c.loop-place.invariant.searched o behind agrees below marked));
-    }
+    stepped c.args.wanted.now c.args.differing.now c.loop-place.differing c.take_back.new.differing c.args.words.now c.args.history.now c.args.began c.loop-place.place c.loop-place.least c.loop-place.least
+    c.loop-place-test.true c.loop-place.auto.place c.requires.room c.requires.entries c.take_back.ensures (inr (some, refl)) c.loop-place.invariant
 
 pub returns-clause-least : goal.returns-clause-least
 returns-clause-least c = λ o shown agrees below marked from within has.
