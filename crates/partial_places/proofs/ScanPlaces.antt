@@ -182,12 +182,12 @@ walked_back wanted first marks after words h began place before least next e sta
   others = λ j is. ap (λ (ms : List Bool). get_or ms j false) taken ∙ others_before (get_or wanted e.component None) wanted marks e.component (value_of words (prev_of words e.stamp)) j refl is ∙ w.others j is;
   behind = λ _. from;
   searched = λ o behind agrees below marked.
-  let within : e.component < length marks = omega (arith, component, rooms, w.room) in
-  let later : IsSearched o wanted marks h (before + 1) least = subst (λ n. IsSearched o wanted marks h n least) at (w.searched o behind agrees below marked) in
-  elim which [
-    | inl here ↦ subst (IsSearched o wanted after h before) (sym here.1) (searched_here o wanted marks after words h before least e agrees below stands within taken here.0 later)
-    | inr past ↦ subst (IsSearched o wanted after h before) (sym past.1) (searched_past o wanted marks after words h before least e agrees below stands within taken past.0 later)
-  ];
+      let within : e.component < length marks = omega (arith, component, rooms, w.room) in
+      let later : IsSearched o wanted marks h (before + 1) least = subst (λ n. IsSearched o wanted marks h n least) at (w.searched o behind agrees below marked) in
+      elim which [
+        | inl here ↦ subst (IsSearched o wanted after h before) (sym here.1) (searched_here o wanted marks after words h before least e agrees below stands within taken here.0 later)
+        | inr past ↦ subst (IsSearched o wanted after h before) (sym past.1) (searched_past o wanted marks after words h before least e agrees below stands within taken past.0 later)
+      ];
 }
 
 -- one position more
