@@ -56,6 +56,7 @@ refuse_all partial_intervals '.*'
 refuse_all partial_active '.*'
 refuse_all partial_embedded '.*'
 refuse_all partial_machine '.*'
+refuse_all partial_places '.*'
 refuse_all partial_cmd 'tests::growths::.*'
 
 echo "$passed passed, $failed failed"
