@@ -1,4 +1,2 @@
-pub mod Machine
-pub mod Steps
-pub mod Views
 pub mod Lawful
+pub mod Orderly

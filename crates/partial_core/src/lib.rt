@@ -1,10 +1,7 @@
-//! One port's whole machine: which atomic step is due, and what its answer makes of a call. The
-//! machine is pure; who serves its steps, a list of words or shared memory, is the caller's affair.
+//! The lawful state of a memory with the ports that work on it, and the one law of steps. The machine of
+//! a port is passed on.
 #![tactic(auto)]
 
 pub mod law;
-pub mod machine;
-pub mod stage;
 
-pub use machine::Core;
-pub use stage::{Change, Reply, Stage};
+pub use partial_machine::{Change, Core, Reply, Stage};

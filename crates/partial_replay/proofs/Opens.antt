@@ -9,12 +9,12 @@ use Rattle.partial_model.specs.Notes.{LegalNotes, seen_by}
 use Rattle.partial_model.specs.Outcome.{places_written}
 use Rattle.partial_words.specs.Layout.{Layout, IsLayout, pool_base}
 use Rattle.partial_words.specs.Chain.{AreOpeningWords}
-use Rattle.partial_core.specs.Machine.{CoreState, fresh}
-use Rattle.partial_core.specs.Lawful.{Part, fresh_parts}
+use Rattle.partial_machine.specs.Machine.{CoreState, AreComponents, fresh}
+use Rattle.partial_core.specs.Lawful.{Part, begun_like, fresh_parts}
 use Rattle.partial_core.proofs.Opened.{opens_lawful}
 use Rattle.partial_replay.specs.declared.port.Port.{Port}
 use Rattle.partial_replay.specs.declared.port.UnderWay.{UnderWay}
-use Rattle.partial_replay.specs.PortState.{IsServed, unfinished_call, AreFinished, IsUnderWay, IsBetween, PortFits, notes_in, ends_of}
+use Rattle.partial_replay.specs.PortState.{unfinished_call, AreFinished, AreFew, IsUnderWay, IsBetween, PortFits, notes_in, ends_of}
 use Rattle.partial_replay.specs.RunState.{PortsFit, IsRunOf, FreshFrom, AreFreshPorts, AreListed, ArePlans, left_over, calls_in}
 use Rattle.std.specs.Option.{IsSome}
 use Rattle.std.proofs.lemmas.Bool.{false≢true}
@@ -35,9 +35,9 @@ fresh_push z p [] port w number core finished none =
     (is, core ∙ ap (fresh z) is, finished, none, tt)
 fresh_push z p (x ∷ ports) port w number core finished none = (w.0, w.1, w.2, w.3, fresh_push z (p + 1) ports port w.4 (omega (arith, number)) core finished none)
 
-fresh_fits : (z : Layout) (o : Opening) (calls : List Call) (p : ℕ) (port : Port) → z.m ≡ length o.values → port.number ≡ p → port.core ≡ fresh z p → port.finished.items ≡ [] → port.under_way ≡ None → PortFits o [] calls p (record { seen = []; notes = []; begun = fresh z p; kept = []; since = 0; claimed = None }) port
+fresh_fits : (z : Layout) (o : Opening) (calls : List Call) (p : ℕ) (port : Port) → z.m ≡ length o.values → port.number ≡ p → port.core ≡ fresh z p → port.finished.items ≡ [] → port.under_way ≡ None → PortFits o [] calls p (record { seen = []; notes = []; begun = fresh z p; kept = []; since = 0 }) port
 fresh_fits z o calls p port m number core finished none =
-    let x : Part = record { seen = []; notes = []; begun = fresh z p; kept = []; since = 0; claimed = None } in
+    let x : Part = record { seen = []; notes = []; begun = fresh z p; kept = []; since = 0 } in
     record {
       number = number;
       part = refl;
@@ -48,8 +48,14 @@ fresh_fits z o calls p port m number core finished none =
       written = ap (λ (d : List Called). places_written (notes_in d)) finished;
       made = subst (λ (d : List Called). map (λ (c : Called). c.call) d ≡ take (length d) calls) (sym finished) refl;
       few = let n : length port.finished.items ≡ 0 = ap length finished in omega (arith, n);
+      bounded = subst (AreFew port.core.sizes) (sym finished) tt;
       least = subst (AllByRecursion (HasLeastPlace o [])) (sym finished) tt;
-      way = subst (λ (f : Option UnderWay). MatchOption f (IsBetween x port.core) (IsUnderWay 0 calls x port.core port.finished.items)) (sym none) (record { rest = refl; machine = core });
+      way = subst (λ (f : Option UnderWay). MatchOption f (IsBetween x port.core) (IsUnderWay 0 calls x port.core port.finished.items)) (sym none) (record {
+        rest = refl;
+        machine = core ∙ ap (begun_like (fresh z p)) (sym core);
+        idle = ap (λ (s : CoreState). s.stage) core;
+        asked = subst (λ (s : CoreState). AreComponents s.sizes s.asked) (sym core) (record { few = omega arith; each = λ k below. absurd (omega (arith, below)) });
+      });
     }
 
 fresh_ports_fit : (z : Layout) (o : Opening) (p : ℕ) (plans : List (List Call)) (ports : List Port) → z.m ≡ length o.values → FreshFrom z p ports → length ports ≡ length plans → PortsFit o [] p plans (fresh_parts z p (length plans)) ports
@@ -95,11 +101,11 @@ fresh_ending z ports w q port t none = let f = fresh_at z 0 q ports port w t in 
 pub opens_run : (plans : List (List Call)) (z : Layout) (o : Opening) (words : List ℕ) (ports : List Port) → IsLayout z → length o.values ≡ z.m → o.first ≡ pool_base z → AreOpeningWords z o.values words → length plans ≤ 64 → AreFreshPorts z (length plans) ports → IsRunOf plans z o words ports [] []
 opens_run plans z o words ports sizes values first opening few fresh =
     let lawful = opens_lawful z o words (length plans) (record { sizes = sizes; values = values; stamps = first; words = opening }) few in
-    record { parts = fresh_parts z 0 (length plans); opened = words; opens = opening; lawful = lawful.0; without = lawful.1; fit = fresh_ports_fit z o 0 plans ports (sym values) fresh.1 fresh.0; leads = refl; entries = refl; senders = tt; made = fresh_made plans z ports fresh.1 }
+    record { parts = fresh_parts z 0 (length plans); opened = words; opens = opening; lawful = lawful; fit = fresh_ports_fit z o 0 plans ports (sym values) fresh.1 fresh.0; leads = refl; entries = refl; senders = tt; made = fresh_made plans z ports fresh.1 }
 
 pub listed_length : (plans : List (List Call)) (ports : List Port) → AreListed plans ports → length ports ≡ length plans
 listed_length [] [] w = refl
-listed_length (c ∷ plans) (t ∷ ports) w = ap suc (listed_length plans ports w.3)
+listed_length (c ∷ plans) (t ∷ ports) w = ap suc (listed_length plans ports w.2)
 listed_length [] (t ∷ ports) w = absurd w
 listed_length (c ∷ plans) [] w = absurd w
 
@@ -108,14 +114,14 @@ some_is None w = absurd (false≢true w)
 some_is (Some a) w = (a, refl)
 
 -- the ports of a run list their calls
-pub run_listed : (o : Opening) (log : List Applied) (q : ℕ) (plans : List (List Call)) (parts : List Part) (ports : List Port) → PortsFit o log q plans parts ports → ArePlans plans → AreListed plans ports
-run_listed o log q [] [] [] w p = tt
-run_listed o log q (c ∷ plans) (x ∷ parts) (t ∷ ports) w p =
-    (p.0.0, p.0.1, (λ some. let way = some_is t.under_way some in let u : IsUnderWay (length log) c x t.core t.finished.items (way.0) = subst (λ (f : Option UnderWay). MatchOption f (IsBetween x t.core) (IsUnderWay (length log) c x t.core t.finished.items)) way.1 w.0.way in get_below c (length t.finished.items) (u.call) u.next), run_listed o log (q + 1) plans parts ports w.1 p.1)
-run_listed o log q [] [] (t ∷ ports) w p = absurd w
-run_listed o log q [] (x ∷ parts) ports w p = absurd w
-run_listed o log q (c ∷ plans) [] ports w p = absurd w
-run_listed o log q (c ∷ plans) (x ∷ parts) [] w p = absurd w
+pub run_listed : (o : Opening) (log : List Applied) (q : ℕ) (plans : List (List Call)) (parts : List Part) (ports : List Port) (m : ℕ) → PortsFit o log q plans parts ports → ArePlans m plans → AreListed plans ports
+run_listed o log q [] [] [] m w p = tt
+run_listed o log q (c ∷ plans) (x ∷ parts) (t ∷ ports) m w p =
+    (p.0.0, (λ some. let way = some_is t.under_way some in let u : IsUnderWay (length log) c x t.core t.finished.items (way.0) = subst (λ (f : Option UnderWay). MatchOption f (IsBetween x t.core) (IsUnderWay (length log) c x t.core t.finished.items)) way.1 w.0.way in get_below c (length t.finished.items) (u.call) u.next), run_listed o log (q + 1) plans parts ports m w.1 p.1)
+run_listed o log q [] [] (t ∷ ports) m w p = absurd w
+run_listed o log q [] (x ∷ parts) ports m w p = absurd w
+run_listed o log q (c ∷ plans) [] ports m w p = absurd w
+run_listed o log q (c ∷ plans) (x ∷ parts) [] m w p = absurd w
 
 -- the port at the front, and those behind it
 pub front_is : (ports : List Port) (port : Port) (rest : List Port) → 0 < length ports → port ≡ get_or ports 0 port → rest ≡ remove ports 0 → ports ≡ port ∷ rest
@@ -128,17 +134,16 @@ pub record AtFront (plans : List (List Call)) (p : ℕ) (port : Port) (rest : Li
   pub is : drop p plans ≡ calls ∷ drop (suc p) plans
   pub get : slice_get plans p ≡ Some calls
   pub short : length calls < 2 ^ 32
-  pub served : AllByRecursion IsServed calls
   pub within : IsSome port.under_way → length port.finished.items < length calls
   pub listed : AreListed (drop (suc p) plans) rest
 
 pub at_front : (plans : List (List Call)) (p : ℕ) (port : Port) (rest : List Port) → AreListed (drop p plans) (port ∷ rest) → AtFront plans p port rest
 at_front [] zero port rest w = absurd w
 at_front [] (suc p) port rest w = absurd w
-at_front (c ∷ plans) zero port rest w = record { calls = c; is = refl; get = refl; short = w.0; served = w.1; within = w.2; listed = w.3 }
+at_front (c ∷ plans) zero port rest w = record { calls = c; is = refl; get = refl; short = w.0; within = w.1; listed = w.2 }
 at_front (c ∷ plans) (suc p) port rest w =
     let f = at_front plans p port rest w in
-    record { calls = f.calls; is = f.is; get = f.get; short = f.short; served = f.served; within = f.within; listed = f.listed }
+    record { calls = f.calls; is = f.is; get = f.get; short = f.short; within = f.within; listed = f.listed }
 
 -- one port's calls behind those of the ports before it
 pub told_on : (plans : List (List Call)) (p : ℕ) (port : Port) (rest : List Port) (all so_far now : List Called) → (f : AtFront plans p port rest) → so_far ++ calls_in (drop p plans) (port ∷ rest) ≡ all → now ≡ (so_far ++ port.finished.items) ++ left_over port (slice_get (f.calls) (length port.finished.items)) port.under_way → now ++ calls_in (drop (suc p) plans) rest ≡ all

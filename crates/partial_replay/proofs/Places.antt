@@ -1,5 +1,5 @@
 -- The least place that fits: where a call's note is legal, so is the one that is found from its begin on.
-use Rattle.std.proofs.Common.{ℕ, zero, suc, ◌≡◌, ◌≢◌, ◌+◌, ◌<◌, ◌≤◌, List, [], ◌∷◌, length, take, get_or, Option, Some, None, slice_get, refl, sym, ◌∙◌, ap, inl, inr, arith}
+use Rattle.std.proofs.Common.{ℕ, zero, suc, ◌≡◌, ◌≢◌, ◌+◌, ◌<◌, ◌≤◌, List, [], ◌∷◌, length, take, get_or, Option, Some, None, IfSome, Contains, slice_get, refl, sym, ◌∙◌, ap, inl, inr, arith}
 use Rattle.std.specs.Option.{option_map, option_map_or}
 use Rattle.std.proofs.lemmas.Bool.{cases_lt}
 use Rattle.std.proofs.lemmas.List.{take-take}
@@ -11,14 +11,18 @@ use Rattle.partial_model.specs.declared.call.Answer.{Answer}
 use Rattle.partial_model.specs.declared.call.Note.{Note}
 use Rattle.partial_model.specs.declared.call.Note.TheVariants as note
 use Rattle.partial_model.specs.History.{HaveDistinctStamps, IsHistory, last_entry, initial_stamp, stamp_of}
-use Rattle.partial_model.specs.Notes.{Fits, IsTrueOf, place_of, shown_by}
+use Rattle.partial_model.specs.Notes.{Fits, IsTrueOf, IsEntryFor, place_of, shown_by}
 use Rattle.partial_model.specs.Outcome.{wrote}
-use Rattle.partial_model.proofs.HistoryLemmas.{LastAt, last_at}
+use Rattle.partial_model.proofs.HistoryLemmas.{LastAt, last_at, place_below}
 use Rattle.partial_model.proofs.NotesLemmas.{AllByRecursion-get}
-use Rattle.partial_core.specs.declared.stage.Reply.{Reply}
-use Rattle.partial_core.specs.declared.stage.Reply.TheVariants as reply
-use Rattle.partial_core.specs.Lawful.{answer_for}
-use Rattle.partial_replay.specs.Place.{IsPlaceFrom, IsNoteFrom, IsLeastFrom, prefix_from}
+use Rattle.partial_model.specs.declared.call.Answer.TheVariants as answer
+use Rattle.partial_words.specs.Chain.{Agrees}
+use Rattle.partial_replay.specs.Place.{IsPlaceFrom, IsScanPlace, IsNoteFrom, IsLeastFrom, prefix_from}
+
+-- the place that is found is one of the history
+pub place_within : (h : List Applied) (began s : ℕ) (found : Option ℕ) → IsPlaceFrom h began s found → IfSome found (λ k. k < length h)
+place_within h began s None place = tt
+place_within h began s (Some k) place = place_below h k place.1.0 place.1.1
 
 -- no two places have one stamp
 pub one_place : (h : List Applied) (i k : ℕ) (a b : Applied) → HaveDistinctStamps h → slice_get h i ≡ Some a → slice_get h k ≡ Some b → a.stamp ≡ b.stamp → i ≡ k
@@ -118,14 +122,14 @@ found_at : (o : Opening) (h : List Applied) (began s k : ℕ) (e : Applied) (fou
 found_at o h began s k e None hist behind stands stamp place = absurd (place k e behind stands stamp)
 found_at o h began s k e (Some i) hist behind stands stamp place = ap Some (one_place h i k (place.1.0) e hist.distinct place.1.1 stands (place.1.2 ∙ sym stamp))
 
-pub finds_place : (o : Opening) (h : List Applied) (p began : ℕ) (c : Call) (r : Reply) (n : Note) (found : Option Note) → IsHistory o h → Fits (length o.values) c (answer_for r) (Some n) → IsTrueOf o h p c (answer_for r) n → began ≤ place_of n → IsNoteFrom h began r found → FindsPlace o h p began c (answer_for r) n found
-finds_place o h p began (call.Update j v) (reply.Applied s) (note.Wrote k) found hist fits w behind place =
+pub finds_place : (o : Opening) (h : List Applied) (p began : ℕ) (words : List ℕ) (c : Call) (a : Answer) (n : Note) (found : Option Note) → IsHistory o h → Agrees o words h → Fits (length o.values) c a (Some n) → IsTrueOf o h p c a n → began ≤ place_of n → IsNoteFrom words h began c a found → FindsPlace o h p began c a n found
+finds_place o h p began words (call.Update j v) (answer.Applied s) (note.Wrote k) found hist agrees fits w behind place =
     let is = found_at o h began s k (record { port = p; component = j; value = v; stamp = s }) (place.0) hist behind w refl place.1 in
     record { note = note.Wrote k; is = place.2 ∙ ap (option_map note.Wrote) is; fits = fits; true' = w; behind = behind; within = omega arith; wrote' = refl; least = tt }
-finds_place o h p began (call.Update j v) (reply.Lost by) (note.Lost k) found hist fits w behind place =
+finds_place o h p began words (call.Update j v) (answer.Lost by) (note.Lost k) found hist agrees fits w behind place =
     let is = found_at o h began by k (w.0) (place.0) hist behind (w.1) (w.3) place.1 in
     record { note = note.Lost k; is = place.2 ∙ ap (option_map note.Lost) is; fits = fits; true' = w; behind = behind; within = omega arith; wrote' = refl; least = tt }
-finds_place o h p began (call.Read j) (reply.Read v s) (note.Saw n) found hist fits w behind place =
+finds_place o h p began words (call.Read j) (answer.Read v s) (note.Saw n) found hist agrees fits w behind place =
     let l = shows_same o h j began n s (place.0) hist behind fits (sym (w.2)) place.1 in
     let m = prefix_from began (place.0) in
     record {
@@ -138,10 +142,10 @@ finds_place o h p began (call.Read j) (reply.Read v s) (note.Saw n) found hist f
       wrote' = refl;
       least = λ i from below shows. least_prefix o h j began s (place.0) hist fits place.1 i from below (sym shows.1);
     }
-finds_place o h p began (call.UpdateIf j x v) (reply.Applied s) (note.Wrote k) found hist fits w behind place =
+finds_place o h p began words (call.UpdateIf j x v) (answer.Applied s) (note.Wrote k) found hist agrees fits w behind place =
     let is = found_at o h began s k (record { port = p; component = j; value = v; stamp = s }) (place.0) hist behind (w.0) refl place.1 in
     record { note = note.Wrote k; is = place.2 ∙ ap (option_map note.Wrote) is; fits = fits; true' = w; behind = behind; within = omega arith; wrote' = refl; least = tt }
-finds_place o h p began (call.UpdateIf j x v) (reply.Changed t) (note.Saw n) found hist fits w behind place =
+finds_place o h p began words (call.UpdateIf j x v) (answer.Changed t) (note.Saw n) found hist agrees fits w behind place =
     let l = shows_same o h j began n t (place.0) hist behind fits (w.1) place.1 in
     let m = prefix_from began (place.0) in
     record {
@@ -154,5 +158,22 @@ finds_place o h p began (call.UpdateIf j x v) (reply.Changed t) (note.Saw n) fou
       wrote' = refl;
       least = λ i from below shows. least_prefix o h j began t (place.0) hist fits place.1 i from below shows;
     }
-finds_place o h p began (call.Scan js) (reply.Applied s) (note.Wrote k) found hist fits w behind place = absurd w
-finds_place o h p began _ _ _ found hist fits w behind place = absurd w
+finds_place o h p began words (call.Scan js) (answer.Scanned vs c b) (note.Saw n) found hist agrees fits w behind place =
+    let l = place.1 o n agrees fits behind w.within w.values in
+    let m = place.0 in
+    let less : m ≤ n = elim (cases_lt n m) [ | inl before ↦ absurd (l.least n behind before w.values) | inr from ↦ from ] in
+    record {
+      note = note.Saw m;
+      is = place.2;
+      fits = fits;
+      true' = record { within = l.within; values = l.holds; collects = w.collects; borrowed = borrowed_from js m n b less w.borrowed };
+      behind = l.behind;
+      within = less;
+      wrote' = refl;
+      least = λ i from below shows. l.least i from below shows;
+    }
+  where
+    borrowed_from : (is : List ℕ) (m n : ℕ) (s : Option ℕ) → m ≤ n → IfSome s (λ t. (k j : ℕ) × (n ≤ k) × Contains is j × IsEntryFor h k j t) → IfSome s (λ t. (k j : ℕ) × (m ≤ k) × Contains is j × IsEntryFor h k j t)
+    borrowed_from is m n None less w = tt
+    borrowed_from is m n (Some t) less w = (w.0, w.1, (let from = w.2 in omega (arith, less, from)), w.3, w.4)
+finds_place o h p began words _ _ _ found hist agrees fits w behind place = absurd w

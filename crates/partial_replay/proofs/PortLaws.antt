@@ -1,6 +1,6 @@
 -- How a port of a replay goes on as its part's port.
 use Rattle.std.proofs.Common.{ℕ, ◌==◌, ◌≢◌, set, inl, inr, zero, suc, ◌≡◌, ◌+◌, ◌<◌, ◌≤◌, ◌++◌, Bool, true, false, cond, List, [], ◌∷◌, length, take, map, get_or, Option, Some, None, IfSome, IsSomeAnd, MatchOption, MatchBool, slice_get, nat_lt, refl, sym, ◌∙◌, ap, subst, arith, length-append}
-use Rattle.std.specs.List.{AllByRecursion, cons_option}
+use Rattle.std.specs.List.{AllByRecursion, cons_option, list_all}
 use Rattle.std.specs.Option.{option_map, option_map_or}
 use Rattle.std.proofs.lemmas.Bool.Decides.{eqb_tells}
 use Rattle.std.proofs.lemmas.Bool.{ltb-true, ltb-false, false≢true}
@@ -21,23 +21,34 @@ use Rattle.partial_model.specs.declared.call.Called.{Called}
 use Rattle.partial_model.specs.declared.call.Finish.{Finish}
 use Rattle.std.specs.declared.vec.Vec.{Vec}
 use Rattle.std.specs.declared.alloc.Global.{Global}
-use Rattle.partial_model.specs.Notes.{Noted, indices_of, ClaimsPool, LegalNotes, IsLegal, MayBeRefused, seen_by, seen_after, shown_by, place_of}
+use Rattle.partial_model.specs.Notes.{Noted, indices_of, ClaimsPool, ClaimsSlot, LegalNotes, IsLegal, MayBeRefused, seen_by, seen_after, shown_by, place_of}
 use Rattle.partial_model.specs.Outcome.{noted_of, places_written, wrote}
 use Rattle.partial_model.proofs.NotesLemmas.{AllByRecursion-push, LegalNotes-push, LegalNotes-grows, seen_by-push, places_written-push}
 use Rattle.partial_words.specs.declared.step.Step.{Step}
 use Rattle.partial_words.specs.declared.step.Event.{Event}
+use Rattle.partial_words.specs.Layout.{Layout}
 use Rattle.partial_words.specs.Step.{answer_of, words_after}
-use Rattle.partial_core.specs.declared.stage.Reply.{Reply}
-use Rattle.partial_core.specs.declared.stage.Stage.TheVariants.{Idle}
-use Rattle.partial_core.specs.Machine.{CoreState, at_stage, advance, step_of, reply_of, steps_left, left_at}
-use Rattle.partial_core.specs.Lawful.{Part, core_of, port_of, is_begun, is_at_rest, IsMachineOf, MayBegin, MayBeginAt, call_at}
+use Rattle.partial_machine.specs.declared.stage.Reply.{Reply}
+use Rattle.partial_machine.specs.declared.stage.Reply.TheVariants as reply
+use Rattle.partial_machine.specs.declared.stage.Stage.TheVariants.{Idle, ScanBegun, Finished}
+use Rattle.partial_machine.specs.Machine.{CoreState, AreComponents, at_stage, begin_scan, advance, step_of, reply_at, reply_of, steps_left, left_at}
+use Rattle.partial_core.specs.Lawful.{Part, core_of, port_of, is_begun, is_at_rest, IsMachineOf, MayBegin, MayBeginAt, begun_like, call_at, call_of, answer_for}
 use Rattle.partial_replay.specs.declared.port.Port.{Port}
 use Rattle.partial_replay.specs.declared.port.UnderWay.{UnderWay}
-use Rattle.partial_replay.specs.CallSteps.{stage_of, refusal_of}
-use Rattle.partial_replay.specs.PortState.{IsServed, end_of, ends_of, IsFinished, AreFinished, notes_in, IsUnderWay, IsBetween, PortFits, refused_call, entry_at, one_step_more, IsEndedCall, GoesOn, Ends, StepMade}
+use Rattle.partial_model.proofs.Decisions.{Decides-list_all, Decides-nat_lt}
+use Rattle.partial_replay.specs.CallSteps.{begun_of, refusal_of, most_steps, IsRefusedAtOnce, IsFinishedAtOnce}
+use Rattle.partial_replay.specs.PortState.{IsServed, end_of, ends_of, IsFinished, AreFinished, AreFew, notes_in, IsUnderWay, IsBetween, PortFits, IsDoneAtOnce, entry_at, one_step_more, IsEndedCall, GoesOn, Ends, StepMade}
 
 pub same_eqb : (a b : ℕ) → a ≡ b → (a == b) ≡ true
 same_eqb a b h = elim (eqb_tells a b) [ inl w ↦ w.0 | inr w ↦ absurd (w.1 h) ]
+
+-- what holds by cases of an option that is known
+pub match_none : {A : Type 0} (f : Option A) (P : Type 0) (Q : A → Type 0) → MatchOption f P Q → f ≡ None → P
+match_none None P Q m is = m
+match_none (Some a) P Q m is = cc
+
+pub match_some : {A : Type 0} (f : Option A) (P : Type 0) (Q : A → Type 0) (a : A) → MatchOption f P Q → f ≡ Some a → Q a
+match_some f P Q a m is = subst (λ g. MatchOption g P Q) is m
 
 -- the element at a place
 pub get_is : {A : Type 0} (xs : List A) (k : ℕ) (d : A) → k < length xs → slice_get xs k ≡ Some (get_or xs k d)
@@ -198,9 +209,9 @@ push_fits o log calls p done places call c w next e =
     }
 
 -- a port with these finished calls
-pub fits_with : (o : Opening) (log : List Applied) (calls : List Call) (p : ℕ) (x : Part) (port : Port) (places : List ℕ) → port.number ≡ p → port_of x ≡ p → port.core.sizes.m ≡ length o.values → DoneFits o log calls p port.finished.items places → places ≡ places_written x.notes → MatchOption port.under_way (IsBetween x port.core) (IsUnderWay (length log) calls x port.core port.finished.items) → PortFits o log calls p x port
-fits_with o log calls p x port places number part sizes w same way =
-    record { number = number; part = part; sizes = sizes; finished = w.finished; legal = w.legal; shown = w.shown; written = w.written ∙ same; made = w.made; few = w.few; least = w.least; way = way }
+pub fits_with : (o : Opening) (log : List Applied) (calls : List Call) (p : ℕ) (x : Part) (port : Port) (places : List ℕ) → port.number ≡ p → port_of x ≡ p → port.core.sizes.m ≡ length o.values → DoneFits o log calls p port.finished.items places → AreFew port.core.sizes port.finished.items → places ≡ places_written x.notes → MatchOption port.under_way (IsBetween x port.core) (IsUnderWay (length log) calls x port.core port.finished.items) → PortFits o log calls p x port
+fits_with o log calls p x port places number part sizes w bounded same way =
+    record { number = number; part = part; sizes = sizes; finished = w.finished; legal = w.legal; shown = w.shown; written = w.written ∙ same; made = w.made; few = w.few; bounded = bounded; least = w.least; way = way }
 
 -- a refusal at once
 refused_update : (s : CoreState) (j : ℕ) (cause : Refused) (a b : Bool) → nat_lt j s.sizes.m ≡ a → s.pool_spent ≡ b → cond a (cond b (Some refused.PoolSpent) None) (Some refused.Component) ≡ Some cause → (c : Call) → indices_of c ≡ j ∷ [] → ClaimsPool c → MayBeRefused s.sizes.m c cause
@@ -221,9 +232,34 @@ refused_read s j cause false below is =
     let out = ltb-false j s.sizes.m below in
     subst (MayBeRefused s.sizes.m (call.Read j)) same (λ w. let in' = w.0 in omega (arith, out, in'))
 
+-- the components of a list are there, or some is not
+all_below : (m : ℕ) (js : List ℕ) → list_all (λ i. nat_lt i m) js ≡ true → AllByRecursion (λ j. j < m) js
+all_below m js e = (Decides-list_all (λ i. nat_lt i m) (λ j. j < m) (λ i. Decides-nat_lt i m) js).0 e
+
+not_below : (m : ℕ) (js : List ℕ) → list_all (λ i. nat_lt i m) js ≡ false → ¬ AllByRecursion (λ j. j < m) js
+not_below m js e all = false≢true (sym e ∙ (Decides-list_all (λ i. nat_lt i m) (λ j. j < m) (λ i. Decides-nat_lt i m) js).1 all)
+
+some_position : (js : List ℕ) → (length js == 0) ≡ false → 0 < length js
+some_position [] e = absurd (false≢true (sym e))
+some_position (j ∷ js) e = omega arith
+
+no_position : (js : List ℕ) → (length js == 0) ≡ true → js ≡ []
+no_position [] e = refl
+no_position (j ∷ js) e = elim (eqb_tells (length (j ∷ js)) 0) [
+  | inl none ↦ let n = none.1 in absurd (omega (arith, n))
+  | inr some ↦ absurd (false≢true (sym some.0 ∙ e))
+]
+
+refused_scan : (s : CoreState) (js : List ℕ) (cause : Refused) (a b p q : Bool) → list_all (λ i. nat_lt i s.sizes.m) js ≡ a → (length js == 0) ≡ b → cond a (cond b None (cond p (Some refused.PoolSpent) (cond q (Some refused.SlotsSpent) None))) (Some refused.Component) ≡ Some cause → MayBeRefused s.sizes.m (call.Scan js) cause
+refused_scan s js cause true true p q below none is = let bad : None ≡ Some cause = is in cc
+refused_scan s js cause true false true q below none is = let same : refused.PoolSpent ≡ cause = cc in subst (MayBeRefused s.sizes.m (call.Scan js)) same (all_below s.sizes.m js below, some_position js none)
+refused_scan s js cause true false false true below none is = let same : refused.SlotsSpent ≡ cause = cc in subst (MayBeRefused s.sizes.m (call.Scan js)) same (all_below s.sizes.m js below, some_position js none)
+refused_scan s js cause true false false false below none is = let bad : None ≡ Some cause = is in cc
+refused_scan s js cause false b p q below none is = let same : refused.Component ≡ cause = cc in subst (MayBeRefused s.sizes.m (call.Scan js)) same (not_below s.sizes.m js below)
+
 pub may_be_refused : (s : CoreState) (c : Call) (cause : Refused) → refusal_of s c ≡ Some cause → MayBeRefused s.sizes.m c cause
 may_be_refused s (call.Update j v) cause is = refused_update s j cause (nat_lt j s.sizes.m) s.pool_spent refl refl is (call.Update j v) refl tt
-may_be_refused s (call.Scan js) cause is = let bad : None ≡ Some cause = is in cc
+may_be_refused s (call.Scan js) cause is = refused_scan s js cause (list_all (λ i. nat_lt i s.sizes.m) js) (length js == 0) s.pool_spent s.slots_spent refl refl is
 may_be_refused s (call.Read j) cause is = refused_read s j cause (nat_lt j s.sizes.m) refl is
 may_be_refused s (call.UpdateIf j x v) cause is = refused_update s j cause (nat_lt j s.sizes.m) s.pool_spent refl refl is (call.UpdateIf j x v) refl tt
 
@@ -236,106 +272,215 @@ begins_read : (s : CoreState) (j : ℕ) (a : Bool) → nat_lt j s.sizes.m ≡ a 
 begins_read s j true below is = ltb-true j s.sizes.m below
 begins_read s j false below is = cc
 
-pub may_begin : (s : CoreState) (c : Call) → IsServed c → refusal_of s c ≡ None → MayBeginAt s.sizes s.pool_spent (stage_of c)
-may_begin s (call.Update j v) served is = begins_update s j (nat_lt j s.sizes.m) s.pool_spent refl refl is
-may_begin s (call.Scan js) served is = absurd served
-may_begin s (call.Read j) served is = begins_read s j (nat_lt j s.sizes.m) refl is
-may_begin s (call.UpdateIf j x v) served is = begins_update s j (nat_lt j s.sizes.m) s.pool_spent refl refl is
+-- the machine has begun the call, and a step of it is due
+pub record Begins (s : CoreState) (c : Call) : Type 0 where
+  pub begun : is_begun (begun_of s c).stage ≡ true
+  pub due : is_at_rest (begun_of s c).stage ≡ false
+  pub may : MayBegin (begun_of s c)
+  pub called : call_of (begun_of s c) ≡ Some c
+  pub few : steps_left (begun_of s c) ≤ most_steps s.sizes c
+  pub asked : AreComponents s.sizes (begun_of s c).asked
 
-stage_begun : (c : Call) → IsServed c → is_begun (stage_of c) ≡ true
-stage_begun (call.Update j v) served = refl
-stage_begun (call.Scan js) served = absurd served
-stage_begun (call.Read j) served = refl
-stage_begun (call.UpdateIf j x v) served = refl
+positions_of : (m : ℕ) (js : List ℕ) → AllByRecursion (λ j. j < m) js → (k : ℕ) → k < length js → get_or js k 0 < m
+positions_of m [] all k below = absurd (omega (arith, below))
+positions_of m (j ∷ js) all zero below = all.0
+positions_of m (j ∷ js) all (suc k) below = positions_of m js all.1 k (omega (arith, below))
 
-stage_due : (c : Call) → IsServed c → is_at_rest (stage_of c) ≡ false
-stage_due (call.Update j v) served = refl
-stage_due (call.Scan js) served = absurd served
-stage_due (call.Read j) served = refl
-stage_due (call.UpdateIf j x v) served = refl
+begins_scan : (s : CoreState) (js : List ℕ) (a b p q : Bool) → length js ≤ s.sizes.m → list_all (λ i. nat_lt i s.sizes.m) js ≡ a → (length js == 0) ≡ b → s.pool_spent ≡ p → s.slots_spent ≡ q → cond a (cond b None (cond p (Some refused.PoolSpent) (cond q (Some refused.SlotsSpent) None))) (Some refused.Component) ≡ None → reply_of (begin_scan s js) ≡ None → Begins s (call.Scan js)
+begins_scan s js true true p q few below none pool slots is none_yet =
+    let bad : Some (reply.Scanned 0 None) ≡ None = ap (λ (e : Bool). reply_at (cond e (Finished (reply.Scanned 0 None)) ScanBegun)) (sym none) ∙ none_yet in cc
+begins_scan s js true false true q few below none pool slots is none_yet = let bad : Some refused.PoolSpent ≡ None = is in cc
+begins_scan s js true false false true few below none pool slots is none_yet = let bad : Some refused.SlotsSpent ≡ None = is in cc
+begins_scan s js true false false false few below none pool slots is none_yet =
+    let stage : (begin_scan s js).stage ≡ ScanBegun = ap (λ (e : Bool). cond e (Finished (reply.Scanned 0 None)) ScanBegun) none in
+    record {
+      begun = ap is_begun stage;
+      due = ap is_at_rest stage;
+      may = subst (MayBeginAt (begin_scan s js)) (sym stage) (some_position js none, pool, slots);
+      called = ap (call_at (begin_scan s js)) stage;
+      few = let left : steps_left (begin_scan s js) ≡ left_at (begin_scan s js) ScanBegun = ap (left_at (begin_scan s js)) stage in omega (arith, left);
+      asked = record { few = few; each = positions_of s.sizes.m js (all_below s.sizes.m js below) };
+    }
+begins_scan s js false b p q few below none pool slots is none_yet = let bad : Some refused.Component ≡ None = is in cc
 
-stage_call : (c : Call) → IsServed c → call_at (stage_of c) ≡ Some c
-stage_call (call.Update j v) served = refl
-stage_call (call.Scan js) served = absurd served
-stage_call (call.Read j) served = refl
-stage_call (call.UpdateIf j x v) served = refl
+pub begins : (s : CoreState) (c : Call) → AreComponents s.sizes s.asked → IsServed s.sizes.m c → refusal_of s c ≡ None → reply_of (begun_of s c) ≡ None → Begins s c
+begins s (call.Update j v) asked served is reply = record { begun = refl; due = refl; may = begins_update s j (nat_lt j s.sizes.m) s.pool_spent refl refl is; called = refl; few = omega arith; asked = asked }
+begins s (call.Scan js) asked served is reply = begins_scan s js (list_all (λ i. nat_lt i s.sizes.m) js) (length js == 0) s.pool_spent s.slots_spent served refl refl refl refl is reply
+begins s (call.Read j) asked served is reply = record { begun = refl; due = refl; may = begins_read s j (nat_lt j s.sizes.m) refl is; called = refl; few = omega arith; asked = asked }
+begins s (call.UpdateIf j x v) asked served is reply = record { begun = refl; due = refl; may = begins_update s j (nat_lt j s.sizes.m) s.pool_spent refl refl is; called = refl; few = omega arith; asked = asked }
 
-stage_left : (c : Call) → IsServed c → left_at (stage_of c) ≤ 8
-stage_left (call.Update j v) served = omega arith
-stage_left (call.Scan js) served = absurd served
-stage_left (call.Read j) served = omega arith
-stage_left (call.UpdateIf j x v) served = omega arith
+-- a machine that has begun a call differs from the one between calls by its stage and positions alone
+begun_from : (s d : CoreState) (c : Call) → s ≡ begun_like d s → begun_of s c ≡ begun_like d (begun_of s c)
+begun_from s d (call.Update j v) same = ap (λ (v' : CoreState). begun_of v' (call.Update j v)) same
+begun_from s d (call.Scan js) same = ap (λ (v' : CoreState). begun_of v' (call.Scan js)) same
+begun_from s d (call.Read j) same = ap (λ (v' : CoreState). begun_of v' (call.Read j)) same
+begun_from s d (call.UpdateIf j x v) same = ap (λ (v' : CoreState). begun_of v' (call.UpdateIf j x v)) same
+
+pub begun_sizes : (s : CoreState) (c : Call) → (begun_of s c).sizes ≡ s.sizes
+begun_sizes s (call.Update j v) = refl
+begun_sizes s (call.Scan js) = refl
+begun_sizes s (call.Read j) = refl
+begun_sizes s (call.UpdateIf j x v) = refl
+
+-- what is between calls
+between_of : (o : Opening) (log : List Applied) (calls : List Call) (p : ℕ) (x : Part) (port : Port) → PortFits o log calls p x port → port.under_way ≡ None → IsBetween x port.core
+between_of o log calls p x port w none = subst (λ (f : Option UnderWay). MatchOption f (IsBetween x port.core) (IsUnderWay (length log) calls x port.core port.finished.items)) none w.way
 
 -- a call begins at a port between calls
-pub begun_fits : (o : Opening) (log : List Applied) (calls : List Call) (p : ℕ) (x : Part) (port new : Port) (call : Call) → PortFits o log calls p x port → port.under_way ≡ None → slice_get calls (length port.finished.items) ≡ Some call → IsServed call → refusal_of port.core call ≡ None → new.number ≡ port.number → new.core ≡ at_stage port.core (stage_of call) → new.finished ≡ port.finished → new.under_way ≡ Some (record { began = length log; steps = 0 }) → PortFits o log calls p x new
-begun_fits o log calls p x port new call w none next served refusal number core finished way =
-    let between : IsBetween x port.core = subst (λ (f : Option UnderWay). MatchOption f (IsBetween x port.core) (IsUnderWay (length log) calls x port.core port.finished.items)) none w.way in
+pub begun_fits : (o : Opening) (log : List Applied) (calls : List Call) (p : ℕ) (x : Part) (port new : Port) (call : Call) → PortFits o log calls p x port → port.under_way ≡ None → slice_get calls (length port.finished.items) ≡ Some call → IsServed port.core.sizes.m call → refusal_of port.core call ≡ None → reply_of (begun_of port.core call) ≡ None → new.number ≡ port.number → new.core ≡ begun_of port.core call → new.finished ≡ port.finished → new.under_way ≡ Some (record { began = length log; steps = 0 }) → PortFits o log calls p x new
+begun_fits o log calls p x port new call w none next served refusal reply number core finished way =
+    let between = between_of o log calls p x port w none in
     let done : new.finished.items ≡ port.finished.items = ap (λ (v : Vec Called Global). v.items) finished in
     let c = new.core in
-    let begun : is_begun c.stage ≡ true = ap (λ (s : CoreState). is_begun s.stage) core ∙ stage_begun call served in
-    let from : c ≡ at_stage (core_of x) c.stage = core ∙ ap (λ (s : CoreState). at_stage s (stage_of call)) (between.machine) ∙ ap (λ (s : CoreState). at_stage (core_of x) s.stage) (sym core) in
-    let may : MayBegin c = subst MayBegin (sym core) (may_begin port.core call served refusal) in
-    let machine : IsMachineOf c x = subst (λ (b : Bool). MatchBool b ((is_at_rest (core_of x).stage ≡ true) × (c ≡ at_stage (core_of x) c.stage) × MayBegin c) (c ≡ core_of x)) (sym begun) (between.rest, from, may) in
+    let b = begins port.core call between.asked served refusal reply in
+    let begun : is_begun c.stage ≡ true = ap (λ (s : CoreState). is_begun s.stage) core ∙ b.begun in
+    let sizes : c.sizes ≡ port.core.sizes = ap (λ (s : CoreState). s.sizes) core ∙ begun_sizes port.core call in
+    let from : c ≡ begun_like (core_of x) c = core ∙ begun_from port.core (core_of x) call between.machine ∙ ap (begun_like (core_of x)) (sym core) in
+    let may : MayBegin c = subst MayBegin (sym core) b.may in
+    let asked : AreComponents c.sizes c.asked = subst (λ (s : CoreState). AreComponents c.sizes s.asked) (sym core) (subst (λ (z : Layout). AreComponents z (begun_of port.core call).asked) (sym sizes) b.asked) in
+    let machine : IsMachineOf c x = subst (λ (b : Bool). MatchBool b ((is_at_rest (core_of x).stage ≡ true) × (c ≡ begun_like (core_of x) c) × AreComponents c.sizes c.asked × MayBegin c) (c ≡ core_of x)) (sym begun) (between.rest, from, asked, may) in
     let low = ends_within (length log) p 0 0 port.finished.items (omega arith) w.finished in
     let going : IsUnderWay (length log) calls x c new.finished.items (record { began = length log; steps = 0 }) = record {
       call = call;
       next = ap (λ (l : List Called). slice_get calls (length l)) done ∙ next;
-      begun = ap (λ (b : Bool). call_at (cond b c x.begun).stage) begun ∙ ap (λ (s : CoreState). call_at s.stage) core ∙ stage_call call served;
+      begun = ap (λ (b : Bool). call_of (cond b c x.begun)) begun ∙ ap call_of core ∙ b.called;
       behind = subst (λ (l : List Called). ends_of 0 l ≤ length log) (sym done) low;
       within = omega arith;
       first = λ b. absurd (false≢true (sym b ∙ begun));
       machine = machine;
-      due = ap (λ (s : CoreState). is_at_rest s.stage) core ∙ stage_due call served;
-      steps = let left : steps_left c ≡ left_at (stage_of call) = ap steps_left core in let few = stage_left call served in omega (arith, left, few);
+      due = ap (λ (s : CoreState). is_at_rest s.stage) core ∙ b.due;
+      steps = let left : steps_left c ≡ steps_left (begun_of port.core call) = ap steps_left core in let few = b.few in let most : most_steps c.sizes call ≡ most_steps port.core.sizes call = ap (λ (z : Layout). most_steps z call) sizes in omega (arith, left, few, most);
     } in
-    let sizes : new.core.sizes.m ≡ length o.values = ap (λ (s : CoreState). s.sizes.m) core ∙ w.sizes in
-    fits_with o log calls p x new (places_written x.notes) (number ∙ w.number) w.part sizes
-    (subst (λ (l : List Called). DoneFits o log calls p l (places_written x.notes)) (sym done) (done_of o log calls p x port w)) refl
+    fits_with o log calls p x new (places_written x.notes) (number ∙ w.number) w.part (ap (λ (z : Layout). z.m) sizes ∙ w.sizes)
+    (subst (λ (l : List Called). DoneFits o log calls p l (places_written x.notes)) (sym done) (done_of o log calls p x port w))
+    (subst (λ (l : List Called). AreFew c.sizes l) (sym done) (subst (λ (z : Layout). AreFew z port.finished.items) (sym sizes) w.bounded)) refl
     (subst (λ (f : Option UnderWay). MatchOption f (IsBetween x c) (IsUnderWay (length log) calls x c new.finished.items)) (sym way) going)
 
--- a call is refused at once at a port between calls
-pub refused_fits : (o : Opening) (log : List Applied) (calls : List Call) (p : ℕ) (x : Part) (port new : Port) (call : Call) (cause : Refused) → PortFits o log calls p x port → port.under_way ≡ None → slice_get calls (length port.finished.items) ≡ Some call → refusal_of port.core call ≡ Some cause → new.number ≡ port.number → new.core ≡ port.core → new.finished.items ≡ port.finished.items ++ refused_call port.number (length port.finished.items) call (length log) cause ∷ [] → new.under_way ≡ None → PortFits o log calls p x new
-refused_fits o log calls p x port new call cause w none next refusal number core finished way =
-    let between : IsBetween x port.core = subst (λ (f : Option UnderWay). MatchOption f (IsBetween x port.core) (IsUnderWay (length log) calls x port.core port.finished.items)) none w.way in
-    let c = refused_call port.number (length port.finished.items) call (length log) cause in
+-- a call that is finished at once, and the machine behind it
+record OnceEnded (o : Opening) (log : List Applied) (p number low seen : ℕ) (call : Call) (c : Called) (s t : CoreState) (x : Part) : Type 0 where
+  ended : EndedCall o log p number low seen call c
+  writes : wrote ended.note ≡ []
+  between : IsBetween x t
+  sizes : t.sizes ≡ s.sizes
+
+-- only a scan of no position is finished at once
+pub once_empty : (s : CoreState) (c : Call) (r : Reply) → reply_of (begun_of s c) ≡ Some r → (c ≡ call.Scan []) × (r ≡ reply.Scanned 0 None)
+once_empty s (call.Update j v) r is = let bad : None ≡ Some r = is in cc
+once_empty s (call.Scan js) r is = at (length js == 0) refl
+  where
+    at : (b : Bool) → (length js == 0) ≡ b → (call.Scan js ≡ call.Scan []) × (r ≡ reply.Scanned 0 None)
+    at true e = (ap call.Scan (no_position js e), (let same : Some (reply.Scanned 0 None) ≡ Some r = ap (λ (b : Bool). reply_at (cond b (Finished (reply.Scanned 0 None)) ScanBegun)) (sym e) ∙ is in cc))
+    at false e = let bad : None ≡ Some r = ap (λ (b : Bool). reply_at (cond b (Finished (reply.Scanned 0 None)) ScanBegun)) (sym e) ∙ is in cc
+once_empty s (call.Read j) r is = let bad : None ≡ Some r = is in cc
+once_empty s (call.UpdateIf j x v) r is = let bad : None ≡ Some r = is in cc
+
+once_refused : (o : Opening) (log : List Applied) (p number low seen : ℕ) (call : Call) (c : Called) (s t : CoreState) (x : Part) → IsDoneAtOnce p number call (length log) s t c → IsRefusedAtOnce s c t → low ≤ length log → s.sizes.m ≡ length o.values → IsBetween x s → OnceEnded o log p number low seen call c s t x
+once_refused o log p number low seen call c s t x d r behind sizes between =
+    let may : MayBeRefused (length o.values) call r.cause = subst (λ m. MayBeRefused m call r.cause) sizes (may_be_refused s call r.cause (ap (refusal_of s) (sym d.call') ∙ r.refused)) in
+    record {
+      ended = record {
+        answer = answer.Refused r.cause;
+        note = None;
+        port = d.port;
+        number' = d.number';
+        call' = d.call';
+        behind = let at = d.began in omega (arith, at, behind);
+        within = let at = d.began in omega (arith, at);
+        finish = r.finish ∙ ap (λ n. Some (record { ended = n; answer = answer.Refused r.cause; note = None })) d.began;
+        placed = tt;
+        legal = (may, tt);
+        least = tt;
+      };
+      writes = refl;
+      between = subst (IsBetween x) (sym r.rests) between;
+      sizes = ap (λ (v : CoreState). v.sizes) r.rests;
+    }
+
+once_finished : (o : Opening) (log : List Applied) (p number low seen : ℕ) (made : Call) (c : Called) (s t : CoreState) (x : Part) → IsDoneAtOnce p number made (length log) s t c → IsFinishedAtOnce s c t → low ≤ length log → seen ≤ low → IsBetween x s → OnceEnded o log p number low seen made c s t x
+once_finished o log p number low seen made c s t x d f behind earlier between =
+    let e = once_empty s c.call f.reply f.replied in
+    let is : made ≡ call.Scan [] = sym d.call' ∙ e.0 in
+    let a : answer_for (begun_of s c.call) f.reply ≡ answer.Scanned [] 0 None = ap (λ (v : Call). answer_for (begun_of s v) f.reply) e.0 ∙ ap (answer_for (begin_scan s [])) e.1 in
+    let rests : t ≡ at_stage (begin_scan s []) Idle = f.rests ∙ ap (λ (v : Call). at_stage (begun_of s v) Idle) e.0 in
+    let nil : List ℕ = [] in
+    record {
+      ended = record {
+        answer = answer.Scanned [] 0 None;
+        note = Some (note.Saw (length log));
+        port = d.port;
+        number' = d.number';
+        call' = d.call';
+        behind = let at = d.began in omega (arith, at, behind);
+        within = let at = d.began in omega (arith, at);
+        finish = f.finish ∙ ap (λ (v : Answer). Some (record { ended = c.began; answer = v; note = Some (note.Saw c.began) })) a ∙ ap (λ n. Some (record { ended = n; answer = answer.Scanned [] 0 None; note = Some (note.Saw n) })) d.began;
+        placed = (let at = d.began in omega (arith, at), omega arith);
+        legal = subst (λ (v : Call). IsLegal o log p seen (record { call = v; answer = answer.Scanned [] 0 None; note = Some (note.Saw (length log)) })) (sym is)
+            (tt, (record { within = omega arith; values = refl; collects = (refl, refl); borrowed = tt }, omega (arith, earlier, behind)));
+        least = λ i from below shows. let at = d.began in omega (arith, at, from, below);
+      };
+      writes = refl;
+      between = subst (IsBetween x) (sym rests) (record { rest = between.rest; machine = ap (λ (v : CoreState). at_stage (begin_scan v []) Idle) between.machine; idle = refl; asked = record { few = omega arith; each = λ k below. absurd (omega (arith, below)) } });
+      sizes = ap (λ (v : CoreState). v.sizes) rests;
+    }
+
+-- the machine behind such a call is idle, and has the same sizes
+pub once_idle : (p number : ℕ) (made : Call) (seen : ℕ) (s t : CoreState) (c : Called) → IsDoneAtOnce p number made seen s t c → s.stage ≡ Idle → t.stage ≡ Idle
+once_idle p number made seen s t c d idle = elim d.done [
+  | inl r ↦ ap (λ (v : CoreState). v.stage) r.rests ∙ idle
+  | inr f ↦ ap (λ (v : CoreState). v.stage) f.rests
+]
+
+pub once_sizes : (p number : ℕ) (made : Call) (seen : ℕ) (s t : CoreState) (c : Called) → IsDoneAtOnce p number made seen s t c → t.sizes ≡ s.sizes
+once_sizes p number made seen s t c d = elim d.done [
+  | inl r ↦ ap (λ (v : CoreState). v.sizes) r.rests
+  | inr f ↦ ap (λ (v : CoreState). v.sizes) f.rests ∙ begun_sizes s c.call
+]
+
+-- a call is finished at once at a port between calls
+pub once_fits : (o : Opening) (log : List Applied) (calls : List Call) (p : ℕ) (x : Part) (port new : Port) (call : Call) (c : Called) → PortFits o log calls p x port → port.under_way ≡ None → slice_get calls (length port.finished.items) ≡ Some call → IsDoneAtOnce port.number (length port.finished.items) call (length log) port.core new.core c → new.number ≡ port.number → new.finished.items ≡ port.finished.items ++ c ∷ [] → new.under_way ≡ None → PortFits o log calls p x new
+once_fits o log calls p x port new call c w none next d number finished way =
+    let between = between_of o log calls p x port w none in
     let low = ends_within (length log) p 0 0 port.finished.items (omega arith) w.finished in
-    let may : MayBeRefused (length o.values) call cause = subst (λ m. MayBeRefused m call cause) w.sizes (may_be_refused port.core call cause refusal) in
-    let e : EndedCall o log p (length port.finished.items) (ends_of 0 port.finished.items) (seen_by 0 (notes_in port.finished.items)) call c = record {
-      answer = answer.Refused cause;
-      note = None;
-      port = w.number;
-      number' = refl;
-      call' = refl;
-      behind = low;
-      within = omega arith;
-      finish = refl;
-      placed = tt;
-      legal = (may, tt);
-      least = tt;
-    } in
-    let pushed : DoneFits o log calls p (port.finished.items ++ c ∷ []) (places_written x.notes ++ []) = push_fits o log calls p port.finished.items (places_written x.notes) call c (done_of o log calls p x port w) next e in
-    let sizes : new.core.sizes.m ≡ length o.values = ap (λ (s : CoreState). s.sizes.m) core ∙ w.sizes in
-    fits_with o log calls p x new (places_written x.notes ++ []) (number ∙ w.number) w.part sizes
-    (subst (λ (l : List Called). DoneFits o log calls p l (places_written x.notes ++ [])) (sym finished) pushed) (append-nil (places_written x.notes))
-    (subst (λ (f : Option UnderWay). MatchOption f (IsBetween x new.core) (IsUnderWay (length log) calls x new.core new.finished.items)) (sym way) (record { rest = between.rest; machine = core ∙ between.machine }))
+    let at : IsDoneAtOnce p (length port.finished.items) call (length log) port.core new.core c = subst (λ n. IsDoneAtOnce n (length port.finished.items) call (length log) port.core new.core c) w.number d in
+    let e : OnceEnded o log p (length port.finished.items) (ends_of 0 port.finished.items) (seen_by 0 (notes_in port.finished.items)) call c port.core new.core x = elim d.done [
+      | inl r ↦ once_refused o log p (length port.finished.items) (ends_of 0 port.finished.items) (seen_by 0 (notes_in port.finished.items)) call c port.core new.core x at r low w.sizes between
+      | inr f ↦ once_finished o log p (length port.finished.items) (ends_of 0 port.finished.items) (seen_by 0 (notes_in port.finished.items)) call c port.core new.core x at f low w.shown between
+    ] in
+    let pushed : DoneFits o log calls p (port.finished.items ++ c ∷ []) (places_written x.notes ++ wrote (e.ended).note) = push_fits o log calls p port.finished.items (places_written x.notes) call c (done_of o log calls p x port w) next e.ended in
+    let bounded : AreFew new.core.sizes (port.finished.items ++ c ∷ []) = AllByRecursion-push (λ (f : Called). f.steps ≤ most_steps new.core.sizes f.call) port.finished.items c (subst (λ (z : Layout). AreFew z port.finished.items) (sym e.sizes) w.bounded) (let steps = d.steps in omega (arith, steps)) in
+    fits_with o log calls p x new (places_written x.notes ++ wrote (e.ended).note) (number ∙ w.number) w.part (ap (λ (z : Layout). z.m) e.sizes ∙ w.sizes)
+    (subst (λ (l : List Called). DoneFits o log calls p l (places_written x.notes ++ wrote (e.ended).note)) (sym finished) pushed)
+    (subst (λ (l : List Called). AreFew new.core.sizes l) (sym finished) bounded)
+    (ap (λ (l : List ℕ). places_written x.notes ++ l) e.writes ∙ append-nil (places_written x.notes))
+    (subst (λ (f : Option UnderWay). MatchOption f (IsBetween x new.core) (IsUnderWay (length log) calls x new.core new.finished.items)) (sym way) e.between)
 
 -- the call that stands behind the finished ones
 pub call_at_place : (calls : List Call) (done : List Called) (n : ℕ) (call : Call) → n ≡ length done → n < length calls → call ≡ get_or calls n call → slice_get calls (length done) ≡ Some call
 call_at_place calls done n call same below is = ap (slice_get calls) (sym same) ∙ get_is calls n call below ∙ ap Some (sym is)
 
+-- a machine between calls still has the values of its last scan
+pub answer_idle : (s : CoreState) (r : Reply) → answer_for (at_stage s Idle) r ≡ answer_for s r
+answer_idle s (reply.Applied stamp) = refl
+answer_idle s (reply.Lost by) = refl
+answer_idle s (reply.Scanned collects borrowed) = refl
+answer_idle s (reply.Read v stamp) = refl
+answer_idle s (reply.Refused cause) = refl
+answer_idle s (reply.Changed by) = refl
+
 -- a step that ends its call
-pub step_ended : (calls : List Call) (words words' : List ℕ) (trace trace' : List Event) (log log' : List Applied) (port new : Port) (step : Step) (way : UnderWay) (a : ℕ) (core' core'' : CoreState) (r : Reply) (call : Call) (called : Called) → step_of port.core ≡ Some step → port.under_way ≡ Some way → a ≡ answer_of words step → words' ≡ words_after words step → trace' ≡ trace ++ record { port = port.number; step = step; answer = a } ∷ [] → log' ≡ log ++ entry_at words' port.number step a → core' ≡ advance port.core a → steps_left core' < steps_left port.core → reply_of core' ≡ Some r → core'' ≡ at_stage core' Idle → slice_get calls (length port.finished.items) ≡ Some call → IsEndedCall port.number (length port.finished.items) call (one_step_more way) log' r called → new.number ≡ port.number → new.core ≡ core'' → new.under_way ≡ None → new.finished.items ≡ port.finished.items ++ called ∷ [] → StepMade calls words words' trace trace' log log' port new
+pub step_ended : (calls : List Call) (words words' : List ℕ) (trace trace' : List Event) (log log' : List Applied) (port new : Port) (step : Step) (way : UnderWay) (a : ℕ) (core' core'' : CoreState) (r : Reply) (call : Call) (called : Called) → step_of port.core ≡ Some step → port.under_way ≡ Some way → a ≡ answer_of words step → words' ≡ words_after words step → trace' ≡ trace ++ record { port = port.number; step = step; answer = a } ∷ [] → log' ≡ log ++ entry_at port.core.sizes.m words' port.number step a → core' ≡ advance port.core a → steps_left core' < steps_left port.core → reply_of core' ≡ Some r → core'' ≡ at_stage core' Idle → slice_get calls (length port.finished.items) ≡ Some call → IsEndedCall port.number (length port.finished.items) call (one_step_more way) words' log' (answer_for core' r) called → new.number ≡ port.number → new.core ≡ core'' → new.under_way ≡ None → new.finished.items ≡ port.finished.items ++ called ∷ [] → StepMade calls words words' trace trace' log log' port new
 step_ended calls words words' trace trace' log log' port new step way a core' core'' r call called due was answer words_are trace_is log_is core falls replied taken next ended number machine none finished =
     let moved : core' ≡ advance port.core (answer_of words step) = core ∙ ap (advance port.core) answer in
     let reply' : reply_of (advance port.core (answer_of words step)) ≡ Some r = ap reply_of (sym moved) ∙ replied in
-    let after : Ends calls log' port new way (advance port.core (answer_of words step)) r = record {
+    let ended' : IsEndedCall port.number (length port.finished.items) call (one_step_more way) words' log' (answer_for (advance port.core (answer_of words step)) r) called = subst (λ (s : CoreState). IsEndedCall port.number (length port.finished.items) call (one_step_more way) words' log' (answer_for s r) called) moved ended in
+    let after : Ends calls words' log' port new way (advance port.core (answer_of words step)) r = record {
       machine = machine ∙ taken ∙ ap (λ (s : CoreState). at_stage s Idle) moved;
       none = none;
       call = call;
       next = next;
-      note = ended.0;
-      noted = ended.1;
-      finished = finished ∙ ap (λ (c : Called). port.finished.items ++ c ∷ []) (ended.2);
+      note = ended'.0;
+      noted = ended'.1;
+      finished = finished ∙ ap (λ (c : Called). port.finished.items ++ c ∷ []) (ended'.2);
     } in
     record {
       step = step;
@@ -344,8 +489,8 @@ step_ended calls words words' trace trace' log log' port new step way a core' co
       was = was;
       words_are = words_are;
       trace_is = trace_is ∙ ap (λ n. trace ++ record { port = port.number; step = step; answer = n } ∷ []) answer;
-      log_is = log_is ∙ ap (λ n. log ++ entry_at words' port.number step n) answer;
+      log_is = log_is ∙ ap (λ n. log ++ entry_at port.core.sizes.m words' port.number step n) answer;
       number = number;
       falls = subst (λ (s : CoreState). steps_left s < steps_left port.core) moved falls;
-      after = subst (λ (f : Option Reply). MatchOption f (GoesOn port new way (advance port.core (answer_of words step))) (Ends calls log' port new way (advance port.core (answer_of words step)))) (sym reply') after;
+      after = subst (λ (f : Option Reply). MatchOption f (GoesOn port new way (advance port.core (answer_of words step))) (Ends calls words' log' port new way (advance port.core (answer_of words step)))) (sym reply') after;
     }

@@ -19,18 +19,18 @@ use Rattle.partial_words.specs.declared.step.Step.{Step}
 use Rattle.partial_words.specs.declared.step.Event.{Event}
 use Rattle.partial_words.specs.Layout.{Layout}
 use Rattle.partial_words.specs.Step.{word_of, answer_of}
-use Rattle.partial_core.specs.declared.stage.Reply.{Reply}
-use Rattle.partial_core.specs.declared.stage.Stage.{Stage}
-use Rattle.partial_core.specs.declared.stage.Stage.TheVariants.{Idle, ReadBegun, LoadingValue, UpdateBegun, LoadingListHead, LoadingSlotCounter, ClaimingRecord, StoringRecord, Exchanging, Finished}
-use Rattle.partial_core.specs.Machine.{CoreState, at_stage, advance, step_of, reply_at, reply_of, fresh}
+use Rattle.partial_machine.specs.declared.stage.Reply.{Reply}
+use Rattle.partial_machine.specs.declared.stage.Stage.{Stage}
+use Rattle.partial_machine.specs.declared.stage.Stage.TheVariants.{Idle, Finished}
+use Rattle.partial_machine.specs.Machine.{CoreState, at_stage, advance, step_of, reply_at, reply_of, fresh}
 use Rattle.partial_core.specs.Lawful.{Part, answer_for, is_at_rest}
 use Rattle.partial_replay.specs.declared.port.Port.{Port}
 use Rattle.partial_replay.specs.declared.port.UnderWay.{UnderWay}
 use Rattle.partial_replay.specs.Trace.{Moment, adds, is_won, new_of, entry_of, moments_from, moments_by, ports_of, events_in}
 use Rattle.partial_replay.specs.Listed.{EndInStep}
 use Rattle.std.specs.Option.{is_some, IsSome}
-use Rattle.partial_replay.specs.CallSteps.{stage_of, refusal_of, Makes, last_behind, IsCallOf, AreStepsOf}
-use Rattle.partial_replay.specs.PortState.{IsUnderWay, IsBetween, PortFits, IsGoing, PortMade, KeepsMade, unfinished_call, began_at, refused_call, ended_call, one_step_more, GoesOn, Ends, StepMade}
+use Rattle.partial_replay.specs.CallSteps.{begun_of, refusal_of, Makes, last_behind, IsCallOf, AreStepsOf}
+use Rattle.partial_replay.specs.PortState.{IsUnderWay, IsBetween, PortFits, IsGoing, PortMade, KeepsMade, unfinished_call, began_at, IsDoneAtOnce, ended_call, one_step_more, GoesOn, Ends, StepMade}
 use Rattle.partial_replay.specs.RunState.{ArePortsMade, AreStarted, AreStartedBut, left_over, unvalued}
 use Rattle.partial_replay.specs.TurnState.{StopsAtStep}
 use Rattle.partial_replay.proofs.PortLaws.{same_eqb, get_set, get_set_other}
@@ -58,13 +58,13 @@ began_push n k [] x is = sym is
 began_push n k (y ∷ xs) x is = refl
 
 -- a call that has made its last step, or that is left unfinished
-call_of : (s t last : CoreState) (c : Called) (own : List Moment) (x : Moment) → refusal_of s c.call ≡ None → Makes (at_stage s (stage_of c.call)) (own ++ x ∷ []) last → c.began ≡ began_at 0 (own ++ x ∷ []) → option_map (λ (f : Finish). f.answer) c.finish ≡ option_map answer_for (reply_of last) → IfSome c.finish (λ (f : Finish). f.ended ≡ x.behind) → t ≡ at_stage last Idle → IsCallOf s c (own ++ x ∷ []) t
+call_of : (s t last : CoreState) (c : Called) (own : List Moment) (x : Moment) → refusal_of s c.call ≡ None → Makes (begun_of s c.call) (own ++ x ∷ []) last → c.began ≡ began_at 0 (own ++ x ∷ []) → option_map (λ (f : Finish). f.answer) c.finish ≡ option_map (answer_for last) (reply_of last) → IfSome c.finish (λ (f : Finish). f.ended ≡ x.behind) → t ≡ at_stage last Idle → IsCallOf s c (own ++ x ∷ []) t
 call_of s t last c [] x begins makes began answered ended rests = record { begins = begins; last = last; makes = makes; began = began; answered = answered; ended = ended; rests = rests }
 call_of s t last c (y ∷ own) x begins makes began answered ended rests =
     record { begins = begins; last = last; makes = makes; began = began; answered = answered; ended = subst (λ n. IfSome c.finish (λ (f : Finish). f.ended ≡ n)) (sym (behind_push y.behind own x)) ended; rests = rests }
 
 -- a call begins at a port between calls
-pub begun_made : (z : Layout) (n : ℕ) (calls : List Call) (p : ℕ) (xs : List Moment) (port new : Port) (call : Call) → PortMade z n calls p xs port → port.under_way ≡ None → slice_get calls (length port.finished.items) ≡ Some call → refusal_of port.core call ≡ None → new.core ≡ at_stage port.core (stage_of call) → new.finished.items ≡ port.finished.items → new.under_way ≡ Some (record { began = n; steps = 0 }) → PortMade z n calls p xs new
+pub begun_made : (z : Layout) (n : ℕ) (calls : List Call) (p : ℕ) (xs : List Moment) (port new : Port) (call : Call) → PortMade z n calls p xs port → port.under_way ≡ None → slice_get calls (length port.finished.items) ≡ Some call → refusal_of port.core call ≡ None → new.core ≡ begun_of port.core call → new.finished.items ≡ port.finished.items → new.under_way ≡ Some (record { began = n; steps = 0 }) → PortMade z n calls p xs new
 begun_made z n calls p xs port new call w none next refusal core finished way =
     let nil : List Moment = [] in
     let idle : (w.own ≡ []) × (port.core ≡ w.at) = subst (λ (f : Option UnderWay). MatchOption f ((w.own ≡ []) × (port.core ≡ w.at)) (IsGoing n calls port.finished.items w.at port.core w.own)) none w.going in
@@ -72,7 +72,7 @@ begun_made z n calls p xs port new call w none next refusal core finished way =
       call = call;
       next = ap (λ (d : List Called). slice_get calls (length d)) finished ∙ next;
       begins = subst (λ (s : CoreState). refusal_of s call ≡ None) idle.1 refusal;
-      makes = core ∙ ap (λ (s : CoreState). at_stage s (stage_of call)) idle.1;
+      makes = core ∙ ap (λ (s : CoreState). begun_of s call) idle.1;
       steps = refl;
       began = refl;
     } in
@@ -85,21 +85,20 @@ begun_made z n calls p xs port new call w none next refusal core finished way =
       going = subst (λ (f : Option UnderWay). MatchOption f ((nil ≡ []) × (new.core ≡ w.at)) (IsGoing n calls new.finished.items w.at new.core [])) (sym way) going;
     }
 
--- a call is refused at once at a port between calls
-pub refused_made : (z : Layout) (n : ℕ) (calls : List Call) (p : ℕ) (xs : List Moment) (port new : Port) (call : Call) (cause : Refused) → PortMade z n calls p xs port → port.under_way ≡ None → refusal_of port.core call ≡ Some cause → new.core ≡ port.core → new.finished.items ≡ port.finished.items ++ refused_call port.number (length port.finished.items) call n cause ∷ [] → new.under_way ≡ None → PortMade z n calls p xs new
-refused_made z n calls p xs port new call cause w none refusal core finished way =
+-- a call is finished at once at a port between calls
+pub once_made : (z : Layout) (n : ℕ) (calls : List Call) (p : ℕ) (xs : List Moment) (port new : Port) (call : Call) (c : Called) → PortMade z n calls p xs port → port.under_way ≡ None → IsDoneAtOnce port.number (length port.finished.items) call n port.core new.core c → new.finished.items ≡ port.finished.items ++ c ∷ [] → new.under_way ≡ None → PortMade z n calls p xs new
+once_made z n calls p xs port new call c w none d finished way =
     let nil : List Moment = [] in
     let idle : (w.own ≡ []) × (port.core ≡ w.at) = subst (λ (f : Option UnderWay). MatchOption f ((w.own ≡ []) × (port.core ≡ w.at)) (IsGoing n calls port.finished.items w.at port.core w.own)) none w.going in
-    let c = refused_call port.number (length port.finished.items) call n cause in
-    let here : IsCallOf w.at c [] w.at = (record { cause = cause; refused = subst (λ (s : CoreState). refusal_of s call ≡ Some cause) idle.1 refusal; finish = refl }, refl) in
-    let led = steps_push (fresh z p) w.at w.at port.finished.items c w.done [] w.led here refl in
+    let here : IsCallOf w.at c [] new.core = subst (λ (s : CoreState). IsCallOf s c [] new.core) idle.1 d.done in
+    let led = steps_push (fresh z p) w.at new.core port.finished.items c w.done [] w.led here (sym d.steps) in
     record {
       done = w.done ++ [];
       own = [];
-      at = w.at;
+      at = new.core;
       is = w.is ∙ ap (λ (l : List Moment). w.done ++ l) idle.0 ∙ sym (append-nil (w.done ++ []));
-      led = subst (λ (d : List Called). AreStepsOf (fresh z p) d (w.done ++ []) w.at) (sym finished) led;
-      going = subst (λ (f : Option UnderWay). MatchOption f ((nil ≡ []) × (new.core ≡ w.at)) (IsGoing n calls new.finished.items w.at new.core [])) (sym way) (refl, core ∙ idle.1);
+      led = subst (λ (d : List Called). AreStepsOf (fresh z p) d (w.done ++ []) new.core) (sym finished) led;
+      going = subst (λ (f : Option UnderWay). MatchOption f ((nil ≡ []) × (new.core ≡ new.core)) (IsGoing n calls new.finished.items new.core new.core [])) (sym way) (refl, refl);
     }
 
 -- a step of the call under way: it goes on, or it is finished
@@ -109,7 +108,7 @@ goes_made z n k calls p xs port new way x w u before due g =
       call = u.call;
       next = ap (λ (d : List Called). slice_get calls (length d)) g.finished ∙ u.next;
       begins = u.begins;
-      makes = makes_push (at_stage w.at (stage_of u.call)) port.core new.core w.own x u.makes due g.machine;
+      makes = makes_push (begun_of w.at u.call) port.core new.core w.own x u.makes due g.machine;
       steps = length_push w.own x ∙ ap (λ m. m + 1) u.steps;
       began = u.began ∙ began_push n k w.own x before;
     } in
@@ -122,20 +121,20 @@ goes_made z n k calls p xs port new way x w u before due g =
       going = subst (λ (f : Option UnderWay). MatchOption f ((w.own ++ x ∷ [] ≡ []) × (new.core ≡ w.at)) (IsGoing k calls new.finished.items w.at new.core (w.own ++ x ∷ []))) (sym g.way') going;
     }
 
-ends_made : (z : Layout) (n k : ℕ) (calls : List Call) (p : ℕ) (xs : List Moment) (port new : Port) (way : UnderWay) (x : Moment) (log : List Applied) (r : Reply) → (w : PortMade z n calls p xs port) → IsGoing n calls port.finished.items w.at port.core w.own way → x.before ≡ n → x.behind ≡ length log → step_of port.core ≡ Some x.event.step → reply_of (advance port.core x.event.answer) ≡ Some r → Ends calls log port new way (advance port.core x.event.answer) r → PortMade z k calls p (xs ++ x ∷ []) new
-ends_made z n k calls p xs port new way x log r w u before behind due replied e =
+ends_made : (z : Layout) (n k : ℕ) (calls : List Call) (p : ℕ) (xs : List Moment) (port new : Port) (way : UnderWay) (x : Moment) (words : List ℕ) (log : List Applied) (r : Reply) → (w : PortMade z n calls p xs port) → IsGoing n calls port.finished.items w.at port.core w.own way → x.before ≡ n → x.behind ≡ length log → step_of port.core ≡ Some x.event.step → reply_of (advance port.core x.event.answer) ≡ Some r → Ends calls words log port new way (advance port.core x.event.answer) r → PortMade z k calls p (xs ++ x ∷ []) new
+ends_made z n k calls p xs port new way x words log r w u before behind due replied e =
     let nil : List Moment = [] in
     let own = w.own ++ x ∷ [] in
     let last = advance port.core x.event.answer in
-    let c = ended_call port.number (length port.finished.items) e.call (one_step_more way) (length log) r e.note in
+    let c = ended_call port.number (length port.finished.items) e.call (one_step_more way) (length log) (answer_for (advance port.core x.event.answer) r) e.note in
     let one : Some u.call ≡ Some e.call = sym u.next ∙ e.next in
     let same : u.call ≡ e.call = cc in
-    let makes : Makes (at_stage w.at (stage_of u.call)) own last = makes_push (at_stage w.at (stage_of u.call)) port.core last w.own x u.makes due refl in
+    let makes : Makes (begun_of w.at u.call) own last = makes_push (begun_of w.at u.call) port.core last w.own x u.makes due refl in
     let call : IsCallOf w.at c own (at_stage last Idle) = call_of w.at (at_stage last Idle) last c w.own x
     (subst (λ (d : Call). refusal_of w.at d ≡ None) same u.begins)
-    (subst (λ (d : Call). Makes (at_stage w.at (stage_of d)) own last) same makes)
+    (subst (λ (d : Call). Makes (begun_of w.at d) own last) same makes)
     (u.began ∙ began_push n 0 w.own x before)
-    (sym (ap (option_map answer_for) replied))
+    (sym (ap (option_map (answer_for last)) replied))
     (sym behind) refl in
     let led = steps_push (fresh z p) w.at (at_stage last Idle) port.finished.items c w.done own w.led call (length_push w.own x ∙ ap (λ m. m + 1) u.steps) in
     record {
@@ -147,9 +146,9 @@ ends_made z n k calls p xs port new way x log r w u before behind due replied e 
       going = subst (λ (f : Option UnderWay). MatchOption f ((nil ≡ []) × (new.core ≡ at_stage last Idle)) (IsGoing k calls new.finished.items (at_stage last Idle) new.core [])) (sym e.none) (refl, e.machine);
     }
 
-after_made : (z : Layout) (n k : ℕ) (calls : List Call) (p : ℕ) (xs : List Moment) (port new : Port) (way : UnderWay) (x : Moment) (log : List Applied) (found : Option Reply) → (w : PortMade z n calls p xs port) → IsGoing n calls port.finished.items w.at port.core w.own way → x.before ≡ n → x.behind ≡ length log → step_of port.core ≡ Some x.event.step → reply_of (advance port.core x.event.answer) ≡ found → MatchOption found (GoesOn port new way (advance port.core x.event.answer)) (Ends calls log port new way (advance port.core x.event.answer)) → PortMade z k calls p (xs ++ x ∷ []) new
-after_made z n k calls p xs port new way x log None w u before behind due replied g = goes_made z n k calls p xs port new way x w u before due g
-after_made z n k calls p xs port new way x log (Some r) w u before behind due replied e = ends_made z n k calls p xs port new way x log r w u before behind due replied e
+after_made : (z : Layout) (n k : ℕ) (calls : List Call) (p : ℕ) (xs : List Moment) (port new : Port) (way : UnderWay) (x : Moment) (words : List ℕ) (log : List Applied) (found : Option Reply) → (w : PortMade z n calls p xs port) → IsGoing n calls port.finished.items w.at port.core w.own way → x.before ≡ n → x.behind ≡ length log → step_of port.core ≡ Some x.event.step → reply_of (advance port.core x.event.answer) ≡ found → MatchOption found (GoesOn port new way (advance port.core x.event.answer)) (Ends calls words log port new way (advance port.core x.event.answer)) → PortMade z k calls p (xs ++ x ∷ []) new
+after_made z n k calls p xs port new way x words log None w u before behind due replied g = goes_made z n k calls p xs port new way x w u before due g
+after_made z n k calls p xs port new way x words log (Some r) w u before behind due replied e = ends_made z n k calls p xs port new way x words log r w u before behind due replied e
 
 -- the event of a step
 abbrev event_of : List ℕ → ℕ → Step → Event
@@ -158,7 +157,7 @@ event_of words p step = record { port = p; step = step; answer = answer_of words
 step_made : (z : Layout) (calls : List Call) (p : ℕ) (xs : List Moment) (words words' : List ℕ) (trace trace' : List Event) (log log' : List Applied) (port new : Port) → (m : StepMade calls words words' trace trace' log log' port new) → PortMade z (length log) calls p xs port → PortMade z (length log') calls p (xs ++ record { event = event_of words port.number m.step; before = length log; behind = length log' } ∷ []) new
 step_made z calls p xs words words' trace trace' log log' port new m w =
     let u : IsGoing (length log) calls port.finished.items w.at port.core w.own m.way = subst (λ (f : Option UnderWay). MatchOption f ((w.own ≡ []) × (port.core ≡ w.at)) (IsGoing (length log) calls port.finished.items w.at port.core w.own)) m.was w.going in
-    after_made z (length log) (length log') calls p xs port new m.way (record { event = event_of words port.number m.step; before = length log; behind = length log' }) log' (reply_of (advance port.core (answer_of words m.step))) w u refl refl m.due refl m.after
+    after_made z (length log) (length log') calls p xs port new m.way (record { event = event_of words port.number m.step; before = length log; behind = length log' }) words' log' (reply_of (advance port.core (answer_of words m.step))) w u refl refl m.due refl m.after
 
 -- another port's step
 own_stays : (n k : ℕ) (own : List Moment) (way : UnderWay) → length own ≡ way.steps → 0 < way.steps → began_at n own ≡ began_at k own
@@ -267,7 +266,7 @@ started_idle ports i port new t started none = started_set ports i port new t (�
 pub step_started : (calls : List Call) (words words' : List ℕ) (trace trace' : List Event) (log log' : List Applied) (port new : Port) → StepMade calls words words' trace trace' log log' port new → (way : UnderWay) → new.under_way ≡ Some way → 0 < way.steps
 step_started calls words words' trace trace' log log' port new m way is = here (reply_of (advance port.core (answer_of words m.step))) m.after
   where
-    here : (found : Option Reply) → MatchOption found (GoesOn port new m.way (advance port.core (answer_of words m.step))) (Ends calls log' port new m.way (advance port.core (answer_of words m.step))) → 0 < way.steps
+    here : (found : Option Reply) → MatchOption found (GoesOn port new m.way (advance port.core (answer_of words m.step))) (Ends calls words' log' port new m.way (advance port.core (answer_of words m.step))) → 0 < way.steps
     here None g = let one : Some (one_step_more m.way) ≡ Some way = sym g.way' ∙ is in let same : one_step_more m.way ≡ way = cc in let steps = ap (λ (v : UnderWay). v.steps) same in omega (arith, steps)
     here (Some r) e = let bad : None ≡ Some way = sym e.none ∙ is in cc
 
@@ -277,17 +276,9 @@ at_rest_replied s due = at s.stage due
   where
     at : (g : Stage) → is_at_rest g ≡ false → reply_at g ≡ None
     at (Finished r) e = absurd (false≢true (sym e))
-    at Idle e = refl
-    at (ReadBegun j) e = refl
-    at (LoadingValue v) e = refl
-    at (UpdateBegun c) e = refl
-    at (LoadingListHead c o) e = refl
-    at (LoadingSlotCounter c o) e = refl
-    at (ClaimingRecord c o) e = refl
-    at (StoringRecord c o a k) e = refl
-    at (Exchanging c o a) e = refl
+    at _ e = refl
 
-unfinished_of : (s core : CoreState) (c : Called) (own : List Moment) → refusal_of s c.call ≡ None → Makes (at_stage s (stage_of c.call)) own core → c.began ≡ began_at 0 own → 0 < length own → reply_of core ≡ None → c.finish ≡ None → IsCallOf s c own (at_stage core Idle)
+unfinished_of : (s core : CoreState) (c : Called) (own : List Moment) → refusal_of s c.call ≡ None → Makes (begun_of s c.call) own core → c.began ≡ began_at 0 own → 0 < length own → reply_of core ≡ None → c.finish ≡ None → IsCallOf s c own (at_stage core Idle)
 unfinished_of s core c [] begins makes began some none finish = absurd (omega (arith, some))
 unfinished_of s core c (x ∷ own) begins makes began some none finish =
     record {
@@ -295,7 +286,7 @@ unfinished_of s core c (x ∷ own) begins makes began some none finish =
       last = core;
       makes = makes;
       began = began;
-      answered = ap (option_map (λ (f : Finish). f.answer)) finish ∙ sym (ap (option_map answer_for) none);
+      answered = ap (option_map (λ (f : Finish). f.answer)) finish ∙ sym (ap (option_map (answer_for core)) none);
       ended = subst (λ (f : Option Finish). IfSome f (λ (g : Finish). g.ended ≡ last_behind x.behind own)) (sym finish) tt;
       rests = refl;
     }
@@ -369,9 +360,9 @@ ending_with ports i port new t own q ends u is none = elim (eqb_tells q i) [
 pub step_ending : (calls : List Call) (words words' : List ℕ) (trace trace' : List Event) (log log' : List Applied) (port new : Port) → StepMade calls words words' trace trace' log log' port new → new.under_way ≡ None → EndInStep new.finished.items
 step_ending calls words words' trace trace' log log' port new m none = here (reply_of (advance port.core (answer_of words m.step))) m.after
   where
-    here : (found : Option Reply) → MatchOption found (GoesOn port new m.way (advance port.core (answer_of words m.step))) (Ends calls log' port new m.way (advance port.core (answer_of words m.step))) → EndInStep new.finished.items
+    here : (found : Option Reply) → MatchOption found (GoesOn port new m.way (advance port.core (answer_of words m.step))) (Ends calls words' log' port new m.way (advance port.core (answer_of words m.step))) → EndInStep new.finished.items
     here None g = let bad : None ≡ Some (one_step_more m.way) = sym none ∙ g.way' in cc
-    here (Some r) e = subst EndInStep (sym e.finished) (last_step port.finished.items (ended_call port.number (length port.finished.items) e.call (one_step_more m.way) (length log') r e.note) (omega arith))
+    here (Some r) e = subst EndInStep (sym e.finished) (last_step port.finished.items (ended_call port.number (length port.finished.items) e.call (one_step_more m.way) (length log') (answer_for (advance port.core (answer_of words m.step)) r) e.note) (omega arith))
 
 -- what a port lists ends in a step
 ending_over : (ports : List Port) (q : ℕ) (calls : List Call) (port : Port) (call : Option Call) (way : Option UnderWay) → port.under_way ≡ way → slice_get ports q ≡ Some port → StopsAtStep ports q → ((v : UnderWay) → port.under_way ≡ Some v → 0 < v.steps) → (IsSome way → IsSome call) → EndInStep (port.finished.items ++ left_over port call way)

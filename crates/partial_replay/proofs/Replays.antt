@@ -13,7 +13,7 @@ use Rattle.partial_words.specs.Record.{value_of}
 use Rattle.partial_words.specs.Step.{Leads}
 use Rattle.partial_words.specs.Chain.{Agrees, AreOpeningWords}
 use Rattle.partial_text.specs.PlanText.{PlanView}
-use Rattle.partial_core.specs.Machine.{CoreState, fresh}
+use Rattle.partial_machine.specs.Machine.{CoreState, fresh}
 use Rattle.partial_replay.specs.CallSteps.{AreStepsOf}
 use Rattle.partial_replay.specs.PortState.{PortFits}
 use Rattle.partial_replay.proofs.PortSteps.{ending_begun, steps_begun, events_steps, none_moments}

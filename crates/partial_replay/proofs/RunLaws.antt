@@ -16,12 +16,12 @@ use Rattle.partial_words.specs.declared.step.Step.{Step}
 use Rattle.partial_words.specs.declared.step.Event.{Event}
 use Rattle.partial_words.specs.Layout.{Layout}
 use Rattle.partial_words.specs.Step.{Answers, Leads, answer_of, words_after}
-use Rattle.partial_core.specs.declared.stage.Change.{Change}
-use Rattle.partial_core.specs.declared.stage.Reply.{Reply}
-use Rattle.partial_core.specs.declared.stage.Reply.TheVariants as reply
-use Rattle.partial_core.specs.declared.stage.Stage.{Stage}
-use Rattle.partial_core.specs.declared.stage.Stage.TheVariants.{Idle, ReadBegun, LoadingValue, UpdateBegun, LoadingListHead, LoadingSlotCounter, ClaimingRecord, StoringRecord, Exchanging, Finished}
-use Rattle.partial_core.specs.Machine.{CoreState, at_stage, advance, advance_at, step_at, reply_of, spent, fits_pool, expects, IsPossibleAt, steps_left}
+use Rattle.partial_machine.specs.declared.stage.Change.{Change}
+use Rattle.partial_machine.specs.declared.stage.Reply.{Reply}
+use Rattle.partial_machine.specs.declared.stage.Reply.TheVariants as reply
+use Rattle.partial_machine.specs.declared.stage.Stage.{Stage}
+use Rattle.partial_machine.specs.declared.stage.Stage.TheVariants.{Idle, ReadBegun, LoadingValue, UpdateBegun, LoadingListHead, LoadingSlotCounter, ClaimingRecord, StoringRecord, Exchanging, Finished}
+use Rattle.partial_machine.specs.Machine.{CoreState, at_stage, advance, advance_at, step_at, reply_of, spent, fits_pool, expects, IsPossibleAt, steps_left}
 use Rattle.partial_core.specs.Lawful.{Part, Kept, IsKnown, core_of, port_of, led_by, is_begun, is_at_rest, IsMachineOf, MayBegin, begun_with, kept_with, moved, added, call_at, first_at, answer_for, LeadsOn, IsNoteOf, IsRefusal, AreNotesOf}
 use Rattle.partial_core.proofs.ListLemmas.{all_at}
 use Rattle.partial_core.proofs.PartLemmas.{led_push, port_led, sizes_led}

@@ -14,11 +14,11 @@ use Rattle.partial_words.specs.declared.step.Event.{Event}
 use Rattle.partial_words.specs.Layout.{Layout, total}
 use Rattle.partial_words.specs.Step.{Leads, answer_of, words_after}
 use Rattle.partial_words.specs.Record.{record_block, value_of}
-use Rattle.partial_core.specs.declared.stage.Change.{Change}
-use Rattle.partial_core.specs.declared.stage.Reply.{Reply}
-use Rattle.partial_core.specs.declared.stage.Stage.{Stage}
-use Rattle.partial_core.specs.declared.stage.Stage.TheVariants.{Idle, ReadBegun, LoadingValue, UpdateBegun, LoadingListHead, LoadingSlotCounter, ClaimingRecord, StoringRecord, Exchanging, Finished}
-use Rattle.partial_core.specs.Machine.{CoreState, at_stage, advance, step_at, reply_of, IsStage, steps_left}
+use Rattle.partial_machine.specs.declared.stage.Change.{Change}
+use Rattle.partial_machine.specs.declared.stage.Reply.{Reply}
+use Rattle.partial_machine.specs.declared.stage.Stage.{Stage}
+use Rattle.partial_machine.specs.declared.stage.Stage.TheVariants.{Idle, ReadBegun, LoadingValue, UpdateBegun, LoadingListHead, LoadingSlotCounter, ClaimingRecord, StoringRecord, Exchanging, Finished}
+use Rattle.partial_machine.specs.Machine.{CoreState, at_stage, advance, step_at, reply_of, IsStage, steps_left}
 use Rattle.partial_core.specs.Lawful.Space.{Pool}
 use Rattle.partial_core.specs.Lawful.{Part, Lawful, IsWithoutScans, IsKnown, IsTied, IsOwn, own_of, own_at, core_of, is_begun, is_at_rest, IsMachineOf, MayBegin, moved, added, added_at}
 use Rattle.partial_core.proofs.ListLemmas.{all_at}

@@ -277,7 +277,7 @@ least_told o log q (c ∷ plans) (x ∷ parts) (t ∷ ports) w =
 -- the calls of a replay are a legal outcome of its history
 pub run_legal : (plans : List (List Call)) (z : Layout) (o : Opening) (words : List ℕ) (ports : List Port) (log : List Applied) (trace : List Event) → IsRunOf plans z o words ports log trace → LegalOutcome o log (calls_in plans ports)
 run_legal plans z o words ports log trace w = record {
-  history = w.lawful.history;
+  history = w.lawful.memory.history;
   notes = λ p. (notes_told o log p 0 plans w.parts ports w.fit).0;
   once = λ p. w.lawful.once p ∙ sym ((notes_told o log p 0 plans w.parts ports w.fit).1);
   time = time_told o log 0 plans w.parts ports None w.fit (λ c at number. number);

@@ -1,28 +1,42 @@
--- The steps of a port's calls, call by call.
-use Rattle.std.specs.Prelude.{ℕ, ◌≡◌, List, [], ◌∷◌, ◌++◌, length, Option, Some, None, IfSome}
+-- The steps of a port's calls, call by call, and how many they are at most.
+use Rattle.std.specs.Prelude.{ℕ, ◌≡◌, ◌+◌, ◌*◌, ◌⊎◌, List, [], ◌∷◌, ◌++◌, length, Option, Some, None, IfSome}
 use Rattle.std.specs.Option.{option_map}
 use Rattle.partial_model.specs.declared.call.Call.{Call}
 use Rattle.partial_model.specs.declared.call.Call.TheVariants as call
 use Rattle.partial_model.specs.declared.call.Refused.{Refused}
 use Rattle.partial_model.specs.declared.call.Answer.TheVariants as answer
+use Rattle.partial_model.specs.declared.call.Note.TheVariants as note
 use Rattle.partial_model.specs.declared.call.Called.{Called}
-use Rattle.partial_core.specs.declared.stage.Stage.{Stage}
-use Rattle.partial_core.specs.declared.stage.Stage.TheVariants.{Idle, ReadBegun, UpdateBegun}
-use Rattle.partial_core.specs.Machine.{CoreState, at_stage, advance, step_of, reply_of, read_refusal, update_refusal}
+use Rattle.partial_words.specs.Layout.{Layout}
+use Rattle.partial_machine.specs.declared.stage.Reply.{Reply}
+use Rattle.partial_machine.specs.declared.stage.Stage.TheVariants.{Idle, ReadBegun, UpdateBegun}
+use Rattle.partial_machine.specs.Machine.{CoreState, at_stage, begin_scan, advance, step_of, reply_of, read_refusal, update_refusal, scan_refusal}
+use Rattle.partial_machine.specs.Steps.{most_embedded}
 use Rattle.partial_core.specs.Lawful.{answer_for}
 use Rattle.partial_replay.specs.Trace.{Moment}
 
--- the stage at which a call begins
-abbrev pub stage_of : Call → Stage
-stage_of (call.Update j v) = UpdateBegun (record { component = j; expected = None; value = v })
-stage_of (call.Scan js) = Idle
-stage_of (call.Read j) = ReadBegun j
-stage_of (call.UpdateIf j s v) = UpdateBegun (record { component = j; expected = Some s; value = v })
+-- the machine once it has begun the call
+abbrev pub begun_of : CoreState → Call → CoreState
+begun_of s (call.Update j v) = at_stage s (UpdateBegun (record { component = j; expected = None; value = v }))
+begun_of s (call.Scan js) = begin_scan s js
+begun_of s (call.Read j) = at_stage s (ReadBegun j)
+begun_of s (call.UpdateIf j x v) = at_stage s (UpdateBegun (record { component = j; expected = Some x; value = v }))
+
+-- how many steps an update makes at most
+abbrev pub most_of_update : Layout → ℕ
+most_of_update z = z.slots * (z.m + 3) + z.lists + 6 + most_embedded z.m z.m + 2 * z.m + 7
+
+-- how many steps a call makes at most
+abbrev pub most_steps : Layout → Call → ℕ
+most_steps z (call.Update j v) = most_of_update z
+most_steps z (call.Scan js) = most_embedded z.m (length js) + length js + 5
+most_steps z (call.Read j) = 2
+most_steps z (call.UpdateIf j x v) = most_of_update z
 
 -- why a call is refused at once
 abbrev pub refusal_of : CoreState → Call → Option Refused
 refusal_of s (call.Update j v) = update_refusal s j
-refusal_of s (call.Scan js) = None
+refusal_of s (call.Scan js) = scan_refusal s js
 refusal_of s (call.Read j) = read_refusal s j
 refusal_of s (call.UpdateIf j x v) = update_refusal s j
 
@@ -37,25 +51,35 @@ last_behind n [] = n
 last_behind n (x ∷ xs) = last_behind x.behind xs
 
 -- a call without steps: the machine refuses it at once
-pub record IsRefusedAtOnce (s : CoreState) (c : Called) : Type 0 where
+pub record IsRefusedAtOnce (s : CoreState) (c : Called) (t : CoreState) : Type 0 where
   pub cause : Refused
   pub refused : refusal_of s c.call ≡ Some cause
   pub finish : c.finish ≡ Some (record { ended = c.began; answer = answer.Refused cause; note = None })
+  pub rests : t ≡ s
+
+-- A call without steps: the machine has finished it as it is begun, as it does a scan of no position. It
+-- saw the history that it began with.
+pub record IsFinishedAtOnce (s : CoreState) (c : Called) (t : CoreState) : Type 0 where
+  pub begins : refusal_of s c.call ≡ None
+  pub reply : Reply
+  pub replied : reply_of (begun_of s c.call) ≡ Some reply
+  pub finish : c.finish ≡ Some (record { ended = c.began; answer = answer_for (begun_of s c.call) reply; note = Some (note.Saw c.began) })
+  pub rests : t ≡ at_stage (begun_of s c.call) Idle
 
 -- A call with steps: the machine begins it and makes its events. It begins with the history before the
 -- first one; where it has ended its answer is the machine's, and it has ended behind the last one.
 pub record HasSteps (s : CoreState) (c : Called) (first : Moment) (more : List Moment) (t : CoreState) : Type 0 where
   pub begins : refusal_of s c.call ≡ None
   pub last : CoreState
-  pub makes : Makes (at_stage s (stage_of c.call)) (first ∷ more) last
+  pub makes : Makes (begun_of s c.call) (first ∷ more) last
   pub began : c.began ≡ first.before
-  pub answered : option_map (λ f. f.answer) c.finish ≡ option_map answer_for (reply_of last)
+  pub answered : option_map (λ f. f.answer) c.finish ≡ option_map (answer_for last) (reply_of last)
   pub ended : IfSome c.finish (λ f. f.ended ≡ last_behind first.behind more)
   pub rests : t ≡ at_stage last Idle
 
 -- a call of the machine s with its events, and the machine behind it
 abbrev pub IsCallOf : CoreState → Called → List Moment → CoreState → Type 0
-IsCallOf s c [] t = IsRefusedAtOnce s c × (t ≡ s)
+IsCallOf s c [] t = IsRefusedAtOnce s c t ⊎ IsFinishedAtOnce s c t
 IsCallOf s c (x ∷ xs) t = HasSteps s c x xs t
 
 -- the events are the steps of the calls of the machine s, call by call, and lead to t

@@ -1,5 +1,5 @@
 -- Where in the history a call has its place: the entry with a stamp, from the call's begin on.
-use Rattle.std.specs.Prelude.{ℕ, ◌≡◌, ◌≢◌, ◌+◌, ◌<◌, ◌≤◌, ⊤, List, map, take, Option, Some, None, IfSome, MatchOption, slice_get}
+use Rattle.std.specs.Prelude.{ℕ, length, ◌≡◌, ◌≢◌, ◌+◌, ◌<◌, ◌≤◌, ⊤, List, map, take, Option, Some, None, IfSome, MatchOption, slice_get}
 use Rattle.std.specs.Option.{option_map}
 use Rattle.partial_model.specs.declared.history.Applied.{Applied}
 use Rattle.partial_model.specs.declared.history.Opening.{Opening}
@@ -11,8 +11,9 @@ use Rattle.partial_model.specs.declared.call.Called.{Called}
 use Rattle.partial_model.specs.History.{value_of, stamp_of}
 use Rattle.partial_model.specs.declared.call.Note.{Note}
 use Rattle.partial_model.specs.declared.call.Note.TheVariants as note
-use Rattle.partial_core.specs.declared.stage.Reply.{Reply}
-use Rattle.partial_core.specs.declared.stage.Reply.TheVariants as reply
+use Rattle.std.specs.List.{AllByRecursion}
+use Rattle.partial_words.specs.Chain.{Agrees}
+use Rattle.partial_places.specs.ScanPlace.{ShowsValues, IsLeast}
 
 -- the entry at a place has that stamp
 abbrev pub HasStampAt : List Applied → ℕ → ℕ → Type 0
@@ -31,13 +32,19 @@ abbrev pub prefix_from : ℕ → Option ℕ → ℕ
 prefix_from began None = began
 prefix_from began (Some k) = k + 1
 
--- the note of a call that began at that length of the history and ended with that reply
-abbrev pub IsNoteFrom : List Applied → ℕ → Reply → Option Note → Type 0
-IsNoteFrom h began (reply.Applied s) result = (found : Option ℕ) × IsPlaceFrom h began s found × (result ≡ option_map note.Wrote found)
-IsNoteFrom h began (reply.Lost by) result = (found : Option ℕ) × IsPlaceFrom h began by found × (result ≡ option_map note.Lost found)
-IsNoteFrom h began (reply.Read v s) result = (found : Option ℕ) × IsPlaceFrom h began s found × (result ≡ Some (note.Saw (prefix_from began found)))
-IsNoteFrom h began (reply.Changed by) result = (found : Option ℕ) × IsPlaceFrom h began by found × (result ≡ Some (note.Saw (prefix_from began found)))
-IsNoteFrom h began (reply.Refused cause) result = result ≡ None
+-- The place of a scan from `began` on, in a history with which the words agree: the least prefix that shows
+-- its values, where one does.
+abbrev pub IsScanPlace : List ℕ → List Applied → ℕ → List ℕ → List ℕ → ℕ → Type 0
+IsScanPlace words h began js vs n = (o : Opening) (shown : ℕ) → Agrees o words h → AllByRecursion (λ j. j < length o.values) js → began ≤ shown → shown ≤ length h → ShowsValues o h js vs shown → IsLeast (ShowsValues o h js vs) began (length h) n
+
+-- the note of a call that began at that length of the history and ended with that answer
+abbrev pub IsNoteFrom : List ℕ → List Applied → ℕ → Call → Answer → Option Note → Type 0
+IsNoteFrom words h began c (answer.Applied s) result = (found : Option ℕ) × IsPlaceFrom h began s found × (result ≡ option_map note.Wrote found)
+IsNoteFrom words h began c (answer.Lost by) result = (found : Option ℕ) × IsPlaceFrom h began by found × (result ≡ option_map note.Lost found)
+IsNoteFrom words h began c (answer.Read v s) result = (found : Option ℕ) × IsPlaceFrom h began s found × (result ≡ Some (note.Saw (prefix_from began found)))
+IsNoteFrom words h began c (answer.Changed by) result = (found : Option ℕ) × IsPlaceFrom h began by found × (result ≡ Some (note.Saw (prefix_from began found)))
+IsNoteFrom words h began (call.Scan js) (answer.Scanned vs collects borrowed) result = (n : ℕ) × IsScanPlace words h began js vs n × (result ≡ Some (note.Saw n))
+IsNoteFrom words h began c _ result = result ≡ None
 
 -- the history shows the answer: the values, of a read the stamp too, and of a changed component the stamp
 abbrev pub Shows : Opening → List Applied → Call → Answer → Type 0

@@ -1,39 +1,39 @@
 -- What a port of a replay has made of its calls, and what one step makes of it.
-use Rattle.std.specs.Prelude.{ℕ, ◌≡◌, ◌+◌, ◌<◌, ◌≤◌, ◌==◌, ⊤, true, false, List, [], ◌∷◌, ◌++◌, length, map, take, slice_get, Option, Some, None, IfSome, IsSomeAnd, MatchOption, if◌then◌else◌}
-use Rattle.std.specs.List.{filter_map}
-use Rattle.std.specs.Option.{option_map_or}
+use Rattle.std.specs.Prelude.{ℕ, ◌≡◌, ◌+◌, ◌<◌, ◌≤◌, ◌==◌, ◌^◌, ⊤, true, false, List, [], ◌∷◌, ◌++◌, length, map, take, nat_lt, slice_get, Option, Some, None, IfSome, IsSomeAnd, MatchOption, if◌then◌else◌}
+use Rattle.std.specs.List.{AllByRecursion, filter_map}
+use Rattle.std.specs.Option.{option_map, option_map_or}
 use Rattle.partial_model.specs.declared.history.Applied.{Applied}
 use Rattle.partial_model.specs.declared.history.Opening.{Opening}
 use Rattle.partial_model.specs.declared.call.Call.{Call}
 use Rattle.partial_model.specs.declared.call.Call.TheVariants as call
-use Rattle.partial_model.specs.declared.call.Refused.{Refused}
+use Rattle.partial_model.specs.declared.call.Answer.{Answer}
 use Rattle.partial_model.specs.declared.call.Answer.TheVariants as answer
 use Rattle.partial_model.specs.declared.call.Note.{Note}
 use Rattle.partial_model.specs.declared.call.Called.{Called}
-use Rattle.partial_model.specs.Notes.{Noted, LegalNotes, seen_by, shown_by, place_of}
+use Rattle.partial_model.specs.Notes.{Noted, LegalNotes, indices_of, seen_by, shown_by, place_of}
 use Rattle.partial_model.specs.Outcome.{noted_of, places_written}
 use Rattle.partial_words.specs.declared.step.Step.{Step}
 use Rattle.partial_words.specs.declared.step.Step.TheVariants.{Exchange}
 use Rattle.partial_words.specs.declared.step.Event.{Event}
+use Rattle.partial_words.specs.Layout.{Layout}
 use Rattle.partial_words.specs.Step.{word_of, answer_of, words_after}
 use Rattle.partial_words.specs.Record.{value_of}
-use Rattle.partial_core.specs.declared.stage.Reply.{Reply}
-use Rattle.partial_core.specs.declared.stage.Stage.TheVariants.{Idle}
-use Rattle.partial_core.specs.Machine.{CoreState, at_stage, advance, step_of, reply_of, IsPossible, steps_left}
-use Rattle.partial_core.specs.Lawful.{Part, core_of, port_of, is_begun, is_at_rest, IsMachineOf, begun_with, call_at, first_at, answer_for}
-use Rattle.partial_words.specs.Layout.{Layout}
-use Rattle.partial_core.specs.Machine.{fresh}
+use Rattle.partial_machine.specs.declared.stage.Reply.{Reply}
+use Rattle.partial_machine.specs.declared.stage.Reply.TheVariants as reply
+use Rattle.partial_machine.specs.declared.stage.Stage.TheVariants.{Idle}
+use Rattle.partial_machine.specs.Machine.{CoreState, AreComponents, at_stage, advance, fresh, step_of, reply_of, IsPossible, steps_left}
+use Rattle.partial_core.specs.Lawful.{Part, core_of, port_of, is_begun, is_at_rest, IsMachineOf, begun_like, begun_with, call_of, first_at, answer_for}
+use Rattle.partial_places.specs.ScanPlace.{HasRecord, HasRecords}
 use Rattle.partial_replay.specs.Trace.{Moment}
-use Rattle.partial_replay.specs.CallSteps.{stage_of, refusal_of, Makes, AreStepsOf}
+use Rattle.partial_replay.specs.CallSteps.{begun_of, refusal_of, most_steps, Makes, IsCallOf, AreStepsOf}
 use Rattle.partial_replay.specs.Place.{IsNoteFrom, HasLeastPlace}
-use Rattle.std.specs.List.{AllByRecursion}
 use Rattle.partial_replay.specs.declared.port.Port.{Port}
 use Rattle.partial_replay.specs.declared.port.UnderWay.{UnderWay}
 
--- a call that the machine serves
-abbrev pub IsServed : Call → Type 0
-IsServed (call.Scan js) = ⊥
-IsServed _ = ⊤
+-- a call that the machine of a memory with m components serves: a scan has at most m positions
+abbrev pub IsServed : ℕ → Call → Type 0
+IsServed m (call.Scan js) = length js ≤ m
+IsServed m _ = ⊤
 
 -- how long the history was at the end of a call, and of the last of several
 abbrev pub end_of : ℕ → Called → ℕ
@@ -61,18 +61,24 @@ notes_in calls = filter_map noted_of calls
 pub record IsUnderWay (n : ℕ) (calls : List Call) (x : Part) (core : CoreState) (done : List Called) (way : UnderWay) : Type 0 where
   pub call : Call
   pub next : slice_get calls (length done) ≡ Some call
-  pub begun : call_at (begun_with core x).stage ≡ Some call
+  pub begun : call_of (begun_with core x) ≡ Some call
   pub behind : ends_of 0 done ≤ way.began
   pub within : way.began ≤ n
   pub first : is_begun core.stage ≡ false → way.began ≤ first_at x.kept
   pub machine : IsMachineOf core x
   pub due : is_at_rest core.stage ≡ false
-  pub steps : way.steps + steps_left core ≤ 8
+  pub steps : way.steps + steps_left core ≤ most_steps core.sizes call
 
--- between calls the machine is idle
+-- Between calls the machine is idle. It is the part's but for the positions of scans that made no step.
 pub record IsBetween (x : Part) (core : CoreState) : Type 0 where
   pub rest : is_at_rest (core_of x).stage ≡ true
-  pub machine : core ≡ at_stage (core_of x) Idle
+  pub machine : core ≡ begun_like (core_of x) core
+  pub idle : core.stage ≡ Idle
+  pub asked : AreComponents core.sizes core.asked
+
+-- the calls have made no more steps than such calls may
+abbrev pub AreFew : Layout → List Called → Type 0
+AreFew z calls = AllByRecursion (λ c. c.steps ≤ most_steps z c.call) calls
 
 -- a port of a replay and its part of the lawful state
 pub record PortFits (o : Opening) (log : List Applied) (calls : List Call) (p : ℕ) (x : Part) (port : Port) : Type 0 where
@@ -86,22 +92,24 @@ pub record PortFits (o : Opening) (log : List Applied) (calls : List Call) (p : 
   -- the finished calls are the first of the plan's
   pub made : map (λ c. c.call) port.finished.items ≡ take (length port.finished.items) calls
   pub few : length port.finished.items ≤ length calls
+  -- they have made no more steps than they may
+  pub bounded : AreFew port.core.sizes port.finished.items
   -- what they saw is the least prefix that shows it
   pub least : AllByRecursion (HasLeastPlace o log) port.finished.items
   pub way : MatchOption port.under_way (IsBetween x port.core) (IsUnderWay (length log) calls x port.core port.finished.items)
 
--- the entry of a won exchange, whose record stands in the words
-abbrev pub entry_at : List ℕ → ℕ → Step → ℕ → List Applied
-entry_at words port (Exchange j old at) a = if a == old then record { port = port; component = j; value = value_of words at; stamp = at } ∷ [] else []
-entry_at words port _ a = []
+-- the entry of a won exchange of one of the m component words, whose record stands in the words
+abbrev pub entry_at : ℕ → List ℕ → ℕ → Step → ℕ → List Applied
+entry_at m words port (Exchange j old at) a = if nat_lt j m then (if a == old then record { port = port; component = j; value = value_of words at; stamp = at } ∷ [] else []) else []
+entry_at m words port _ a = []
 
 -- the call under way with one step more
 abbrev pub one_step_more : UnderWay → UnderWay
 one_step_more way = record { began = way.began; steps = way.steps + 1 }
 
--- a call that has ended with that reply and that note
-abbrev pub ended_call : ℕ → ℕ → Call → UnderWay → ℕ → Reply → Option Note → Called
-ended_call port number call way ended r note = record { port = port; number = number; call = call; began = way.began; steps = way.steps; finish = Some (record { ended = ended; answer = answer_for r; note = note }) }
+-- a call that has ended with that answer and that note
+abbrev pub ended_call : ℕ → ℕ → Call → UnderWay → ℕ → Answer → Option Note → Called
+ended_call port number call way ended a note = record { port = port; number = number; call = call; began = way.began; steps = way.steps; finish = Some (record { ended = ended; answer = a; note = note }) }
 
 -- what the machine behind a step makes of its port: the call goes on, or it is finished
 pub record GoesOn (port new : Port) (way : UnderWay) (core : CoreState) : Type 0 where
@@ -109,14 +117,18 @@ pub record GoesOn (port new : Port) (way : UnderWay) (core : CoreState) : Type 0
   pub finished : new.finished.items ≡ port.finished.items
   pub way' : new.under_way ≡ Some (one_step_more way)
 
-pub record Ends (calls : List Call) (log : List Applied) (port new : Port) (way : UnderWay) (core : CoreState) (r : Reply) : Type 0 where
+pub record Ends (calls : List Call) (words : List ℕ) (log : List Applied) (port new : Port) (way : UnderWay) (core : CoreState) (r : Reply) : Type 0 where
   pub machine : new.core ≡ at_stage core Idle
   pub none : new.under_way ≡ None
   pub call : Call
   pub next : slice_get calls (length port.finished.items) ≡ Some call
   pub note : Option Note
-  pub noted : IsNoteFrom log way.began r note
-  pub finished : new.finished.items ≡ port.finished.items ++ ended_call port.number (length port.finished.items) call (one_step_more way) (length log) r note ∷ []
+  pub noted : IsNoteFrom words log way.began call (answer_for core r) note
+  pub finished : new.finished.items ≡ port.finished.items ++ ended_call port.number (length port.finished.items) call (one_step_more way) (length log) (answer_for core r) note ∷ []
+
+-- the machine behind a step
+abbrev pub core_behind : List ℕ → Step → Port → CoreState
+core_behind words step port = advance port.core (answer_of words step)
 
 -- a step of a port: what became of the words, the trace, the history and the port
 pub record StepMade (calls : List Call) (words words' : List ℕ) (trace trace' : List Event) (log log' : List Applied) (port new : Port) : Type 0 where
@@ -126,37 +138,68 @@ pub record StepMade (calls : List Call) (words words' : List ℕ) (trace trace' 
   pub was : port.under_way ≡ Some way
   pub words_are : words' ≡ words_after words step
   pub trace_is : trace' ≡ trace ++ record { port = port.number; step = step; answer = answer_of words step } ∷ []
-  pub log_is : log' ≡ log ++ entry_at words' port.number step (answer_of words step)
+  pub log_is : log' ≡ log ++ entry_at port.core.sizes.m words' port.number step (answer_of words step)
   pub number : new.number ≡ port.number
-  pub falls : steps_left (advance port.core (answer_of words step)) < steps_left port.core
-  pub after : MatchOption (reply_of (advance port.core (answer_of words step))) (GoesOn port new way (advance port.core (answer_of words step))) (Ends calls log' port new way (advance port.core (answer_of words step)))
+  pub falls : steps_left (core_behind words step port) < steps_left port.core
+  pub after : MatchOption (reply_of (core_behind words step port)) (GoesOn port new way (core_behind words step port)) (Ends calls words' log' port new way (core_behind words step port))
 
--- a step that may be made: its word is there, the answer is a possible one, and a record to be exchanged lies in the words
-abbrev pub IsExchangeWithin : List ℕ → Step → Type 0
-IsExchangeWithin words (Exchange j old at) = at + 1 < length words
-IsExchangeWithin words _ = ⊤
+-- a record to be exchanged lies in the words
+abbrev pub IsExchangeWithin : ℕ → List ℕ → Step → Type 0
+IsExchangeWithin m words (Exchange j old at) = j < m → at + 1 < length words
+IsExchangeWithin m words _ = ⊤
 
-pub record MayStep (calls : List Call) (words : List ℕ) (port : Port) : Type 0 where
+-- where the call is a scan that ends, its components are there, and each has a value
+abbrev pub MayEnd : ℕ → Call → Option Answer → Type 0
+MayEnd m (call.Scan js) (Some (answer.Scanned vs collects borrowed)) = AllByRecursion (λ j. j < m) js × (length vs ≡ length js)
+MayEnd m _ (Some (answer.Scanned vs collects borrowed)) = ⊥
+MayEnd m _ _ = ⊤
+
+-- where the reply is a scan's, the machine has a value for each position of the call
+abbrev pub HasPositions : CoreState → Call → Reply → Type 0
+HasPositions s c (reply.Scanned collects borrowed) = length (indices_of c) ≡ length s.asked
+HasPositions s c _ = ⊤
+
+-- the records of the components, and of the entries, lie within the words
+pub record AreWithin (m : ℕ) (words : List ℕ) (log : List Applied) : Type 0 where
+  pub components : HasRecords words m
+  pub entries : (k : ℕ) (e : Applied) → slice_get log k ≡ Some e → HasRecord words m e
+
+-- a step that may be made: its word is there, the answer is a possible one, and what is noted of a call
+-- that ends can be found
+pub record MayStep (calls : List Call) (words : List ℕ) (log : List Applied) (port : Port) : Type 0 where
   pub step : Step
   pub way : UnderWay
+  pub call : Call
   pub due : step_of port.core ≡ Some step
   pub was : port.under_way ≡ Some way
   pub within : word_of step < length words
   pub possible : IsPossible port.core (answer_of words step)
-  pub exchange : IsExchangeWithin words step
-  pub steps : way.steps ≤ 8
-  pub more : length port.finished.items < length calls
+  pub exchange : IsExchangeWithin port.core.sizes.m words step
+  pub steps : way.steps + 1 < 2 ^ 64
+  pub next : slice_get calls (length port.finished.items) ≡ Some call
+  pub ends : MayEnd port.core.sizes.m call (option_map (answer_for (core_behind words step port)) (reply_of (core_behind words step port)))
+  pub places : AreWithin port.core.sizes.m (words_after words step) (log ++ entry_at port.core.sizes.m (words_after words step) port.number step (answer_of words step))
 
--- a call that was refused at once, and one that is left unfinished
-abbrev pub refused_call : ℕ → ℕ → Call → ℕ → Refused → Called
-refused_call port number call seen cause = record { port = port; number = number; call = call; began = seen; steps = 0; finish = Some (record { ended = seen; answer = answer.Refused cause; note = None }) }
+-- a call that was finished as it was begun
+abbrev pub call_at_once : ℕ → ℕ → Call → ℕ → Answer → Option Note → Called
+call_at_once port number call seen a note = record { port = port; number = number; call = call; began = seen; steps = 0; finish = Some (record { ended = seen; answer = a; note = note }) }
 
+-- a call of port p that the machine s has finished as it was begun, and the machine behind it
+pub record IsDoneAtOnce (p number : ℕ) (call : Call) (seen : ℕ) (s t : CoreState) (c : Called) : Type 0 where
+  pub port : c.port ≡ p
+  pub number' : c.number ≡ number
+  pub call' : c.call ≡ call
+  pub began : c.began ≡ seen
+  pub steps : c.steps ≡ 0
+  pub done : IsCallOf s c [] t
+
+-- a call that is left unfinished
 abbrev pub unfinished_call : ℕ → ℕ → Call → UnderWay → Called
 unfinished_call port number call way = record { port = port; number = number; call = call; began = way.began; steps = way.steps; finish = None }
 
 -- a call that has ended, with its note
-abbrev pub IsEndedCall : ℕ → ℕ → Call → UnderWay → List Applied → Reply → Called → Type 0
-IsEndedCall port number call way log r c = (note : Option Note) × IsNoteFrom log way.began r note × (c ≡ ended_call port number call way (length log) r note)
+abbrev pub IsEndedCall : ℕ → ℕ → Call → UnderWay → List ℕ → List Applied → Answer → Called → Type 0
+IsEndedCall port number call way words log a c = (note : Option Note) × IsNoteFrom words log way.began call a note × (c ≡ ended_call port number call way (length log) a note)
 
 -- a port goes on as its part's port, in whatever lawful state, while the history has so many entries
 abbrev pub KeepsFit : List Call → ℕ → Port → Port → Type 0
@@ -172,7 +215,7 @@ pub record IsGoing (n : ℕ) (calls : List Call) (done : List Called) (s core : 
   pub call : Call
   pub next : slice_get calls (length done) ≡ Some call
   pub begins : refusal_of s call ≡ None
-  pub makes : Makes (at_stage s (stage_of call)) own core
+  pub makes : Makes (begun_of s call) own core
   pub steps : length own ≡ way.steps
   pub began : way.began ≡ began_at n own
 

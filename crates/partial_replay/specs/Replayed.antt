@@ -1,19 +1,20 @@
 -- What a replay of a plan tells: a legal outcome of one history, with the words and the steps that led to them.
-use Rattle.std.specs.Prelude.{ℕ, ◌≡◌, List, [], length, get_or, filter_map}
+use Rattle.std.specs.Prelude.{ℕ, ◌≡◌, ◌<◌, List, [], length, get_or, filter_map, sum_by}
 use Rattle.partial_model.specs.Outcome.{LegalOutcome}
 use Rattle.partial_words.specs.Layout.{pool_base}
 use Rattle.partial_words.specs.Record.{value_of}
 use Rattle.partial_words.specs.Step.{Leads}
 use Rattle.partial_words.specs.Chain.{Agrees, AreOpeningWords}
-use Rattle.partial_core.specs.Machine.{CoreState, fresh}
+use Rattle.partial_machine.specs.Machine.{CoreState, fresh}
 use Rattle.partial_text.specs.PlanText.{PlanView}
 use Rattle.partial_text.specs.declared.outcome.Outcome.{Outcome}
 use Rattle.std.specs.List.{AllByRecursion}
 use Rattle.partial_replay.specs.Place.{HasLeastPlace}
 use Rattle.partial_replay.specs.Trace.{entry_of, moments_by, ports_of}
-use Rattle.partial_replay.specs.CallSteps.{AreStepsOf}
+use Rattle.partial_replay.specs.CallSteps.{AreStepsOf, most_steps}
+use Rattle.partial_replay.specs.PortState.{AreFew}
 use Rattle.partial_replay.specs.Turns.{turns_of, turns_by, ports_in}
-use Rattle.partial_replay.specs.Listed.{calls_by, steps_by, AreFirstOf, HaveMade}
+use Rattle.partial_replay.specs.Listed.{calls_by, steps_by, AreFirstOf, AreAllMade, HaveMade}
 
 -- the outcome of a replay of the plan
 pub record IsReplayOf (p : PlanView) (outcome : Outcome) : Type 0 where
@@ -40,3 +41,8 @@ pub record IsReplayOf (p : PlanView) (outcome : Outcome) : Type 0 where
   pub turns : ports_of outcome.trace.items ≡ ports_in (turns_of p) (λ q. steps_by q outcome.calls.items)
   -- each port makes a step in each of its turns until all its calls are made, and with the rest all are
   pub made : (q : ℕ) → HaveMade p.rest (turns_by q p.steps) (steps_by q outcome.calls.items) (get_or p.ports q []) (calls_by q outcome.calls.items)
+  -- no call makes more steps than such a call may
+  pub few : AreFew p.sizes outcome.calls.items
+  -- Nothing waits for a stopped port: where a port has more turns than its calls make steps at most, they
+  -- are all made, wherever the others stopped.
+  pub waits : (q : ℕ) → sum_by (most_steps p.sizes) (get_or p.ports q []) < turns_by q p.steps → AreAllMade (get_or p.ports q []) (calls_by q outcome.calls.items)

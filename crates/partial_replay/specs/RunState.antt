@@ -10,13 +10,14 @@ use Rattle.partial_words.specs.declared.step.Event.{Event}
 use Rattle.partial_words.specs.Step.{Leads}
 use Rattle.partial_words.specs.Chain.{AreOpeningWords}
 use Rattle.std.specs.Option.{option_map_or}
-use Rattle.partial_core.specs.Machine.{fresh, steps_left}
-use Rattle.partial_core.specs.Lawful.{Part, Lawful, IsWithoutScans}
+use Rattle.partial_machine.specs.Machine.{fresh, steps_left}
+use Rattle.partial_core.specs.Lawful.{Part, Lawful}
 use Rattle.partial_replay.specs.declared.port.Port.{Port}
 use Rattle.partial_replay.specs.declared.port.UnderWay.{UnderWay}
 use Rattle.partial_replay.specs.declared.run.Run.{Run}
 use Rattle.partial_text.specs.declared.outcome.Outcome.{Outcome}
 use Rattle.partial_replay.specs.Trace.{entry_of, moments_by}
+use Rattle.partial_replay.specs.CallSteps.{most_of_update}
 use Rattle.partial_replay.specs.PortState.{PortFits, PortMade, IsServed, unfinished_call}
 
 -- the ports from number p on, each with its calls and its part
@@ -26,8 +27,8 @@ PortsFit o log p (calls ∷ plans) (x ∷ xs) (port ∷ ports) = PortFits o log 
 PortsFit o log p _ _ _ = ⊥
 
 -- the calls of a plan's ports: each is one that the machine serves, and a call's number fits 32 bits
-abbrev pub ArePlans : List (List Call) → Type 0
-ArePlans plans = AllByRecursion (λ calls. (length calls < 2 ^ 32) × AllByRecursion IsServed calls) plans
+abbrev pub ArePlans : ℕ → List (List Call) → Type 0
+ArePlans m plans = AllByRecursion (λ calls. (length calls < 2 ^ 32) × AllByRecursion (IsServed m) calls) plans
 
 -- each port's events are the steps of its calls
 abbrev pub ArePortsMade : List (List Call) → Layout → List Port → List Applied → List Event → Type 0
@@ -50,7 +51,6 @@ pub record IsRunOf (plans : List (List Call)) (z : Layout) (o : Opening) (words 
   pub opened : List ℕ
   pub opens : AreOpeningWords z o.values opened
   pub lawful : Lawful z o words parts log
-  pub without : IsWithoutScans z words parts log
   pub fit : PortsFit o log 0 plans parts ports
   pub leads : Leads opened trace words
   -- the won exchanges of component words in the trace are the history, but for the values
@@ -60,16 +60,24 @@ pub record IsRunOf (plans : List (List Call)) (z : Layout) (o : Opening) (words 
   pub made : ArePortsMade plans z ports log trace
 
 abbrev pub IsRun : List (List Call) → Run → Type 0
-IsRun plans run = IsRunOf plans run.sizes run.opening run.words.items run.ports.items run.history.items run.trace.items
+IsRun plans run = IsRunOf plans run.memory.sizes run.opening run.memory.words.items run.ports.items run.memory.history.items run.memory.trace.items
+
+-- there is room to find the place of a scan
+abbrev pub HasRoom : Run → Type 0
+HasRoom run = run.memory.places ≡ run.memory.sizes.m
 
 -- a replay goes on with the same sizes from the same opening
 pub record IsSameOpening (old new : Run) : Type 0 where
-  pub sizes : new.sizes ≡ old.sizes
+  pub sizes : new.memory.sizes ≡ old.memory.sizes
   pub opening : new.opening ≡ old.opening
+
+-- how many steps a port has left at most for so many calls, with one more for each
+abbrev pub left_for : Layout → ℕ → ℕ
+left_for z calls = (most_of_update z + 1) * calls
 
 -- how many steps a port has left at most: of the call under way, and of those behind it
 abbrev pub left_of : List Call → Port → ℕ
-left_of calls port = option_map_or (λ way. 9 * (length calls - length port.finished.items - 1) + steps_left port.core) port.under_way (9 * (length calls - length port.finished.items))
+left_of calls port = option_map_or (λ way. left_for port.core.sizes (length calls - length port.finished.items - 1) + steps_left port.core) port.under_way (left_for port.core.sizes (length calls - length port.finished.items))
 
 -- the steps left of the port with that number, where there is one
 abbrev pub left_at : ℕ → List (List Call) → List Port → ℕ
@@ -103,14 +111,14 @@ calls_in _ _ = []
 -- each port has its calls, and a call under way is one of them
 abbrev pub AreListed : List (List Call) → List Port → Type 0
 AreListed [] [] = ⊤
-AreListed (calls ∷ plans) (port ∷ ports) = (length calls < 2 ^ 32) × AllByRecursion IsServed calls × (IsSome port.under_way → length port.finished.items < length calls) × AreListed plans ports
+AreListed (calls ∷ plans) (port ∷ ports) = (length calls < 2 ^ 32) × (IsSome port.under_way → length port.finished.items < length calls) × AreListed plans ports
 AreListed _ _ = ⊥
 
 -- what a replay has come to in the end
 pub record Tells (plans : List (List Call)) (run : Run) (outcome : Outcome) : Type 0 where
   pub opening : outcome.opening ≡ run.opening
-  pub history : outcome.history.items ≡ run.history.items
+  pub history : outcome.history.items ≡ run.memory.history.items
   pub calls : outcome.calls.items ≡ calls_in plans run.ports.items
-  pub words : outcome.words.items ≡ run.words.items
-  pub trace : outcome.trace.items ≡ run.trace.items
-  pub steps : outcome.steps ≡ length run.trace.items
+  pub words : outcome.words.items ≡ run.memory.words.items
+  pub trace : outcome.trace.items ≡ run.memory.trace.items
+  pub steps : outcome.steps ≡ length run.memory.trace.items

@@ -38,7 +38,7 @@ StayStoppedWith p old new = (q : ℕ) → (q ≢ p → StopsAtStep old.ports.ite
 
 -- the trace goes on with n events of port p
 abbrev pub GoesOnBy : ℕ → ℕ → Run → Run → Type 0
-GoesOnBy n p old new = ports_of new.trace.items ≡ ports_of old.trace.items ++ replicate n p
+GoesOnBy n p old new = ports_of new.memory.trace.items ≡ ports_of old.memory.trace.items ++ replicate n p
 
 -- a turn of port p: it makes a step, or has made all its calls
 pub record TurnMade (plans : List (List Call)) (p : ℕ) (old : Run) (stepped : Bool) (new : Run) : Type 0 where
@@ -70,8 +70,8 @@ MakeTurns D (e ∷ es) ports = (n : ℕ) × (behind : List ℕ) × (ports ≡ re
 
 -- where a port has made a step in each of its turns so far, it has begun no call since its last step
 abbrev pub StopAtSteps : List (ℕ × ℕ) → Run → Type 0
-StopAtSteps steps run = (q : ℕ) → events_in q (ports_of run.trace.items) ≡ turns_by q steps → StopsAtStep run.ports.items q
+StopAtSteps steps run = (q : ℕ) → events_in q (ports_of run.memory.trace.items) ≡ turns_by q steps → StopsAtStep run.ports.items q
 
 -- the replay has made these turns
 abbrev pub HasMadeTurns : List (List Call) → List (ℕ × Option ℕ) → Run → Type 0
-HasMadeTurns plans turns run = MakeTurns (IsDone plans run.ports.items) turns (ports_of run.trace.items)
+HasMadeTurns plans turns run = MakeTurns (IsDone plans run.ports.items) turns (ports_of run.memory.trace.items)

@@ -3,6 +3,7 @@
 #![tactic(auto)]
 
 mod law;
+mod memory;
 mod note;
 mod port;
 mod replaying;

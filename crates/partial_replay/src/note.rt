@@ -1,11 +1,16 @@
-//! Where in the history a finished call has its place.
+//! Where in the history a finished call has its place, and what it answers.
 
-ghost use Rattle.std.specs.Prelude.{◌≡◌, ◌<◌, ◌≤◌, ◌^◌, length, IfSome};
+ghost use Rattle.std.specs.Prelude.{◌≡◌, ◌<◌, ◌≤◌, ◌^◌, length, IfOk, IfSome, Some};
+ghost use Rattle.partial_model.specs.Notes.{indices_of};
+ghost use Rattle.partial_machine.specs.Machine.{scanned_values};
 ghost use Rattle.partial_core.specs.Lawful.{answer_for};
 ghost use Rattle.partial_replay.specs.Place.{IsPlaceFrom, IsNoteFrom, prefix_from};
+ghost use Rattle.partial_replay.specs.PortState.{AreWithin, HasPositions, MayEnd};
 
-use partial_core::Reply;
-use partial_model::{Answer, Applied, Note};
+use crate::memory::Memory;
+use partial_core::{Core, Reply};
+use partial_model::{Answer, Applied, Call, Note, Sequence};
+use std::alloc::{AllocError, Global};
 
 /// The last place from `began` on whose entry has that stamp.
 fn place_of(history: &[Applied], began: usize, stamp: u64) -> Option<usize>
@@ -31,34 +36,81 @@ fn prefix_of(history: &[Applied], began: usize, found: Option<usize>) -> usize
     }
 }
 
-/// The note of a call that began when the history had `began` entries and ended with that reply.
-pub fn note_of(history: &[Applied], began: usize, reply: Reply) -> Option<Note>
-    ensures { IsNoteFrom history.now began reply result }
+/// The note of a call that began when the history had `began` entries and ended with that answer.
+pub fn note_of(memory: &mut Memory, began: usize, call: &Call, answer: &Answer) -> Option<Note>
+    requires ends { MayEnd memory.old.places call.now (Some answer.now) }
+    requires within { AreWithin memory.old.places memory.old.words.items memory.old.history.items }
+    ensures note { IsNoteFrom memory.old.words.items memory.old.history.items began call.now answer.now result }
+    ensures same { memory.new ≡ memory.old }
 {
-    match reply {
-        Reply::Applied { stamp } => place_of(history, began, stamp).map(Note::Wrote),
-        Reply::Lost { by } => place_of(history, began, by).map(Note::Lost),
-        Reply::Read { stamp, .. } => {
-            let found = place_of(history, began, stamp);
+    let history = memory.history.as_slice();
+    match answer {
+        Answer::Applied { stamp } => place_of(history, began, *stamp).map(Note::Wrote),
+        Answer::Lost { by } => place_of(history, began, *by).map(Note::Lost),
+        Answer::Scanned { values, .. } => match call {
+            Call::Scan { components } => Some(Note::Saw(memory.places.scan_place(
+                history,
+                &memory.words,
+                began,
+                components.as_slice(),
+                values.as_slice(),
+            ))),
+            _ => None,
+        },
+        Answer::Read { stamp, .. } => {
+            let found = place_of(history, began, *stamp);
             Some(Note::Saw(prefix_of(history, began, found)))
         }
-        Reply::Changed { by } => {
-            let found = place_of(history, began, by);
+        Answer::Changed { by } => {
+            let found = place_of(history, began, *by);
             Some(Note::Saw(prefix_of(history, began, found)))
         }
-        Reply::Refused(_) => None,
+        Answer::Refused { .. } => None,
     }
 }
 
-/// The answer that a reply stands for.
-pub fn answer_of(reply: Reply) -> Answer
-    ensures { result ≡ answer_for reply }
+// How many components a call names.
+fn positions_of(call: &Call) -> usize
+    ensures { result ≡ length (indices_of call.now) }
 {
-    match reply {
+    match call {
+        Call::Scan { components } => components.len(),
+        _ => 1,
+    }
+}
+
+// The values of the last scan that was answered, of so many positions.
+fn values_of(alloc: Global, core: &Core, positions: usize) -> Result<Sequence<u64>, AllocError>
+    requires { positions ≡ length core.now.asked }
+    ensures { IfOk result (λ values. values ≡ scanned_values core.now) }
+{
+    let mut values = Vec::with_capacity(alloc, positions)?;
+    for k in 0..positions {
+        values.push(core.scanned(k))?;
+    }
+    Ok(Sequence::from(values))
+}
+
+/// The answer that a reply to the call stands for. The values of a scan are read off the machine.
+pub fn answer_of(
+    alloc: Global,
+    core: &Core,
+    call: &Call,
+    reply: Reply,
+) -> Result<Answer, AllocError>
+    requires { HasPositions core.now call.now reply }
+    ensures { IfOk result (λ answer. answer ≡ answer_for core.now reply) }
+{
+    Ok(match reply {
         Reply::Applied { stamp } => Answer::Applied { stamp },
         Reply::Lost { by } => Answer::Lost { by },
+        Reply::Scanned { collects, borrowed } => Answer::Scanned {
+            values: values_of(alloc, core, positions_of(call))?,
+            collects,
+            borrowed,
+        },
         Reply::Read { value, stamp } => Answer::Read { value, stamp },
         Reply::Refused(cause) => Answer::Refused { cause },
         Reply::Changed { by } => Answer::Changed { by },
-    }
+    })
 }

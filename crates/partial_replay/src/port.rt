@@ -1,18 +1,20 @@
 //! One port of a replay: its machine and the calls that it has made.
 
-ghost use Rattle.std.specs.Prelude.{◌≡◌, ◌<◌, ◌≤◌, ◌^◌, length, IsSome, OnOk, IfOk, IfErr, MatchBool};
+ghost use Rattle.std.specs.Prelude.{◌≡◌, ◌<◌, ◌≤◌, ◌^◌, length, IsSome, OnOk, IfOk, IfErr, MatchBool, MatchOption, Some, None};
 ghost use Rattle.std.specs.Option.{option_to_list};
 ghost use Rattle.std.specs.List.{AllByRecursion};
-ghost use Rattle.partial_core.specs.declared.stage.Stage.TheVariants.{Idle};
-ghost use Rattle.partial_core.specs.Machine.{at_stage};
-ghost use Rattle.partial_replay.specs.CallSteps.{stage_of, refusal_of};
-ghost use Rattle.partial_replay.specs.PortState.{IsServed, IsExchangeWithin, entry_at, refused_call, unfinished_call, IsEndedCall, KeepsFit, KeepsMade, MayStep, StepMade};
+ghost use Rattle.partial_machine.specs.declared.stage.Stage.TheVariants.{Idle};
+ghost use Rattle.partial_machine.specs.Machine.{reply_of};
+ghost use Rattle.partial_core.specs.Lawful.{answer_for};
+ghost use Rattle.partial_replay.specs.CallSteps.{begun_of, refusal_of};
+ghost use Rattle.partial_replay.specs.PortState.{IsServed, IsExchangeWithin, AreWithin, IsDoneAtOnce, MayEnd, call_at_once, entry_at, unfinished_call, IsEndedCall, KeepsFit, KeepsMade, MayStep, StepMade};
 
+use crate::memory::Memory;
 use crate::note::{answer_of, note_of};
 use partial_core::{Core, Reply};
-use partial_model::{Answer, Applied, Call, Called, Finish, Refused};
-use partial_words::{Event, Step, value_of};
-use std::alloc::AllocError;
+use partial_model::{Answer, Applied, Call, Called, Finish, Note, Refused, Sequence};
+use partial_words::{Event, Sizes, Step, value_of};
+use std::alloc::{AllocError, Global};
 
 /// A call that has been begun and isn't finished: it is the one behind the finished calls.
 #[derive(Clone, Copy, Debug)]
@@ -33,15 +35,17 @@ pub struct Port {
     pub under_way: Option<UnderWay>,
 }
 
-// A copy of a call that isn't a scan.
-fn copy_of(call: &Call) -> Call
-    requires { IsServed call.now }
-    ensures { result ≡ call.now }
+// A copy of a call.
+fn copy_of(alloc: Global, call: &Call) -> Result<Call, AllocError>
+    ensures { IfOk result (λ copy. copy ≡ call.now) }
 {
-    match call {
+    Ok(match call {
         Call::Update { component, value } => Call::Update {
             component: *component,
             value: *value,
+        },
+        Call::Scan { components } => Call::Scan {
+            components: Sequence::from(Vec::from_slice(alloc, components.as_slice())?),
         },
         Call::Read { component } => Call::Read {
             component: *component,
@@ -55,37 +59,92 @@ fn copy_of(call: &Call) -> Call
             expected: *expected,
             value: *value,
         },
-        Call::Scan { .. } => unreachable!(),
-    }
+    })
 }
 
 // Begins the call at the port's machine.
 fn begin(core: &mut Core, call: &Call) -> Result<(), Refused>
     requires idle { core.old.stage ≡ Idle }
-    requires served { IsServed call.now }
-    ensures ok { OnOk result ((refusal_of core.old call.now ≡ None) × (core.new ≡ at_stage core.old (stage_of call.now))) }
+    requires served { IsServed core.old.sizes.m call.now }
+    ensures ok { OnOk result ((refusal_of core.old call.now ≡ None) × (core.new ≡ begun_of core.old call.now)) }
     ensures err { IfErr result (λ cause. (refusal_of core.old call.now ≡ Some cause) × (core.new ≡ core.old)) }
 {
     match call {
         Call::Update { component, value } => core.begin_update(*component, *value),
+        Call::Scan { components } => core.begin_scan(components.as_slice()),
         Call::Read { component } => core.begin_read(*component),
         Call::UpdateIf {
             component,
             expected,
             value,
         } => core.begin_update_if(*component, *expected, *value),
-        Call::Scan { .. } => unreachable!(),
     }
 }
 
+// A call that was finished as it was begun.
+fn at_once(
+    alloc: Global,
+    port: u32,
+    number: u32,
+    call: &Call,
+    seen: usize,
+    answer: Answer,
+    note: Option<Note>,
+) -> Result<Called, AllocError>
+    ensures { IfOk result (λ called. called ≡ call_at_once port number call.now seen answer note) }
+{
+    Ok(Called {
+        port,
+        number,
+        call: copy_of(alloc, call)?,
+        began: seen,
+        steps: 0,
+        finish: Some(Finish {
+            ended: seen,
+            answer,
+            note,
+        }),
+    })
+}
+
+// Begins the call at the port's machine. Answers the finished call where it makes no step: it is refused
+// at once, or a scan of no position.
+fn begin_call(
+    alloc: Global,
+    core: &mut Core,
+    port: u32,
+    number: u32,
+    call: &Call,
+    seen: usize,
+) -> Result<Option<Called>, AllocError>
+    requires idle { core.old.stage ≡ Idle }
+    requires served { IsServed core.old.sizes.m call.now }
+    ensures { IfOk result (λ found. MatchOption found
+        ((refusal_of core.old call.now ≡ None) × (reply_of (begun_of core.old call.now) ≡ None) × (core.new ≡ begun_of core.old call.now))
+        (IsDoneAtOnce port number call.now seen core.old core.new)) }
+{
+    if let Err(cause) = begin(core, call) {
+        let answer = Answer::Refused { cause };
+        let called = at_once(alloc, port, number, call, seen, answer, None)?;
+        return Ok(Some(called));
+    }
+    let Some(reply) = core.take() else {
+        return Ok(None);
+    };
+    let answer = answer_of(alloc, core, call, reply)?;
+    let note = Some(Note::Saw(seen));
+    let called = at_once(alloc, port, number, call, seen, answer, note)?;
+    Ok(Some(called))
+}
+
 // The entry that a step adds to the history: a won exchange of a component word adds one.
-fn entry_of(words: &[u64], port: u32, step: Step, answer: u64) -> Option<Applied>
-    requires { IsExchangeWithin words.now step }
-    ensures { option_to_list result ≡ entry_at words.now port step answer }
+fn entry_of(sizes: Sizes, words: &[u64], port: u32, step: Step, answer: u64) -> Option<Applied>
+    requires { IsExchangeWithin sizes.m words.now step }
+    ensures { option_to_list result ≡ entry_at sizes.m words.now port step answer }
 {
     match step {
         Step::Exchange(component, old, at) => {
-            if answer != old {
+            if component >= sizes.m() || answer != old {
                 return None;
             }
             Some(Applied {
@@ -100,16 +159,22 @@ fn entry_of(words: &[u64], port: u32, step: Step, answer: u64) -> Option<Applied
 }
 
 impl Port {
-    /// Begins the next of the plan's calls that makes a step. Those before it that are refused at once
-    /// are finished. Answers whether a call is under way: else none is left.
-    pub fn begin_next(&mut self, calls: &[Call], seen: usize) -> Result<bool, AllocError>
+    /// Begins the next of the plan's calls that makes a step. Those before it that make none are
+    /// finished. Answers whether a call is under way: else none is left.
+    pub fn begin_next(
+        &mut self,
+        alloc: Global,
+        calls: &[Call],
+        seen: usize,
+    ) -> Result<bool, AllocError>
         requires idle { self.old.core.stage ≡ Idle }
         requires none { self.old.under_way ≡ None }
         requires few { length self.old.finished.items ≤ length calls.now }
         requires numbers { length calls.now < 2 ^ 32 }
-        requires served { AllByRecursion IsServed calls.now }
+        requires served { AllByRecursion (IsServed self.old.core.sizes.m) calls.now }
         ensures fits { OnOk result (KeepsFit calls.now seen self.old self.new) }
         ensures made { OnOk result (KeepsMade calls.now seen self.old self.new) }
+        ensures sizes { OnOk result (self.new.core.sizes ≡ self.old.core.sizes) }
         ensures more { OnOk result (length self.old.finished.items ≤ length self.new.finished.items) }
         ensures begun { IfOk result (λ begun. MatchBool begun (IsSome self.new.under_way × (length self.new.finished.items < length calls.now))
             ((self.new.under_way ≡ None) × (length self.new.finished.items ≡ length calls.now))) }
@@ -117,17 +182,14 @@ impl Port {
         while self.finished.len() < calls.len() {
             let number = self.finished.len();
             let call = &calls[number];
-            match begin(&mut self.core, call) {
-                Ok(()) => {
+            match begin_call(alloc, &mut self.core, self.number, number as u32, call, seen)? {
+                Some(called) => self.finished.push(called)?,
+                None => {
                     self.under_way = Some(UnderWay {
                         began: seen,
                         steps: 0,
                     });
                     return Ok(true);
-                }
-                Err(cause) => {
-                    let called = refused(self.number, number as u32, call, seen, cause);
-                    self.finished.push(called)?;
                 }
             }
         }
@@ -137,27 +199,28 @@ impl Port {
     /// Makes the due step of the call under way on the words, and notes what came of it.
     pub fn make_step(
         &mut self,
+        alloc: Global,
         calls: &[Call],
-        words: &mut [u64],
-        trace: &mut Vec<Event>,
-        history: &mut Vec<Applied>,
+        memory: &mut Memory,
     ) -> Result<(), AllocError>
-        requires may { MayStep calls.now words.old self.old }
+        requires may { MayStep calls.now memory.old.words.items memory.old.history.items self.old }
+        requires sizes { memory.old.sizes.m ≡ self.old.core.sizes.m }
+        requires room { memory.old.places ≡ self.old.core.sizes.m }
         requires numbers { length calls.now < 2 ^ 32 }
-        requires served { AllByRecursion IsServed calls.now }
-        ensures { OnOk result (StepMade calls.now words.old words.new trace.old.items trace.new.items
-            history.old.items history.new.items self.old self.new) }
+        ensures made { OnOk result (StepMade calls.now memory.old.words.items memory.new.words.items memory.old.trace.items memory.new.trace.items
+            memory.old.history.items memory.new.history.items self.old self.new) }
+        ensures same { OnOk result ((memory.new.sizes ≡ memory.old.sizes) × (memory.new.places ≡ memory.old.places)) }
     {
         let step = self.core.step().unwrap();
         let way = self.under_way.unwrap();
-        let answer = step.perform(words);
-        trace.push(Event {
+        let answer = step.perform(&mut memory.words);
+        memory.trace.push(Event {
             port: self.number,
             step,
             answer,
         })?;
-        if let Some(entry) = entry_of(words, self.number, step, answer) {
-            history.push(entry)?;
+        if let Some(entry) = entry_of(memory.sizes, &memory.words, self.number, step, answer) {
+            memory.history.push(entry)?;
         }
         self.core.answer(answer);
         let way = UnderWay {
@@ -166,15 +229,8 @@ impl Port {
         };
         match self.core.take() {
             Some(reply) => {
-                let number = self.finished.len();
-                let called = ended(
-                    self.number,
-                    number as u32,
-                    &calls[number],
-                    way,
-                    history,
-                    reply,
-                );
+                let call = &calls[self.finished.len()];
+                let called = self.ended(alloc, call, way, memory, reply)?;
                 self.finished.push(called)?;
                 self.under_way = None;
             }
@@ -182,64 +238,55 @@ impl Port {
         }
         Ok(())
     }
-}
 
-// A call that was refused at once.
-fn refused(port: u32, number: u32, call: &Call, seen: usize, cause: Refused) -> Called
-    requires { IsServed call.now }
-    ensures { result ≡ refused_call port number call.now seen cause }
-{
-    Called {
-        port,
-        number,
-        call: copy_of(call),
-        began: seen,
-        steps: 0,
-        finish: Some(Finish {
-            ended: seen,
-            answer: Answer::Refused { cause },
-            note: None,
-        }),
-    }
-}
-
-// A call that has ended with that reply.
-fn ended(
-    port: u32,
-    number: u32,
-    call: &Call,
-    way: UnderWay,
-    history: &[Applied],
-    reply: Reply,
-) -> Called
-    requires { IsServed call.now }
-    ensures { IsEndedCall port number call.now way history.now reply result }
-{
-    Called {
-        port,
-        number,
-        call: copy_of(call),
-        began: way.began,
-        steps: way.steps,
-        finish: Some(Finish {
-            ended: history.len(),
-            answer: answer_of(reply),
-            note: note_of(history, way.began, reply),
-        }),
+    // The call under way, which has ended with that reply.
+    fn ended(
+        &self,
+        alloc: Global,
+        call: &Call,
+        way: UnderWay,
+        memory: &mut Memory,
+        reply: Reply,
+    ) -> Result<Called, AllocError>
+        requires ends { MayEnd memory.old.places call.now (Some (answer_for self.now.core reply)) }
+        requires within { AreWithin memory.old.places memory.old.words.items memory.old.history.items }
+        requires numbers { length self.now.finished.items < 2 ^ 32 }
+        ensures called { IfOk result (IsEndedCall self.now.number (length self.now.finished.items) call.now way memory.old.words.items memory.old.history.items (answer_for self.now.core reply)) }
+        ensures same { OnOk result (memory.new ≡ memory.old) }
+    {
+        let answer = answer_of(alloc, &self.core, call, reply)?;
+        let note = note_of(memory, way.began, call, &answer);
+        Ok(Called {
+            port: self.number,
+            number: self.finished.len() as u32,
+            call: copy_of(alloc, call)?,
+            began: way.began,
+            steps: way.steps,
+            finish: Some(Finish {
+                ended: memory.history.len(),
+                answer,
+                note,
+            }),
+        })
     }
 }
 
 /// The call under way of a port as it is left at the end of a replay.
-pub fn unfinished(port: u32, number: u32, call: &Call, way: UnderWay) -> Called
-    requires { IsServed call.now }
-    ensures { result ≡ unfinished_call port number call.now way }
+pub fn unfinished(
+    alloc: Global,
+    port: u32,
+    number: u32,
+    call: &Call,
+    way: UnderWay,
+) -> Result<Called, AllocError>
+    ensures { IfOk result (λ called. called ≡ unfinished_call port number call.now way) }
 {
-    Called {
+    Ok(Called {
         port,
         number,
-        call: copy_of(call),
+        call: copy_of(alloc, call)?,
         began: way.began,
         steps: way.steps,
         finish: None,
-    }
+    })
 }

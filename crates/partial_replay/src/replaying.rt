@@ -50,11 +50,11 @@ pub fn replay(alloc: Global, plan: &Plan) -> Result<Outcome, ReplayError>
     let plans = plan.ports();
     let mut run = Run::open(alloc, plan.sizes(), plan.initial(), plans)?;
     for (p, count) in plan.steps() {
-        run.turns(*p as usize, plans, *count)?;
+        run.turns(alloc, *p as usize, plans, *count)?;
     }
     if plan.rest() {
         for p in 0..plans.len() {
-            run.to_the_end(p, plans)?;
+            run.to_the_end(alloc, p, plans)?;
         }
     }
     Ok(run.into_outcome(alloc, plans)?)

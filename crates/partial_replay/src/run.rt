@@ -6,22 +6,21 @@ ghost use Rattle.partial_words.specs.Layout.{IsLayout};
 ghost use Rattle.partial_words.specs.Chain.{AreOpeningWords};
 ghost use Rattle.partial_replay.specs.RunState.{AreFreshPorts, AreListed, calls_in};
 
+use crate::memory::Memory;
 use crate::port::{Port, unfinished};
 use partial_core::Core;
-use partial_model::{Applied, Call, Called, Opening, Sequence};
+use partial_model::{Call, Called, Opening, Sequence};
+use partial_places::Wanted;
 use partial_text::Outcome;
-use partial_words::{Event, Sizes};
+use partial_words::Sizes;
 use std::alloc::{AllocError, Global};
 
 /// The state of a replay.
 #[derive(Debug, Drop)]
 pub struct Run {
-    pub sizes: Sizes,
     pub opening: Opening,
-    pub words: Vec<u64>,
+    pub memory: Memory,
     pub ports: Vec<Port>,
-    pub history: Vec<Applied>,
-    pub trace: Vec<Event>,
 }
 
 // The words at opening.
@@ -38,7 +37,7 @@ fn opening_words(alloc: Global, sizes: Sizes, initial: &[u64]) -> Result<Vec<u64
 }
 
 impl Run {
-    ghost use Rattle.partial_replay.specs.RunState.{ArePlans, AreStarted, IsReady, IsRun, IsSameOpening, Tells, left_at};
+    ghost use Rattle.partial_replay.specs.RunState.{ArePlans, AreStarted, HasRoom, IsReady, IsRun, IsSameOpening, Tells, left_at};
     ghost use Rattle.partial_replay.specs.TurnState.{StopAtSteps, GoesOnBy, IsDone, StayDone, StayStoppedBut, StayStoppedWith, TurnMade, TurnsMade};
 
     /// The replay as it opens, with the ports of a plan.
@@ -52,51 +51,69 @@ impl Run {
         requires values { length initial.now ≡ sizes.m }
         requires ports { length plans.now ≤ 64 }
         ensures run { IfOk result (IsRun plans.now) }
-        ensures opening { IfOk result (λ run. (run.sizes ≡ sizes) × (run.opening.values ≡ initial.now)) }
-        ensures trace { IfOk result (λ run. run.trace.items ≡ []) }
+        ensures opening { IfOk result (λ run. (run.memory.sizes ≡ sizes) × (run.opening.values ≡ initial.now)) }
+        ensures room { IfOk result HasRoom }
+        ensures trace { IfOk result (λ run. run.memory.trace.items ≡ []) }
         ensures started { IfOk result (λ run. AreStarted run.ports.items) }
         ensures ending { IfOk result (StopAtSteps []) }
     {
         let first = u64::from(sizes.pool_base());
         Ok(Run {
-            sizes,
             opening: Opening {
                 values: Sequence::from(Vec::from_slice(alloc, initial)?),
                 first,
             },
-            words: opening_words(alloc, sizes, initial)?,
+            memory: Memory {
+                sizes,
+                words: opening_words(alloc, sizes, initial)?,
+                history: Vec::new(alloc),
+                trace: Vec::new(alloc),
+                places: Wanted::new(alloc, sizes.m() as usize)?,
+            },
             ports: fresh_ports(alloc, sizes, plans.len())?,
-            history: Vec::new(alloc),
-            trace: Vec::new(alloc),
         })
     }
 
     /// One turn of a port: it makes one step, or answers that it has no call left.
-    pub fn turn(&mut self, p: usize, plans: &[Sequence<Call>]) -> Result<bool, AllocError>
+    pub fn turn(
+        &mut self,
+        alloc: Global,
+        p: usize,
+        plans: &[Sequence<Call>],
+    ) -> Result<bool, AllocError>
         requires run { IsRun plans.now self.old }
+        requires room { HasRoom self.old }
         requires started { AreStarted self.old.ports.items }
-        requires plans { ArePlans plans.now }
+        requires plans { ArePlans self.old.memory.sizes.m plans.now }
         requires port { p < length plans.now }
         ensures run { OnOk result (IsRun plans.now self.new) }
+        ensures room { OnOk result (HasRoom self.new) }
         ensures same { OnOk result (IsSameOpening self.old self.new) }
         ensures started { OnOk result (AreStarted self.new.ports.items) }
         ensures turn { IfOk result (λ stepped. TurnMade plans.now p self.old stepped self.new) }
         ensures progress { IfOk result (λ stepped. OnTrue stepped (left_at p plans.now self.new.ports.items < left_at p plans.now self.old.ports.items)) }
     {
-        if !self.get_ready(p, plans)? {
+        if !self.get_ready(alloc, p, plans)? {
             return Ok(false);
         }
-        self.make_step(p, plans)?;
+        self.make_step(alloc, p, plans)?;
         Ok(true)
     }
 
     // Begins the port's next call where none is under way, or answers that none is left.
-    fn get_ready(&mut self, p: usize, plans: &[Sequence<Call>]) -> Result<bool, AllocError>
+    fn get_ready(
+        &mut self,
+        alloc: Global,
+        p: usize,
+        plans: &[Sequence<Call>],
+    ) -> Result<bool, AllocError>
         requires run { IsRun plans.now self.old }
+        requires room { HasRoom self.old }
         requires started { AreStarted self.old.ports.items }
-        requires plans { ArePlans plans.now }
+        requires plans { ArePlans self.old.memory.sizes.m plans.now }
         requires port { p < length plans.now }
         ensures run { OnOk result (IsRun plans.now self.new) }
+        ensures room { OnOk result (HasRoom self.new) }
         ensures same { OnOk result (IsSameOpening self.old self.new) }
         ensures ready { IfOk result (λ ready. MatchBool ready (IsReady p self.new) (IsDone plans.now self.new.ports.items p × AreStarted self.new.ports.items)) }
         ensures trace { OnOk result (GoesOnBy 0 p self.old self.new) }
@@ -105,22 +122,29 @@ impl Run {
         ensures left { OnOk result (left_at p plans.now self.new.ports.items ≤ left_at p plans.now self.old.ports.items) }
     {
         let calls = plans[p].as_slice();
-        let seen = self.history.len();
+        let seen = self.memory.history.len();
         let port = &mut self.ports[p];
         if port.under_way.is_some() {
             return Ok(true);
         }
-        let begun = port.begin_next(calls, seen)?;
+        let begun = port.begin_next(alloc, calls, seen)?;
         Ok(begun)
     }
 
     // The due step of a port whose call is under way.
-    fn make_step(&mut self, p: usize, plans: &[Sequence<Call>]) -> Result<(), AllocError>
+    fn make_step(
+        &mut self,
+        alloc: Global,
+        p: usize,
+        plans: &[Sequence<Call>],
+    ) -> Result<(), AllocError>
         requires run { IsRun plans.now self.old }
-        requires plans { ArePlans plans.now }
+        requires room { HasRoom self.old }
+        requires plans { ArePlans self.old.memory.sizes.m plans.now }
         requires port { p < length plans.now }
         requires ready { IsReady p self.old }
         ensures run { OnOk result (IsRun plans.now self.new) }
+        ensures room { OnOk result (HasRoom self.new) }
         ensures same { OnOk result (IsSameOpening self.old self.new) }
         ensures started { OnOk result (AreStarted self.new.ports.items) }
         ensures trace { OnOk result (GoesOnBy 1 p self.old self.new) }
@@ -130,27 +154,30 @@ impl Run {
     {
         let calls = plans[p].as_slice();
         let port = &mut self.ports[p];
-        port.make_step(calls, &mut self.words, &mut self.trace, &mut self.history)
+        port.make_step(alloc, calls, &mut self.memory)
     }
 
     /// So many turns of a port, or until it has no call left.
     pub fn turns(
         &mut self,
+        alloc: Global,
         p: usize,
         plans: &[Sequence<Call>],
         count: u32,
     ) -> Result<(), AllocError>
         requires run { IsRun plans.now self.old }
+        requires room { HasRoom self.old }
         requires started { AreStarted self.old.ports.items }
-        requires plans { ArePlans plans.now }
+        requires plans { ArePlans self.old.memory.sizes.m plans.now }
         requires port { p < length plans.now }
         ensures run { OnOk result (IsRun plans.now self.new) }
+        ensures room { OnOk result (HasRoom self.new) }
         ensures same { OnOk result (IsSameOpening self.old self.new) }
         ensures started { OnOk result (AreStarted self.new.ports.items) }
         ensures turns { OnOk result (TurnsMade plans.now p (Some count) self.old self.new) }
     {
         for _ in 0..count {
-            if !self.turn(p, plans)? {
+            if !self.turn(alloc, p, plans)? {
                 break;
             }
         }
@@ -158,17 +185,24 @@ impl Run {
     }
 
     /// Turns of a port until it has no call left, however many.
-    pub fn to_the_end(&mut self, p: usize, plans: &[Sequence<Call>]) -> Result<(), AllocError>
+    pub fn to_the_end(
+        &mut self,
+        alloc: Global,
+        p: usize,
+        plans: &[Sequence<Call>],
+    ) -> Result<(), AllocError>
         requires run { IsRun plans.now self.old }
+        requires room { HasRoom self.old }
         requires started { AreStarted self.old.ports.items }
-        requires plans { ArePlans plans.now }
+        requires plans { ArePlans self.old.memory.sizes.m plans.now }
         requires port { p < length plans.now }
         ensures run { OnOk result (IsRun plans.now self.new) }
+        ensures room { OnOk result (HasRoom self.new) }
         ensures same { OnOk result (IsSameOpening self.old self.new) }
         ensures started { OnOk result (AreStarted self.new.ports.items) }
         ensures turns { OnOk result (TurnsMade plans.now p None self.old self.new) }
     {
-        while self.turn(p, plans)? {}
+        while self.turn(alloc, p, plans)? {}
         Ok(())
     }
 
@@ -179,17 +213,20 @@ impl Run {
         plans: &[Sequence<Call>],
     ) -> Result<Outcome, AllocError>
         requires run { IsRun plans.now self }
-        requires plans { ArePlans plans.now }
+        requires plans { ArePlans self.old.memory.sizes.m plans.now }
         ensures { IfOk result (Tells plans.now self) }
     {
         let Run {
-            sizes: _,
             opening,
-            words,
+            memory,
             ports,
+        } = self;
+        let Memory {
+            words,
             history,
             trace,
-        } = self;
+            ..
+        } = memory;
         let steps = trace.len() as u64;
         Ok(Outcome {
             opening,
@@ -244,7 +281,7 @@ fn calls_of(
         calls.append(&mut finished)?;
         if let Some(way) = under_way {
             let plan = plans[p].as_slice();
-            calls.push(unfinished(number, done as u32, &plan[done], way))?;
+            calls.push(unfinished(alloc, number, done as u32, &plan[done], way)?)?;
         }
         p += 1;
     }

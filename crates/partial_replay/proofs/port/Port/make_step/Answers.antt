@@ -1,29 +1,60 @@
-use Rattle.std.proofs.Common.{◌≡◌, ◌<◌, ◌++◌, List, length, Some, slice_get, sym, ◌∙◌, ap, subst, arith, refl}
+use Rattle.std.proofs.Common.{◌≡◌, ◌<◌, ◌++◌, ◌∷◌, [], ℕ, List, length, Some, slice_get, sym, ◌∙◌, ap, subst, arith, refl}
 use Rattle.std.specs.Option.{option_to_list}
 use Rattle.std.specs.declared.vec.Vec.{Vec}
 use Rattle.std.specs.declared.alloc.Global.{Global}
-use Rattle.std.proofs.lemmas.List.{append-nil}
+use Rattle.std.proofs.lemmas.List.{append-nil, with_items_is}
 use Rattle.partial_model.specs.declared.history.Applied.{Applied}
+use Rattle.partial_words.specs.Step.{answer_of, words_after}
+use Rattle.partial_core.specs.Lawful.{answer_for}
+use Rattle.partial_machine.specs.Machine.{CoreState, at_stage}
+use Rattle.partial_machine.specs.declared.stage.Stage.TheVariants.{Idle}
+use Rattle.partial_model.specs.declared.call.Answer.{Answer}
+use Rattle.partial_replay.specs.declared.memory.Memory.{Memory}
 use Rattle.partial_replay.specs.PortState.{entry_at, one_step_more, IsEndedCall}
-use Rattle.partial_replay.proofs.PortLaws.{step_ended, call_at_place}
+use Rattle.partial_replay.proofs.PortLaws.{answer_idle, step_ended, call_at_place, get_below}
 use Rattle.partial_replay.proofs.port.Port.make_step.Goals as goal
 use Rattle.partial_replay.proofs.port.Port.make_step.Goals.{in-Some+in_ok-push-2, in_default}
 
-pub returns-in_ok-push-in-Some-take : goal.returns-in_ok-push-in-Some-take
-returns-in_ok-push-in-Some-take c =
+pub returns-in_ok-push-in-Some-take-clause-made : goal.returns-in_ok-push-in-Some-take-clause-made
+returns-in_ok-push-in-Some-take-clause-made c =
     let port = c.args.self.now in
-    let call = c.index-calls-number.result in
+    let memory = c.args.memory.now in
+    let call = c.index-calls-len.result in
     let calls = c.args.calls.now in
-    let below : c.len-number.result < length calls = omega (arith, port.finished.ok.0, c.requires.may.more) in
-    let same : c.len-number.result ≡ length port.finished.items = omega (arith, port.finished.ok.0) in
-    let next : slice_get calls (length port.finished.items) ≡ Some call = call_at_place calls port.finished.items c.len-number.result call same below c.index-calls-number.is in
-    let log_is : c.match-entry_of.history.items ≡ c.args.history.now.items ++ entry_at c.perform-answer.new.words port.number c.unwrap-step.result c.perform-answer.result =
+    let mid : Memory = c.match-entry_of.memory in
+    let new : Memory = c.ended.new.memory in
+    let same : new ≡ mid = c.in_ok-called-in-Some-take.ensures.same in
+    let number : c.len.result ≡ length port.finished.items = omega (arith, port.finished.ok.0) in
+    let below : c.len.result < length calls = (let n = get_below calls (length port.finished.items) c.requires.may.call c.requires.may.next in omega (arith, number, n)) in
+    let next : slice_get calls (length port.finished.items) ≡ Some call = call_at_place calls port.finished.items c.len.result call number below c.index-calls-len.is in
+    let kept = with_items_is memory.words c.perform-answer.new.words (let long = c.perform-answer.auto.words in let front = ap length c.deref_mut.ensures.value in omega (arith, long, front, memory.words.ok.0)) in
+    let value = c.deref_mut.ensures.value in
+    let answer : c.perform-answer.result ≡ answer_of memory.words.items c.unwrap-step.result = c.perform-answer.ensures.answer ∙ ap (λ (ws : List ℕ). answer_of ws c.unwrap-step.result) value in
+    let after : c.perform-answer.new.words ≡ words_after memory.words.items c.unwrap-step.result = c.perform-answer.ensures.words ∙ ap (λ (ws : List ℕ). words_after ws c.unwrap-step.result) value in
+    let words : mid.words.items ≡ c.perform-answer.new.words =
     elim c.match-entry_of.branch [
-      | in-Some+in_ok-push-2 w ↦ ap (λ (v : Vec Applied Global). v.items) w.history-is ∙ w.in_ok-push-2.ensures.items ∙ ap (λ (l : List Applied). c.args.history.now.items ++ l) (sym (ap option_to_list w.in-Some.is) ∙ c.entry_of.ensures)
-      | in_default w ↦ ap (λ (v : Vec Applied Global). v.items) w.history-is ∙ sym (append-nil c.args.history.now.items) ∙ ap (λ (l : List Applied). c.args.history.now.items ++ l) (sym (ap option_to_list w.in_default.is) ∙ c.entry_of.ensures)
+      | in-Some+in_ok-push-2 w ↦ ap (λ (v : Memory). v.words.items) w.memory-is ∙ kept
+      | in_default w ↦ ap (λ (v : Memory). v.words.items) w.memory-is ∙ kept
     ] in
-    let ended_is : IsEndedCall port.number (length port.finished.items) call (one_step_more c.unwrap-way.result) c.match-entry_of.history.items c.in-Some-take.reply c.ended-called.result =
-    subst (λ m. IsEndedCall port.number m call (one_step_more c.unwrap-way.result) c.match-entry_of.history.items c.in-Some-take.reply c.ended-called.result) same
-    (subst (λ (l : List Applied). IsEndedCall port.number c.len-number.result call (one_step_more c.unwrap-way.result) l c.in-Some-take.reply c.ended-called.result) c.deref.ensures.value c.ended-called.ensures) in
-    step_ended calls c.args.words.now c.perform-answer.new.words c.args.trace.now.items c.push.new.self.items c.args.history.now.items c.match-entry_of.history.items port _ c.unwrap-step.result c.unwrap-way.result c.perform-answer.result c.answer.new.self c.take.new.self c.in-Some-take.reply call c.ended-called.result
-    (sym c.step.ensures ∙ c.unwrap-step.ensures) c.unwrap-way.ensures c.perform-answer.ensures.answer c.perform-answer.ensures.words c.in_ok-push.ensures.items log_is c.answer.ensures.state c.answer.ensures.falls (sym c.in-Some-take.ensures.reply) c.in-Some-take.ensures.state next ended_is refl refl refl c.in_ok-push-in-Some-take.ensures.items
+    let trace : mid.trace.items ≡ memory.trace.items ++ record { port = port.number; step = c.unwrap-step.result; answer = c.perform-answer.result } ∷ [] = elim c.match-entry_of.branch [
+      | in-Some+in_ok-push-2 w ↦ ap (λ (v : Memory). v.trace.items) w.memory-is ∙ c.in_ok-push.ensures.items
+      | in_default w ↦ ap (λ (v : Memory). v.trace.items) w.memory-is ∙ c.in_ok-push.ensures.items
+    ] in
+    let entry : option_to_list c.entry_of.result ≡ entry_at port.core.sizes.m c.perform-answer.new.words port.number c.unwrap-step.result c.perform-answer.result =
+    c.entry_of.ensures ∙ ap (λ (ws : List ℕ). entry_at memory.sizes.m ws port.number c.unwrap-step.result c.perform-answer.result) (c.deref.ensures.value ∙ kept) ∙ ap (λ m. entry_at m c.perform-answer.new.words port.number c.unwrap-step.result c.perform-answer.result) c.requires.sizes in
+    let log : mid.history.items ≡ memory.history.items ++ entry_at port.core.sizes.m c.perform-answer.new.words port.number c.unwrap-step.result c.perform-answer.result =
+    elim c.match-entry_of.branch [
+      | in-Some+in_ok-push-2 w ↦ ap (λ (v : Memory). v.history.items) w.memory-is ∙ w.in_ok-push-2.ensures.items ∙ ap (λ (l : List Applied). memory.history.items ++ l) (sym (ap option_to_list w.in-Some.is) ∙ entry)
+      | in_default w ↦ ap (λ (v : Memory). v.history.items) w.memory-is ∙ sym (append-nil memory.history.items) ∙ ap (λ (l : List Applied). memory.history.items ++ l) (sym (ap option_to_list w.in_default.is) ∙ entry)
+    ] in
+    let new_words : new.words.items ≡ c.perform-answer.new.words = ap (λ (v : Memory). v.words.items) same ∙ words in
+    let a = answer_for c.answer.new.self c.in-Some-take.reply in
+    let ended = c.in_ok-called-in-Some-take.ensures.called in
+    let taken : c.take.new.self ≡ at_stage c.answer.new.self Idle = c.in-Some-take.ensures.state in
+    let ended_is : IsEndedCall port.number (length port.finished.items) call (one_step_more c.unwrap-way.result) new.words.items new.history.items a c.in_ok-called-in-Some-take.called =
+    subst (λ (v : Memory). IsEndedCall port.number (length port.finished.items) call (one_step_more c.unwrap-way.result) v.words.items v.history.items a c.in_ok-called-in-Some-take.called) (sym same)
+    (subst (λ (v : Answer). IsEndedCall port.number (length port.finished.items) call (one_step_more c.unwrap-way.result) mid.words.items mid.history.items v c.in_ok-called-in-Some-take.called) (ap (λ (s : CoreState). answer_for s c.in-Some-take.reply) taken ∙ answer_idle c.answer.new.self c.in-Some-take.reply) ended) in
+    step_ended calls memory.words.items new.words.items memory.trace.items new.trace.items memory.history.items new.history.items port _ c.unwrap-step.result c.unwrap-way.result c.perform-answer.result c.answer.new.self c.take.new.self c.in-Some-take.reply call c.in_ok-called-in-Some-take.called
+    (sym c.step.ensures ∙ c.unwrap-step.ensures) c.unwrap-way.ensures answer (new_words ∙ after) (ap (λ (v : Memory). v.trace.items) same ∙ trace)
+    (ap (λ (v : Memory). v.history.items) same ∙ log ∙ ap (λ (ws : List ℕ). memory.history.items ++ entry_at port.core.sizes.m ws port.number c.unwrap-step.result c.perform-answer.result) (sym new_words))
+    c.answer.ensures.state c.answer.ensures.falls (sym c.in-Some-take.ensures.reply) taken next ended_is refl refl refl c.in_ok-push-in-Some-take.ensures.items

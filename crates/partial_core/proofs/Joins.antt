@@ -1,0 +1,149 @@
+-- The steps of a join: the claim of a slot, and the store of the announcement in it.
+use Rattle.std.proofs.Common.{ℕ, ◌≡◌, ◌+◌, ◌*◌, ◌<◌, ◌≤◌, ◌++◌, Bool, true, false, cond, Option, Some, None, IsSome, List, [], ◌∷◌, length, get_or, refl, sym, ap, subst, ◌∙◌, arith}
+use Rattle.std.specs.Prelude.{nat_lt, IsTrue}
+use Rattle.std.proofs.lemmas.Bool.{false≢true, ltb-true, ltb-false}
+use Rattle.partial_model.specs.declared.history.Applied.{Applied}
+use Rattle.partial_model.specs.declared.history.Opening.{Opening}
+use Rattle.partial_model.specs.declared.call.Call.TheVariants as call
+use Rattle.partial_model.specs.declared.call.Refused.TheVariants as refused
+use Rattle.partial_model.specs.Notes.{MayBeRefused}
+use Rattle.partial_words.specs.declared.step.Step.{Step}
+use Rattle.partial_words.specs.declared.step.Step.TheVariants.{Store, Add}
+use Rattle.partial_words.specs.Layout.{Layout, slot_word, slot_counter}
+use Rattle.partial_words.specs.Step.{words_after}
+use Rattle.partial_active.specs.Join.{join_step, join_after, fits_join}
+use Rattle.partial_active.specs.declared.join.JoinStage.{JoinStage}
+use Rattle.partial_active.specs.declared.join.JoinStage.TheVariants.{Claiming, Storing, Joined as JoinedIn, Spent}
+use Rattle.partial_embedded.specs.Embedded as viewing
+use Rattle.partial_machine.specs.declared.stage.Reply.TheVariants as reply
+use Rattle.partial_machine.specs.declared.stage.Stage.{Stage}
+use Rattle.partial_machine.specs.declared.stage.Stage.TheVariants.{ScanBegun, Joining, Scanning, Finished}
+use Rattle.partial_machine.specs.Machine.{CoreState, advance_at, step_at, after_joining, slots_refused, reply_at, IsSound}
+use Rattle.partial_state.specs.Holdings.{Holding, slot_marks}
+use Rattle.partial_state.specs.LawfulWords.{LawfulWords}
+use Rattle.partial_state.specs.Effects.{State, Keeps, IsKept}
+use Rattle.partial_state.proofs.MarkLaws.{drops_are_kept, slot_refusals_are_kept}
+use Rattle.partial_state.proofs.SlotLaws.{slot_claims_are_kept, joins_are_kept}
+use Rattle.partial_state.proofs.Quiet.{slots_bound}
+use Rattle.partial_core.specs.Lawful.{Part, Lawful, core_of, port_of, holding_of, holding_at, holdings, joined_since, call_at, MayBeginAt, is_storing, joins_at, AreNotesOf}
+use Rattle.partial_core.proofs.Parts.{gone}
+use Rattle.partial_core.proofs.Leaves.{names_all}
+use Rattle.partial_core.proofs.Steps.{LeadsAt, holding_in, known_here, sizes_here, sound_here, sound_at, memory_at, going, quiet}
+
+-- one kind of step after another
+pub keeps_then : (z : Layout) (o : Opening) (a b c : State) → Keeps z o a b → Keeps z o b c → Keeps z o a c
+keeps_then z o a b c f g = record { lawful = g.lawful; loads = λ n k l. g.loads n k (f.loads n k l) }
+
+-- two names of one step
+pub same_step : {a b : Step} → Some a ≡ Some b → a ≡ b
+same_step {a} {b} e = cc
+
+-- a scan of some positions may be refused for want of slots
+scan_refused : (s : CoreState) → IsSound s → MayBeginAt s ScanBegun → MayBeRefused s.sizes.m (call.Scan s.asked) refused.SlotsSpent
+scan_refused s sound may = (names_all s.sizes.m s.asked sound.asked.each, may.0)
+
+module _ (z : Layout) (o : Opening) (words : List ℕ) (before : List Part) (x : Part) (after : List Part) (log : List Applied) (w : Lawful z o words (before ++ x ∷ after) log) (e : (core_of x).stage ≡ Joining) where
+  abbrev s : CoreState
+  s = core_of x
+
+  -- the join's sizes are the memory's
+  join_sizes : s.join.sizes ≡ z
+  join_sizes = (sound_at z o words before x after log w Joining e).2 ∙ sizes_here z o words before x after log w
+
+  -- what the part holds, with its stage named
+  kept_here : (words' : List ℕ) (h : Holding) (log' : List Applied) → IsKept z o words (holdings before) (holding_in s Joining (joined_since x)) (holdings after) log words' h log' → IsKept z o words (holdings before) (holding_of x) (holdings after) log words' h log'
+  kept_here words' h log' k = subst (λ (u : Stage). IsKept z o words (holdings before) (holding_in s u (joined_since x)) (holdings after) log words' h log') (sym e) k
+
+  -- what the join at a stage holds
+  abbrev held : JoinStage → Holding
+  held i = holding_in (record s { join = record s.join { stage = i } }) Joining (joined_since x)
+
+  -- the slot counter is claimed
+  module _ (at : s.join.stage ≡ Claiming) where
+    due : step_at s Joining ≡ Some (Add (slot_counter z) 1)
+    due = ap (λ (i : JoinStage). join_step s.join.sizes s.join.announcement i) at ∙ ap (λ (y : Layout). Some (Add (slot_counter y) 1)) join_sizes
+
+    leads : (b : Bool) → nat_lt (get_or words (slot_counter z) 0) s.join.sizes.slots ≡ b → advance_at s Joining (get_or words (slot_counter z) 0) ≡ (let j = cond b (Storing (get_or words (slot_counter z) 0)) Spent in after_joining (record s { join = record s.join { stage = j } }) j)
+    leads b is = ap (λ (i : JoinStage). let j = join_after s.join.sizes i (get_or words (slot_counter z) 0) in after_joining (record s { join = record s.join { stage = j } }) j) at
+        ∙ ap (λ (c : Bool). let j = cond c (Storing (get_or words (slot_counter z) 0)) Spent in after_joining (record s { join = record s.join { stage = j } }) j) is
+
+    not_storing : joins_at s Joining ≡ false
+    not_storing = ap is_storing at
+
+    possible : get_or words (slot_counter z) 0 ≤ s.sizes.slots + 64
+    possible = subst (λ (y : Layout). get_or words (slot_counter z) 0 ≤ y.slots + 64) (sym (sizes_here z o words before x after log w)) (slots_bound z o words (holdings (before ++ x ∷ after)) log w.memory)
+
+    inside : slot_counter z < length words
+    inside = let count = w.memory.count in omega (arith, count)
+
+    since_same : (t : CoreState) → holding_at t (cond (joins_at s Joining) (length log) (joined_since x)) ≡ holding_at t (joined_since x)
+    since_same t = ap (λ (b : Bool). holding_at t (cond b (length log) (joined_since x))) not_storing
+
+    -- a slot is there
+    claimed : nat_lt (get_or words (slot_counter z) 0) s.join.sizes.slots ≡ true → LeadsAt z o words before x after log s Joining (Add (slot_counter z) 1)
+    claimed room =
+        let n = get_or words (slot_counter z) 0 in
+        let t : CoreState = record s { join = record s.join { stage = Storing n } } in
+        let below : n < z.slots = subst (λ (y : Layout). n < y.slots) join_sizes (ltb-true n s.join.sizes.slots room) in
+        let memory = subst (λ (h : Holding). LawfulWords z o words (holdings before ++ h ∷ holdings after) log) (ap held at) (memory_at z o words before x after log w Joining e) in
+        let keeps = slot_claims_are_kept z o words (holdings before) (held Claiming) (holdings after) log memory refl below in
+        let keeps_x = kept_here (words_after words (Add (slot_counter z) 1)) (held (Storing n)) log (subst (λ (h : Holding). IsKept z o words (holdings before) h (holdings after) log (words_after words (Add (slot_counter z) 1)) (held (Storing n)) log) (sym (ap held at)) keeps) in
+        quiet z o words before x after log w Joining (Add (slot_counter z) 1) t (held (Storing n)) e due (leads true room) refl inside possible (since_same t ∙ ap (λ (u : Stage). holding_in t u (joined_since x)) e) keeps_x (λ ks is. tt) refl
+        (subst (λ (u : Stage). AreNotesOf (gone x log n []) (reply_at u) []) (sym e) refl)
+
+    -- all slots were claimed before
+    spent : nat_lt (get_or words (slot_counter z) 0) s.join.sizes.slots ≡ false → LeadsAt z o words before x after log s Joining (Add (slot_counter z) 1)
+    spent over =
+        let n = get_or words (slot_counter z) 0 in
+        let t : CoreState = slots_refused (record s { join = record s.join { stage = Spent } }) in
+        let above : z.slots ≤ n = subst (λ (y : Layout). y.slots ≤ n) join_sizes (ltb-false n s.join.sizes.slots over) in
+        let memory = subst (λ (h : Holding). LawfulWords z o words (holdings before ++ h ∷ holdings after) log) (ap held at) (memory_at z o words before x after log w Joining e) in
+        let words' = words_after words (Add (slot_counter z) 1) in
+        let marked : Holding = record (held Claiming) { slots_spent = true } in
+        let dropped : Holding = record marked { own = None; due = None } in
+        let marks = slot_refusals_are_kept z o words (holdings before) (held Claiming) (holdings after) log memory (sound_at z o words before x after log w Joining e).1 above in
+        let drops = drops_are_kept z o words' (holdings before) marked (holdings after) log marks.lawful in
+        let keeps : IsKept z o words (holdings before) (held Claiming) (holdings after) log words' dropped log = keeps_then z o (record { words = words; holdings = holdings before ++ held Claiming ∷ holdings after; log = log }) (record { words = words'; holdings = holdings before ++ marked ∷ holdings after; log = log }) (record { words = words'; holdings = holdings before ++ dropped ∷ holdings after; log = log }) marks drops in
+        let keeps_x = kept_here words' dropped log (subst (λ (h : Holding). IsKept z o words (holdings before) h (holdings after) log words' dropped log) (sym (ap held at)) keeps) in
+        let g = going z o words before x after log w Joining e refl refl in
+        let known = g.knows in
+        let k = known_here z o words before x after log w in
+        let begun = subst (MayBeginAt x.begun) known.called k.begun in
+        quiet z o words before x after log w Joining (Add (slot_counter z) 1) t dropped e due (leads false over) refl inside possible (since_same t) keeps_x (λ ks is. tt) refl
+        (record { none = refl; call = call.Scan x.begun.asked; made = ap (call_at x.begun) known.called; may = scan_refused x.begun k.sound begun })
+
+    pub slot_claimed : LeadsAt z o words before x after log s Joining (Add (slot_counter z) 1)
+    slot_claimed = either (nat_lt (get_or words (slot_counter z) 0) s.join.sizes.slots) refl
+      where
+        either : (b : Bool) → nat_lt (get_or words (slot_counter z) 0) s.join.sizes.slots ≡ b → LeadsAt z o words before x after log s Joining (Add (slot_counter z) 1)
+        either true is = claimed is
+        either false is = spent is
+
+  -- the announcement is stored in the slot: the port joins
+  pub announcement_joined : (slot : ℕ) → s.join.stage ≡ Storing slot → LeadsAt z o words before x after log s Joining (Store (slot_word z slot) s.join.announcement)
+  announcement_joined slot at =
+      let t : CoreState = after_joining (record s { join = record s.join { stage = JoinedIn slot } }) (JoinedIn slot) in
+      let sound = sound_at z o words before x after log w Joining e in
+      let fits : IsTrue (nat_lt slot s.join.sizes.slots) = subst (λ (i : JoinStage). IsTrue (fits_join s.join.sizes i)) at sound.5 in
+      let below : slot < z.slots = subst (λ (y : Layout). slot < y.slots) join_sizes (ltb-true slot s.join.sizes.slots fits) in
+      let memory = subst (λ (h : Holding). LawfulWords z o words (holdings before ++ h ∷ holdings after) log) (ap held at) (memory_at z o words before x after log w Joining e) in
+      let all = sound_here z o words before x after log w in
+      let sizes = sizes_here z o words before x after log w in
+      let few : length s.asked ≤ z.m = subst (λ (y : Layout). length s.asked ≤ y.m) sizes all.asked.few in
+      let words' = words_after words (Store (slot_word z slot) s.join.announcement) in
+      let keeps = joins_are_kept z o words (holdings before) (held (Storing slot)) (holdings after) log slot s.join.announcement s.asked memory refl refl refl few (λ i lt. subst (λ (y : Layout). get_or s.asked i 0 < y.m) sizes (all.asked.each i lt)) in
+      let keeps_x = kept_here words' (holding_at t (length log)) log (subst (λ (h : Holding). IsKept z o words (holdings before) h (holdings after) log words' (holding_at t (length log)) log) (sym (ap held at)) keeps) in
+      let count = w.memory.count in
+      let due : step_at s Joining ≡ Some (Store (slot_word z slot) s.join.announcement) = ap (λ (i : JoinStage). join_step s.join.sizes s.join.announcement i) at ∙ ap (λ (y : Layout). Some (Store (slot_word y slot) s.join.announcement)) join_sizes in
+      quiet z o words before x after log w Joining (Store (slot_word z slot) s.join.announcement) t (holding_at t (length log)) e due (ap (λ (i : JoinStage). let j = join_after s.join.sizes i 0 in after_joining (record s { join = record s.join { stage = j } }) j) at) refl (omega (arith, below, count)) (omega arith)
+      (ap (λ (b : Bool). holding_at t (cond b (length log) (joined_since x))) (ap is_storing at)) keeps_x (λ ks is. tt) refl refl
+
+  -- a join that isn't finished
+  pub joining_leads : (step : Step) → step_at s Joining ≡ Some step → LeadsAt z o words before x after log s Joining step
+  joining_leads step due = by_stage s.join.stage refl
+    where
+      by_stage : (i : JoinStage) → s.join.stage ≡ i → LeadsAt z o words before x after log s Joining step
+      by_stage Claiming at = let is : Add (slot_counter z) 1 ≡ step = same_step (sym (ap (λ (i : JoinStage). join_step s.join.sizes s.join.announcement i) at ∙ ap (λ (y : Layout). Some (Add (slot_counter y) 1)) join_sizes) ∙ due) in subst (LeadsAt z o words before x after log s Joining) is (slot_claimed at)
+      by_stage (Storing slot) at = let is : Store (slot_word z slot) s.join.announcement ≡ step = same_step (sym (ap (λ (i : JoinStage). join_step s.join.sizes s.join.announcement i) at ∙ ap (λ (y : Layout). Some (Store (slot_word y slot) s.join.announcement)) join_sizes) ∙ due) in subst (LeadsAt z o words before x after log s Joining) is (announcement_joined slot at)
+      by_stage (JoinedIn slot) at = let bad : None ≡ Some step = sym (ap (λ (i : JoinStage). join_step s.join.sizes s.join.announcement i) at) ∙ due in absurd cc
+      by_stage Spent at = let bad : None ≡ Some step = sym (ap (λ (i : JoinStage). join_step s.join.sizes s.join.announcement i) at) ∙ due in absurd cc

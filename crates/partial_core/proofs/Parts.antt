@@ -1,0 +1,175 @@
+-- A lawful state with one part in the place of another, and with other words.
+use Rattle.std.proofs.Common.{ℕ, ◌≡◌, ◌≢◌, ◌+◌, ◌<◌, ◌≤◌, ◌==◌, ◌++◌, Bool, true, false, cond, Option, Some, None, List, [], ◌∷◌, length, map, take, min, refl, sym, ap, subst, ◌∙◌, arith, append_assoc, length-append, length-take}
+use Rattle.std.specs.List.{AllByRecursion}
+use Rattle.std.proofs.lemmas.Bool.{false≢true, ne_eqb, eq-eqb}
+use Rattle.std.proofs.lemmas.List.{append-nil, take_all, take-append-le}
+use Rattle.partial_model.specs.declared.history.Applied.{Applied}
+use Rattle.partial_model.specs.declared.history.Opening.{Opening}
+use Rattle.partial_model.specs.Notes.{Noted, LegalNotes, IsLegal, seen_by}
+use Rattle.partial_model.specs.Outcome.{places_by, places_written}
+use Rattle.partial_model.proofs.NotesLemmas.{LegalNotes-push, LegalNotes-grows, places_written-append}
+use Rattle.partial_words.specs.declared.step.Step.{Step}
+use Rattle.partial_words.specs.declared.step.Step.TheVariants.{Load, Store, Exchange, Add}
+use Rattle.partial_words.specs.Layout.{Layout}
+use Rattle.partial_machine.specs.Machine.{CoreState, advance, step_of, IsPossible}
+use Rattle.partial_state.specs.Holdings.{Holding}
+use Rattle.partial_state.specs.LawfulWords.{LawfulWords}
+use Rattle.partial_state.specs.Loads.{Kept, IsLoaded}
+use Rattle.partial_state.specs.Effects.{State, Keeps}
+use Rattle.partial_state.proofs.ListLemmas.{all_weaker}
+use Rattle.partial_core.specs.Lawful.{Part, Lawful, led_by, core_of, port_of, holding_of, holdings, is_at_rest, IsTrueYet, IsKept, AreKept, IsKnown, notes_by}
+use Rattle.partial_core.proofs.Calls.{led_push}
+
+-- a beginning of a list is no longer than the list
+pub seen_within : {A : Type 0} (seen log : List A) → seen ≡ take (length seen) log → length seen ≤ length log
+seen_within seen log e = let n : length seen ≡ min (length seen) (length log) = ap length e ∙ length-take (length seen) log in omega arith
+
+-- what a load answered goes on being true where loads stay true
+yet_grows : (z : Layout) (o : Opening) (words words' : List ℕ) (hs hs' : List Holding) (log log' : List Applied) → ((n : ℕ) (k : Kept) → IsLoaded z o words hs log n k → IsLoaded z o words' hs' log' n k) → (f : Option Step) (k : Kept) → IsTrueYet z o words hs log f k → IsTrueYet z o words' hs' log' f k
+yet_grows z o words words' hs hs' log log' loads None k w = w
+yet_grows z o words words' hs hs' log log' loads (Some (Load n)) k w = loads n k w
+yet_grows z o words words' hs hs' log log' loads (Some (Store n v)) k w = w
+yet_grows z o words words' hs hs' log log' loads (Some (Exchange n a b)) k w = w
+yet_grows z o words words' hs hs' log log' loads (Some (Add n v)) k w = w
+
+kept_grows : (z : Layout) (o : Opening) (words words' : List ℕ) (hs hs' : List Holding) (log es : List Applied) → ((n : ℕ) (k : Kept) → IsLoaded z o words hs log n k → IsLoaded z o words' hs' (log ++ es) n k) → (low : ℕ) (s : CoreState) (ks : List Kept) → AreKept z o words hs log low s ks → AreKept z o words' hs' (log ++ es) low s ks
+kept_grows z o words words' hs hs' log es loads low s [] w = tt
+kept_grows z o words words' hs hs' log es loads low s (k ∷ ks) w =
+    (record { possible = w.0.possible; behind = w.0.behind; within = let within = w.0.within in omega (arith, length-append log es, within); true_yet = yet_grows z o words words' hs hs' log (log ++ es) loads (step_of s) k w.0.true_yet }, kept_grows z o words words' hs hs' log es loads k.at (advance s k.answer) ks w.1)
+
+-- what a port knows it goes on knowing
+pub known_grows : (z : Layout) (o : Opening) (words words' : List ℕ) (hs hs' : List Holding) (log es : List Applied) → ((n : ℕ) (k : Kept) → IsLoaded z o words hs log n k → IsLoaded z o words' hs' (log ++ es) n k) → (x : Part) → IsKnown z o words hs log x → IsKnown z o words' hs' (log ++ es) x
+known_grows z o words words' hs hs' log es loads x w = record {
+  port = w.port;
+  sizes = w.sizes;
+  seen = w.seen ∙ sym (take-append-le (length x.seen) log es (seen_within x.seen log w.seen));
+  notes = LegalNotes-grows o log es (port_of x) 0 x.notes w.notes;
+  shown = w.shown;
+  sound = w.sound;
+  begun = w.begun;
+  since = w.since;
+  earlier = w.earlier;
+  kept = kept_grows z o words words' hs hs' log es loads x.since x.begun x.kept w.kept;
+}
+
+-- one kept answer more
+kept_push : (z : Layout) (o : Opening) (words : List ℕ) (hs : List Holding) (log : List Applied) (low : ℕ) (s : CoreState) (ks : List Kept) (k : Kept) → AreKept z o words hs log low s ks → low ≤ k.at → ((n : ℕ) → n ≤ length log → n ≤ k.at) → IsPossible (led_by s ks) k.answer → k.at ≤ length log → IsTrueYet z o words hs log (step_of (led_by s ks)) k → AreKept z o words hs log low s (ks ++ k ∷ [])
+kept_push z o words hs log low s [] k w behind all possible within yet = (record { possible = possible; behind = behind; within = within; true_yet = yet }, tt)
+kept_push z o words hs log low s (x ∷ ks) k w behind all possible within yet =
+    let inside = w.0.within in
+    (w.0, kept_push z o words hs log x.at (advance s x.answer) ks k w.1 (all x.at inside) all possible within yet)
+
+-- the part behind one answer more
+abbrev pub gone : Part → List Applied → ℕ → List Noted → Part
+gone x l a new = record { seen = l; notes = x.notes ++ new; begun = x.begun; kept = x.kept ++ record { answer = a; at = length l } ∷ []; since = x.since }
+
+pub gone_core : (x : Part) (l : List Applied) (a : ℕ) (new : List Noted) → core_of (gone x l a new) ≡ advance (core_of x) a
+gone_core x l a new = led_push x.begun x.kept (record { answer = a; at = length l })
+
+known_gone : (z : Layout) (o : Opening) (words : List ℕ) (hs : List Holding) (l : List Applied) (x : Part) (a : ℕ) (new : List Noted) → IsKnown z o words hs l x → IsPossible (core_of x) a → IsTrueYet z o words hs l (step_of (core_of x)) (record { answer = a; at = length l }) → LegalNotes o l (port_of x) 0 (x.notes ++ new) → seen_by 0 (x.notes ++ new) ≤ length l → (is_at_rest (advance (core_of x) a).stage ≡ false → seen_by 0 (x.notes ++ new) ≤ x.since) → IsKnown z o words hs l (gone x l a new)
+known_gone z o words hs l x a new w possible yet legal shown earlier =
+    let seen = seen_within x.seen l w.seen in
+    let since = w.since in
+    record {
+      port = w.port;
+      sizes = w.sizes;
+      seen = sym (take_all (length l) l (omega arith));
+      notes = legal;
+      shown = shown;
+      sound = w.sound;
+      begun = w.begun;
+      since = omega (arith, since, seen);
+      earlier = λ rest. earlier (ap (λ (s : CoreState). is_at_rest s.stage) (sym (gone_core x l a new)) ∙ rest);
+      kept = kept_push z o words hs l x.since x.begun x.kept (record { answer = a; at = length l }) w.kept (omega (arith, since, seen)) (λ n h. h) possible (omega arith) yet;
+    }
+
+-- the call goes on, or it is refused: nothing is noted
+pub known_on : (z : Layout) (o : Opening) (words : List ℕ) (hs : List Holding) (l : List Applied) (x : Part) (a : ℕ) → IsKnown z o words hs l x → is_at_rest (core_of x).stage ≡ false → IsPossible (core_of x) a → IsTrueYet z o words hs l (step_of (core_of x)) (record { answer = a; at = length l }) → IsKnown z o words hs l (gone x l a [])
+known_on z o words hs l x a w going possible yet =
+    let same = append-nil x.notes in
+    let seen = seen_within x.seen l w.seen in
+    let shown : seen_by 0 (x.notes ++ []) ≡ seen_by 0 x.notes = ap (seen_by 0) same in
+    let less = w.shown in
+    known_gone z o words hs l x a [] w possible yet (subst (LegalNotes o l (port_of x) 0) (sym same) w.notes) (omega (arith, shown, less, seen)) (λ rest. let earlier = w.earlier going in omega (arith, shown, earlier))
+
+-- the call ends with a note
+pub known_end : (z : Layout) (o : Opening) (words : List ℕ) (hs : List Holding) (l : List Applied) (x : Part) (a : ℕ) (n : Noted) → IsKnown z o words hs l x → IsPossible (core_of x) a → IsTrueYet z o words hs l (step_of (core_of x)) (record { answer = a; at = length l }) → IsLegal o l (port_of x) (seen_by 0 x.notes) n → seen_by 0 (x.notes ++ n ∷ []) ≤ length l → is_at_rest (advance (core_of x) a).stage ≡ true → IsKnown z o words hs l (gone x l a (n ∷ []))
+known_end z o words hs l x a n w possible yet legal shown rest =
+    known_gone z o words hs l x a (n ∷ []) w possible yet (LegalNotes-push o l (port_of x) 0 x.notes n w.notes legal) shown (λ r. absurd (false≢true (sym r ∙ rest)))
+
+-- what the ports before, here and behind hold
+pub holdings_split : (before : List Part) (x : Part) (after : List Part) → holdings (before ++ x ∷ after) ≡ holdings before ++ holding_of x ∷ holdings after
+holdings_split [] x after = refl
+holdings_split (b ∷ before) x after = ap (λ (hs : List Holding). holding_of b ∷ hs) (holdings_split before x after)
+
+-- what holds of all parts holds of those before, of this one and of those behind
+pub all_at : {A : Type 0} (P : A → Type 0) (before : List A) (x : A) (after : List A) → AllByRecursion P (before ++ x ∷ after) → P x
+all_at P [] x after w = w.0
+all_at P (b ∷ before) x after w = all_at P before x after w.1
+
+all_changed : {A : Type 0} (P Q : A → Type 0) → ((x : A) → P x → Q x) → (before : List A) (x y : A) (after : List A) → AllByRecursion P (before ++ x ∷ after) → Q y → AllByRecursion Q (before ++ y ∷ after)
+all_changed P Q f [] x y after w here = (here, all_weaker P Q f after w.1)
+all_changed P Q f (b ∷ before) x y after w here = (f b w.0, all_changed P Q f before x y after w.1 here)
+
+-- the state with the part y in the place of x, and with other words
+pub changed : (z : Layout) (o : Opening) (words words' : List ℕ) (before : List Part) (x y : Part) (after : List Part) (log es : List Applied) → Lawful z o words (before ++ x ∷ after) log →
+    Keeps z o (record { words = words; holdings = holdings before ++ holding_of x ∷ holdings after; log = log }) (record { words = words'; holdings = holdings before ++ holding_of y ∷ holdings after; log = log ++ es }) →
+    ((p : ℕ) → places_by p 0 (log ++ es) ≡ places_written (notes_by p (before ++ y ∷ after))) →
+    IsKnown z o words' (holdings (before ++ y ∷ after)) (log ++ es) y →
+    Lawful z o words' (before ++ y ∷ after) (log ++ es)
+changed z o words words' before x y after log es w keeps once known =
+    let old = holdings_split before x after in
+    let new = holdings_split before y after in
+    record {
+      memory = subst (λ (hs : List Holding). LawfulWords z o words' hs (log ++ es)) (sym new) keeps.lawful;
+      once = once;
+      known = all_changed (IsKnown z o words (holdings (before ++ x ∷ after)) log) (IsKnown z o words' (holdings (before ++ y ∷ after)) (log ++ es))
+          (λ v h. known_grows z o words words' (holdings (before ++ x ∷ after)) (holdings (before ++ y ∷ after)) log es
+          (λ n k l. subst (λ (hs : List Holding). IsLoaded z o words' hs (log ++ es) n k) (sym new) (keeps.loads n k (subst (λ (hs : List Holding). IsLoaded z o words hs log n k) old l))) v h)
+          before x y after w.known known;
+    }
+
+-- no other part has the port
+notes_none : (p : ℕ) (xs : List Part) → AllByRecursion (λ y. p ≢ port_of y) xs → notes_by p xs ≡ []
+notes_none p [] w = refl
+notes_none p (y ∷ ys) w =
+    ap (λ b. cond b y.notes [] ++ notes_by p ys) (ne_eqb (port_of y) p (λ e. w.0 (sym e))) ∙ notes_none p ys w.1
+
+-- the notes of a port, with one part taken out
+pub notes_split : (p : ℕ) (before : List Part) (x : Part) (after : List Part) → places_written (notes_by p (before ++ x ∷ after)) ≡ places_written (notes_by p before) ++ (places_written (cond (port_of x == p) x.notes []) ++ places_written (notes_by p after))
+notes_split p [] x after = places_written-append (cond (port_of x == p) x.notes []) (notes_by p after)
+notes_split p (b ∷ before) x after =
+    places_written-append (cond (port_of b == p) b.notes []) (notes_by p (before ++ x ∷ after))
+    ∙ ap (λ (l : List ℕ). places_written (cond (port_of b == p) b.notes []) ++ l) (notes_split p before x after)
+    ∙ sym (append_assoc (places_written (cond (port_of b == p) b.notes [])) (places_written (notes_by p before)) (places_written (cond (port_of x == p) x.notes []) ++ places_written (notes_by p after)))
+    ∙ ap (λ (l : List ℕ). l ++ (places_written (cond (port_of x == p) x.notes []) ++ places_written (notes_by p after))) (sym (places_written-append (cond (port_of b == p) b.notes []) (notes_by p before)))
+
+-- the same places are written where the part's notes write the same places
+pub once_same : (p : ℕ) (before : List Part) (x y : Part) (after : List Part) → port_of y ≡ port_of x → places_written y.notes ≡ places_written x.notes → places_written (notes_by p (before ++ y ∷ after)) ≡ places_written (notes_by p (before ++ x ∷ after))
+once_same p before x y after port same =
+    notes_split p before y after
+    ∙ ap (λ (l : List ℕ). places_written (notes_by p before) ++ (l ++ places_written (notes_by p after))) (chosen p (port_of y) (port_of x) x.notes y.notes port same)
+    ∙ sym (notes_split p before x after)
+  where
+    picked : (b : Bool) (ms ns : List Noted) → places_written ns ≡ places_written ms → places_written (cond b ns []) ≡ places_written (cond b ms [])
+    picked true ms ns e = e
+    picked false ms ns e = refl
+
+    chosen : (p q r : ℕ) (ms ns : List Noted) → q ≡ r → places_written ns ≡ places_written ms → places_written (cond (q == p) ns []) ≡ places_written (cond (r == p) ms [])
+    chosen p q r ms ns port e = ap (λ n. places_written (cond (n == p) ns [])) port ∙ picked (r == p) ms ns e
+
+-- the places of the port that writes one more, and those of each other port
+pub once_own : (before : List Part) (x : Part) (after : List Part) → AllByRecursion (λ y. port_of x ≢ port_of y) before → AllByRecursion (λ y. port_of x ≢ port_of y) after → places_written (notes_by (port_of x) (before ++ x ∷ after)) ≡ places_written x.notes
+once_own before x after b a =
+    notes_split (port_of x) before x after
+    ∙ ap (λ (ns : List Noted). places_written ns ++ (places_written (cond (port_of x == port_of x) x.notes []) ++ places_written (notes_by (port_of x) after))) (notes_none (port_of x) before b)
+    ∙ ap (λ (ns : List Noted). places_written (cond (port_of x == port_of x) x.notes []) ++ places_written ns) (notes_none (port_of x) after a)
+    ∙ append-nil (places_written (cond (port_of x == port_of x) x.notes []))
+    ∙ ap (λ t. places_written (cond t x.notes [])) (eq-eqb (port_of x) (port_of x) refl)
+
+pub once_other : (p : ℕ) (before : List Part) (x y : Part) (after : List Part) → port_of y ≡ port_of x → (port_of x ≡ p → ⊥) → places_written (notes_by p (before ++ y ∷ after)) ≡ places_written (notes_by p (before ++ x ∷ after))
+once_other p before x y after port other =
+    notes_split p before y after
+    ∙ ap (λ t. places_written (notes_by p before) ++ (places_written (cond t y.notes []) ++ places_written (notes_by p after))) (ne_eqb (port_of y) p (λ e. other (sym port ∙ e)))
+    ∙ ap (λ t. places_written (notes_by p before) ++ (places_written (cond t x.notes []) ++ places_written (notes_by p after))) (sym (ne_eqb (port_of x) p other))
+    ∙ sym (notes_split p before x after)

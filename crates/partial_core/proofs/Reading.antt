@@ -1,0 +1,183 @@
+-- The loads of a read, the first load of an update, and those of embedded scans.
+use Rattle.std.proofs.Common.{ℕ, ◌≡◌, ◌≢◌, ◌+◌, ◌<◌, ◌≤◌, ◌==◌, ◌++◌, Bool, true, false, cond, Option, Some, None, IsSome, List, [], ◌∷◌, length, get_or, take, refl, sym, ap, subst, ◌∙◌, arith}
+use Rattle.std.specs.Option.{option_map_or}
+use Rattle.std.proofs.lemmas.Bool.{false≢true, eqb-false}
+use Rattle.std.proofs.lemmas.List.{take_all}
+use Rattle.partial_model.specs.declared.history.Applied.{Applied}
+use Rattle.partial_model.specs.declared.history.Opening.{Opening}
+use Rattle.partial_model.specs.declared.call.Call.TheVariants as call
+use Rattle.partial_model.specs.declared.call.Answer.TheVariants as answer
+use Rattle.partial_model.specs.declared.call.Note.TheVariants as note
+use Rattle.partial_model.specs.History.{stamp_of, value_of}
+use Rattle.partial_model.specs.Notes.{Noted}
+use Rattle.partial_words.specs.declared.step.Step.{Step}
+use Rattle.partial_words.specs.declared.step.Step.TheVariants.{Load}
+use Rattle.partial_words.specs.Layout.{Layout, list_base}
+use Rattle.partial_words.proofs.ChainLemmas.{value_behind_stamp}
+use Rattle.partial_embedded.specs.Embedded as viewing
+use Rattle.partial_machine.specs.declared.stage.Change.{Change}
+use Rattle.partial_machine.specs.declared.stage.Reply.{Reply}
+use Rattle.partial_machine.specs.declared.stage.Reply.TheVariants as reply
+use Rattle.partial_machine.specs.declared.stage.Stage.{Stage}
+use Rattle.partial_machine.specs.declared.stage.Stage.TheVariants.{ReadBegun, LoadingValue, UpdateBegun, GettingSet, Viewing, ClaimingRecord, Scanning, Leaving, Finished}
+use Rattle.partial_machine.specs.Machine.{CoreState, at_stage, scanning, with_scanning, is_sound_at, expects, begin_getting, after_scanning, advance_at, step_at, reply_of, reply_at, IsRecord, IsPossibleAt}
+use Rattle.partial_state.specs.Views.{IsWithin}
+use Rattle.partial_state.specs.Holdings.{Holding}
+use Rattle.partial_state.specs.Loads.{Kept, IsLoaded}
+use Rattle.partial_state.proofs.LoadLaw.{loads_are_true}
+use Rattle.partial_knowledge.specs.Sets.{IsReadable}
+use Rattle.partial_knowledge.specs.Scans as scans
+use Rattle.partial_knowledge.proofs.Chains.{stamp_within, standing, standing_word, IsStanding}
+use Rattle.partial_core.specs.Lawful.{Part, Lawful, core_of, port_of, holding_at, holdings, led_by, joined_since, is_begun, is_at_rest, first_at, call_at, update_call, AreNotesOf}
+use Rattle.partial_core.proofs.Going.{knows_at, KnowsOld, KnowsScan, view_leads, view_loads}
+use Rattle.partial_core.proofs.Parts.{gone}
+use Rattle.partial_core.proofs.Steps.{LeadsAt, IsGoing, holding_in, known_here, sizes_here, sound_at, port_here, seen_here, going, load_quiet, load_ends, starting}
+
+-- what holds of both holds of the one that an option picks
+pub option_either : {A : Type 0} (f : Option A) (s t : CoreState) (P : CoreState → Type 0) → P s → P t → P (option_map_or (λ _. s) f t)
+option_either None s t P p q = q
+option_either (Some a) s t P p q = p
+
+module _ (z : Layout) (o : Opening) (words : List ℕ) (before : List Part) (x : Part) (after : List Part) (log : List Applied) (w : Lawful z o words (before ++ x ∷ after) log) where
+  -- what all ports hold
+  abbrev hs : List Holding
+  hs = holdings (before ++ x ∷ after)
+
+  -- a component's word is the stamp after the whole history
+  pub stamp_now : (j : ℕ) → j < z.m → get_or words j 0 ≡ stamp_of o log j
+  stamp_now j below = let values = w.memory.values in (w.memory.agrees j (omega (arith, values, below))).0
+
+  pub stamp_then : (j : ℕ) → j < z.m → get_or words j 0 ≡ stamp_of o (take (length log) log) j
+  stamp_then j below = stamp_now j below ∙ ap (λ (l : List Applied). stamp_of o l j) (sym (take_all (length log) log (omega arith)))
+
+  pub component_record : (j : ℕ) → j < z.m → IsRecord z (get_or words j 0)
+  component_record j below =
+      let values = w.memory.values in
+      let s = standing z o words hs log w.memory (length log) (get_or words j 0) (subst (IsWithin o log (length log)) (sym (stamp_then j below)) (stamp_within o log (length log) j (omega (arith, values, below)))) in
+      (s.above, s.within)
+
+  component_readable : (j : ℕ) → j < z.m → IsReadable z words hs j
+  component_readable j below = (omega (arith, below), λ far. absurd (omega (arith, below, far)))
+
+  -- a machine's sizes are those of the memory
+  at_sizes : (P : Layout → Type 0) → P z → P (core_of x).sizes
+  at_sizes P p = subst P (sym (sizes_here z o words before x after log w)) p
+
+  of_sizes : (P : Layout → Type 0) → P (core_of x).sizes → P z
+  of_sizes P p = subst P (sizes_here z o words before x after log w) p
+
+  -- what is sound of the machine as its call began
+  begun_at : (t : Stage) → x.begun.stage ≡ t → (P : Layout → Type 0) → (is_sound_at x.begun t → P x.begun.sizes) → P z
+  begun_at t is P f =
+      let k = known_here z o words before x after log w in
+      let sound = k.sound in
+      subst P k.sizes (f (subst (is_sound_at x.begun) is sound.stage))
+
+  pub read_begun : (j : ℕ) → (core_of x).stage ≡ ReadBegun j → LeadsAt z o words before x after log (core_of x) (ReadBegun j) (Load j)
+  read_begun j e =
+      let below : j < z.m = of_sizes (λ y. j < y.m) (sound_at z o words before x after log w (ReadBegun j) e) in
+      load_quiet z o words before x after log w (ReadBegun j) j (at_stage (core_of x) (LoadingValue (get_or words j 0))) e refl refl refl (component_readable j below) (at_sizes (λ y. IsRecord y (get_or words j 0)) (component_record j below)) refl refl refl
+
+  -- the value behind the stamp that a read has loaded
+  pub value_loaded : (stamp : ℕ) → (core_of x).stage ≡ LoadingValue stamp → LeadsAt z o words before x after log (core_of x) (LoadingValue stamp) (Load (stamp + 1))
+  value_loaded stamp e =
+      let g = going z o words before x after log w (LoadingValue stamp) e refl refl in
+      let known = g.knows in
+      let j = known.0 in
+      let first = first_at x.kept in
+      let order = g.order in
+      let inside = g.inside in
+      let begun_below : j < z.m = begun_at (ReadBegun j) known.1 (λ y. j < y.m) (λ h. h) in
+      let values = w.memory.values in
+      let below : j < length o.values = omega (arith, begun_below, values) in
+      let a = get_or words (stamp + 1) 0 in
+      let n : Noted = record { call = call.Read j; answer = answer.Read a stamp; note = Some (note.Saw first) } in
+      let s = standing z o words hs log w.memory first stamp (subst (IsWithin o log first) (sym known.2) (stamp_within o log first j below)) in
+      let value : a ≡ value_of o (take first log) j = ap (λ m. get_or words (m + 1) 0) known.2 ∙ value_behind_stamp o words log j first w.memory.agrees below in
+      load_ends z o words before x after log w (LoadingValue stamp) (stamp + 1) (at_stage (core_of x) (Finished (reply.Read a stamp))) e refl refl refl (standing_word z o words hs log w.memory stamp 1 (omega arith) s) tt refl
+      n refl (below, ((omega (arith, order, inside), value, known.2), g.low)) (omega (arith, order, inside)) refl
+      (record { call = call.Read j; note = note.Saw first; is = refl; made = ap (call_at x.begun) known.1; behind = let more = g.more (record { answer = a; at = length log }) in omega (arith, more); within = omega (arith, order, inside) })
+
+  -- a call that has made no step keeps no answer, and its machine is the one that has begun it
+  pub none_kept : (t : Stage) → (core_of x).stage ≡ t → is_begun t ≡ true → x.kept ≡ []
+  none_kept t e begun = starting z o words hs log x w.memory (known_here z o words before x after log w) (ap is_begun e ∙ begun)
+
+  pub begun_here : (t : Stage) → (core_of x).stage ≡ t → is_begun t ≡ true → core_of x ≡ x.begun
+  begun_here t e begun = ap (led_by x.begun) (none_kept t e begun)
+
+  -- the component has another stamp than the update expects
+  stamp_changed : (c : Change) (found : Option ℕ) → c.expected ≡ found → (core_of x).stage ≡ UpdateBegun c → expects c (get_or words c.component 0) ≡ false → LeadsAt z o words before x after log (core_of x) (UpdateBegun c) (Load c.component)
+  stamp_changed c None is e other = absurd (false≢true (sym other ∙ ap (λ (f : Option ℕ). option_map_or (λ m. m == get_or words c.component 0) f true) is))
+  stamp_changed c (Some expected) is e other =
+      let a = get_or words c.component 0 in
+      let below : c.component < z.m = of_sizes (λ y. c.component < y.m) (sound_at z o words before x after log w (UpdateBegun c) e).0 in
+      let values = w.memory.values in
+      let n : Noted = record { call = call.UpdateIf c.component expected c.value; answer = answer.Changed a; note = Some (note.Saw (length log)) } in
+      let differs : a ≢ expected = λ same. eqb-false expected a (ap (λ (f : Option ℕ). option_map_or (λ m. m == a) f true) (sym is) ∙ other) (sym same) in
+      let begun = begun_here (UpdateBegun c) e refl in
+      let kept = none_kept (UpdateBegun c) e refl in
+      load_ends z o words before x after log w (UpdateBegun c) c.component (at_stage (core_of x) (Finished (reply.Changed a))) e refl (ap (λ b. cond b (begin_getting (core_of x) c a) (at_stage (core_of x) (Finished (reply.Changed a)))) other) refl
+      (component_readable c.component below) (at_sizes (λ y. IsRecord y a) (component_record c.component below)) refl
+      n refl (omega (arith, below, values), ((omega arith, sym (stamp_then c.component below), differs), seen_here z o words before x after log w)) (omega arith) refl
+      (record {
+        call = call.UpdateIf c.component expected c.value;
+        note = note.Saw (length log);
+        is = refl;
+        made = ap (call_at x.begun) (sym (ap (λ (d : CoreState). d.stage) begun) ∙ e) ∙ ap (λ (f : Option ℕ). Some (update_call c.component f c.value)) is;
+        behind = let first : first_at (x.kept ++ record { answer = a; at = length log } ∷ []) ≡ length log = ap (λ (l : List Kept). first_at (l ++ record { answer = a; at = length log } ∷ [])) kept in omega (arith, first);
+        within = omega arith;
+      })
+
+  -- an update goes on where the component has the stamp that it expects
+  pub update_begun : (c : Change) → (core_of x).stage ≡ UpdateBegun c → LeadsAt z o words before x after log (core_of x) (UpdateBegun c) (Load c.component)
+  update_begun c e = by_expected (expects c (get_or words c.component 0)) refl
+    where
+      by_expected : (b : Bool) → expects c (get_or words c.component 0) ≡ b → LeadsAt z o words before x after log (core_of x) (UpdateBegun c) (Load c.component)
+      by_expected true is =
+          let a = get_or words c.component 0 in
+          let below : c.component < z.m = of_sizes (λ y. c.component < y.m) (sound_at z o words before x after log w (UpdateBegun c) e).0 in
+          load_quiet z o words before x after log w (UpdateBegun c) c.component (begin_getting (core_of x) c a) e refl (ap (λ b. cond b (begin_getting (core_of x) c a) (at_stage (core_of x) (Finished (reply.Changed a)))) is) refl
+          (component_readable c.component below) (at_sizes (λ y. IsRecord y a) (component_record c.component below)) refl refl refl
+      by_expected false is = stamp_changed c c.expected refl e is
+
+  -- what an embedded scan is to load may be loaded, and what it answers is possible
+  view_now : (indices : List ℕ) (low high : ℕ) (step : Step) → (core_of x).embedded.sizes ≡ (core_of x).sizes → viewing.GoTogether indices (scanning (core_of x)) → low ≤ high → high ≤ length log → scans.Knows z o words hs log indices low high (scanning (core_of x)) → viewing.step_of indices (scanning (core_of x)) ≡ Some step → (n : ℕ) × (step ≡ Load n) × IsReadable z words hs n × viewing.IsPossible (scanning (core_of x)) (get_or words n 0)
+  view_now indices low high step same together order inside knows due =
+      let s = core_of x in
+      let load = view_loads s.embedded.sizes indices s.rows.last s.embedded.stage (subst (λ (f : Option Step). IsSome f) (sym due) refl) in
+      let leads = view_leads z o words hs log indices low high (scanning s) (same ∙ sizes_here z o words before x after log w) w.memory together order inside knows in
+      let readable = leads.readable load.0 load.1 in
+      let is : step ≡ Load load.0 = cc in
+      (load.0, is, readable, leads.possible load.0 load.1 (loads_are_true z o words hs log load.0 w.memory readable.0 readable.1))
+
+  -- an embedded scan of the indices found
+  pub viewing_leads : (c : Change) (old : ℕ) (step : Step) → (core_of x).stage ≡ Viewing c old → step_at (core_of x) (Viewing c old) ≡ Some step → LeadsAt z o words before x after log (core_of x) (Viewing c old) step
+  viewing_leads c old step e due =
+      let s = core_of x in
+      let g = going z o words before x after log w (Viewing c old) e refl refl in
+      let sound = sound_at z o words before x after log w (Viewing c old) e in
+      let now = view_now s.found.indices (first_at x.kept) g.high step sound.2 sound.1 g.order g.inside g.knows.2 due in
+      let n = now.0 in
+      let t : CoreState = with_scanning s (viewing.advance s.found.indices (scanning s) (get_or words n 0)) in
+      let next = viewing.step_of s.found.indices (scanning t) in
+      subst (λ (f : Step). LeadsAt z o words before x after log s (Viewing c old) f) (sym now.1)
+      (load_quiet z o words before x after log w (Viewing c old) n (after_scanning t s.found.indices (ClaimingRecord c old)) e (due ∙ ap (λ (f : Step). Some f) now.1) refl refl now.2 now.3
+      (option_either next t (at_stage t (ClaimingRecord c old)) (λ u. holding_at u (joined_since x) ≡ holding_in s (Viewing c old) (joined_since x)) (ap (λ (u : Stage). holding_in t u (joined_since x)) e) refl)
+      refl
+      (option_either next t (at_stage t (ClaimingRecord c old)) (λ u. AreNotesOf (gone x log (get_or words n 0) []) (reply_of u) []) (subst (λ (u : Stage). AreNotesOf (gone x log (get_or words n 0) []) (reply_at u) []) (sym e) refl) refl))
+
+  -- an embedded scan of a scan's positions
+  pub scanning_leads : (step : Step) → (core_of x).stage ≡ Scanning → step_at (core_of x) Scanning ≡ Some step → LeadsAt z o words before x after log (core_of x) Scanning step
+  scanning_leads step e due =
+      let s = core_of x in
+      let g = going z o words before x after log w Scanning e refl refl in
+      let sound = sound_at z o words before x after log w Scanning e in
+      let now = view_now s.asked (joined_since x) g.high step sound.1 sound.0 g.knows.2 g.inside g.knows.4 due in
+      let n = now.0 in
+      let t : CoreState = with_scanning s (viewing.advance s.asked (scanning s) (get_or words n 0)) in
+      let next = viewing.step_of s.asked (scanning t) in
+      subst (λ (f : Step). LeadsAt z o words before x after log s Scanning f) (sym now.1)
+      (load_quiet z o words before x after log w Scanning n (after_scanning t s.asked Leaving) e (due ∙ ap (λ (f : Step). Some f) now.1) refl refl now.2 now.3
+      (option_either next t (at_stage t Leaving) (λ u. holding_at u (joined_since x) ≡ holding_in s Scanning (joined_since x)) (ap (λ (u : Stage). holding_in t u (joined_since x)) e) refl)
+      refl
+      (option_either next t (at_stage t Leaving) (λ u. AreNotesOf (gone x log (get_or words n 0) []) (reply_of u) []) (subst (λ (u : Stage). AreNotesOf (gone x log (get_or words n 0) []) (reply_at u) []) (sym e) refl) refl))
