@@ -20,7 +20,7 @@ use Rattle.std.specs.Option.{IsSome}
 use Rattle.std.proofs.lemmas.Bool.{false≢true}
 use Rattle.partial_model.specs.declared.history.Applied.{Applied}
 use Rattle.partial_replay.specs.Place.{HasLeastPlace}
-use Rattle.partial_replay.proofs.PortLaws.{get_below}
+use Rattle.partial_replay.proofs.PortLaws.{get_below, some_is}
 use Rattle.partial_replay.specs.Trace.{Moment}
 use Rattle.partial_replay.specs.CallSteps.{AreStepsOf}
 use Rattle.partial_replay.specs.PortState.{IsGoing}
@@ -108,10 +108,6 @@ listed_length [] [] w = refl
 listed_length (c ∷ plans) (t ∷ ports) w = ap suc (listed_length plans ports w.2)
 listed_length [] (t ∷ ports) w = absurd w
 listed_length (c ∷ plans) [] w = absurd w
-
-some_is : {A : Type 0} (f : Option A) → IsSome f → (a : A) × (f ≡ Some a)
-some_is None w = absurd (false≢true w)
-some_is (Some a) w = (a, refl)
 
 -- the ports of a run list their calls
 pub run_listed : (o : Opening) (log : List Applied) (q : ℕ) (plans : List (List Call)) (parts : List Part) (ports : List Port) (m : ℕ) → PortsFit o log q plans parts ports → ArePlans m plans → AreListed plans ports

@@ -25,14 +25,14 @@ line_long (c ∷ cs) =
     let all : length (port_line (c ∷ cs)) ≡ 4 + length (field (call_text c) ++ flat_map next_call cs) = length-append (codes "port") (field (call_text c) ++ flat_map next_call cs) in
     omega (arith, rest, behind, one, all)
 
-served : (m : ℕ) (cs : List Call) → AllByRecursion (IsCall m) cs → AllByRecursion IsServed cs
+served : (m : ℕ) (cs : List Call) → AllByRecursion (IsCall m) cs → AllByRecursion (IsServed m) cs
 served m [] w = tt
 served m (call.Update j v ∷ cs) w = (tt, served m cs w.1)
 served m (call.Scan js ∷ cs) w = absurd w.0
 served m (call.Read j ∷ cs) w = (tt, served m cs w.1)
 served m (call.UpdateIf j s v ∷ cs) w = (tt, served m cs w.1)
 
-lines_fit : (m n : ℕ) (plans : List (List Call)) → AllByRecursion (λ cs. AllByRecursion (IsCall m) cs) plans → length (flat_map (λ cs. ended (port_line cs)) plans) ≤ n → n < 2 ^ 32 → ArePlans plans
+lines_fit : (m n : ℕ) (plans : List (List Call)) → AllByRecursion (λ cs. AllByRecursion (IsCall m) cs) plans → length (flat_map (λ cs. ended (port_line cs)) plans) ≤ n → n < 2 ^ 32 → ArePlans m plans
 lines_fit m n [] w l s = tt
 lines_fit m n (cs ∷ plans) w l s =
     let rest = flat_map (λ ds. ended (port_line ds)) plans in
@@ -42,7 +42,7 @@ lines_fit m n (cs ∷ plans) w l s =
     ((omega (arith, all, one, long, l, s), served m cs w.0), lines_fit m n plans w.1 (omega (arith, all, l)) s)
 
 -- a plan's calls are ones that the machine serves, and their numbers fit 32 bits
-pub are_plans : (p : PlanView) → IsPlan p → ArePlans p.ports
+pub are_plans : (p : PlanView) → IsPlan p → ArePlans p.sizes.m p.ports
 are_plans p w =
     let ports = flat_map (λ cs. ended (port_line cs)) p.ports in
     let last = ended (steps_line p.steps p.rest) in

@@ -1,5 +1,5 @@
 -- How a port of a replay goes on as its part's port.
-use Rattle.std.proofs.Common.{ℕ, ◌==◌, ◌≢◌, set, inl, inr, zero, suc, ◌≡◌, ◌+◌, ◌<◌, ◌≤◌, ◌++◌, Bool, true, false, cond, List, [], ◌∷◌, length, take, map, get_or, Option, Some, None, IfSome, IsSomeAnd, MatchOption, MatchBool, slice_get, nat_lt, refl, sym, ◌∙◌, ap, subst, arith, length-append}
+use Rattle.std.proofs.Common.{ℕ, ◌==◌, ◌≢◌, set, inl, inr, zero, suc, ◌≡◌, ◌+◌, ◌<◌, ◌≤◌, ◌++◌, Bool, true, false, cond, List, [], ◌∷◌, length, take, map, get_or, Option, Some, None, IsSome, IfSome, IsSomeAnd, MatchOption, MatchBool, slice_get, nat_lt, refl, sym, ◌∙◌, ap, subst, arith, length-append}
 use Rattle.std.specs.List.{AllByRecursion, cons_option, list_all}
 use Rattle.std.specs.Option.{option_map, option_map_or}
 use Rattle.std.proofs.lemmas.Bool.Decides.{eqb_tells}
@@ -49,6 +49,10 @@ match_none (Some a) P Q m is = cc
 
 pub match_some : {A : Type 0} (f : Option A) (P : Type 0) (Q : A → Type 0) (a : A) → MatchOption f P Q → f ≡ Some a → Q a
 match_some f P Q a m is = subst (λ g. MatchOption g P Q) is m
+
+pub some_is : {A : Type 0} (f : Option A) → IsSome f → (a : A) × (f ≡ Some a)
+some_is None w = absurd (false≢true w)
+some_is (Some a) w = (a, refl)
 
 -- the element at a place
 pub get_is : {A : Type 0} (xs : List A) (k : ℕ) (d : A) → k < length xs → slice_get xs k ≡ Some (get_or xs k d)
@@ -323,7 +327,7 @@ begun_sizes s (call.Read j) = refl
 begun_sizes s (call.UpdateIf j x v) = refl
 
 -- what is between calls
-between_of : (o : Opening) (log : List Applied) (calls : List Call) (p : ℕ) (x : Part) (port : Port) → PortFits o log calls p x port → port.under_way ≡ None → IsBetween x port.core
+pub between_of : (o : Opening) (log : List Applied) (calls : List Call) (p : ℕ) (x : Part) (port : Port) → PortFits o log calls p x port → port.under_way ≡ None → IsBetween x port.core
 between_of o log calls p x port w none = subst (λ (f : Option UnderWay). MatchOption f (IsBetween x port.core) (IsUnderWay (length log) calls x port.core port.finished.items)) none w.way
 
 -- a call begins at a port between calls

@@ -1,5 +1,5 @@
 -- What a replay has come to is an outcome of its plan.
-use Rattle.std.proofs.Common.{ℕ, false, zero, suc, ◌⊎◌, ◌≡◌, ◌+◌, ◌≤◌, List, [], ◌∷◌, length, get_or, Some, slice_get, refl, sym, ◌∙◌, ap, subst, inl, inr, arith}
+use Rattle.std.proofs.Common.{ℕ, Bool, true, false, cond, zero, suc, ◌⊎◌, ◌≡◌, ◌+◌, ◌<◌, ◌≤◌, ◌==◌, List, [], ◌∷◌, length, map, take, get_or, Some, slice_get, refl, sym, ◌∙◌, ap, subst, inl, inr, arith}
 use Rattle.std.specs.List.{filter_map}
 use Rattle.std.proofs.lemmas.Option.{get_or_from_slice_get}
 use Rattle.partial_model.specs.declared.history.Applied.{Applied}
@@ -12,10 +12,13 @@ use Rattle.partial_words.specs.Layout.{Layout, pool_base}
 use Rattle.partial_words.specs.Record.{value_of}
 use Rattle.partial_words.specs.Step.{Leads}
 use Rattle.partial_words.specs.Chain.{Agrees, AreOpeningWords}
+use Rattle.std.specs.List.{sum_by}
+use Rattle.std.proofs.lemmas.List.Sums.{sum_by-cons}
+use Rattle.partial_core.specs.Lawful.{holdings}
 use Rattle.partial_text.specs.PlanText.{PlanView}
 use Rattle.partial_machine.specs.Machine.{CoreState, fresh}
-use Rattle.partial_replay.specs.CallSteps.{AreStepsOf}
-use Rattle.partial_replay.specs.PortState.{PortFits}
+use Rattle.partial_replay.specs.CallSteps.{AreStepsOf, most_steps}
+use Rattle.partial_replay.specs.PortState.{PortFits, AreFew}
 use Rattle.partial_replay.proofs.PortSteps.{ending_begun, steps_begun, events_steps, none_moments}
 use Rattle.partial_text.specs.declared.outcome.Outcome.{Outcome}
 use Rattle.partial_replay.specs.declared.port.Port.{Port}
@@ -30,7 +33,7 @@ use Rattle.partial_replay.specs.RunState.{AreStarted, IsRun, IsRunOf, Tells, cal
 use Rattle.partial_replay.specs.TurnState.{StopsAtStep, StopAtSteps, IsDone, HasMadeTurns}
 use Rattle.partial_replay.proofs.PortLaws.{get_below}
 use Rattle.partial_replay.proofs.RunSteps.{port_in, ports_length}
-use Rattle.partial_replay.proofs.Told.{begun_by, least_told, run_legal, listed_at, none_listed, first_begun, all_made}
+use Rattle.partial_replay.proofs.Told.{begun_by, few_told, least_told, run_legal, listed_at, none_listed, first_begun, all_made}
 use Rattle.partial_replay.proofs.TurnLaws.{follows_ports, turns_told}
 use Rattle.partial_replay.proofs.Traces.{entries_told}
 
@@ -113,50 +116,91 @@ module _ (plans : List (List Call)) (z : Layout) (o : Opening) (words : List ℕ
     | inr past ↦ subst EndInStep (sym (none_listed o log q 0 plans w.parts ports (inr (omega (arith, past))) w.fit)) tt
   ]
 
+-- calls that have made no more steps than they may, and how many those are
+few_by : (z : Layout) (q : ℕ) (cs : List Called) → AreFew z cs → AreFew z (calls_by q cs)
+few_by z q [] w = tt
+few_by z q (c ∷ cs) w = kept (c.port == q) (calls_by q cs) (few_by z q cs w.1)
+  where
+    kept : (b : Bool) (rest : List Called) → AreFew z rest → AreFew z (cond b (c ∷ rest) rest)
+    kept true rest few = (w.0, few)
+    kept false rest few = few
+
+few_sum : (z : Layout) (cs : List Called) → AreFew z cs → sum_by (λ (c : Called). c.steps) cs ≤ sum_by (most_steps z) (map (λ (c : Called). c.call) cs)
+few_sum z [] w = omega arith
+few_sum z (c ∷ cs) w =
+    let rest = few_sum z cs w.1 in
+    let one = w.0 in
+    let steps = sum_by-cons (λ (d : Called). d.steps) c cs in
+    let most = sum_by-cons (most_steps z) c.call (map (λ (d : Called). d.call) cs) in
+    omega (arith, rest, one, steps, most)
+
+take_sum : (f : Call → ℕ) (n : ℕ) (cs : List Call) → sum_by f (take n cs) ≤ sum_by f cs
+take_sum f zero cs = omega arith
+take_sum f (suc n) [] = omega arith
+take_sum f (suc n) (c ∷ cs) =
+    let rest = take_sum f n cs in
+    let front = sum_by-cons f c (take n cs) in
+    let all = sum_by-cons f c cs in
+    omega (arith, rest, front, all)
+
+-- a port with more turns than its calls make steps at most makes them all
+calls_wait : (z : Layout) (rest : Bool) (turns : ℕ) (plan : List Call) (cs : List Called) → AreFew z cs → AreFirstOf plan cs → sum_by (most_steps z) plan < turns → HaveMade rest turns (sum_by (λ (c : Called). c.steps) cs) plan cs → AreAllMade plan cs
+calls_wait z true turns plan cs few first less made = made
+calls_wait z false turns plan cs few first less made =
+    let steps = few_sum z cs few in
+    let front : sum_by (most_steps z) (map (λ (c : Called). c.call) cs) ≡ sum_by (most_steps z) (take (length cs) plan) = ap (sum_by (most_steps z)) first in
+    let all = take_sum (most_steps z) (length cs) plan in
+    made.2 (omega (arith, steps, front, all, less))
+
 -- a run that has come to its end tells an outcome of its plan
-pub replay_told : (p : PlanView) (run : Run) (outcome : Outcome) → IsRun p.ports run → AreStarted run.ports.items → run.sizes ≡ p.sizes → run.opening.values ≡ p.initial → HasMadeTurns p.ports (turns_of p) run → (p.rest ≡ false → StopAtSteps p.steps run) → Tells p.ports run outcome → IsReplayOf p outcome
+pub replay_told : (p : PlanView) (run : Run) (outcome : Outcome) → IsRun p.ports run → AreStarted run.ports.items → run.memory.sizes ≡ p.sizes → run.opening.values ≡ p.initial → HasMadeTurns p.ports (turns_of p) run → (p.rest ≡ false → StopAtSteps p.steps run) → Tells p.ports run outcome → IsReplayOf p outcome
 replay_told p run outcome w started sizes values f ends t =
-    let z = run.sizes in
+    let z = run.memory.sizes in
     let o = run.opening in
     let legal : LegalOutcome outcome.opening outcome.history.items outcome.calls.items =
     subst (λ (h : List Applied). LegalOutcome outcome.opening h outcome.calls.items) (sym t.history)
-    (subst (λ (l : List Called). LegalOutcome outcome.opening run.history.items l) (sym t.calls)
-    (subst (λ (v : Opening). LegalOutcome v run.history.items (calls_in p.ports run.ports.items)) (sym t.opening) (run_legal p.ports z o run.words.items run.ports.items run.history.items run.trace.items w))) in
+    (subst (λ (l : List Called). LegalOutcome outcome.opening run.memory.history.items l) (sym t.calls)
+    (subst (λ (v : Opening). LegalOutcome v run.memory.history.items (calls_in p.ports run.ports.items)) (sym t.opening) (run_legal p.ports z o run.memory.words.items run.ports.items run.memory.history.items run.memory.trace.items w))) in
     let agrees : Agrees outcome.opening outcome.words.items outcome.history.items =
     subst (λ (h : List Applied). Agrees outcome.opening outcome.words.items h) (sym t.history)
-    (subst (λ (ws : List ℕ). Agrees outcome.opening ws run.history.items) (sym t.words)
-    (subst (λ (v : Opening). Agrees v run.words.items run.history.items) (sym t.opening) w.lawful.agrees)) in
+    (subst (λ (ws : List ℕ). Agrees outcome.opening ws run.memory.history.items) (sym t.words)
+    (subst (λ (v : Opening). Agrees v run.memory.words.items run.memory.history.items) (sym t.opening) w.lawful.memory.agrees)) in
     let D = IsDone p.ports run.ports.items in
     let calls = calls_in p.ports run.ports.items in
-    let ports = ports_of run.trace.items in
-    let events = events_told p.ports z o run.words.items run.ports.items run.history.items run.trace.items w started in
-    let steps : (q : ℕ) → steps_by q calls ≡ events_in q ports = λ q. events_steps (fresh z q) (events q).0 z.m q run.trace.items (calls_by q calls) (events q).1 in
+    let ports = ports_of run.memory.trace.items in
+    let events = events_told p.ports z o run.memory.words.items run.ports.items run.memory.history.items run.memory.trace.items w started in
+    let steps : (q : ℕ) → steps_by q calls ≡ events_in q ports = λ q. events_steps (fresh z q) (events q).0 z.m q run.memory.trace.items (calls_by q calls) (events q).1 in
     let ending : (q : ℕ) → p.rest ≡ false → events_in q ports ≡ turns_by q p.steps → EndInStep (calls_by q calls) = λ q no same.
-    ending_told p.ports z o run.words.items run.ports.items run.history.items run.trace.items w started q (ends no q same) in
+    ending_told p.ports z o run.memory.words.items run.ports.items run.memory.history.items run.memory.trace.items w started q (ends no q same) in
     let made : (q : ℕ) → HaveMade p.rest (turns_by q p.steps) (steps_by q calls) (get_or p.ports q []) (calls_by q calls) = λ q.
     subst (λ n. HaveMade p.rest (turns_by q p.steps) n (get_or p.ports q []) (calls_by q calls)) (sym (steps q))
     (turns_told D p ports q (calls_by q calls)
-    (done_told p.ports z o run.words.items run.ports.items run.history.items run.trace.items w q)
-    (past_told p.ports z o run.words.items run.ports.items run.history.items run.trace.items w q) (ending q) f) in
+    (done_told p.ports z o run.memory.words.items run.ports.items run.memory.history.items run.memory.trace.items w q)
+    (past_told p.ports z o run.memory.words.items run.ports.items run.memory.history.items run.memory.trace.items w q) (ending q) f) in
     let turns : ports ≡ ports_in (turns_of p) (λ q. steps_by q calls) = follows_ports D (turns_of p) ports (λ q. steps_by q calls) steps f in
-    let entries = entries_told z.m o run.words.items run.trace.items run.history.items w.lawful.history w.lawful.agrees w.entries in
+    let entries = entries_told z.m o run.memory.words.items run.memory.trace.items run.memory.history.items w.lawful.memory.history w.lawful.memory.agrees w.entries in
+    let firsts : (q : ℕ) → AreFirstOf (get_or p.ports q []) (calls_by q outcome.calls.items) = λ q. subst (λ (l : List Called). AreFirstOf (get_or p.ports q []) (calls_by q l)) (sym t.calls) (calls_told p.ports z o run.memory.words.items run.ports.items run.memory.history.items run.memory.trace.items w q) in
+    let all_made : (q : ℕ) → HaveMade p.rest (turns_by q p.steps) (steps_by q outcome.calls.items) (get_or p.ports q []) (calls_by q outcome.calls.items) = λ q. subst (λ (l : List Called). HaveMade p.rest (turns_by q p.steps) (steps_by q l) (get_or p.ports q []) (calls_by q l)) (sym t.calls) (made q) in
+    let few : AreFew p.sizes outcome.calls.items = subst (λ (y : Layout). AreFew y outcome.calls.items) sizes (subst (AreFew z) (sym t.calls) (few_told z o run.memory.words.items (holdings w.parts) run.memory.history.items 0 p.ports w.parts run.ports.items w.lawful.memory.sizes w.fit w.lawful.known)) in
     record {
       values = ap (λ (v : Opening). v.values) t.opening ∙ values;
-      first = ap (λ (v : Opening). v.first) t.opening ∙ w.lawful.stamps ∙ ap pool_base sizes;
+      first = ap (λ (v : Opening). v.first) t.opening ∙ w.lawful.memory.stamps ∙ ap pool_base sizes;
       legal = legal;
       agrees = agrees;
       places = subst (λ (v : Opening). AllByRecursion (HasLeastPlace v outcome.history.items) outcome.calls.items) (sym t.opening)
           (subst (λ (h : List Applied). AllByRecursion (HasLeastPlace o h) outcome.calls.items) (sym t.history)
-          (subst (AllByRecursion (HasLeastPlace o run.history.items)) (sym t.calls) (least_told o run.history.items 0 p.ports w.parts run.ports.items w.fit)));
-      calls = λ q. subst (λ (l : List Called). AreFirstOf (get_or p.ports q []) (calls_by q l)) (sym t.calls) (calls_told p.ports z o run.words.items run.ports.items run.history.items run.trace.items w q);
+          (subst (AllByRecursion (HasLeastPlace o run.memory.history.items)) (sym t.calls) (least_told o run.memory.history.items 0 p.ports w.parts run.ports.items w.fit)));
+      calls = firsts;
       opened = w.opened;
       opens = subst (λ (l : Layout). AreOpeningWords l p.initial w.opened) sizes (subst (λ (l : List ℕ). AreOpeningWords z l w.opened) values w.opens);
-      leads = subst (λ (es : List Event). Leads w.opened es outcome.words.items) (sym t.trace) (subst (λ (ws : List ℕ). Leads w.opened run.trace.items ws) (sym t.words) w.leads);
+      leads = subst (λ (es : List Event). Leads w.opened es outcome.words.items) (sym t.trace) (subst (λ (ws : List ℕ). Leads w.opened run.memory.trace.items ws) (sym t.words) w.leads);
       steps = t.steps ∙ ap length (sym t.trace);
-      entries = t.history ∙ entries ∙ ap (λ (l : Layout). filter_map (entry_of l.m (value_of run.words.items)) run.trace.items) sizes ∙ ap (λ (ws : List ℕ). filter_map (entry_of p.sizes.m (value_of ws)) run.trace.items) (sym t.words) ∙ ap (filter_map (entry_of p.sizes.m (value_of outcome.words.items))) (sym t.trace);
+      entries = t.history ∙ entries ∙ ap (λ (l : Layout). filter_map (entry_of l.m (value_of run.memory.words.items)) run.memory.trace.items) sizes ∙ ap (λ (ws : List ℕ). filter_map (entry_of p.sizes.m (value_of ws)) run.memory.trace.items) (sym t.words) ∙ ap (filter_map (entry_of p.sizes.m (value_of outcome.words.items))) (sym t.trace);
       events = λ q. subst (λ (l : Layout). (last : CoreState) × AreStepsOf (fresh l q) (calls_by q outcome.calls.items) (moments_by l.m q outcome.trace.items) last) sizes
           (subst (λ (es : List Event). (last : CoreState) × AreStepsOf (fresh z q) (calls_by q outcome.calls.items) (moments_by z.m q es) last) (sym t.trace)
-          (subst (λ (l : List Called). (last : CoreState) × AreStepsOf (fresh z q) (calls_by q l) (moments_by z.m q run.trace.items) last) (sym t.calls) (events q)));
+          (subst (λ (l : List Called). (last : CoreState) × AreStepsOf (fresh z q) (calls_by q l) (moments_by z.m q run.memory.trace.items) last) (sym t.calls) (events q)));
       turns = ap ports_of t.trace ∙ turns ∙ ap (λ (l : List Called). ports_in (turns_of p) (λ q. steps_by q l)) (sym t.calls);
-      made = λ q. subst (λ (l : List Called). HaveMade p.rest (turns_by q p.steps) (steps_by q l) (get_or p.ports q []) (calls_by q l)) (sym t.calls) (made q);
+      few = few;
+      waits = λ q less. calls_wait p.sizes p.rest (turns_by q p.steps) (get_or p.ports q []) (calls_by q outcome.calls.items) (few_by p.sizes q outcome.calls.items few) (firsts q) less (all_made q);
+      made = all_made;
     }

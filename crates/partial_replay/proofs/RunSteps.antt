@@ -1,40 +1,54 @@
 -- A turn of a port among the others.
-use Rattle.std.proofs.Common.{ℕ, zero, suc, ◌≡◌, ◌+◌, ◌-◌, ◌*◌, ◌<◌, ◌≤◌, ◌==◌, ◌++◌, Bool, true, false, cond, List, [], ◌∷◌, length, get_or, set, Option, Some, None, MatchOption, MatchBool, slice_get, refl, sym, ◌∙◌, ap, subst, arith, length-append, get_or-set_other}
+use Rattle.std.proofs.Common.{ℕ, zero, suc, ◌≡◌, ◌+◌, ◌-◌, ◌*◌, ◌<◌, ◌≤◌, ◌==◌, ◌++◌, Bool, true, false, cond, List, [], ◌∷◌, length, get_or, set, Option, Some, None, IfSome, MatchOption, MatchBool, map, nat_lt, ◌^◌, slice_get, Result, Ok, Err, OnOk, refl, sym, ◌∙◌, ap, subst, arith, length-append, get_or-set_other, mul-le-mul, mul-suc}
+use Rattle.std.proofs.Math.Nat.{mul-le-mul_left}
 use Rattle.std.specs.Option.{option_map_or, is_some, IsSome}
 use Rattle.std.proofs.lemmas.Bool.{false≢true}
 use Rattle.std.proofs.lemmas.List.{append-nil, length_push}
 use Rattle.partial_model.specs.declared.history.Applied.{Applied}
 use Rattle.partial_model.specs.declared.history.Opening.{Opening}
 use Rattle.partial_model.specs.declared.call.Call.{Call}
+use Rattle.partial_model.specs.declared.call.Call.TheVariants as call
 use Rattle.partial_model.specs.declared.call.Called.{Called}
 use Rattle.partial_model.proofs.NotesLemmas.{LegalNotes-grows}
 use Rattle.partial_words.specs.declared.step.Step.{Step}
 use Rattle.partial_words.specs.declared.step.Step.TheVariants.{Load, Store, Exchange, Add}
 use Rattle.partial_words.specs.declared.step.Event.{Event}
-use Rattle.partial_words.specs.Layout.{Layout, total}
+use Rattle.partial_words.specs.Layout.{Layout, IsLayout, total, pool_counter, slot_word}
 use Rattle.partial_words.specs.Step.{Leads, answer_of, words_after}
-use Rattle.partial_words.specs.Record.{record_block, value_of}
+use Rattle.partial_words.specs.Record.{value_of}
+use Rattle.partial_words.specs.Announcement.{announcement_block}
+use Rattle.partial_active.specs.declared.get_set.Stage.{Stage as SetStage}
+use Rattle.partial_active.specs.declared.get_set.Stage.TheVariants.{Head, ListLen, ListLow, ListHigh, Counter, Slot, Len as NamedLen, Index as NamedIndex, Claim, Write, Publish, Done as SetDone}
+use Rattle.partial_active.specs.declared.join.JoinStage.{JoinStage}
+use Rattle.partial_active.specs.declared.join.JoinStage.TheVariants.{Claiming, Storing, Joined, Spent}
+use Rattle.partial_active.specs.GetSet as finding
+use Rattle.partial_active.specs.Join.{join_step}
+use Rattle.partial_embedded.specs.declared.embedded.Stage.{Stage as ViewStage}
+use Rattle.partial_embedded.specs.Embedded as viewing
 use Rattle.partial_machine.specs.declared.stage.Change.{Change}
 use Rattle.partial_machine.specs.declared.stage.Reply.{Reply}
 use Rattle.partial_machine.specs.declared.stage.Stage.{Stage}
-use Rattle.partial_machine.specs.declared.stage.Stage.TheVariants.{Idle, ReadBegun, LoadingValue, UpdateBegun, LoadingListHead, LoadingSlotCounter, ClaimingRecord, StoringRecord, Exchanging, Finished}
-use Rattle.partial_machine.specs.Machine.{CoreState, at_stage, advance, step_at, reply_of, IsStage, steps_left}
-use Rattle.partial_core.specs.Lawful.Space.{Pool}
-use Rattle.partial_core.specs.Lawful.{Part, Lawful, IsWithoutScans, IsKnown, IsTied, IsOwn, own_of, own_at, core_of, is_begun, is_at_rest, IsMachineOf, MayBegin, moved, added, added_at}
-use Rattle.partial_core.proofs.ListLemmas.{all_at}
-use Rattle.partial_core.proofs.PartLemmas.{stage_known, sizes_led}
-use Rattle.partial_core.proofs.Frames.{if_some_at}
+use Rattle.partial_machine.specs.declared.stage.Stage.TheVariants.{Idle, ReadBegun, LoadingValue, UpdateBegun, GettingSet, Viewing, ClaimingRecord, StoringRecord, Exchanging, ScanBegun, StoringAnnouncement, Joining, Scanning, Leaving, Finished}
+use Rattle.partial_machine.specs.Machine.{CoreState, AreComponents, IsInPool, is_sound_at, advance, step_at, step_of, reply_of, record_size, record_words, steps_left}
+use Rattle.partial_machine.proofs.Sound.{size_few}
+use Rattle.partial_state.specs.Holdings.{Holding, others_of}
+use Rattle.partial_state.specs.LawfulWords.{IsDue}
+use Rattle.partial_state.proofs.HoldingLemmas.{if_some_at}
+use Rattle.partial_core.specs.Lawful.{Part, Lawful, core_of, port_of, holding_of, holdings, due_at, is_begun, is_at_rest, IsMachineOf, MayBegin, begun_like, moved, added, added_at, answer_for}
 use Rattle.partial_core.proofs.AllSteps.{steps_stay_lawful}
+use Rattle.partial_core.proofs.Going.{view_loads}
 use Rattle.partial_replay.specs.declared.port.Port.{Port}
 use Rattle.partial_replay.specs.declared.port.UnderWay.{UnderWay}
-use Rattle.partial_replay.specs.PortState.{KeepsMade, IsExchangeWithin, notes_in, IsUnderWay, IsBetween, PortFits, entry_at, one_step_more, ended_call, GoesOn, Ends, StepMade, MayStep, KeepsFit}
-use Rattle.partial_replay.specs.RunState.{AreStartedBut, PortsFit, IsRunOf, left_of, left_at}
-use Rattle.partial_replay.proofs.PortLaws.{least_grow, finished_grows, get_below, get_is}
-use Rattle.partial_replay.proofs.RunLaws.{due_step, machine_port, leads_push, step_fits}
+use Rattle.partial_replay.specs.CallSteps.{most_of_update, most_steps}
+use Rattle.partial_replay.specs.PortState.{KeepsMade, IsServed, IsExchangeWithin, AreWithin, notes_in, IsUnderWay, IsBetween, PortFits, core_behind, entry_at, one_step_more, ended_call, GoesOn, Ends, StepMade, MayStep, KeepsFit}
+use Rattle.partial_replay.specs.RunState.{AreStartedBut, ArePlans, PortsFit, IsRunOf, left_for, left_of, left_at}
+use Rattle.partial_replay.proofs.PortLaws.{least_grow, finished_grows, get_below, get_is, between_of}
+use Rattle.partial_replay.proofs.RunLaws.{MachineHere, machine_here, due_step, lawful_within, leads_push, sizes_y, step_fits, end_may}
 use Rattle.partial_replay.proofs.PortSteps.{ports_step, ports_begin, log_long}
+use Rattle.partial_replay.proofs.Opens.{some_same}
 use Rattle.std.specs.List.{AllByRecursion}
-use Rattle.partial_model.proofs.NotesLemmas.{AllByRecursion-push}
-use Rattle.partial_replay.proofs.Traces.{IsOfComponent, entries_push}
+use Rattle.partial_model.proofs.NotesLemmas.{AllByRecursion-get, AllByRecursion-push}
+use Rattle.partial_replay.proofs.Traces.{entries_push}
 
 -- another port's history grows
 way_grows : (log es : List Applied) (calls : List Call) (x : Part) (core : CoreState) (done : List Called) (way : Option UnderWay) → MatchOption way (IsBetween x core) (IsUnderWay (length log) calls x core done) → MatchOption way (IsBetween x core) (IsUnderWay (length (log ++ es)) calls x core done)
@@ -54,6 +68,7 @@ fits_grows o log es calls p x port w =
       written = w.written;
       made = w.made;
       few = w.few;
+      bounded = w.bounded;
       least = least_grow o log es p 0 0 port.finished.items w.finished w.least;
       way = way_grows log es calls x port.core port.finished.items port.under_way w.way;
     }
@@ -119,7 +134,6 @@ begin_keeps plans z o words ports log trace i calls port new w c t keeps keeps_m
       opened = w.opened;
       opens = w.opens;
       lawful = w.lawful;
-      without = w.without;
       leads = w.leads;
       entries = w.entries;
       senders = w.senders;
@@ -131,89 +145,204 @@ begin_keeps plans z o words ports log trace i calls port new w c t keeps keeps_m
 pub under_way : (o : Opening) (log : List Applied) (calls : List Call) (p : ℕ) (x : Part) (port : Port) (way : UnderWay) → PortFits o log calls p x port → port.under_way ≡ Some way → IsUnderWay (length log) calls x port.core port.finished.items way
 under_way o log calls p x port way w is = subst (λ (f : Option UnderWay). MatchOption f (IsBetween x port.core) (IsUnderWay (length log) calls x port.core port.finished.items)) is w.way
 
--- only the machine of a call in its middle makes an exchange
-middle : (c : CoreState) (x : Part) (b : Bool) → MatchBool b ((is_at_rest (core_of x).stage ≡ true) × (c ≡ at_stage (core_of x) c.stage) × MayBegin c) (c ≡ core_of x) → b ≡ false → c ≡ core_of x
-middle c x true m e = absurd (false≢true (sym e))
-middle c x false m e = m
+is_below : (a b : ℕ) → a < b → nat_lt a b ≡ true
+is_below a b h = search (arith, h)
 
-exchange_within_at : (z : Layout) (words : List ℕ) (s : Stage) (step : Step) → length words ≡ total z → step_at z s ≡ Some step → (is_begun s ≡ false → IsStage z s) → IsExchangeWithin words step
-exchange_within_at z words Idle step n e f = let bad : None ≡ Some step = e in cc
-exchange_within_at z words (ReadBegun j) step n e f = let is : Load j ≡ step = cc in subst (IsExchangeWithin words) is tt
-exchange_within_at z words (LoadingValue stamp) step n e f = let is : Load (stamp + 1) ≡ step = cc in subst (IsExchangeWithin words) is tt
-exchange_within_at z words (UpdateBegun c) step n e f = let is : Load (c.component) ≡ step = cc in subst (IsExchangeWithin words) is tt
-exchange_within_at z words (LoadingListHead c old) step n e f = let is : Load (z.m + 1) ≡ step = cc in subst (IsExchangeWithin words) is tt
-exchange_within_at z words (LoadingSlotCounter c old) step n e f = let is : Load (z.m) ≡ step = cc in subst (IsExchangeWithin words) is tt
-exchange_within_at z words (ClaimingRecord c old) step n e f = let is : Add (z.m + 2) 3 ≡ step = cc in subst (IsExchangeWithin words) is tt
-exchange_within_at z words (StoringRecord c old at k) step n e f = let is : Store (at + k) (get_or (record_block old c.value 0 []) k 0) ≡ step = cc in subst (IsExchangeWithin words) is tt
-exchange_within_at z words (Exchanging c old at) step n e f = let is : Exchange c.component old at ≡ step = cc in let sound = f refl in subst (IsExchangeWithin words) is (let top = (sound.2).1 in omega (arith, n, top))
-exchange_within_at z words (Finished r) step n e f = let bad : None ≡ Some step = e in cc
+not_below : (a b : ℕ) → b ≤ a → nat_lt a b ≡ false
+not_below a b h = search (arith, h)
 
--- only component words are exchanged
-component_at : (z : Layout) (s : Stage) (step : Step) → step_at z s ≡ Some step → (is_begun s ≡ false → IsStage z s) → IsOfComponent z.m step
-component_at z Idle step e f = let bad : None ≡ Some step = e in cc
-component_at z (ReadBegun j) step e f = let is : Load j ≡ step = cc in subst (IsOfComponent z.m) is tt
-component_at z (LoadingValue stamp) step e f = let is : Load (stamp + 1) ≡ step = cc in subst (IsOfComponent z.m) is tt
-component_at z (UpdateBegun c) step e f = let is : Load (c.component) ≡ step = cc in subst (IsOfComponent z.m) is tt
-component_at z (LoadingListHead c old) step e f = let is : Load (z.m + 1) ≡ step = cc in subst (IsOfComponent z.m) is tt
-component_at z (LoadingSlotCounter c old) step e f = let is : Load (z.m) ≡ step = cc in subst (IsOfComponent z.m) is tt
-component_at z (ClaimingRecord c old) step e f = let is : Add (z.m + 2) 3 ≡ step = cc in subst (IsOfComponent z.m) is tt
-component_at z (StoringRecord c old at k) step e f = let is : Store (at + k) (get_or (record_block old c.value 0 []) k 0) ≡ step = cc in subst (IsOfComponent z.m) is tt
-component_at z (Exchanging c old at) step e f = let is : Exchange c.component old at ≡ step = cc in let sound = f refl in subst (IsOfComponent z.m) is (sound.0)
-component_at z (Finished r) step e f = let bad : None ≡ Some step = e in cc
+-- what holds of each made from a list holds of the one in its middle
+all_map_at : {A B : Type 0} (f : A → B) (P : B → Type 0) (before : List A) (x : A) (after : List A) → AllByRecursion P (map f (before ++ x ∷ after)) → P (f x)
+all_map_at f P [] x after w = w.0
+all_map_at f P (y ∷ before) x after w = all_map_at f P before x after w.1
 
 -- the entry of a won exchange is the one that the machine adds
-entry_is_at : (z : Layout) (words : List ℕ) (c : CoreState) (s : Stage) (step : Step) (number a : ℕ) → a ≡ answer_of words step → c.port ≡ number → step_at z s ≡ Some step → ((ch : Change) (old at : ℕ) → s ≡ Exchanging ch old at → (get_or words (at + 1) 0 ≡ ch.value) × (ch.component < at)) → entry_at (words_after words step) number step a ≡ added_at c.port s a
-entry_is_at z words c Idle step number a an port e f = let bad : None ≡ Some step = e in cc
-entry_is_at z words c (ReadBegun j) step number a an port e f = let is : Load j ≡ step = cc in ap (λ (t : Step). entry_at (words_after words t) number t a) (sym is)
-entry_is_at z words c (LoadingValue stamp) step number a an port e f = let is : Load (stamp + 1) ≡ step = cc in ap (λ (t : Step). entry_at (words_after words t) number t a) (sym is)
-entry_is_at z words c (UpdateBegun ch) step number a an port e f = let is : Load (ch.component) ≡ step = cc in ap (λ (t : Step). entry_at (words_after words t) number t a) (sym is)
-entry_is_at z words c (LoadingListHead ch old) step number a an port e f = let is : Load (z.m + 1) ≡ step = cc in ap (λ (t : Step). entry_at (words_after words t) number t a) (sym is)
-entry_is_at z words c (LoadingSlotCounter ch old) step number a an port e f = let is : Load (z.m) ≡ step = cc in ap (λ (t : Step). entry_at (words_after words t) number t a) (sym is)
-entry_is_at z words c (ClaimingRecord ch old) step number a an port e f = let is : Add (z.m + 2) 3 ≡ step = cc in ap (λ (t : Step). entry_at (words_after words t) number t a) (sym is)
-entry_is_at z words c (StoringRecord ch old at k) step number a an port e f = let is : Store (at + k) (get_or (record_block old ch.value 0 []) k 0) ≡ step = cc in ap (λ (t : Step). entry_at (words_after words t) number t a) (sym is)
-entry_is_at z words c (Exchanging ch old at) step number a an port e f =
-    let is : Exchange ch.component old at ≡ step = cc in
+abbrev AddsNone : ℕ → List ℕ → Step → ℕ → Type 0
+AddsNone m words step number = (a : ℕ) → entry_at m words number step a ≡ []
+
+exchange_none : (m w old new number : ℕ) (words : List ℕ) (b : Bool) → nat_lt w m ≡ b → b ≡ false → AddsNone m words (Exchange w old new) number
+exchange_none m w old new number words b is out a = ap (λ (c : Bool). cond c (cond (a == old) (record { port = number; component = w; value = value_of words new; stamp = new } ∷ []) []) []) (is ∙ out)
+
+-- a getSet exchanges the list head alone
+getting_at : (z : Layout) (head number : ℕ) (words : List ℕ) (t : SetStage) (step : Step) → finding.step_at z head t ≡ Some step → AddsNone z.m words step number × IsExchangeWithin z.m words step
+getting_at z head number words Head step e = subst (λ (s : Step). AddsNone z.m words s number × IsExchangeWithin z.m words s) (some_same e) (λ a. refl, tt)
+getting_at z head number words (ListLen at) step e = subst (λ (s : Step). AddsNone z.m words s number × IsExchangeWithin z.m words s) (some_same e) (λ a. refl, tt)
+getting_at z head number words (ListLow at left) step e = subst (λ (s : Step). AddsNone z.m words s number × IsExchangeWithin z.m words s) (some_same e) (λ a. refl, tt)
+getting_at z head number words (ListHigh at left lo) step e = subst (λ (s : Step). AddsNone z.m words s number × IsExchangeWithin z.m words s) (some_same e) (λ a. refl, tt)
+getting_at z head number words Counter step e = subst (λ (s : Step). AddsNone z.m words s number × IsExchangeWithin z.m words s) (some_same e) (λ a. refl, tt)
+getting_at z head number words (Slot slot) step e = subst (λ (s : Step). AddsNone z.m words s number × IsExchangeWithin z.m words s) (some_same e) (λ a. refl, tt)
+getting_at z head number words (NamedLen slot at) step e = subst (λ (s : Step). AddsNone z.m words s number × IsExchangeWithin z.m words s) (some_same e) (λ a. refl, tt)
+getting_at z head number words (NamedIndex slot at left) step e = subst (λ (s : Step). AddsNone z.m words s number × IsExchangeWithin z.m words s) (some_same e) (λ a. refl, tt)
+getting_at z head number words (Claim count) step e = subst (λ (s : Step). AddsNone z.m words s number × IsExchangeWithin z.m words s) (some_same e) (λ a. refl, tt)
+getting_at z head number words (Write at k count word) step e = subst (λ (s : Step). AddsNone z.m words s number × IsExchangeWithin z.m words s) (some_same e) (λ a. refl, tt)
+getting_at z head number words (Publish at) step e = subst (λ (s : Step). AddsNone z.m words s number × IsExchangeWithin z.m words s) (some_same e)
+    (exchange_none z.m (z.m + 1) head at number words (nat_lt (z.m + 1) z.m) refl (not_below (z.m + 1) z.m (omega arith)), λ below. absurd (omega (arith, below)))
+getting_at z head number words SetDone step e = let bad : None ≡ Some step = e in cc
+
+-- an embedded scan exchanges nothing, and neither do joins and leaves
+viewing_at : (z y : Layout) (indices last : List ℕ) (number : ℕ) (words : List ℕ) (t : ViewStage) (step : Step) → viewing.step_at y indices last t ≡ Some step → AddsNone z.m words step number × IsExchangeWithin z.m words step
+viewing_at z y indices last number words t step e =
+    let load = view_loads y indices last t (ap is_some e) in
+    subst (λ (s : Step). AddsNone z.m words s number × IsExchangeWithin z.m words s) (some_same (sym load.1 ∙ e)) (λ a. refl, tt)
+
+joining_at : (z y : Layout) (at number : ℕ) (words : List ℕ) (t : JoinStage) (step : Step) → join_step y at t ≡ Some step → AddsNone z.m words step number × IsExchangeWithin z.m words step
+joining_at z y at number words Claiming step e = subst (λ (s : Step). AddsNone z.m words s number × IsExchangeWithin z.m words s) (some_same e) (λ a. refl, tt)
+joining_at z y at number words (Storing slot) step e = subst (λ (s : Step). AddsNone z.m words s number × IsExchangeWithin z.m words s) (some_same e) (λ a. refl, tt)
+joining_at z y at number words (Joined slot) step e = let bad : None ≡ Some step = e in cc
+joining_at z y at number words Spent step e = let bad : None ≡ Some step = e in cc
+
+leaving_at : (z y : Layout) (slot number : ℕ) (words : List ℕ) (b : Bool) (step : Step) → cond b None (Some (Store (slot_word y slot) 1)) ≡ Some step → AddsNone z.m words step number × IsExchangeWithin z.m words step
+leaving_at z y slot number words true step e = let bad : None ≡ Some step = e in cc
+leaving_at z y slot number words false step e = subst (λ (s : Step). AddsNone z.m words s number × IsExchangeWithin z.m words s) (some_same e) (λ a. refl, tt)
+
+-- what a step at a stage adds to the history, and that the record of an exchange lies within the words
+pub record StepAdds (c : CoreState) (t : Stage) (words : List ℕ) (step : Step) (number a : ℕ) : Type 0 where
+  pub entry : entry_at c.sizes.m (words_after words step) number step a ≡ added_at c.port t a
+  pub within : IsExchangeWithin c.sizes.m words step
+
+-- a component's exchange that is due: its record stands within the words, and its component is there
+abbrev IsExchange : CoreState → List ℕ → Change → ℕ → ℕ → Type 0
+IsExchange c words ch old at = (get_or words (at + 1) 0 ≡ ch.value) × (ch.component < c.sizes.m) × (ch.component < at) × (at + 1 < length words)
+
+adds_load : (c : CoreState) (words : List ℕ) (w number a : ℕ) (t : Stage) (step : Step) → Some (Load w) ≡ Some step → added_at c.port t a ≡ [] → StepAdds c t words step number a
+adds_load c words w number a t step e none = subst (λ (s : Step). StepAdds c t words s number a) (some_same e) (record { entry = sym none; within = tt })
+
+adds_store : (c : CoreState) (words : List ℕ) (w v number a : ℕ) (t : Stage) (step : Step) → Some (Store w v) ≡ Some step → added_at c.port t a ≡ [] → StepAdds c t words step number a
+adds_store c words w v number a t step e none = subst (λ (s : Step). StepAdds c t words s number a) (some_same e) (record { entry = sym none; within = tt })
+
+adds_claim : (c : CoreState) (words : List ℕ) (w v number a : ℕ) (t : Stage) (step : Step) → Some (Add w v) ≡ Some step → added_at c.port t a ≡ [] → StepAdds c t words step number a
+adds_claim c words w v number a t step e none = subst (λ (s : Step). StepAdds c t words s number a) (some_same e) (record { entry = sym none; within = tt })
+
+-- a won exchange of a component
+exchanged_entry : (m p j old at a v : ℕ) (words : List ℕ) → nat_lt j m ≡ true → value_of words at ≡ v → entry_at m words p (Exchange j old at) a ≡ cond (a == old) (record { port = p; component = j; value = v; stamp = at } ∷ []) []
+exchanged_entry m p j old at a v words below value =
+    ap (λ (c : Bool). cond c (cond (a == old) (record { port = p; component = j; value = value_of words at; stamp = at } ∷ []) []) []) below
+    ∙ ap (λ n. cond (a == old) (record { port = p; component = j; value = n; stamp = at } ∷ []) []) value
+
+step_adds : (c : CoreState) (words : List ℕ) (t : Stage) (step : Step) (number a : ℕ) → c.port ≡ number → is_sound_at c t → step_at c t ≡ Some step → ((ch : Change) (old at : ℕ) → t ≡ Exchanging ch old at → IsExchange c words ch old at) → StepAdds c t words step number a
+step_adds c words Idle step number a port sound e f = let bad : None ≡ Some step = e in cc
+step_adds c words (ReadBegun j) step number a port sound e f = adds_load c words j number a (ReadBegun j) step e refl
+step_adds c words (LoadingValue stamp) step number a port sound e f = adds_load c words (stamp + 1) number a (LoadingValue stamp) step e refl
+step_adds c words (UpdateBegun ch) step number a port sound e f = adds_load c words ch.component number a (UpdateBegun ch) step e refl
+step_adds c words (GettingSet ch old) step number a port sound e f =
+    let m : c.get_set.sizes.m ≡ c.sizes.m = ap (λ (z : Layout). z.m) sound.2 in
+    let after = getting_at c.get_set.sizes c.get_set.head number (words_after words step) c.get_set.stage step e in
+    let before = getting_at c.get_set.sizes c.get_set.head number words c.get_set.stage step e in
+    record { entry = subst (λ n. entry_at n (words_after words step) number step a ≡ []) m (after.0 a); within = subst (λ n. IsExchangeWithin n words step) m before.1 }
+step_adds c words (Viewing ch old) step number a port sound e f =
+    let after = viewing_at c.sizes c.embedded.sizes c.found.indices c.rows.last number (words_after words step) c.embedded.stage step e in
+    let before = viewing_at c.sizes c.embedded.sizes c.found.indices c.rows.last number words c.embedded.stage step e in
+    record { entry = after.0 a; within = before.1 }
+step_adds c words (ClaimingRecord ch old) step number a port sound e f = adds_claim c words (pool_counter c.sizes) (record_size c) number a (ClaimingRecord ch old) step e refl
+step_adds c words (StoringRecord ch old at k) step number a port sound e f = adds_store c words (at + k) (get_or (record_words c ch old at) k 0) number a (StoringRecord ch old at k) step e refl
+step_adds c words (Exchanging ch old at) step number a port sound e f =
     let facts = f ch old at refl in
-    let value : value_of (words_after words (Exchange ch.component old at)) at ≡ ch.value = get_or-set_other words ch.component (at + 1) (cond (get_or words ch.component 0 == old) at (get_or words ch.component 0)) 0 (λ h. let b = facts.1 in omega (arith, b, h)) ∙ facts.0 in
-    ap (λ (t : Step). entry_at (words_after words t) number t a) (sym is) ∙ ap (λ v. cond (a == old) (record { port = number; component = ch.component; value = v; stamp = at } ∷ []) []) value ∙ ap (λ n. cond (a == old) (record { port = n; component = ch.component; value = ch.value; stamp = at } ∷ []) []) (sym port)
-entry_is_at z words c (Finished r) step number a an port e f = let bad : None ≡ Some step = e in cc
+    let apart = facts.2 in
+    let value : value_of (words_after words (Exchange ch.component old at)) at ≡ ch.value = get_or-set_other words ch.component (at + 1) (cond (get_or words ch.component 0 == old) at (get_or words ch.component 0)) 0 (λ h. omega (arith, apart, h)) ∙ facts.0 in
+    let entry : entry_at c.sizes.m (words_after words (Exchange ch.component old at)) number (Exchange ch.component old at) a ≡ added_at c.port (Exchanging ch old at) a =
+    exchanged_entry c.sizes.m number ch.component old at a ch.value (words_after words (Exchange ch.component old at)) (is_below ch.component c.sizes.m facts.1) value
+    ∙ ap (λ n. cond (a == old) (record { port = n; component = ch.component; value = ch.value; stamp = at } ∷ []) []) (sym port) in
+    subst (λ (s : Step). StepAdds c (Exchanging ch old at) words s number a) (some_same e) (record { entry = entry; within = λ _. facts.3 })
+step_adds c words ScanBegun step number a port sound e f = adds_claim c words (pool_counter c.sizes) (1 + length c.asked) number a ScanBegun step e refl
+step_adds c words (StoringAnnouncement at k) step number a port sound e f = adds_store c words (at + k) (get_or (announcement_block c.asked) k 0) number a (StoringAnnouncement at k) step e refl
+step_adds c words Joining step number a port sound e f =
+    let after = joining_at c.sizes c.join.sizes c.join.announcement number (words_after words step) c.join.stage step e in
+    let before = joining_at c.sizes c.join.sizes c.join.announcement number words c.join.stage step e in
+    record { entry = after.0 a; within = before.1 }
+step_adds c words Scanning step number a port sound e f =
+    let after = viewing_at c.sizes c.embedded.sizes c.asked c.rows.last number (words_after words step) c.embedded.stage step e in
+    let before = viewing_at c.sizes c.embedded.sizes c.asked c.rows.last number words c.embedded.stage step e in
+    record { entry = after.0 a; within = before.1 }
+step_adds c words Leaving step number a port sound e f =
+    let after = leaving_at c.sizes c.leave.sizes c.leave.slot number (words_after words step) c.leave.left step e in
+    let before = leaving_at c.sizes c.leave.sizes c.leave.slot number words c.leave.left step e in
+    record { entry = after.0 a; within = before.1 }
+step_adds c words (Finished r) step number a port sound e f = let bad : None ≡ Some step = e in cc
 
-exchange_facts : (z : Layout) (o : Opening) (words : List ℕ) (before : List Part) (x : Part) (after : List Part) (log : List Applied) (c : CoreState) → Lawful z o words (before ++ x ∷ after) log → IsMachineOf c x → (ch : Change) (old at : ℕ) → c.stage ≡ Exchanging ch old at → (get_or words (at + 1) 0 ≡ ch.value) × (ch.component < at)
-exchange_facts z o words before x after log c w m ch old at e =
-    let is : c ≡ core_of x = middle c x (is_begun c.stage) m (ap is_begun e) in
-    let stage : (core_of x).stage ≡ Exchanging ch old at = ap (λ (s : CoreState). s.stage) (sym is) ∙ e in
-    let tied = all_at (IsTied z words) before x after w.tied in
-    let known = all_at (IsKnown z o log) before x after w.known in
-    let own = if_some_at (IsOwn z words) (own_of x) (record { space = Pool; at = at; words = record_block old ch.value 0 []; stored = 3 }) (ap own_at stage) tied.own in
-    let sound : IsStage z (Exchanging ch old at) = subst (IsStage z) stage (stage_known z o log x known) in
-    (own.stands 1 (omega arith), (let below = sound.0 in let above = own.above in omega (arith, below, above)))
+-- the step of a port among the others
+module _ (z : Layout) (o : Opening) (words : List ℕ) (before : List Part) (x : Part) (after : List Part) (log : List Applied) (w : Lawful z o words (before ++ x ∷ after) log) (c : CoreState) (m : IsMachineOf c x) where
+  here : MachineHere z c x
+  here = machine_here z o words before x after log w c m
 
-sizes_at' : (z : Layout) (c : CoreState) (x : Part) (b : Bool) → (core_of x).sizes ≡ z → MatchBool b ((is_at_rest (core_of x).stage ≡ true) × (c ≡ at_stage (core_of x) c.stage) × MayBegin c) (c ≡ core_of x) → z ≡ c.sizes
-sizes_at' z c x true s m = sym (ap (λ (d : CoreState). d.sizes) m.1 ∙ s)
-sizes_at' z c x false s m = sym (ap (λ (d : CoreState). d.sizes) m ∙ s)
+  -- the exchange of a component that is due
+  exchange_due : (ch : Change) (old at : ℕ) → c.stage ≡ Exchanging ch old at → IsExchange c words ch old at
+  exchange_due ch old at e =
+      let h = here in
+      let is : c ≡ core_of x = in_middle c x (is_begun c.stage) m (ap is_begun e) in
+      let stage : (core_of x).stage ≡ Exchanging ch old at = ap (λ (s : CoreState). s.stage) (sym is) ∙ e in
+      let holding = all_map_at holding_of (λ (v : Holding). IfSome v.due (IsDue z o words v (others_of v.port (holdings (before ++ x ∷ after))) log)) before x after w.memory.due in
+      let due = if_some_at (IsDue z o words (holding_of x) (others_of (holding_of x).port (holdings (before ++ x ∷ after))) log) (holding_of x).due (record { component = ch.component; old = old; value = ch.value; at = at }) (ap due_at stage) holding in
+      let sound : is_sound_at c (Exchanging ch old at) = subst (is_sound_at c) e h.sound.stage in
+      let place : IsInPool c.sizes at (record_size c) = sound.1 in
+      let size = size_few c h.sound.indices.few in
+      let low = place.0 in
+      let high = place.1 in
+      let three = size.0 in
+      let component = (sound.0).0 in
+      let count = w.memory.count in
+      let sizes : total c.sizes ≡ total z = ap total h.sizes in
+      (due.value, component, omega (arith, component, low), omega (arith, high, three, count, sizes))
+    where
+      in_middle : (c : CoreState) (x : Part) (b : Bool) → MatchBool b ((is_at_rest (core_of x).stage ≡ true) × (c ≡ begun_like (core_of x) c) × AreComponents c.sizes c.asked × MayBegin c) (c ≡ core_of x) → b ≡ false → c ≡ core_of x
+      in_middle c x true m e = absurd (false≢true (sym e))
+      in_middle c x false m e = m
 
-sizes_here' : (z : Layout) (o : Opening) (log : List Applied) (x : Part) (c : CoreState) → IsKnown z o log x → IsMachineOf c x → z ≡ c.sizes
-sizes_here' z o log x c known m = sizes_at' z c x (is_begun c.stage) (sizes_led x.begun x.kept ∙ known.sizes) m
+  -- what the due step adds
+  pub due_adds : (step : Step) (number a : ℕ) → port_of x ≡ number → step_of c ≡ Some step → StepAdds c c.stage words step number a
+  due_adds step number a port due = let h = here in step_adds c words c.stage step number a (h.port ∙ port) h.sound.stage due exchange_due
+
+-- fewer positions, fewer steps: a scan makes no more than an update
+most_of_scan : (z : Layout) (js : List ℕ) → length js ≤ z.m → most_steps z (call.Scan js) ≤ most_of_update z
+most_of_scan z js few = let times = mul-le-mul few (let more : length js + 2 ≤ z.m + 2 = omega (arith, few) in more) in omega (arith, few, times)
+
+most_of_call : (z : Layout) (c : Call) → IsServed z.m c → most_steps z c ≤ most_of_update z
+most_of_call z (call.Update j v) served = omega arith
+most_of_call z (call.Scan js) served = most_of_scan z js served
+most_of_call z (call.Read j) served = omega arith
+most_of_call z (call.UpdateIf j x v) served = omega arith
+
+-- no call makes more steps than 64 bits tell
+update_fits : (z : Layout) → IsLayout z → most_of_update z + 1 < 2 ^ 64
+update_fits z layout =
+    let m = layout.components.1 in
+    let slots = layout.slots.1 in
+    let lists = layout.lists in
+    let walk : z.slots * (z.m + 3) ≤ 65536 * 65539 = mul-le-mul slots (let top : z.m + 3 ≤ 65539 = omega (arith, m) in top) in
+    let view : z.m * (z.m + 2) ≤ 65536 * 65538 = mul-le-mul m (let top : z.m + 2 ≤ 65538 = omega (arith, m) in top) in
+    omega (arith, m, lists, walk, view)
+
+most_fits : (z : Layout) (c : Call) → IsLayout z → IsServed z.m c → most_steps z c + 1 < 2 ^ 64
+most_fits z c layout served = let few = most_of_call z c served in let fits = update_fits z layout in omega (arith, few, fits)
 
 -- the due step of a port whose call is under way may be made
-pub may_step : (plans : List (List Call)) (z : Layout) (o : Opening) (words : List ℕ) (ports : List Port) (log : List Applied) (trace : List Event) (i : ℕ) (calls : List Call) (port : Port) (way : UnderWay) → IsRunOf plans z o words ports log trace → slice_get plans i ≡ Some calls → slice_get ports i ≡ Some port → port.under_way ≡ Some way → MayStep calls words port
-may_step plans z o words ports log trace i calls port way w c t is =
+pub may_step : (plans : List (List Call)) (z : Layout) (o : Opening) (words : List ℕ) (ports : List Port) (log : List Applied) (trace : List Event) (i : ℕ) (calls : List Call) (port : Port) (way : UnderWay) → IsRunOf plans z o words ports log trace → ArePlans z.m plans → slice_get plans i ≡ Some calls → slice_get ports i ≡ Some port → port.under_way ≡ Some way → MayStep calls words log port
+may_step plans z o words ports log trace i calls port way w served c t is =
     let at = at_port o log 0 plans w.parts ports i calls port w.fit c t in
     let u = under_way o log calls (0 + i) (at.x) port way (at.fits) is in
-    let due = due_step port.core.sizes port.core.stage u.due in
     let lawful : Lawful z o words ((at.before) ++ (at.x) ∷ (at.after)) log = subst (λ (l : List Part). Lawful z o words l log) (at.is) w.lawful in
-    let l = steps_stay_lawful z o words (at.before) (at.x) (at.after) log port.core (due.0) lawful (subst (λ (l : List Part). IsWithoutScans z words l log) (at.is) w.without) u.machine due.1 in
-    let known = all_at (IsKnown z o log) (at.before) (at.x) (at.after) lawful.known in
+    let here = machine_here z o words (at.before) (at.x) (at.after) log lawful port.core u.machine in
+    let due = due_step port.core here.sound u.due in
+    let step = due.0 in
+    let a = answer_of words step in
+    let l = steps_stay_lawful z o words (at.before) (at.x) (at.after) log port.core step lawful u.machine due.1 in
+    let number : port_of (at.x) ≡ port.number = (at.fits).part ∙ sym ((at.fits).number) in
+    let adds = due_adds z o words (at.before) (at.x) (at.after) log lawful port.core u.machine step port.number a number due.1 in
+    let call_served : IsServed z.m u.call = AllByRecursion-get (IsServed z.m) calls (length port.finished.items) u.call (AllByRecursion-get (λ (cs : List Call). (length cs < 2 ^ 32) × AllByRecursion (IsServed z.m) cs) plans i calls served c).1 u.next in
+    let fits : most_steps port.core.sizes u.call + 1 < 2 ^ 64 = subst (λ (y : Layout). most_steps y u.call + 1 < 2 ^ 64) (sym here.sizes) (most_fits z u.call lawful.memory.sizes call_served) in
+    let within : AreWithin (length o.values) (words_after words step) (log ++ added port.core a) = lawful_within z o (words_after words step) _ (log ++ added port.core a) l.lawful.memory in
     record {
-      step = due.0;
+      step = step;
       way = way;
+      call = u.call;
       due = due.1;
       was = is;
       within = (l.answers).within;
       possible = l.possible;
-      exchange = exchange_within_at z words port.core.stage (due.0) lawful.count (ap (λ (s : Layout). step_at s port.core.stage) (sizes_here' z o log (at.x) port.core known u.machine) ∙ due.1) (λ b. subst (λ (d : CoreState). IsStage z d.stage) (sym (middle port.core (at.x) (is_begun port.core.stage) u.machine b)) (stage_known z o log (at.x) known));
-      steps = omega (arith, u.steps);
-      more = get_below calls (length port.finished.items) (u.call) u.next;
+      exchange = adds.within;
+      steps = omega (arith, u.steps, fits);
+      next = u.next;
+      ends = end_may z o words (at.before) (at.x) (at.after) log calls (0 + i) port port step way here (at.fits) u l;
+      places = subst (λ (es : List Applied). AreWithin port.core.sizes.m (words_after words step) (log ++ es)) (sym adds.entry) (subst (λ n. AreWithin n (words_after words step) (log ++ added port.core a)) (sym (at.fits).sizes) within);
     }
 
 -- a step keeps the replay's state
@@ -222,32 +351,43 @@ step_keeps plans z o words words' ports log log' trace trace' i calls port new w
     let at = at_port o log 0 plans w.parts ports i calls port w.fit c t in
     let u = under_way o log calls (0 + i) (at.x) port (m.way) (at.fits) m.was in
     let lawful : Lawful z o words ((at.before) ++ (at.x) ∷ (at.after)) log = subst (λ (l : List Part). Lawful z o words l log) (at.is) w.lawful in
-    let l = steps_stay_lawful z o words (at.before) (at.x) (at.after) log port.core (m.step) lawful (subst (λ (l : List Part). IsWithoutScans z words l log) (at.is) w.without) u.machine m.due in
+    let machine = machine_here z o words (at.before) (at.x) (at.after) log lawful port.core u.machine in
+    let l = steps_stay_lawful z o words (at.before) (at.x) (at.after) log port.core (m.step) lawful u.machine m.due in
     let a = answer_of words (m.step) in
-    let known = all_at (IsKnown z o log) (at.before) (at.x) (at.after) lawful.known in
-    let number : port.core.port ≡ port.number = machine_port port.core (at.x) u.machine ∙ (at.fits).part ∙ sym ((at.fits).number) in
-    let entry : entry_at (words_after words (m.step)) port.number (m.step) a ≡ added port.core a = entry_is_at port.core.sizes words port.core port.core.stage (m.step) port.number a refl number m.due (exchange_facts z o words (at.before) (at.x) (at.after) log port.core lawful u.machine) in
-    let log_is : log' ≡ log ++ added port.core a = m.log_is ∙ ap (λ (ws : List ℕ). log ++ entry_at ws port.number (m.step) a) m.words_are ∙ ap (λ (es : List Applied). log ++ es) entry in
-    let after : MatchOption (reply_of (advance port.core a)) (GoesOn port new (m.way) (advance port.core a)) (Ends calls (log ++ added port.core a) port new (m.way) (advance port.core a)) = subst (λ (k : List Applied). MatchOption (reply_of (advance port.core a)) (GoesOn port new (m.way) (advance port.core a)) (Ends calls k port new (m.way) (advance port.core a))) log_is m.after in
+    let number : port_of (at.x) ≡ port.number = (at.fits).part ∙ sym ((at.fits).number) in
+    let adds = due_adds z o words (at.before) (at.x) (at.after) log lawful port.core u.machine (m.step) port.number a number m.due in
+    let log_is : log' ≡ log ++ added port.core a = m.log_is ∙ ap (λ (ws : List ℕ). log ++ entry_at port.core.sizes.m ws port.number (m.step) a) m.words_are ∙ ap (λ (es : List Applied). log ++ es) adds.entry in
+    let core = core_behind words (m.step) port in
+    let after : MatchOption (reply_of core) (GoesOn port new (m.way) core) (Ends calls (words_after words (m.step)) (log ++ added port.core a) port new (m.way) core) =
+    subst (λ (k : List Applied). MatchOption (reply_of core) (GoesOn port new (m.way) core) (Ends calls (words_after words (m.step)) k port new (m.way) core)) log_is
+    (subst (λ (ws : List ℕ). MatchOption (reply_of core) (GoesOn port new (m.way) core) (Ends calls ws log' port new (m.way) core)) m.words_are m.after) in
     let y = moved port.core a log l.new (at.x) in
-    let fits = step_fits z o words (at.before) (at.x) (at.after) log calls (0 + i) port new (m.step) (m.way) (at.fits) u l (reply_of (advance port.core a)) refl m.number m.falls after in
+    let fits = step_fits z o words (at.before) (at.x) (at.after) log calls (0 + i) port new (m.step) (m.way) machine (at.fits) u l (reply_of core) refl m.number m.falls after in
     let event : Event = record { port = port.number; step = m.step; answer = a } in
-    let sizes = sizes_here' z o log (at.x) port.core known u.machine in
-    let component : IsOfComponent z.m (m.step) = component_at z port.core.stage (m.step) (ap (λ (s : Layout). step_at s port.core.stage) sizes ∙ m.due) (λ b. subst (λ (d : CoreState). IsStage z d.stage) (sym (middle port.core (at.x) (is_begun port.core.stage) u.machine b)) (stage_known z o log (at.x) known)) in
-    let entries = entries_push z.m words' trace trace' log log' port.number (m.step) a w.entries component m.trace_is m.log_is in
+    let components : port.core.sizes.m ≡ z.m = ap (λ (v : Layout). v.m) machine.sizes in
+    let entries = entries_push z.m words' trace trace' log log' port.number (m.step) a w.entries m.trace_is (m.log_is ∙ ap (λ n. log ++ entry_at n words' port.number (m.step) a) components) in
     let here : port.number ≡ i = (at.fits).number ∙ omega arith in
     record {
       parts = (at.before) ++ y ∷ (at.after);
       opened = w.opened;
       opens = w.opens;
       lawful = subst (λ (ws : List ℕ). Lawful z o ws ((at.before) ++ y ∷ (at.after)) log') (sym m.words_are) (subst (λ (k : List Applied). Lawful z o (words_after words (m.step)) ((at.before) ++ y ∷ (at.after)) k) (sym log_is) l.lawful);
-      without = subst (λ (ws : List ℕ). IsWithoutScans z ws ((at.before) ++ y ∷ (at.after)) log') (sym m.words_are) (subst (λ (k : List Applied). IsWithoutScans z (words_after words (m.step)) ((at.before) ++ y ∷ (at.after)) k) (sym log_is) l.without);
       fit = subst (λ (k : List Applied). PortsFit o k 0 plans ((at.before) ++ y ∷ (at.after)) (set ports i new)) (sym log_is) (at.replace (added port.core a) y new fits);
       leads = subst (λ (ws : List ℕ). Leads w.opened trace' ws) (sym m.words_are) (subst (λ (es : List Event). Leads w.opened es (words_after words (m.step))) (sym m.trace_is) (leads_push w.opened words trace event w.leads l.answers));
       entries = entries;
       senders = subst (AllByRecursion (λ (e : Event). e.port < length plans)) (sym m.trace_is) (AllByRecursion-push (λ (e : Event). e.port < length plans) trace event w.senders (let below = get_below plans i calls c in omega (arith, below, here)));
       made = ports_step plans z words words' ports log log' trace trace' i calls port new w.made (log_long z.m trace log w.entries) (log_long z.m trace' log' entries) started c t here m;
     }
+
+-- a step leaves the sizes of the port's machine
+pub step_sizes : (plans : List (List Call)) (z : Layout) (o : Opening) (words words' : List ℕ) (ports : List Port) (log log' : List Applied) (trace trace' : List Event) (i : ℕ) (calls : List Call) (port new : Port) → IsRunOf plans z o words ports log trace → slice_get plans i ≡ Some calls → slice_get ports i ≡ Some port → (m : StepMade calls words words' trace trace' log log' port new) → (core_behind words (m.step) port).sizes ≡ port.core.sizes
+step_sizes plans z o words words' ports log log' trace trace' i calls port new w c t m =
+    let at = at_port o log 0 plans w.parts ports i calls port w.fit c t in
+    let u = under_way o log calls (0 + i) (at.x) port (m.way) (at.fits) m.was in
+    let lawful : Lawful z o words ((at.before) ++ (at.x) ∷ (at.after)) log = subst (λ (l : List Part). Lawful z o words l log) (at.is) w.lawful in
+    let machine = machine_here z o words (at.before) (at.x) (at.after) log lawful port.core u.machine in
+    let l = steps_stay_lawful z o words (at.before) (at.x) (at.after) log port.core (m.step) lawful u.machine m.due in
+    sizes_y z o words (at.before) (at.x) (at.after) log calls (0 + i) port new (m.step) (m.way) machine (at.fits) u l
 
 -- the steps that the port has left
 pub left_is : (plans : List (List Call)) (ports : List Port) (i : ℕ) (calls : List Call) (port : Port) → slice_get plans i ≡ Some calls → slice_get ports i ≡ Some port → left_at i plans ports ≡ left_of calls port
@@ -257,38 +397,59 @@ left_is (d ∷ plans) (u ∷ ports) zero calls port c t =
     let is : d ≡ calls = cc in let same : u ≡ port = cc in ap (λ (e : List Call). left_of e u) is ∙ ap (λ (v : Port). left_of calls v) same
 left_is (d ∷ plans) (u ∷ ports) (suc i) calls port c t = left_is plans ports i calls port c t
 
-left_under_way : (calls : List Call) (port : Port) (way : UnderWay) → port.under_way ≡ Some way → left_of calls port ≡ 9 * (length calls - length port.finished.items - 1) + steps_left port.core
-left_under_way calls port way is = ap (λ (f : Option UnderWay). option_map_or (λ (v : UnderWay). 9 * (length calls - length port.finished.items - 1) + steps_left port.core) f (9 * (length calls - length port.finished.items))) is
+left_under_way : (calls : List Call) (port : Port) (way : UnderWay) → port.under_way ≡ Some way → left_of calls port ≡ left_for port.core.sizes (length calls - length port.finished.items - 1) + steps_left port.core
+left_under_way calls port way is = ap (λ (f : Option UnderWay). option_map_or (λ (v : UnderWay). left_for port.core.sizes (length calls - length port.finished.items - 1) + steps_left port.core) f (left_for port.core.sizes (length calls - length port.finished.items))) is
 
-left_between : (calls : List Call) (port : Port) → port.under_way ≡ None → left_of calls port ≡ 9 * (length calls - length port.finished.items)
-left_between calls port is = ap (λ (f : Option UnderWay). option_map_or (λ (v : UnderWay). 9 * (length calls - length port.finished.items - 1) + steps_left port.core) f (9 * (length calls - length port.finished.items))) is
+left_between : (calls : List Call) (port : Port) → port.under_way ≡ None → left_of calls port ≡ left_for port.core.sizes (length calls - length port.finished.items)
+left_between calls port is = ap (λ (f : Option UnderWay). option_map_or (λ (v : UnderWay). left_for port.core.sizes (length calls - length port.finished.items - 1) + steps_left port.core) f (left_for port.core.sizes (length calls - length port.finished.items))) is
 
-left_after : (calls : List Call) (log : List Applied) (port new : Port) (way : UnderWay) (core : CoreState) (found : Option Reply) → port.under_way ≡ Some way → steps_left core < steps_left port.core → length port.finished.items < length calls → MatchOption found (GoesOn port new way core) (Ends calls log port new way core) → left_of calls new < left_of calls port
-left_after calls log port new way core None was falls more g =
+left_after : (calls : List Call) (words : List ℕ) (log : List Applied) (port new : Port) (way : UnderWay) (core : CoreState) (found : Option Reply) → core.sizes ≡ port.core.sizes → port.under_way ≡ Some way → steps_left core < steps_left port.core → length port.finished.items < length calls → MatchOption found (GoesOn port new way core) (Ends calls words log port new way core) → left_of calls new < left_of calls port
+left_after calls words log port new way core None sizes was falls more g =
     let old = left_under_way calls port way was in
     let now = left_under_way calls new (one_step_more way) g.way' in
     let same : length new.finished.items ≡ length port.finished.items = ap length g.finished in
     let left : steps_left new.core ≡ steps_left core = ap steps_left g.machine in
-    let rest : 9 * (length calls - length new.finished.items - 1) ≡ 9 * (length calls - length port.finished.items - 1) = ap (λ n. 9 * (length calls - n - 1)) same in
+    let rest : left_for new.core.sizes (length calls - length new.finished.items - 1) ≡ left_for port.core.sizes (length calls - length port.finished.items - 1) = ap (λ (z : Layout). left_for z (length calls - length new.finished.items - 1)) (ap (λ (s : CoreState). s.sizes) g.machine ∙ sizes) ∙ ap (λ n. left_for port.core.sizes (length calls - n - 1)) same in
     omega (arith, old, now, left, rest, falls)
-left_after calls log port new way core (Some r) was falls more e =
+left_after calls words log port new way core (Some r) sizes was falls more e =
     let old = left_under_way calls port way was in
     let now = left_between calls new e.none in
-    let longer : length new.finished.items ≡ length port.finished.items + 1 = ap length e.finished ∙ length_push port.finished.items (ended_call port.number (length port.finished.items) e.call (one_step_more way) (length log) r e.note) in
-    let rest : 9 * (length calls - length new.finished.items) ≡ 9 * (length calls - length port.finished.items - 1) = ap (λ n. 9 * n) (omega (arith, longer)) in
+    let longer : length new.finished.items ≡ length port.finished.items + 1 = ap length e.finished ∙ length_push port.finished.items (ended_call port.number (length port.finished.items) e.call (one_step_more way) (length log) (answer_for core r) e.note) in
+    let rest : left_for new.core.sizes (length calls - length new.finished.items) ≡ left_for port.core.sizes (length calls - length port.finished.items - 1) = ap (λ (z : Layout). left_for z (length calls - length new.finished.items)) (ap (λ (s : CoreState). s.sizes) e.machine ∙ sizes) ∙ ap (λ n. left_for port.core.sizes n) (omega (arith, longer)) in
     omega (arith, old, now, rest, falls)
 
-pub left_falls : (calls : List Call) (words words' : List ℕ) (trace trace' : List Event) (log log' : List Applied) (port new : Port) → length port.finished.items < length calls → StepMade calls words words' trace trace' log log' port new → left_of calls new < left_of calls port
-left_falls calls words words' trace trace' log log' port new more m =
-    left_after calls log' port new (m.way) (advance port.core (answer_of words (m.step))) (reply_of (advance port.core (answer_of words (m.step)))) m.was m.falls more m.after
+pub left_falls : (calls : List Call) (words words' : List ℕ) (trace trace' : List Event) (log log' : List Applied) (port new : Port) → length port.finished.items < length calls → (m : StepMade calls words words' trace trace' log log' port new) → (core_behind words (m.step) port).sizes ≡ port.core.sizes → left_of calls new < left_of calls port
+left_falls calls words words' trace trace' log log' port new more m sizes =
+    left_after calls words' log' port new (m.way) (core_behind words (m.step) port) (reply_of (core_behind words (m.step) port)) sizes m.was m.falls more m.after
+
+-- fewer calls, fewer steps
+left_fewer : (z : Layout) (a b : ℕ) → a ≤ b → left_for z a ≤ left_for z b
+left_fewer z a b less = mul-le-mul_left (most_of_update z + 1) less
+
+left_one_more : (z : Layout) (n : ℕ) → left_for z (n + 1) ≡ left_for z n + (most_of_update z + 1)
+left_one_more z n = ap (λ k. (most_of_update z + 1) * k) (let one : n + 1 ≡ suc n = omega arith in one) ∙ mul-suc (most_of_update z + 1) n
 
 -- where a port begins its next call, it has no more left than before
-pub left_begun : (calls : List Call) (port new : Port) (steps : ℕ) → port.under_way ≡ None → length port.finished.items ≤ length new.finished.items → length new.finished.items ≤ length calls → ((way : UnderWay) → new.under_way ≡ Some way → (steps_left new.core ≤ 8) × (length new.finished.items < length calls)) → left_of calls new ≤ left_of calls port
-left_begun calls port new steps none more few f = at_way new.under_way refl
+pub left_begun : (calls : List Call) (port new : Port) → new.core.sizes ≡ port.core.sizes → port.under_way ≡ None → length port.finished.items ≤ length new.finished.items → length new.finished.items ≤ length calls → ((way : UnderWay) → new.under_way ≡ Some way → (steps_left new.core ≤ most_of_update port.core.sizes) × (length new.finished.items < length calls)) → left_of calls new ≤ left_of calls port
+left_begun calls port new sizes none more few f = at_way new.under_way refl
   where
     at_way : (way : Option UnderWay) → new.under_way ≡ way → left_of calls new ≤ left_of calls port
-    at_way None is = let old = left_between calls port none in let now = left_between calls new is in omega (arith, old, now, more)
-    at_way (Some way) is = let old = left_between calls port none in let now = left_under_way calls new way is in let both = f way is in let top = both.0 in let below = both.1 in omega (arith, old, now, more, top, below)
+    at_way None is =
+        let old = left_between calls port none in
+        let now = left_between calls new is in
+        let same : left_for new.core.sizes (length calls - length new.finished.items) ≡ left_for port.core.sizes (length calls - length new.finished.items) = ap (λ (z : Layout). left_for z (length calls - length new.finished.items)) sizes in
+        let less = left_fewer port.core.sizes (length calls - length new.finished.items) (length calls - length port.finished.items) (omega (arith, more)) in
+        omega (arith, old, now, same, less)
+    at_way (Some way) is =
+        let old = left_between calls port none in
+        let now = left_under_way calls new way is in
+        let both = f way is in
+        let top = both.0 in
+        let below = both.1 in
+        let same : left_for new.core.sizes (length calls - length new.finished.items - 1) ≡ left_for port.core.sizes (length calls - length new.finished.items - 1) = ap (λ (z : Layout). left_for z (length calls - length new.finished.items - 1)) sizes in
+        let one = left_one_more port.core.sizes (length calls - length new.finished.items - 1) in
+        let less = left_fewer port.core.sizes (length calls - length new.finished.items - 1 + 1) (length calls - length port.finished.items) (omega (arith, more, below)) in
+        omega (arith, old, now, same, one, less, top)
 
 -- there are as many ports as plans
 pub ports_length : (o : Opening) (log : List Applied) (q : ℕ) (plans : List (List Call)) (parts : List Part) (ports : List Port) → PortsFit o log q plans parts ports → length ports ≡ length plans
@@ -332,12 +493,32 @@ begun_done false calls port new all more m = m
 pub port_in : (plans : List (List Call)) (z : Layout) (o : Opening) (words : List ℕ) (ports : List Port) (log : List Applied) (trace : List Event) (i : ℕ) (calls : List Call) (port : Port) → IsRunOf plans z o words ports log trace → slice_get plans i ≡ Some calls → slice_get ports i ≡ Some port → (x : Part) × PortFits o log calls (0 + i) x port
 port_in plans z o words ports log trace i calls port w c t = let at = at_port o log 0 plans w.parts ports i calls port w.fit c t in (at.x, at.fits)
 
+-- the calls of a port are ones that its machine serves
+pub served_here : (plans : List (List Call)) (z : Layout) (o : Opening) (words : List ℕ) (ports : List Port) (log : List Applied) (trace : List Event) (i : ℕ) (calls : List Call) (port : Port) → IsRunOf plans z o words ports log trace → ArePlans z.m plans → slice_get plans i ≡ Some calls → slice_get ports i ≡ Some port → AllByRecursion (IsServed port.core.sizes.m) calls
+served_here plans z o words ports log trace i calls port w served c t =
+    let fits = (port_in plans z o words ports log trace i calls port w c t).1 in
+    subst (λ m. AllByRecursion (IsServed m) calls) (sym (fits.sizes ∙ w.lawful.memory.values)) (AllByRecursion-get (λ (cs : List Call). (length cs < 2 ^ 32) × AllByRecursion (IsServed z.m) cs) plans i calls served c).1
+
+-- the machine of a port has as many components as the memory
+pub components_here : (plans : List (List Call)) (z : Layout) (o : Opening) (words : List ℕ) (ports : List Port) (log : List Applied) (trace : List Event) (i : ℕ) (calls : List Call) (port : Port) → IsRunOf plans z o words ports log trace → slice_get plans i ≡ Some calls → slice_get ports i ≡ Some port → z.m ≡ port.core.sizes.m
+components_here plans z o words ports log trace i calls port w c t =
+    let fits = (port_in plans z o words ports log trace i calls port w c t).1 in
+    sym (fits.sizes ∙ w.lawful.memory.values)
+
+-- what follows of a result from two that follow of it
+pub on_ok_both : {A E : Type 0} {P Q R : Type 0} (r : Result A E) → (P → Q → R) → OnOk r P → OnOk r Q → OnOk r R
+on_ok_both (Ok a) f p q = f p q
+on_ok_both (Err e) f p q = tt
+
 pub idle_between : (o : Opening) (log : List Applied) (calls : List Call) (p : ℕ) (x : Part) (port : Port) → PortFits o log calls p x port → port.under_way ≡ None → port.core.stage ≡ Idle
-idle_between o log calls p x port w none =
-    let b : IsBetween x port.core = subst (λ (f : Option UnderWay). MatchOption f (IsBetween x port.core) (IsUnderWay (length log) calls x port.core port.finished.items)) none w.way in
-    ap (λ (s : CoreState). s.stage) b.machine
+idle_between o log calls p x port w none = let b = between_of o log calls p x port w none in b.idle
 
 -- a port that has begun its next call where none was under way has no more left than before
-pub left_ready : (o : Opening) (log : List Applied) (calls : List Call) (p : ℕ) (x : Part) (port new : Port) → PortFits o log calls p x new → port.under_way ≡ None → length port.finished.items ≤ length new.finished.items → left_of calls new ≤ left_of calls port
-left_ready o log calls p x port new w none more =
-    left_begun calls port new 0 none more w.few (λ way is. let u = under_way o log calls p x new way w is in (omega (arith, u.steps), get_below calls (length new.finished.items) (u.call) u.next))
+pub left_ready : (o : Opening) (log : List Applied) (calls : List Call) (p : ℕ) (x : Part) (port new : Port) → AllByRecursion (IsServed port.core.sizes.m) calls → new.core.sizes ≡ port.core.sizes → PortFits o log calls p x new → port.under_way ≡ None → length port.finished.items ≤ length new.finished.items → left_of calls new ≤ left_of calls port
+left_ready o log calls p x port new served sizes w none more =
+    left_begun calls port new sizes none more w.few (λ way is.
+    let u = under_way o log calls p x new way w is in
+    let call_served = AllByRecursion-get (IsServed port.core.sizes.m) calls (length new.finished.items) u.call served u.next in
+    let most = most_of_call port.core.sizes u.call call_served in
+    let same : most_steps new.core.sizes u.call ≡ most_steps port.core.sizes u.call = ap (λ (z : Layout). most_steps z u.call) sizes in
+    (omega (arith, u.steps, most, same), get_below calls (length new.finished.items) (u.call) u.next))

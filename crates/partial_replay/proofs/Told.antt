@@ -1,5 +1,5 @@
 -- The calls that a replay tells are a legal outcome.
-use Rattle.std.proofs.Common.{ℕ, zero, suc, ◌⊎◌, map, take, ◌≡◌, ◌≢◌, ◌+◌, ◌<◌, ◌≤◌, ◌++◌, ◌==◌, Bool, true, false, cond, List, [], ◌∷◌, length, Option, Some, None, IfSome, IsSomeAnd, MatchOption, slice_get, refl, sym, ◌∙◌, ap, subst, inl, inr, arith, append_assoc}
+use Rattle.std.proofs.Common.{ℕ, zero, suc, ◌⊎◌, map, take, ◌≡◌, ◌≢◌, ◌+◌, ◌<◌, ◌≤◌, ◌++◌, ◌==◌, Bool, true, false, cond, List, [], ◌∷◌, length, Option, Some, None, IfSome, IsSomeAnd, MatchOption, MatchBool, slice_get, refl, sym, ◌∙◌, ap, subst, inl, inr, arith, append_assoc}
 use Rattle.std.specs.List.{filter, filter_map, AllByRecursion}
 use Rattle.std.proofs.lemmas.List.Elements.{filter-append, filter_map-append}
 use Rattle.std.proofs.lemmas.List.{append-nil, length_push, map_push}
@@ -12,9 +12,13 @@ use Rattle.partial_model.specs.declared.call.Called.{Called}
 use Rattle.partial_model.specs.declared.call.Finish.{Finish}
 use Rattle.partial_model.specs.Notes.{Noted, LegalNotes, shown_by, place_of}
 use Rattle.partial_model.specs.Outcome.{noted_of, notes_of, places_written, Follows, RealTime, LegalOutcome}
-use Rattle.partial_words.specs.Layout.{Layout}
+use Rattle.partial_words.specs.Layout.{Layout, IsLayout}
+use Rattle.partial_machine.specs.Machine.{CoreState, AreComponents}
+use Rattle.partial_state.specs.Holdings.{Holding}
+use Rattle.partial_core.proofs.Calls.{led}
+use Rattle.partial_replay.specs.CallSteps.{most_steps}
 use Rattle.partial_words.specs.declared.step.Event.{Event}
-use Rattle.partial_core.specs.Lawful.{Part, port_of, notes_by}
+use Rattle.partial_core.specs.Lawful.{Part, IsKnown, MayBegin, begun_like, core_of, is_at_rest, is_begun, port_of, notes_by}
 use Rattle.partial_replay.specs.declared.port.Port.{Port}
 use Rattle.partial_replay.specs.declared.port.UnderWay.{UnderWay}
 use Rattle.partial_replay.specs.Place.{HasLeastPlace}
@@ -22,7 +26,7 @@ use Rattle.partial_replay.specs.Listed.{calls_by, AreFirstOf, AreAllMade}
 use Rattle.std.specs.Option.{IsSome}
 use Rattle.partial_replay.proofs.PortLaws.{take_next, same_eqb}
 use Rattle.partial_replay.proofs.Opens.{over_none, none_over}
-use Rattle.partial_replay.specs.PortState.{AreFinished, IsUnderWay, IsBetween, PortFits, end_of, ends_of, notes_in, unfinished_call}
+use Rattle.partial_replay.specs.PortState.{AreFinished, AreFew, IsUnderWay, IsBetween, PortFits, end_of, ends_of, notes_in, unfinished_call}
 use Rattle.partial_replay.specs.RunState.{PortsFit, IsRunOf, left_over, calls_in}
 
 notes_split : (p : ℕ) (xs ys : List Called) → notes_of p (xs ++ ys) ≡ notes_of p xs ++ notes_of p ys
@@ -273,6 +277,37 @@ least_told o log q (c ∷ plans) (x ∷ parts) [] w = absurd w
 least_told o log q (c ∷ plans) (x ∷ parts) (t ∷ ports) w =
     let over = left_over t (slice_get c (length t.finished.items)) t.under_way in
     AllByRecursion-append (HasLeastPlace o log) (t.finished.items ++ over) (calls_in plans ports) (AllByRecursion-append (HasLeastPlace o log) t.finished.items over w.0.least (least_over o log t (slice_get c (length t.finished.items)) t.under_way)) (least_told o log (q + 1) plans parts ports w.1)
+
+-- the machine of a port has the sizes of its part's
+sizes_at : (z : Layout) (core : CoreState) (x : Part) (b : Bool) → (core_of x).sizes ≡ z → MatchBool b ((is_at_rest (core_of x).stage ≡ true) × (core ≡ begun_like (core_of x) core) × AreComponents core.sizes core.asked × MayBegin core) (core ≡ core_of x) → core.sizes ≡ z
+sizes_at z core x true led m = ap (λ (s : CoreState). s.sizes) m.1 ∙ led
+sizes_at z core x false led m = ap (λ (s : CoreState). s.sizes) m ∙ led
+
+port_sizes : (z : Layout) (n : ℕ) (calls : List Call) (x : Part) (core : CoreState) (done : List Called) (way : Option UnderWay) → (core_of x).sizes ≡ z → MatchOption way (IsBetween x core) (IsUnderWay n calls x core done) → core.sizes ≡ z
+port_sizes z n calls x core done None led w = ap (λ (s : CoreState). s.sizes) w.machine ∙ led
+port_sizes z n calls x core done (Some way) led w = sizes_at z core x (is_begun core.stage) led w.machine
+
+-- the call that is left unfinished has made no more steps than it may
+few_over : (z : Layout) (n : ℕ) (calls : List Call) (x : Part) (port : Port) (way : Option UnderWay) → port.core.sizes ≡ z → MatchOption way (IsBetween x port.core) (IsUnderWay n calls x port.core port.finished.items) → AreFew z (left_over port (slice_get calls (length port.finished.items)) way)
+few_over z n calls x port None sizes w = subst (AreFew z) (sym (over_none port (slice_get calls (length port.finished.items)))) tt
+few_over z n calls x port (Some way) sizes w =
+    let most : most_steps port.core.sizes w.call ≡ most_steps z w.call = ap (λ (y : Layout). most_steps y w.call) sizes in
+    let steps = w.steps in
+    subst (λ (f : Option Call). AreFew z (left_over port f (Some way))) (sym w.next) (omega (arith, steps, most), tt)
+
+-- no call that is listed has made more steps than it may
+pub few_told : (z : Layout) (o : Opening) (words : List ℕ) (hs : List Holding) (log : List Applied) (q : ℕ) (plans : List (List Call)) (parts : List Part) (ports : List Port) → IsLayout z → PortsFit o log q plans parts ports → AllByRecursion (IsKnown z o words hs log) parts → AreFew z (calls_in plans ports)
+few_told z o words hs log q [] [] [] layout w known = tt
+few_told z o words hs log q [] [] (t ∷ ports) layout w known = absurd w
+few_told z o words hs log q [] (x ∷ parts) ports layout w known = absurd w
+few_told z o words hs log q (c ∷ plans) [] ports layout w known = absurd w
+few_told z o words hs log q (c ∷ plans) (x ∷ parts) [] layout w known = absurd w
+few_told z o words hs log q (c ∷ plans) (x ∷ parts) (t ∷ ports) layout w known =
+    let k = known.0 in
+    let same : (core_of x).sizes ≡ z = (led z o words hs log x.since x.begun x.kept layout k.sizes k.sound k.kept).sizes in
+    let sizes = port_sizes z (length log) c x t.core t.finished.items t.under_way same w.0.way in
+    let over = left_over t (slice_get c (length t.finished.items)) t.under_way in
+    AllByRecursion-append (λ (d : Called). d.steps ≤ most_steps z d.call) (t.finished.items ++ over) (calls_in plans ports) (AllByRecursion-append (λ (d : Called). d.steps ≤ most_steps z d.call) t.finished.items over (subst (λ (y : Layout). AreFew y t.finished.items) sizes w.0.bounded) (few_over z (length log) c x t t.under_way sizes w.0.way)) (few_told z o words hs log (q + 1) plans parts ports layout w.1 known.1)
 
 -- the calls of a replay are a legal outcome of its history
 pub run_legal : (plans : List (List Call)) (z : Layout) (o : Opening) (words : List ℕ) (ports : List Port) (log : List Applied) (trace : List Event) → IsRunOf plans z o words ports log trace → LegalOutcome o log (calls_in plans ports)

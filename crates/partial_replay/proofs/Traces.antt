@@ -24,33 +24,25 @@ use Rattle.partial_replay.specs.Trace.{is_won, new_of, entry_of}
 use Rattle.partial_replay.specs.PortState.{entry_at}
 use Rattle.partial_replay.specs.RunState.{unvalued}
 
--- an exchange is one of a component word
-abbrev pub IsOfComponent : ℕ → Step → Type 0
-IsOfComponent m (Exchange w old new) = w < m
-IsOfComponent m _ = ⊤
-
-below_is : (w m : ℕ) → w < m → nat_lt w m ≡ true
-below_is w m h = search (arith, h)
-
-entry_won : (p w old new a v : ℕ) (c b : Bool) → c ≡ true → cons_option (cond (cond c b false) (Some (record { port = p; component = w; value = 0; stamp = new })) None) [] ≡ map unvalued (cond b (record { port = p; component = w; value = v; stamp = new } ∷ []) [])
-entry_won p w old new a v true true is = refl
-entry_won p w old new a v true false is = refl
-entry_won p w old new a v false b is = absurd (false≢true is)
+entry_won : (p w old new v : ℕ) (c b : Bool) → cons_option (cond (cond c b false) (Some (record { port = p; component = w; value = 0; stamp = new })) None) [] ≡ map unvalued (cond c (cond b (record { port = p; component = w; value = v; stamp = new } ∷ []) []) [])
+entry_won p w old new v true true = refl
+entry_won p w old new v true false = refl
+entry_won p w old new v false b = refl
 
 -- the entry of an event is the one that the history gains
-entry_same : (m : ℕ) (words : List ℕ) (p : ℕ) (step : Step) (a : ℕ) → IsOfComponent m step → cons_option (entry_of m (λ _. 0) (record { port = p; step = step; answer = a })) [] ≡ map unvalued (entry_at words p step a)
-entry_same m words p (Load w) a c = refl
-entry_same m words p (Store w v) a c = refl
-entry_same m words p (Add w k) a c = refl
-entry_same m words p (Exchange w old new) a c = entry_won p w old new a (value_of words new) (nat_lt w m) (a == old) (below_is w m c)
+entry_same : (m : ℕ) (words : List ℕ) (p : ℕ) (step : Step) (a : ℕ) → cons_option (entry_of m (λ _. 0) (record { port = p; step = step; answer = a })) [] ≡ map unvalued (entry_at m words p step a)
+entry_same m words p (Load w) a = refl
+entry_same m words p (Store w v) a = refl
+entry_same m words p (Add w k) a = refl
+entry_same m words p (Exchange w old new) a = entry_won p w old new (value_of words new) (nat_lt w m) (a == old)
 
-pub entries_push : (m : ℕ) (words : List ℕ) (trace trace' : List Event) (log log' : List Applied) (p : ℕ) (step : Step) (a : ℕ) → filter_map (entry_of m (λ _. 0)) trace ≡ map unvalued log → IsOfComponent m step → trace' ≡ trace ++ record { port = p; step = step; answer = a } ∷ [] → log' ≡ log ++ entry_at words p step a → filter_map (entry_of m (λ _. 0)) trace' ≡ map unvalued log'
-entries_push m words trace trace' log log' p step a same component trace_is log_is =
+pub entries_push : (m : ℕ) (words : List ℕ) (trace trace' : List Event) (log log' : List Applied) (p : ℕ) (step : Step) (a : ℕ) → filter_map (entry_of m (λ _. 0)) trace ≡ map unvalued log → trace' ≡ trace ++ record { port = p; step = step; answer = a } ∷ [] → log' ≡ log ++ entry_at m words p step a → filter_map (entry_of m (λ _. 0)) trace' ≡ map unvalued log'
+entries_push m words trace trace' log log' p step a same trace_is log_is =
     ap (filter_map (entry_of m (λ _. 0))) trace_is
     ∙ filter_map-append (entry_of m (λ _. 0)) trace (record { port = p; step = step; answer = a } ∷ [])
     ∙ ap (λ (l : List Applied). l ++ cons_option (entry_of m (λ _. 0) (record { port = p; step = step; answer = a })) []) same
-    ∙ ap (λ (l : List Applied). map unvalued log ++ l) (entry_same m words p step a component)
-    ∙ sym (map-append unvalued log (entry_at words p step a))
+    ∙ ap (λ (l : List Applied). map unvalued log ++ l) (entry_same m words p step a)
+    ∙ sym (map-append unvalued log (entry_at m words p step a))
     ∙ ap (map unvalued) (sym log_is)
 
 -- an entry with the value that its record has

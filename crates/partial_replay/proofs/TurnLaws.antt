@@ -55,7 +55,7 @@ by_step calls words words' trace trace' log log' port new p number m =
 
 by_more : (p n k : ℕ) (old mid new : Run) → GoesOnBy n p old mid → GoesOnBy k p mid new → GoesOnBy (n + k) p old new
 by_more p n k old mid new a b =
-    b ∙ ap (λ (l : List ℕ). l ++ replicate k p) a ∙ append_assoc (ports_of old.trace.items) (replicate n p) (replicate k p) ∙ ap (λ (l : List ℕ). ports_of old.trace.items ++ l) (replicate-append-replicate n k p)
+    b ∙ ap (λ (l : List ℕ). l ++ replicate k p) a ∙ append_assoc (ports_of old.memory.trace.items) (replicate n p) (replicate k p) ∙ ap (λ (l : List ℕ). ports_of old.memory.trace.items ++ l) (replicate-append-replicate n k p)
 
 pub turn_done : (plans : List (List Call)) (p : ℕ) (old new : Run) → GoesOnBy 0 p old new → StayDone plans old new → IsDone plans new.ports.items p → StayStoppedBut p old new → TurnMade plans p old false new
 turn_done plans p old new trace kept done ending = record { trace = trace; done = done; kept = kept; ending = ending }
@@ -65,7 +65,7 @@ turn_stepped plans p old mid new trace kept ready trace' kept' but with' =
     record { trace = by_more p 0 1 old mid new trace trace'; done = λ d. ready_done plans p mid ready (kept p d); kept = λ q d. kept' q (kept q d); ending = λ q e. with' q (λ other. but q other e) }
 
 pub no_steps : (plans : List (List Call)) (p : ℕ) (run : Run) → StepsMade plans p 0 run run
-no_steps plans p run = record { trace = sym (append-nil (ports_of run.trace.items)); none = λ d. refl; kept = λ q d. d }
+no_steps plans p run = record { trace = sym (append-nil (ports_of run.memory.trace.items)); none = λ d. refl; kept = λ q d. d }
 
 pub step_more : (plans : List (List Call)) (p n : ℕ) (old mid new : Run) → StepsMade plans p n old mid → TurnMade plans p mid true new → StepsMade plans p (n + 1) old new
 step_more plans p n old mid new s t =
@@ -107,7 +107,7 @@ last_turns E p n (Some t) m = (m.0, λ less. (m.1 less, refl))
 pub followed : (plans : List (List Call)) (es : List (ℕ × Option ℕ)) (p : ℕ) (k : Option ℕ) (old new : Run) → HasMadeTurns plans es old → TurnsMade plans p k old new → HasMadeTurns plans (es ++ (p, k) ∷ []) new
 followed plans es p k old new f t =
     subst (MakeTurns (IsDone plans new.ports.items) (es ++ (p, k) ∷ [])) (sym t.1.trace)
-    (follows_push (IsDone plans old.ports.items) (IsDone plans new.ports.items) es (ports_of old.trace.items) p (t.0) k t.1.kept t.1.none (last_turns (IsDone plans new.ports.items) p (t.0) k t.2) f)
+    (follows_push (IsDone plans old.ports.items) (IsDone plans new.ports.items) es (ports_of old.memory.trace.items) p (t.0) k t.1.kept t.1.none (last_turns (IsDone plans new.ports.items) p (t.0) k t.2) f)
 
 -- the turns of an entry that are all made in steps leave no call begun
 pub ending_turns : (plans : List (List Call)) (p n : ℕ) (old mid new : Run) → StayStopped old mid → TurnMade plans p mid true new → StayStopped old new
@@ -243,9 +243,9 @@ ending_next plans steps i old new below f ends t q same =
     let e = get_or steps i (0, 0) in
     let p = e.0 in
     let n = t.0 in
-    let ports = ports_of old.trace.items in
+    let ports = ports_of old.memory.trace.items in
     let turns = turns_push q i steps e (get_is steps i (0, 0) below) in
-    let events : events_in q (ports_of new.trace.items) ≡ events_in q ports + events_in q (replicate n p) = ap (events_in q) t.1.trace ∙ events_push q n p ports in
+    let events : events_in q (ports_of new.memory.trace.items) ≡ events_in q ports + events_in q (replicate n p) = ap (events_in q) t.1.trace ∙ events_push q n p ports in
     let within = (within_turns (IsDone plans old.ports.items) q (take i steps) ports f).within in
     let few = t.2.0 in
     elim (eqb_tells p q) [

@@ -1,7 +1,7 @@
 -- What a port of a replay has made of its calls, and what one step makes of it.
 use Rattle.std.specs.Prelude.{ℕ, ◌≡◌, ◌+◌, ◌<◌, ◌≤◌, ◌==◌, ◌^◌, ⊤, true, false, List, [], ◌∷◌, ◌++◌, length, map, take, nat_lt, slice_get, Option, Some, None, IfSome, IsSomeAnd, MatchOption, if◌then◌else◌}
 use Rattle.std.specs.List.{AllByRecursion, filter_map}
-use Rattle.std.specs.Option.{option_map, option_map_or}
+use Rattle.std.specs.Option.{option_map_or}
 use Rattle.partial_model.specs.declared.history.Applied.{Applied}
 use Rattle.partial_model.specs.declared.history.Opening.{Opening}
 use Rattle.partial_model.specs.declared.call.Call.{Call}
@@ -148,11 +148,15 @@ abbrev pub IsExchangeWithin : ℕ → List ℕ → Step → Type 0
 IsExchangeWithin m words (Exchange j old at) = j < m → at + 1 < length words
 IsExchangeWithin m words _ = ⊤
 
--- where the call is a scan that ends, its components are there, and each has a value
-abbrev pub MayEnd : ℕ → Call → Option Answer → Type 0
-MayEnd m (call.Scan js) (Some (answer.Scanned vs collects borrowed)) = AllByRecursion (λ j. j < m) js × (length vs ≡ length js)
-MayEnd m _ (Some (answer.Scanned vs collects borrowed)) = ⊥
-MayEnd m _ _ = ⊤
+-- the call is a scan of components that are there, and each has a value
+abbrev pub HasValues : ℕ → Call → List ℕ → Type 0
+HasValues m (call.Scan js) vs = AllByRecursion (λ j. j < m) js × (length vs ≡ length js)
+HasValues m _ vs = ⊥
+
+-- an answer that the call may have: only a scan answers values
+abbrev pub MayAnswer : ℕ → Call → Answer → Type 0
+MayAnswer m c (answer.Scanned vs collects borrowed) = HasValues m c vs
+MayAnswer m c _ = ⊤
 
 -- where the reply is a scan's, the machine has a value for each position of the call
 abbrev pub HasPositions : CoreState → Call → Reply → Type 0
@@ -177,7 +181,7 @@ pub record MayStep (calls : List Call) (words : List ℕ) (log : List Applied) (
   pub exchange : IsExchangeWithin port.core.sizes.m words step
   pub steps : way.steps + 1 < 2 ^ 64
   pub next : slice_get calls (length port.finished.items) ≡ Some call
-  pub ends : MayEnd port.core.sizes.m call (option_map (answer_for (core_behind words step port)) (reply_of (core_behind words step port)))
+  pub ends : IfSome (reply_of (core_behind words step port)) (λ r. MayAnswer port.core.sizes.m call (answer_for (core_behind words step port) r))
   pub places : AreWithin port.core.sizes.m (words_after words step) (log ++ entry_at port.core.sizes.m (words_after words step) port.number step (answer_of words step))
 
 -- a call that was finished as it was begun

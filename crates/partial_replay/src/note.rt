@@ -5,7 +5,7 @@ ghost use Rattle.partial_model.specs.Notes.{indices_of};
 ghost use Rattle.partial_machine.specs.Machine.{scanned_values};
 ghost use Rattle.partial_core.specs.Lawful.{answer_for};
 ghost use Rattle.partial_replay.specs.Place.{IsPlaceFrom, IsNoteFrom, prefix_from};
-ghost use Rattle.partial_replay.specs.PortState.{AreWithin, HasPositions, MayEnd};
+ghost use Rattle.partial_replay.specs.PortState.{AreWithin, HasPositions, MayAnswer};
 
 use crate::memory::Memory;
 use partial_core::{Core, Reply};
@@ -38,7 +38,7 @@ fn prefix_of(history: &[Applied], began: usize, found: Option<usize>) -> usize
 
 /// The note of a call that began when the history had `began` entries and ended with that answer.
 pub fn note_of(memory: &mut Memory, began: usize, call: &Call, answer: &Answer) -> Option<Note>
-    requires ends { MayEnd memory.old.places call.now (Some answer.now) }
+    requires ends { MayAnswer memory.old.places call.now answer.now }
     requires within { AreWithin memory.old.places memory.old.words.items memory.old.history.items }
     ensures note { IsNoteFrom memory.old.words.items memory.old.history.items began call.now answer.now result }
     ensures same { memory.new ≡ memory.old }

@@ -7,7 +7,7 @@ ghost use Rattle.partial_machine.specs.declared.stage.Stage.TheVariants.{Idle};
 ghost use Rattle.partial_machine.specs.Machine.{reply_of};
 ghost use Rattle.partial_core.specs.Lawful.{answer_for};
 ghost use Rattle.partial_replay.specs.CallSteps.{begun_of, refusal_of};
-ghost use Rattle.partial_replay.specs.PortState.{IsServed, IsExchangeWithin, AreWithin, IsDoneAtOnce, MayEnd, call_at_once, entry_at, unfinished_call, IsEndedCall, KeepsFit, KeepsMade, MayStep, StepMade};
+ghost use Rattle.partial_replay.specs.PortState.{IsServed, IsExchangeWithin, AreWithin, IsDoneAtOnce, MayAnswer, call_at_once, entry_at, unfinished_call, IsEndedCall, KeepsFit, KeepsMade, MayStep, StepMade};
 
 use crate::memory::Memory;
 use crate::note::{answer_of, note_of};
@@ -248,7 +248,7 @@ impl Port {
         memory: &mut Memory,
         reply: Reply,
     ) -> Result<Called, AllocError>
-        requires ends { MayEnd memory.old.places call.now (Some (answer_for self.now.core reply)) }
+        requires ends { MayAnswer memory.old.places call.now (answer_for self.now.core reply) }
         requires within { AreWithin memory.old.places memory.old.words.items memory.old.history.items }
         requires numbers { length self.now.finished.items < 2 ^ 32 }
         ensures called { IfOk result (IsEndedCall self.now.number (length self.now.finished.items) call.now way memory.old.words.items memory.old.history.items (answer_for self.now.core reply)) }

@@ -213,7 +213,7 @@ impl Run {
         plans: &[Sequence<Call>],
     ) -> Result<Outcome, AllocError>
         requires run { IsRun plans.now self }
-        requires plans { ArePlans self.old.memory.sizes.m plans.now }
+        requires plans { ArePlans self.memory.sizes.m plans.now }
         ensures { IfOk result (Tells plans.now self) }
     {
         let Run {

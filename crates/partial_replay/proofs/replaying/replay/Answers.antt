@@ -13,18 +13,27 @@ use Rattle.partial_replay.specs.TurnState.{StopAtSteps, HasMadeTurns, TurnsMade}
 use Rattle.partial_replay.specs.Replayed.{IsReplayOf}
 use Rattle.partial_replay.specs.RunState.{ArePlans}
 use Rattle.partial_replay.proofs.Plans.{are_plans}
+use Rattle.partial_words.specs.Layout.{Layout}
+use Rattle.partial_text.specs.PlanText.{PlanView, IsPlan}
 use Rattle.partial_replay.proofs.Replays.{replay_told}
 use Rattle.partial_replay.proofs.replaying.replay.Goals.{then-rest+else-loop-p-then-rest-test, else-rest}
 use Rattle.partial_replay.proofs.replaying.replay.Goals as goal
 
+-- the plan's calls are ones that the machines of such a run serve
+plans_here : (p : PlanView) (plans : List (List Call)) (run : Run) → plans ≡ p.ports → IsPlan p → run.memory.sizes ≡ p.sizes → ArePlans run.memory.sizes.m plans
+plans_here p plans run is w sizes = subst (λ (z : Layout). ArePlans z.m plans) (sym sizes) (subst (ArePlans p.sizes.m) (sym is) (are_plans p w))
+
 pub turns-requires-clause-plans : goal.turns-requires-clause-plans
-turns-requires-clause-plans c = subst ArePlans (sym c.ports-plans.ensures.value) (are_plans c.args.plan.now c.ports-plans.ensures.lawful)
+turns-requires-clause-plans c = plans_here c.args.plan.now c.ports-plans.result.now c.loop-p.run c.ports-plans.ensures.value c.ports-plans.ensures.lawful c.loop-p.invariant.sizes
 
 pub to_the_end-requires-clause-plans : goal.to_the_end-requires-clause-plans
-to_the_end-requires-clause-plans c = subst ArePlans (sym c.ports-plans.ensures.value) (are_plans c.args.plan.now c.ports-plans.ensures.lawful)
+to_the_end-requires-clause-plans c = plans_here c.args.plan.now c.ports-plans.result.now c.loop-p-then-rest.run c.ports-plans.ensures.value c.ports-plans.ensures.lawful c.loop-p-then-rest.invariant.sizes
 
 pub into_outcome-requires-clause-plans : goal.into_outcome-requires-clause-plans
-into_outcome-requires-clause-plans c = subst ArePlans (sym c.ports-plans.ensures.value) (are_plans c.args.plan.now c.ports-plans.ensures.lawful)
+into_outcome-requires-clause-plans c = elim c.if-rest.branch [
+  | then-rest+else-loop-p-then-rest-test w ↦ plans_here c.args.plan.now c.ports-plans.result.now c.if-rest.run c.ports-plans.ensures.value c.ports-plans.ensures.lawful (ap (λ (r : Run). r.memory.sizes) w.run-is ∙ w.loop-p-then-rest.invariant.sizes)
+  | else-rest w ↦ plans_here c.args.plan.now c.ports-plans.result.now c.if-rest.run c.ports-plans.ensures.value c.ports-plans.ensures.lawful (ap (λ (r : Run). r.memory.sizes) w.run-is ∙ c.loop-p.invariant.sizes)
+]
 
 pub returns : goal.returns
 returns c =
@@ -32,7 +41,7 @@ returns c =
     let plans = c.ports-plans.result.now in
     let outcome = c.in_ok-into_outcome.field-0 in
     let is = c.ports-plans.ensures.value in
-    let told : (run : Run) → c.if-rest.run ≡ run → IsRun plans run → AreStarted run.ports.items → run.sizes ≡ p.sizes → run.opening.values ≡ p.initial → HasMadeTurns plans (turns_of p) run → (p.rest ≡ false → StopAtSteps p.steps run) → IsReplayOf p outcome = λ run same w started sizes values f ends.
+    let told : (run : Run) → c.if-rest.run ≡ run → IsRun plans run → AreStarted run.ports.items → run.memory.sizes ≡ p.sizes → run.opening.values ≡ p.initial → HasMadeTurns plans (turns_of p) run → (p.rest ≡ false → StopAtSteps p.steps run) → IsReplayOf p outcome = λ run same w started sizes values f ends.
     replay_told p run outcome (subst (λ (l : List (List Call)). IsRun l run) is w) started sizes values
     (subst (λ (l : List (List Call)). HasMadeTurns l (turns_of p) run) is f) ends
     (subst (λ (l : List (List Call)). Tells l run outcome) is (subst (λ (v : Run). Tells plans v outcome) same c.in_ok-into_outcome.ensures)) in
@@ -56,6 +65,7 @@ loop-p-init c =
     let run = c.in_ok-run.ensures in
     record {
       run = run.run;
+      room = run.room;
       started = run.started;
       sizes = run.opening.0 ∙ c.sizes.ensures.value;
       values = run.opening.1 ∙ c.initial.ensures.value;
@@ -74,6 +84,7 @@ loop-p-preserved c =
     subst (λ (l : List (ℕ × ℕ)). TurnsMade c.ports-plans.result.now (get_or l i (0, 0)).0 (Some (get_or l i (0, 0)).1) c.loop-p.run c.turns.new.self) is c.in_ok-turns.ensures.turns in
     record {
       run = c.in_ok-turns.ensures.run;
+      room = c.in_ok-turns.ensures.room;
       started = c.in_ok-turns.ensures.started;
       sizes = same.sizes ∙ old.sizes;
       values = ap (λ (o : Opening). o.values) same.opening ∙ old.values;
@@ -85,7 +96,7 @@ pub loop-p-then-rest-init : goal.loop-p-then-rest-init
 loop-p-then-rest-init c =
     let old = c.loop-p.invariant in
     let steps : length c.steps-p-items.result.now ≡ length c.args.plan.now.steps = ap length c.steps-p-items.ensures.value in
-    record { run = old.run; started = old.started; sizes = old.sizes; values = old.values; turns = followed_all c.ports-plans.result.now c.args.plan.now.steps c.loop-p.p-index c.loop-p.run (omega (arith, c.loop-p-test.false, steps)) old.turns }
+    record { run = old.run; room = old.room; started = old.started; sizes = old.sizes; values = old.values; turns = followed_all c.ports-plans.result.now c.args.plan.now.steps c.loop-p.p-index c.loop-p.run (omega (arith, c.loop-p-test.false, steps)) old.turns }
 
 pub loop-p-then-rest-preserved : goal.loop-p-then-rest-preserved
 loop-p-then-rest-preserved c =
@@ -93,6 +104,7 @@ loop-p-then-rest-preserved c =
     let same = c.in_ok-to_the_end.ensures.same in
     record {
       run = c.in_ok-to_the_end.ensures.run;
+      room = c.in_ok-to_the_end.ensures.room;
       started = c.in_ok-to_the_end.ensures.started;
       sizes = same.sizes ∙ old.sizes;
       values = ap (λ (o : Opening). o.values) same.opening ∙ old.values;

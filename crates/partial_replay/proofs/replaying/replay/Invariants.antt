@@ -1,7 +1,7 @@
 use Rattle.std.proofs.Common.{◌≡◌, ◌++◌, map, take}
 use Rattle.std.specs.List.{range_with_len}
 use Rattle.partial_replay.specs.Turns.{so_many, to_its_end}
-use Rattle.partial_replay.specs.RunState.{AreStarted, IsRun}
+use Rattle.partial_replay.specs.RunState.{AreStarted, HasRoom, IsRun}
 use Rattle.partial_replay.specs.TurnState.{StopAtSteps, HasMadeTurns}
 use Rattle.partial_replay.proofs.replaying.replay.Given as goal
 
@@ -9,8 +9,9 @@ use Rattle.partial_replay.proofs.replaying.replay.Given as goal
 abbrev pub invariant-loop-p : goal.invariant-loop-p
 invariant-loop-p l = record {
   run : IsRun l.plans l.run;
+  room : HasRoom l.run;
   started : AreStarted l.run.ports.items;
-  sizes : l.run.sizes ≡ l.plan.sizes;
+  sizes : l.run.memory.sizes ≡ l.plan.sizes;
   values : l.run.opening.values ≡ l.plan.initial;
   turns : HasMadeTurns l.plans (map so_many (take l.p-index l.plan.steps)) l.run;
   ending : StopAtSteps (take l.p-index l.plan.steps) l.run;
@@ -19,8 +20,9 @@ invariant-loop-p l = record {
 abbrev pub invariant-loop-p-then-rest : goal.invariant-loop-p-then-rest
 invariant-loop-p-then-rest l = record {
   run : IsRun l.plans l.run;
+  room : HasRoom l.run;
   started : AreStarted l.run.ports.items;
-  sizes : l.run.sizes ≡ l.plan.sizes;
+  sizes : l.run.memory.sizes ≡ l.plan.sizes;
   values : l.run.opening.values ≡ l.plan.initial;
   turns : HasMadeTurns l.plans (map so_many l.plan.steps ++ map to_its_end (range_with_len 0 l.p)) l.run;
 }

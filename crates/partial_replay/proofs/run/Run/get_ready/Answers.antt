@@ -1,7 +1,7 @@
 use Rattle.std.proofs.Common.{◌≡◌, ◌+◌, ◌≤◌, List, length, Some, slice_get, sym, ◌∙◌, ap, subst, arith}
 use Rattle.partial_model.specs.declared.call.Call.{Call}
 use Rattle.partial_replay.specs.PortState.{KeepsFit, KeepsMade}
-use Rattle.partial_replay.proofs.RunSteps.{port_here, begin_keeps, ports_length, got, none_of, some_of, is_some_of, match_bool, begun_done, port_in, idle_between, left_is, left_ready}
+use Rattle.partial_replay.proofs.RunSteps.{port_here, begin_keeps, ports_length, got, none_of, some_of, is_some_of, match_bool, begun_done, port_in, idle_between, left_is, left_ready, served_here}
 use Rattle.partial_replay.proofs.PortLaws.{get_set}
 use Rattle.partial_replay.proofs.PortSteps.{ending_but, started_but, started_idle}
 use Rattle.partial_replay.proofs.TurnLaws.{done_set}
@@ -11,7 +11,7 @@ use Rattle.partial_replay.proofs.run.Run.get_ready.Goals as goal
 pub index_mut-port-requires : goal.index_mut-port-requires
 index_mut-port-requires c =
     let run = c.requires.run in
-    let many = ports_length c.args.self.now.opening c.args.self.now.history.items 0 c.args.plans.now run.parts c.args.self.now.ports.items run.fit in
+    let many = ports_length c.args.self.now.opening c.args.self.now.memory.history.items 0 c.args.plans.now run.parts c.args.self.now.ports.items run.fit in
     omega (arith, many, c.args.self.now.ports.ok.0, c.requires.port)
 
 pub returns-then-is_some-clause-ready : goal.returns-then-is_some-clause-ready
@@ -30,8 +30,8 @@ begin_next-requires-clause-idle c =
     let port = c.index_mut-port.result.now in
     let here = port_here c.args.plans.now _ _ _ ports _ _ c.args.p port run c.requires.port c.index_mut-port.ensures.value in
     let plan : slice_get c.args.plans.now c.args.p ≡ Some c.index-plans-p.result = got c.args.plans.now c.args.p c.index-plans-p.result c.requires.port c.index-plans-p.is in
-    let fit = port_in c.args.plans.now c.args.self.now.sizes c.args.self.now.opening c.args.self.now.words.items ports c.args.self.now.history.items c.args.self.now.trace.items c.args.p c.index-plans-p.result port run plan here in
-    idle_between c.args.self.now.opening c.args.self.now.history.items c.index-plans-p.result (0 + c.args.p) fit.0 port fit.1 (none_of port.under_way (sym c.is_some.ensures ∙ c.if-is_some.false))
+    let fit = port_in c.args.plans.now c.args.self.now.memory.sizes c.args.self.now.opening c.args.self.now.memory.words.items ports c.args.self.now.memory.history.items c.args.self.now.memory.trace.items c.args.p c.index-plans-p.result port run plan here in
+    idle_between c.args.self.now.opening c.args.self.now.memory.history.items c.index-plans-p.result (0 + c.args.p) fit.0 port fit.1 (none_of port.under_way (sym c.is_some.ensures ∙ c.if-is_some.false))
 
 pub begin_next-requires-clause-few : goal.begin_next-requires-clause-few
 begin_next-requires-clause-few c =
@@ -40,8 +40,18 @@ begin_next-requires-clause-few c =
     let port = c.index_mut-port.result.now in
     let here = port_here c.args.plans.now _ _ _ ports _ _ c.args.p port run c.requires.port c.index_mut-port.ensures.value in
     let plan : slice_get c.args.plans.now c.args.p ≡ Some c.index-plans-p.result = got c.args.plans.now c.args.p c.index-plans-p.result c.requires.port c.index-plans-p.is in
-    let fit = port_in c.args.plans.now c.args.self.now.sizes c.args.self.now.opening c.args.self.now.words.items ports c.args.self.now.history.items c.args.self.now.trace.items c.args.p c.index-plans-p.result port run plan here in
+    let fit = port_in c.args.plans.now c.args.self.now.memory.sizes c.args.self.now.opening c.args.self.now.memory.words.items ports c.args.self.now.memory.history.items c.args.self.now.memory.trace.items c.args.p c.index-plans-p.result port run plan here in
     subst (λ (l : List Call). length port.finished.items ≤ length l) (sym c.as_slice-calls.ensures) fit.1.few
+
+pub begin_next-requires-clause-served : goal.begin_next-requires-clause-served
+begin_next-requires-clause-served c =
+    let run = c.requires.run in
+    let ports = c.args.self.now.ports.items in
+    let port = c.index_mut-port.result.now in
+    let calls = c.as_slice-calls.result.now in
+    let here = port_here c.args.plans.now _ _ _ ports _ _ c.args.p port run c.requires.port c.index_mut-port.ensures.value in
+    let plan : slice_get c.args.plans.now c.args.p ≡ Some calls = got c.args.plans.now c.args.p c.index-plans-p.result c.requires.port c.index-plans-p.is ∙ ap Some (sym c.as_slice-calls.ensures) in
+    served_here c.args.plans.now c.args.self.now.memory.sizes c.args.self.now.opening c.args.self.now.memory.words.items ports c.args.self.now.memory.history.items c.args.self.now.memory.trace.items c.args.p calls port run c.requires.plans plan here
 
 pub returns-clause-run : goal.returns-clause-run
 returns-clause-run c =
@@ -51,10 +61,10 @@ returns-clause-run c =
     let calls = c.as_slice-calls.result.now in
     let here = port_here c.args.plans.now _ _ _ ports _ _ c.args.p port run c.requires.port c.index_mut-port.ensures.value in
     let plan : slice_get c.args.plans.now c.args.p ≡ Some calls = got c.args.plans.now c.args.p c.index-plans-p.result c.requires.port c.index-plans-p.is ∙ ap Some (sym c.as_slice-calls.ensures) in
-    let seen : c.len-seen.result ≡ length c.args.self.now.history.items = omega (arith, c.len-seen.ensures, c.args.self.now.history.ok.0) in
-    let keeps : KeepsFit calls (length c.args.self.now.history.items) port c.begin_next.new.self = λ o l q x n f. c.in_ok-begun.ensures.fits o l q x (n ∙ sym seen) f in
-    let made : KeepsMade calls (length c.args.self.now.history.items) port c.begin_next.new.self = subst (λ n. KeepsMade calls n port c.begin_next.new.self) seen c.in_ok-begun.ensures.made in
-    begin_keeps c.args.plans.now c.args.self.now.sizes c.args.self.now.opening c.args.self.now.words.items ports c.args.self.now.history.items c.args.self.now.trace.items c.args.p calls port c.begin_next.new.self run plan here keeps made
+    let seen : c.len-seen.result ≡ length c.args.self.now.memory.history.items = omega (arith, c.len-seen.ensures, c.args.self.now.memory.history.ok.0) in
+    let keeps : KeepsFit calls (length c.args.self.now.memory.history.items) port c.begin_next.new.self = λ o l q x n f. c.in_ok-begun.ensures.fits o l q x (n ∙ sym seen) f in
+    let made : KeepsMade calls (length c.args.self.now.memory.history.items) port c.begin_next.new.self = subst (λ n. KeepsMade calls n port c.begin_next.new.self) seen c.in_ok-begun.ensures.made in
+    begin_keeps c.args.plans.now c.args.self.now.memory.sizes c.args.self.now.opening c.args.self.now.memory.words.items ports c.args.self.now.memory.history.items c.args.self.now.memory.trace.items c.args.p calls port c.begin_next.new.self run plan here keeps made
 
 pub returns-clause-ready : goal.returns-clause-ready
 returns-clause-ready c =
@@ -88,11 +98,12 @@ returns-clause-left c =
     let calls = c.as_slice-calls.result.now in
     let here = port_here c.args.plans.now _ _ _ ports _ _ c.args.p port run c.requires.port c.index_mut-port.ensures.value in
     let plan : slice_get c.args.plans.now c.args.p ≡ Some calls = got c.args.plans.now c.args.p c.index-plans-p.result c.requires.port c.index-plans-p.is ∙ ap Some (sym c.as_slice-calls.ensures) in
-    let seen : c.len-seen.result ≡ length c.args.self.now.history.items = omega (arith, c.len-seen.ensures, c.args.self.now.history.ok.0) in
-    let fit = port_in c.args.plans.now c.args.self.now.sizes c.args.self.now.opening c.args.self.now.words.items ports c.args.self.now.history.items c.args.self.now.trace.items c.args.p calls port run plan here in
-    let fits = c.in_ok-begun.ensures.fits c.args.self.now.opening c.args.self.now.history.items (0 + c.args.p) fit.0 (sym seen) fit.1 in
+    let seen : c.len-seen.result ≡ length c.args.self.now.memory.history.items = omega (arith, c.len-seen.ensures, c.args.self.now.memory.history.ok.0) in
+    let fit = port_in c.args.plans.now c.args.self.now.memory.sizes c.args.self.now.opening c.args.self.now.memory.words.items ports c.args.self.now.memory.history.items c.args.self.now.memory.trace.items c.args.p calls port run plan here in
+    let fits = c.in_ok-begun.ensures.fits c.args.self.now.opening c.args.self.now.memory.history.items (0 + c.args.p) fit.0 (sym seen) fit.1 in
     let none = none_of port.under_way (sym c.is_some.ensures ∙ c.if-is_some.false) in
-    let less = left_ready c.args.self.now.opening c.args.self.now.history.items calls (0 + c.args.p) fit.0 port new fits none c.in_ok-begun.ensures.more in
+    let served = served_here c.args.plans.now c.args.self.now.memory.sizes c.args.self.now.opening c.args.self.now.memory.words.items ports c.args.self.now.memory.history.items c.args.self.now.memory.trace.items c.args.p calls port run c.requires.plans plan here in
+    let less = left_ready c.args.self.now.opening c.args.self.now.memory.history.items calls (0 + c.args.p) fit.0 port new served c.in_ok-begun.ensures.sizes fits none c.in_ok-begun.ensures.more in
     let now = left_is c.args.plans.now _ c.args.p calls new plan (get_set ports c.args.p port new here) in
     let old = left_is c.args.plans.now ports c.args.p calls port plan here in
     omega (arith, less, now, old)

@@ -10,6 +10,7 @@ loop-preserved c =
     let same = c.in_ok-turn.ensures.same in
     record {
       run = c.in_ok-turn.ensures.run;
+      room = c.in_ok-turn.ensures.room;
       started = c.in_ok-turn.ensures.started;
       ending = ending_turns c.args.plans.now c.args.p (old.steps.0) c.args.self.now c.loop.self c.turn.new.self old.ending turn;
       same = record { sizes = same.sizes ∙ old.same.sizes; opening = same.opening ∙ old.same.opening };
