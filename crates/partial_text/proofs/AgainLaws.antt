@@ -16,7 +16,7 @@ use Rattle.partial_text.specs.declared.fault.PlanError.TheVariants as plan
 use Rattle.partial_text.specs.Pieces.{until, from, onto_first, pieces}
 use Rattle.partial_text.specs.Fault.{◌>>=◌}
 use Rattle.partial_text.specs.PlanText.{PlanView, field, number_field, sizes_line, initial_line, call_text, next_call, port_line, entry_text, rest_text, steps_line, ended, plan_text, IsCall, IsEntry, IsPlan}
-use Rattle.partial_text.specs.Judging.{Tail, greatest, greatest_index, fields_of, number_at, in_range, sizes_from, sizes_at, initial_at, numbers_at, update_from, scan_from, read_from, update_if_from, call_at, calls_at, is_cut, call_texts, port_at, entry_at, is_nil, is_rest, entries_at, line_at, more_ports, is_end, last_at, tail_at, lines_judged, judged}
+use Rattle.partial_text.specs.Judging.{Tail, greatest, greatest_index, fields_of, number_at, in_range, sizes_from, sizes_at, initial_at, update_from, scan_from, read_from, update_if_from, call_at, calls_at, is_cut, call_texts, port_at, entry_at, is_nil, is_rest, entries_at, line_at, more_ports, is_end, last_at, tail_at, lines_judged, judged}
 use Rattle.partial_text.proofs.CallCuts.{cut_more}
 use Rattle.partial_text.proofs.Steps.{tail_by, tail_step}
 use Rattle.partial_text.proofs.NumberLaws.{both_and, HasNo, HasNo-append, HasNo-decimal, IsNoDigit}

@@ -1,5 +1,5 @@
 -- What is read as a plan is the plan's text.
-use Rattle.std.proofs.Common.{◌≡◌, ℕ, ◌+◌, ◌<◌, ◌≤◌, Bool, true, false, cond, eqb, ltb, List, [], ◌∷◌, ◌++◌, length, codes, Result, Ok, Err, refl, sym, ap, subst, ◌∙◌, append_assoc, ◌⊎◌, inl, inr, arith}
+use Rattle.std.proofs.Common.{◌≡◌, ℕ, ◌+◌, ◌<◌, ◌≤◌, Bool, true, false, cond, eqb, ltb, List, [], ◌∷◌, ◌++◌, length, codes, Ok, Err, refl, sym, ap, subst, ◌∙◌, append_assoc, ◌⊎◌, inl, inr, arith}
 use Rattle.std.specs.List.{flat_map, AllByRecursion}
 use Rattle.std.specs.Str.{bytes_eq}
 use Rattle.std.proofs.lemmas.Bool.{eqb-false, ltb-true, ltb-false}
@@ -7,7 +7,6 @@ use Rattle.std.proofs.lemmas.List.{append-nil, length-append}
 use Rattle.std.proofs.lemmas.Slice.Eq.{bytes_eq-Decides}
 use Rattle.partial_model.specs.declared.call.Call.{Call}
 use Rattle.partial_text.specs.declared.fault.Cause.TheVariants as cause
-use Rattle.partial_text.specs.declared.fault.PlanError.{PlanError}
 use Rattle.partial_text.specs.declared.fault.PlanError.TheVariants as plan
 use Rattle.partial_text.specs.Pieces.{until, from, pieces}
 use Rattle.partial_text.specs.Fault.{◌>>=◌}
