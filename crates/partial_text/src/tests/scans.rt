@@ -47,7 +47,7 @@ fn scans_are_read(rt: HostRuntime) -> Result<(), Fail> {
     Ok(())
 }
 
-/// A plan whose one port scans its components, each so many times.
+/// A plan of so many components, whose one port scans each of them, with `more` behind the last one.
 fn scan_of_all(alloc: Global, components: u32, more: &[u8]) -> Result<Vec<u8>, Fail> {
     let mut text = Vec::from_slice(alloc, b"sizes ")?;
     text.extend_from_slice(Buffer::new().format(components).as_bytes())?;
