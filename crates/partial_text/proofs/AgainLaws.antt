@@ -16,7 +16,7 @@ use Rattle.partial_text.specs.declared.fault.PlanError.TheVariants as plan
 use Rattle.partial_text.specs.Pieces.{until, from, onto_first, pieces}
 use Rattle.partial_text.specs.Fault.{◌>>=◌}
 use Rattle.partial_text.specs.PlanText.{PlanView, field, number_field, sizes_line, initial_line, call_text, next_call, port_line, entry_text, rest_text, steps_line, ended, plan_text, IsCall, IsEntry, IsPlan}
-use Rattle.partial_text.specs.Judging.{Tail, greatest, greatest_index, fields_of, number_at, in_range, sizes_from, sizes_at, initial_at, update_from, read_from, update_if_from, call_at, calls_at, is_cut, call_texts, port_at, entry_at, is_nil, is_rest, entries_at, line_at, more_ports, is_end, last_at, tail_at, lines_judged, judged}
+use Rattle.partial_text.specs.Judging.{Tail, greatest, greatest_index, fields_of, number_at, in_range, sizes_from, sizes_at, initial_at, update_from, scan_from, read_from, update_if_from, call_at, calls_at, is_cut, call_texts, port_at, entry_at, is_nil, is_rest, entries_at, line_at, more_ports, is_end, last_at, tail_at, lines_judged, judged}
 use Rattle.partial_text.proofs.CallCuts.{cut_more}
 use Rattle.partial_text.proofs.Steps.{tail_by, tail_step}
 use Rattle.partial_text.proofs.NumberLaws.{both_and, HasNo, HasNo-append, HasNo-decimal, IsNoDigit}
@@ -31,6 +31,20 @@ update_again : (line j v : ℕ) → j ≤ greatest_index → v ≤ greatest → 
 unfolding update_from
 update_again line j v a b = rw (number_at_again line greatest_index j (omega arith) a, number_at_again line greatest v (omega arith) b) refl
 
+indices_within : (js : List ℕ) → AllByRecursion (λ (j : ℕ). j < 2 ^ 32) js → AllByRecursion (λ (j : ℕ). j ≤ greatest_index) js
+indices_within [] fits = tt
+indices_within (j ∷ js) fits = (omega (arith, fits.0), indices_within js fits.1)
+
+indices_small : (js : List ℕ) → AllByRecursion (λ (j : ℕ). j < 2 ^ 32) js → AllByRecursion (λ (j : ℕ). j < 2 ^ 64) js
+indices_small [] fits = tt
+indices_small (j ∷ js) fits = (omega (arith, fits.0), indices_small js fits.1)
+
+scan_again : (m line : ℕ) (js : List ℕ) → length js ≤ m → AllByRecursion (λ (j : ℕ). j < 2 ^ 32) js → scan_from m line (map decimal js) ≡ Ok (call.Scan js)
+unfolding scan_from
+scan_again m line js few fits =
+    let within : ltb m (length (map decimal js)) ≡ false = le-ltb m (length (map decimal js)) (omega (arith, length-map js decimal)) in
+    rw (within, numbers_again line greatest_index [] js (omega arith) (indices_within js fits)) refl
+
 read_again : (line j : ℕ) → j ≤ greatest_index → read_from line (decimal j ∷ []) ≡ Ok (call.Read j)
 unfolding read_from
 read_again line j a = rw (number_at_again line greatest_index j (omega arith) a) refl
@@ -40,51 +54,53 @@ unfolding update_if_from
 update_if_again line j s v a b c =
     rw (number_at_again line greatest_index j (omega arith) a, number_at_again line greatest s (omega arith) b, number_at_again line greatest v (omega arith) c) refl
 
-abbrev call_by : ℕ → List ℕ → List (List ℕ) → Result Call PlanError
-call_by line w fs =
-    cond (bytes_eq w (codes "update")) (update_from line fs) (cond (bytes_eq w (codes "read")) (read_from line fs) (cond (bytes_eq w (codes "updateif")) (update_if_from line fs) (Err (plan.Line line cause.Word))))
+abbrev call_by : ℕ → ℕ → List ℕ → List (List ℕ) → Result Call PlanError
+call_by m line w fs =
+    cond (bytes_eq w (codes "update")) (update_from line fs) (cond (bytes_eq w (codes "scan")) (scan_from m line fs) (cond (bytes_eq w (codes "read")) (read_from line fs) (cond (bytes_eq w (codes "updateif")) (update_if_from line fs) (Err (plan.Line line cause.Word)))))
 
-call_is : (line : ℕ) (text : List ℕ) → call_at line text ≡ call_by line (until 32 text) (fields_of text)
+call_is : (m line : ℕ) (text : List ℕ) → call_at m line text ≡ call_by m line (until 32 text) (fields_of text)
 unfolding call_at
-call_is line text = refl
+call_is m line text = refl
 
-call_parts : (line : ℕ) (word : List ℕ) (fs : List (List ℕ)) → HasNo 32 word → AllByRecursion (HasNo 32) fs → call_at line (word ++ behind_each 32 fs) ≡ call_by line word fs
-call_parts line word fs none nones =
+call_parts : (m line : ℕ) (word : List ℕ) (fs : List (List ℕ)) → HasNo 32 word → AllByRecursion (HasNo 32) fs → call_at m line (word ++ behind_each 32 fs) ≡ call_by m line word fs
+call_parts m line word fs none nones =
     let text = word ++ behind_each 32 fs in
-    call_is line text ∙ ap (λ (w : List ℕ). call_by line w (fields_of text)) (until_joined 32 word fs none).0 ∙ ap (call_by line word) (fields_again word fs none nones)
+    call_is m line text ∙ ap (λ (w : List ℕ). call_by m line w (fields_of text)) (until_joined 32 word fs none).0 ∙ ap (call_by m line word) (fields_again word fs none nones)
 
-pub call_again : (line m : ℕ) (c : Call) → IsCall m c → call_at line (call_text c) ≡ Ok c
-call_again line m (call.Update j v) fits =
-    call_parts line (codes "update") (decimal j ∷ decimal v ∷ []) (refl, (refl, (refl, (refl, (refl, (refl, tt)))))) (HasNo-decimal 32 j space_no_digit (omega (arith, fits.0)), (HasNo-decimal 32 v space_no_digit fits.1, tt)) ∙ update_again line j v (omega (arith, fits.0)) (omega (arith, fits.1))
-call_again line m (call.Scan js) fits = absurd fits
-call_again line m (call.Read j) fits =
-    call_parts line (codes "read") (decimal j ∷ []) (refl, (refl, (refl, (refl, tt)))) (HasNo-decimal 32 j space_no_digit (omega (arith, fits)), tt) ∙ read_again line j (omega (arith, fits))
-call_again line m (call.UpdateIf j s v) fits =
-    call_parts line (codes "updateif") (decimal j ∷ decimal s ∷ decimal v ∷ []) (refl, (refl, (refl, (refl, (refl, (refl, (refl, (refl, tt)))))))) (HasNo-decimal 32 j space_no_digit (omega (arith, fits.0)), (HasNo-decimal 32 s space_no_digit fits.1, (HasNo-decimal 32 v space_no_digit fits.2, tt))) ∙ update_if_again line j s v (omega (arith, fits.0)) (omega (arith, fits.1)) (omega (arith, fits.2))
+pub call_again : (m line : ℕ) (c : Call) → IsCall m c → call_at m line (call_text c) ≡ Ok c
+call_again m line (call.Update j v) fits =
+    call_parts m line (codes "update") (decimal j ∷ decimal v ∷ []) (refl, (refl, (refl, (refl, (refl, (refl, tt)))))) (HasNo-decimal 32 j space_no_digit (omega (arith, fits.0)), (HasNo-decimal 32 v space_no_digit fits.1, tt)) ∙ update_again line j v (omega (arith, fits.0)) (omega (arith, fits.1))
+call_again m line (call.Scan js) fits =
+    ap (λ (l : List ℕ). call_at m line (codes "scan" ++ l)) (sym (behind_numbers js)) ∙ call_parts m line (codes "scan") (map decimal js) (refl, (refl, (refl, (refl, tt)))) (HasNo-numbers 32 js space_no_digit (indices_small js fits.1)) ∙ scan_again m line js fits.0 fits.1
+call_again m line (call.Read j) fits =
+    call_parts m line (codes "read") (decimal j ∷ []) (refl, (refl, (refl, (refl, tt)))) (HasNo-decimal 32 j space_no_digit (omega (arith, fits)), tt) ∙ read_again line j (omega (arith, fits))
+call_again m line (call.UpdateIf j s v) fits =
+    call_parts m line (codes "updateif") (decimal j ∷ decimal s ∷ decimal v ∷ []) (refl, (refl, (refl, (refl, (refl, (refl, (refl, (refl, tt)))))))) (HasNo-decimal 32 j space_no_digit (omega (arith, fits.0)), (HasNo-decimal 32 s space_no_digit fits.1, (HasNo-decimal 32 v space_no_digit fits.2, tt))) ∙ update_if_again line j s v (omega (arith, fits.0)) (omega (arith, fits.1)) (omega (arith, fits.2))
 
-calls_again : (line m : ℕ) (found cs : List Call) → AllByRecursion (IsCall m) cs → calls_at line found (map call_text cs) ≡ Ok (found ++ cs)
+calls_again : (m line : ℕ) (found cs : List Call) → AllByRecursion (IsCall m) cs → calls_at m line found (map call_text cs) ≡ Ok (found ++ cs)
 unfolding calls_at
-calls_again line m found [] fits = ap Ok (sym (append-nil found))
-calls_again line m found (c ∷ cs) fits =
-    rw (call_again line m c fits.0) (calls_again line m (found ++ c ∷ []) cs fits.1 ∙ ap Ok (append_assoc found (c ∷ []) cs))
+calls_again m line found [] fits = ap Ok (sym (append-nil found))
+calls_again m line found (c ∷ cs) fits =
+    rw (call_again m line c fits.0) (calls_again m line (found ++ c ∷ []) cs fits.1 ∙ ap Ok (append_assoc found (c ∷ []) cs))
 
 -- no byte of a call's text is the newline or the semicolon
-HasNo-call : (c m : ℕ) (x : Call) → IsNoDigit c → eqb 32 c ≡ false → HasNo c (codes "update") → HasNo c (codes "read") → HasNo c (codes "updateif") → IsCall m x → HasNo c (call_text x)
-HasNo-call c m (call.Update j v) none space a b d fits =
+HasNo-call : (c m : ℕ) (x : Call) → IsNoDigit c → eqb 32 c ≡ false → HasNo c (codes "update") → HasNo c (codes "scan") → HasNo c (codes "read") → HasNo c (codes "updateif") → IsCall m x → HasNo c (call_text x)
+HasNo-call c m (call.Update j v) none space a s b d fits =
     HasNo-append c (codes "update") (flat_map number_field (j ∷ v ∷ [])) a (HasNo-fields c (j ∷ v ∷ []) none space (omega (arith, fits.0), (fits.1, tt)))
-HasNo-call c m (call.Scan js) none space a b d fits = absurd fits
-HasNo-call c m (call.Read j) none space a b d fits =
+HasNo-call c m (call.Scan js) none space a s b d fits =
+    HasNo-append c (codes "scan") (flat_map number_field js) s (HasNo-fields c js none space (indices_small js fits.1))
+HasNo-call c m (call.Read j) none space a s b d fits =
     HasNo-append c (codes "read") (flat_map number_field (j ∷ [])) b (HasNo-fields c (j ∷ []) none space (omega (arith, fits), tt))
-HasNo-call c m (call.UpdateIf j s v) none space a b d fits =
-    HasNo-append c (codes "updateif") (flat_map number_field (j ∷ s ∷ v ∷ [])) d (HasNo-fields c (j ∷ s ∷ v ∷ []) none space (omega (arith, fits.0), (fits.1, (fits.2, tt))))
+HasNo-call c m (call.UpdateIf j e v) none space a s b d fits =
+    HasNo-append c (codes "updateif") (flat_map number_field (j ∷ e ∷ v ∷ [])) d (HasNo-fields c (j ∷ e ∷ v ∷ []) none space (omega (arith, fits.0), (fits.1, (fits.2, tt))))
 
 semicolon_call : (m : ℕ) (x : Call) → IsCall m x → HasNo 59 (call_text x)
 semicolon_call m x fits =
-    HasNo-call 59 m x semicolon_no_digit refl (refl, (refl, (refl, (refl, (refl, (refl, tt)))))) (refl, (refl, (refl, (refl, tt)))) (refl, (refl, (refl, (refl, (refl, (refl, (refl, (refl, tt)))))))) fits
+    HasNo-call 59 m x semicolon_no_digit refl (refl, (refl, (refl, (refl, (refl, (refl, tt)))))) (refl, (refl, (refl, (refl, tt)))) (refl, (refl, (refl, (refl, tt)))) (refl, (refl, (refl, (refl, (refl, (refl, (refl, (refl, tt)))))))) fits
 
 newline_call : (m : ℕ) (x : Call) → IsCall m x → HasNo 10 (call_text x)
 newline_call m x fits =
-    HasNo-call 10 m x newline_no_digit refl (refl, (refl, (refl, (refl, (refl, (refl, tt)))))) (refl, (refl, (refl, (refl, tt)))) (refl, (refl, (refl, (refl, (refl, (refl, (refl, (refl, tt)))))))) fits
+    HasNo-call 10 m x newline_no_digit refl (refl, (refl, (refl, (refl, (refl, (refl, tt)))))) (refl, (refl, (refl, (refl, tt)))) (refl, (refl, (refl, (refl, tt)))) (refl, (refl, (refl, (refl, (refl, (refl, (refl, (refl, tt)))))))) fits
 
 not_cut : (x : ℕ) (xs : List ℕ) → eqb x 59 ≡ false → is_cut (x ∷ xs) ≡ false
 not_cut x [] h = refl
@@ -112,12 +128,12 @@ port_parts : (cs : List Call) → (until 32 (port_line cs) ≡ codes "port") × 
 port_parts [] = (refl, refl)
 port_parts (c ∷ cs) = (refl, refl)
 
-port_again : (line m : ℕ) (cs : List Call) → AllByRecursion (IsCall m) cs → port_at line (port_behind cs) ≡ Ok cs
+port_again : (m line : ℕ) (cs : List Call) → AllByRecursion (IsCall m) cs → port_at m line (port_behind cs) ≡ Ok cs
 unfolding port_at
-port_again line m [] fits = refl
-port_again line m (c ∷ cs) fits =
+port_again m line [] fits = refl
+port_again m line (c ∷ cs) fits =
     let rest : flat_map next_call cs ≡ behind_cuts (map call_text cs) = sym (flat_map-map (λ (t : List ℕ). 59 ∷ 32 ∷ t) call_text cs) in
-    ap (λ (l : List ℕ). calls_at line [] (call_texts (call_text c ++ l))) rest ∙ ap (calls_at line []) (texts_again (call_text c) (map call_text cs) (semicolon_call m c fits.0) (semicolon_calls m cs fits.1)) ∙ calls_again line m [] (c ∷ cs) fits
+    ap (λ (l : List ℕ). calls_at m line [] (call_texts (call_text c ++ l))) rest ∙ ap (calls_at m line []) (texts_again (call_text c) (map call_text cs) (semicolon_call m c fits.0) (semicolon_calls m cs fits.1)) ∙ calls_again m line [] (c ∷ cs) fits
 
 -- ---- turns
 
@@ -312,36 +328,36 @@ not_port : (es : List (ℕ × ℕ)) (rest : Bool) → bytes_eq (until 32 (steps_
 not_port es rest =
     ap (λ (x : List ℕ). bytes_eq (until 32 x) (codes "port")) (steps_is es rest) ∙ ap (λ (w : List ℕ). bytes_eq w (codes "port")) (until_joined 32 (codes "steps") (turn_fields es rest) steps_word).0
 
-more_again : (line m : ℕ) (found : List (List Call)) (cs : List Call) → length found < 64 → AllByRecursion (IsCall m) cs → more_ports line found (port_behind cs) ≡ Ok (found ++ cs ∷ [])
+more_again : (m line : ℕ) (found : List (List Call)) (cs : List Call) → length found < 64 → AllByRecursion (IsCall m) cs → more_ports m line found (port_behind cs) ≡ Ok (found ++ cs ∷ [])
 unfolding more_ports
-more_again line m found cs few fits = rw (lt-ltb (length found) 64 few, port_again line m cs fits) refl
+more_again m line found cs few fits = rw (lt-ltb (length found) 64 few, port_again m line cs fits) refl
 
-port_step : (line : ℕ) (found : List (List Call)) (l : List ℕ) (ls : List (List ℕ)) (all : List (List Call)) → bytes_eq (until 32 l) (codes "port") ≡ true → more_ports line found (from 32 l) ≡ Ok all → tail_by line found (l, ls) ≡ tail_at (line + 1) all ls
-port_step line found l ls all port taken = rw (port, taken) refl
+port_step : (m line : ℕ) (found : List (List Call)) (l : List ℕ) (ls : List (List ℕ)) (all : List (List Call)) → bytes_eq (until 32 l) (codes "port") ≡ true → more_ports m line found (from 32 l) ≡ Ok all → tail_by m line found (l, ls) ≡ tail_at m (line + 1) all ls
+port_step m line found l ls all port taken = rw (port, taken) refl
 
-last_step : (line : ℕ) (found : List (List Call)) (l : List ℕ) (behind : List (List ℕ)) (s : List (ℕ × ℕ) × Bool) → bytes_eq (until 32 l) (codes "port") ≡ false → last_at line (length found) l behind ≡ Ok s → tail_by line found (l, behind) ≡ Ok (record { ports = found; steps = s.0; rest = s.1 })
-last_step line found l behind s other taken = rw (other, taken) refl
+last_step : (m line : ℕ) (found : List (List Call)) (l : List ℕ) (behind : List (List ℕ)) (s : List (ℕ × ℕ) × Bool) → bytes_eq (until 32 l) (codes "port") ≡ false → last_at line (length found) l behind ≡ Ok s → tail_by m line found (l, behind) ≡ Ok (record { ports = found; steps = s.0; rest = s.1 })
+last_step m line found l behind s other taken = rw (other, taken) refl
 
-tail_again : (line m : ℕ) (found more : List (List Call)) (es : List (ℕ × ℕ)) (rest : Bool) → AllByRecursion (λ cs. AllByRecursion (IsCall m) cs) more → 1 ≤ length (found ++ more) → length (found ++ more) ≤ 64 → AllByRecursion (IsEntry (length (found ++ more))) es
-    → tail_at line found (last_lines more (steps_line es rest)) ≡ Ok (record { ports = found ++ more; steps = es; rest = rest })
-tail_again line m found [] es rest calls some few fits =
+tail_again : (m line : ℕ) (found more : List (List Call)) (es : List (ℕ × ℕ)) (rest : Bool) → AllByRecursion (λ cs. AllByRecursion (IsCall m) cs) more → 1 ≤ length (found ++ more) → length (found ++ more) ≤ 64 → AllByRecursion (IsEntry (length (found ++ more))) es
+    → tail_at m line found (last_lines more (steps_line es rest)) ≡ Ok (record { ports = found ++ more; steps = es; rest = rest })
+tail_again m line found [] es rest calls some few fits =
     let l = steps_line es rest in
     let all : found ++ [] ≡ found = append-nil found in
     let many : length (found ++ []) ≡ length found = ap length all in
-    let step : tail_at line found (l ∷ [] ∷ []) ≡ tail_by line found (l, [] ∷ []) = tail_step line found (l ∷ [] ∷ []) ∙ ap (λ (r : Result (List ℕ × List (List ℕ)) PlanError). r >>= tail_by line found) (line_last line l) in
+    let step : tail_at m line found (l ∷ [] ∷ []) ≡ tail_by m line found (l, [] ∷ []) = tail_step m line found (l ∷ [] ∷ []) ∙ ap (λ (r : Result (List ℕ × List (List ℕ)) PlanError). r >>= tail_by m line found) (line_last line l) in
     let last : last_at line (length found) l ([] ∷ []) ≡ Ok (es, rest) = last_again line (length found) es rest (omega (arith, many)) (omega (arith, many)) (subst (λ (n : ℕ). AllByRecursion (IsEntry n) es) many fits) in
-    step ∙ last_step line found l ([] ∷ []) (es, rest) (not_port es rest) last ∙ ap (λ (x : List (List Call)). Ok (record { ports = x; steps = es; rest = rest })) (sym all)
-tail_again line m found (cs ∷ more) es rest calls some few fits =
+    step ∙ last_step m line found l ([] ∷ []) (es, rest) (not_port es rest) last ∙ ap (λ (x : List (List Call)). Ok (record { ports = x; steps = es; rest = rest })) (sym all)
+tail_again m line found (cs ∷ more) es rest calls some few fits =
     let l = port_line cs in
     let ls = last_lines more (steps_line es rest) in
     let parts = port_parts cs in
     let regroup : (found ++ cs ∷ []) ++ more ≡ found ++ cs ∷ more = append_assoc found (cs ∷ []) more in
     let many : length found < 64 = omega (arith, length-append found (cs ∷ more)) in
     let port : bytes_eq (until 32 l) (codes "port") ≡ true = ap (λ (w : List ℕ). bytes_eq w (codes "port")) parts.0 in
-    let taken : more_ports line found (from 32 l) ≡ Ok (found ++ cs ∷ []) = ap (more_ports line found) parts.1 ∙ more_again line m found cs many calls.0 in
-    let step : tail_at line found (l ∷ ls) ≡ tail_by line found (l, ls) = tail_step line found (l ∷ ls) ∙ ap (λ (r : Result (List ℕ × List (List ℕ)) PlanError). r >>= tail_by line found) (line_again line l more (steps_line es rest)) in
-    let rest_is = tail_again (line + 1) m (found ++ cs ∷ []) more es rest calls.1 (subst (λ (x : List (List Call)). 1 ≤ length x) (sym regroup) some) (subst (λ (x : List (List Call)). length x ≤ 64) (sym regroup) few) (subst (λ (x : List (List Call)). AllByRecursion (IsEntry (length x)) es) (sym regroup) fits) in
-    step ∙ port_step line found l ls (found ++ cs ∷ []) port taken ∙ rest_is ∙ ap (λ (x : List (List Call)). Ok (record { ports = x; steps = es; rest = rest })) regroup
+    let taken : more_ports m line found (from 32 l) ≡ Ok (found ++ cs ∷ []) = ap (more_ports m line found) parts.1 ∙ more_again m line found cs many calls.0 in
+    let step : tail_at m line found (l ∷ ls) ≡ tail_by m line found (l, ls) = tail_step m line found (l ∷ ls) ∙ ap (λ (r : Result (List ℕ × List (List ℕ)) PlanError). r >>= tail_by m line found) (line_again line l more (steps_line es rest)) in
+    let rest_is = tail_again m (line + 1) (found ++ cs ∷ []) more es rest calls.1 (subst (λ (x : List (List Call)). 1 ≤ length x) (sym regroup) some) (subst (λ (x : List (List Call)). length x ≤ 64) (sym regroup) few) (subst (λ (x : List (List Call)). AllByRecursion (IsEntry (length x)) es) (sym regroup) fits) in
+    step ∙ port_step m line found l ls (found ++ cs ∷ []) port taken ∙ rest_is ∙ ap (λ (x : List (List Call)). Ok (record { ports = x; steps = es; rest = rest })) regroup
 
 -- the text of a plan is cut into its lines
 lines_are : (p : PlanView) → IsPlan p → pieces 10 (plan_text p) ≡ sizes_line p.sizes ∷ initial_line p.initial ∷ last_lines p.ports (steps_line p.steps p.rest)
@@ -360,7 +376,7 @@ unfolding line_at
 first_line l k ls = refl
 
 abbrev with_tail : Layout → List ℕ → List (List ℕ) → Result PlanView PlanError
-with_tail sizes initial ls = tail_at 3 [] ls >>= λ tail. Ok (record { sizes = sizes; initial = initial; ports = tail.ports; steps = tail.steps; rest = tail.rest })
+with_tail sizes initial ls = tail_at sizes.m 3 [] ls >>= λ tail. Ok (record { sizes = sizes; initial = initial; ports = tail.ports; steps = tail.steps; rest = tail.rest })
 
 abbrev with_initial : Layout → List ℕ → List (List ℕ) → Result PlanView PlanError
 with_initial sizes l ls = initial_at sizes.m l >>= λ initial. with_tail sizes initial ls
@@ -387,7 +403,7 @@ lines_again p fits =
     let tail : Tail = record { ports = p.ports; steps = p.steps; rest = p.rest } in
     lines_step (one ∷ two ∷ ls) ∙ passed (line_at 1 (one ∷ two ∷ ls)) (one, two ∷ ls) (λ first. with_sizes first.0 first.1) (first_line one two ls) ∙ passed (sizes_at one) p.sizes (λ sizes. with_second sizes (two ∷ ls)) (sizes_again p.sizes fits.sizes)
     ∙ passed (line_at 2 (two ∷ ls)) (two, ls) (λ second. with_initial p.sizes second.0 second.1) (line_again 2 two p.ports (steps_line p.steps p.rest)) ∙ passed (initial_at p.sizes.m two) p.initial (λ initial. with_tail p.sizes initial ls) (initial_again p.sizes.m p.initial fits.initial fits.values)
-    ∙ passed (tail_at 3 [] ls) tail (λ tail. Ok (record { sizes = p.sizes; initial = p.initial; ports = tail.ports; steps = tail.steps; rest = tail.rest })) (tail_again 3 p.sizes.m [] p.ports p.steps p.rest fits.calls fits.some_port fits.few_ports fits.steps)
+    ∙ passed (tail_at p.sizes.m 3 [] ls) tail (λ tail. Ok (record { sizes = p.sizes; initial = p.initial; ports = tail.ports; steps = tail.steps; rest = tail.rest })) (tail_again p.sizes.m 3 [] p.ports p.steps p.rest fits.calls fits.some_port fits.few_ports fits.steps)
 
 -- the text of a plan is read as the plan
 pub judged_again : (p : PlanView) → IsPlan p → judged (plan_text p) ≡ Ok p

@@ -61,11 +61,11 @@ no_cut (x ∷ []) h = refl
 no_cut (x ∷ y ∷ xs) h = absurd (omega arith)
 
 -- the next call of a port line
-pub next_call : (line : ℕ) (found all : List Call) (first : List ℕ) (rest : List ℕ) (call : Call) (next behind : List ℕ) (judged : Result (List Call) PlanError) → call_at line first ≡ Ok call → 2 ≤ length rest
+pub next_call : (m line : ℕ) (found all : List Call) (first : List ℕ) (rest : List ℕ) (call : Call) (next behind : List ℕ) (judged : Result (List Call) PlanError) → call_at m line first ≡ Ok call → 2 ≤ length rest
     → call_texts (take (length rest - 2) (drop 2 rest)) ≡ next ∷ call_texts_behind behind → all ≡ found ++ call ∷ []
-    → calls_at line found (first ∷ call_texts_behind rest) ≡ judged → calls_at line all (next ∷ call_texts_behind behind) ≡ judged
+    → calls_at m line found (first ∷ call_texts_behind rest) ≡ judged → calls_at m line all (next ∷ call_texts_behind behind) ≡ judged
 unfolding calls_at
-next_call line found all first rest call next behind judged is_call long split pushed so_far =
+next_call m line found all first rest call next behind judged is_call long split pushed so_far =
     let texts : call_texts_behind rest ≡ next ∷ call_texts_behind behind = behind_cut rest long ∙ ap call_texts (sym (take_rest rest 2)) ∙ split in
-    let step : calls_at line found (first ∷ call_texts_behind rest) ≡ calls_at line (found ++ call ∷ []) (call_texts_behind rest) = rw is_call refl in
-    ap (λ (v : List Call). calls_at line v (next ∷ call_texts_behind behind)) pushed ∙ ap (calls_at line (found ++ call ∷ [])) (sym texts) ∙ sym step ∙ so_far
+    let step : calls_at m line found (first ∷ call_texts_behind rest) ≡ calls_at m line (found ++ call ∷ []) (call_texts_behind rest) = rw is_call refl in
+    ap (λ (v : List Call). calls_at m line v (next ∷ call_texts_behind behind)) pushed ∙ ap (calls_at m line (found ++ call ∷ [])) (sym texts) ∙ sym step ∙ so_far

@@ -1,11 +1,11 @@
 -- A call is read exactly from its text, and calls from their texts in a row.
-use Rattle.std.proofs.Common.{◌≡◌, ℕ, Bool, true, false, cond, eqb, ◌&&◌, List, [], ◌∷◌, ◌++◌, map, codes, Ok, Err, refl, sym, ap, subst, ◌∙◌, append_assoc, drop, ◌⊎◌, inl, inr, arith}
+use Rattle.std.proofs.Common.{◌≡◌, ℕ, ◌^◌, ◌<◌, ◌≤◌, Bool, true, false, cond, eqb, ltb, ◌&&◌, List, [], ◌∷◌, ◌++◌, length, map, codes, Ok, Err, refl, sym, ap, subst, ◌∙◌, append_assoc, drop, ◌⊎◌, inl, inr, arith}
 use Rattle.std.specs.Prelude.{decimal}
 use Rattle.std.specs.Option.{ok_or}
 use Rattle.std.specs.List.{flat_map, AllByRecursion}
 use Rattle.std.specs.Str.{bytes_eq}
-use Rattle.std.proofs.lemmas.Bool.{eqb-true}
-use Rattle.std.proofs.lemmas.List.{append-nil}
+use Rattle.std.proofs.lemmas.Bool.{eqb-true, ltb-false}
+use Rattle.std.proofs.lemmas.List.{append-nil, length-map}
 use Rattle.std.proofs.lemmas.List.Folds.{flat_map-map}
 use Rattle.partial_model.specs.declared.call.Call.{Call}
 use Rattle.partial_model.specs.declared.call.Call.TheVariants as call
@@ -14,10 +14,10 @@ use Rattle.partial_text.specs.declared.fault.PlanError.TheVariants as plan
 use Rattle.partial_text.specs.Pieces.{until, onto_first}
 use Rattle.partial_text.specs.Fault.{◌>>=◌}
 use Rattle.partial_text.specs.PlanText.{call_text, next_call, port_line, IsCall}
-use Rattle.partial_text.specs.Judging.{greatest, greatest_index, fields_of, exactly_one, exactly_two, exactly_three, number_at, update_from, read_from, update_if_from, call_at, calls_at, call_texts, port_at}
+use Rattle.partial_text.specs.Judging.{greatest, greatest_index, fields_of, exactly_one, exactly_two, exactly_three, number_at, numbers_at, update_from, scan_from, read_from, update_if_from, call_at, calls_at, call_texts, port_at}
 use Rattle.partial_text.proofs.NumberLaws.{and_both}
 use Rattle.partial_text.proofs.PieceLaws.{behind_each}
-use Rattle.partial_text.proofs.FieldLaws.{bind_ok, if_ok, ok_is, found_ok, number_at_ok, one_is, two_is, three_is, with_word}
+use Rattle.partial_text.proofs.FieldLaws.{bind_ok, if_ok, unless_ok, ok_is, found_ok, number_at_ok, numbers_ok, behind_numbers, one_is, two_is, three_is, with_word}
 
 update_ok : (line m : ℕ) (fs : List (List ℕ)) (c : Call) → update_from line fs ≡ Ok c → (call_text c ≡ codes "update" ++ behind_each 32 fs) × IsCall m c
 unfolding update_from
@@ -32,6 +32,24 @@ update_ok line m fs c e =
     let fields : fs ≡ decimal b.0 ∷ decimal d.0 ∷ [] = cc (is, j.0, v.0) in
     let text : codes "update" ++ behind_each 32 fs ≡ call_text (call.Update b.0 d.0) = ap (λ (l : List (List ℕ)). codes "update" ++ behind_each 32 l) fields in
     subst (λ (x : Call). (call_text x ≡ codes "update" ++ behind_each 32 fs) × IsCall m x) same (sym text, (omega (arith, j.1), omega (arith, v.1)))
+
+-- indices that are not above the greatest
+indices_fit : (js : List ℕ) → AllByRecursion (λ (j : ℕ). j ≤ greatest_index) js → AllByRecursion (λ (j : ℕ). j < 2 ^ 32) js
+indices_fit [] fits = tt
+indices_fit (j ∷ js) fits = (omega (arith, fits.0), indices_fit js fits.1)
+
+scan_ok : (line m : ℕ) (fs : List (List ℕ)) (c : Call) → scan_from m line fs ≡ Ok c → (call_text c ≡ codes "scan" ++ behind_each 32 fs) × IsCall m c
+unfolding scan_from
+scan_ok line m fs c e =
+    let a = unless_ok (ltb m (length fs)) (numbers_at line greatest_index [] fs >>= λ js. Ok (call.Scan js)) (plan.Line line cause.Count) c e in
+    let b = bind_ok (numbers_at line greatest_index [] fs) (λ js. Ok (call.Scan js)) c a.1 in
+    let r = numbers_ok line greatest_index [] fs b.0 (omega arith) b.1 in
+    let fields : fs ≡ map decimal b.0 = r.2 ∙ ap (map decimal) (sym r.1) in
+    let same = ok_is (call.Scan b.0) c b.2 in
+    let text : codes "scan" ++ behind_each 32 fs ≡ call_text (call.Scan b.0) = ap (λ (l : List ℕ). codes "scan" ++ l) (ap (behind_each 32) fields ∙ behind_numbers b.0) in
+    let few : length b.0 ≤ m = omega (arith, ltb-false m (length fs) a.0, ap length fields, length-map b.0 decimal) in
+    let fits = subst (AllByRecursion (λ (j : ℕ). j < 2 ^ 32)) (sym r.1) (indices_fit r.0 r.3) in
+    subst (λ (x : Call). (call_text x ≡ codes "scan" ++ behind_each 32 fs) × IsCall m x) same (sym text, (few, fits))
 
 read_ok : (line m : ℕ) (fs : List (List ℕ)) (c : Call) → read_from line fs ≡ Ok c → (call_text c ≡ codes "read" ++ behind_each 32 fs) × IsCall m c
 unfolding read_from
@@ -69,24 +87,27 @@ from_word : (line m : ℕ) (word text : List ℕ) (c : Call) → bytes_eq (until
 from_word line m word text c same h = (h.0 ∙ sym (with_word word text same), h.1)
 
 -- what is read as a call is its text
-pub call_ok : (line m : ℕ) (text : List ℕ) (c : Call) → call_at line text ≡ Ok c → (call_text c ≡ text) × IsCall m c
+pub call_ok : (line m : ℕ) (text : List ℕ) (c : Call) → call_at m line text ≡ Ok c → (call_text c ≡ text) × IsCall m c
 unfolding call_at
 call_ok line m text c e =
     let fs = fields_of text in
     let w = until 32 text in
-    elim (chosen (bytes_eq w (codes "update")) (update_from line fs) (cond (bytes_eq w (codes "read")) (read_from line fs) (cond (bytes_eq w (codes "updateif")) (update_if_from line fs) (Err (plan.Line line cause.Word)))) (Ok c) e) [
+    elim (chosen (bytes_eq w (codes "update")) (update_from line fs) (cond (bytes_eq w (codes "scan")) (scan_from m line fs) (cond (bytes_eq w (codes "read")) (read_from line fs) (cond (bytes_eq w (codes "updateif")) (update_if_from line fs) (Err (plan.Line line cause.Word))))) (Ok c) e) [
       | inl h ↦ from_word line m (codes "update") text c h.0 (update_ok line m fs c h.1)
-      | inr h ↦ elim (chosen (bytes_eq w (codes "read")) (read_from line fs) (cond (bytes_eq w (codes "updateif")) (update_if_from line fs) (Err (plan.Line line cause.Word))) (Ok c) h.1) [
-        | inl k ↦ from_word line m (codes "read") text c k.0 (read_ok line m fs c k.1)
-        | inr k ↦ let l = if_ok (bytes_eq w (codes "updateif")) (update_if_from line fs) (plan.Line line cause.Word) c k.1 in from_word line m (codes "updateif") text c l.0 (update_if_ok line m fs c l.1)
+      | inr h ↦ elim (chosen (bytes_eq w (codes "scan")) (scan_from m line fs) (cond (bytes_eq w (codes "read")) (read_from line fs) (cond (bytes_eq w (codes "updateif")) (update_if_from line fs) (Err (plan.Line line cause.Word)))) (Ok c) h.1) [
+        | inl k ↦ from_word line m (codes "scan") text c k.0 (scan_ok line m fs c k.1)
+        | inr k ↦ elim (chosen (bytes_eq w (codes "read")) (read_from line fs) (cond (bytes_eq w (codes "updateif")) (update_if_from line fs) (Err (plan.Line line cause.Word))) (Ok c) k.1) [
+          | inl l ↦ from_word line m (codes "read") text c l.0 (read_ok line m fs c l.1)
+          | inr l ↦ let n = if_ok (bytes_eq w (codes "updateif")) (update_if_from line fs) (plan.Line line cause.Word) c l.1 in from_word line m (codes "updateif") text c n.0 (update_if_ok line m fs c n.1)
+        ]
       ]
     ]
 
-pub calls_ok : (line m : ℕ) (found : List Call) (ts : List (List ℕ)) (all : List Call) → calls_at line found ts ≡ Ok all → (cs : List Call) × (all ≡ found ++ cs) × (map call_text cs ≡ ts) × AllByRecursion (IsCall m) cs
+pub calls_ok : (line m : ℕ) (found : List Call) (ts : List (List ℕ)) (all : List Call) → calls_at m line found ts ≡ Ok all → (cs : List Call) × (all ≡ found ++ cs) × (map call_text cs ≡ ts) × AllByRecursion (IsCall m) cs
 unfolding calls_at
 calls_ok line m found [] all e = ([], sym (append-nil found ∙ ok_is found all e), refl, tt)
 calls_ok line m found (t ∷ ts) all e =
-    let b = bind_ok (call_at line t) (λ (c : Call). calls_at line (found ++ c ∷ []) ts) all e in
+    let b = bind_ok (call_at m line t) (λ (c : Call). calls_at m line (found ++ c ∷ []) ts) all e in
     let k = call_ok line m t b.0 b.1 in
     let r = calls_ok line m (found ++ b.0 ∷ []) ts all b.2 in
     (b.0 ∷ r.0, r.1 ∙ append_assoc found (b.0 ∷ []) r.0, cc (k.0, r.2), (k.1, r.3))
@@ -120,7 +141,7 @@ port_by (c ∷ cs) text h =
     let same : call_text c ++ behind_cuts (map call_text cs) ≡ text = cc in
     ap (λ (l : List ℕ). codes "port" ++ 32 ∷ (call_text c ++ l)) rest ∙ ap (λ (l : List ℕ). codes "port" ++ 32 ∷ l) same
 
-pub port_ok : (line m : ℕ) (behind : List ℕ) (cs : List Call) → port_at line behind ≡ Ok cs → (behind ≡ [] ⊎ behind ≡ 32 ∷ drop 1 behind) → (port_line cs ≡ codes "port" ++ behind) × AllByRecursion (IsCall m) cs
+pub port_ok : (line m : ℕ) (behind : List ℕ) (cs : List Call) → port_at m line behind ≡ Ok cs → (behind ≡ [] ⊎ behind ≡ 32 ∷ drop 1 behind) → (port_line cs ≡ codes "port" ++ behind) × AllByRecursion (IsCall m) cs
 unfolding port_at
 port_ok line m [] cs e head = subst (λ (x : List Call). (port_line x ≡ codes "port" ++ []) × AllByRecursion (IsCall m) x) (ok_is [] cs e) (refl, tt)
 port_ok line m (x ∷ text) cs e head =

@@ -27,6 +27,10 @@ pub if_ok : {A : Type 0} (b : Bool) (r : Result A PlanError) (d : PlanError) (y 
 if_ok true r d y e = (refl, e)
 if_ok false r d y e = absurd cc
 
+pub unless_ok : {A : Type 0} (b : Bool) (r : Result A PlanError) (d : PlanError) (y : A) → cond b (Err d) r ≡ Ok y → (b ≡ false) × (r ≡ Ok y)
+unless_ok true r d y e = absurd cc
+unless_ok false r d y e = (refl, e)
+
 abbrev done : {A : Type 0} → A → Result A PlanError
 done x = Ok x
 

@@ -1,5 +1,5 @@
 -- What is read as a plan is the plan's text.
-use Rattle.std.proofs.Common.{◌≡◌, ℕ, ◌+◌, ◌<◌, ◌≤◌, Bool, true, false, cond, eqb, ltb, List, [], ◌∷◌, ◌++◌, length, codes, Result, Ok, Err, refl, sym, ap, subst, ◌∙◌, append_assoc, ◌⊎◌, inl, inr, arith}
+use Rattle.std.proofs.Common.{◌≡◌, ℕ, ◌+◌, ◌<◌, ◌≤◌, Bool, true, false, cond, eqb, ltb, List, [], ◌∷◌, ◌++◌, length, codes, Ok, Err, refl, sym, ap, subst, ◌∙◌, append_assoc, ◌⊎◌, inl, inr, arith}
 use Rattle.std.specs.List.{flat_map, AllByRecursion}
 use Rattle.std.specs.Str.{bytes_eq}
 use Rattle.std.proofs.lemmas.Bool.{eqb-false, ltb-true, ltb-false}
@@ -7,14 +7,13 @@ use Rattle.std.proofs.lemmas.List.{append-nil, length-append}
 use Rattle.std.proofs.lemmas.Slice.Eq.{bytes_eq-Decides}
 use Rattle.partial_model.specs.declared.call.Call.{Call}
 use Rattle.partial_text.specs.declared.fault.Cause.TheVariants as cause
-use Rattle.partial_text.specs.declared.fault.PlanError.{PlanError}
 use Rattle.partial_text.specs.declared.fault.PlanError.TheVariants as plan
 use Rattle.partial_text.specs.Pieces.{until, from, pieces}
 use Rattle.partial_text.specs.Fault.{◌>>=◌}
 use Rattle.partial_text.specs.PlanText.{PlanView, sizes_line, initial_line, port_line, entry_text, field, rest_text, steps_line, ended, plan_text, IsCall, IsEntry, IsPlan}
 use Rattle.partial_text.specs.Judging.{Tail, fields_of, line_at, sizes_at, initial_at, port_at, more_ports, entries_at, is_end, last_at, tail_at, lines_judged, judged}
 use Rattle.partial_text.proofs.PieceLaws.{behind_each, behind_pieces, until_from}
-use Rattle.partial_text.proofs.FieldLaws.{bind_ok, if_ok, ok_is, with_word}
+use Rattle.partial_text.proofs.FieldLaws.{bind_ok, if_ok, unless_ok, ok_is, with_word}
 use Rattle.partial_text.proofs.CallLaws.{port_ok}
 use Rattle.partial_text.proofs.LineLaws.{sizes_ok, initial_ok, entries_ok, from_is}
 
@@ -61,10 +60,6 @@ chosen : {A : Type 0} (b : Bool) (x y : A) (z : A) → cond b x y ≡ z → ((b 
 chosen true x y z e = inl (refl, e)
 chosen false x y z e = inr (refl, e)
 
-unless_ok : {A : Type 0} (b : Bool) (r : Result A PlanError) (d : PlanError) (y : A) → cond b (Err d) r ≡ Ok y → (b ≡ false) × (r ≡ Ok y)
-unless_ok true r d y e = absurd cc
-unless_ok false r d y e = (refl, e)
-
 -- the last line
 last_ok : (line m : ℕ) (found : List (List Call)) (l : List ℕ) (behind : List (List ℕ)) (s : List (ℕ × ℕ) × Bool) → last_at line (length found) l behind ≡ Ok s
     → (ended l ++ text_of behind ≡ ended (steps_line s.0 s.1)) × (1 ≤ length found) × AllByRecursion (IsEntry (length found)) s.0
@@ -84,25 +79,25 @@ last_ok line m found l behind s e =
     (ap (λ (x : List ℕ). ended l ++ x) (end_is behind d.0) ∙ append-nil (ended l) ∙ ap ended whole, omega (arith, eqb-false n 0 b.0), subst (AllByRecursion (IsEntry n)) turns t.each)
 
 -- a port line
-more_ok : (line m : ℕ) (found all : List (List Call)) (l : List ℕ) → bytes_eq (until 32 l) (codes "port") ≡ true → more_ports line found (from 32 l) ≡ Ok all
+more_ok : (line m : ℕ) (found all : List (List Call)) (l : List ℕ) → bytes_eq (until 32 l) (codes "port") ≡ true → more_ports m line found (from 32 l) ≡ Ok all
     → (cs : List Call) × (all ≡ found ++ cs ∷ []) × (l ≡ port_line cs) × AllByRecursion (IsCall m) cs × (length found < 64)
 unfolding more_ports
 more_ok line m found all l word e =
-    let a = if_ok (ltb (length found) 64) (port_at line (from 32 l) >>= λ cs. Ok (found ++ cs ∷ [])) plan.Ports all e in
-    let b = bind_ok (port_at line (from 32 l)) (λ (cs : List Call). Ok (found ++ cs ∷ [])) all a.1 in
+    let a = if_ok (ltb (length found) 64) (port_at m line (from 32 l) >>= λ cs. Ok (found ++ cs ∷ [])) plan.Ports all e in
+    let b = bind_ok (port_at m line (from 32 l)) (λ (cs : List Call). Ok (found ++ cs ∷ [])) all a.1 in
     let p = port_ok line m (from 32 l) b.0 b.1 (from_is 32 l) in
     let front : until 32 l ≡ codes "port" = (bytes_eq-Decides (until 32 l) (codes "port")).0 word in
     (b.0, sym (ok_is (found ++ b.0 ∷ []) all b.2), sym (until_from 32 l) ∙ ap (λ (w : List ℕ). w ++ from 32 l) front ∙ sym p.0, p.1, ltb-true (length found) 64 a.0)
 
-tail_ok : (line m : ℕ) (found : List (List Call)) (ls : List (List ℕ)) (t : Tail) → tail_at line found ls ≡ Ok t → Tails m found t ls
+tail_ok : (line m : ℕ) (found : List (List Call)) (ls : List (List ℕ)) (t : Tail) → tail_at m line found ls ≡ Ok t → Tails m found t ls
 unfolding tail_at
 tail_ok line m found [] t e = absurd cc
 tail_ok line m found (l ∷ []) t e = absurd cc
 tail_ok line m found (l ∷ k ∷ ls) t e =
     let regroup : text_of (l ∷ k ∷ ls) ≡ ended l ++ text_of (k ∷ ls) = sym (append_assoc l (10 ∷ []) (k ++ behind_each 10 ls)) in
-    elim (chosen (bytes_eq (until 32 l) (codes "port")) (more_ports line found (from 32 l) >>= λ ports. tail_at (line + 1) ports (k ∷ ls)) (last_at line (length found) l (k ∷ ls) >>= λ steps. Ok (record { ports = found; steps = steps.0; rest = steps.1 })) (Ok t) e) [
+    elim (chosen (bytes_eq (until 32 l) (codes "port")) (more_ports m line found (from 32 l) >>= λ ports. tail_at m (line + 1) ports (k ∷ ls)) (last_at line (length found) l (k ∷ ls) >>= λ steps. Ok (record { ports = found; steps = steps.0; rest = steps.1 })) (Ok t) e) [
       | inl h ↦
-          let b = bind_ok (more_ports line found (from 32 l)) (λ (ports : List (List Call)). tail_at (line + 1) ports (k ∷ ls)) t h.1 in
+          let b = bind_ok (more_ports m line found (from 32 l)) (λ (ports : List (List Call)). tail_at m (line + 1) ports (k ∷ ls)) t h.1 in
           let p = more_ok line m found b.0 l h.0 b.1 in
           let r = tail_ok (line + 1) m b.0 (k ∷ ls) t b.2 in
           let one : length b.0 ≡ length found + 1 = ap length p.1 ∙ length-append found (p.0 ∷ []) in
@@ -128,11 +123,11 @@ unfolding judged lines_judged
 judged_ok text p e =
     let u = unless_ok (ltb 4194304 (length text)) (lines_judged (pieces 10 text)) (plan.Line 0 cause.Size) p e in
     let short : length text ≤ 4194304 = ltb-false 4194304 (length text) u.0 in
-    let a = bind_ok (line_at 1 (pieces 10 text)) (λ first. sizes_at first.0 >>= λ sizes. line_at 2 first.1 >>= λ second. initial_at sizes.m second.0 >>= λ initial. tail_at 3 [] second.1 >>= λ tail. Ok (record { sizes = sizes; initial = initial; ports = tail.ports; steps = tail.steps; rest = tail.rest })) p u.1 in
-    let b = bind_ok (sizes_at a.0.0) (λ sizes. line_at 2 a.0.1 >>= λ second. initial_at sizes.m second.0 >>= λ initial. tail_at 3 [] second.1 >>= λ tail. Ok (record { sizes = sizes; initial = initial; ports = tail.ports; steps = tail.steps; rest = tail.rest })) p a.2 in
-    let c = bind_ok (line_at 2 a.0.1) (λ second. initial_at b.0.m second.0 >>= λ initial. tail_at 3 [] second.1 >>= λ tail. Ok (record { sizes = b.0; initial = initial; ports = tail.ports; steps = tail.steps; rest = tail.rest })) p b.2 in
-    let d = bind_ok (initial_at b.0.m c.0.0) (λ initial. tail_at 3 [] c.0.1 >>= λ tail. Ok (record { sizes = b.0; initial = initial; ports = tail.ports; steps = tail.steps; rest = tail.rest })) p c.2 in
-    let f = bind_ok (tail_at 3 [] c.0.1) (λ tail. Ok (record { sizes = b.0; initial = d.0; ports = tail.ports; steps = tail.steps; rest = tail.rest })) p d.2 in
+    let a = bind_ok (line_at 1 (pieces 10 text)) (λ first. sizes_at first.0 >>= λ sizes. line_at 2 first.1 >>= λ second. initial_at sizes.m second.0 >>= λ initial. tail_at sizes.m 3 [] second.1 >>= λ tail. Ok (record { sizes = sizes; initial = initial; ports = tail.ports; steps = tail.steps; rest = tail.rest })) p u.1 in
+    let b = bind_ok (sizes_at a.0.0) (λ sizes. line_at 2 a.0.1 >>= λ second. initial_at sizes.m second.0 >>= λ initial. tail_at sizes.m 3 [] second.1 >>= λ tail. Ok (record { sizes = sizes; initial = initial; ports = tail.ports; steps = tail.steps; rest = tail.rest })) p a.2 in
+    let c = bind_ok (line_at 2 a.0.1) (λ second. initial_at b.0.m second.0 >>= λ initial. tail_at b.0.m 3 [] second.1 >>= λ tail. Ok (record { sizes = b.0; initial = initial; ports = tail.ports; steps = tail.steps; rest = tail.rest })) p b.2 in
+    let d = bind_ok (initial_at b.0.m c.0.0) (λ initial. tail_at b.0.m 3 [] c.0.1 >>= λ tail. Ok (record { sizes = b.0; initial = initial; ports = tail.ports; steps = tail.steps; rest = tail.rest })) p c.2 in
+    let f = bind_ok (tail_at b.0.m 3 [] c.0.1) (λ tail. Ok (record { sizes = b.0; initial = d.0; ports = tail.ports; steps = tail.steps; rest = tail.rest })) p d.2 in
     let s = sizes_ok a.0.0 b.0 b.1 in
     let i = initial_ok b.0.m c.0.0 d.0 d.1 in
     let t = tail_ok 3 b.0.m [] c.0.1 f.0 f.1 in

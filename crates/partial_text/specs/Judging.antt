@@ -86,6 +86,11 @@ update_from line fields = do
   v ← number_at line greatest f.1
   Ok (call.Update j v)
 
+-- a scan of no more positions than there are components
+unfoldable pub scan_from : ℕ → ℕ → List (List ℕ) → Result Call PlanError
+scan_from m line fields =
+    if nat_lt m (length fields) then Err (plan.Line line cause.Count) else (numbers_at line greatest_index [] fields >>= λ js. Ok (call.Scan js))
+
 unfoldable pub read_from : ℕ → List (List ℕ) → Result Call PlanError
 read_from line fields = do
   f ← ok_or (exactly_one fields) (plan.Line line cause.Count)
@@ -100,17 +105,17 @@ update_if_from line fields = do
   v ← number_at line greatest f.2
   Ok (call.UpdateIf j s v)
 
--- the call that a text is, by its first field
-unfoldable pub call_at : ℕ → List ℕ → Result Call PlanError
-call_at line text =
-    if bytes_eq (until 32 text) (codes "update") then update_from line (fields_of text) else (if bytes_eq (until 32 text) (codes "read") then read_from line (fields_of text) else (if bytes_eq (until 32 text) (codes "updateif") then update_if_from line (fields_of text) else Err (plan.Line line cause.Word)))
+-- the call that a text is, by its first field, in a plan of m components
+unfoldable pub call_at : ℕ → ℕ → List ℕ → Result Call PlanError
+call_at m line text =
+    if bytes_eq (until 32 text) (codes "update") then update_from line (fields_of text) else (if bytes_eq (until 32 text) (codes "scan") then scan_from m line (fields_of text) else (if bytes_eq (until 32 text) (codes "read") then read_from line (fields_of text) else (if bytes_eq (until 32 text) (codes "updateif") then update_if_from line (fields_of text) else Err (plan.Line line cause.Word))))
 
 -- the calls that texts are, behind the calls so far
-unfoldable pub calls_at : ℕ → List Call → List (List ℕ) → Result (List Call) PlanError
-calls_at line found [] = Ok found
-calls_at line found (t ∷ ts) = do
-  c ← call_at line t
-  calls_at line (found ++ c ∷ []) ts
+unfoldable pub calls_at : ℕ → ℕ → List Call → List (List ℕ) → Result (List Call) PlanError
+calls_at m line found [] = Ok found
+calls_at m line found (t ∷ ts) = do
+  c ← call_at m line t
+  calls_at m line (found ++ c ∷ []) ts
 
 -- the texts between one semicolon with a space and the next
 abbrev pub call_texts : List ℕ → List (List ℕ)
@@ -131,9 +136,9 @@ call_texts_behind (x ∷ []) = []
 call_texts_behind (x ∷ y ∷ xs) = call_texts xs
 
 -- the calls behind the word of a port line: none, or a space and their texts
-unfoldable pub port_at : ℕ → List ℕ → Result (List Call) PlanError
-port_at line [] = Ok []
-port_at line (x ∷ text) = calls_at line [] (call_texts text)
+unfoldable pub port_at : ℕ → ℕ → List ℕ → Result (List Call) PlanError
+port_at m line [] = Ok []
+port_at m line (x ∷ text) = calls_at m line [] (call_texts text)
 
 -- ---- the turns
 
@@ -166,8 +171,8 @@ line_at line (l ∷ []) = Err (plan.Line line cause.End)
 line_at line (l ∷ k ∷ ls) = Ok (l, k ∷ ls)
 
 -- the ports with one more, of which these are the bytes behind the word
-unfoldable pub more_ports : ℕ → List (List Call) → List ℕ → Result (List (List Call)) PlanError
-more_ports line found calls = if nat_lt (length found) 64 then (port_at line calls >>= λ cs. Ok (found ++ cs ∷ [])) else Err plan.Ports
+unfoldable pub more_ports : ℕ → ℕ → List (List Call) → List ℕ → Result (List (List Call)) PlanError
+more_ports m line found calls = if nat_lt (length found) 64 then (port_at m line calls >>= λ cs. Ok (found ++ cs ∷ [])) else Err plan.Ports
 
 -- nothing stands behind the last line
 abbrev pub is_end : List (List ℕ) → Bool
@@ -185,12 +190,12 @@ pub record Tail : Type 0 where
   pub steps : List (ℕ × ℕ)
   pub rest : Bool
 
--- the port lines behind those so far, and the last line
-unfoldable pub tail_at : ℕ → List (List Call) → List (List ℕ) → Result Tail PlanError
-tail_at line found [] = Err (plan.Line line cause.End)
-tail_at line found (l ∷ []) = Err (plan.Line line cause.End)
-tail_at line found (l ∷ k ∷ ls) =
-    if bytes_eq (until 32 l) (codes "port") then (more_ports line found (from 32 l) >>= λ ports. tail_at (line + 1) ports (k ∷ ls)) else (last_at line (length found) l (k ∷ ls) >>= λ steps. Ok (record { ports = found; steps = steps.0; rest = steps.1 }))
+-- the port lines behind those so far, and the last line, in a plan of m components
+unfoldable pub tail_at : ℕ → ℕ → List (List Call) → List (List ℕ) → Result Tail PlanError
+tail_at m line found [] = Err (plan.Line line cause.End)
+tail_at m line found (l ∷ []) = Err (plan.Line line cause.End)
+tail_at m line found (l ∷ k ∷ ls) =
+    if bytes_eq (until 32 l) (codes "port") then (more_ports m line found (from 32 l) >>= λ ports. tail_at m (line + 1) ports (k ∷ ls)) else (last_at line (length found) l (k ∷ ls) >>= λ steps. Ok (record { ports = found; steps = steps.0; rest = steps.1 }))
 
 unfoldable pub lines_judged : List (List ℕ) → Result PlanView PlanError
 lines_judged lines = do
@@ -198,7 +203,7 @@ lines_judged lines = do
   sizes ← sizes_at first.0
   second ← line_at 2 first.1
   initial ← initial_at sizes.m second.0
-  tail ← tail_at 3 [] second.1
+  tail ← tail_at sizes.m 3 [] second.1
   Ok (record { sizes = sizes; initial = initial; ports = tail.ports; steps = tail.steps; rest = tail.rest })
 
 -- The plan that a text is, or its first fault.

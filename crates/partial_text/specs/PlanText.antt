@@ -62,7 +62,7 @@ plan_text p = ended (sizes_line p.sizes) ++ ended (initial_line p.initial) ++ fl
 -- a call that may stand in a plan of m components; an index beyond them is refused when the call is made
 abbrev pub IsCall : ℕ → Call → Type 0
 IsCall m (call.Update j v) = (j < 2 ^ 32) × (v < 2 ^ 64)
-IsCall m (call.Scan js) = ⊥
+IsCall m (call.Scan js) = (length js ≤ m) × AllByRecursion (λ j. j < 2 ^ 32) js
 IsCall m (call.Read j) = j < 2 ^ 32
 IsCall m (call.UpdateIf j s v) = (j < 2 ^ 32) × (s < 2 ^ 64) × (v < 2 ^ 64)
 

@@ -3,12 +3,15 @@
 ghost use Rattle.std.specs.Prelude.{◌≡◌, ◌≤◌, ◌∷◌, [], length};
 ghost use Rattle.partial_text.specs.Fault.{Gives};
 ghost use Rattle.partial_text.specs.Pieces.{pieces_behind};
-ghost use Rattle.partial_text.specs.Judging.{update_from, read_from, update_if_from, call_at, calls_at, is_cut, call_texts, call_texts_behind, port_at};
+ghost use Rattle.partial_text.specs.Judging.{update_from, scan_from, read_from, update_if_from, call_at, calls_at, is_cut, call_texts, call_texts_behind, port_at};
 
 use crate::fault::{Cause, PlanError};
-use crate::fields::{fault, index_field, one_field, three_fields, two_fields, value_field};
+use crate::fields::{
+    fault, has_more_fields, index_field, index_fields, one_field, three_fields, two_fields,
+    value_field,
+};
 use crate::pieces::split_before;
-use partial_model::Call;
+use partial_model::{Call, Sequence};
 use std::alloc::Global;
 
 #[tactic(auto, unfolding(crate::specs::Judging::update_from))]
@@ -21,6 +24,20 @@ fn update(line: u32, fields: &[u8]) -> Result<Call, PlanError>
     let component = index_field(line, component)?;
     let value = value_field(line, value)?;
     Ok(Call::Update { component, value })
+}
+
+/// A scan of at most m positions. An index beyond the components may stand among them.
+#[tactic(auto, unfolding(crate::specs::Judging::scan_from))]
+fn scan(alloc: Global, m: u32, line: u32, fields: &[u8]) -> Result<Call, PlanError>
+    ensures { Gives (λ call. call) result (scan_from m line (pieces_behind 32 fields.now)) }
+{
+    if has_more_fields(fields, m) {
+        return Err(fault(line, Cause::Count));
+    }
+    let components = index_fields(alloc, line, fields)?;
+    Ok(Call::Scan {
+        components: Sequence::from(components),
+    })
 }
 
 #[tactic(auto, unfolding(crate::specs::Judging::read_from))]
@@ -51,14 +68,16 @@ fn update_if(line: u32, fields: &[u8]) -> Result<Call, PlanError>
     })
 }
 
-/// The call that a text is.
+/// The call that a text is, in a plan of m components.
 #[tactic(auto, unfolding(crate::specs::Judging::call_at))]
-fn call_of(line: u32, text: &[u8]) -> Result<Call, PlanError>
-    ensures { Gives (λ call. call) result (call_at line text.now) }
+fn call_of(alloc: Global, m: u32, line: u32, text: &[u8]) -> Result<Call, PlanError>
+    ensures { Gives (λ call. call) result (call_at m line text.now) }
 {
     let (word, fields) = split_before(text, b' ');
     if word == b"update".as_slice() {
         update(line, fields)
+    } else if word == b"scan".as_slice() {
+        scan(alloc, m, line, fields)
     } else if word == b"read".as_slice() {
         read(line, fields)
     } else if word == b"updateif".as_slice() {
@@ -94,13 +113,13 @@ fn split_call(text: &[u8]) -> (&[u8], &[u8])
 
 /// The calls that the texts between one semicolon with a space and the next are.
 #[tactic(auto, unfolding(crate::specs::Judging::calls_at), using(crate::proofs::CallCuts::behind_cut, crate::proofs::CallCuts::no_cut))]
-fn calls_of(alloc: Global, line: u32, text: &[u8]) -> Result<Vec<Call>, PlanError>
-    ensures { Gives (λ v. v.items) result (calls_at line [] (call_texts text.now)) }
+fn calls_of(alloc: Global, m: u32, line: u32, text: &[u8]) -> Result<Vec<Call>, PlanError>
+    ensures { Gives (λ v. v.items) result (calls_at m line [] (call_texts text.now)) }
 {
     let mut calls = Vec::new(alloc);
     let (mut first, mut rest) = split_call(text);
     loop {
-        calls.push(call_of(line, first)?)?;
+        calls.push(call_of(alloc, m, line, first)?)?;
         let [_, _, behind @ ..] = rest else {
             return Ok(calls);
         };
@@ -108,13 +127,18 @@ fn calls_of(alloc: Global, line: u32, text: &[u8]) -> Result<Vec<Call>, PlanErro
     }
 }
 
-/// The calls of a port line, of which these are the bytes behind its word.
+/// The calls of a port line, of which these are the bytes behind its word, in a plan of m components.
 #[tactic(auto, unfolding(crate::specs::Judging::port_at))]
-pub(crate) fn port_calls(alloc: Global, line: u32, behind: &[u8]) -> Result<Vec<Call>, PlanError>
-    ensures { Gives (λ v. v.items) result (port_at line behind.now) }
+pub(crate) fn port_calls(
+    alloc: Global,
+    m: u32,
+    line: u32,
+    behind: &[u8],
+) -> Result<Vec<Call>, PlanError>
+    ensures { Gives (λ v. v.items) result (port_at m line behind.now) }
 {
     match behind {
         [] => Ok(Vec::new(alloc)),
-        [_, text @ ..] => calls_of(alloc, line, text),
+        [_, text @ ..] => calls_of(alloc, m, line, text),
     }
 }

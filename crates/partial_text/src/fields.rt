@@ -1,6 +1,6 @@
 //! The fields of a line or a call: what stands between one space and the next.
 
-ghost use Rattle.std.specs.Prelude.{◌≡◌, ◌∷◌, [], MatchOption};
+ghost use Rattle.std.specs.Prelude.{◌≡◌, ◌∷◌, [], length, nat_lt, MatchOption};
 ghost use Rattle.std.specs.Option.{option_map};
 ghost use Rattle.partial_text.specs.Pieces.{pieces_behind};
 ghost use Rattle.partial_text.specs.Fault.{Gives};
@@ -8,7 +8,7 @@ ghost use Rattle.partial_text.specs.Judging.{exactly_one, exactly_two, exactly_t
 
 use crate::fault::{Cause, PlanError};
 use crate::number::number;
-use crate::pieces::split_before;
+use crate::pieces::{count, split_before};
 use std::alloc::Global;
 
 /// The refusal of a line.
@@ -70,6 +70,16 @@ pub(crate) fn four_fields(fields: &[u8]) -> Option<(&[u8], &[u8], &[u8], &[u8])>
     Some((first, second, third, fourth))
 }
 
+/// Whether there are more than `most` fields, each behind a space.
+pub(crate) fn has_more_fields(fields: &[u8], most: u32) -> bool
+    ensures { result ≡ nat_lt most (length (pieces_behind 32 fields.now)) }
+{
+    match fields {
+        [] => false,
+        [_, text @ ..] => count(text, b' ') >= most as usize,
+    }
+}
+
 /// The field as a number of 64 bits.
 pub(crate) fn value_field(line: u32, field: &[u8]) -> Result<u64, PlanError>
     ensures { Gives (λ x. x) result (number_at line greatest field.now) }
@@ -104,4 +114,20 @@ pub(crate) fn value_fields(alloc: Global, line: u32, fields: &[u8]) -> Result<Ve
         rest = behind;
     }
     Ok(values)
+}
+
+/// The fields as numbers of 32 bits.
+#[tactic(auto, unfolding(crate::specs::Judging::numbers_at))]
+pub(crate) fn index_fields(alloc: Global, line: u32, fields: &[u8]) -> Result<Vec<u32>, PlanError>
+    ensures { Gives (λ v. v.items) result
+        (numbers_at line greatest_index [] (pieces_behind 32 fields.now)) }
+{
+    let mut indices = Vec::new(alloc);
+    let mut rest = fields;
+    while let [_, text @ ..] = rest {
+        let (field, behind) = split_before(text, b' ');
+        indices.push(index_field(line, field)?)?;
+        rest = behind;
+    }
+    Ok(indices)
 }

@@ -81,22 +81,23 @@ pub(crate) fn initial_of(alloc: Global, m: u32, line: &[u8]) -> Result<Vec<u64>,
     value_fields(alloc, 2, fields)
 }
 
-/// The calls of one more port, behind those of the ports so far.
+/// The calls of one more port of a plan of m components, behind those of the ports so far.
 #[tactic(auto, unfolding(crate::specs::Judging::more_ports))]
 fn push_port(
     alloc: Global,
+    m: u32,
     line: u32,
     ports: &mut Vec<Sequence<Call>>,
     calls: &[u8],
 ) -> Result<(), PlanError>
     ensures few { OnOk result (length ports.new.items ≤ 64) }
     ensures one { OnOk result (length ports.new.items ≡ length ports.old.items + 1) }
-    ensures value { Gives (λ _. ports.new.items) result (more_ports line ports.old.items calls.now) }
+    ensures value { Gives (λ _. ports.new.items) result (more_ports m line ports.old.items calls.now) }
 {
     if ports.len() >= 64 {
         return Err(PlanError::Ports);
     }
-    let calls = port_calls(alloc, line, calls)?;
+    let calls = port_calls(alloc, m, line, calls)?;
     ports.push(Sequence::from(calls))?;
     Ok(())
 }
@@ -143,10 +144,10 @@ fn is_port(word: &[u8]) -> bool
     word == b"port".as_slice()
 }
 
-/// The port lines and the last line.
+/// The port lines and the last line of a plan of m components.
 #[tactic(auto, unfolding(crate::specs::Judging::tail_at))]
-pub(crate) fn tail_of(alloc: Global, text: &[u8]) -> Result<Tail, PlanError>
-    ensures { Gives seen_tail result (tail_at 3 [] (pieces 10 text.now)) }
+pub(crate) fn tail_of(alloc: Global, m: u32, text: &[u8]) -> Result<Tail, PlanError>
+    ensures { Gives seen_tail result (tail_at m 3 [] (pieces 10 text.now)) }
 {
     let mut ports = Vec::new(alloc);
     let mut line = 3u32;
@@ -158,7 +159,7 @@ pub(crate) fn tail_of(alloc: Global, text: &[u8]) -> Result<Tail, PlanError>
             let (steps, rest) = last_of(alloc, line, ports.len(), front, behind)?;
             return Ok(Tail { ports, steps, rest });
         }
-        push_port(alloc, line, &mut ports, calls)?;
+        push_port(alloc, m, line, &mut ports, calls)?;
         line += 1;
         left = behind;
     }

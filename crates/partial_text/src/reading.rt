@@ -30,7 +30,7 @@ fn parts_of(alloc: Global, text: &[u8]) -> Result<Parts, PlanError>
     let sizes = sizes_of(line)?;
     let (line, behind) = line_of(2, behind)?;
     let initial = initial_of(alloc, sizes.m(), line)?;
-    let Tail { ports, steps, rest } = tail_of(alloc, behind)?;
+    let Tail { ports, steps, rest } = tail_of(alloc, sizes.m(), behind)?;
     Ok(Parts {
         sizes,
         initial,

@@ -1,3 +1,5 @@
+mod growths;
 mod plans;
 mod readers;
+mod scans;
 mod writers;

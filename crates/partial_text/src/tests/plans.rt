@@ -8,16 +8,20 @@ use std::test::Fail;
 
 const PLAN: &[u8] = b"sizes 2 4 8 64\ninitial 10 20\nport update 0 7; read 0\nsteps rest\n";
 
-fn read(alloc: Global, text: &[u8]) -> Result<Plan, PlanError> {
+pub(super) fn read(alloc: Global, text: &[u8]) -> Result<Plan, PlanError> {
     Plan::read(alloc, &mut Device::new(text))
 }
 
-fn line(line: u32, cause: Cause) -> PlanError {
+pub(super) fn line(line: u32, cause: Cause) -> PlanError {
     PlanError::Line { line, cause }
 }
 
 /// The refusal of the plan above with one line in place of another.
-fn refusal(alloc: Global, number: usize, other: &[u8]) -> Result<Option<PlanError>, Fail> {
+pub(super) fn refusal(
+    alloc: Global,
+    number: usize,
+    other: &[u8],
+) -> Result<Option<PlanError>, Fail> {
     let mut text = Vec::new(alloc);
     for (place, line) in PLAN.split(|byte| *byte == b'\n').enumerate() {
         if place + 1 == number {
@@ -79,7 +83,7 @@ fn steps_without_rest(rt: HostRuntime) -> Result<(), Fail> {
 #[test]
 fn plan_refusals(rt: HostRuntime) -> Result<(), Fail> {
     let number = Cause::Number;
-    let rows: [(usize, &[u8], PlanError); 45] = [
+    let rows: [(usize, &[u8], PlanError); 44] = [
         (1, b"sizes 0 4 8 64", PlanError::Size(SizeError::Components)),
         (1, b"sizes 0 0 8 64", PlanError::Size(SizeError::Components)),
         (1, b"sizes 2 0 8 64", PlanError::Size(SizeError::Slots)),
@@ -111,7 +115,6 @@ fn plan_refusals(rt: HostRuntime) -> Result<(), Fail> {
         (2, b"initial 10 ", line(2, number)),
         (2, b"initials 10 20", line(2, Cause::Word)),
         (3, b"port swap 0 1", line(3, Cause::Word)),
-        (3, b"port scan 0", line(3, Cause::Word)),
         (3, b"port update 0", line(3, Cause::Count)),
         (3, b"port update 0 7 8", line(3, Cause::Count)),
         (3, b"port update 4294967296 1", line(3, number)),

@@ -160,6 +160,113 @@ fn each_answer_is_written(rt: HostRuntime) -> Result<(), Fail> {
     Ok(())
 }
 
+/// A scan that two updates overtook twice, so that its value is the borrowed one.
+pub(super) fn borrowed_scan(alloc: Global) -> Result<Outcome, AllocError> {
+    let applied = |value: u64, stamp: u64| Applied {
+        port: 1,
+        component: 0,
+        value,
+        stamp,
+    };
+    let scanned = Answer::Scanned {
+        values: Sequence::from(vec![in alloc; 5]?),
+        collects: 3,
+        borrowed: Some(32),
+    };
+    let first = Answer::Applied { stamp: 26 };
+    let second = Answer::Applied { stamp: 32 };
+    Ok(Outcome {
+        opening: Opening {
+            values: Sequence::from(vec![in alloc; 10, 20]?),
+            first: 18,
+        },
+        history: vec![in alloc; applied(5, 26), applied(6, 32)]?,
+        calls: vec![in alloc;
+            called(0, 0, 0, 13, finished(2, scanned, Some(Note::Saw(1)))),
+            called(1, 0, 0, 17, finished(1, first, Some(Note::Wrote(0)))),
+            called(1, 1, 1, 17, finished(2, second, Some(Note::Wrote(1)))),
+        ]?,
+        words: Vec::new(alloc),
+        trace: Vec::new(alloc),
+        steps: 47,
+    })
+}
+
+#[test]
+fn scans_are_written(rt: HostRuntime) -> Result<(), Fail> {
+    let expected =
+        b"applied 0 port 1 component 0 value 5 stamp 26\napplied 1 port 1 component 0 value 6 stamp 32\ncall 0 0 scanned 5 prefix 1 collects 3 borrowed 32 steps 13 span 0 2\ncall 1 0 applied 26 place 0 steps 17 span 0 1\ncall 1 1 applied 32 place 1 steps 17 span 1 2\nvalues 6 20\ntotal 47\n";
+    let text = full_text(rt.alloc(), &borrowed_scan(rt.alloc())?)?;
+    assert_eq!(rt; text.as_slice(), expected.as_slice());
+    Ok(())
+}
+
+/// The line of one scan in the text of an outcome with no other call.
+fn scan_line(
+    alloc: Global,
+    values: Vec<u64>,
+    collects: u32,
+    borrowed: Option<u64>,
+) -> Result<Vec<u8>, Fail> {
+    let scanned = Answer::Scanned {
+        values: Sequence::from(values),
+        collects,
+        borrowed,
+    };
+    let outcome = Outcome {
+        opening: Opening {
+            values: Sequence::from(vec![in alloc; 1]?),
+            first: 6,
+        },
+        history: Vec::new(alloc),
+        calls: vec![in alloc; called(0, 0, 0, 9, finished(0, scanned, Some(Note::Saw(0))))]?,
+        words: Vec::new(alloc),
+        trace: Vec::new(alloc),
+        steps: 9,
+    };
+    full_text(alloc, &outcome)
+}
+
+#[test]
+fn each_scan_is_written(rt: HostRuntime) -> Result<(), Fail> {
+    let alloc = rt.alloc();
+    let most = u64::MAX;
+    let rows: [(Vec<u64>, u32, Option<u64>, &[u8]); 4] = [
+        (
+            Vec::new(alloc),
+            0,
+            None,
+            b"scanned prefix 0 collects 0 borrowed -",
+        ),
+        (
+            vec![in alloc; 0]?,
+            2,
+            None,
+            b"scanned 0 prefix 0 collects 2 borrowed -",
+        ),
+        (
+            vec![in alloc; 0]?,
+            3,
+            Some(0),
+            b"scanned 0 prefix 0 collects 3 borrowed 0",
+        ),
+        (
+            vec![in alloc; most, 0, most]?,
+            u32::MAX,
+            Some(most),
+            b"scanned 18446744073709551615 0 18446744073709551615 prefix 0 collects 4294967295 borrowed 18446744073709551615",
+        ),
+    ];
+    for (values, collects, borrowed, told) in rows {
+        let mut expected = Vec::from_slice(alloc, b"call 0 0 ")?;
+        expected.extend_from_slice(told)?;
+        expected.extend_from_slice(b" steps 9 span 0 0\nvalues 1\ntotal 9\n")?;
+        let text = scan_line(alloc, values, collects, borrowed)?;
+        assert_eq!(rt; text.as_slice(), expected.as_slice());
+    }
+    Ok(())
+}
+
 #[test]
 fn each_stop(rt: HostRuntime) -> Result<(), Fail> {
     let outcome = write_then_read(rt.alloc())?;

@@ -1,0 +1,11 @@
+use Rattle.std.proofs.Common.{◌≡◌, [], length}
+use Rattle.partial_text.specs.Pieces.{pieces_behind}
+use Rattle.partial_text.specs.Judging.{greatest_index, numbers_at}
+use Rattle.partial_text.proofs.fields.index_fields.Given as goal
+
+abbrev pub invariant-loop-rest : goal.invariant-loop-rest
+invariant-loop-rest l =
+    numbers_at l.line greatest_index l.indices.items (pieces_behind 32 l.rest) ≡ numbers_at l.line greatest_index [] (pieces_behind 32 l.fields)
+
+abbrev pub decreases-loop-rest : goal.decreases-loop-rest
+decreases-loop-rest l = length l.rest

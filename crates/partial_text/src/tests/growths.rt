@@ -1,0 +1,61 @@
+//! Growths that are refused, one after another: who runs these tests says which.
+
+use super::plans::read;
+use super::writers::borrowed_scan;
+use crate::{Device, OutcomeError, PlanError, write_outcome};
+use std::alloc::AllocError;
+use std::io;
+use std::io::Write;
+use std::test::Fail;
+
+// Where a growth is refused there is no plan, and the test ends with that refusal. Where the test
+// passes, no growth was refused and the plan was read.
+#[test]
+fn a_refused_growth_reads_no_plan(rt: HostRuntime) -> Result<(), Fail> {
+    let text =
+        b"sizes 6 4 8 64\ninitial 10 20 30 40 50 60\nport scan 5 4 3 2 1 0; update 0 7; scan; scan 2 1; read 0; updateif 1 21 9\nport scan 1\nsteps 0*9 1*4 rest\n";
+    match read(rt.alloc(), text) {
+        Ok(plan) => assert_eq!(rt; plan.ports().len(), 2),
+        Err(error) => {
+            assert_eq!(rt; error, PlanError::Memory);
+            Err(AllocError)?;
+        }
+    }
+    Ok(())
+}
+
+/// Counts what it takes and asks for no memory.
+#[derive(Drop)]
+struct Counter {
+    taken: usize,
+}
+
+impl Write for Counter {
+    fn write(&mut self, buf: &[u8]) -> io::Result<usize> {
+        self.taken = self.taken.saturating_add(buf.len());
+        Ok(buf.len())
+    }
+
+    fn flush(&mut self) -> io::Result<()> {
+        Ok(())
+    }
+}
+
+// Where a growth is refused nothing is written, and the test ends with that refusal.
+#[test]
+fn a_refused_growth_writes_nothing(rt: HostRuntime) -> Result<(), Fail> {
+    let outcome = borrowed_scan(rt.alloc())?;
+    let mut device = Device::new(Counter { taken: 0 });
+    let given = write_outcome(rt.alloc(), &outcome, &mut device);
+    assert!(rt; !device.failed());
+    let taken = device.into_inner().taken;
+    match given {
+        Ok(()) => assert!(rt; 0 < taken),
+        Err(error) => {
+            assert_eq!(rt; error, OutcomeError::Memory);
+            assert_eq!(rt; taken, 0);
+            Err(AllocError)?;
+        }
+    }
+    Ok(())
+}
