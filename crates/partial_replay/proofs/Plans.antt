@@ -28,7 +28,7 @@ line_long (c ∷ cs) =
 served : (m : ℕ) (cs : List Call) → AllByRecursion (IsCall m) cs → AllByRecursion (IsServed m) cs
 served m [] w = tt
 served m (call.Update j v ∷ cs) w = (tt, served m cs w.1)
-served m (call.Scan js ∷ cs) w = absurd w.0
+served m (call.Scan js ∷ cs) w = (w.0.0, served m cs w.1)
 served m (call.Read j ∷ cs) w = (tt, served m cs w.1)
 served m (call.UpdateIf j s v ∷ cs) w = (tt, served m cs w.1)
 
