@@ -161,7 +161,7 @@ finds_place o h p began words (call.UpdateIf j x v) (answer.Changed t) (note.Saw
 finds_place o h p began words (call.Scan js) (answer.Scanned vs c b) (note.Saw n) found hist agrees fits w behind place =
     let l = place.1 o n agrees fits behind w.within w.values in
     let m = place.0 in
-    let less : m ≤ n = elim (cases_lt n m) [ | inl before ↦ absurd (l.least n behind before w.values) | inr from ↦ from ] in
+    let less : m ≤ n = elim (cases_lt n m) [ inl before ↦ absurd (l.least n behind before w.values) | inr from ↦ from ] in
     record {
       note = note.Saw m;
       is = place.2;

@@ -48,13 +48,15 @@ pub fn note_of(memory: &mut Memory, began: usize, call: &Call, answer: &Answer) 
         Answer::Applied { stamp } => place_of(history, began, *stamp).map(Note::Wrote),
         Answer::Lost { by } => place_of(history, began, *by).map(Note::Lost),
         Answer::Scanned { values, .. } => match call {
-            Call::Scan { components } => Some(Note::Saw(memory.places.scan_place(
-                history,
-                &memory.words,
-                began,
-                components.as_slice(),
-                values.as_slice(),
-            ))),
+            Call::Scan { components } => Some(Note::Saw(
+                memory.places.scan_place(
+                    history,
+                    &memory.words,
+                    began,
+                    components.as_slice(),
+                    values.as_slice(),
+                ),
+            )),
             _ => None,
         },
         Answer::Read { stamp, .. } => {

@@ -182,7 +182,14 @@ impl Port {
         while self.finished.len() < calls.len() {
             let number = self.finished.len();
             let call = &calls[number];
-            match begin_call(alloc, &mut self.core, self.number, number as u32, call, seen)? {
+            match begin_call(
+                alloc,
+                &mut self.core,
+                self.number,
+                number as u32,
+                call,
+                seen,
+            )? {
                 Some(called) => self.finished.push(called)?,
                 None => {
                     self.under_way = Some(UnderWay {
@@ -254,10 +261,11 @@ impl Port {
         ensures called { IfOk result (IsEndedCall self.now.number (length self.now.finished.items) call.now way memory.old.words.items memory.old.history.items (answer_for self.now.core reply)) }
         ensures same { OnOk result (memory.new ≡ memory.old) }
     {
+        let port = self.number;
         let answer = answer_of(alloc, &self.core, call, reply)?;
         let note = note_of(memory, way.began, call, &answer);
         Ok(Called {
-            port: self.number,
+            port,
             number: self.finished.len() as u32,
             call: copy_of(alloc, call)?,
             began: way.began,
