@@ -52,7 +52,7 @@ rest_holds s (Finished r) n is = refl
 rest_holds s _ n is = absurd (false≢true is)
 
 -- a machine that has begun a call is sound
-begun_sound : (s : CoreState) (t : Stage) → is_begun t ≡ true → MayBeginAt s t → is_sound_at s t
+pub begun_sound : (s : CoreState) (t : Stage) → is_begun t ≡ true → MayBeginAt s t → is_sound_at s t
 begun_sound s (ReadBegun j) is may = may
 begun_sound s (UpdateBegun c) is may = may
 begun_sound s ScanBegun is may = may

@@ -20,7 +20,7 @@ hold_nothing : (z : Layout) (p n : ℕ) → holdings (fresh_parts z p n) ≡ idl
 hold_nothing z p zero = refl
 hold_nothing z p (suc n) = ap (λ (hs : List Holding). record { port = p; claimed = None; own = None; due = None; pool_spent = false; slots_spent = false; lists_spent = false } ∷ hs) (hold_nothing z (p + 1) n)
 
-fresh_sound : (z : Layout) (p : ℕ) → IsSound (fresh z p)
+pub fresh_sound : (z : Layout) (p : ℕ) → IsSound (fresh z p)
 fresh_sound z p =
     let none = no_index z.m in
     record {

@@ -10,3 +10,4 @@ pub mod Plans
 pub mod Told
 pub mod Replays
 pub mod Alone
+mod ScanSteps

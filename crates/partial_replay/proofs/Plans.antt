@@ -25,7 +25,7 @@ line_long (c ∷ cs) =
     let all : length (port_line (c ∷ cs)) ≡ 4 + length (field (call_text c) ++ flat_map next_call cs) = length-append (codes "port") (field (call_text c) ++ flat_map next_call cs) in
     omega (arith, rest, behind, one, all)
 
-served : (m : ℕ) (cs : List Call) → AllByRecursion (IsCall m) cs → AllByRecursion (IsServed m) cs
+pub served : (m : ℕ) (cs : List Call) → AllByRecursion (IsCall m) cs → AllByRecursion (IsServed m) cs
 served m [] w = tt
 served m (call.Update j v ∷ cs) w = (tt, served m cs w.1)
 served m (call.Scan js ∷ cs) w = (w.0.0, served m cs w.1)

@@ -31,7 +31,7 @@ use Rattle.partial_words.specs.Step.{answer_of, words_after}
 use Rattle.partial_machine.specs.declared.stage.Reply.{Reply}
 use Rattle.partial_machine.specs.declared.stage.Reply.TheVariants as reply
 use Rattle.partial_machine.specs.declared.stage.Stage.TheVariants.{Idle, ScanBegun, Finished}
-use Rattle.partial_machine.specs.Machine.{CoreState, AreComponents, at_stage, begin_scan, advance, step_of, reply_at, reply_of, steps_left, left_at}
+use Rattle.partial_machine.specs.Machine.{CoreState, AreComponents, IsPossible, at_stage, begin_scan, advance, step_of, reply_at, reply_of, steps_left, left_at}
 use Rattle.partial_core.specs.Lawful.{Part, core_of, port_of, is_begun, is_at_rest, IsMachineOf, MayBegin, MayBeginAt, begun_like, call_at, call_of, answer_for}
 use Rattle.partial_replay.specs.declared.port.Port.{Port}
 use Rattle.partial_replay.specs.declared.port.UnderWay.{UnderWay}
@@ -472,8 +472,8 @@ answer_idle s (reply.Refused cause) = refl
 answer_idle s (reply.Changed by) = refl
 
 -- a step that ends its call
-pub step_ended : (calls : List Call) (words words' : List ℕ) (trace trace' : List Event) (log log' : List Applied) (port new : Port) (step : Step) (way : UnderWay) (a : ℕ) (core' core'' : CoreState) (r : Reply) (call : Call) (called : Called) → step_of port.core ≡ Some step → port.under_way ≡ Some way → a ≡ answer_of words step → words' ≡ words_after words step → trace' ≡ trace ++ record { port = port.number; step = step; answer = a } ∷ [] → log' ≡ log ++ entry_at port.core.sizes.m words' port.number step a → core' ≡ advance port.core a → steps_left core' < steps_left port.core → reply_of core' ≡ Some r → core'' ≡ at_stage core' Idle → slice_get calls (length port.finished.items) ≡ Some call → IsEndedCall port.number (length port.finished.items) call (one_step_more way) words' log' (answer_for core' r) called → new.number ≡ port.number → new.core ≡ core'' → new.under_way ≡ None → new.finished.items ≡ port.finished.items ++ called ∷ [] → StepMade calls words words' trace trace' log log' port new
-step_ended calls words words' trace trace' log log' port new step way a core' core'' r call called due was answer words_are trace_is log_is core falls replied taken next ended number machine none finished =
+pub step_ended : (calls : List Call) (words words' : List ℕ) (trace trace' : List Event) (log log' : List Applied) (port new : Port) (step : Step) (way : UnderWay) (a : ℕ) (core' core'' : CoreState) (r : Reply) (call : Call) (called : Called) → step_of port.core ≡ Some step → port.under_way ≡ Some way → IsPossible port.core (answer_of words step) → a ≡ answer_of words step → words' ≡ words_after words step → trace' ≡ trace ++ record { port = port.number; step = step; answer = a } ∷ [] → log' ≡ log ++ entry_at port.core.sizes.m words' port.number step a → core' ≡ advance port.core a → steps_left core' < steps_left port.core → reply_of core' ≡ Some r → core'' ≡ at_stage core' Idle → slice_get calls (length port.finished.items) ≡ Some call → IsEndedCall port.number (length port.finished.items) call (one_step_more way) words' log' (answer_for core' r) called → new.number ≡ port.number → new.core ≡ core'' → new.under_way ≡ None → new.finished.items ≡ port.finished.items ++ called ∷ [] → StepMade calls words words' trace trace' log log' port new
+step_ended calls words words' trace trace' log log' port new step way a core' core'' r call called due was possible answer words_are trace_is log_is core falls replied taken next ended number machine none finished =
     let moved : core' ≡ advance port.core (answer_of words step) = core ∙ ap (advance port.core) answer in
     let reply' : reply_of (advance port.core (answer_of words step)) ≡ Some r = ap reply_of (sym moved) ∙ replied in
     let ended' : IsEndedCall port.number (length port.finished.items) call (one_step_more way) words' log' (answer_for (advance port.core (answer_of words step)) r) called = subst (λ (s : CoreState). IsEndedCall port.number (length port.finished.items) call (one_step_more way) words' log' (answer_for s r) called) moved ended in
@@ -491,6 +491,7 @@ step_ended calls words words' trace trace' log log' port new step way a core' co
       way = way;
       due = due;
       was = was;
+      possible = possible;
       words_are = words_are;
       trace_is = trace_is ∙ ap (λ n. trace ++ record { port = port.number; step = step; answer = n } ∷ []) answer;
       log_is = log_is ∙ ap (λ n. log ++ entry_at port.core.sizes.m words' port.number step n) answer;

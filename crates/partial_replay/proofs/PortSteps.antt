@@ -22,7 +22,7 @@ use Rattle.partial_words.specs.Step.{word_of, answer_of}
 use Rattle.partial_machine.specs.declared.stage.Reply.{Reply}
 use Rattle.partial_machine.specs.declared.stage.Stage.{Stage}
 use Rattle.partial_machine.specs.declared.stage.Stage.TheVariants.{Idle, Finished}
-use Rattle.partial_machine.specs.Machine.{CoreState, at_stage, advance, step_of, reply_at, reply_of, fresh}
+use Rattle.partial_machine.specs.Machine.{CoreState, IsPossible, at_stage, advance, step_of, reply_at, reply_of, fresh}
 use Rattle.partial_core.specs.Lawful.{Part, answer_for, is_at_rest}
 use Rattle.partial_replay.specs.declared.port.Port.{Port}
 use Rattle.partial_replay.specs.declared.port.UnderWay.{UnderWay}
@@ -45,9 +45,9 @@ steps_push s t u (d ∷ cs) c xs own w call long =
     (w.0, w.1 ++ own, w.2, ap (λ (l : List Moment). l ++ own) w.3 ∙ append_assoc (w.0) (w.1) own, w.4, w.5, steps_push (w.2) t u cs c (w.1) own w.6 call long)
 
 -- one event more of the call under way
-makes_push : (s t u : CoreState) (xs : List Moment) (x : Moment) → Makes s xs t → step_of t ≡ Some x.event.step → u ≡ advance t x.event.answer → Makes s (xs ++ x ∷ []) u
-makes_push s t u [] x m due is = (subst (λ (v : CoreState). step_of v ≡ Some x.event.step) m due, is ∙ ap (λ (v : CoreState). advance v x.event.answer) m)
-makes_push s t u (y ∷ xs) x m due is = (m.0, makes_push (advance s y.event.answer) t u xs x m.1 due is)
+makes_push : (s t u : CoreState) (xs : List Moment) (x : Moment) → Makes s xs t → step_of t ≡ Some x.event.step → IsPossible t x.event.answer → u ≡ advance t x.event.answer → Makes s (xs ++ x ∷ []) u
+makes_push s t u [] x m due possible is = (subst (λ (v : CoreState). step_of v ≡ Some x.event.step) m due, subst (λ (v : CoreState). IsPossible v x.event.answer) m possible, is ∙ ap (λ (v : CoreState). advance v x.event.answer) m)
+makes_push s t u (y ∷ xs) x m due possible is = (m.0, m.1, makes_push (advance s y.event.answer) t u xs x m.2 due possible is)
 
 behind_push : (n : ℕ) (xs : List Moment) (x : Moment) → last_behind n (xs ++ x ∷ []) ≡ x.behind
 behind_push n [] x = refl
@@ -102,13 +102,13 @@ once_made z n calls p xs port new call c w none d finished way =
     }
 
 -- a step of the call under way: it goes on, or it is finished
-goes_made : (z : Layout) (n k : ℕ) (calls : List Call) (p : ℕ) (xs : List Moment) (port new : Port) (way : UnderWay) (x : Moment) → (w : PortMade z n calls p xs port) → IsGoing n calls port.finished.items w.at port.core w.own way → x.before ≡ n → step_of port.core ≡ Some x.event.step → GoesOn port new way (advance port.core x.event.answer) → PortMade z k calls p (xs ++ x ∷ []) new
-goes_made z n k calls p xs port new way x w u before due g =
+goes_made : (z : Layout) (n k : ℕ) (calls : List Call) (p : ℕ) (xs : List Moment) (port new : Port) (way : UnderWay) (x : Moment) → (w : PortMade z n calls p xs port) → IsGoing n calls port.finished.items w.at port.core w.own way → x.before ≡ n → step_of port.core ≡ Some x.event.step → IsPossible port.core x.event.answer → GoesOn port new way (advance port.core x.event.answer) → PortMade z k calls p (xs ++ x ∷ []) new
+goes_made z n k calls p xs port new way x w u before due possible g =
     let going : IsGoing k calls new.finished.items w.at new.core (w.own ++ x ∷ []) (one_step_more way) = record {
       call = u.call;
       next = ap (λ (d : List Called). slice_get calls (length d)) g.finished ∙ u.next;
       begins = u.begins;
-      makes = makes_push (begun_of w.at u.call) port.core new.core w.own x u.makes due g.machine;
+      makes = makes_push (begun_of w.at u.call) port.core new.core w.own x u.makes due possible g.machine;
       steps = length_push w.own x ∙ ap (λ m. m + 1) u.steps;
       began = u.began ∙ began_push n k w.own x before;
     } in
@@ -121,15 +121,15 @@ goes_made z n k calls p xs port new way x w u before due g =
       going = subst (λ (f : Option UnderWay). MatchOption f ((w.own ++ x ∷ [] ≡ []) × (new.core ≡ w.at)) (IsGoing k calls new.finished.items w.at new.core (w.own ++ x ∷ []))) (sym g.way') going;
     }
 
-ends_made : (z : Layout) (n k : ℕ) (calls : List Call) (p : ℕ) (xs : List Moment) (port new : Port) (way : UnderWay) (x : Moment) (words : List ℕ) (log : List Applied) (r : Reply) → (w : PortMade z n calls p xs port) → IsGoing n calls port.finished.items w.at port.core w.own way → x.before ≡ n → x.behind ≡ length log → step_of port.core ≡ Some x.event.step → reply_of (advance port.core x.event.answer) ≡ Some r → Ends calls words log port new way (advance port.core x.event.answer) r → PortMade z k calls p (xs ++ x ∷ []) new
-ends_made z n k calls p xs port new way x words log r w u before behind due replied e =
+ends_made : (z : Layout) (n k : ℕ) (calls : List Call) (p : ℕ) (xs : List Moment) (port new : Port) (way : UnderWay) (x : Moment) (words : List ℕ) (log : List Applied) (r : Reply) → (w : PortMade z n calls p xs port) → IsGoing n calls port.finished.items w.at port.core w.own way → x.before ≡ n → x.behind ≡ length log → step_of port.core ≡ Some x.event.step → IsPossible port.core x.event.answer → reply_of (advance port.core x.event.answer) ≡ Some r → Ends calls words log port new way (advance port.core x.event.answer) r → PortMade z k calls p (xs ++ x ∷ []) new
+ends_made z n k calls p xs port new way x words log r w u before behind due possible replied e =
     let nil : List Moment = [] in
     let own = w.own ++ x ∷ [] in
     let last = advance port.core x.event.answer in
     let c = ended_call port.number (length port.finished.items) e.call (one_step_more way) (length log) (answer_for (advance port.core x.event.answer) r) e.note in
     let one : Some u.call ≡ Some e.call = sym u.next ∙ e.next in
     let same : u.call ≡ e.call = cc in
-    let makes : Makes (begun_of w.at u.call) own last = makes_push (begun_of w.at u.call) port.core last w.own x u.makes due refl in
+    let makes : Makes (begun_of w.at u.call) own last = makes_push (begun_of w.at u.call) port.core last w.own x u.makes due possible refl in
     let call : IsCallOf w.at c own (at_stage last Idle) = call_of w.at (at_stage last Idle) last c w.own x
     (subst (λ (d : Call). refusal_of w.at d ≡ None) same u.begins)
     (subst (λ (d : Call). Makes (begun_of w.at d) own last) same makes)
@@ -146,9 +146,9 @@ ends_made z n k calls p xs port new way x words log r w u before behind due repl
       going = subst (λ (f : Option UnderWay). MatchOption f ((nil ≡ []) × (new.core ≡ at_stage last Idle)) (IsGoing k calls new.finished.items (at_stage last Idle) new.core [])) (sym e.none) (refl, e.machine);
     }
 
-after_made : (z : Layout) (n k : ℕ) (calls : List Call) (p : ℕ) (xs : List Moment) (port new : Port) (way : UnderWay) (x : Moment) (words : List ℕ) (log : List Applied) (found : Option Reply) → (w : PortMade z n calls p xs port) → IsGoing n calls port.finished.items w.at port.core w.own way → x.before ≡ n → x.behind ≡ length log → step_of port.core ≡ Some x.event.step → reply_of (advance port.core x.event.answer) ≡ found → MatchOption found (GoesOn port new way (advance port.core x.event.answer)) (Ends calls words log port new way (advance port.core x.event.answer)) → PortMade z k calls p (xs ++ x ∷ []) new
-after_made z n k calls p xs port new way x words log None w u before behind due replied g = goes_made z n k calls p xs port new way x w u before due g
-after_made z n k calls p xs port new way x words log (Some r) w u before behind due replied e = ends_made z n k calls p xs port new way x words log r w u before behind due replied e
+after_made : (z : Layout) (n k : ℕ) (calls : List Call) (p : ℕ) (xs : List Moment) (port new : Port) (way : UnderWay) (x : Moment) (words : List ℕ) (log : List Applied) (found : Option Reply) → (w : PortMade z n calls p xs port) → IsGoing n calls port.finished.items w.at port.core w.own way → x.before ≡ n → x.behind ≡ length log → step_of port.core ≡ Some x.event.step → IsPossible port.core x.event.answer → reply_of (advance port.core x.event.answer) ≡ found → MatchOption found (GoesOn port new way (advance port.core x.event.answer)) (Ends calls words log port new way (advance port.core x.event.answer)) → PortMade z k calls p (xs ++ x ∷ []) new
+after_made z n k calls p xs port new way x words log None w u before behind due possible replied g = goes_made z n k calls p xs port new way x w u before due possible g
+after_made z n k calls p xs port new way x words log (Some r) w u before behind due possible replied e = ends_made z n k calls p xs port new way x words log r w u before behind due possible replied e
 
 -- the event of a step
 abbrev event_of : List ℕ → ℕ → Step → Event
@@ -157,7 +157,7 @@ event_of words p step = record { port = p; step = step; answer = answer_of words
 step_made : (z : Layout) (calls : List Call) (p : ℕ) (xs : List Moment) (words words' : List ℕ) (trace trace' : List Event) (log log' : List Applied) (port new : Port) → (m : StepMade calls words words' trace trace' log log' port new) → PortMade z (length log) calls p xs port → PortMade z (length log') calls p (xs ++ record { event = event_of words port.number m.step; before = length log; behind = length log' } ∷ []) new
 step_made z calls p xs words words' trace trace' log log' port new m w =
     let u : IsGoing (length log) calls port.finished.items w.at port.core w.own m.way = subst (λ (f : Option UnderWay). MatchOption f ((w.own ≡ []) × (port.core ≡ w.at)) (IsGoing (length log) calls port.finished.items w.at port.core w.own)) m.was w.going in
-    after_made z (length log) (length log') calls p xs port new m.way (record { event = event_of words port.number m.step; before = length log; behind = length log' }) words' log' (reply_of (advance port.core (answer_of words m.step))) w u refl refl m.due refl m.after
+    after_made z (length log) (length log') calls p xs port new m.way (record { event = event_of words port.number m.step; before = length log; behind = length log' }) words' log' (reply_of (advance port.core (answer_of words m.step))) w u refl refl m.due m.possible refl m.after
 
 -- another port's step
 own_stays : (n k : ℕ) (own : List Moment) (way : UnderWay) → length own ≡ way.steps → 0 < way.steps → began_at n own ≡ began_at k own

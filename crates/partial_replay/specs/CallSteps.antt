@@ -10,7 +10,7 @@ use Rattle.partial_model.specs.declared.call.Called.{Called}
 use Rattle.partial_words.specs.Layout.{Layout}
 use Rattle.partial_machine.specs.declared.stage.Reply.{Reply}
 use Rattle.partial_machine.specs.declared.stage.Stage.TheVariants.{Idle, ReadBegun, UpdateBegun}
-use Rattle.partial_machine.specs.Machine.{CoreState, at_stage, begin_scan, advance, step_of, reply_of, read_refusal, update_refusal, scan_refusal}
+use Rattle.partial_machine.specs.Machine.{CoreState, IsPossible, at_stage, begin_scan, advance, step_of, reply_of, read_refusal, update_refusal, scan_refusal}
 use Rattle.partial_machine.specs.Steps.{most_embedded}
 use Rattle.partial_core.specs.Lawful.{answer_for}
 use Rattle.partial_replay.specs.Trace.{Moment}
@@ -40,10 +40,10 @@ refusal_of s (call.Scan js) = scan_refusal s js
 refusal_of s (call.Read j) = read_refusal s j
 refusal_of s (call.UpdateIf j x v) = update_refusal s j
 
--- the machine makes these events, each of them its due step, and comes to that state
+-- the machine makes these events, each of them its due step with an answer that words may give, and comes to that state
 abbrev pub Makes : CoreState → List Moment → CoreState → Type 0
 Makes s [] t = t ≡ s
-Makes s (x ∷ xs) t = (step_of s ≡ Some x.event.step) × Makes (advance s x.event.answer) xs t
+Makes s (x ∷ xs) t = (step_of s ≡ Some x.event.step) × IsPossible s x.event.answer × Makes (advance s x.event.answer) xs t
 
 -- how long the history is behind the last of them, or where there is none
 abbrev pub last_behind : ℕ → List Moment → ℕ

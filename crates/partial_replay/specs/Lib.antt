@@ -8,3 +8,4 @@ pub mod TurnState
 pub mod Listed
 pub mod Replayed
 pub mod Alone
+pub mod ScanSteps

@@ -136,6 +136,7 @@ pub record StepMade (calls : List Call) (words words' : List ℕ) (trace trace' 
   pub way : UnderWay
   pub due : step_of port.core ≡ Some step
   pub was : port.under_way ≡ Some way
+  pub possible : IsPossible port.core (answer_of words step)
   pub words_are : words' ≡ words_after words step
   pub trace_is : trace' ≡ trace ++ record { port = port.number; step = step; answer = answer_of words step } ∷ []
   pub log_is : log' ≡ log ++ entry_at port.core.sizes.m words' port.number step (answer_of words step)

@@ -1,11 +1,19 @@
-//! A law about whole replays. The function has no code: its contract holds of the definitions by which
+//! Laws about whole replays. The functions have no code: their contracts hold of the definitions by which
 //! the contract of `replay` is stated.
 
 ghost use Rattle.partial_replay.specs.Alone.{OnePortIsAlone};
+ghost use Rattle.partial_replay.specs.ScanSteps.{AnsweredScansMakeTheirSteps};
 
 /// In the replay of a plan with one port no update is lost, each scan and read answers the whole
 /// history so far, and a conditional update is applied exactly where its component has the expected
 /// stamp. Refused and unfinished calls aside.
 pub fn one_port_is_alone()
     ensures { OnePortIsAlone }
+{}
+
+/// In the replay of a plan an answered scan of r positions, r at least 1, that made c collects has made
+/// `r (c + 2) + 5` steps, or, where it borrowed a view of which it loaded n pairs, at most
+/// `r (c + 1) + 2 n + 7`.
+pub fn answered_scans_make_their_steps()
+    ensures { AnsweredScansMakeTheirSteps }
 {}

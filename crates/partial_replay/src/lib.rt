@@ -9,7 +9,7 @@ mod port;
 mod replaying;
 mod run;
 
-pub use law::one_port_is_alone;
+pub use law::{answered_scans_make_their_steps, one_port_is_alone};
 pub use partial_text::{Cause, Device, Outcome, OutcomeError, Plan, PlanError, write_outcome};
 pub use partial_words::Event;
 pub use replaying::{ReplayError, replay};

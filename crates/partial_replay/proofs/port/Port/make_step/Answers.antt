@@ -6,7 +6,9 @@ use Rattle.std.proofs.lemmas.List.{append-nil, with_items_is}
 use Rattle.partial_model.specs.declared.history.Applied.{Applied}
 use Rattle.partial_words.specs.Step.{answer_of, words_after}
 use Rattle.partial_core.specs.Lawful.{answer_for}
-use Rattle.partial_machine.specs.Machine.{CoreState, at_stage}
+use Rattle.partial_machine.specs.Machine.{CoreState, IsPossible, at_stage}
+use Rattle.partial_words.specs.declared.step.Step.{Step}
+use Rattle.partial_replay.proofs.Opens.{some_same}
 use Rattle.partial_machine.specs.declared.stage.Stage.TheVariants.{Idle}
 use Rattle.partial_model.specs.declared.call.Answer.{Answer}
 use Rattle.partial_replay.specs.declared.memory.Memory.{Memory}
@@ -30,6 +32,8 @@ returns-in_ok-push-in-Some-take-clause-made c =
     let kept = with_items_is memory.words c.perform-answer.new.words (let long = c.perform-answer.auto.words in let front = ap length c.deref_mut.ensures.value in omega (arith, long, front, memory.words.ok.0)) in
     let value = c.deref_mut.ensures.value in
     let answer : c.perform-answer.result ≡ answer_of memory.words.items c.unwrap-step.result = c.perform-answer.ensures.answer ∙ ap (λ (ws : List ℕ). answer_of ws c.unwrap-step.result) value in
+    let due : c.requires.may.step ≡ c.unwrap-step.result = some_same (sym c.requires.may.due ∙ sym c.step.ensures ∙ c.unwrap-step.ensures) in
+    let possible = subst (λ (s : Step). IsPossible port.core (answer_of memory.words.items s)) due c.requires.may.possible in
     let after : c.perform-answer.new.words ≡ words_after memory.words.items c.unwrap-step.result = c.perform-answer.ensures.words ∙ ap (λ (ws : List ℕ). words_after ws c.unwrap-step.result) value in
     let words : mid.words.items ≡ c.perform-answer.new.words =
     elim c.match-entry_of.branch [
@@ -55,6 +59,6 @@ returns-in_ok-push-in-Some-take-clause-made c =
     subst (λ (v : Memory). IsEndedCall port.number (length port.finished.items) call (one_step_more c.unwrap-way.result) v.words.items v.history.items a c.in_ok-called-in-Some-take.called) (sym same)
     (subst (λ (v : Answer). IsEndedCall port.number (length port.finished.items) call (one_step_more c.unwrap-way.result) mid.words.items mid.history.items v c.in_ok-called-in-Some-take.called) (ap (λ (s : CoreState). answer_for s c.in-Some-take.reply) taken ∙ answer_idle c.answer.new.self c.in-Some-take.reply) ended) in
     step_ended calls memory.words.items new.words.items memory.trace.items new.trace.items memory.history.items new.history.items port _ c.unwrap-step.result c.unwrap-way.result c.perform-answer.result c.answer.new.self c.take.new.self c.in-Some-take.reply call c.in_ok-called-in-Some-take.called
-    (sym c.step.ensures ∙ c.unwrap-step.ensures) c.unwrap-way.ensures answer (new_words ∙ after) (ap (λ (v : Memory). v.trace.items) same ∙ trace)
+    (sym c.step.ensures ∙ c.unwrap-step.ensures) c.unwrap-way.ensures possible answer (new_words ∙ after) (ap (λ (v : Memory). v.trace.items) same ∙ trace)
     (ap (λ (v : Memory). v.history.items) same ∙ log ∙ ap (λ (ws : List ℕ). memory.history.items ++ entry_at port.core.sizes.m ws port.number c.unwrap-step.result c.perform-answer.result) (sym new_words))
     c.answer.ensures.state c.answer.ensures.falls (sym c.in-Some-take.ensures.reply) taken next ended_is refl refl refl c.in_ok-push-in-Some-take.ensures.items

@@ -1,0 +1,177 @@
+-- The answered scans of a replay make their steps.
+use Rattle.std.proofs.Common.{ℕ, zero, suc, ◌⊎◌, ◌≡◌, ◌+◌, ◌<◌, ◌≤◌, ◌==◌, Bool, true, false, cond, List, [], ◌∷◌, length, map, take, get_or, Option, Some, None, refl, sym, ◌∙◌, ap, subst, inl, inr, arith}
+use Rattle.std.specs.List.{AllByRecursion}
+use Rattle.std.specs.Option.{option_map}
+use Rattle.std.proofs.lemmas.Bool.{false≢true}
+use Rattle.std.proofs.lemmas.Bool.Decides.{eqb_tells}
+use Rattle.std.proofs.lemmas.List.{length-map}
+use Rattle.std.proofs.lemmas.Option.{get_or_from_slice_get}
+use Rattle.partial_model.specs.declared.call.Call.{Call}
+use Rattle.partial_model.specs.declared.call.Call.TheVariants as call
+use Rattle.partial_model.specs.declared.call.Answer.{Answer}
+use Rattle.partial_model.specs.declared.call.Answer.TheVariants as answer
+use Rattle.partial_model.specs.declared.call.Called.{Called}
+use Rattle.partial_model.specs.declared.call.Finish.{Finish}
+use Rattle.partial_words.specs.declared.step.Step.{Step}
+use Rattle.partial_words.specs.Layout.{Layout, IsLayout}
+use Rattle.partial_machine.specs.declared.stage.Reply.{Reply}
+use Rattle.partial_machine.specs.declared.stage.Reply.TheVariants as reply
+use Rattle.partial_machine.specs.declared.stage.Stage.{Stage}
+use Rattle.partial_machine.specs.declared.stage.Stage.TheVariants.{Idle, ReadBegun, UpdateBegun, ScanBegun, Finished}
+use Rattle.partial_machine.specs.Machine.{CoreState, AreComponents, IsSound, IsPossible, at_stage, begin_scan, advance, step_at, step_of, reply_at, reply_of, fresh}
+use Rattle.partial_machine.specs.Steps.{Run, AreOfScan, pairs_loaded}
+use Rattle.partial_machine.proofs.Sound.{kept}
+use Rattle.partial_machine.proofs.StepCounts.{stays_sound}
+use Rattle.partial_machine.proofs.ScanCounts.{scans_make_their_steps}
+use Rattle.partial_core.specs.Lawful.{answer_for}
+use Rattle.partial_core.proofs.AllSteps.{begun_sound}
+use Rattle.partial_core.proofs.Opened.{fresh_sound}
+use Rattle.partial_text.specs.PlanText.{PlanView, IsPlan, IsCall}
+use Rattle.partial_replay.specs.Trace.{Moment}
+use Rattle.partial_replay.specs.CallSteps.{begun_of, refusal_of, Makes, IsCallOf, HasSteps, AreStepsOf}
+use Rattle.partial_replay.specs.Listed.{calls_by, AreFirstOf}
+use Rattle.partial_replay.specs.PortState.{IsServed}
+use Rattle.partial_replay.specs.ScanSteps.{answers_of, MakesItsSteps, IsOfItsScan, AnsweredScansMakeTheirSteps}
+use Rattle.partial_replay.proofs.PortLaws.{Begins, begins, begun_sizes, once_empty}
+use Rattle.partial_replay.proofs.Plans.{served}
+use Rattle.partial_replay.proofs.Replays.{at_place, past_get}
+
+-- a machine with a due step has no reply
+due_unreplied : (s : CoreState) (t : Stage) (step : Step) → step_at s t ≡ Some step → reply_at t ≡ None
+due_unreplied s (Finished r) step e = let bad : None ≡ Some step = e in cc
+due_unreplied s _ step e = refl
+
+-- a call that is begun leaves the machine sound
+begun_call_sound : (s : CoreState) (c : Call) → IsSound s → Begins s c → IsSound (begun_of s c)
+begun_call_sound s (call.Update j v) w b = record { asked = b.asked; found = w.found; indices = w.indices; distinct = w.distinct; rows = w.rows; stage = b.may }
+begun_call_sound s (call.Scan js) w b = record { asked = b.asked; found = w.found; indices = w.indices; distinct = w.distinct; rows = w.rows; stage = begun_sound (begin_scan s js) (begin_scan s js).stage b.begun b.may }
+begun_call_sound s (call.Read j) w b = record { asked = b.asked; found = w.found; indices = w.indices; distinct = w.distinct; rows = w.rows; stage = b.may }
+begun_call_sound s (call.UpdateIf j x v) w b = record { asked = b.asked; found = w.found; indices = w.indices; distinct = w.distinct; rows = w.rows; stage = b.may }
+
+idle_sound : (s : CoreState) → IsSound s → IsSound (at_stage s Idle)
+idle_sound s w = record { asked = w.asked; found = w.found; indices = w.indices; distinct = w.distinct; rows = w.rows; stage = tt }
+
+-- the events are answers that lead the machine on
+run_of : (s t : CoreState) (xs : List Moment) → Makes s xs t → Run s (answers_of xs) t
+run_of s t [] m = m
+run_of s t (x ∷ xs) m = (m.1, run_of (advance s x.event.answer) t xs m.2)
+
+run_sizes : (s t : CoreState) (xs : List ℕ) → IsLayout s.sizes → IsSound s → Run s xs t → t.sizes ≡ s.sizes
+run_sizes s t [] layout w run = ap (λ (v : CoreState). v.sizes) run
+run_sizes s t (x ∷ xs) layout w run =
+    let k = kept s x layout w run.0 in
+    run_sizes (advance s x) t xs (subst IsLayout (sym k.sizes) layout) k.sound run.1 ∙ k.sizes
+
+-- a call with steps, as its machine sees it
+record CallRun (z : Layout) (s : CoreState) (c : Called) (own : List Moment) (last : CoreState) : Type 0 where
+  begins' : Begins s c.call
+  layout : IsLayout (begun_of s c.call).sizes
+  sound : IsSound (begun_of s c.call)
+  run : Run (begun_of s c.call) (answers_of own) last
+  last_sound : IsSound last
+  last_sizes : last.sizes ≡ z
+
+call_run : (z : Layout) (s t : CoreState) (c : Called) (x : Moment) (xs : List Moment) → IsLayout z → s.sizes ≡ z → IsSound s → IsServed z.m c.call → (h : HasSteps s c x xs t) → CallRun z s c (x ∷ xs) h.last
+call_run z s t c x xs layout sizes w served h =
+    let unreplied : reply_of (begun_of s c.call) ≡ None = due_unreplied (begun_of s c.call) (begun_of s c.call).stage x.event.step h.makes.0 in
+    let b = begins s c.call w.asked (subst (λ (y : Layout). IsServed y.m c.call) (sym sizes) served) h.begins unreplied in
+    let sound = begun_call_sound s c.call w b in
+    let same : (begun_of s c.call).sizes ≡ z = begun_sizes s c.call ∙ sizes in
+    let here : IsLayout (begun_of s c.call).sizes = subst IsLayout (sym same) layout in
+    let run = run_of (begun_of s c.call) h.last (x ∷ xs) h.makes in
+    record {
+      begins' = b;
+      layout = here;
+      sound = sound;
+      run = run;
+      last_sound = (stays_sound (begun_of s c.call) h.last (answers_of (x ∷ xs)) here sound run).0;
+      last_sizes = run_sizes (begun_of s c.call) h.last (answers_of (x ∷ xs)) here sound run ∙ same;
+    }
+
+-- the machine behind a call is sound and has the same sizes
+call_sound : (z : Layout) (s t : CoreState) (c : Called) (own : List Moment) → IsLayout z → s.sizes ≡ z → IsSound s → IsServed z.m c.call → IsCallOf s c own t → IsSound t × (t.sizes ≡ z)
+call_sound z s t c [] layout sizes w served h = elim h [
+  | inl r ↦ (subst IsSound (sym r.rests) w, ap (λ (v : CoreState). v.sizes) r.rests ∙ sizes)
+  | inr f ↦
+      let empty : at_stage (begun_of s c.call) Idle ≡ at_stage (begin_scan s []) Idle = ap (λ (d : Call). at_stage (begun_of s d) Idle) (once_empty s c.call f.reply f.replied).0 in
+      let is : t ≡ at_stage (begin_scan s []) Idle = f.rests ∙ empty in
+      let sound : IsSound (at_stage (begin_scan s []) Idle) = record { asked = record { few = omega arith; each = λ k below. absurd (omega (arith, below)) }; found = w.found; indices = w.indices; distinct = w.distinct; rows = w.rows; stage = tt } in
+      (subst IsSound (sym is) sound, ap (λ (v : CoreState). v.sizes) is ∙ sizes)
+]
+call_sound z s t c (x ∷ xs) layout sizes w served h =
+    let r = call_run z s t c x xs layout sizes w served h in
+    (subst IsSound (sym h.rests) (idle_sound h.last r.last_sound), ap (λ (v : CoreState). v.sizes) h.rests ∙ r.last_sizes)
+
+-- the reply behind the answer of a scan
+scan_replied : (s : CoreState) (f : Option Reply) (vs : List ℕ) (k : ℕ) (b : Option ℕ) → option_map (answer_for s) f ≡ Some (answer.Scanned vs k b) → f ≡ Some (reply.Scanned k b)
+scan_replied s None vs k b e = let bad : None ≡ Some (answer.Scanned vs k b) = e in cc
+scan_replied s (Some (reply.Applied stamp)) vs k b e = let bad : Some (answer.Applied stamp) ≡ Some (answer.Scanned vs k b) = e in cc
+scan_replied s (Some (reply.Lost by)) vs k b e = let bad : Some (answer.Lost by) ≡ Some (answer.Scanned vs k b) = e in cc
+scan_replied s (Some (reply.Scanned c d)) vs k b e = same_scan _ vs c k d b e
+  where
+    same_scan : (us vs : List ℕ) (c k : ℕ) (d b : Option ℕ) → Some (answer.Scanned us c d) ≡ Some (answer.Scanned vs k b) → Some (reply.Scanned c d) ≡ Some (reply.Scanned k b)
+    same_scan us vs c k d b e = cc
+scan_replied s (Some (reply.Read v stamp)) vs k b e = let bad : Some (answer.Read v stamp) ≡ Some (answer.Scanned vs k b) = e in cc
+scan_replied s (Some (reply.Refused cause)) vs k b e = let bad : Some (answer.Refused cause) ≡ Some (answer.Scanned vs k b) = e in cc
+scan_replied s (Some (reply.Changed by)) vs k b e = let bad : Some (answer.Changed by) ≡ Some (answer.Scanned vs k b) = e in cc
+
+scan_begun : (s : CoreState) (js : List ℕ) → 0 < length js → (begin_scan s js).stage ≡ ScanBegun
+scan_begun s js some = elim (eqb_tells (length js) 0) [
+  | inl none ↦ let n = none.1 in absurd (omega (arith, n, some))
+  | inr some' ↦ ap (λ (b : Bool). cond b (Finished (reply.Scanned 0 None)) ScanBegun) some'.0
+]
+
+scan_of : (z : Layout) (s t : CoreState) (c : Called) (own : List Moment) → IsLayout z → s.sizes ≡ z → IsSound s → IsServed z.m c.call → length own ≡ c.steps → IsCallOf s c own t → IsOfItsScan c
+scan_of z s t c [] layout sizes w served steps h js vs k b is some answered = elim h [
+  | inl r ↦ let bad : Some (answer.Refused r.cause) ≡ Some (answer.Scanned vs k b) = sym (ap (option_map (λ (f : Finish). f.answer)) r.finish) ∙ answered in cc
+  | inr f ↦
+      let empty : call.Scan [] ≡ call.Scan js = sym (once_empty s c.call f.reply f.replied).0 ∙ is in
+      let none : [] ≡ js = cc in
+      let n : 0 ≡ length js = ap length none in
+      absurd (omega (arith, n, some))
+]
+scan_of z s t c (x ∷ xs) layout sizes w served steps h js vs k b is some answered =
+    let r = call_run z s t c x xs layout sizes w served h in
+    let own = answers_of (x ∷ xs) in
+    let replied : reply_of h.last ≡ Some (reply.Scanned k b) = scan_replied h.last (reply_of h.last) vs k b (sym h.answered ∙ answered) in
+    let begun : begun_of s c.call ≡ begin_scan s js = ap (begun_of s) is in
+    let stage : (begun_of s c.call).stage ≡ ScanBegun = ap (λ (v : CoreState). v.stage) begun ∙ scan_begun s js some in
+    let made = scans_make_their_steps (begun_of s c.call) h.last own k b r.layout r.sound stage r.run replied in
+    let positions : length (begun_of s c.call).asked ≡ length js = ap (λ (v : CoreState). length v.asked) begun in
+    let events : length own ≡ c.steps = length-map (x ∷ xs) _ ∙ steps in
+    record {
+      s = s;
+      t = t;
+      own = x ∷ xs;
+      call' = h;
+      events = steps;
+      steps = subst (λ n. AreOfScan (length js) k (pairs_loaded (begun_of s c.call) own) n b) events (subst (λ n. AreOfScan n k (pairs_loaded (begun_of s c.call) own) (length own) b) positions made);
+    }
+
+scans_of : (z : Layout) (s t : CoreState) (cs : List Called) (xs : List Moment) → IsLayout z → s.sizes ≡ z → IsSound s → AllByRecursion (IsServed z.m) (map (λ (c : Called). c.call) cs) → AreStepsOf s cs xs t → AllByRecursion IsOfItsScan cs
+scans_of z s t [] xs layout sizes w served h = tt
+scans_of z s t (c ∷ cs) xs layout sizes w served h =
+    let behind = call_sound z s (h.2) c (h.0) layout sizes w served.0 h.5 in
+    (scan_of z s (h.2) c (h.0) layout sizes w served.0 h.4 h.5, scans_of z (h.2) t cs (h.1) layout behind.1 behind.0 served.1 h.6)
+
+-- the first of a list's elements
+all_take : {A : Type 0} (P : A → Type 0) (n : ℕ) (xs : List A) → AllByRecursion P xs → AllByRecursion P (take n xs)
+all_take P zero xs all = tt
+all_take P (suc n) [] all = tt
+all_take P (suc n) (x ∷ xs) all = (all.0, all_take P n xs all.1)
+
+-- the calls of a port of a plan are ones that its machine serves
+plan_served : (p : PlanView) (q : ℕ) → IsPlan p → AllByRecursion (IsServed p.sizes.m) (get_or p.ports q [])
+plan_served p q w = at p.ports q w.calls
+  where
+    at : (ports : List (List Call)) (q : ℕ) → AllByRecursion (λ cs. AllByRecursion (IsCall p.sizes.m) cs) ports → AllByRecursion (IsServed p.sizes.m) (get_or ports q [])
+    at [] q all = tt
+    at (cs ∷ ports) zero all = served p.sizes.m cs all.0
+    at (cs ∷ ports) (suc q) all = at ports q all.1
+
+pub answered_scans_make_their_steps : AnsweredScansMakeTheirSteps
+answered_scans_make_their_steps p outcome plan w q =
+    let cs = calls_by q outcome.calls.items in
+    let events = w.events q in
+    let calls : AllByRecursion (IsServed p.sizes.m) (map (λ (c : Called). c.call) cs) = subst (AllByRecursion (IsServed p.sizes.m)) (sym (w.calls q)) (all_take (IsServed p.sizes.m) (length cs) (get_or p.ports q []) (plan_served p q plan)) in
+    scans_of p.sizes (fresh p.sizes q) (events.0) cs _ plan.sizes refl (fresh_sound p.sizes q) calls events.1
