@@ -3,5 +3,4 @@ pub mod Pairs
 pub mod Sound
 pub mod StepCounts
 pub mod ScanCounts
-mod Driven
 pub mod Submachines

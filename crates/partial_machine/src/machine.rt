@@ -6,10 +6,7 @@ ghost use Rattle.std.specs.Vec.{vec_capacity};
 ghost use Rattle.partial_words.specs.Record.{pair_words};
 ghost use Rattle.partial_machine.specs.declared.stage.Stage.TheVariants.{Idle, ReadBegun, UpdateBegun, GettingSet, Viewing, ClaimingRecord, StoringRecord, Exchanging, ScanBegun, StoringAnnouncement, Joining, Scanning, Leaving, Finished};
 ghost use Rattle.partial_machine.specs.declared.stage.Reply.TheVariants as reply;
-ghost use Rattle.partial_words.specs.Layout.{pool_base, pool_end};
-ghost use Rattle.partial_active.specs.GetSetAnswers.{IsListClaim};
-ghost use Rattle.partial_machine.specs.Machine.{overtaken, CoreState, IsPossibleAt, IsRecord, IsPoolCount};
-ghost use Rattle.partial_machine.specs.Driven.{FitsSet};
+ghost use Rattle.partial_machine.specs.Machine.{overtaken, CoreState, IsPossibleAt};
 
 use crate::stage::{Change, Reply, Stage};
 use partial_active::{Found, GetSet, Join, Leave};
@@ -57,7 +54,6 @@ impl Core {
         ensures { IfOk result (λ core. core ≡ fresh sizes port) }
     {
         let room = sizes.m() as usize;
-        let _slots = sizes.slots();
         Ok(Core {
             sizes,
             port,
@@ -85,16 +81,14 @@ impl Core {
     pub fn pool_spent(&self) -> bool
         ensures { result ≡ self.now.pool_spent }
     {
-        let Core { pool_spent, .. } = self;
-        *pool_spent
+        self.pool_spent
     }
 
     /// Whether a slot claim of this port went past the last slot.
     pub fn slots_spent(&self) -> bool
         ensures { result ≡ self.now.slots_spent }
     {
-        let Core { slots_spent, .. } = self;
-        *slots_spent
+        self.slots_spent
     }
 
     /// Whether a claim of list words by this port went past their end. No call is refused for that.
@@ -558,129 +552,4 @@ fn exchanged(change: Change, old: u64, at: u64, found: u64) -> Reply
         Some(_) => Reply::Changed { by: found },
         None => Reply::Lost { by: found },
     }
-}
-
-#[cfg(test)]
-impl Core {
-    ghost use Rattle.partial_machine.specs.Machine.{IsSound};
-    ghost use Rattle.partial_machine.specs.Driven.{FitsView, fits_at};
-
-    // Whether the number fits the step that is due.
-    pub(crate) fn fits(&self, x: u64) -> bool
-        ensures sound { IsSound self.now }
-        ensures fits { IsTrue result → fits_at self.now self.now.stage x }
-    {
-        let sizes = &self.sizes;
-        match self.stage {
-            Stage::ReadBegun { .. } => is_record(sizes, x),
-            Stage::UpdateBegun { .. } => is_record(sizes, x),
-            Stage::Exchanging { .. } => is_record(sizes, x),
-            Stage::LoadingValue { .. } => true,
-            Stage::GettingSet { .. } => match self.get_set.step() {
-                Some(step) => fits_set(sizes, step, x),
-                None => false,
-            },
-            Stage::Viewing { .. } => match self.embedded.step(&self.rows, self.found.indices()) {
-                Some(Step::Load(word)) => self.fits_view(word, x),
-                _ => false,
-            },
-            Stage::Scanning => match self.embedded.step(&self.rows, &self.asked) {
-                Some(Step::Load(word)) => self.fits_view(word, x),
-                _ => false,
-            },
-            Stage::ClaimingRecord { .. } => is_pool_count(sizes, x),
-            Stage::ScanBegun => is_pool_count(sizes, x),
-            Stage::StoringRecord { .. } => x == 0,
-            Stage::StoringAnnouncement { .. } => x == 0,
-            Stage::Joining => x <= u64::from(sizes.slots()) + 64,
-            Stage::Leaving => x == 0,
-            Stage::Idle | Stage::Finished { .. } => false,
-        }
-    }
-
-    // Whether the number may answer the load of this word by the embedded scan.
-    fn fits_view(&self, word: u32, x: u64) -> bool
-        ensures { IsTrue result → FitsView self.now.sizes self.now.embedded.borrowed self.now.embedded.view word x }
-    {
-        let sizes = &self.sizes;
-        let view = self.embedded.view();
-        let at = u64::from(word);
-        if word < sizes.m() {
-            is_record(sizes, x) && view == 0
-        } else if self.embedded.borrowed().is_none() {
-            true
-        } else if view == 0 {
-            at != 0 && (x == 0 || is_pool_word(sizes, x))
-        } else if at == view {
-            x <= u64::from(sizes.m()) && at + 1 + 2 * x <= u64::from(sizes.pool_end())
-        } else {
-            at % 2 == view % 2 || x < u64::from(sizes.m())
-        }
-    }
-
-    // How many positions the last scan has.
-    pub(crate) fn positions(&self) -> usize
-        ensures { result ≡ length self.now.asked }
-    {
-        self.asked.len()
-    }
-
-    // Whether a scan of so many positions may be begun.
-    pub(crate) fn may_scan(&self, positions: &[u32]) -> bool
-        ensures { IsTrue result → (self.now.stage ≡ Idle) × (length positions.now ≤ self.now.sizes.m) }
-    {
-        self.idle() && positions.len() <= self.sizes.m() as usize
-    }
-}
-
-// Whether the number is that of a pool word.
-#[cfg(test)]
-fn is_pool_word(sizes: &Sizes, x: u64) -> bool
-    ensures { IsTrue result ↔ ((pool_base sizes.now ≤ x) × (x < pool_end sizes.now)) }
-{
-    u64::from(sizes.pool_base()) <= x && x < u64::from(sizes.pool_end())
-}
-
-// Whether the number is the reference of a record in the pool.
-#[cfg(test)]
-fn is_record(sizes: &Sizes, x: u64) -> bool
-    ensures { IsTrue result → IsRecord sizes.now x }
-{
-    is_pool_word(sizes, x) && u64::from(sizes.pool_end()) - x >= 3
-}
-
-// Whether the pool's counter may have this value.
-#[cfg(test)]
-fn is_pool_count(sizes: &Sizes, x: u64) -> bool
-    ensures { IsTrue result → IsPoolCount sizes.now x }
-{
-    let past = 64 * (4 + 2 * u64::from(sizes.m()));
-    u64::from(sizes.pool_base()) <= x && x <= u64::from(sizes.pool_end()) + past
-}
-
-// Whether the number may answer this step of a getSet that reads no list.
-#[cfg(test)]
-fn fits_set(sizes: &Sizes, step: Step, x: u64) -> bool
-    ensures { IsTrue result → FitsSet sizes.now step x }
-{
-    match step {
-        Step::Load(word) if word == sizes.list_head() => x == 0,
-        Step::Load(word) if word == sizes.slot_counter() => true,
-        Step::Load(word) if word >= sizes.pool_base() => {
-            x < u64::from(sizes.m()) && u64::from(word) + 1 + x <= u64::from(sizes.pool_end())
-        }
-        Step::Load(_) => x <= 1 || is_pool_word(sizes, x),
-        Step::Store(_, _) => true,
-        Step::Exchange(_, _, _) => true,
-        Step::Add(_, _) => is_list_count(sizes, x),
-    }
-}
-
-// Whether the list words' counter may have this value.
-#[cfg(test)]
-fn is_list_count(sizes: &Sizes, x: u64) -> bool
-    ensures { IsTrue result → IsListClaim sizes.now x }
-{
-    let past = 64 * (u64::from(sizes.slots()) + 2);
-    u64::from(sizes.list_base()) <= x && x <= u64::from(sizes.list_end()) + past
 }
