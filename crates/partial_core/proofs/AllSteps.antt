@@ -1,29 +1,26 @@
 -- The one law of steps, over all stages, and how a call begins.
-use Rattle.std.proofs.Common.{ℕ, ◌≡◌, ◌+◌, ◌≤◌, ◌++◌, Bool, true, false, cond, Option, Some, None, List, [], ◌∷◌, length, get_or, MatchBool, refl, sym, ap, subst, ◌∙◌, arith}
+use Rattle.std.proofs.Common.{ℕ, ◌≡◌, ◌+◌, ◌++◌, Bool, true, false, cond, Some, None, List, [], ◌∷◌, length, MatchBool, refl, sym, ap, subst, ◌∙◌, arith}
 use Rattle.std.specs.List.{IsDistinct}
-use Rattle.std.specs.Prelude.{nat_eq, slice_index}
+use Rattle.std.specs.Prelude.{nat_eq}
 use Rattle.std.proofs.lemmas.Bool.{false≢true}
 use Rattle.std.proofs.lemmas.List.{append-nil}
 use Rattle.partial_model.specs.declared.history.Applied.{Applied}
 use Rattle.partial_model.specs.declared.history.Opening.{Opening}
-use Rattle.partial_model.specs.Notes.{Noted, LegalNotes, seen_by}
+use Rattle.partial_model.specs.Notes.{LegalNotes, seen_by}
 use Rattle.partial_model.specs.Outcome.{places_by}
 use Rattle.partial_words.specs.declared.step.Step.{Step}
-use Rattle.partial_words.specs.declared.step.Step.TheVariants.{Load, Store, Exchange, Add}
-use Rattle.partial_words.specs.Layout.{Layout, pool_counter, slot_word}
-use Rattle.partial_words.specs.Step.{answer_of, words_after}
-use Rattle.partial_words.specs.Announcement.{announcement_block}
+use Rattle.partial_words.specs.declared.step.Step.TheVariants.{Add}
+use Rattle.partial_words.specs.Layout.{Layout, pool_counter}
 use Rattle.partial_active.specs.Found.{IsFor as AreBuffersFor}
 use Rattle.partial_embedded.specs.Embedded.{IsFor as AreRowsFor}
-use Rattle.partial_machine.specs.declared.stage.Change.{Change}
 use Rattle.partial_machine.specs.declared.stage.Stage.{Stage}
 use Rattle.partial_machine.specs.declared.stage.Stage.TheVariants.{Idle, ReadBegun, LoadingValue, UpdateBegun, GettingSet, Viewing, ClaimingRecord, StoringRecord, Exchanging, ScanBegun, StoringAnnouncement, Joining, Scanning, Leaving, Finished}
-use Rattle.partial_machine.specs.Machine.{CoreState, lists_spent, record_size, record_words, step_at, step_of, AreComponents, IsSound, is_sound_at}
+use Rattle.partial_machine.specs.Machine.{CoreState, lists_spent, record_size, step_at, step_of, AreComponents, is_sound_at}
 use Rattle.partial_state.specs.Holdings.{Holding}
-use Rattle.partial_state.specs.Effects.{State, Keeps}
-use Rattle.partial_core.specs.Lawful.{Part, Lawful, IsKnown, core_of, port_of, holding_of, holding_at, holdings, joined_since, MayBegin, MayBeginAt, is_begun, is_at_rest, begun_like, begun_with, kept_with, since_with, moved, added, notes_by, LeadsOn, StepsStayLawful}
-use Rattle.partial_core.proofs.Parts.{known_grows, changed, holdings_split, once_same, seen_within}
-use Rattle.partial_core.proofs.Steps.{LeadsAt, holding_in, known_here, sizes_here, sound_here, port_here, memory_here, seen_here}
+use Rattle.partial_state.specs.Effects.{Keeps}
+use Rattle.partial_core.specs.Lawful.{Part, Lawful, IsKnown, core_of, port_of, holding_of, holdings, joined_since, MayBegin, MayBeginAt, is_begun, is_at_rest, begun_like, begun_with, kept_with, since_with, LeadsOn, StepsStayLawful}
+use Rattle.partial_core.proofs.Parts.{changed, holdings_split, once_same}
+use Rattle.partial_core.proofs.Steps.{LeadsAt, holding_in, known_here, sizes_here, sound_here, port_here, memory_here}
 use Rattle.partial_core.proofs.Reading.{read_begun, value_loaded, update_begun, viewing_leads, scanning_leads}
 use Rattle.partial_core.proofs.Getting.{getting_leads}
 use Rattle.partial_core.proofs.Claims.{record_claimed, announcement_claimed, announcement_stored}

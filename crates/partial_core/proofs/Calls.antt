@@ -1,25 +1,19 @@
 -- A port's call under way: where its answers lead its machine, and what it knows then.
-use Rattle.std.proofs.Common.{ℕ, ◌≡◌, ◌+◌, ◌<◌, ◌≤◌, ◌==◌, ◌++◌, Bool, true, false, cond, Option, Some, None, IsSome, List, [], ◌∷◌, length, take, min, refl, sym, ap, subst, ◌∙◌, arith, length-append, length-take}
-use Rattle.std.proofs.lemmas.Bool.{false≢true, cond_both}
-use Rattle.std.proofs.lemmas.List.{append-nil, take_all, take-append-le}
+use Rattle.std.proofs.Common.{ℕ, ◌≡◌, ◌+◌, ◌<◌, ◌≤◌, ◌++◌, cond, List, [], ◌∷◌, length, refl, sym, ap, subst, ◌∙◌, arith}
+use Rattle.std.proofs.lemmas.Bool.{cond_both}
 use Rattle.partial_model.specs.declared.history.Applied.{Applied}
 use Rattle.partial_model.specs.declared.history.Opening.{Opening}
-use Rattle.partial_model.specs.Notes.{Noted, LegalNotes, IsLegal, seen_by}
-use Rattle.partial_model.proofs.NotesLemmas.{LegalNotes-push, LegalNotes-grows}
-use Rattle.partial_words.specs.declared.step.Step.{Step}
-use Rattle.partial_words.specs.declared.step.Step.TheVariants.{Load, Store, Exchange, Add}
 use Rattle.partial_words.specs.Layout.{Layout, IsLayout}
-use Rattle.partial_machine.specs.declared.stage.Change.{Change}
 use Rattle.partial_machine.specs.declared.stage.Reply.TheVariants as reply
 use Rattle.partial_machine.specs.declared.stage.Stage.{Stage}
-use Rattle.partial_machine.specs.declared.stage.Stage.TheVariants.{Idle, ReadBegun, LoadingValue, UpdateBegun, GettingSet, Viewing, ClaimingRecord, StoringRecord, Exchanging, ScanBegun, StoringAnnouncement, Joining, Scanning, Leaving, Finished}
-use Rattle.partial_machine.specs.Machine.{CoreState, at_stage, expects, fits_pool, pool_refused, begin_getting, advance_at, advance, step_at, step_of, IsSound, IsPossible, IsPossibleAt}
+use Rattle.partial_machine.specs.declared.stage.Stage.TheVariants.{Idle, ReadBegun, UpdateBegun, ScanBegun, StoringAnnouncement, Finished}
+use Rattle.partial_machine.specs.Machine.{CoreState, at_stage, expects, fits_pool, pool_refused, begin_getting, advance_at, advance, step_at, IsSound, IsPossibleAt}
 use Rattle.partial_machine.proofs.Sound.{Keeps, kept}
 use Rattle.partial_state.specs.Holdings.{Holding}
 use Rattle.partial_state.specs.LawfulWords.{LawfulWords}
-use Rattle.partial_state.specs.Loads.{Kept, IsLoaded}
-use Rattle.partial_core.specs.Lawful.{Part, led_by, core_of, port_of, is_begun, is_at_rest, MayBegin, MayBeginAt, joins_at, joined_from, joined_since, IsTrueYet, IsKept, AreKept, IsKnown, first_at}
-use Rattle.partial_core.proofs.Going.{Knows, knows_at, KnowsOld, KnowsScan, on_at}
+use Rattle.partial_state.specs.Loads.{Kept}
+use Rattle.partial_core.specs.Lawful.{led_by, MayBegin, MayBeginAt, joins_at, joined_from, IsTrueYet, AreKept}
+use Rattle.partial_core.proofs.Going.{Knows, on_at}
 
 -- how long the history was at the last of the answers
 pub last_at : ℕ → List Kept → ℕ

@@ -1,37 +1,35 @@
 -- The claims of pool words, and the stores of an announcement.
 use Rattle.std.proofs.Common.{ℕ, suc, ◌≡◌, ◌+◌, ◌*◌, ◌<◌, ◌≤◌, ◌==◌, ◌++◌, Bool, true, false, cond, Option, Some, None, List, [], ◌∷◌, length, map, get_or, refl, sym, ap, subst, ◌∙◌, arith}
-use Rattle.std.specs.Prelude.{nat_lt, slice_index}
+use Rattle.std.specs.Prelude.{slice_index}
 use Rattle.std.specs.Option.{option_map_or}
-use Rattle.std.proofs.lemmas.Bool.{ne_eqb, false≢true, ltb-true, ltb-false, eqb-true, eqb-false}
+use Rattle.std.proofs.lemmas.Bool.{ne_eqb, ltb-true, ltb-false, eqb-true}
 use Rattle.partial_model.specs.declared.history.Applied.{Applied}
 use Rattle.partial_model.specs.declared.history.Opening.{Opening}
 use Rattle.partial_model.specs.declared.call.Call.TheVariants as call
 use Rattle.partial_model.specs.declared.call.Refused.TheVariants as refused
 use Rattle.partial_model.specs.Notes.{MayBeRefused}
-use Rattle.partial_words.specs.declared.step.Step.{Step}
 use Rattle.partial_words.specs.declared.step.Step.TheVariants.{Store, Add}
-use Rattle.partial_words.specs.Layout.{Layout, pool_counter, pool_base, pool_end}
+use Rattle.partial_words.specs.Layout.{Layout, pool_counter, pool_end}
 use Rattle.partial_words.specs.Step.{words_after}
 use Rattle.partial_words.specs.Announcement.{announcement_block}
 use Rattle.partial_words.specs.Record.{record_block}
 use Rattle.partial_words.proofs.RecordLemmas.{length-record_block}
 use Rattle.partial_machine.specs.declared.stage.Change.{Change}
 use Rattle.partial_machine.specs.declared.stage.Stage.{Stage}
-use Rattle.partial_machine.specs.declared.stage.Stage.TheVariants.{ClaimingRecord, StoringRecord, ScanBegun, StoringAnnouncement, Joining}
-use Rattle.partial_machine.specs.Machine.{CoreState, at_stage, advance_at, step_at, record_size, record_words, own_pairs, view_at, fits_pool, pool_refused, begin_joining, reply_of, IsPoolCount}
+use Rattle.partial_machine.specs.declared.stage.Stage.TheVariants.{ClaimingRecord, StoringRecord, ScanBegun, StoringAnnouncement}
+use Rattle.partial_machine.specs.Machine.{CoreState, at_stage, step_at, record_size, record_words, view_at, fits_pool, pool_refused, begin_joining, IsPoolCount}
 use Rattle.partial_machine.proofs.Sound.{size_few}
 use Rattle.partial_state.specs.Holdings.{Holding, Own}
 use Rattle.partial_state.specs.Holdings.Space.{Pool}
 use Rattle.partial_state.specs.LawfulWords.{LawfulWords}
-use Rattle.partial_state.specs.Effects.{State, Keeps, IsKept}
+use Rattle.partial_state.specs.Effects.{IsKept}
 use Rattle.partial_state.proofs.MarkLaws.{pool_refusals_are_kept}
 use Rattle.partial_state.proofs.BlockLaws.{claims_are_kept, stores_are_kept}
 use Rattle.partial_state.proofs.Quiet.{pool_bound}
-use Rattle.partial_core.specs.Lawful.{Part, Lawful, core_of, port_of, holding_of, holding_at, holdings, joined_since, call_at, update_call, MayBeginAt, added_at, is_at_rest, AreNotesOf, IsTrueYet}
-use Rattle.partial_core.proofs.Parts.{gone}
+use Rattle.partial_core.specs.Lawful.{Part, Lawful, core_of, holding_of, holding_at, holdings, joined_since, call_at, update_call, MayBeginAt}
 use Rattle.partial_core.proofs.Leaves.{names_all}
 use Rattle.partial_core.proofs.Steps.{LeadsAt, holding_in, known_here, sizes_here, sound_here, sound_at, memory_at, going, quiet}
-use Rattle.partial_core.proofs.Reading.{none_kept, begun_here}
+use Rattle.partial_core.proofs.Reading.{begun_here}
 
 -- how many words a record has, by its pairs
 length_block : (prev value view : ℕ) (pairs : List (ℕ × ℕ)) → length (record_block prev value view pairs) ≡ cond (length pairs == 0) 3 (4 + 2 * length pairs)

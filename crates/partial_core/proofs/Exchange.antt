@@ -1,5 +1,5 @@
 -- The exchange of a component word: won, it adds one entry to the history; lost, it changes nothing.
-use Rattle.std.proofs.Common.{ℕ, ◌≡◌, ◌≢◌, ◌+◌, ◌*◌, ◌<◌, ◌≤◌, ◌==◌, ◌++◌, Bool, true, false, cond, Option, Some, None, List, [], ◌∷◌, length, get_or, set, slice_get, take, refl, sym, ap, subst, ◌∙◌, arith}
+use Rattle.std.proofs.Common.{ℕ, ◌≡◌, ◌≢◌, ◌+◌, ◌<◌, ◌==◌, ◌++◌, Bool, true, false, cond, Option, Some, None, List, [], ◌∷◌, length, get_or, set, slice_get, take, refl, sym, ap, subst, ◌∙◌, arith}
 use Rattle.std.specs.List.{AllByRecursion}
 use Rattle.std.specs.Option.{option_map_or}
 use Rattle.std.proofs.lemmas.Bool.{eqb-false, eqb-true}
@@ -23,18 +23,17 @@ use Rattle.partial_machine.specs.declared.stage.Reply.{Reply}
 use Rattle.partial_machine.specs.declared.stage.Reply.TheVariants as reply
 use Rattle.partial_machine.specs.declared.stage.Stage.{Stage}
 use Rattle.partial_machine.specs.declared.stage.Stage.TheVariants.{Exchanging, Finished}
-use Rattle.partial_machine.specs.Machine.{CoreState, at_stage, advance, advance_at, step_at, step_of, overtaken, expects, IsRecord, IsPossible, IsPossibleAt}
-use Rattle.partial_state.specs.Holdings.{Holding, Due, EachTwo, HaveOtherPorts}
-use Rattle.partial_state.specs.LawfulWords.{LawfulWords}
+use Rattle.partial_machine.specs.Machine.{CoreState, at_stage, advance_at, step_at, step_of, overtaken, IsRecord, IsPossible, IsPossibleAt}
+use Rattle.partial_state.specs.Holdings.{Holding, Due, HaveOtherPorts}
 use Rattle.partial_state.specs.Loads.{IsLoaded}
-use Rattle.partial_state.specs.Effects.{State, Keeps, IsKept}
+use Rattle.partial_state.specs.Effects.{IsKept}
 use Rattle.partial_state.proofs.ListLemmas.{all_weaker, all_unmap, all_before, all_after, two_before, two_after}
 use Rattle.partial_state.proofs.MarkLaws.{drops_are_kept}
 use Rattle.partial_state.proofs.WinLaw.{wins_are_kept}
-use Rattle.partial_core.specs.Lawful.{Part, Lawful, IsKnown, core_of, port_of, holding_of, holding_at, holdings, joined_since, is_at_rest, first_at, call_at, update_call, notes_by, added_at, IsTrueYet, AreNotesOf}
+use Rattle.partial_core.specs.Lawful.{Part, Lawful, IsKnown, core_of, port_of, holding_of, holdings, joined_since, is_at_rest, first_at, call_at, update_call, notes_by, added_at, IsTrueYet, AreNotesOf}
 use Rattle.partial_core.proofs.Going.{KnowsOld}
 use Rattle.partial_core.proofs.Calls.{led}
-use Rattle.partial_core.proofs.Parts.{known_grows, known_end, gone, gone_core, changed, holdings_split, once_own, once_other}
+use Rattle.partial_core.proofs.Parts.{known_grows, known_end, gone, changed, holdings_split, once_own, once_other}
 use Rattle.partial_core.proofs.Steps.{LeadsAt, holding_in, known_here, sizes_here, sound_at, port_here, seen_here, memory_here, memory_at, holding_gone, going, ends}
 use Rattle.partial_core.proofs.Reading.{stamp_now, stamp_then, component_record}
 

@@ -1,7 +1,7 @@
 -- The steps of a join: the claim of a slot, and the store of the announcement in it.
-use Rattle.std.proofs.Common.{ℕ, ◌≡◌, ◌+◌, ◌*◌, ◌<◌, ◌≤◌, ◌++◌, Bool, true, false, cond, Option, Some, None, IsSome, List, [], ◌∷◌, length, get_or, refl, sym, ap, subst, ◌∙◌, arith}
+use Rattle.std.proofs.Common.{ℕ, ◌≡◌, ◌+◌, ◌<◌, ◌≤◌, ◌++◌, Bool, true, false, cond, Some, None, List, [], ◌∷◌, length, get_or, refl, sym, ap, subst, ◌∙◌, arith}
 use Rattle.std.specs.Prelude.{nat_lt, IsTrue}
-use Rattle.std.proofs.lemmas.Bool.{false≢true, ltb-true, ltb-false}
+use Rattle.std.proofs.lemmas.Bool.{ltb-true, ltb-false}
 use Rattle.partial_model.specs.declared.history.Applied.{Applied}
 use Rattle.partial_model.specs.declared.history.Opening.{Opening}
 use Rattle.partial_model.specs.declared.call.Call.TheVariants as call
@@ -14,18 +14,16 @@ use Rattle.partial_words.specs.Step.{words_after}
 use Rattle.partial_active.specs.Join.{join_step, join_after, fits_join}
 use Rattle.partial_active.specs.declared.join.JoinStage.{JoinStage}
 use Rattle.partial_active.specs.declared.join.JoinStage.TheVariants.{Claiming, Storing, Joined as JoinedIn, Spent}
-use Rattle.partial_embedded.specs.Embedded as viewing
-use Rattle.partial_machine.specs.declared.stage.Reply.TheVariants as reply
 use Rattle.partial_machine.specs.declared.stage.Stage.{Stage}
-use Rattle.partial_machine.specs.declared.stage.Stage.TheVariants.{ScanBegun, Joining, Scanning, Finished}
+use Rattle.partial_machine.specs.declared.stage.Stage.TheVariants.{ScanBegun, Joining}
 use Rattle.partial_machine.specs.Machine.{CoreState, advance_at, step_at, after_joining, slots_refused, reply_at, IsSound}
-use Rattle.partial_state.specs.Holdings.{Holding, slot_marks}
+use Rattle.partial_state.specs.Holdings.{Holding}
 use Rattle.partial_state.specs.LawfulWords.{LawfulWords}
 use Rattle.partial_state.specs.Effects.{State, Keeps, IsKept}
 use Rattle.partial_state.proofs.MarkLaws.{drops_are_kept, slot_refusals_are_kept}
 use Rattle.partial_state.proofs.SlotLaws.{slot_claims_are_kept, joins_are_kept}
 use Rattle.partial_state.proofs.Quiet.{slots_bound}
-use Rattle.partial_core.specs.Lawful.{Part, Lawful, core_of, port_of, holding_of, holding_at, holdings, joined_since, call_at, MayBeginAt, is_storing, joins_at, AreNotesOf}
+use Rattle.partial_core.specs.Lawful.{Part, Lawful, core_of, holding_of, holding_at, holdings, joined_since, call_at, MayBeginAt, is_storing, joins_at, AreNotesOf}
 use Rattle.partial_core.proofs.Parts.{gone}
 use Rattle.partial_core.proofs.Leaves.{names_all}
 use Rattle.partial_core.proofs.Steps.{LeadsAt, holding_in, known_here, sizes_here, sound_here, sound_at, memory_at, going, quiet}

@@ -1,5 +1,5 @@
 -- The last step of a scan: what it answers stood together after one prefix of the history.
-use Rattle.std.proofs.Common.{ℕ, zero, suc, ◌≡◌, ◌+◌, ◌*◌, ◌<◌, ◌≤◌, ◌++◌, Bool, true, false, cond, Option, Some, None, IfSome, IsSome, List, [], ◌∷◌, length, map, get_or, slice_get, take, inl, inr, refl, sym, ap, subst, ◌∙◌, arith}
+use Rattle.std.proofs.Common.{ℕ, zero, suc, ◌≡◌, ◌+◌, ◌<◌, ◌≤◌, ◌++◌, Bool, true, false, cond, Option, Some, None, IfSome, IsSome, List, [], ◌∷◌, length, map, slice_get, take, inl, inr, refl, sym, ap, subst, ◌∙◌, arith}
 use Rattle.std.specs.Prelude.{Contains, slice_index, slice_index_or}
 use Rattle.std.specs.List.{AllByRecursion}
 use Rattle.partial_model.specs.declared.history.Applied.{Applied}
@@ -11,24 +11,21 @@ use Rattle.partial_model.specs.History.{value_of}
 use Rattle.partial_model.specs.Notes.{Noted, NamesComponents, SawTogether, AreCollects, IsEntryFor}
 use Rattle.partial_model.proofs.HistoryLemmas.{place_below}
 use Rattle.partial_model.proofs.StampsStay.{found}
-use Rattle.partial_words.specs.declared.step.Step.{Step}
 use Rattle.partial_words.specs.declared.step.Step.TheVariants.{Store}
 use Rattle.partial_words.specs.Layout.{Layout, slot_word}
 use Rattle.partial_words.specs.Record.{view_of}
 use Rattle.partial_words.proofs.BlockLemmas.{list_reads_back}
-use Rattle.partial_embedded.specs.Embedded as viewing
-use Rattle.partial_machine.specs.declared.stage.Reply.TheVariants as reply
-use Rattle.partial_machine.specs.declared.stage.Stage.TheVariants.{ScanBegun, Leaving, Finished}
-use Rattle.partial_machine.specs.Machine.{CoreState, scanning, scanned_values, scanned_reply, advance_at, step_at, AreComponents}
-use Rattle.partial_state.specs.Views.{Joined, HasPairs, IsView, Covers, Names}
+use Rattle.partial_machine.specs.declared.stage.Stage.TheVariants.{Leaving, Finished}
+use Rattle.partial_machine.specs.Machine.{CoreState, scanning, scanned_values, scanned_reply, advance_at, step_at}
+use Rattle.partial_state.specs.Views.{HasPairs, Covers, Names}
 use Rattle.partial_state.specs.Holdings.{Holding, IfJoined, unpublished}
-use Rattle.partial_state.specs.LawfulWords.{LawfulWords, CoversAll}
+use Rattle.partial_state.specs.LawfulWords.{CoversAll}
 use Rattle.partial_state.specs.Effects.{IsKept}
 use Rattle.partial_state.proofs.SlotLaws.{leaves_are_kept}
 use Rattle.partial_words.specs.Step.{words_after}
 use Rattle.partial_knowledge.specs.Scans as scans
 use Rattle.partial_knowledge.proofs.Scans.{there, got}
-use Rattle.partial_core.specs.Lawful.{Part, Lawful, core_of, port_of, holding_of, holdings, joined_since, first_at, call_at, answer_for, MayBeginAt}
+use Rattle.partial_core.specs.Lawful.{Part, Lawful, core_of, holding_of, holdings, joined_since, call_at, MayBeginAt}
 use Rattle.partial_core.proofs.Going.{is_finished}
 use Rattle.partial_core.proofs.Parts.{gone, gone_core, all_at, holdings_split}
 use Rattle.partial_core.proofs.Steps.{LeadsAt, holding_in, known_here, sizes_here, sound_here, sound_at, memory_at, going, ends}

@@ -1,14 +1,13 @@
 -- Lawful words are orderly, and the due step of a port keeps them so.
-use Rattle.std.proofs.Common.{ℕ, ◌≡◌, ◌≢◌, ◌+◌, ◌*◌, ◌<◌, ◌≤◌, ◌==◌, ◌⊎◌, ◌++◌, Bool, true, false, cond, Option, Some, None, IfSome, IsSome, MatchBool, List, [], ◌∷◌, length, get_or, set, inl, inr, refl, sym, ap, subst, ◌∙◌, arith, get_or-set_other, get_or-set_same, length-set}
-use Rattle.std.specs.List.{AllByRecursion}
+use Rattle.std.proofs.Common.{ℕ, ◌≡◌, ◌≢◌, ◌+◌, ◌<◌, ◌≤◌, ◌==◌, ◌⊎◌, ◌++◌, Bool, true, false, cond, Option, Some, None, IfSome, IsSome, MatchBool, List, [], ◌∷◌, length, get_or, inl, inr, refl, sym, ap, subst, ◌∙◌, arith, get_or-set_other, get_or-set_same, length-set}
 use Rattle.std.specs.Prelude.{IsTrue, nat_lt, slice_index}
-use Rattle.std.proofs.lemmas.Bool.{false≢true, ltb-true}
+use Rattle.std.proofs.lemmas.Bool.{ltb-true}
 use Rattle.std.proofs.lemmas.Bool.Decides.{eqb_tells}
 use Rattle.partial_model.specs.declared.history.Applied.{Applied}
 use Rattle.partial_model.specs.declared.history.Opening.{Opening}
 use Rattle.partial_words.specs.declared.step.Step.{Step}
 use Rattle.partial_words.specs.declared.step.Step.TheVariants.{Load, Store, Exchange, Add}
-use Rattle.partial_words.specs.Layout.{Layout, slot_counter, list_head, pool_counter, list_counter, slot_word, list_base, list_end, pool_base, total}
+use Rattle.partial_words.specs.Layout.{Layout, slot_counter, list_head, pool_counter, list_counter, slot_word, list_base}
 use Rattle.partial_words.specs.Record.{StandsAt}
 use Rattle.partial_words.specs.Step.{word_of, words_after}
 use Rattle.partial_words.specs.Announcement.{announcement_block}
@@ -16,12 +15,12 @@ use Rattle.partial_words.specs.VacatedList.{list_block}
 use Rattle.partial_words.proofs.BlockLemmas.{list_reads_back}
 use Rattle.partial_words.proofs.RecordLemmas.{length-pairs}
 use Rattle.partial_active.specs.Orderly.{Orderly, ComesFrom, IsAnnouncement, IsVacatedList, IsSlotOf, IsHeadOf, slot_at, head_at}
-use Rattle.partial_state.specs.Views.{Block, IsAnnounced, IsPublishedList, IsHead, IsApartFrom, AreApart}
+use Rattle.partial_state.specs.Views.{IsAnnounced, IsPublishedList, IsHead, IsApartFrom, AreApart}
 use Rattle.partial_intervals.specs.Intervals.{Ranges}
 use Rattle.partial_state.specs.Holdings.Space.{Pool, Lists}
 use Rattle.partial_state.specs.Holdings.{Holding, Own, Space, first_of, unpublished, block_of}
 use Rattle.partial_state.specs.LawfulWords.{LawfulWords, IsOwn, IsTied, IsClaim}
-use Rattle.partial_state.specs.Loads.{IsSlotAnswer, IsLoaded}
+use Rattle.partial_state.specs.Loads.{IsSlotAnswer}
 use Rattle.partial_state.proofs.LoadLaw.{loads_are_true}
 use Rattle.partial_state.proofs.HoldingLemmas.{if_some_at, unpublished_all}
 use Rattle.partial_state.proofs.Quiet.{lists_bound}

@@ -1,5 +1,5 @@
 -- A lawful state with one part in the place of another, and with other words.
-use Rattle.std.proofs.Common.{ℕ, ◌≡◌, ◌≢◌, ◌+◌, ◌<◌, ◌≤◌, ◌==◌, ◌++◌, Bool, true, false, cond, Option, Some, None, List, [], ◌∷◌, length, map, take, min, refl, sym, ap, subst, ◌∙◌, arith, append_assoc, length-append, length-take}
+use Rattle.std.proofs.Common.{ℕ, ◌≡◌, ◌≢◌, ◌≤◌, ◌==◌, ◌++◌, Bool, true, false, cond, Option, Some, None, List, [], ◌∷◌, length, take, min, refl, sym, ap, subst, ◌∙◌, arith, append_assoc, length-append, length-take}
 use Rattle.std.specs.List.{AllByRecursion}
 use Rattle.std.proofs.lemmas.Bool.{false≢true, ne_eqb, eq-eqb}
 use Rattle.std.proofs.lemmas.List.{append-nil, take_all, take-append-le}
@@ -15,9 +15,9 @@ use Rattle.partial_machine.specs.Machine.{CoreState, advance, step_of, IsPossibl
 use Rattle.partial_state.specs.Holdings.{Holding}
 use Rattle.partial_state.specs.LawfulWords.{LawfulWords}
 use Rattle.partial_state.specs.Loads.{Kept, IsLoaded}
-use Rattle.partial_state.specs.Effects.{State, Keeps}
+use Rattle.partial_state.specs.Effects.{Keeps}
 use Rattle.partial_state.proofs.ListLemmas.{all_weaker}
-use Rattle.partial_core.specs.Lawful.{Part, Lawful, led_by, core_of, port_of, holding_of, holdings, is_at_rest, IsTrueYet, IsKept, AreKept, IsKnown, notes_by}
+use Rattle.partial_core.specs.Lawful.{Part, Lawful, led_by, core_of, port_of, holding_of, holdings, is_at_rest, IsTrueYet, AreKept, IsKnown, notes_by}
 use Rattle.partial_core.proofs.Calls.{led_push}
 
 -- a beginning of a list is no longer than the list

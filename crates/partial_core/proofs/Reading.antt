@@ -12,26 +12,25 @@ use Rattle.partial_model.specs.History.{stamp_of, value_of}
 use Rattle.partial_model.specs.Notes.{Noted}
 use Rattle.partial_words.specs.declared.step.Step.{Step}
 use Rattle.partial_words.specs.declared.step.Step.TheVariants.{Load}
-use Rattle.partial_words.specs.Layout.{Layout, list_base}
+use Rattle.partial_words.specs.Layout.{Layout}
 use Rattle.partial_words.proofs.ChainLemmas.{value_behind_stamp}
 use Rattle.partial_embedded.specs.Embedded as viewing
 use Rattle.partial_machine.specs.declared.stage.Change.{Change}
-use Rattle.partial_machine.specs.declared.stage.Reply.{Reply}
 use Rattle.partial_machine.specs.declared.stage.Reply.TheVariants as reply
 use Rattle.partial_machine.specs.declared.stage.Stage.{Stage}
-use Rattle.partial_machine.specs.declared.stage.Stage.TheVariants.{ReadBegun, LoadingValue, UpdateBegun, GettingSet, Viewing, ClaimingRecord, Scanning, Leaving, Finished}
-use Rattle.partial_machine.specs.Machine.{CoreState, at_stage, scanning, with_scanning, is_sound_at, expects, begin_getting, after_scanning, advance_at, step_at, reply_of, reply_at, IsRecord, IsPossibleAt}
+use Rattle.partial_machine.specs.declared.stage.Stage.TheVariants.{ReadBegun, LoadingValue, UpdateBegun, Viewing, ClaimingRecord, Scanning, Leaving, Finished}
+use Rattle.partial_machine.specs.Machine.{CoreState, at_stage, scanning, with_scanning, is_sound_at, expects, begin_getting, after_scanning, step_at, reply_of, reply_at, IsRecord}
 use Rattle.partial_state.specs.Views.{IsWithin}
 use Rattle.partial_state.specs.Holdings.{Holding}
-use Rattle.partial_state.specs.Loads.{Kept, IsLoaded}
+use Rattle.partial_state.specs.Loads.{Kept}
 use Rattle.partial_state.proofs.LoadLaw.{loads_are_true}
 use Rattle.partial_knowledge.specs.Sets.{IsReadable}
 use Rattle.partial_knowledge.specs.Scans as scans
-use Rattle.partial_knowledge.proofs.Chains.{stamp_within, standing, standing_word, IsStanding}
-use Rattle.partial_core.specs.Lawful.{Part, Lawful, core_of, port_of, holding_at, holdings, led_by, joined_since, is_begun, is_at_rest, first_at, call_at, update_call, AreNotesOf}
-use Rattle.partial_core.proofs.Going.{knows_at, KnowsOld, KnowsScan, view_leads, view_loads}
+use Rattle.partial_knowledge.proofs.Chains.{stamp_within, standing, standing_word}
+use Rattle.partial_core.specs.Lawful.{Part, Lawful, core_of, holding_at, holdings, led_by, joined_since, is_begun, first_at, call_at, update_call, AreNotesOf}
+use Rattle.partial_core.proofs.Going.{view_leads, view_loads}
 use Rattle.partial_core.proofs.Parts.{gone}
-use Rattle.partial_core.proofs.Steps.{LeadsAt, IsGoing, holding_in, known_here, sizes_here, sound_at, port_here, seen_here, going, load_quiet, load_ends, starting}
+use Rattle.partial_core.proofs.Steps.{LeadsAt, holding_in, known_here, sizes_here, sound_at, seen_here, going, load_quiet, load_ends, starting}
 
 -- what holds of both holds of the one that an option picks
 pub option_either : {A : Type 0} (f : Option A) (s t : CoreState) (P : CoreState → Type 0) → P s → P t → P (option_map_or (λ _. s) f t)

@@ -1,6 +1,5 @@
 -- What one step of a port's machine leads to, from what it does to the words and to what the port holds.
-use Rattle.std.proofs.Common.{ℕ, ◌≡◌, ◌≢◌, ◌+◌, ◌<◌, ◌≤◌, ◌==◌, ◌++◌, Bool, true, false, cond, Option, Some, None, List, [], ◌∷◌, length, get_or, take, refl, sym, ap, subst, ◌∙◌, arith}
-use Rattle.std.specs.List.{AllByRecursion}
+use Rattle.std.proofs.Common.{ℕ, ◌≡◌, ◌<◌, ◌≤◌, ◌++◌, true, false, cond, Option, Some, List, [], ◌∷◌, length, get_or, refl, sym, ap, subst, ◌∙◌, arith}
 use Rattle.std.proofs.lemmas.Bool.{false≢true}
 use Rattle.std.proofs.lemmas.List.{append-nil}
 use Rattle.partial_model.specs.declared.history.Applied.{Applied}
@@ -9,22 +8,21 @@ use Rattle.partial_model.specs.Notes.{Noted, IsLegal, seen_by, seen_after}
 use Rattle.partial_model.specs.Outcome.{places_by, places_written}
 use Rattle.partial_model.proofs.NotesLemmas.{seen_by-push, places_written-append}
 use Rattle.partial_words.specs.declared.step.Step.{Step}
-use Rattle.partial_words.specs.declared.step.Step.TheVariants.{Load, Store, Exchange, Add}
-use Rattle.partial_words.specs.Layout.{Layout, IsLayout, total}
+use Rattle.partial_words.specs.declared.step.Step.TheVariants.{Load}
+use Rattle.partial_words.specs.Layout.{Layout}
 use Rattle.partial_words.specs.Step.{Answers, answer_of, words_after, word_of}
-use Rattle.partial_machine.specs.declared.stage.Reply.{Reply}
 use Rattle.partial_machine.specs.declared.stage.Stage.{Stage}
 use Rattle.partial_machine.specs.declared.stage.Stage.TheVariants.{Idle, ReadBegun, LoadingValue, UpdateBegun, GettingSet, Viewing, ClaimingRecord, StoringRecord, Exchanging, ScanBegun, StoringAnnouncement, Joining, Scanning, Leaving, Finished}
-use Rattle.partial_machine.specs.Machine.{CoreState, lists_spent, advance_at, advance, step_at, step_of, reply_of, IsSound, is_sound_at, IsPossible, IsPossibleAt}
+use Rattle.partial_machine.specs.Machine.{CoreState, lists_spent, advance_at, step_at, step_of, reply_of, IsSound, is_sound_at, IsPossible, IsPossibleAt}
 use Rattle.partial_state.specs.Holdings.{Holding}
 use Rattle.partial_state.specs.LawfulWords.{LawfulWords}
 use Rattle.partial_state.specs.Loads.{Kept, IsLoaded}
-use Rattle.partial_state.specs.Effects.{State, Keeps, IsKept as IsKeptBy}
+use Rattle.partial_state.specs.Effects.{Keeps, IsKept as IsKeptBy}
 use Rattle.partial_state.proofs.LoadLaw.{loads_are_true}
 use Rattle.partial_knowledge.specs.Sets.{IsReadable}
-use Rattle.partial_core.specs.Lawful.{Part, Lawful, core_of, port_of, holding_of, holding_at, holdings, led_by, joined_from, joined_since, joins_at, claimed_at, own_at, due_at, is_begun, is_at_rest, MayBegin, MayBeginAt, IsTrueYet, IsKnown, AreKept, AreNotesOf, added_at, first_at, notes_by}
+use Rattle.partial_core.specs.Lawful.{Part, Lawful, core_of, port_of, holding_of, holding_at, holdings, led_by, joined_from, joined_since, joins_at, claimed_at, own_at, due_at, is_begun, is_at_rest, MayBeginAt, IsTrueYet, IsKnown, AreKept, AreNotesOf, added_at, first_at}
 use Rattle.partial_core.proofs.Going.{knows_at, Knows}
-use Rattle.partial_core.proofs.Calls.{led, IsLed, HasGone, called_on, last_at, joined_push}
+use Rattle.partial_core.proofs.Calls.{led, IsLed, called_on, last_at, joined_push}
 use Rattle.partial_core.proofs.Parts.{seen_within, known_grows, gone, gone_core, known_on, known_end, holdings_split, all_at, changed, once_same}
 
 -- what a step of the part's machine at a stage leads to

@@ -28,7 +28,6 @@ use Rattle.partial_machine.specs.declared.stage.Reply.TheVariants as reply
 use Rattle.partial_machine.specs.declared.stage.Stage.{Stage}
 use Rattle.partial_machine.specs.declared.stage.Stage.TheVariants.{Idle, ReadBegun, UpdateBegun, GettingSet, StoringRecord, Exchanging, ScanBegun, StoringAnnouncement, Joining, Scanning, Leaving, Finished}
 use Rattle.partial_machine.specs.Machine.{CoreState, AreComponents, IsSound, IsPossible, fresh, advance, step_of, reply_of, lists_spent, record_words, scanned_values}
-use Rattle.partial_state.specs.Views.{Joined}
 use Rattle.partial_state.specs.Holdings.{Claimed, Own, Due, Holding}
 use Rattle.partial_state.specs.Holdings.Space.{Pool, Lists}
 use Rattle.partial_state.specs.LawfulWords.{LawfulWords}

@@ -17,7 +17,7 @@ use Rattle.partial_model.proofs.HistoryLemmas.{LastAt, last_at, place_below}
 use Rattle.partial_model.proofs.NotesLemmas.{AllByRecursion-get}
 use Rattle.partial_model.specs.declared.call.Answer.TheVariants as answer
 use Rattle.partial_words.specs.Chain.{Agrees}
-use Rattle.partial_replay.specs.Place.{IsPlaceFrom, IsScanPlace, IsNoteFrom, IsLeastFrom, prefix_from}
+use Rattle.partial_replay.specs.Place.{IsPlaceFrom, IsNoteFrom, IsLeastFrom, prefix_from}
 
 -- the place that is found is one of the history
 pub place_within : (h : List Applied) (began s : ℕ) (found : Option ℕ) → IsPlaceFrom h began s found → IfSome found (λ k. k < length h)

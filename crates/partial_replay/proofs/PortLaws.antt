@@ -21,7 +21,7 @@ use Rattle.partial_model.specs.declared.call.Called.{Called}
 use Rattle.partial_model.specs.declared.call.Finish.{Finish}
 use Rattle.std.specs.declared.vec.Vec.{Vec}
 use Rattle.std.specs.declared.alloc.Global.{Global}
-use Rattle.partial_model.specs.Notes.{Noted, indices_of, ClaimsPool, ClaimsSlot, LegalNotes, IsLegal, MayBeRefused, seen_by, seen_after, shown_by, place_of}
+use Rattle.partial_model.specs.Notes.{Noted, indices_of, ClaimsPool, LegalNotes, IsLegal, MayBeRefused, seen_by, seen_after, shown_by, place_of}
 use Rattle.partial_model.specs.Outcome.{noted_of, places_written, wrote}
 use Rattle.partial_model.proofs.NotesLemmas.{AllByRecursion-push, LegalNotes-push, LegalNotes-grows, seen_by-push, places_written-push}
 use Rattle.partial_words.specs.declared.step.Step.{Step}

@@ -16,21 +16,19 @@ use Rattle.partial_model.specs.Outcome.{places_written, wrote}
 use Rattle.partial_model.proofs.NotesLemmas.{places_written-append}
 use Rattle.partial_words.specs.declared.step.Step.{Step}
 use Rattle.partial_words.specs.declared.step.Event.{Event}
-use Rattle.partial_words.specs.Layout.{Layout, slot_word, total}
+use Rattle.partial_words.specs.Layout.{Layout, slot_word}
 use Rattle.partial_words.specs.Step.{Answers, Leads, answer_of, words_after}
-use Rattle.partial_words.specs.declared.step.Step.TheVariants.{Load, Store, Exchange, Add}
+use Rattle.partial_words.specs.declared.step.Step.TheVariants.{Store}
 use Rattle.partial_active.specs.declared.join.JoinStage.{JoinStage}
 use Rattle.partial_active.specs.declared.join.JoinStage.TheVariants.{Claiming, Storing, Joined, Spent}
 use Rattle.partial_active.specs.GetSet as finding
 use Rattle.partial_active.specs.Join.{advance_join, step_of_join}
-use Rattle.partial_active.specs.Leave.{step_of_leave}
 use Rattle.partial_embedded.specs.Embedded as viewing
-use Rattle.partial_machine.specs.declared.stage.Change.{Change}
 use Rattle.partial_machine.specs.declared.stage.Reply.{Reply}
 use Rattle.partial_machine.specs.declared.stage.Reply.TheVariants as reply
 use Rattle.partial_machine.specs.declared.stage.Stage.{Stage}
 use Rattle.partial_machine.specs.declared.stage.Stage.TheVariants.{Idle, ReadBegun, LoadingValue, UpdateBegun, GettingSet, Viewing, ClaimingRecord, StoringRecord, Exchanging, ScanBegun, StoringAnnouncement, Joining, Scanning, Leaving, Finished}
-use Rattle.partial_machine.specs.Machine.{CoreState, AreComponents, IsSound, is_sound_at, IsPossible, at_stage, getting, scanning, with_getting, with_scanning, begin_getting, begin_joining, after_joining, record_size, scanned_values, pool_refused, slots_refused, advance, advance_at, step_at, step_of, reply_at, reply_of, fits_pool, expects, IsPossibleAt, steps_left}
+use Rattle.partial_machine.specs.Machine.{CoreState, AreComponents, IsSound, is_sound_at, at_stage, getting, scanning, with_getting, with_scanning, begin_getting, begin_joining, after_joining, record_size, scanned_values, pool_refused, advance, advance_at, step_at, step_of, reply_at, reply_of, fits_pool, expects, IsPossibleAt, steps_left}
 use Rattle.partial_core.specs.Lawful.{Part, Lawful, IsKnown, core_of, port_of, led_by, holdings, is_begun, is_at_rest, IsMachineOf, MayBegin, begun_like, begun_with, kept_with, moved, added, call_of, first_at, answer_for, LeadsOn, IsNoteOf, IsRefusal, AreNotesOf}
 use Rattle.partial_state.specs.Loads.{Kept}
 use Rattle.partial_core.proofs.Calls.{led_push}

@@ -29,7 +29,7 @@ use Rattle.partial_machine.specs.declared.stage.Change.{Change}
 use Rattle.partial_machine.specs.declared.stage.Reply.{Reply}
 use Rattle.partial_machine.specs.declared.stage.Stage.{Stage}
 use Rattle.partial_machine.specs.declared.stage.Stage.TheVariants.{Idle, ReadBegun, LoadingValue, UpdateBegun, GettingSet, Viewing, ClaimingRecord, StoringRecord, Exchanging, ScanBegun, StoringAnnouncement, Joining, Scanning, Leaving, Finished}
-use Rattle.partial_machine.specs.Machine.{CoreState, AreComponents, IsInPool, is_sound_at, advance, step_at, step_of, reply_of, record_size, record_words, steps_left}
+use Rattle.partial_machine.specs.Machine.{CoreState, AreComponents, IsInPool, is_sound_at, step_at, step_of, reply_of, record_size, record_words, steps_left}
 use Rattle.partial_machine.proofs.Sound.{size_few}
 use Rattle.partial_state.specs.Holdings.{Holding, others_of}
 use Rattle.partial_state.specs.LawfulWords.{IsDue}

@@ -1,14 +1,11 @@
 -- The answered scans of a replay make their steps.
-use Rattle.std.proofs.Common.{ℕ, zero, suc, ◌⊎◌, ◌≡◌, ◌+◌, ◌<◌, ◌≤◌, ◌==◌, Bool, true, false, cond, List, [], ◌∷◌, length, map, take, get_or, Option, Some, None, refl, sym, ◌∙◌, ap, subst, inl, inr, arith}
+use Rattle.std.proofs.Common.{ℕ, zero, suc, ◌≡◌, ◌<◌, Bool, cond, List, [], ◌∷◌, length, map, take, get_or, Option, Some, None, refl, sym, ◌∙◌, ap, subst, inl, inr, arith}
 use Rattle.std.specs.List.{AllByRecursion}
 use Rattle.std.specs.Option.{option_map}
-use Rattle.std.proofs.lemmas.Bool.{false≢true}
 use Rattle.std.proofs.lemmas.Bool.Decides.{eqb_tells}
 use Rattle.std.proofs.lemmas.List.{length-map}
-use Rattle.std.proofs.lemmas.Option.{get_or_from_slice_get}
 use Rattle.partial_model.specs.declared.call.Call.{Call}
 use Rattle.partial_model.specs.declared.call.Call.TheVariants as call
-use Rattle.partial_model.specs.declared.call.Answer.{Answer}
 use Rattle.partial_model.specs.declared.call.Answer.TheVariants as answer
 use Rattle.partial_model.specs.declared.call.Called.{Called}
 use Rattle.partial_model.specs.declared.call.Finish.{Finish}
@@ -17,8 +14,8 @@ use Rattle.partial_words.specs.Layout.{Layout, IsLayout}
 use Rattle.partial_machine.specs.declared.stage.Reply.{Reply}
 use Rattle.partial_machine.specs.declared.stage.Reply.TheVariants as reply
 use Rattle.partial_machine.specs.declared.stage.Stage.{Stage}
-use Rattle.partial_machine.specs.declared.stage.Stage.TheVariants.{Idle, ReadBegun, UpdateBegun, ScanBegun, Finished}
-use Rattle.partial_machine.specs.Machine.{CoreState, AreComponents, IsSound, IsPossible, at_stage, begin_scan, advance, step_at, step_of, reply_at, reply_of, fresh}
+use Rattle.partial_machine.specs.declared.stage.Stage.TheVariants.{Idle, ScanBegun, Finished}
+use Rattle.partial_machine.specs.Machine.{CoreState, IsSound, at_stage, begin_scan, advance, step_at, reply_at, reply_of, fresh}
 use Rattle.partial_machine.specs.Steps.{Run, AreOfScan, pairs_loaded}
 use Rattle.partial_machine.proofs.Sound.{kept}
 use Rattle.partial_machine.proofs.StepCounts.{stays_sound}
@@ -28,13 +25,12 @@ use Rattle.partial_core.proofs.AllSteps.{begun_sound}
 use Rattle.partial_core.proofs.Opened.{fresh_sound}
 use Rattle.partial_text.specs.PlanText.{PlanView, IsPlan, IsCall}
 use Rattle.partial_replay.specs.Trace.{Moment}
-use Rattle.partial_replay.specs.CallSteps.{begun_of, refusal_of, Makes, IsCallOf, HasSteps, AreStepsOf}
-use Rattle.partial_replay.specs.Listed.{calls_by, AreFirstOf}
+use Rattle.partial_replay.specs.CallSteps.{begun_of, Makes, IsCallOf, HasSteps, AreStepsOf}
+use Rattle.partial_replay.specs.Listed.{calls_by}
 use Rattle.partial_replay.specs.PortState.{IsServed}
-use Rattle.partial_replay.specs.ScanSteps.{answers_of, MakesItsSteps, IsOfItsScan, AnsweredScansMakeTheirSteps}
+use Rattle.partial_replay.specs.ScanSteps.{answers_of, IsOfItsScan, AnsweredScansMakeTheirSteps}
 use Rattle.partial_replay.proofs.PortLaws.{Begins, begins, begun_sizes, once_empty}
 use Rattle.partial_replay.proofs.Plans.{served}
-use Rattle.partial_replay.proofs.Replays.{at_place, past_get}
 
 -- a machine with a due step has no reply
 due_unreplied : (s : CoreState) (t : Stage) (step : Step) → step_at s t ≡ Some step → reply_at t ≡ None

@@ -1,6 +1,5 @@
 -- What a trace says, event by event.
 use Rattle.std.proofs.Common.{ℕ, suc, ◌-◌, ◌≡◌, ◌+◌, ◌<◌, ◌==◌, ◌++◌, Bool, true, false, cond, List, [], ◌∷◌, length, map, get_or, take, nat_lt, Option, Some, None, slice_get, refl, sym, ◌∙◌, ap, arith}
-use Rattle.std.specs.Bool.{⊤}
 use Rattle.std.specs.List.{filter_map, cons_option}
 use Rattle.std.proofs.lemmas.List.Elements.{filter_map-append}
 use Rattle.std.proofs.lemmas.List.{map-append}
@@ -10,7 +9,6 @@ use Rattle.partial_model.specs.declared.history.Opening.{Opening}
 use Rattle.partial_model.specs.History as history
 use Rattle.partial_model.specs.History.{IsHistory, initial_stamp, last_entry, stamp_of}
 use Rattle.std.specs.Option.{option_map_or}
-use Rattle.std.proofs.lemmas.Bool.{false≢true}
 use Rattle.partial_words.specs.Step.{word_of}
 use Rattle.partial_model.proofs.HistoryLemmas.{last_entry-found, place_below}
 use Rattle.partial_model.proofs.NotesLemmas.{AllByRecursion-get}

@@ -1,4 +1,4 @@
-use Rattle.std.proofs.Common.{◌≡◌, ℕ, List, Some, slice_get, sym, ◌∙◌, ap, subst}
+use Rattle.std.proofs.Common.{ℕ, List, slice_get, sym, ◌∙◌, ap, subst}
 use Rattle.partial_model.specs.declared.history.Applied.{Applied}
 use Rattle.partial_places.specs.ScanPlace.{HasRecord}
 use Rattle.partial_replay.proofs.Places.{place_within}

@@ -1,7 +1,5 @@
 use Rattle.std.proofs.Common.{◌≡◌, ◌<◌, ◌++◌, ◌∷◌, [], ℕ, List, length, Some, slice_get, sym, ◌∙◌, ap, subst, arith, refl}
 use Rattle.std.specs.Option.{option_to_list}
-use Rattle.std.specs.declared.vec.Vec.{Vec}
-use Rattle.std.specs.declared.alloc.Global.{Global}
 use Rattle.std.proofs.lemmas.List.{append-nil, with_items_is}
 use Rattle.partial_model.specs.declared.history.Applied.{Applied}
 use Rattle.partial_words.specs.Step.{answer_of, words_after}

@@ -1,8 +1,7 @@
-use Rattle.std.proofs.Common.{◌≡◌, ℕ, List, length, Some, slice_get, set, sym, ◌∙◌, ap, subst, arith}
+use Rattle.std.proofs.Common.{◌≡◌, length, Some, slice_get, set, sym, ◌∙◌, ap, subst, arith}
 use Rattle.partial_words.specs.Layout.{Layout}
 use Rattle.std.proofs.lemmas.Result.{on_ok_weaker}
 use Rattle.partial_replay.specs.declared.port.Port.{Port}
-use Rattle.partial_replay.specs.PortState.{MayStep, StepMade}
 use Rattle.partial_replay.specs.RunState.{IsRunOf}
 use Rattle.partial_replay.proofs.RunSteps.{port_here, may_step, step_keeps, got, left_is, left_falls, port_in, components_here, step_sizes, on_ok_both}
 use Rattle.partial_replay.proofs.PortLaws.{get_set, get_below}
