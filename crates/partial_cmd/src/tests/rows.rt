@@ -1,21 +1,57 @@
-//! Plans whose outcomes were worked out by hand: name, plan, text of the outcome.
+//! Plans whose outcomes were worked out by hand.
 
-/// The rows: a name, a plan, and the text of its outcome.
-pub(super) const ROWS: [(&str, &[u8], &[u8]); 23] = [
-    (
-        "write_then_read",
-        b"sizes 2 4 8 64
+/// A name, a plan, and the text of its outcome.
+pub(super) type Row = (&'static str, &'static [u8], &'static [u8]);
+
+pub(super) const WRITE_THEN_READ: Row = (
+    "write_then_read",
+    b"sizes 2 4 8 64
 initial 10 20
 port update 0 7; read 0
 steps rest
 ",
-        b"applied 0 port 0 component 0 value 7 stamp 24
+    b"applied 0 port 0 component 0 value 7 stamp 24
 call 0 0 applied 24 place 0 steps 8 span 0 1
 call 0 1 read 7 24 prefix 1 steps 2 span 1 1
 values 7 20
 total 10
 ",
-    ),
+);
+
+pub(super) const WHOLE_SCAN: Row = (
+    "whole_scan",
+    b"sizes 2 4 8 64
+initial 10 20
+port scan 0 1
+steps rest
+",
+    b"call 0 0 scanned 10 20 prefix 0 collects 2 borrowed - steps 13 span 0 0
+values 10 20
+total 13
+",
+);
+
+pub(super) const BORROWED_VIEW: Row = (
+    "borrowed_view",
+    b"sizes 2 4 8 64
+initial 10 20
+port scan 0
+port update 0 5; update 0 6
+steps 0*6 1*17 0*1 1*17 0*6
+",
+    b"applied 0 port 1 component 0 value 5 stamp 26
+applied 1 port 1 component 0 value 6 stamp 32
+call 0 0 scanned 5 prefix 1 collects 3 borrowed 32 steps 13 span 0 2
+call 1 0 applied 26 place 0 steps 17 span 0 1
+call 1 1 applied 32 place 1 steps 17 span 1 2
+values 6 20
+total 47
+",
+);
+
+/// The rows.
+pub(super) const ROWS: [Row; 23] = [
+    WRITE_THEN_READ,
     (
         "lost_exchange",
         b"sizes 2 4 8 64
@@ -162,18 +198,7 @@ values 10 20
 total 0
 ",
     ),
-    (
-        "whole_scan",
-        b"sizes 2 4 8 64
-initial 10 20
-port scan 0 1
-steps rest
-",
-        b"call 0 0 scanned 10 20 prefix 0 collects 2 borrowed - steps 13 span 0 0
-values 10 20
-total 13
-",
-    ),
+    WHOLE_SCAN,
     (
         "empty_scan",
         b"sizes 2 4 8 64
@@ -232,23 +257,7 @@ values 5 6
 total 63
 ",
     ),
-    (
-        "borrowed_view",
-        b"sizes 2 4 8 64
-initial 10 20
-port scan 0
-port update 0 5; update 0 6
-steps 0*6 1*17 0*1 1*17 0*6
-",
-        b"applied 0 port 1 component 0 value 5 stamp 26
-applied 1 port 1 component 0 value 6 stamp 32
-call 0 0 scanned 5 prefix 1 collects 3 borrowed 32 steps 13 span 0 2
-call 1 0 applied 26 place 0 steps 17 span 0 1
-call 1 1 applied 32 place 1 steps 17 span 1 2
-values 6 20
-total 47
-",
-    ),
+    BORROWED_VIEW,
     // A body that copies the view it borrows makes more steps in call 2 0.
     (
         "borrowed_chain",
