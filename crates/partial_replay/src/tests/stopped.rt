@@ -15,7 +15,7 @@ enum Standing {
 }
 
 /// How the only call of a port stands.
-fn standing(calls: &[Called], port: u32) -> Standing {
+fn standing_of(calls: &[Called], port: u32) -> Standing {
     match calls.iter().find(|called| called.port == port) {
         None => Standing::Unlisted,
         Some(called) if called.finish.is_none() => Standing::Unfinished,
@@ -77,7 +77,7 @@ fn scanner_stopped(rt: HostRuntime) -> Result<(), Fail> {
             let outcome = stopped(rt.alloc(), ports, "", 0, turns, "1*23")?;
             let given = applied(&outcome.calls, 1);
             assert_eq!(rt; given, Some((steps, stamp, 0)), "{turns} turns");
-            assert_eq!(rt; standing(&outcome.calls, 0), stands, "{turns} turns");
+            assert_eq!(rt; standing_of(&outcome.calls, 0), stands, "{turns} turns");
             assert!(rt; is_lawful(&outcome), "{turns} turns");
         }
     }
@@ -113,7 +113,7 @@ fn updater_stopped(rt: HostRuntime) -> Result<(), Fail> {
             let outcome = stopped(rt.alloc(), ports, "", 0, turns, "1*8")?;
             let given = applied(&outcome.calls, 1);
             assert_eq!(rt; given, Some((8, stamp, place)), "{turns} turns");
-            assert_eq!(rt; standing(&outcome.calls, 0), stands, "{turns} turns");
+            assert_eq!(rt; standing_of(&outcome.calls, 0), stands, "{turns} turns");
             assert!(rt; is_lawful(&outcome), "{turns} turns");
         }
     }
@@ -136,7 +136,7 @@ fn publisher_stopped(rt: HostRuntime) -> Result<(), Fail> {
             let outcome = stopped(rt.alloc(), ports, "0*9 ", 1, turns, "2*14")?;
             let given = applied(&outcome.calls, 2);
             assert_eq!(rt; given, Some((steps, stamp, place)), "{turns} turns");
-            assert_eq!(rt; standing(&outcome.calls, 1), stands, "{turns} turns");
+            assert_eq!(rt; standing_of(&outcome.calls, 1), stands, "{turns} turns");
             assert!(rt; is_lawful(&outcome), "{turns} turns");
         }
     }
