@@ -2,6 +2,7 @@
 
 mod growths;
 mod stopped;
+mod words;
 
 use crate::{Device, Outcome, Plan, replay, write_outcome};
 use std::alloc::Global;

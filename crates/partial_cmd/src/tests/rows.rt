@@ -50,7 +50,7 @@ total 47
 );
 
 /// The rows.
-pub(super) const ROWS: [Row; 23] = [
+pub(super) const ROWS: [Row; 25] = [
     WRITE_THEN_READ,
     (
         "lost_exchange",
@@ -63,6 +63,22 @@ steps 0*7 1*8 0*1
         b"applied 0 port 1 component 0 value 9 stamp 27
 call 0 0 lost 27 place 0 steps 8 span 0 1
 call 1 0 applied 27 place 0 steps 8 span 0 1
+values 9 20
+total 16
+",
+    ),
+    // A body that loads the record behind the active set finds the one with stamp 24, and is applied.
+    (
+        "old_loaded_first",
+        b"sizes 2 4 8 64
+initial 10 20
+port update 0 7
+port update 0 9
+steps 0*1 1*8 0*7
+",
+        b"applied 0 port 1 component 0 value 9 stamp 24
+call 0 0 lost 24 place 0 steps 8 span 0 1
+call 1 0 applied 24 place 0 steps 8 span 0 1
 values 9 20
 total 16
 ",
@@ -281,6 +297,34 @@ call 3 1 applied 36 place 1 steps 23 span 1 2
 call 3 2 applied 42 place 2 steps 20 span 2 3
 values 7 9
 total 110
+",
+    ),
+    // A body that takes the words behind the record it borrows from for the view shares record 75.
+    (
+        "view_borrowed_twice",
+        b"sizes 3 4 8 64
+initial 10 20 30
+port scan 0 1 2
+port update 2 6; update 1 3; update 0 1; update 0 2
+port update 1 4
+port update 2 5
+steps 0*10 1*29 0*3 3*11 1*29 3*3 2*11 1*29 2*3 1*29 2*7 3*8 0*12
+",
+        b"applied 0 port 1 component 2 value 6 stamp 32
+applied 1 port 1 component 1 value 3 stamp 42
+applied 2 port 1 component 0 value 1 stamp 52
+applied 3 port 1 component 0 value 2 stamp 62
+applied 4 port 2 component 1 value 4 stamp 72
+applied 5 port 3 component 2 value 5 stamp 75
+call 0 0 scanned 1 3 6 prefix 3 collects 3 borrowed 75 steps 25 span 0 6
+call 1 0 applied 32 place 0 steps 29 span 0 1
+call 1 1 applied 42 place 1 steps 29 span 1 2
+call 1 2 applied 52 place 2 steps 29 span 2 3
+call 1 3 applied 62 place 3 steps 29 span 3 4
+call 2 0 applied 72 place 4 steps 21 span 2 5
+call 3 0 applied 75 place 5 steps 22 span 1 6
+values 2 4 5
+total 184
 ",
     ),
     // A body that never publishes a list makes 9 steps in each of these updates.
