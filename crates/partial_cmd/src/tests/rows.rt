@@ -299,7 +299,7 @@ values 7 9
 total 110
 ",
     ),
-    // A body that takes the words behind the record it borrows from for the view shares record 75.
+    // A body that shares the words behind a record, in place of the view that it names, fails here.
     (
         "view_borrowed_twice",
         b"sizes 3 4 8 64
