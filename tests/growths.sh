@@ -57,6 +57,8 @@ refuse_all partial_active '.*'
 refuse_all partial_embedded '.*'
 refuse_all partial_machine '.*'
 refuse_all partial_places '.*'
+refuse_all partial_text 'tests::growths::.*'
+refuse_all partial_replay 'tests::growths::.*'
 refuse_all partial_cmd 'tests::growths::.*'
 
 echo "$passed passed, $failed failed"

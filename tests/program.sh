@@ -74,7 +74,11 @@ refuses line_count 10 "line 3: count" "$head"$'port update 0\nsteps rest\n'
 refuses line_number 10 "line 2: number" $'sizes 2 4 8 64\ninitial 10 x\n'"$tail"
 refuses line_range 10 "line 4: range" "$head"$'port read 0\nsteps 1*2\n'
 refuses line_extra 10 "line 5: extra" "$head$tail"$'port\n'
-refuses scan_is_no_word_yet 10 "line 3: word" "$head"$'port scan 0\nsteps rest\n'
+refuses scan_of_more_positions_than_components 10 "line 3: count" "$head"$'port scan 0 0 1\nsteps rest\n'
+refuses scan_of_no_number 10 "line 3: number" "$head"$'port scan 0 x\nsteps rest\n'
+refuses scan_of_too_great_an_index 10 "line 3: number" "$head"$'port scan 4294967296\nsteps rest\n'
+refuses scan_with_a_space_behind 10 "line 3: number" "$head"$'port scan \nsteps rest\n'
+refuses scan_behind_no_space 10 "line 3: number" "$head"$'port scan 0;scan 1\nsteps rest\n'
 
 # A check reads its plan as a replay does.
 expect "$head$tail" $'lawful\n' ""

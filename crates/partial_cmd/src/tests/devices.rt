@@ -2,7 +2,7 @@
 
 ghost use Rattle.std.specs.Prelude.{◌≡◌, false};
 
-use super::rows::ROWS;
+use super::rows::{BORROWED_VIEW, ROWS, WHOLE_SCAN, WRITE_THEN_READ};
 use crate::{Verb, execute};
 use partial_replay::Device;
 use std::alloc::Global;
@@ -10,13 +10,14 @@ use std::io;
 use std::io::{Read, Write};
 use std::test::Fail;
 
-/// Gives one byte a read, and fails where none is left.
+/// Gives one byte a read, and fails or ends where none is left.
 #[derive(Drop)]
-struct Broken<'a> {
+struct Bytewise<'a> {
     text: &'a [u8],
+    fails: bool,
 }
 
-impl Read for Broken<'_> {
+impl Read for Bytewise<'_> {
     fn read(&mut self, buf: &mut [u8]) -> io::Result<usize> {
         match (self.text, buf) {
             ([byte, rest @ ..], [place, ..]) => {
@@ -24,7 +25,8 @@ impl Read for Broken<'_> {
                 self.text = rest;
                 Ok(1)
             }
-            _ => Err(io::Error::from(io::ErrorKind::Other)),
+            _ if self.fails => Err(io::Error::from(io::ErrorKind::Other)),
+            _ => Ok(0),
         }
     }
 }
@@ -66,10 +68,11 @@ fn filled_to(alloc: Global, room: usize, takes_none: bool) -> Device<Filling>
 
 #[test]
 fn failing_reader(rt: HostRuntime) -> Result<(), Fail> {
-    let (_, plan, _) = ROWS[0];
+    let (_, plan, _) = WHOLE_SCAN;
     for count in 0..=plan.len() {
-        let mut reader = Device::new(Broken {
+        let mut reader = Device::new(Bytewise {
             text: &plan[..count],
+            fails: true,
         });
         let mut writer = Device::new(Vec::new(rt.alloc()));
         let given = execute(rt.alloc(), Verb::Replay, &mut reader, &mut writer);
@@ -81,10 +84,24 @@ fn failing_reader(rt: HostRuntime) -> Result<(), Fail> {
     Ok(())
 }
 
+#[test]
+fn one_byte_a_read(rt: HostRuntime) -> Result<(), Fail> {
+    for (name, plan, expected) in ROWS {
+        let mut reader = Device::new(Bytewise {
+            text: plan,
+            fails: false,
+        });
+        let mut writer = Device::new(Vec::new(rt.alloc()));
+        execute(rt.alloc(), Verb::Replay, &mut reader, &mut writer)?;
+        assert_eq!(rt; writer.into_inner().as_slice(), expected, "{name}");
+    }
+    Ok(())
+}
+
 // A check writes its one line, or a part of it from the front.
 #[test]
 fn failing_writer_of_a_verdict(rt: HostRuntime) -> Result<(), Fail> {
-    let (_, plan, _) = ROWS[0];
+    let (_, plan, _) = WRITE_THEN_READ;
     let line = b"lawful\n";
     for room in 0..line.len() {
         let mut writer = filled_to(rt.alloc(), room, false);
@@ -100,20 +117,17 @@ fn failing_writer_of_a_verdict(rt: HostRuntime) -> Result<(), Fail> {
 
 #[test]
 fn failing_writer(rt: HostRuntime) -> Result<(), Fail> {
-    let (_, plan, expected) = ROWS[0];
-    for takes_none in [false, true] {
-        for room in 0..expected.len() {
-            let mut writer = filled_to(rt.alloc(), room, takes_none);
-            let given = execute(
-                rt.alloc(),
-                Verb::Replay,
-                &mut Device::new(plan),
-                &mut writer,
-            );
-            let fault = given.err().ok_or("a refusal")?;
-            assert_eq!(rt; fault.code(), 12, "after {room} bytes");
-            let taken = writer.into_inner().taken;
-            assert_eq!(rt; taken.as_slice(), &expected[..room]);
+    for (name, plan, expected) in [WRITE_THEN_READ, BORROWED_VIEW] {
+        for takes_none in [false, true] {
+            for room in 0..expected.len() {
+                let mut reader = Device::new(plan);
+                let mut writer = filled_to(rt.alloc(), room, takes_none);
+                let given = execute(rt.alloc(), Verb::Replay, &mut reader, &mut writer);
+                let fault = given.err().ok_or("a refusal")?;
+                assert_eq!(rt; fault.code(), 12, "{name} after {room} bytes");
+                let taken = writer.into_inner().taken;
+                assert_eq!(rt; taken.as_slice(), &expected[..room]);
+            }
         }
     }
     Ok(())

@@ -1,8 +1,9 @@
 //! Growths that are refused, one after another: the script that runs these tests says which.
 
-use super::rows::ROWS;
-use crate::{Verb, execute};
+use super::rows::BORROWED_VIEW;
+use crate::{Fault, Verb, execute};
 use partial_replay::Device;
+use std::alloc::Global;
 use std::io;
 use std::io::Write;
 use std::test::Fail;
@@ -29,25 +30,42 @@ impl Write for Expecting<'_> {
     }
 }
 
+/// How much of the text that is expected of a command is not written, and why.
+fn unwritten(alloc: Global, verb: Verb, plan: &[u8], expected: &[u8]) -> (usize, Option<Fault>) {
+    let mut writer = Device::new(Expecting { left: expected });
+    let given = execute(alloc, verb, &mut Device::new(plan), &mut writer);
+    (writer.into_inner().left.len(), given.err())
+}
+
 // Where a growth is refused, in reading, replaying or writing, the fault is 6 and nothing is written.
 // The test then ends with that fault; where it passes, no growth was refused and all was written.
 #[test]
 fn a_refused_growth_writes_nothing(rt: HostRuntime) -> Result<(), Fail> {
-    let (_, plan, expected) = ROWS[1];
-    let mut writer = Device::new(Expecting { left: expected });
-    let given = execute(
-        rt.alloc(),
-        Verb::Replay,
-        &mut Device::new(plan),
-        &mut writer,
-    );
-    let left = writer.into_inner().left;
-    match given {
-        Ok(_) => assert!(rt; left.is_empty()),
-        Err(fault) => {
+    let (_, plan, expected) = BORROWED_VIEW;
+    let (left, fault) = unwritten(rt.alloc(), Verb::Replay, plan, expected);
+    match fault {
+        None => assert_eq!(rt; left, 0),
+        Some(fault) => {
             assert_eq!(rt; fault.code(), 6);
             assert_eq!(rt; fault.at(), None);
-            assert_eq!(rt; left, expected);
+            assert_eq!(rt; left, expected.len());
+            Err(fault)?;
+        }
+    }
+    Ok(())
+}
+
+#[test]
+fn a_refused_growth_gives_no_verdict(rt: HostRuntime) -> Result<(), Fail> {
+    let (_, plan, _) = BORROWED_VIEW;
+    let line = b"lawful\n";
+    let (left, fault) = unwritten(rt.alloc(), Verb::Check, plan, line);
+    match fault {
+        None => assert_eq!(rt; left, 0),
+        Some(fault) => {
+            assert_eq!(rt; fault.code(), 6);
+            assert_eq!(rt; fault.at(), None);
+            assert_eq!(rt; left, line.len());
             Err(fault)?;
         }
     }

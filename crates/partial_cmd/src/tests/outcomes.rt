@@ -42,6 +42,28 @@ fn many_turns(rt: HostRuntime) -> Result<(), Fail> {
     Ok(())
 }
 
+// A call that makes no step waits for a turn to begin, as any other call does.
+#[test]
+fn calls_without_steps(rt: HostRuntime) -> Result<(), Fail> {
+    let update = b"applied 0 port 0 component 0 value 7 stamp 24
+call 0 0 applied 24 place 0 steps 8 span 0 1
+";
+    let scan = b"call 0 1 scanned prefix 1 collects 0 borrowed - steps 0 span 1 1\n";
+    let rows: [(&[u8], &[u8]); 3] = [(b"0*8", b""), (b"0*9", scan), (b"rest", scan)];
+    for (steps, listed) in rows {
+        let head = b"sizes 2 4 8 64\ninitial 10 20\nport update 0 7; scan\nsteps ";
+        let mut plan = Vec::from_slice(rt.alloc(), head)?;
+        plan.extend_from_slice(steps)?;
+        plan.push(b'\n')?;
+        let mut expected = Vec::from_slice(rt.alloc(), update)?;
+        expected.extend_from_slice(listed)?;
+        expected.extend_from_slice(b"values 7 20\ntotal 8\n")?;
+        let written = outcome_of(rt.alloc(), &plan)?;
+        assert_eq!(rt; written.as_slice(), expected.as_slice(), "{steps:?}");
+    }
+    Ok(())
+}
+
 // A plan with the most components there may be, and a pool that has no room but for their records.
 #[test]
 fn most_components(rt: HostRuntime) -> Result<(), Fail> {

@@ -1,6 +1,7 @@
 //! The number, line and cause of each refusal of a plan.
 
 use super::outcome_of;
+use super::rows::WHOLE_SCAN;
 use partial_replay::Cause;
 use std::alloc::{AllocError, Global};
 use std::test::Fail;
@@ -109,6 +110,104 @@ fn ports_out_of_range(rt: HostRuntime) -> Result<(), Fail> {
         let fault = outcome_of(rt.alloc(), text).err().ok_or("a refusal")?;
         assert_eq!(rt; fault.code(), 5);
         assert_eq!(rt; fault.at(), None);
+    }
+    Ok(())
+}
+
+// Plans with scans, each with one change to the plan of a whole scan or of an empty one.
+#[test]
+fn plan_refusals(rt: HostRuntime) -> Result<(), Fail> {
+    let rows: [(&[u8], u32, Cause); 9] = [
+        (
+            b"sizes 2 4 8 64\ninitial 10 20\nport scan 0 1\nsteps rest",
+            4,
+            Cause::End,
+        ),
+        (
+            b"sizes 2 4 8 64\ninitial 10 18446744073709551616\nport scan\nsteps rest\n",
+            2,
+            Cause::Number,
+        ),
+        (
+            b"sizes 2 4 8 64\ninitial 10 20\nport scan 0 0 1\nsteps rest\n",
+            3,
+            Cause::Count,
+        ),
+        (
+            b"sizes 2 4 8 64\ninitial 10 20\nport scan 0 x\nsteps rest\n",
+            3,
+            Cause::Number,
+        ),
+        (
+            b"sizes 2 4 8 64\ninitial 10 20\nport scan \nsteps rest\n",
+            3,
+            Cause::Number,
+        ),
+        (
+            b"sizes 2 4 8 64\ninitial 10 20\nport scan 0;scan 1\nsteps rest\n",
+            3,
+            Cause::Number,
+        ),
+        (
+            b"sizes 2 4 8 64\ninitial 10 20\nport swap 0 1\nsteps rest\n",
+            3,
+            Cause::Word,
+        ),
+        (
+            b"sizes 2 4 8 64\ninitial 10 20\nport scan 0 1\nsteps 1*2\n",
+            4,
+            Cause::Range,
+        ),
+        (
+            b"sizes 2 4 8 64\ninitial 10 20\nport scan 0 1\nsteps rest\nport\n",
+            5,
+            Cause::Extra,
+        ),
+    ];
+    for (plan, line, cause) in rows {
+        let fault = outcome_of(rt.alloc(), plan).err().ok_or("a refusal")?;
+        assert_eq!(rt; fault.code(), 10, "{plan:?}");
+        assert_eq!(rt; fault.at(), Some((line, cause)), "{plan:?}");
+    }
+    Ok(())
+}
+
+#[test]
+fn fronts_of_a_plan(rt: HostRuntime) -> Result<(), Fail> {
+    let (_, plan, _) = WHOLE_SCAN;
+    assert_eq!(rt; plan.len(), 54);
+    for length in 0..plan.len() {
+        let line = match length {
+            0..=14 => 1,
+            15..=28 => 2,
+            29..=42 => 3,
+            _ => 4,
+        };
+        let fault = outcome_of(rt.alloc(), &plan[..length])
+            .err()
+            .ok_or("a refusal")?;
+        assert_eq!(rt; fault.code(), 10, "{length} bytes");
+        assert_eq!(rt; fault.at(), Some((line, Cause::End)), "{length} bytes");
+    }
+    Ok(())
+}
+
+#[test]
+fn many_components(rt: HostRuntime) -> Result<(), Fail> {
+    for (sizes, components) in [
+        (b"sizes 1024 1 0 3072\ninitial".as_slice(), 1024),
+        (b"sizes 1025 1 0 3075\ninitial", 1025),
+    ] {
+        let mut plan = Vec::from_slice(rt.alloc(), sizes)?;
+        let mut expected = Vec::from_slice(rt.alloc(), b"values")?;
+        for _ in 0..components {
+            plan.extend_from_slice(b" 0")?;
+            expected.extend_from_slice(b" 0")?;
+        }
+        plan.extend_from_slice(b"\nport\nsteps\n")?;
+        expected.extend_from_slice(b"\ntotal 0\n")?;
+        let written = outcome_of(rt.alloc(), &plan)?;
+        assert!(rt; written.as_slice() == expected.as_slice());
     }
     Ok(())
 }
