@@ -93,6 +93,22 @@ expect "" "" $'partial: refused 10: line 0: size\n'
 head -c 4194305 /dev/zero >"$room/in"
 case_of line_size 1 replay
 
+# A short plan that comes to more steps than there is room to trace: 1,000 updates, each of which walks the
+# slots that 20,000 scans have left.
+{
+    printf 'sizes 1 65536 0 4194304\ninitial 0\nport scan 0'
+    printf '%.0s; scan 0' {2..20000}
+    printf '; update 0 %d' {1..1000}
+    printf '\nsteps rest\n'
+} >"$room/walk.plan"
+expect "" "" $'partial: refused 6: out of memory\n'
+(
+    failed=0
+    ulimit -v 400000
+    case_of more_steps_than_room 1 replay "$room/walk.plan"
+    [ "$failed" -eq 0 ]
+) && passed=$((passed + 1)) || failed=$((failed + 1))
+
 # A file that isn't there, and one that can't be read.
 expect "" "" $'partial: refused 11: read fault\n'
 case_of missing_file 1 replay "$room/missing"
