@@ -43,7 +43,8 @@ impl From<AllocError> for ReplayError {
 ///
 /// # Errors
 ///
-/// `Memory` where a growth was refused: the words, the trace or the calls found no room.
+/// `Memory` where a growth was refused: the words, the trace or the calls found no room. A plan may ask
+/// for more steps than any machine has room to trace.
 pub fn replay(alloc: Global, plan: &Plan) -> Result<Outcome, ReplayError>
     ensures { IfOk result (IsReplayOf plan.now) }
 {
