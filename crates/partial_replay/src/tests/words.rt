@@ -1,6 +1,7 @@
-//! The words that replays leave behind.
+//! The words that replays leave behind, and the steps that they make.
 
 use super::replayed;
+use partial_words::Step;
 use std::test::Fail;
 
 // The list that is published, the one that won where two were, and none where no words are left for it.
@@ -63,5 +64,33 @@ steps 0*5 1*6 3*25 1*1 2*11 0*4 3*23 2*2 3*20 2*7 1*6
     assert_eq!(rt; outcome.words.get(44), Some(&45));
     assert_eq!(rt; outcome.words.get(48..51), Some([28, 7, 45].as_slice()));
     assert_eq!(rt; outcome.words.get(4), Some(&51));
+    Ok(())
+}
+
+// A scan that nobody overtakes: the announcement, the join, two collects, the values and the leave.
+#[test]
+fn steps_of_a_scan(rt: HostRuntime) -> Result<(), Fail> {
+    let plan = b"sizes 2 4 8 64\ninitial 10 20\nport scan 0 1\nsteps rest\n";
+    let expected = [
+        (Step::Add(4, 3), 24),
+        (Step::Store(24, 2), 0),
+        (Step::Store(25, 0), 0),
+        (Step::Store(26, 1), 0),
+        (Step::Add(2, 1), 0),
+        (Step::Store(6, 24), 0),
+        (Step::Load(0), 18),
+        (Step::Load(1), 21),
+        (Step::Load(0), 18),
+        (Step::Load(1), 21),
+        (Step::Load(19), 10),
+        (Step::Load(22), 20),
+        (Step::Store(6, 1), 0),
+    ];
+    let outcome = replayed(rt.alloc(), plan)?;
+    assert_eq!(rt; outcome.trace.len(), expected.len());
+    for (event, (step, answer)) in outcome.trace.iter().zip(expected) {
+        assert_eq!(rt; event.step, step);
+        assert_eq!(rt; event.answer, answer);
+    }
     Ok(())
 }
