@@ -102,12 +102,11 @@ case_of line_size 1 replay
     printf '\nsteps rest\n'
 } >"$room/walk.plan"
 expect "" "" $'partial: refused 6: out of memory\n'
-(
-    failed=0
-    ulimit -v 400000
-    case_of more_steps_than_room 1 replay "$room/walk.plan"
-    [ "$failed" -eq 0 ]
-) && passed=$((passed + 1)) || failed=$((failed + 1))
+if (failed=0 && ulimit -v 400000 && case_of more_steps_than_room 1 replay "$room/walk.plan" && [ "$failed" -eq 0 ]); then
+    passed=$((passed + 1))
+else
+    failed=$((failed + 1))
+fi
 
 # A file that isn't there, and one that can't be read.
 expect "" "" $'partial: refused 11: read fault\n'

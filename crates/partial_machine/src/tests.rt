@@ -1,7 +1,5 @@
-//! What can be seen of a machine before its first answer. Whole calls are made by the replay.
-
-ghost use Rattle.std.specs.Prelude.{◌≡◌};
-ghost use Rattle.partial_machine.specs.Machine.{fresh};
+//! A machine that has made no call, the first step of each call, and the calls that need no words. The
+//! replay makes all others.
 
 use crate::{Core, Reply};
 use partial_model::Refused;

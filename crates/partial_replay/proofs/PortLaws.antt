@@ -36,6 +36,7 @@ use Rattle.partial_core.specs.Lawful.{Part, core_of, port_of, is_begun, is_at_re
 use Rattle.partial_replay.specs.declared.port.Port.{Port}
 use Rattle.partial_replay.specs.declared.port.UnderWay.{UnderWay}
 use Rattle.partial_model.proofs.Decisions.{Decides-list_all, Decides-nat_lt}
+use Rattle.partial_places.proofs.ScanPlaces.{position_below}
 use Rattle.partial_replay.specs.CallSteps.{begun_of, refusal_of, most_steps, IsRefusedAtOnce, IsFinishedAtOnce}
 use Rattle.partial_replay.specs.PortState.{IsServed, end_of, ends_of, IsFinished, AreFinished, AreFew, notes_in, IsUnderWay, IsBetween, PortFits, IsDoneAtOnce, entry_at, one_step_more, IsEndedCall, GoesOn, Ends, StepMade}
 
@@ -285,11 +286,6 @@ pub record Begins (s : CoreState) (c : Call) : Type 0 where
   pub few : steps_left (begun_of s c) ≤ most_steps s.sizes c
   pub asked : AreComponents s.sizes (begun_of s c).asked
 
-positions_of : (m : ℕ) (js : List ℕ) → AllByRecursion (λ j. j < m) js → (k : ℕ) → k < length js → get_or js k 0 < m
-positions_of m [] all k below = absurd (omega (arith, below))
-positions_of m (j ∷ js) all zero below = all.0
-positions_of m (j ∷ js) all (suc k) below = positions_of m js all.1 k (omega (arith, below))
-
 begins_scan : (s : CoreState) (js : List ℕ) (a b p q : Bool) → length js ≤ s.sizes.m → list_all (λ i. nat_lt i s.sizes.m) js ≡ a → (length js == 0) ≡ b → s.pool_spent ≡ p → s.slots_spent ≡ q → cond a (cond b None (cond p (Some refused.PoolSpent) (cond q (Some refused.SlotsSpent) None))) (Some refused.Component) ≡ None → reply_of (begin_scan s js) ≡ None → Begins s (call.Scan js)
 begins_scan s js true true p q few below none pool slots is none_yet =
     let bad : Some (reply.Scanned 0 None) ≡ None = ap (λ (e : Bool). reply_at (cond e (Finished (reply.Scanned 0 None)) ScanBegun)) (sym none) ∙ none_yet in cc
@@ -303,7 +299,7 @@ begins_scan s js true false false false few below none pool slots is none_yet =
       may = subst (MayBeginAt (begin_scan s js)) (sym stage) (some_position js none, pool, slots);
       called = ap (call_at (begin_scan s js)) stage;
       few = let left : steps_left (begin_scan s js) ≡ left_at (begin_scan s js) ScanBegun = ap (left_at (begin_scan s js)) stage in omega (arith, left);
-      asked = record { few = few; each = positions_of s.sizes.m js (all_below s.sizes.m js below) };
+      asked = record { few = few; each = λ k. position_below js s.sizes.m k (all_below s.sizes.m js below) };
     }
 begins_scan s js false b p q few below none pool slots is none_yet = let bad : Some refused.Component ≡ None = is in cc
 

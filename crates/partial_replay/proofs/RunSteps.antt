@@ -1,6 +1,7 @@
 -- A turn of a port among the others.
-use Rattle.std.proofs.Common.{ℕ, zero, suc, ◌≡◌, ◌+◌, ◌-◌, ◌*◌, ◌<◌, ◌≤◌, ◌==◌, ◌++◌, Bool, true, false, cond, List, [], ◌∷◌, length, get_or, set, Option, Some, None, IfSome, MatchOption, MatchBool, map, nat_lt, ◌^◌, slice_get, Result, Ok, Err, OnOk, refl, sym, ◌∙◌, ap, subst, arith, length-append, get_or-set_other, mul-le-mul, mul-suc}
+use Rattle.std.proofs.Common.{ℕ, zero, suc, ◌≡◌, ◌+◌, ◌-◌, ◌*◌, ◌<◌, ◌≤◌, ◌==◌, ◌++◌, Bool, true, false, cond, List, [], ◌∷◌, length, get_or, set, Option, Some, None, IfSome, MatchOption, MatchBool, nat_lt, ◌^◌, slice_get, Result, Ok, Err, OnOk, refl, sym, ◌∙◌, ap, subst, arith, length-append, get_or-set_other, mul-le-mul, mul-suc}
 use Rattle.std.proofs.Math.Nat.{mul-le-mul_left}
+use Rattle.std.specs.Bool.{⊤}
 use Rattle.std.specs.Option.{option_map_or, is_some, IsSome}
 use Rattle.std.proofs.lemmas.Bool.{false≢true}
 use Rattle.std.proofs.lemmas.List.{append-nil, length_push}
@@ -13,10 +14,9 @@ use Rattle.partial_model.proofs.NotesLemmas.{LegalNotes-grows}
 use Rattle.partial_words.specs.declared.step.Step.{Step}
 use Rattle.partial_words.specs.declared.step.Step.TheVariants.{Load, Store, Exchange, Add}
 use Rattle.partial_words.specs.declared.step.Event.{Event}
-use Rattle.partial_words.specs.Layout.{Layout, IsLayout, total, pool_counter, slot_word}
+use Rattle.partial_words.specs.Layout.{Layout, IsLayout, total, slot_word}
 use Rattle.partial_words.specs.Step.{Leads, answer_of, words_after}
 use Rattle.partial_words.specs.Record.{value_of}
-use Rattle.partial_words.specs.Announcement.{announcement_block}
 use Rattle.partial_active.specs.declared.get_set.Stage.{Stage as SetStage}
 use Rattle.partial_active.specs.declared.get_set.Stage.TheVariants.{Head, ListLen, ListLow, ListHigh, Counter, Slot, Len as NamedLen, Index as NamedIndex, Claim, Write, Publish, Done as SetDone}
 use Rattle.partial_active.specs.declared.join.JoinStage.{JoinStage}
@@ -29,11 +29,13 @@ use Rattle.partial_machine.specs.declared.stage.Change.{Change}
 use Rattle.partial_machine.specs.declared.stage.Reply.{Reply}
 use Rattle.partial_machine.specs.declared.stage.Stage.{Stage}
 use Rattle.partial_machine.specs.declared.stage.Stage.TheVariants.{Idle, ReadBegun, LoadingValue, UpdateBegun, GettingSet, Viewing, ClaimingRecord, StoringRecord, Exchanging, ScanBegun, StoringAnnouncement, Joining, Scanning, Leaving, Finished}
-use Rattle.partial_machine.specs.Machine.{CoreState, AreComponents, IsInPool, is_sound_at, step_at, step_of, reply_of, record_size, record_words, steps_left}
+use Rattle.partial_machine.specs.Machine.{CoreState, AreComponents, IsInPool, is_sound_at, step_at, step_of, reply_of, record_size, steps_left}
 use Rattle.partial_machine.proofs.Sound.{size_few}
 use Rattle.partial_state.specs.Holdings.{Holding, others_of}
 use Rattle.partial_state.specs.LawfulWords.{IsDue}
 use Rattle.partial_state.proofs.HoldingLemmas.{if_some_at}
+use Rattle.partial_state.proofs.ListLemmas.{all_unmap}
+use Rattle.partial_core.proofs.Parts.{all_at}
 use Rattle.partial_core.specs.Lawful.{Part, Lawful, core_of, port_of, holding_of, holdings, due_at, is_begun, is_at_rest, IsMachineOf, MayBegin, begun_like, moved, added, added_at, answer_for}
 use Rattle.partial_core.proofs.AllSteps.{steps_stay_lawful}
 use Rattle.partial_core.proofs.Going.{view_loads}
@@ -151,49 +153,52 @@ is_below a b h = search (arith, h)
 not_below : (a b : ℕ) → b ≤ a → nat_lt a b ≡ false
 not_below a b h = search (arith, h)
 
--- what holds of each made from a list holds of the one in its middle
-all_map_at : {A B : Type 0} (f : A → B) (P : B → Type 0) (before : List A) (x : A) (after : List A) → AllByRecursion P (map f (before ++ x ∷ after)) → P (f x)
-all_map_at f P [] x after w = w.0
-all_map_at f P (y ∷ before) x after w = all_map_at f P before x after w.1
+-- a step that exchanges no component word
+abbrev IsQuiet : ℕ → Step → Type 0
+IsQuiet m (Exchange w old new) = m ≤ w
+IsQuiet m _ = ⊤
 
--- the entry of a won exchange is the one that the machine adds
-abbrev AddsNone : ℕ → List ℕ → Step → ℕ → Type 0
-AddsNone m words step number = (a : ℕ) → entry_at m words number step a ≡ []
+-- it adds no entry, whatever its answer
+quiet_entry : (m : ℕ) (words : List ℕ) (p : ℕ) (step : Step) (a : ℕ) → IsQuiet m step → entry_at m words p step a ≡ []
+quiet_entry m words p (Load w) a quiet = refl
+quiet_entry m words p (Store w v) a quiet = refl
+quiet_entry m words p (Add w v) a quiet = refl
+quiet_entry m words p (Exchange w old new) a quiet = ap (λ (c : Bool). cond c (cond (a == old) (record { port = p; component = w; value = value_of words new; stamp = new } ∷ []) []) []) (not_below w m quiet)
 
-exchange_none : (m w old new number : ℕ) (words : List ℕ) (b : Bool) → nat_lt w m ≡ b → b ≡ false → AddsNone m words (Exchange w old new) number
-exchange_none m w old new number words b is out a = ap (λ (c : Bool). cond c (cond (a == old) (record { port = number; component = w; value = value_of words new; stamp = new } ∷ []) []) []) (is ∙ out)
+quiet_within : (m : ℕ) (words : List ℕ) (step : Step) → IsQuiet m step → IsExchangeWithin m words step
+quiet_within m words (Load w) quiet = tt
+quiet_within m words (Store w v) quiet = tt
+quiet_within m words (Add w v) quiet = tt
+quiet_within m words (Exchange w old new) quiet = λ below. absurd (omega (arith, quiet, below))
 
 -- a getSet exchanges the list head alone
-getting_at : (z : Layout) (head number : ℕ) (words : List ℕ) (t : SetStage) (step : Step) → finding.step_at z head t ≡ Some step → AddsNone z.m words step number × IsExchangeWithin z.m words step
-getting_at z head number words Head step e = subst (λ (s : Step). AddsNone z.m words s number × IsExchangeWithin z.m words s) (some_same e) (λ a. refl, tt)
-getting_at z head number words (ListLen at) step e = subst (λ (s : Step). AddsNone z.m words s number × IsExchangeWithin z.m words s) (some_same e) (λ a. refl, tt)
-getting_at z head number words (ListLow at left) step e = subst (λ (s : Step). AddsNone z.m words s number × IsExchangeWithin z.m words s) (some_same e) (λ a. refl, tt)
-getting_at z head number words (ListHigh at left lo) step e = subst (λ (s : Step). AddsNone z.m words s number × IsExchangeWithin z.m words s) (some_same e) (λ a. refl, tt)
-getting_at z head number words Counter step e = subst (λ (s : Step). AddsNone z.m words s number × IsExchangeWithin z.m words s) (some_same e) (λ a. refl, tt)
-getting_at z head number words (Slot slot) step e = subst (λ (s : Step). AddsNone z.m words s number × IsExchangeWithin z.m words s) (some_same e) (λ a. refl, tt)
-getting_at z head number words (NamedLen slot at) step e = subst (λ (s : Step). AddsNone z.m words s number × IsExchangeWithin z.m words s) (some_same e) (λ a. refl, tt)
-getting_at z head number words (NamedIndex slot at left) step e = subst (λ (s : Step). AddsNone z.m words s number × IsExchangeWithin z.m words s) (some_same e) (λ a. refl, tt)
-getting_at z head number words (Claim count) step e = subst (λ (s : Step). AddsNone z.m words s number × IsExchangeWithin z.m words s) (some_same e) (λ a. refl, tt)
-getting_at z head number words (Write at k count word) step e = subst (λ (s : Step). AddsNone z.m words s number × IsExchangeWithin z.m words s) (some_same e) (λ a. refl, tt)
-getting_at z head number words (Publish at) step e = subst (λ (s : Step). AddsNone z.m words s number × IsExchangeWithin z.m words s) (some_same e)
-    (exchange_none z.m (z.m + 1) head at number words (nat_lt (z.m + 1) z.m) refl (not_below (z.m + 1) z.m (omega arith)), λ below. absurd (omega (arith, below)))
-getting_at z head number words SetDone step e = let bad : None ≡ Some step = e in cc
+getting_at : (z : Layout) (head : ℕ) (t : SetStage) (step : Step) → finding.step_at z head t ≡ Some step → IsQuiet z.m step
+getting_at z head Head step e = subst (IsQuiet z.m) (some_same e) tt
+getting_at z head (ListLen at) step e = subst (IsQuiet z.m) (some_same e) tt
+getting_at z head (ListLow at left) step e = subst (IsQuiet z.m) (some_same e) tt
+getting_at z head (ListHigh at left lo) step e = subst (IsQuiet z.m) (some_same e) tt
+getting_at z head Counter step e = subst (IsQuiet z.m) (some_same e) tt
+getting_at z head (Slot slot) step e = subst (IsQuiet z.m) (some_same e) tt
+getting_at z head (NamedLen slot at) step e = subst (IsQuiet z.m) (some_same e) tt
+getting_at z head (NamedIndex slot at left) step e = subst (IsQuiet z.m) (some_same e) tt
+getting_at z head (Claim count) step e = subst (IsQuiet z.m) (some_same e) tt
+getting_at z head (Write at k count word) step e = subst (IsQuiet z.m) (some_same e) tt
+getting_at z head (Publish at) step e = subst (IsQuiet z.m) (some_same e) (omega arith)
+getting_at z head SetDone step e = let bad : None ≡ Some step = e in cc
 
 -- an embedded scan exchanges nothing, and neither do joins and leaves
-viewing_at : (z y : Layout) (indices last : List ℕ) (number : ℕ) (words : List ℕ) (t : ViewStage) (step : Step) → viewing.step_at y indices last t ≡ Some step → AddsNone z.m words step number × IsExchangeWithin z.m words step
-viewing_at z y indices last number words t step e =
-    let load = view_loads y indices last t (ap is_some e) in
-    subst (λ (s : Step). AddsNone z.m words s number × IsExchangeWithin z.m words s) (some_same (sym load.1 ∙ e)) (λ a. refl, tt)
+viewing_at : (m : ℕ) (y : Layout) (indices last : List ℕ) (t : ViewStage) (step : Step) → viewing.step_at y indices last t ≡ Some step → IsQuiet m step
+viewing_at m y indices last t step e = let load = view_loads y indices last t (ap is_some e) in subst (IsQuiet m) (some_same (sym load.1 ∙ e)) tt
 
-joining_at : (z y : Layout) (at number : ℕ) (words : List ℕ) (t : JoinStage) (step : Step) → join_step y at t ≡ Some step → AddsNone z.m words step number × IsExchangeWithin z.m words step
-joining_at z y at number words Claiming step e = subst (λ (s : Step). AddsNone z.m words s number × IsExchangeWithin z.m words s) (some_same e) (λ a. refl, tt)
-joining_at z y at number words (Storing slot) step e = subst (λ (s : Step). AddsNone z.m words s number × IsExchangeWithin z.m words s) (some_same e) (λ a. refl, tt)
-joining_at z y at number words (Joined slot) step e = let bad : None ≡ Some step = e in cc
-joining_at z y at number words Spent step e = let bad : None ≡ Some step = e in cc
+joining_at : (m : ℕ) (y : Layout) (at : ℕ) (t : JoinStage) (step : Step) → join_step y at t ≡ Some step → IsQuiet m step
+joining_at m y at Claiming step e = subst (IsQuiet m) (some_same e) tt
+joining_at m y at (Storing slot) step e = subst (IsQuiet m) (some_same e) tt
+joining_at m y at (Joined slot) step e = let bad : None ≡ Some step = e in cc
+joining_at m y at Spent step e = let bad : None ≡ Some step = e in cc
 
-leaving_at : (z y : Layout) (slot number : ℕ) (words : List ℕ) (b : Bool) (step : Step) → cond b None (Some (Store (slot_word y slot) 1)) ≡ Some step → AddsNone z.m words step number × IsExchangeWithin z.m words step
-leaving_at z y slot number words true step e = let bad : None ≡ Some step = e in cc
-leaving_at z y slot number words false step e = subst (λ (s : Step). AddsNone z.m words s number × IsExchangeWithin z.m words s) (some_same e) (λ a. refl, tt)
+leaving_at : (m : ℕ) (y : Layout) (slot : ℕ) (b : Bool) (step : Step) → cond b None (Some (Store (slot_word y slot) 1)) ≡ Some step → IsQuiet m step
+leaving_at m y slot true step e = let bad : None ≡ Some step = e in cc
+leaving_at m y slot false step e = subst (IsQuiet m) (some_same e) tt
 
 -- what a step at a stage adds to the history, and that the record of an exchange lies within the words
 pub record StepAdds (c : CoreState) (t : Stage) (words : List ℕ) (step : Step) (number a : ℕ) : Type 0 where
@@ -204,14 +209,8 @@ pub record StepAdds (c : CoreState) (t : Stage) (words : List ℕ) (step : Step)
 abbrev IsExchange : CoreState → List ℕ → Change → ℕ → ℕ → Type 0
 IsExchange c words ch old at = (get_or words (at + 1) 0 ≡ ch.value) × (ch.component < c.sizes.m) × (ch.component < at) × (at + 1 < length words)
 
-adds_load : (c : CoreState) (words : List ℕ) (w number a : ℕ) (t : Stage) (step : Step) → Some (Load w) ≡ Some step → added_at c.port t a ≡ [] → StepAdds c t words step number a
-adds_load c words w number a t step e none = subst (λ (s : Step). StepAdds c t words s number a) (some_same e) (record { entry = sym none; within = tt })
-
-adds_store : (c : CoreState) (words : List ℕ) (w v number a : ℕ) (t : Stage) (step : Step) → Some (Store w v) ≡ Some step → added_at c.port t a ≡ [] → StepAdds c t words step number a
-adds_store c words w v number a t step e none = subst (λ (s : Step). StepAdds c t words s number a) (some_same e) (record { entry = sym none; within = tt })
-
-adds_claim : (c : CoreState) (words : List ℕ) (w v number a : ℕ) (t : Stage) (step : Step) → Some (Add w v) ≡ Some step → added_at c.port t a ≡ [] → StepAdds c t words step number a
-adds_claim c words w v number a t step e none = subst (λ (s : Step). StepAdds c t words s number a) (some_same e) (record { entry = sym none; within = tt })
+adds_quiet : (c : CoreState) (words : List ℕ) (t : Stage) (step : Step) (number a : ℕ) → IsQuiet c.sizes.m step → added_at c.port t a ≡ [] → StepAdds c t words step number a
+adds_quiet c words t step number a quiet none = record { entry = quiet_entry c.sizes.m (words_after words step) number step a quiet ∙ sym none; within = quiet_within c.sizes.m words step quiet }
 
 -- a won exchange of a component
 exchanged_entry : (m p j old at a v : ℕ) (words : List ℕ) → nat_lt j m ≡ true → value_of words at ≡ v → entry_at m words p (Exchange j old at) a ≡ cond (a == old) (record { port = p; component = j; value = v; stamp = at } ∷ []) []
@@ -221,20 +220,13 @@ exchanged_entry m p j old at a v words below value =
 
 step_adds : (c : CoreState) (words : List ℕ) (t : Stage) (step : Step) (number a : ℕ) → c.port ≡ number → is_sound_at c t → step_at c t ≡ Some step → ((ch : Change) (old at : ℕ) → t ≡ Exchanging ch old at → IsExchange c words ch old at) → StepAdds c t words step number a
 step_adds c words Idle step number a port sound e f = let bad : None ≡ Some step = e in cc
-step_adds c words (ReadBegun j) step number a port sound e f = adds_load c words j number a (ReadBegun j) step e refl
-step_adds c words (LoadingValue stamp) step number a port sound e f = adds_load c words (stamp + 1) number a (LoadingValue stamp) step e refl
-step_adds c words (UpdateBegun ch) step number a port sound e f = adds_load c words ch.component number a (UpdateBegun ch) step e refl
-step_adds c words (GettingSet ch old) step number a port sound e f =
-    let m : c.get_set.sizes.m ≡ c.sizes.m = ap (λ (z : Layout). z.m) sound.2 in
-    let after = getting_at c.get_set.sizes c.get_set.head number (words_after words step) c.get_set.stage step e in
-    let before = getting_at c.get_set.sizes c.get_set.head number words c.get_set.stage step e in
-    record { entry = subst (λ n. entry_at n (words_after words step) number step a ≡ []) m (after.0 a); within = subst (λ n. IsExchangeWithin n words step) m before.1 }
-step_adds c words (Viewing ch old) step number a port sound e f =
-    let after = viewing_at c.sizes c.embedded.sizes c.found.indices c.rows.last number (words_after words step) c.embedded.stage step e in
-    let before = viewing_at c.sizes c.embedded.sizes c.found.indices c.rows.last number words c.embedded.stage step e in
-    record { entry = after.0 a; within = before.1 }
-step_adds c words (ClaimingRecord ch old) step number a port sound e f = adds_claim c words (pool_counter c.sizes) (record_size c) number a (ClaimingRecord ch old) step e refl
-step_adds c words (StoringRecord ch old at k) step number a port sound e f = adds_store c words (at + k) (get_or (record_words c ch old at) k 0) number a (StoringRecord ch old at k) step e refl
+step_adds c words (ReadBegun j) step number a port sound e f = adds_quiet c words (ReadBegun j) step number a (subst (IsQuiet c.sizes.m) (some_same e) tt) refl
+step_adds c words (LoadingValue stamp) step number a port sound e f = adds_quiet c words (LoadingValue stamp) step number a (subst (IsQuiet c.sizes.m) (some_same e) tt) refl
+step_adds c words (UpdateBegun ch) step number a port sound e f = adds_quiet c words (UpdateBegun ch) step number a (subst (IsQuiet c.sizes.m) (some_same e) tt) refl
+step_adds c words (GettingSet ch old) step number a port sound e f = adds_quiet c words (GettingSet ch old) step number a (subst (λ (z : Layout). IsQuiet z.m step) sound.2 (getting_at c.get_set.sizes c.get_set.head c.get_set.stage step e)) refl
+step_adds c words (Viewing ch old) step number a port sound e f = adds_quiet c words (Viewing ch old) step number a (viewing_at c.sizes.m c.embedded.sizes c.found.indices c.rows.last c.embedded.stage step e) refl
+step_adds c words (ClaimingRecord ch old) step number a port sound e f = adds_quiet c words (ClaimingRecord ch old) step number a (subst (IsQuiet c.sizes.m) (some_same e) tt) refl
+step_adds c words (StoringRecord ch old at k) step number a port sound e f = adds_quiet c words (StoringRecord ch old at k) step number a (subst (IsQuiet c.sizes.m) (some_same e) tt) refl
 step_adds c words (Exchanging ch old at) step number a port sound e f =
     let facts = f ch old at refl in
     let apart = facts.2 in
@@ -243,20 +235,11 @@ step_adds c words (Exchanging ch old at) step number a port sound e f =
     exchanged_entry c.sizes.m number ch.component old at a ch.value (words_after words (Exchange ch.component old at)) (is_below ch.component c.sizes.m facts.1) value
     ∙ ap (λ n. cond (a == old) (record { port = n; component = ch.component; value = ch.value; stamp = at } ∷ []) []) (sym port) in
     subst (λ (s : Step). StepAdds c (Exchanging ch old at) words s number a) (some_same e) (record { entry = entry; within = λ _. facts.3 })
-step_adds c words ScanBegun step number a port sound e f = adds_claim c words (pool_counter c.sizes) (1 + length c.asked) number a ScanBegun step e refl
-step_adds c words (StoringAnnouncement at k) step number a port sound e f = adds_store c words (at + k) (get_or (announcement_block c.asked) k 0) number a (StoringAnnouncement at k) step e refl
-step_adds c words Joining step number a port sound e f =
-    let after = joining_at c.sizes c.join.sizes c.join.announcement number (words_after words step) c.join.stage step e in
-    let before = joining_at c.sizes c.join.sizes c.join.announcement number words c.join.stage step e in
-    record { entry = after.0 a; within = before.1 }
-step_adds c words Scanning step number a port sound e f =
-    let after = viewing_at c.sizes c.embedded.sizes c.asked c.rows.last number (words_after words step) c.embedded.stage step e in
-    let before = viewing_at c.sizes c.embedded.sizes c.asked c.rows.last number words c.embedded.stage step e in
-    record { entry = after.0 a; within = before.1 }
-step_adds c words Leaving step number a port sound e f =
-    let after = leaving_at c.sizes c.leave.sizes c.leave.slot number (words_after words step) c.leave.left step e in
-    let before = leaving_at c.sizes c.leave.sizes c.leave.slot number words c.leave.left step e in
-    record { entry = after.0 a; within = before.1 }
+step_adds c words ScanBegun step number a port sound e f = adds_quiet c words ScanBegun step number a (subst (IsQuiet c.sizes.m) (some_same e) tt) refl
+step_adds c words (StoringAnnouncement at k) step number a port sound e f = adds_quiet c words (StoringAnnouncement at k) step number a (subst (IsQuiet c.sizes.m) (some_same e) tt) refl
+step_adds c words Joining step number a port sound e f = adds_quiet c words Joining step number a (joining_at c.sizes.m c.join.sizes c.join.announcement c.join.stage step e) refl
+step_adds c words Scanning step number a port sound e f = adds_quiet c words Scanning step number a (viewing_at c.sizes.m c.embedded.sizes c.asked c.rows.last c.embedded.stage step e) refl
+step_adds c words Leaving step number a port sound e f = adds_quiet c words Leaving step number a (leaving_at c.sizes.m c.leave.sizes c.leave.slot c.leave.left step e) refl
 step_adds c words (Finished r) step number a port sound e f = let bad : None ≡ Some step = e in cc
 
 -- the step of a port among the others
@@ -270,7 +253,7 @@ module _ (z : Layout) (o : Opening) (words : List ℕ) (before : List Part) (x :
       let h = here in
       let is : c ≡ core_of x = in_middle c x (is_begun c.stage) m (ap is_begun e) in
       let stage : (core_of x).stage ≡ Exchanging ch old at = ap (λ (s : CoreState). s.stage) (sym is) ∙ e in
-      let holding = all_map_at holding_of (λ (v : Holding). IfSome v.due (IsDue z o words v (others_of v.port (holdings (before ++ x ∷ after))) log)) before x after w.memory.due in
+      let holding = all_at (λ y. IfSome (holding_of y).due (IsDue z o words (holding_of y) (others_of (holding_of y).port (holdings (before ++ x ∷ after))) log)) before x after (all_unmap (λ (v : Holding). IfSome v.due (IsDue z o words v (others_of v.port (holdings (before ++ x ∷ after))) log)) holding_of (before ++ x ∷ after) w.memory.due) in
       let due = if_some_at (IsDue z o words (holding_of x) (others_of (holding_of x).port (holdings (before ++ x ∷ after))) log) (holding_of x).due (record { component = ch.component; old = old; value = ch.value; at = at }) (ap due_at stage) holding in
       let sound : is_sound_at c (Exchanging ch old at) = subst (is_sound_at c) e h.sound.stage in
       let place : IsInPool c.sizes at (record_size c) = sound.1 in
@@ -475,10 +458,6 @@ none_of (Some a) e = absurd (false≢true (sym e))
 pub some_of : {A : Type 0} (f : Option A) → is_some f ≡ true → (a : A) × (f ≡ Some a)
 some_of None e = absurd (false≢true e)
 some_of (Some a) e = (a, refl)
-
-pub is_some_of : {A : Type 0} (f : Option A) → IsSome f → (a : A) × (f ≡ Some a)
-is_some_of None w = absurd (false≢true w)
-is_some_of (Some a) w = (a, refl)
 
 pub match_bool : (b : Bool) (P Q R S : Type 0) → MatchBool b P Q → (P → R) → (Q → S) → MatchBool b R S
 match_bool true P Q R S m f g = f m

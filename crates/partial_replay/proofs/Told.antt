@@ -15,6 +15,7 @@ use Rattle.partial_model.specs.Outcome.{noted_of, notes_of, places_written, Foll
 use Rattle.partial_words.specs.Layout.{Layout, IsLayout}
 use Rattle.partial_machine.specs.Machine.{CoreState, AreComponents}
 use Rattle.partial_state.specs.Holdings.{Holding}
+use Rattle.partial_state.proofs.ListLemmas.{all_append}
 use Rattle.partial_core.proofs.Calls.{led}
 use Rattle.partial_replay.specs.CallSteps.{most_steps}
 use Rattle.partial_words.specs.declared.step.Event.{Event}
@@ -258,10 +259,6 @@ time_told o log q (c ∷ plans) (x ∷ parts) (t ∷ ports) b w begins =
     (λ d goes next. over_time n q c x t call t.under_way d tail w.0.number w.0.way (subst (λ (m : ℕ). GoesBehind d q m (ends_of 0 t.finished.items)) (omega arith) goes) next
     (λ e more. time_told o log (q + 1) plans parts ports e w.1 more)))
 
-AllByRecursion-append : {A : Type 0} (P : A → Type 0) (xs ys : List A) → AllByRecursion P xs → AllByRecursion P ys → AllByRecursion P (xs ++ ys)
-AllByRecursion-append P [] ys a b = b
-AllByRecursion-append P (x ∷ xs) ys a b = (a.0, AllByRecursion-append P xs ys a.1 b)
-
 -- what each call saw is the least prefix that shows it
 least_over : (o : Opening) (log : List Applied) (port : Port) (call : Option Call) (way : Option UnderWay) → AllByRecursion (HasLeastPlace o log) (left_over port call way)
 least_over o log port (Some call) (Some way) = (tt, tt)
@@ -276,7 +273,7 @@ least_told o log q (c ∷ plans) [] ports w = absurd w
 least_told o log q (c ∷ plans) (x ∷ parts) [] w = absurd w
 least_told o log q (c ∷ plans) (x ∷ parts) (t ∷ ports) w =
     let over = left_over t (slice_get c (length t.finished.items)) t.under_way in
-    AllByRecursion-append (HasLeastPlace o log) (t.finished.items ++ over) (calls_in plans ports) (AllByRecursion-append (HasLeastPlace o log) t.finished.items over w.0.least (least_over o log t (slice_get c (length t.finished.items)) t.under_way)) (least_told o log (q + 1) plans parts ports w.1)
+    all_append (HasLeastPlace o log) (t.finished.items ++ over) (calls_in plans ports) (all_append (HasLeastPlace o log) t.finished.items over w.0.least (least_over o log t (slice_get c (length t.finished.items)) t.under_way)) (least_told o log (q + 1) plans parts ports w.1)
 
 -- the machine of a port has the sizes of its part's
 sizes_at : (z : Layout) (core : CoreState) (x : Part) (b : Bool) → (core_of x).sizes ≡ z → MatchBool b ((is_at_rest (core_of x).stage ≡ true) × (core ≡ begun_like (core_of x) core) × AreComponents core.sizes core.asked × MayBegin core) (core ≡ core_of x) → core.sizes ≡ z
@@ -307,7 +304,7 @@ few_told z o words hs log q (c ∷ plans) (x ∷ parts) (t ∷ ports) layout w k
     let same : (core_of x).sizes ≡ z = (led z o words hs log x.since x.begun x.kept layout k.sizes k.sound k.kept).sizes in
     let sizes = port_sizes z (length log) c x t.core t.finished.items t.under_way same w.0.way in
     let over = left_over t (slice_get c (length t.finished.items)) t.under_way in
-    AllByRecursion-append (λ (d : Called). d.steps ≤ most_steps z d.call) (t.finished.items ++ over) (calls_in plans ports) (AllByRecursion-append (λ (d : Called). d.steps ≤ most_steps z d.call) t.finished.items over (subst (λ (y : Layout). AreFew y t.finished.items) sizes w.0.bounded) (few_over z (length log) c x t t.under_way sizes w.0.way)) (few_told z o words hs log (q + 1) plans parts ports layout w.1 known.1)
+    all_append (λ (d : Called). d.steps ≤ most_steps z d.call) (t.finished.items ++ over) (calls_in plans ports) (all_append (λ (d : Called). d.steps ≤ most_steps z d.call) t.finished.items over (subst (λ (y : Layout). AreFew y t.finished.items) sizes w.0.bounded) (few_over z (length log) c x t t.under_way sizes w.0.way)) (few_told z o words hs log (q + 1) plans parts ports layout w.1 known.1)
 
 -- the calls of a replay are a legal outcome of its history
 pub run_legal : (plans : List (List Call)) (z : Layout) (o : Opening) (words : List ℕ) (ports : List Port) (log : List Applied) (trace : List Event) → IsRunOf plans z o words ports log trace → LegalOutcome o log (calls_in plans ports)

@@ -1,8 +1,8 @@
 use Rattle.std.proofs.Common.{◌≡◌, ◌+◌, ◌≤◌, List, length, Some, slice_get, sym, ◌∙◌, ap, subst, arith}
 use Rattle.partial_model.specs.declared.call.Call.{Call}
 use Rattle.partial_replay.specs.PortState.{KeepsFit, KeepsMade}
-use Rattle.partial_replay.proofs.RunSteps.{port_here, begin_keeps, ports_length, got, none_of, some_of, is_some_of, match_bool, begun_done, port_in, idle_between, left_is, left_ready, served_here}
-use Rattle.partial_replay.proofs.PortLaws.{get_set}
+use Rattle.partial_replay.proofs.RunSteps.{port_here, begin_keeps, ports_length, got, none_of, some_of, match_bool, begun_done, port_in, idle_between, left_is, left_ready, served_here}
+use Rattle.partial_replay.proofs.PortLaws.{get_set, some_is}
 use Rattle.partial_replay.proofs.PortSteps.{ending_but, started_but, started_idle}
 use Rattle.partial_replay.proofs.TurnLaws.{done_set}
 use Rattle.partial_replay.proofs.run.Run.get_ready.Goals as goal
@@ -75,7 +75,7 @@ returns-clause-ready c =
     let calls = c.as_slice-calls.result.now in
     let here = port_here c.args.plans.now _ _ _ ports _ _ c.args.p port run c.requires.port c.index_mut-port.ensures.value in
     let plan : slice_get c.args.plans.now c.args.p ≡ Some calls = got c.args.plans.now c.args.p c.index-plans-p.result c.requires.port c.index-plans-p.is ∙ ap Some (sym c.as_slice-calls.ensures) in
-    match_bool c.in_ok-begun.begun _ _ _ _ c.in_ok-begun.ensures.begun (λ b. let way = is_some_of new.under_way b.0 in (new, way.0, get_set ports c.args.p port new here, way.1, started_but ports c.args.p new c.requires.started))
+    match_bool c.in_ok-begun.begun _ _ _ _ c.in_ok-begun.ensures.begun (λ b. let way = some_is new.under_way b.0 in (new, way.0, get_set ports c.args.p port new here, way.1, started_but ports c.args.p new c.requires.started))
     (λ b. (record { calls = calls; port = new; plan = plan; is = get_set ports c.args.p port new here; idle = b.0; all = b.1 }, started_idle ports c.args.p port new here c.requires.started b.0))
 
 pub returns-clause-done : goal.returns-clause-done
