@@ -3,7 +3,7 @@ use Rattle.std.specs.Prelude.{ℕ, ◌≡◌, ◌+◌, ◌*◌, ◌-◌, ◌/◌
 use Rattle.partial_model.specs.declared.history.Applied.{Applied}
 use Rattle.partial_model.specs.declared.history.Opening.{Opening}
 use Rattle.partial_model.specs.History.{initial_stamp, stamp_of}
-use Rattle.partial_words.specs.Layout.{Layout, IsLayout, pool_base, pool_counter, list_base, list_counter, total}
+use Rattle.partial_words.specs.Layout.{Layout, IsLayout, pool_base, pool_counter, list_base, list_counter, total, initial_record, first_free}
 use Rattle.partial_words.specs.Record.{prev_of, value_of}
 
 -- a record of a chain: its reference, which is its stamp, and its value
@@ -37,11 +37,11 @@ initial_record_word initial k = if k % 3 == 1 then slice_index initial (k / 3) e
 -- word w at opening
 abbrev pub opening_word : Layout → List ℕ → ℕ → ℕ
 opening_word s initial w =
-    if nat_lt w s.m then pool_base s + 3 * w
-    else if w == pool_counter s then pool_base s + 3 * s.m
+    if nat_lt w s.m then initial_record s w
+    else if w == pool_counter s then first_free s
     else if w == list_counter s then list_base s
     else if nat_lt w (pool_base s) then 0
-    else if nat_lt w (pool_base s + 3 * s.m) then initial_record_word initial (w - pool_base s)
+    else if nat_lt w (first_free s) then initial_record_word initial (w - pool_base s)
     else 0
 
 -- all words at opening

@@ -62,6 +62,23 @@ pool_end s = s.m + 4 + s.slots + s.lists + s.pool
 abbrev pub total : Layout → ℕ
 total s = s.m + 4 + s.slots + s.lists + s.pool
 
+-- the initial record of component j, how many words all of them have, and the first pool word behind them
+abbrev pub initial_record : Layout → ℕ → ℕ
+initial_record s j = pool_base s + 3 * j
+
+abbrev pub initial_words : Layout → ℕ
+initial_words s = 3 * s.m
+
+abbrev pub first_free : Layout → ℕ
+first_free s = pool_base s + 3 * s.m
+
+-- the greatest claims: of pool words a record with a view of all components, of list words a list in which every second slot stands
+abbrev pub greatest_record : Layout → ℕ
+greatest_record s = 4 + 2 * s.m
+
+abbrev pub greatest_list : Layout → ℕ
+greatest_list s = s.slots + 2
+
 -- what a word is for
 pub data Region : Type 0 where
   Components : Region

@@ -7,12 +7,22 @@ use Rattle.partial_words.specs.Record.{pair_words}
 abbrev pub list_block : List (ℕ × ℕ) → List ℕ
 list_block intervals = length intervals ∷ flat_map pair_words intervals
 
+-- how many words a list of n intervals has, and the words of interval k: its lowest and its highest slot
+abbrev pub list_size : ℕ → ℕ
+list_size n = 1 + 2 * n
+
+abbrev pub low_word : ℕ → ℕ → ℕ
+low_word at k = at + 1 + 2 * k
+
+abbrev pub high_word : ℕ → ℕ → ℕ
+high_word at k = at + 2 + 2 * k
+
 -- what is read at the reference of a list
 abbrev pub list_len : List ℕ → ℕ → ℕ
 list_len words at = slice_index words at
 
 abbrev pub interval : List ℕ → ℕ → ℕ → ℕ × ℕ
-interval words at k = (slice_index words (at + 1 + 2 * k), slice_index words (at + 2 + 2 * k))
+interval words at k = (slice_index words (low_word at k), slice_index words (high_word at k))
 
 -- what a list's writer gave, its readers read back
 pub record ReadsBackList (words : List ℕ) (at : ℕ) (intervals : List (ℕ × ℕ)) : Type 0 where

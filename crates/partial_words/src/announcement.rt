@@ -1,8 +1,16 @@
 //! The words of an announcement: the indices for which a scan asks.
 
-ghost use Rattle.std.specs.Prelude.{◌≡◌, ℕ, ◌+◌, ◌<◌, List, length, slice_index};
+ghost use Rattle.std.specs.Prelude.{◌≡◌, ℕ, ◌+◌, ◌^◌, ◌<◌, List, length, slice_index};
 ghost use Rattle.partial_words.specs.Record.{StandsAt};
-ghost use Rattle.partial_words.specs.Announcement.{announcement_block, announced_len, announced, ReadsBackAnnouncement};
+ghost use Rattle.partial_words.specs.Announcement.{announcement_block, announcement_size, announced_word, announced_len, announced, ReadsBackAnnouncement};
+
+/// How many words an announcement of that many indices has.
+pub fn announcement_size(indices: u64) -> u64
+    requires { indices < 2 ^ 32 }
+    ensures { result ≡ announcement_size indices }
+{
+    1 + indices
+}
 
 /// Word `k` of an announcement: how many indices there are, then the indices.
 pub fn announcement_block_word(indices: &[u32], k: usize) -> u64
@@ -25,7 +33,7 @@ pub fn announced_len(words: &[u64], at: usize) -> u64
 
 /// Index `k` of the announcement at that word, counted from 0.
 pub fn announced(words: &[u64], at: usize, k: usize) -> u64
-    requires { at + 1 + k < length words.now }
+    requires { announced_word at k < length words.now }
     ensures { result ≡ announced words.now at k }
 {
     words[at + 1 + k]

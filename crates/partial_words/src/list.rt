@@ -1,10 +1,18 @@
 //! The words of a list of vacated slots.
 
-ghost use Rattle.std.specs.Prelude.{◌≡◌, ℕ, ◌+◌, ◌*◌, ◌<◌, List, length, slice_index};
+ghost use Rattle.std.specs.Prelude.{◌≡◌, ℕ, ◌+◌, ◌*◌, ◌^◌, ◌<◌, List, length, slice_index};
 ghost use Rattle.partial_words.specs.Record.{StandsAt};
-ghost use Rattle.partial_words.specs.VacatedList.{list_block, list_len, interval, ReadsBackList};
+ghost use Rattle.partial_words.specs.VacatedList.{list_block, list_size, high_word, list_len, interval, ReadsBackList};
 
 use partial_intervals::Intervals;
+
+/// How many words a list of that many intervals has.
+pub fn list_size(intervals: u64) -> u64
+    requires { intervals < 2 ^ 32 }
+    ensures { result ≡ list_size intervals }
+{
+    1 + 2 * intervals
+}
 
 /// Word `k` of a list: how many intervals there are, then the lowest and the highest slot of each.
 pub fn list_block_word(intervals: &Intervals, k: usize) -> u64
@@ -32,7 +40,7 @@ pub fn list_len(words: &[u64], at: usize) -> u64
 
 /// Interval `k` of the list at that word, counted from 0: its lowest and its highest slot.
 pub fn interval(words: &[u64], at: usize, k: usize) -> (u64, u64)
-    requires { at + 2 + 2 * k < length words.now }
+    requires { high_word at k < length words.now }
     ensures { result ≡ interval words.now at k }
 {
     (words[at + 1 + 2 * k], words[at + 2 + 2 * k])

@@ -1,8 +1,54 @@
 //! The words of a record and of its view, and their readers.
 
-ghost use Rattle.std.specs.Prelude.{◌≡◌, ℕ, ◌+◌, ◌*◌, ◌<◌, List, length, slice_index};
+ghost use Rattle.std.specs.Prelude.{◌≡◌, ℕ, ◌+◌, ◌*◌, ◌^◌, ◌<◌, List, length, slice_index};
 ghost use Rattle.std.specs.List.{flat_map};
-ghost use Rattle.partial_words.specs.Record.{pair_words, record_block, StandsAt, ReadsBackRecord, prev_of, value_of, view_of, view_len, view_pair};
+ghost use Rattle.partial_words.specs.Record.{pair_words, record_block, plain_record_size, full_record_size, value_word, view_word, own_view, pair_value_word, StandsAt, ReadsBackRecord, prev_of, value_of, view_of, view_len, view_pair};
+
+// Which word of a record holds its value, which one the reference of its view, and where a view of its own begins.
+const VALUE: usize = 1;
+
+const VIEW: usize = 2;
+
+const OWN_VIEW: usize = 3;
+
+/// The word that holds the value of the record at that word.
+pub fn value_word(at: u64) -> u64
+    requires { own_view at < 2 ^ 64 }
+    ensures { result ≡ value_word at }
+{
+    at + VALUE as u64
+}
+
+/// The word that holds the reference of the view of the record at that word.
+pub fn view_word(at: u64) -> u64
+    requires { own_view at < 2 ^ 64 }
+    ensures { result ≡ view_word at }
+{
+    at + VIEW as u64
+}
+
+/// The reference that a view of its own has of the record at that word: it stands right behind.
+pub fn own_view(at: u64) -> u64
+    requires { own_view at < 2 ^ 64 }
+    ensures { result ≡ own_view at }
+{
+    at + OWN_VIEW as u64
+}
+
+/// How many words a record has that has no view of its own.
+pub fn plain_record_size() -> u64
+    ensures { result ≡ plain_record_size }
+{
+    OWN_VIEW as u64
+}
+
+/// How many words a record has with a view of its own of that many pairs.
+pub fn full_record_size(pairs: u64) -> u64
+    requires { pairs < 2 ^ 32 }
+    ensures { result ≡ full_record_size pairs }
+{
+    plain_record_size() + 1 + 2 * pairs
+}
 
 /// Word `k` of a record: the reference of the record before it, its value, the reference of its view
 /// (0 is the empty one), and with a view of its own the number of its pairs and the pairs.
@@ -38,18 +84,18 @@ pub fn prev_of(words: &[u64], at: usize) -> u64
 
 /// The value of the record at that word.
 pub fn value_of(words: &[u64], at: usize) -> u64
-    requires { at + 1 < length words.now }
+    requires { value_word at < length words.now }
     ensures { result ≡ value_of words.now at }
 {
-    words[at + 1]
+    words[at + VALUE]
 }
 
 /// The reference of the view of the record at that word, or 0 for the empty view.
 pub fn view_of(words: &[u64], at: usize) -> u64
-    requires { at + 2 < length words.now }
+    requires { view_word at < length words.now }
     ensures { result ≡ view_of words.now at }
 {
-    words[at + 2]
+    words[at + VIEW]
 }
 
 /// How many pairs the view at that word has.
@@ -62,7 +108,7 @@ pub fn view_len(words: &[u64], at: usize) -> u64
 
 /// Pair `k` of the view at that word: a component and its value.
 pub fn view_pair(words: &[u64], at: usize, k: usize) -> (u64, u64)
-    requires { at + 2 + 2 * k < length words.now }
+    requires { pair_value_word at k < length words.now }
     ensures { result ≡ view_pair words.now at k }
 {
     (words[at + 1 + 2 * k], words[at + 2 + 2 * k])

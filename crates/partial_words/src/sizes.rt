@@ -64,7 +64,7 @@ impl Model for Sizes {
 }
 
 impl Sizes {
-    ghost use Rattle.partial_words.specs.Layout.{IsLayout, component_word, slot_counter, list_head, pool_counter, list_counter, slot_word, list_base, list_end, pool_base, pool_end, total};
+    ghost use Rattle.partial_words.specs.Layout.{IsLayout, component_word, slot_counter, list_head, pool_counter, list_counter, slot_word, list_base, list_end, pool_base, pool_end, total, initial_record, first_free};
     ghost use Rattle.partial_words.specs.Chain.{opening_word};
     ghost use Rattle.partial_words.specs.SizeFault.{IsFirstFault};
 
@@ -207,6 +207,24 @@ impl Sizes {
         pool_base + self.pool
     }
 
+    /// The reference of the initial record of component `j`, which is its initial stamp.
+    pub fn initial_record(&self, j: u32) -> u32
+        requires { j < self.now.m }
+        ensures { result ≡ initial_record self.now j }
+    {
+        prove!(j < self.m);
+        let pool_base = self.pool_base();
+        pool_base + 3 * j
+    }
+
+    /// The first pool word behind the initial records.
+    pub fn first_free(&self) -> u32
+        ensures { result ≡ first_free self.now }
+    {
+        let pool_base = self.pool_base();
+        pool_base + 3 * self.m
+    }
+
     /// Word `w` of a memory that opens with these values.
     pub fn opening_word(&self, initial: &[u64], w: u32) -> u64
         requires values { length initial.now ≡ self.now.m }
@@ -215,15 +233,15 @@ impl Sizes {
     {
         let pool_base = self.pool_base();
         if w < self.m {
-            return u64::from(pool_base + 3 * w);
+            return u64::from(self.initial_record(w));
         }
         if w == self.pool_counter() {
-            return u64::from(pool_base + 3 * self.m);
+            return u64::from(self.first_free());
         }
         if w == self.list_counter() {
             return u64::from(self.list_base());
         }
-        if w < pool_base || w >= pool_base + 3 * self.m {
+        if w < pool_base || w >= self.first_free() {
             return 0;
         }
         let k = w - pool_base;
