@@ -4,3 +4,4 @@ pub mod Sound
 pub mod Possible
 pub mod Bounds
 pub mod Steps
+pub mod Behind
