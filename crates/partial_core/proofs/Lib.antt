@@ -12,4 +12,5 @@ pub mod Stored
 pub mod Exchange
 pub mod AllSteps
 pub mod Opened
-pub mod Ordered
+pub mod Added
+pub mod Ports

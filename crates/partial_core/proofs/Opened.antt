@@ -6,13 +6,17 @@ use Rattle.partial_model.specs.declared.history.Opening.{Opening}
 use Rattle.partial_model.specs.Notes.{Noted}
 use Rattle.partial_model.specs.Outcome.{places_written}
 use Rattle.partial_words.specs.Layout.{Layout}
-use Rattle.partial_machine.specs.Machine.{fresh, IsSound}
+use Rattle.partial_machine.specs.Machine.{fresh}
+use Rattle.partial_machine.specs.Sound.{IsSound}
 use Rattle.partial_machine.proofs.Indices.{no_index}
 use Rattle.partial_state.specs.Holdings.{Holding}
 use Rattle.partial_state.specs.LawfulWords.{LawfulWords}
 use Rattle.partial_state.specs.Effects.{idle_holdings}
 use Rattle.partial_state.proofs.OpeningLaw.{opening_is_lawful}
-use Rattle.partial_core.specs.Lawful.{IsKnown, holdings, notes_by, fresh_parts, OpensLawful}
+use Rattle.partial_core.specs.Known.{IsKnown, notes_by}
+use Rattle.partial_core.specs.Held.{holdings}
+use Rattle.partial_core.specs.Part.{fresh_parts}
+use Rattle.partial_core.specs.Lawful.{OpensLawful}
 
 -- a port that has made no call holds nothing
 hold_nothing : (z : Layout) (p n : ℕ) → holdings (fresh_parts z p n) ≡ idle_holdings p n
@@ -41,9 +45,12 @@ fresh_known z o words hs p (suc n) few = (
     notes = tt;
     shown = omega arith;
     sound = fresh_sound z p;
-    begun = tt;
+    begun = refl;
     since = omega arith;
-    earlier = λ rest. omega arith;
+    earlier = omega arith;
+    past = omega arith;
+    one = omega arith;
+    going = λ rest. refl;
     kept = tt;
   },
   fresh_known z o words hs (p + 1) n (omega (arith, few)),

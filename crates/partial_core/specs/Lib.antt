@@ -1,2 +1,7 @@
+pub mod Part
+pub mod Held
+pub mod Known
 pub mod Lawful
-pub mod Orderly
+pub mod Steps
+pub mod Ports
+pub mod Calls

@@ -1,8 +1,8 @@
 //! Laws about the state of a memory. The functions have no code: their contracts hold of the definitions
 //! by which the machine's own contracts are stated.
 
-ghost use Rattle.partial_core.specs.Lawful.{OpensLawful, StepsStayLawful};
-ghost use Rattle.partial_core.specs.Orderly.{LawfulIsOrderly, StepsAreOrderly};
+ghost use Rattle.partial_core.specs.Lawful.{OpensLawful};
+ghost use Rattle.partial_core.specs.Steps.{StepsStayLawful};
 
 /// A memory as it opens is lawful, with nothing applied and no call made.
 pub fn memory_opens_lawful()
@@ -15,15 +15,4 @@ pub fn memory_opens_lawful()
 /// that isn't refused, the port notes the call with its answer and its place, within the call.
 pub fn steps_stay_lawful()
     ensures { StepsStayLawful }
-{}
-
-/// The words of a lawful state are orderly, as the active set asks of the words that answer a getSet.
-pub fn lawful_words_are_orderly()
-    ensures { LawfulIsOrderly }
-{}
-
-/// Each step of a port leads from orderly words to such as come from them: a slot goes from EMPTY to an
-/// announcement and from that to VACATED alone, and no published block changes.
-pub fn steps_are_orderly()
-    ensures { StepsAreOrderly }
 {}
