@@ -96,7 +96,7 @@ exchange_adds z port words c old at x =
     let found = get_or words c.component 0 in
     record {
       entries = ap (λ (b : Bool). cond b (cond (found == old) (record { port = port; component = c.component; value = value_of words at; stamp = at } ∷ []) []) []) (is_below c.component z.m x.component)
-      ∙ ap (λ v. cond (found == old) (record { port = port; component = c.component; value = v; stamp = at } ∷ []) []) x.value;
+          ∙ ap (λ v. cond (found == old) (record { port = port; component = c.component; value = v; stamp = at } ∷ []) []) x.value;
       within = λ _. x.within;
     }
 

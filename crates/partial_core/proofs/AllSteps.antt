@@ -252,16 +252,16 @@ steps_stay_lawful z o words before x after log c step w m due = by m
     by (inl h) =
         let is : fresh_call c x ≡ started c x = started_fresh c x h.begun in
         leads_on z o words before x after log c step
-            (subst (λ (v : Part). Lawful z o words (before ++ v ∷ after) log) is (begin_lawful z o words before x after log w c h))
-            (ap core_of is)
-            (ap holding_of (sym is) ∙ begin_holds z o words before x after log w c h)
-            (ap port_of (sym is) ∙ ap (λ (s : CoreState). s.port) h.like ∙ port_here z o words before x after log w)
-            due
+        (subst (λ (v : Part). Lawful z o words (before ++ v ∷ after) log) is (begin_lawful z o words before x after log w c h))
+        (ap core_of is)
+        (ap holding_of (sym is) ∙ begin_holds z o words before x after log w c h)
+        (ap port_of (sym is) ∙ ap (λ (s : CoreState). s.port) h.like ∙ port_here z o words before x after log w)
+        due
     by (inr l) =
         let is : x ≡ started c x = started_same c x l.going in
         leads_on z o words before x after log c step
-            (subst (λ (v : Part). Lawful z o words (before ++ v ∷ after) log) is w)
-            (l.is ∙ ap core_of is)
-            (ap holding_of (sym is))
-            (ap port_of (sym is))
-            due
+        (subst (λ (v : Part). Lawful z o words (before ++ v ∷ after) log) is w)
+        (l.is ∙ ap core_of is)
+        (ap holding_of (sym is))
+        (ap port_of (sym is))
+        due

@@ -14,3 +14,5 @@ pub mod AllSteps
 pub mod Opened
 pub mod Added
 pub mod Ports
+pub mod WholeCalls
+pub mod Ordered

@@ -79,8 +79,8 @@ is_part p (x ∷ xs) = elim (eqb_tells (port_of x) p) [
   | inr other ↦ elim (is_part p xs) [
     | inl c ↦ let k = c.0 in let within = c.1 in inl (suc k, omega (arith, within), c.2)
     | inr none ↦ inr (ap (λ (b : Bool). cond b x.notes [] ++ notes_by p xs) other.0 ∙ none)
-    ]
   ]
+]
 
 -- where a port has no entry
 taken : (k : ℕ) (l : List ℕ) (b : Bool) → b ≡ true → cond b (k ∷ l) l ≡ [] → ⊥

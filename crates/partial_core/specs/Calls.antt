@@ -6,8 +6,9 @@ use Rattle.partial_model.specs.declared.history.Applied.{Applied}
 use Rattle.partial_model.specs.declared.history.Opening.{Opening}
 use Rattle.partial_model.specs.Notes.{Noted}
 use Rattle.partial_words.specs.Layout.{Layout, IsLayout}
+use Rattle.partial_machine.specs.declared.stage.Reply.{Reply}
 use Rattle.partial_machine.specs.declared.stage.Reply.TheVariants as reply
-use Rattle.partial_machine.specs.declared.stage.Stage.TheVariants.{Idle, ScanBegun}
+use Rattle.partial_machine.specs.declared.stage.Stage.TheVariants.{Idle, ReadBegun, ScanBegun}
 use Rattle.partial_machine.specs.Machine.{CoreState, at_stage, advance, fresh, step_of, reply_of}
 use Rattle.partial_machine.specs.Calls.{is_at_rest, makes_steps, call_of, refusal_of, begun_of, begin_scan, IsServed}
 use Rattle.partial_machine.specs.Sound.{IsSound}
@@ -40,7 +41,8 @@ pub record Made (z : Layout) (o : Opening) (b : CoreState) (x : Part) (c : CoreS
   pub sound : IsSound c
   -- the answers that were kept lead the machine from the one to the other
   pub begun : y.begun ≡ b
-  pub sound' : IsSound b
+  pub begun_sizes : b.sizes ≡ z
+  pub begun_sound : IsSound b
   pub some : 0 < length y.kept
   pub run : Run b (answers_of y.kept) c
   -- all that had been seen before lies before the first of them, and more is seen now
@@ -69,7 +71,7 @@ FurtherStepsMakeCalls = (z : Layout) (o : Opening) (log entries : List Applied) 
 -- how many steps a call has made, by its kept answers
 pub record MakesItsSteps (z : Layout) (b c : CoreState) (y : Part) : Type 0 where
   pub few : (call : Call) → call_of b ≡ Some call → length y.kept + steps_left c ≤ most_steps z call
-  pub read : (v stamp : ℕ) → reply_of c ≡ Some (reply.Read v stamp) → length y.kept ≡ 2
+  pub read : (j : ℕ) (r : Reply) → b.stage ≡ ReadBegun j → reply_of c ≡ Some r → length y.kept ≡ 2
   pub scan : (n : ℕ) (borrowed : Option ℕ) → b.stage ≡ ScanBegun → reply_of c ≡ Some (reply.Scanned n borrowed) →
       AreOfScan (length b.asked) n (pairs_loaded b (answers_of y.kept)) (length y.kept) borrowed
 

@@ -5,3 +5,4 @@ pub mod Lawful
 pub mod Steps
 pub mod Ports
 pub mod Calls
+pub mod Orderly

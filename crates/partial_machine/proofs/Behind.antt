@@ -158,11 +158,13 @@ module _ (s : CoreState) (x : ℕ) (w : IsSound s) where
       by true within = plain s x q Joining e refl refl refl refl
       by false past = record {
         ahead = refl;
-        refused_by = λ cause is. let same : refused.SlotsSpent ≡ cause = cc in subst (λ (f : Refused). IsRefusedBy s x f × (¬ IsMarkedFor s f)) same
-            (record {
-              step = ap (step_at s) e ∙ ap (join_step s.join.sizes s.join.announcement) at ∙ ap (λ (y : Layout). Some (Add (slot_counter y) 1)) h.2;
-              past = subst (λ (y : Layout). y.slots ≤ x) h.2 (ltb-false x s.join.sizes.slots past);
-            }, λ marked. false≢true (sym h.1 ∙ marked));
+        refused_by = λ cause is. let same : refused.SlotsSpent ≡ cause = cc in subst (λ (f : Refused). IsRefusedBy s x f × (¬ IsMarkedFor s f)) same (
+          record {
+            step = ap (step_at s) e ∙ ap (join_step s.join.sizes s.join.announcement) at ∙ ap (λ (y : Layout). Some (Add (slot_counter y) 1)) h.2;
+            past = subst (λ (y : Layout). y.slots ≤ x) h.2 (ltb-false x s.join.sizes.slots past);
+          },
+          λ marked. false≢true (sym h.1 ∙ marked),
+        );
         pool = refl;
         slots = refl;
       }
@@ -253,7 +255,7 @@ module _ (s : CoreState) (x : ℕ) (layout : IsLayout s.sizes) (w : IsSound s) w
   getting_lists c old e = elim (marks_lists s.get_set.stage (getting s) x) [
     | inl same ↦ same_lists s x (with_getting s (finding.advance (getting s) x)) same
     | inr m ↦ ((λ _. m.3), (λ _ _. past m.0 m.1 m.2))
-    ]
+  ]
     where
       past : (words : ℕ) → s.get_set.stage ≡ set.Claim words → list_end s.get_set.sizes < x + words → ClaimsPastLists s x
       past words at over =

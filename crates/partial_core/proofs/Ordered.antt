@@ -1,0 +1,285 @@
+-- Lawful words are orderly, and the due step of a port keeps them so.
+use Rattle.std.proofs.Common.{ℕ, ◌≡◌, ◌≢◌, ◌+◌, ◌<◌, ◌≤◌, ◌==◌, ◌⊎◌, ◌++◌, Bool, true, false, cond, Option, Some, None, IfSome, IsSome, MatchBool, List, [], ◌∷◌, length, get_or, inl, inr, refl, sym, ap, subst, ◌∙◌, arith, get_or-set_other, get_or-set_same, length-set}
+use Rattle.std.specs.Prelude.{IsTrue, nat_lt, slice_index}
+use Rattle.std.proofs.lemmas.Bool.{ltb-true}
+use Rattle.std.proofs.lemmas.Bool.Decides.{eqb_tells}
+use Rattle.partial_model.specs.declared.history.Applied.{Applied}
+use Rattle.partial_model.specs.declared.history.Opening.{Opening}
+use Rattle.partial_words.specs.declared.step.Step.{Step}
+use Rattle.partial_words.specs.declared.step.Step.TheVariants.{Load, Store, Exchange, Add}
+use Rattle.partial_words.specs.Layout.{Layout, slot_counter, list_head, pool_counter, list_counter, slot_word, list_base}
+use Rattle.partial_words.specs.Record.{StandsAt}
+use Rattle.partial_words.specs.Step.{word_of, words_after}
+use Rattle.partial_words.specs.Announcement.{announcement_block}
+use Rattle.partial_words.specs.VacatedList.{list_block}
+use Rattle.partial_words.proofs.BlockLemmas.{list_reads_back}
+use Rattle.partial_words.proofs.RecordLemmas.{length-pairs}
+use Rattle.partial_active.specs.Orderly.{Orderly, ComesFrom, IsAnnouncement, IsVacatedList, IsSlotOf, IsHeadOf, slot_at, head_at}
+use Rattle.partial_state.specs.Views.{IsAnnounced, IsPublishedList, IsHead, IsApartFrom, AreApart}
+use Rattle.partial_intervals.specs.Intervals.{Ranges}
+use Rattle.partial_state.specs.Holdings.Space.{Pool, Lists}
+use Rattle.partial_state.specs.Holdings.{Holding, Own, Space, first_of, unpublished, block_of}
+use Rattle.partial_state.specs.LawfulWords.{LawfulWords, IsOwn, IsTied, IsClaim}
+use Rattle.partial_state.specs.Loads.{IsSlotAnswer}
+use Rattle.partial_state.proofs.LoadLaw.{loads_are_true}
+use Rattle.partial_state.proofs.HoldingLemmas.{if_some_at, unpublished_all}
+use Rattle.partial_state.proofs.Quiet.{lists_bound}
+use Rattle.partial_knowledge.proofs.Joined.{same_named}
+use Rattle.partial_model.specs.Notes.{seen_by}
+use Rattle.partial_active.specs.Join.{join_step, fits_join}
+use Rattle.partial_active.specs.declared.join.JoinStage.{JoinStage}
+use Rattle.partial_active.specs.declared.join.JoinStage.TheVariants.{Claiming, Storing, Joined as JoinedIn, Spent}
+use Rattle.partial_active.specs.GetSet as finding
+use Rattle.partial_active.specs.GetSetAnswers.{goes_at}
+use Rattle.partial_active.specs.declared.get_set.Stage.{Stage as SetStage}
+use Rattle.partial_active.specs.declared.get_set.Stage.TheVariants.{Head, ListLen, ListLow, ListHigh, Counter, Slot, Len as NamedLen, Index as NamedIndex, Claim, Write, Publish, Done as SetDone}
+use Rattle.partial_machine.specs.declared.stage.Stage.{Stage}
+use Rattle.partial_machine.specs.declared.stage.Stage.TheVariants.{Idle, ReadBegun, LoadingValue, UpdateBegun, GettingSet, Viewing, ClaimingRecord, StoringRecord, Exchanging, ScanBegun, StoringAnnouncement, Joining, Scanning, Leaving, Finished}
+use Rattle.partial_machine.specs.Machine.{CoreState, getting, record_size, record_words, step_at, step_of}
+use Rattle.partial_machine.specs.Sound.{is_sound_at, AreComponents}
+use Rattle.partial_core.specs.Part.{HasBegun, IsLedTo, Part, core_of}
+use Rattle.partial_core.specs.Lawful.{Lawful}
+use Rattle.partial_core.specs.Held.{holding_of, holdings, joined_since, own_list, own_at, slot_claimed}
+use Rattle.partial_machine.specs.Calls.{is_begun, is_at_rest, begun_like}
+use Rattle.partial_core.proofs.Going.{view_loads}
+use Rattle.partial_core.proofs.Steps.{holding_in, sizes_here, sound_at, memory_here, memory_at}
+use Rattle.partial_core.proofs.StoredFacts.{length_record}
+use Rattle.partial_core.proofs.Leaves.{leave_due}
+use Rattle.partial_core.proofs.AllSteps.{fresh_call, begin_lawful}
+use Rattle.partial_core.proofs.Parts.{all_at}
+use Rattle.partial_core.specs.Orderly.{LawfulIsOrderly, StepsAreOrderly}
+
+module _ (z : Layout) (o : Opening) (words : List ℕ) (hs : List Holding) (log : List Applied) (w : LawfulWords z o words hs log) where
+  -- what stands in a slot now
+  slot_now : (l : ℕ) → l < z.slots → IsSlotAnswer z words (unpublished hs) l (get_or words (slot_word z l) 0)
+  slot_now l below = (loads_are_true z o words hs log (slot_word z l) w (omega (arith, below)) (λ far. absurd (omega (arith, below, far)))).slot l below refl
+
+  slot_of : (l a : ℕ) → IsSlotAnswer z words (unpublished hs) l a → IsSlotOf z words a
+  slot_of l a (inl empty) = inl empty
+  slot_of l a (inr (inl vacated)) = inr (inl vacated.0)
+  slot_of l a (inr (inr there)) = inr (inr (there.0, there.1.whole))
+
+  head_of : (a : ℕ) → IsHead z words (unpublished hs) a → IsHeadOf z words a
+  head_of a (inl none) = inl none
+  head_of a (inr list) = inr (list.0, list.1.whole)
+
+  pub orderly_words : Orderly z words
+  orderly_words = record {
+    slots = λ l below. slot_of l (get_or words (slot_word z l) 0) (slot_now l below);
+    unclaimed = w.unclaimed;
+    head = head_of (get_or words (list_head z) 0) w.head;
+    lists_from = w.lists_low;
+    lists_to = lists_bound z o words hs log w;
+  }
+
+pub lawful_is_orderly : LawfulIsOrderly
+lawful_is_orderly z o words parts log w = orderly_words z o words (holdings parts) log w.memory
+
+-- What a step touches: nothing, a word before the slots, the next word of a block of its port's own, or a slot
+-- that is EMPTY or becomes VACATED.
+abbrev pub Touches : Layout → List ℕ → Option Own → Step → Type 0
+Touches z words own step =
+    ((n : ℕ) × (step ≡ Load n))
+    ⊎ (word_of step < slot_word z 0)
+    ⊎ ((b : Own) × (v : ℕ) × (own ≡ Some b) × (b.stored < length b.words) × (step ≡ Store (b.at + b.stored) v))
+    ⊎ ((l v : ℕ) × (l < z.slots) × (step ≡ Store (slot_word z l) v) × ((get_or words (slot_word z l) 0 ≡ 0) ⊎ (v ≡ 1)))
+
+-- a word that a step isn't about stays
+elsewhere : (words : List ℕ) (step : Step) (n : ℕ) → n ≢ word_of step → get_or (words_after words step) n 0 ≡ get_or words n 0
+elsewhere words (Load m) n other = refl
+elsewhere words (Store m v) n other = get_or-set_other words m n v 0 other
+elsewhere words (Exchange m old new) n other = get_or-set_other words m n (cond (get_or words m 0 == old) new (get_or words m 0)) 0 other
+elsewhere words (Add m k) n other = get_or-set_other words m n _ 0 other
+
+same_long : (words : List ℕ) (step : Step) → length (words_after words step) ≡ length words
+same_long words (Load m) = refl
+same_long words (Store m v) = length-set words m v
+same_long words (Exchange m old new) = length-set words m (cond (get_or words m 0 == old) new (get_or words m 0))
+same_long words (Add m k) = length-set words m _
+
+-- a block that the step doesn't touch stands yet
+stands_yet : (words block : List ℕ) (at : ℕ) (step : Step) → ((k : ℕ) → k < length block → at + k ≢ word_of step) → StandsAt words at block → StandsAt (words_after words step) at block
+stands_yet words block at step other stands = λ k lt. let s = stands k lt in let inside = s.0 in let long = same_long words step in (omega (arith, inside, long), elsewhere words step (at + k) (other k lt) ∙ s.1)
+
+module _ (z : Layout) (o : Opening) (words : List ℕ) (before : List Holding) (h : Holding) (after : List Holding) (log : List Applied) (w : LawfulWords z o words (before ++ h ∷ after) log) where
+  -- a word of one's own block lies among the list words or the pool's
+  own_far : (b : Own) → h.own ≡ Some b → (list_base z ≤ b.at) × ((at size : ℕ) → IsApartFrom (unpublished (before ++ h ∷ after)) (record { at = at; size = size }) → AreApart (record { at = at; size = size }) (block_of b))
+  own_far b is =
+      let tied = all_at (IsTied z words) before h after w.tied in
+      let own : IsOwn z words b = if_some_at (IsOwn z words) h.own b is tied.own in
+      (far b.space own.above, λ at size apart. if_some_at (λ (c : Own). AreApart (record { at = at; size = size }) (block_of c)) h.own b is (all_at (λ (g : Holding). IfSome g.own (λ c. AreApart (record { at = at; size = size }) (block_of c))) before h after (unpublished_all (AreApart (record { at = at; size = size })) (before ++ h ∷ after) apart)))
+    where
+      far : (s : Space) → first_of z s ≤ b.at → list_base z ≤ b.at
+      far Pool above = omega (arith, above)
+      far Lists above = above
+
+  abbrev hs : List Holding
+  hs = before ++ h ∷ after
+
+  -- what the announcement in a slot tells: a published block of the pool
+  announced_in : (l : ℕ) (named : List ℕ) → l < z.slots → IsAnnouncement z words (slot_at z words l) named → (indices : List ℕ) × (length indices ≡ length named) × IsAnnounced z words (unpublished hs) (slot_at z words l) indices
+  announced_in l named below there = by_answer (slot_now z o words hs log w l below)
+    where
+      by_answer : IsSlotAnswer z words (unpublished hs) l (slot_at z words l) → (indices : List ℕ) × (length indices ≡ length named) × IsAnnounced z words (unpublished hs) (slot_at z words l) indices
+      by_answer (inl empty) = let from = there.from in absurd (omega (arith, from, empty))
+      by_answer (inr (inl vacated)) = let from = there.from in let is = vacated.0 in absurd (omega (arith, from, is))
+      by_answer (inr (inr a)) = (a.0, (same_named words (slot_at z words l) a.0 named a.1.whole.stands there.stands).0, a.1)
+
+  -- and the list at the list head
+  listed_at : (list : Ranges) → IsVacatedList z words (head_at z words) list → (other : Ranges) × (length (list_block other) ≡ length (list_block list)) × IsPublishedList z words (unpublished hs) (head_at z words) other
+  listed_at list there = by_head w.head
+    where
+      by_head : IsHead z words (unpublished hs) (head_at z words) → (other : Ranges) × (length (list_block other) ≡ length (list_block list)) × IsPublishedList z words (unpublished hs) (head_at z words) other
+      by_head (inl none) = let from = there.from in absurd (omega (arith, from, none))
+      by_head (inr a) =
+          let mine = (list_reads_back words (head_at z words) list there.stands).count in
+          let theirs = (list_reads_back words (head_at z words) a.0 a.1.whole.stands).count in
+          let one = length-pairs a.0 in
+          let two = length-pairs list in
+          (a.0, omega (arith, mine, theirs, one, two), a.1)
+
+  -- a word of a published block isn't the one that is stored in the port's own
+  apart_word : (at size k : ℕ) (b : Own) → AreApart (record { at = at; size = size }) (block_of b) → k < size → b.stored < length b.words → at + k ≢ b.at + b.stored
+  apart_word at size k b (inl front) lt less same = omega (arith, front, lt, less, same)
+  apart_word at size k b (inr behind) lt less same = omega (arith, behind, lt, less, same)
+
+  pub comes_from : (step : Step) → Touches z words h.own step → ComesFrom z words (words_after words step)
+  comes_from step (inl load) = subst (λ (s : Step). ComesFrom z words (words_after words s)) (sym load.1) (record { slots = λ l below. inl refl; announcements = λ l named below there. there.stands; lists = λ list there. there.stands })
+  comes_from step (inr (inl low)) = record {
+    slots = λ l below. inl (elsewhere words step (slot_word z l) (λ same. omega (arith, low, same)));
+    announcements = λ l named below there. stands_yet words (announcement_block named) (slot_at z words l) step (λ k lt same. let from = there.from in omega (arith, low, from, same)) there.stands;
+    lists = λ list there. stands_yet words (list_block list) (head_at z words) step (λ k lt same. let from = there.from in omega (arith, low, from, same)) there.stands;
+  }
+  comes_from step (inr (inr (inl own))) =
+      let b = own.0 in
+      let far = own_far b own.2 in
+      let from = far.0 in
+      let less = own.3 in
+      let is : word_of step ≡ b.at + b.stored = ap word_of own.4 in
+      record {
+        slots = λ l below. inl (elsewhere words step (slot_word z l) (λ same. omega (arith, from, is, below, same)));
+        announcements = λ l named below there.
+            let a = announced_in l named below there in
+            let size = a.1 in
+            stands_yet words (announcement_block named) (slot_at z words l) step (λ k lt same. apart_word (slot_at z words l) (1 + length a.0) k b (far.1 (slot_at z words l) (1 + length a.0) a.2.apart) (omega (arith, lt, size)) less (same ∙ is)) there.stands;
+        lists = λ list there.
+            let a = listed_at list there in
+            let size = a.1 in
+            stands_yet words (list_block list) (head_at z words) step (λ k lt same. apart_word (head_at z words) (length (list_block a.0)) k b (far.1 (head_at z words) (length (list_block a.0)) a.2.apart) (omega (arith, lt, size)) less (same ∙ is)) there.stands;
+      }
+  comes_from step (inr (inr (inr slot))) =
+      let n = slot.0 in
+      let v = slot.1 in
+      let inside = slot.2 in
+      let is : word_of step ≡ slot_word z n = ap word_of slot.3 in
+      let count = w.count in
+      record {
+        slots = λ l below. elim (eqb_tells l n) [
+          | inl same ↦ elim slot.4 [
+            | inl empty ↦ inr (inl (ap (λ m. get_or words (slot_word z m) 0) same.1 ∙ empty))
+            | inr one ↦ inr (inr (ap (λ m. get_or (words_after words step) (slot_word z m) 0) same.1 ∙ ap (λ (s : Step). get_or (words_after words s) (slot_word z n) 0) slot.3 ∙ get_or-set_same words (slot_word z n) v 0 (omega (arith, inside, count)) ∙ one))
+          ]
+          | inr other ↦ let differs = other.1 in inl (elsewhere words step (slot_word z l) (λ same. differs (omega (arith, is, same))))
+        ];
+        announcements = λ l named below there. stands_yet words (announcement_block named) (slot_at z words l) step (λ k lt same. let from = there.from in omega (arith, is, inside, from, same)) there.stands;
+        lists = λ list there. stands_yet words (list_block list) (head_at z words) step (λ k lt same. let from = there.from in omega (arith, is, inside, from, same)) there.stands;
+      }
+
+-- two names of a step that touches something
+touches_same : (z : Layout) (words : List ℕ) (own : Option Own) (a b : Step) → Some a ≡ Some b → Touches z words own a → Touches z words own b
+touches_same z words own a b e w = let is : a ≡ b = cc in subst (Touches z words own) is w
+
+-- what a getSet's step touches
+set_touches : (z y : Layout) (words : List ℕ) (head : ℕ) (st : SetStage) (p : finding.Pair) (step : Step) → y ≡ z → goes_at st p → finding.step_at y head st ≡ Some step → Touches z words (own_list p.1.next st) step
+set_touches z y words head Head p step e goes due = touches_same z words None (Load (list_head y)) step due (inl (list_head y, refl))
+set_touches z y words head (ListLen at) p step e goes due = touches_same z words None (Load at) step due (inl (at, refl))
+set_touches z y words head (ListLow at left) p step e goes due = touches_same z words None (Load at) step due (inl (at, refl))
+set_touches z y words head (ListHigh at left lo) p step e goes due = touches_same z words None (Load at) step due (inl (at, refl))
+set_touches z y words head Counter p step e goes due = touches_same z words None (Load (slot_counter y)) step due (inl (slot_counter y, refl))
+set_touches z y words head (Slot slot) p step e goes due = touches_same z words None (Load (slot_word y slot)) step due (inl (slot_word y slot, refl))
+set_touches z y words head (NamedLen slot at) p step e goes due = touches_same z words None (Load at) step due (inl (at, refl))
+set_touches z y words head (NamedIndex slot at left) p step e goes due = touches_same z words None (Load at) step due (inl (at, refl))
+set_touches z y words head (Claim count) p step e goes due = touches_same z words None (Add (list_counter y) count) step due (inr (inl (let m = ap (λ (l : Layout). l.m) e in omega (arith, m))))
+set_touches z y words head (Write at k count word) p step e goes due =
+    let next : Option Own = Some (record { space = Lists; at = at; words = list_block p.1.next; stored = k }) in
+    let size = length-pairs p.1.next in
+    let total_is = goes.0.count in
+    let less = goes.1 in
+    touches_same z words next (Store (at + k) word) step due (inr (inr (inl (record { space = Lists; at = at; words = list_block p.1.next; stored = k }, word, refl, omega (arith, size, total_is, less), refl))))
+set_touches z y words head (Publish at) p step e goes due = touches_same z words (own_list p.1.next (Publish at)) (Exchange (list_head y) head at) step due (inr (inl (let m = ap (λ (l : Layout). l.m) e in omega (arith, m))))
+set_touches z y words head SetDone p step e goes due = let bad : None ≡ Some step = due in absurd cc
+
+module _ (z : Layout) (o : Opening) (words : List ℕ) (before : List Part) (x : Part) (after : List Part) (log : List Applied) (w : Lawful z o words (before ++ x ∷ after) log) where
+  abbrev s : CoreState
+  s = core_of x
+
+  sizes : s.sizes ≡ z
+  sizes = sizes_here z o words before x after log w
+
+  of_size : (P : Layout → Type 0) → P s.sizes → P z
+  of_size P p = subst P sizes p
+
+  -- a join's step touches a counter, or the slot that it has claimed
+  join_touches : (step : Step) (i : JoinStage) → s.stage ≡ Joining → s.join.stage ≡ i → step_at s Joining ≡ Some step → Touches z words (own_at s Joining) step
+  join_touches step i e at due = by_stage i at
+    where
+      sound : is_sound_at (core_of x) Joining
+      sound = sound_at z o words before x after log w Joining e
+
+      join_sizes : (core_of x).join.sizes ≡ z
+      join_sizes = sound.2 ∙ sizes_here z o words before x after log w
+
+      by_stage : (i : JoinStage) → s.join.stage ≡ i → Touches z words (own_at s Joining) step
+      by_stage Claiming is =
+          let due' : Some (Add (slot_counter s.join.sizes) 1) ≡ Some step = sym (ap (λ (j : JoinStage). join_step s.join.sizes s.join.announcement j) is) ∙ due in
+          touches_same z words (own_at s Joining) (Add (slot_counter s.join.sizes) 1) step due' (inr (inl (let m = ap (λ (l : Layout). l.m) join_sizes in omega (arith, m))))
+      by_stage (Storing slot) is =
+          let due' : Some (Store (slot_word s.join.sizes slot) s.join.announcement) ≡ Some step = sym (ap (λ (j : JoinStage). join_step s.join.sizes s.join.announcement j) is) ∙ due in
+          let fits : IsTrue (nat_lt slot s.join.sizes.slots) = subst (λ (j : JoinStage). IsTrue (fits_join s.join.sizes j)) is sound.5 in
+          let below : slot < z.slots = subst (λ (y : Layout). slot < y.slots) join_sizes (ltb-true slot s.join.sizes.slots fits) in
+          let memory = memory_at z o words before x after log w Joining e in
+          let held = holding_in s Joining (joined_since x) in
+          let claim : IfSome held.claimed (IsClaim z words (holdings before ++ held ∷ holdings after) log) = all_at (λ (g : Holding). IfSome g.claimed (IsClaim z words (holdings before ++ held ∷ holdings after) log)) (holdings before) held (holdings after) memory.claims in
+          let mine : IsClaim z words (holdings before ++ held ∷ holdings after) log (record { slot = slot; joined = None }) = if_some_at (IsClaim z words (holdings before ++ held ∷ holdings after) log) held.claimed (record { slot = slot; joined = None }) (ap slot_claimed is) claim in
+          touches_same z words (own_at s Joining) (Store (slot_word s.join.sizes slot) s.join.announcement) step due' (inr (inr (inr (slot, s.join.announcement, below, ap (λ (y : Layout). Store (slot_word y slot) s.join.announcement) join_sizes, inl mine.holds))))
+      by_stage (JoinedIn slot) is = let bad : None ≡ Some step = sym (ap (λ (j : JoinStage). join_step s.join.sizes s.join.announcement j) is) ∙ due in absurd cc
+      by_stage Spent is = let bad : None ≡ Some step = sym (ap (λ (j : JoinStage). join_step s.join.sizes s.join.announcement j) is) ∙ due in absurd cc
+
+  touches_at : (t : Stage) (step : Step) → s.stage ≡ t → step_at s t ≡ Some step → Touches z words (own_at s t) step
+  touches_at Idle step e due = let bad : None ≡ Some step = due in absurd cc
+  touches_at (ReadBegun j) step e due = touches_same z words None (Load j) step due (inl (j, refl))
+  touches_at (LoadingValue stamp) step e due = touches_same z words None (Load (stamp + 1)) step due (inl (stamp + 1, refl))
+  touches_at (UpdateBegun c) step e due = touches_same z words None (Load c.component) step due (inl (c.component, refl))
+  touches_at (GettingSet c old) step e due = let sound = sound_at z o words before x after log w (GettingSet c old) e in set_touches z s.get_set.sizes words s.get_set.head s.get_set.stage (getting s) step (sound.2 ∙ sizes) sound.1.stage due
+  touches_at (Viewing c old) step e due = let load = view_loads s.embedded.sizes s.found.indices s.rows.last s.embedded.stage (subst (λ (f : Option Step). IsSome f) (sym due) refl) in touches_same z words None (Load load.0) step (sym load.1 ∙ due) (inl (load.0, refl))
+  touches_at (ClaimingRecord c old) step e due = touches_same z words None (Add (pool_counter s.sizes) (record_size s)) step due (inr (inl (let m = ap (λ (l : Layout). l.m) sizes in omega (arith, m))))
+  touches_at (StoringRecord c old at k) step e due =
+      let sound = sound_at z o words before x after log w (StoringRecord c old at k) e in
+      let less = sound.2 in
+      let size = length_record s c old at in
+      touches_same z words (own_at s (StoringRecord c old at k)) (Store (at + k) (slice_index (record_words s c old at) k)) step due (inr (inr (inl (record { space = Pool; at = at; words = record_words s c old at; stored = k }, slice_index (record_words s c old at) k, refl, omega (arith, size, less), refl))))
+  touches_at (Exchanging c old at) step e due =
+      let below : c.component < z.m = of_size (λ (y : Layout). c.component < y.m) (sound_at z o words before x after log w (Exchanging c old at) e).0.0 in
+      touches_same z words (own_at s (Exchanging c old at)) (Exchange c.component old at) step due (inr (inl (omega (arith, below))))
+  touches_at ScanBegun step e due = touches_same z words None (Add (pool_counter s.sizes) (1 + length s.asked)) step due (inr (inl (let m = ap (λ (l : Layout). l.m) sizes in omega (arith, m))))
+  touches_at (StoringAnnouncement at k) step e due =
+      let sound = sound_at z o words before x after log w (StoringAnnouncement at k) e in
+      let less = sound.3 in
+      touches_same z words (own_at s (StoringAnnouncement at k)) (Store (at + k) (slice_index (announcement_block s.asked) k)) step due (inr (inr (inl (record { space = Pool; at = at; words = announcement_block s.asked; stored = k }, slice_index (announcement_block s.asked) k, refl, omega (arith, less), refl))))
+  touches_at Joining step e due = join_touches step s.join.stage e refl due
+  touches_at Scanning step e due = let load = view_loads s.embedded.sizes s.asked s.rows.last s.embedded.stage (subst (λ (f : Option Step). IsSome f) (sym due) refl) in touches_same z words None (Load load.0) step (sym load.1 ∙ due) (inl (load.0, refl))
+  touches_at Leaving step e due =
+      let sound = sound_at z o words before x after log w Leaving e in
+      let below : s.leave.slot < z.slots = of_size (λ (y : Layout). s.leave.slot < y.slots) sound.1 in
+      touches_same z words None (Store (slot_word z s.leave.slot) 1) step (sym (leave_due z o words before x after log w e) ∙ due) (inr (inr (inr (s.leave.slot, 1, below, refl, inr refl))))
+  touches_at (Finished r) step e due = let bad : None ≡ Some step = due in absurd cc
+
+  core_orderly : (step : Step) → step_of s ≡ Some step → ComesFrom z words (words_after words step)
+  core_orderly step due = comes_from z o words (holdings before) (holding_of x) (holdings after) log (memory_here z o words before x after log w) step (touches_at s.stage step refl due)
+
+pub steps_are_orderly : StepsAreOrderly
+steps_are_orderly z o words before x after log c step w m due = by m
+  where
+    by : HasBegun c x ⊎ IsLedTo c x → ComesFrom z words (words_after words step)
+    by (inl h) = core_orderly z o words before (fresh_call c x) after log (begin_lawful z o words before x after log w c h) step due
+    by (inr l) = core_orderly z o words before x after log w step (ap step_of (sym l.is) ∙ due)
