@@ -10,4 +10,5 @@ pub mod Plans
 pub mod Told
 pub mod Replays
 pub mod Alone
+pub mod StepsOf
 mod ScanSteps

@@ -1,5 +1,5 @@
 -- The answered scans of a replay make their steps.
-use Rattle.std.proofs.Common.{ℕ, zero, suc, ◌≡◌, ◌<◌, Bool, cond, List, [], ◌∷◌, length, map, take, get_or, Option, Some, None, refl, sym, ◌∙◌, ap, subst, inl, inr, arith}
+use Rattle.std.proofs.Common.{ℕ, zero, suc, ◌≡◌, ◌<◌, ◌++◌, Bool, cond, List, [], ◌∷◌, length, map, take, get_or, Option, Some, None, refl, sym, ◌∙◌, ap, subst, inl, inr, arith}
 use Rattle.std.specs.List.{AllByRecursion}
 use Rattle.std.specs.Option.{option_map}
 use Rattle.std.proofs.lemmas.Bool.Decides.{eqb_tells}
@@ -24,12 +24,13 @@ use Rattle.partial_core.specs.Lawful.{answer_for}
 use Rattle.partial_core.proofs.AllSteps.{begun_sound}
 use Rattle.partial_core.proofs.Opened.{fresh_sound}
 use Rattle.partial_text.specs.PlanText.{PlanView, IsPlan, IsCall}
-use Rattle.partial_replay.specs.Trace.{Moment}
+use Rattle.partial_replay.specs.Trace.{Moment, moments_by}
 use Rattle.partial_replay.specs.CallSteps.{begun_of, Makes, IsCallOf, HasSteps, AreStepsOf}
 use Rattle.partial_replay.specs.Listed.{calls_by}
 use Rattle.partial_replay.specs.PortState.{IsServed}
-use Rattle.partial_replay.specs.ScanSteps.{answers_of, IsOfItsScan, AnsweredScansMakeTheirSteps}
+use Rattle.partial_replay.specs.ScanSteps.{answers_of, events_in_front, own_events, IsOfItsScan, AnsweredScansMakeTheirSteps}
 use Rattle.partial_replay.proofs.PortLaws.{Begins, begins, begun_sizes, once_empty}
+use Rattle.partial_replay.proofs.StepsOf.{IsCut, steps_cut}
 use Rattle.partial_replay.proofs.Plans.{served}
 
 -- a machine with a due step has no reply
@@ -67,7 +68,8 @@ record CallRun (z : Layout) (s : CoreState) (c : Called) (own : List Moment) (la
   last_sound : IsSound last
   last_sizes : last.sizes ≡ z
 
-call_run : (z : Layout) (s t : CoreState) (c : Called) (x : Moment) (xs : List Moment) → IsLayout z → s.sizes ≡ z → IsSound s → IsServed z.m c.call → (h : HasSteps s c x xs t) → CallRun z s c (x ∷ xs) h.last
+call_run : (z : Layout) (s t : CoreState) (c : Called) (x : Moment) (xs : List Moment) → IsLayout z → s.sizes ≡ z → IsSound s → IsServed z.m c.call → (h : HasSteps s c x xs t) →
+    CallRun z s c (x ∷ xs) h.last
 call_run z s t c x xs layout sizes w served h =
     let unreplied : reply_of (begun_of s c.call) ≡ None = due_unreplied (begun_of s c.call) (begun_of s c.call).stage x.event.step h.makes.0 in
     let b = begins s c.call w.asked (subst (λ (y : Layout). IsServed y.m c.call) (sym sizes) served) h.begins unreplied in
@@ -117,38 +119,49 @@ scan_begun s js some = elim (eqb_tells (length js) 0) [
   | inr some' ↦ ap (λ (b : Bool). cond b (Finished (reply.Scanned 0 None)) ScanBegun) some'.0
 ]
 
-scan_of : (z : Layout) (s t : CoreState) (c : Called) (own : List Moment) → IsLayout z → s.sizes ≡ z → IsSound s → IsServed z.m c.call → length own ≡ c.steps → IsCallOf s c own t → IsOfItsScan c
-scan_of z s t c [] layout sizes w served steps h js vs k b is some answered = elim h [
+scan_of : (z : Layout) (first : CoreState) (front : List Called) (c : Called) (behind : List Called) (xs : List Moment) (last : CoreState) (cut : IsCut first front c behind xs last) (own : List Moment) →
+    own ≡ own_events front c xs → IsLayout z → (cut.at).sizes ≡ z → IsSound (cut.at) → IsServed z.m c.call → IsCallOf cut.at c own cut.next → IsOfItsScan first xs front c
+scan_of z first front c behind xs last cut [] own_is layout sizes w served h js vs k b is some answered = elim h [
   | inl r ↦ let bad : Some (answer.Refused r.cause) ≡ Some (answer.Scanned vs k b) = sym (ap (option_map (λ (f : Finish). f.answer)) r.finish) ∙ answered in cc
   | inr f ↦
-      let empty : call.Scan [] ≡ call.Scan js = sym (once_empty s c.call f.reply f.replied).0 ∙ is in
+      let empty : call.Scan [] ≡ call.Scan js = sym (once_empty cut.at c.call f.reply f.replied).0 ∙ is in
       let none : [] ≡ js = cc in
       let n : 0 ≡ length js = ap length none in
       absurd (omega (arith, n, some))
 ]
-scan_of z s t c (x ∷ xs) layout sizes w served steps h js vs k b is some answered =
-    let r = call_run z s t c x xs layout sizes w served h in
-    let own = answers_of (x ∷ xs) in
+scan_of z first front c behind xs last cut (y ∷ ys) own_is layout sizes w served h js vs k b is some answered =
+    let s = cut.at in
+    let r = call_run z s cut.next c y ys layout sizes w served h in
+    let own = answers_of (y ∷ ys) in
     let replied : reply_of h.last ≡ Some (reply.Scanned k b) = scan_replied h.last (reply_of h.last) vs k b (sym h.answered ∙ answered) in
     let begun : begun_of s c.call ≡ begin_scan s js = ap (begun_of s) is in
     let stage : (begun_of s c.call).stage ≡ ScanBegun = ap (λ (v : CoreState). v.stage) begun ∙ scan_begun s js some in
     let made = scans_make_their_steps (begun_of s c.call) h.last own k b r.layout r.sound stage r.run replied in
     let positions : length (begun_of s c.call).asked ≡ length js = ap (λ (v : CoreState). length v.asked) begun in
-    let events : length own ≡ c.steps = length-map (x ∷ xs) _ ∙ steps in
+    let events : length own ≡ c.steps = length-map (y ∷ ys) _ ∙ ap length own_is ∙ cut.events in
+    let counted : AreOfScan (length js) k (pairs_loaded (begun_of s c.call) own) c.steps b = subst (λ n. AreOfScan (length js) k (pairs_loaded (begun_of s c.call) own) n b) events (subst (λ n. AreOfScan n k (pairs_loaded (begun_of s c.call) own) (length own) b) positions made) in
     record {
       s = s;
-      t = t;
-      own = x ∷ xs;
-      call' = h;
-      events = steps;
-      steps = subst (λ n. AreOfScan (length js) k (pairs_loaded (begun_of s c.call) own) n b) events (subst (λ n. AreOfScan n k (pairs_loaded (begun_of s c.call) own) (length own) b) positions made);
+      t = cut.next;
+      led = cut.led;
+      call' = cut.call';
+      events = cut.events;
+      steps = subst (λ (l : List Moment). AreOfScan (length js) k (pairs_loaded (begun_of s c.call) (answers_of l)) c.steps b) own_is counted;
     }
 
-scans_of : (z : Layout) (s t : CoreState) (cs : List Called) (xs : List Moment) → IsLayout z → s.sizes ≡ z → IsSound s → AllByRecursion (IsServed z.m) (map (λ (c : Called). c.call) cs) → AreStepsOf s cs xs t → AllByRecursion IsOfItsScan cs
-scans_of z s t [] xs layout sizes w served h = tt
-scans_of z s t (c ∷ cs) xs layout sizes w served h =
+-- the machine behind some calls is sound and has the same sizes
+calls_sound : (z : Layout) (s t : CoreState) (cs : List Called) (xs : List Moment) → IsLayout z → s.sizes ≡ z → IsSound s → AllByRecursion (IsServed z.m) (map (λ (c : Called). c.call) cs) →
+    AreStepsOf s cs xs t → IsSound t × (t.sizes ≡ z)
+calls_sound z s t [] xs layout sizes w served h = (subst IsSound (sym h.1) w, ap (λ (v : CoreState). v.sizes) h.1 ∙ sizes)
+calls_sound z s t (c ∷ cs) xs layout sizes w served h =
     let behind = call_sound z s (h.2) c (h.0) layout sizes w served.0 h.5 in
-    (scan_of z s (h.2) c (h.0) layout sizes w served.0 h.4 h.5, scans_of z (h.2) t cs (h.1) layout behind.1 behind.0 served.1 h.6)
+    calls_sound z (h.2) t cs (h.1) layout behind.1 behind.0 served.1 h.6
+
+-- the calls in front of one, and that one, are served where all are
+served_front : (m : ℕ) (front : List Called) (c : Called) (behind : List Called) → AllByRecursion (IsServed m) (map (λ (d : Called). d.call) (front ++ c ∷ behind)) →
+    AllByRecursion (IsServed m) (map (λ (d : Called). d.call) front) × IsServed m c.call
+served_front m [] c behind w = (tt, w.0)
+served_front m (d ∷ front) c behind w = let rest = served_front m front c behind w.1 in ((w.0, rest.0), rest.1)
 
 -- the first of a list's elements
 all_take : {A : Type 0} (P : A → Type 0) (n : ℕ) (xs : List A) → AllByRecursion P xs → AllByRecursion P (take n xs)
@@ -166,8 +179,14 @@ plan_served p q w = at p.ports q w.calls
     at (cs ∷ ports) (suc q) all = at ports q all.1
 
 pub answered_scans_make_their_steps : AnsweredScansMakeTheirSteps
-answered_scans_make_their_steps p outcome plan w q =
+answered_scans_make_their_steps p outcome plan w q front c behind is =
+    let z = p.sizes in
     let cs = calls_by q outcome.calls.items in
+    let first = fresh z q in
+    let xs = moments_by z.m q outcome.trace.items in
     let events = w.events q in
-    let calls : AllByRecursion (IsServed p.sizes.m) (map (λ (c : Called). c.call) cs) = subst (AllByRecursion (IsServed p.sizes.m)) (sym (w.calls q)) (all_take (IsServed p.sizes.m) (length cs) (get_or p.ports q []) (plan_served p q plan)) in
-    scans_of p.sizes (fresh p.sizes q) (events.0) cs _ plan.sizes refl (fresh_sound p.sizes q) calls events.1
+    let calls : AllByRecursion (IsServed z.m) (map (λ (d : Called). d.call) cs) = subst (AllByRecursion (IsServed z.m)) (sym (w.calls q)) (all_take (IsServed z.m) (length cs) (get_or p.ports q []) (plan_served p q plan)) in
+    let served = served_front z.m front c behind (subst (λ (l : List Called). AllByRecursion (IsServed z.m) (map (λ (d : Called). d.call) l)) is calls) in
+    let cut = steps_cut first (events.0) front c behind xs (subst (λ (l : List Called). AreStepsOf first l xs (events.0)) is events.1) in
+    let sound = calls_sound z first cut.at front (events_in_front front xs) plan.sizes refl (fresh_sound z q) served.0 cut.led in
+    scan_of z first front c behind xs (events.0) cut (own_events front c xs) refl plan.sizes sound.1 sound.0 served.1 cut.call'

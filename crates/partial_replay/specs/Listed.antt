@@ -8,9 +8,12 @@ use Rattle.partial_model.specs.declared.call.Called.{Called}
 abbrev pub calls_by : ℕ → List Called → List Called
 calls_by q calls = filter (λ c. c.port == q) calls
 
--- how many steps they have made
+-- how many steps these calls have made, and those of port q
+abbrev pub steps_in : List Called → ℕ
+steps_in calls = sum_by (λ c. c.steps) calls
+
 abbrev pub steps_by : ℕ → List Called → ℕ
-steps_by q calls = sum_by (λ c. c.steps) (calls_by q calls)
+steps_by q calls = steps_in (calls_by q calls)
 
 -- they are the first of the plan's calls
 abbrev pub AreFirstOf : List Call → List Called → Type 0

@@ -13,7 +13,8 @@ pub fn one_port_is_alone()
 
 /// In the replay of a plan an answered scan of r positions, r at least 1, that made c collects has made
 /// `r (c + 2) + 5` steps, or, where it borrowed a view of which it loaded n pairs, at most
-/// `r (c + 1) + 2 n + 7`.
+/// `r (c + 1) + 2 n + 7`. The pairs are those of its own events in the trace: behind those of the calls
+/// of its port in front of it, as many as it has steps.
 pub fn answered_scans_make_their_steps()
     ensures { AnsweredScansMakeTheirSteps }
 {}
