@@ -235,6 +235,7 @@ module _ (z : Layout) (o : Opening) (words : List ℕ) (before : List Part) (x :
           behind = behind;
           machine = record { going = behind.begun; is = sym core };
           sizes = ap (λ (d : CoreState). d.sizes) mine ∙ sizes_here z o words before (started c x) after log w;
+          begun_sizes = k.sizes;
           number = ap (λ (d : CoreState). d.port) mine ∙ number;
           port = port;
           noted = subst (λ (d : CoreState). AreNotesOf y (reply_of (advance d (answer_of words step))) l.new) (sym mine)

@@ -16,3 +16,5 @@ pub mod Added
 pub mod Ports
 pub mod WholeCalls
 pub mod Ordered
+pub mod Laws
+pub mod Machines

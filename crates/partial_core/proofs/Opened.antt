@@ -1,14 +1,11 @@
 -- A memory as it opens is lawful.
 use Rattle.std.proofs.Common.{ℕ, zero, suc, ◌≡◌, ◌+◌, ◌≤◌, ◌==◌, ◌++◌, Bool, true, false, cond, None, List, [], ◌∷◌, refl, sym, ◌∙◌, ap, subst, arith}
 use Rattle.std.specs.List.{AllByRecursion}
-use Rattle.std.proofs.lemmas.List.{length-replicate}
 use Rattle.partial_model.specs.declared.history.Opening.{Opening}
 use Rattle.partial_model.specs.Notes.{Noted}
 use Rattle.partial_model.specs.Outcome.{places_written}
 use Rattle.partial_words.specs.Layout.{Layout}
-use Rattle.partial_machine.specs.Machine.{fresh}
-use Rattle.partial_machine.specs.Sound.{IsSound}
-use Rattle.partial_machine.proofs.Indices.{no_index}
+use Rattle.partial_machine.proofs.Laws.{rests_are_sound}
 use Rattle.partial_state.specs.Holdings.{Holding}
 use Rattle.partial_state.specs.LawfulWords.{LawfulWords}
 use Rattle.partial_state.specs.Effects.{idle_holdings}
@@ -23,18 +20,6 @@ hold_nothing : (z : Layout) (p n : ℕ) → holdings (fresh_parts z p n) ≡ idl
 hold_nothing z p zero = refl
 hold_nothing z p (suc n) = ap (λ (hs : List Holding). record { port = p; claimed = None; own = None; due = None; pool_spent = false; slots_spent = false; lists_spent = false } ∷ hs) (hold_nothing z (p + 1) n)
 
-pub fresh_sound : (z : Layout) (p : ℕ) → IsSound (fresh z p)
-fresh_sound z p =
-    let none = no_index z.m in
-    record {
-      asked = record { few = omega arith; each = none.each };
-      found = record { limit = refl; room = refl };
-      indices = record { few = omega arith; each = none.each };
-      distinct = none.distinct;
-      rows = record { last = length-replicate z.m 0; changed = length-replicate z.m false; values = length-replicate z.m 0 };
-      stage = tt;
-    }
-
 fresh_known : (z : Layout) (o : Opening) (words : List ℕ) (hs : List Holding) (p n : ℕ) → p + n ≤ 64 → AllByRecursion (IsKnown z o words hs []) (fresh_parts z p n)
 fresh_known z o words hs p zero few = tt
 fresh_known z o words hs p (suc n) few = (
@@ -44,7 +29,7 @@ fresh_known z o words hs p (suc n) few = (
     seen = refl;
     notes = tt;
     shown = omega arith;
-    sound = fresh_sound z p;
+    sound = rests_are_sound.fresh z p;
     begun = refl;
     since = omega arith;
     earlier = omega arith;

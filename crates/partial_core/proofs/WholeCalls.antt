@@ -178,19 +178,16 @@ begun_from s d (call.Read j) same = ap (λ (u : CoreState). begun_of u (call.Rea
 begun_from s d (call.UpdateIf j x v) same = ap (λ (u : CoreState). begun_of u (call.UpdateIf j x v)) same
 
 pub calls_begin_between : CallsBeginBetween
-calls_begin_between x core sound between = record {
+calls_begin_between x core between = record {
   begins = λ c served is makes.
-      let b = calls_begin core c sound served is in
-      let s = b.sound in (
-        record {
-          begun = b.begun ∙ makes;
-          rest = between.rest;
-          like = begun_from core (core_of x) c between.machine;
-          asked = s.asked;
-          may = s.stage;
-        },
-        s,
-      );
+      let b = calls_begin core c between.asked served is in
+      record {
+        begun = b.begun ∙ makes;
+        rest = between.rest;
+        like = begun_from core (core_of x) c between.machine;
+        asked = subst (λ (y : Layout). AreComponents y (begun_of core c).asked) (ap (λ (s : CoreState). s.sizes) (sym b.like)) b.asked;
+        may = b.may;
+      };
   at_once = record {
     rest = between.rest;
     machine = ap (λ (u : CoreState). at_stage (begin_scan u []) Idle) between.machine;

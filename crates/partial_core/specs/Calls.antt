@@ -83,13 +83,13 @@ MadeCallsMakeTheirSteps = (z : Layout) (o : Opening) (b : CoreState) (x : Part) 
 -- how calls begin and end at a port between calls
 pub record BeginsBetween (x : Part) (core : CoreState) : Type 0 where
   -- a call that isn't refused at once and makes steps is the port's next
-  pub begins : (c : Call) → IsServed core.sizes.m c → refusal_of core c ≡ None → makes_steps c ≡ true → HasBegun (begun_of core c) x × IsSound (begun_of core c)
+  pub begins : (c : Call) → IsServed core.sizes.m c → refusal_of core c ≡ None → makes_steps c ≡ true → HasBegun (begun_of core c) x
   -- a scan of no position leaves the port between calls
   pub at_once : IsBetween x (at_stage (begin_scan core []) Idle)
 
--- a call may begin between calls, at a machine that is sound but for the part's
+-- a call may begin between calls
 abbrev pub CallsBeginBetween : Type 0
-CallsBeginBetween = (x : Part) (core : CoreState) → IsSound core → IsBetween x core → BeginsBetween x core
+CallsBeginBetween = (x : Part) (core : CoreState) → IsBetween x core → BeginsBetween x core
 
 -- a port is between calls as it is made, and where a call has ended and its reply was taken
 abbrev pub PortsComeBetween : Type 0

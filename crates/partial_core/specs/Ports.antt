@@ -1,13 +1,15 @@
 -- What a lawful state says of its ports: how they fit the history, what a look tells, and how many steps their calls have made.
-use Rattle.std.specs.Prelude.{ℕ, ◌≡◌, ◌+◌, ◌<◌, ◌≤◌, List, ◌∷◌, ◌++◌, length, map, take, Contains, Some}
+use Rattle.std.specs.Prelude.{ℕ, ◌≡◌, ◌+◌, ◌<◌, ◌≤◌, List, ◌∷◌, ◌++◌, length, map, take, Contains, Some, is_some, not}
 use Rattle.std.specs.List.{AllByRecursion}
 use Rattle.partial_model.specs.declared.call.Call.{Call}
 use Rattle.partial_model.specs.declared.history.Applied.{Applied}
 use Rattle.partial_model.specs.declared.history.Opening.{Opening}
 use Rattle.partial_words.specs.Layout.{Layout}
-use Rattle.partial_machine.specs.Calls.{call_of}
+use Rattle.partial_machine.specs.Machine.{CoreState, step_of}
+use Rattle.partial_machine.specs.Calls.{is_at_rest, call_of}
+use Rattle.partial_machine.specs.Sound.{IsSound}
 use Rattle.partial_machine.specs.Bounds.{most_steps, steps_left}
-use Rattle.partial_core.specs.Part.{Part, core_of, port_of, with_seen}
+use Rattle.partial_core.specs.Part.{Part, core_of, port_of, IsMachineOf, with_seen}
 use Rattle.partial_core.specs.Lawful.{Lawful}
 use Rattle.partial_core.specs.Steps.{Fits}
 
@@ -42,3 +44,16 @@ MakesFewSteps z x = (c : Call) → call_of x.begun ≡ Some c → length x.kept 
 abbrev pub LawfulCallsAreBounded : Type 0
 LawfulCallsAreBounded = (z : Layout) (o : Opening) (words : List ℕ) (parts : List Part) (log : List Applied) →
     Lawful z o words parts log → AllByRecursion (MakesFewSteps z) parts
+
+-- what a lawful state says of the machine of a port, with a call begun or where the kept answers lead
+pub record IsReady (z : Layout) (c : CoreState) (x : Part) : Type 0 where
+  pub sound : IsSound c
+  pub sizes : c.sizes ≡ z
+  pub number : c.port ≡ port_of x
+  -- a step is due unless it is at rest
+  pub due : is_some (step_of c) ≡ not (is_at_rest c.stage)
+
+-- the machines of a lawful state are ready
+abbrev pub LawfulMachinesAreReady : Type 0
+LawfulMachinesAreReady = (z : Layout) (o : Opening) (words : List ℕ) (before : List Part) (x : Part) (after : List Part)
+    (log : List Applied) (c : CoreState) → Lawful z o words (before ++ x ∷ after) log → IsMachineOf c x → IsReady z c x

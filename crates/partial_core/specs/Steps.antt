@@ -114,6 +114,7 @@ pub record Tells (z : Layout) (o : Opening) (log entries : List Applied) (x : Pa
   pub behind : IsBehind c a
   pub machine : IsLedTo (advance c a) y
   pub sizes : c.sizes ≡ z
+  pub begun_sizes : y.begun.sizes ≡ z
   pub number : c.port ≡ port_of x
   pub port : port_of y ≡ port_of x
   -- what is noted, and what the port knows then

@@ -7,3 +7,4 @@ pub mod Submachines
 pub mod Begins
 pub mod DueWords
 pub mod Behind
+pub mod Laws

@@ -6,15 +6,16 @@ use Rattle.partial_model.specs.declared.call.Refused.TheVariants as refused
 use Rattle.partial_model.specs.Notes.{MayBeRefused}
 use Rattle.partial_words.specs.declared.step.Step.{Step}
 use Rattle.partial_words.specs.declared.step.Step.TheVariants.{Add}
-use Rattle.partial_words.specs.Layout.{IsLayout, slot_counter, pool_counter, list_counter, list_end, pool_end, total, greatest_record, greatest_list}
+use Rattle.partial_words.specs.Layout.{Layout, IsLayout, slot_counter, pool_counter, list_counter, list_end, pool_end, total, greatest_record, greatest_list}
 use Rattle.partial_words.specs.Step.{word_of}
 use Rattle.partial_machine.specs.declared.stage.Reply.{Reply}
 use Rattle.partial_machine.specs.declared.stage.Reply.TheVariants as reply
-use Rattle.partial_machine.specs.Machine.{CoreState, lists_spent, advance, step_of, reply_of}
+use Rattle.partial_machine.specs.declared.stage.Stage.TheVariants.{Idle}
+use Rattle.partial_machine.specs.Machine.{CoreState, fresh, at_stage, lists_spent, advance, step_of, reply_of}
 use Rattle.partial_machine.specs.Calls.{is_begun, is_at_rest, begun_like, makes_steps, call_of, refusal_of, begun_of, IsServed}
-use Rattle.partial_machine.specs.Sound.{IsSound}
+use Rattle.partial_machine.specs.Sound.{AreComponents, IsSound, is_sound_at}
 use Rattle.partial_machine.specs.Possible.{IsPossible}
-use Rattle.partial_machine.specs.Bounds.{steps_left}
+use Rattle.partial_machine.specs.Bounds.{most_steps, steps_left}
 
 -- the step is a claim of pool words, no more than the greatest one, and this answer puts it past the end of the pool
 pub record ClaimsPastPool (s : CoreState) (x : ℕ) : Type 0 where
@@ -85,17 +86,26 @@ AnswersLeadOn = (s : CoreState) (x : ℕ) → IsLayout s.sizes → IsSound s →
 abbrev pub DueWordsAreThere : Type 0
 DueWordsAreThere = (s : CoreState) (step : Step) → IsLayout s.sizes → IsSound s → step_of s ≡ Some step → word_of step < total s.sizes
 
--- A call that isn't refused at once: the machine has begun it, and makes its steps; or it has none to make.
+-- A call that isn't refused at once: the machine has begun it, and makes its steps; or it has none to make. But for the
+-- call the machine is as it was.
 pub record IsBegunWith (s : CoreState) (c : Call) : Type 0 where
-  pub sound : IsSound (begun_of s c)
   pub like : begun_of s c ≡ begun_like s (begun_of s c)
+  pub asked : AreComponents s.sizes (begun_of s c).asked
+  pub may : is_sound_at (begun_of s c) (begun_of s c).stage
+  pub sound : IsSound s → IsSound (begun_of s c)
+  pub few : steps_left (begun_of s c) ≤ most_steps s.sizes c
   pub begun : is_begun (begun_of s c).stage ≡ makes_steps c
   pub made : makes_steps c ≡ true → call_of (begun_of s c) ≡ Some c
   pub at_once : makes_steps c ≡ false → reply_of (begun_of s c) ≡ Some (reply.Scanned 0 None)
 
 -- a call that isn't refused at once is begun
 abbrev pub CallsBegin : Type 0
-CallsBegin = (s : CoreState) (c : Call) → IsSound s → IsServed s.sizes.m c → refusal_of s c ≡ None → IsBegunWith s c
+CallsBegin = (s : CoreState) (c : Call) → AreComponents s.sizes s.asked → IsServed s.sizes.m c → refusal_of s c ≡ None → IsBegunWith s c
+
+-- a machine that has made no call is sound, and so is one whose reply was taken
+pub record RestsAreSound : Type 0 where
+  pub fresh : (z : Layout) (port : ℕ) → IsSound (fresh z port)
+  pub idle : (s : CoreState) → IsSound s → IsSound (at_stage s Idle)
 
 -- the mark for which a call is refused at once; an index needs none
 abbrev pub IsOldMark : CoreState → Refused → Type 0

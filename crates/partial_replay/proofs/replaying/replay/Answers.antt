@@ -8,10 +8,9 @@ use Rattle.partial_replay.specs.Turns.{so_many, to_its_end, turns_of}
 use Rattle.partial_replay.proofs.TurnLaws.{followed, followed_next, followed_all, next_end, ending_next}
 use Rattle.partial_model.specs.declared.call.Call.{Call}
 use Rattle.partial_replay.specs.declared.run.Run.{Run}
-use Rattle.partial_replay.specs.RunState.{AreStarted, IsRun, Tells}
+use Rattle.partial_replay.specs.RunState.{AreStarted, IsRun, Tells, ArePlans}
 use Rattle.partial_replay.specs.TurnState.{StopAtSteps, HasMadeTurns, TurnsMade}
 use Rattle.partial_replay.specs.Replayed.{IsReplayOf}
-use Rattle.partial_replay.specs.RunState.{ArePlans}
 use Rattle.partial_replay.proofs.Plans.{are_plans}
 use Rattle.partial_words.specs.Layout.{Layout}
 use Rattle.partial_text.specs.PlanText.{PlanView, IsPlan}
