@@ -13,7 +13,7 @@ use Rattle.partial_machine.specs.declared.stage.Stage.TheVariants.{Idle, ReadBeg
 use Rattle.partial_machine.specs.Machine.{CoreState, IsPossible, at_stage, begin_scan, advance, step_of, reply_of, read_refusal, update_refusal, scan_refusal}
 use Rattle.partial_machine.specs.Steps.{most_embedded}
 use Rattle.partial_core.specs.Lawful.{answer_for}
-use Rattle.partial_replay.specs.Trace.{Moment}
+use Rattle.partial_replay.specs.Trace.{Moment, last_behind}
 
 -- the machine once it has begun the call
 abbrev pub begun_of : CoreState → Call → CoreState
@@ -44,11 +44,6 @@ refusal_of s (call.UpdateIf j x v) = update_refusal s j
 abbrev pub Makes : CoreState → List Moment → CoreState → Type 0
 Makes s [] t = t ≡ s
 Makes s (x ∷ xs) t = (step_of s ≡ Some x.event.step) × IsPossible s x.event.answer × Makes (advance s x.event.answer) xs t
-
--- how long the history is behind the last of them, or where there is none
-abbrev pub last_behind : ℕ → List Moment → ℕ
-last_behind n [] = n
-last_behind n (x ∷ xs) = last_behind x.behind xs
 
 -- a call without steps: the machine refuses it at once
 pub record IsRefusedAtOnce (s : CoreState) (c : Called) (t : CoreState) : Type 0 where
