@@ -5,6 +5,9 @@ pub mod Traces
 pub mod PortSteps
 pub mod RunSteps
 pub mod TurnLaws
+pub mod TurnLengths
+pub mod PortTurns
+pub mod RunTurns
 pub mod Opens
 pub mod Plans
 pub mod Told

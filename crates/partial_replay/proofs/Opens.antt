@@ -1,5 +1,5 @@
 -- A replay as it opens, and what it lists in the end.
-use Rattle.std.proofs.Common.{ℕ, zero, suc, ◌==◌, ◌^◌, drop, remove, append_assoc, ◌≡◌, ◌+◌, ◌<◌, ◌≤◌, ◌++◌, false, List, [], ◌∷◌, length, take, get_or, Option, Some, None, MatchOption, slice_get, refl, sym, ◌∙◌, ap, subst, arith, map}
+use Rattle.std.proofs.Common.{ℕ, zero, suc, ◌==◌, ◌^◌, drop, remove, append_assoc, ◌≡◌, ◌+◌, ◌<◌, ◌≤◌, ◌++◌, false, List, [], ◌∷◌, length, take, get_or, Option, Some, None, MatchOption, slice_get, refl, sym, ◌∙◌, ap, subst, arith, map, IfSome}
 use Rattle.std.specs.List.{AllByRecursion}
 use Rattle.partial_model.specs.declared.history.Opening.{Opening}
 use Rattle.partial_model.specs.declared.call.Call.{Call}
@@ -15,7 +15,7 @@ use Rattle.partial_machine.specs.Calls.{begun_like}
 use Rattle.partial_core.proofs.Opened.{opens_lawful}
 use Rattle.partial_replay.specs.declared.port.Port.{Port}
 use Rattle.partial_replay.specs.declared.port.UnderWay.{UnderWay}
-use Rattle.partial_replay.specs.PortState.{unfinished_call, AreFinished, AreFew, IsUnderWay, PortFits, notes_in, ends_of, IsGoing}
+use Rattle.partial_replay.specs.PortState.{unfinished_call, AreFinished, AreFew, IsUnderWay, PortFits, notes_in, ends_of, IsGoing, HasTurned, steps_under_way}
 use Rattle.partial_replay.specs.RunState.{PortsFit, IsRunOf, FreshFrom, AreFreshPorts, AreListed, ArePlans, left_over, calls_in, ArePortsMade, AreStarted}
 use Rattle.std.specs.Option.{IsSome}
 use Rattle.std.proofs.lemmas.Bool.{false≢true}
@@ -24,8 +24,9 @@ use Rattle.partial_replay.specs.Place.{HasLeastPlace}
 use Rattle.partial_replay.proofs.PortLaws.{get_below, some_is}
 use Rattle.partial_replay.specs.Trace.{Moment}
 use Rattle.partial_replay.specs.CallSteps.{AreStepsOf}
+use Rattle.partial_replay.specs.Turns.{BeginInTurns}
 use Rattle.partial_replay.specs.TurnState.{StopsAtStep}
-use Rattle.partial_replay.specs.Listed.{EndInStep}
+use Rattle.partial_replay.specs.Listed.{steps_in, EndInStep}
 
 -- one fresh port more
 pub fresh_push : (z : Layout) (p : ℕ) (ports : List Port) (port : Port) → FreshFrom z p ports → port.number ≡ p + length ports → port.core ≡ fresh z port.number → port.finished.items ≡ [] → port.under_way ≡ None → FreshFrom z p (ports ++ port ∷ [])
@@ -95,6 +96,18 @@ fresh_started z ports w q port way t is = let f = fresh_at z 0 q ports port w t 
 
 pub fresh_ending : (z : Layout) (ports : List Port) → FreshFrom z 0 ports → (q : ℕ) → StopsAtStep ports q
 fresh_ending z ports w q port t none = let f = fresh_at z 0 q ports port w t in subst EndInStep (sym f.1) tt
+
+pub fresh_turned : (z : Layout) (ports : List Port) → FreshFrom z 0 ports → (q : ℕ) (calls : List Call) (port : Port) → slice_get ports q ≡ Some port → HasTurned 0 calls [] port
+fresh_turned z ports w q calls port t =
+    let nil : List ℕ = [] in
+    let f = fresh_at z 0 q ports port w t in
+    let none : steps_in port.finished.items ≡ 0 = ap steps_in f.1 in
+    let idle : steps_under_way port.under_way ≡ 0 = ap steps_under_way f.2 in
+    record {
+      finished = subst (λ (l : List Called). BeginInTurns [] 0 l) (sym f.1) tt;
+      turns = λ less. omega (arith, none, idle);
+      way = subst (λ (v : Option UnderWay). IfSome v (λ (u : UnderWay). slice_get nil (steps_in port.finished.items) ≡ Some u.began)) (sym f.2) tt;
+    }
 
 -- a replay opens lawful
 pub opens_run : (plans : List (List Call)) (z : Layout) (o : Opening) (words : List ℕ) (ports : List Port) → IsLayout z → length o.values ≡ z.m → o.first ≡ pool_base z → AreOpeningWords z o.values words → length plans ≤ 64 → AreFreshPorts z (length plans) ports → IsRunOf plans z o words ports [] []

@@ -25,9 +25,9 @@ use Rattle.partial_core.specs.Part.{Part, IsBetween}
 use Rattle.partial_machine.specs.Calls.{answer_for, is_at_rest, begun_of, refusal_of}
 use Rattle.partial_replay.specs.declared.port.Port.{Port}
 use Rattle.partial_replay.specs.declared.port.UnderWay.{UnderWay}
-use Rattle.partial_replay.specs.Trace.{Moment, adds, is_won, new_of, entry_of, moments_from, moments_by, ports_of, events_in}
+use Rattle.partial_replay.specs.Trace.{Moment, last_behind, adds, is_won, new_of, entry_of, moments_from, moments_by, ports_of, events_in}
 use Rattle.partial_replay.specs.Listed.{EndInStep}
-use Rattle.partial_replay.specs.CallSteps.{Makes, last_behind, IsCallOf, AreStepsOf}
+use Rattle.partial_replay.specs.CallSteps.{Makes, IsCallOf, AreStepsOf}
 use Rattle.partial_replay.specs.PortState.{IsUnderWay, PortFits, IsGoing, PortMade, KeepsMade, unfinished_call, began_at, IsDoneAtOnce, ended_call, one_step_more, GoesOn, Ends, StepMade}
 use Rattle.partial_replay.specs.RunState.{ArePortsMade, AreStarted, AreStartedBut, left_over, unvalued}
 use Rattle.partial_replay.specs.TurnState.{StopsAtStep}
@@ -171,17 +171,14 @@ other_made : (z : Layout) (n k : ℕ) (calls : List Call) (q : ℕ) (xs : List M
 other_made z n k calls q xs port started w = record { done = w.done; own = w.own; at = w.at; is = w.is; led = w.led; going = going_stays n k calls port.finished.items w.at port.core w.own port.under_way started w.going }
 
 -- how long the history is behind a trace
-pub long_by : ℕ → ℕ → List Event → ℕ
-long_by m n [] = n
-long_by m n (e ∷ es) = long_by m (n + adds m e) es
+abbrev pub long_by : ℕ → ℕ → List Event → ℕ
+long_by m n es = last_behind n (moments_from m n es)
 
 moments_push : (m n : ℕ) (es : List Event) (e : Event) → moments_from m n (es ++ e ∷ []) ≡ moments_from m n es ++ record { event = e; before = long_by m n es; behind = long_by m n es + adds m e } ∷ []
-unfolding long_by
 moments_push m n [] e = refl
 moments_push m n (d ∷ es) e = ap (λ (l : List Moment). record { event = d; before = n; behind = n + adds m d } ∷ l) (moments_push m (n + adds m d) es e)
 
 long_push : (m n : ℕ) (es : List Event) (e : Event) → long_by m n (es ++ e ∷ []) ≡ long_by m n es + adds m e
-unfolding long_by
 long_push m n [] e = refl
 long_push m n (d ∷ es) e = long_push m (n + adds m d) es e
 
@@ -190,7 +187,6 @@ long_entry true x xs = omega arith
 long_entry false x xs = omega arith
 
 long_entries : (m n : ℕ) (es : List Event) → long_by m n es ≡ n + length (filter_map (entry_of m (λ _. 0)) es)
-unfolding long_by
 long_entries m n [] = omega arith
 long_entries m n (e ∷ es) =
     let rest = long_entries m (n + adds m e) es in

@@ -24,16 +24,18 @@ use Rattle.partial_text.specs.declared.outcome.Outcome.{Outcome}
 use Rattle.partial_replay.specs.declared.port.Port.{Port}
 use Rattle.partial_replay.specs.declared.run.Run.{Run}
 use Rattle.partial_replay.specs.Place.{HasLeastPlace}
-use Rattle.partial_replay.specs.Trace.{entry_of, moments_by, ports_of, events_in}
-use Rattle.partial_replay.specs.Turns.{turns_of, turns_by, ports_in}
+use Rattle.partial_replay.specs.Trace.{entry_of, moments_from, moments_by, ports_of, events_in}
+use Rattle.partial_replay.specs.Turns.{turns_of, turns_by, ports_in, lengths_in, BeginInTurns}
 use Rattle.partial_replay.specs.Listed.{calls_by, steps_by, AreFirstOf, AreAllMade, EndInStep, HaveMade}
-use Rattle.partial_replay.specs.Replayed.{IsReplayOf}
-use Rattle.partial_replay.specs.RunState.{AreStarted, IsRun, IsRunOf, Tells, calls_in}
-use Rattle.partial_replay.specs.TurnState.{StopsAtStep, StopAtSteps, IsDone, HasMadeTurns}
+use Rattle.partial_replay.specs.Replayed.{IsReplayOf, turn_lengths}
+use Rattle.partial_replay.specs.RunState.{AreStarted, IsBetweenTurns, IsRunOf, Tells, calls_in}
+use Rattle.partial_replay.specs.TurnState.{StopsAtStep, StopAtSteps, IsDone, HasMadeTurns, HasBegun, lengths_so_far, HaveBegun}
 use Rattle.partial_replay.proofs.PortLaws.{get_below}
 use Rattle.partial_replay.proofs.RunSteps.{port_in, ports_length}
 use Rattle.partial_replay.proofs.Told.{begun_by, few_told, least_told, run_legal, listed_at, none_listed, first_begun, all_made}
 use Rattle.partial_replay.proofs.TurnLaws.{follows_ports, turns_told}
+use Rattle.partial_replay.proofs.TurnLengths.{lengths_same}
+use Rattle.partial_replay.proofs.PortTurns.{turns_over}
 use Rattle.partial_replay.proofs.Traces.{entries_told}
 
 -- a place of a list is in it or behind it
@@ -102,6 +104,19 @@ module _ (plans : List (List Call)) (z : Layout) (o : Opening) (words : List ℕ
         (fresh z q, subst (λ (l : List Called). AreStepsOf (fresh z q) l (moments_by z.m q trace) (fresh z q)) (sym none) (none_moments z.m q (length plans) trace past w.senders, refl))
   ]
 
+  -- each call that a port lists has begun in the turn behind the steps of those in front of it
+  pub begins_told : (q : ℕ) (ls : List ℕ) → HasBegun 0 plans q ls ports → BeginInTurns ls 0 (calls_by q (calls_in plans ports))
+  begins_told q ls begun = elim (at_place plans q) [
+    | inl found ↦
+        let calls = found.0 in
+        let port = port_at q calls found.1 in
+        let from : q ≡ 0 + q = omega arith in
+        let listed : calls_by q (calls_in plans ports) ≡ begun_by calls (port.0) =
+        ap (λ n. calls_by n (calls_in plans ports)) from ∙ listed_at o log 0 q plans w.parts ports calls (port.0) w.fit found.1 port.1 in
+        subst (BeginInTurns ls 0) (sym listed) (turns_over calls ls (port.0) (begun calls (port.0) found.1 port.1))
+    | inr past ↦ subst (BeginInTurns ls 0) (sym (none_listed o log q 0 plans w.parts ports (inr (omega (arith, past))) w.fit)) tt
+  ]
+
   -- what a port lists ends in a step, where it has begun no call since
   pub ending_told : AreStarted ports → (q : ℕ) → StopsAtStep ports q → EndInStep (calls_by q (calls_in plans ports))
   ending_told started q ends = elim (at_place plans q) [
@@ -152,8 +167,11 @@ calls_wait z false turns plan cs few first less made =
     made.2 (omega (arith, steps, front, all, less))
 
 -- a run that has come to its end tells an outcome of its plan
-pub replay_told : (p : PlanView) (run : Run) (outcome : Outcome) → IsRun p.ports run → AreStarted run.ports.items → run.memory.sizes ≡ p.sizes → run.opening.values ≡ p.initial → HasMadeTurns p.ports (turns_of p) run → (p.rest ≡ false → StopAtSteps p.steps run) → Tells p.ports run outcome → IsReplayOf p outcome
-replay_told p run outcome w started sizes values f ends t =
+pub replay_told : (p : PlanView) (run : Run) (outcome : Outcome) → IsBetweenTurns p.ports run → run.memory.sizes ≡ p.sizes → run.opening.values ≡ p.initial →
+    HasMadeTurns p.ports (turns_of p) run → HaveBegun p.ports (turns_of p) run → (p.rest ≡ false → StopAtSteps p.steps run) → Tells p.ports run outcome → IsReplayOf p outcome
+replay_told p run outcome between sizes values f begun ends t =
+    let w = between.replay.state in
+    let started = between.started in
     let z = run.memory.sizes in
     let o = run.opening in
     let legal : LegalOutcome outcome.opening outcome.history.items outcome.calls.items =
@@ -180,6 +198,15 @@ replay_told p run outcome w started sizes values f ends t =
     let entries = entries_told z.m o run.memory.words.items run.memory.trace.items run.memory.history.items w.lawful.memory.history w.lawful.memory.agrees w.entries in
     let firsts : (q : ℕ) → AreFirstOf (get_or p.ports q []) (calls_by q outcome.calls.items) = λ q. subst (λ (l : List Called). AreFirstOf (get_or p.ports q []) (calls_by q l)) (sym t.calls) (calls_told p.ports z o run.memory.words.items run.ports.items run.memory.history.items run.memory.trace.items w q) in
     let all_made : (q : ℕ) → HaveMade p.rest (turns_by q p.steps) (steps_by q outcome.calls.items) (get_or p.ports q []) (calls_by q outcome.calls.items) = λ q. subst (λ (l : List Called). HaveMade p.rest (turns_by q p.steps) (steps_by q l) (get_or p.ports q []) (calls_by q l)) (sym t.calls) (made q) in
+    let lengths : (q : ℕ) → lengths_so_far q (turns_of p) run ≡ turn_lengths p outcome q = λ q.
+    lengths_same q (turns_of p) (λ r. events_in r ports) (λ r. steps_by r calls) 0 (moments_from z.m 0 run.memory.trace.items) (λ r. sym (steps r))
+    ∙ ap (λ (l : List Called). lengths_in q (turns_of p) (λ r. steps_by r l) 0 (moments_from z.m 0 run.memory.trace.items)) (sym t.calls)
+    ∙ ap (λ (es : List Event). lengths_in q (turns_of p) (λ r. steps_by r outcome.calls.items) 0 (moments_from z.m 0 es)) (sym t.trace)
+    ∙ ap (λ (y : Layout). lengths_in q (turns_of p) (λ r. steps_by r outcome.calls.items) 0 (moments_from y.m 0 outcome.trace.items)) sizes in
+    let begins : (q : ℕ) → BeginInTurns (turn_lengths p outcome q) 0 (calls_by q outcome.calls.items) = λ q.
+    subst (λ (l : List Called). BeginInTurns (turn_lengths p outcome q) 0 (calls_by q l)) (sym t.calls)
+    (subst (λ (l : List ℕ). BeginInTurns l 0 (calls_by q calls)) (lengths q)
+    (begins_told p.ports z o run.memory.words.items run.ports.items run.memory.history.items run.memory.trace.items w q (lengths_so_far q (turns_of p) run) (begun q))) in
     let few : AreFew p.sizes outcome.calls.items = subst (λ (y : Layout). AreFew y outcome.calls.items) sizes (subst (AreFew z) (sym t.calls) (few_told z o run.memory.words.items (holdings w.parts) run.memory.history.items 0 p.ports w.parts run.ports.items w.lawful.memory.sizes w.fit w.lawful.known)) in
     record {
       values = ap (λ (v : Opening). v.values) t.opening ∙ values;
@@ -199,6 +226,7 @@ replay_told p run outcome w started sizes values f ends t =
           (subst (λ (es : List Event). (last : CoreState) × AreStepsOf (fresh z q) (calls_by q outcome.calls.items) (moments_by z.m q es) last) (sym t.trace)
           (subst (λ (l : List Called). (last : CoreState) × AreStepsOf (fresh z q) (calls_by q l) (moments_by z.m q run.memory.trace.items) last) (sym t.calls) (events q)));
       turns = ap ports_of t.trace ∙ turns ∙ ap (λ (l : List Called). ports_in (turns_of p) (λ q. steps_by q l)) (sym t.calls);
+      begins = begins;
       few = few;
       waits = λ q less. calls_wait p.sizes p.rest (turns_by q p.steps) (get_or p.ports q []) (calls_by q outcome.calls.items) (few_by p.sizes q outcome.calls.items few) (firsts q) less (all_made q);
       made = all_made;

@@ -3,11 +3,11 @@ use Rattle.std.proofs.Common.{ℕ, zero, suc, ◌≡◌, ◌≢◌, ◌+◌, ◌
 use Rattle.std.specs.List.{filter, range_with_len}
 use Rattle.std.proofs.lemmas.List.Elements.{filter-append}
 use Rattle.std.proofs.lemmas.List.Sums.{sum_by-cons, sum_by-append}
-use Rattle.partial_replay.specs.Turns.{so_many, to_its_end, made_in, ports_in, turns_by, turns_of}
+use Rattle.partial_replay.specs.Turns.{so_many, to_its_end, made_in, ports_in, turns_by, turns_of, left_behind}
 use Rattle.partial_text.specs.PlanText.{PlanView}
 use Rattle.partial_replay.specs.Listed.{AreAllMade, EndInStep, HaveMade}
 use Rattle.partial_model.specs.declared.call.Called.{Called}
-use Rattle.std.proofs.lemmas.List.{append-nil, map_push, length-replicate, replicate-append-replicate}
+use Rattle.std.proofs.lemmas.List.{take_all, append-nil, map_push, map-append, length-replicate, replicate-append-replicate}
 use Rattle.std.proofs.lemmas.Bool.{ne_eqb, cases_lt}
 use Rattle.std.proofs.lemmas.Bool.Decides.{eqb_tells}
 use Rattle.partial_model.specs.declared.call.Call.{Call}
@@ -19,7 +19,7 @@ use Rattle.partial_replay.specs.declared.port.Port.{Port}
 use Rattle.partial_replay.specs.declared.run.Run.{Run}
 use Rattle.partial_replay.specs.Trace.{ports_of, events_in}
 use Rattle.partial_replay.specs.RunState.{IsReady}
-use Rattle.partial_replay.specs.TurnState.{IsDone, StayDone, GoesOnBy, TurnMade, StepsMade, TurnsMade, StayStopped, StayStoppedBut, StayStoppedWith, StopsAtStep, StopAtSteps, HasTurns, MakeTurns, HasMadeTurns}
+use Rattle.partial_replay.specs.TurnState.{IsDone, GoesOnBy, TurnsMade, StopAtSteps, HasTurns, MakeTurns, HasMadeTurns}
 use Rattle.partial_replay.proofs.PortLaws.{get_set, get_set_other, take_next, get_is, same_eqb}
 
 -- a port in another state: the ports that have made all their calls have still made them where this one has
@@ -47,35 +47,24 @@ ready_done plans p run ready d =
 pub stepped_done : (calls : List Call) (words words' : List ℕ) (trace trace' : List Event) (log log' : List Applied) (port new : Port) → port.under_way ≡ None → StepMade calls words words' trace trace' log log' port new → ⊥
 stepped_done calls words words' trace trace' log log' port new none m = let way : Some (m.way) ≡ None = sym m.was ∙ none in cc
 
-pub by_step : (calls : List Call) (words words' : List ℕ) (trace trace' : List Event) (log log' : List Applied) (port new : Port) (p : ℕ) → port.number ≡ p → StepMade calls words words' trace trace' log log' port new → ports_of trace' ≡ ports_of trace ++ replicate 1 p
+pub by_step : (calls : List Call) (words words' : List ℕ) (trace trace' : List Event) (log log' : List Applied) (port new : Port) (p : ℕ) →
+    port.number ≡ p → StepMade calls words words' trace trace' log log' port new → (es : List Event) × (trace' ≡ trace ++ es) × (ports_of es ≡ replicate 1 p)
 by_step calls words words' trace trace' log log' port new p number m =
-    ap ports_of m.trace_is ∙ map_push (λ (e : Event). e.port) trace (record { port = port.number; step = m.step; answer = answer_of words (m.step) }) ∙ ap (λ q. ports_of trace ++ q ∷ []) number
+    (record { port = port.number; step = m.step; answer = answer_of words (m.step) } ∷ [], m.trace_is, ap (λ q. q ∷ []) number)
 
-by_more : (p n k : ℕ) (old mid new : Run) → GoesOnBy n p old mid → GoesOnBy k p mid new → GoesOnBy (n + k) p old new
-by_more p n k old mid new a b =
-    b ∙ ap (λ (l : List ℕ). l ++ replicate k p) a ∙ append_assoc (ports_of old.memory.trace.items) (replicate n p) (replicate k p) ∙ ap (λ (l : List ℕ). ports_of old.memory.trace.items ++ l) (replicate-append-replicate n k p)
+abbrev pub by_more : (p n k : ℕ) (old mid new : Run) → GoesOnBy n p old mid → GoesOnBy k p mid new → GoesOnBy (n + k) p old new
+by_more p n k old mid new a b = record {
+  events = a.events ++ b.events;
+  trace = b.trace ∙ ap (λ (l : List Event). l ++ b.events) a.trace ∙ append_assoc old.memory.trace.items a.events b.events;
+  ports = map-append (λ (e : Event). e.port) a.events b.events ∙ ap (λ (l : List ℕ). l ++ ports_of b.events) a.ports ∙ ap (λ (l : List ℕ). replicate n p ++ l) b.ports ∙ replicate-append-replicate n k p;
+}
 
-pub turn_done : (plans : List (List Call)) (p : ℕ) (old new : Run) → GoesOnBy 0 p old new → StayDone plans old new → IsDone plans new.ports.items p → StayStoppedBut p old new → TurnMade plans p old false new
-turn_done plans p old new trace kept done ending = record { trace = trace; done = done; kept = kept; ending = ending }
-
-pub turn_stepped : (plans : List (List Call)) (p : ℕ) (old mid new : Run) → GoesOnBy 0 p old mid → StayDone plans old mid → IsReady p mid → GoesOnBy 1 p mid new → StayDone plans mid new → StayStoppedBut p old mid → StayStoppedWith p mid new → TurnMade plans p old true new
-turn_stepped plans p old mid new trace kept ready trace' kept' but with' =
-    record { trace = by_more p 0 1 old mid new trace trace'; done = λ d. ready_done plans p mid ready (kept p d); kept = λ q d. kept' q (kept q d); ending = λ q e. with' q (λ other. but q other e) }
-
-pub no_steps : (plans : List (List Call)) (p : ℕ) (run : Run) → StepsMade plans p 0 run run
-no_steps plans p run = record { trace = sym (append-nil (ports_of run.memory.trace.items)); none = λ d. refl; kept = λ q d. d }
-
-pub step_more : (plans : List (List Call)) (p n : ℕ) (old mid new : Run) → StepsMade plans p n old mid → TurnMade plans p mid true new → StepsMade plans p (n + 1) old new
-step_more plans p n old mid new s t =
-    record { trace = by_more p n 1 old mid new s.trace t.trace; none = λ d. absurd (t.done (s.kept p d)); kept = λ q d. t.kept q (s.kept q d) }
-
-pub steps_end : (plans : List (List Call)) (p n : ℕ) (old mid new : Run) → StepsMade plans p n old mid → TurnMade plans p mid false new → StepsMade plans p n old new
-steps_end plans p n old mid new s t =
-    let same : n + 0 ≡ n = omega arith in
-    record { trace = subst (λ k. GoesOnBy k p old new) same (by_more p n 0 old mid new s.trace t.trace); none = s.none; kept = λ q d. t.kept q (s.kept q d) }
+-- the ports of a trace that goes on
+pub ports_more : (n p : ℕ) (old new : Run) → GoesOnBy n p old new → ports_of new.memory.trace.items ≡ ports_of old.memory.trace.items ++ replicate n p
+ports_more n p old new g = ap ports_of g.trace ∙ map-append (λ (e : Event). e.port) old.memory.trace.items g.events ∙ ap (λ (l : List ℕ). ports_of old.memory.trace.items ++ l) g.ports
 
 -- one entry more
-own_events : (n p : ℕ) → filter (λ r. r == p) (replicate n p) ≡ replicate n p
+pub own_events : (n p : ℕ) → filter (λ r. r == p) (replicate n p) ≡ replicate n p
 own_events zero p = refl
 own_events (suc n) p = ap (λ (b : Bool). cond b (p ∷ filter (λ r. r == p) (replicate n p)) (filter (λ r. r == p) (replicate n p))) (same_eqb p p refl) ∙ ap (λ (l : List ℕ). p ∷ l) (own_events n p)
 
@@ -89,7 +78,7 @@ none_more : (q n p : ℕ) (ports : List ℕ) → events_in q ports ≡ 0 → (q 
 none_more q n p ports none same =
     ap length (filter-append (λ r. r == q) ports (replicate n p) ∙ ap (λ (l : List ℕ). filter (λ r. r == q) ports ++ l) (other_events q n p same) ∙ append-nil (filter (λ r. r == q) ports)) ∙ none
 
-turns_grow : (D E : ℕ → Type 0) (q : ℕ) (k : Option ℕ) (m n p : ℕ) (behind : List ℕ) → ((r : ℕ) → D r → E r) → (D p → n ≡ 0) → HasTurns D q k m behind → HasTurns E q k m (behind ++ replicate n p)
+pub turns_grow : (D E : ℕ → Type 0) (q : ℕ) (k : Option ℕ) (m n p : ℕ) (behind : List ℕ) → ((r : ℕ) → D r → E r) → (D p → n ≡ 0) → HasTurns D q k m behind → HasTurns E q k m (behind ++ replicate n p)
 turns_grow D E q None m n p behind more none h = (more q h.0, none_more q n p behind h.1 (λ e. none (subst D e h.0)))
 turns_grow D E q (Some k) m n p behind more none h = (h.0, λ less. let d = h.1 less in (more q d.0, none_more q n p behind d.1 (λ e. none (subst D e d.0))))
 
@@ -98,21 +87,15 @@ follows_push D E [] ports p n k more none last f = (n, [], ap (λ (l : List ℕ)
 follows_push D E (e ∷ es) ports p n k more none last f =
     (f.0, f.1 ++ replicate n p, ap (λ (l : List ℕ). l ++ replicate n p) f.2 ∙ append_assoc (replicate (f.0) e.0) (f.1) (replicate n p), turns_grow D E e.0 e.1 (f.0) n p (f.1) more none f.3, follows_push D E es (f.1) p n k more none last f.4)
 
-last_turns : (E : ℕ → Type 0) (p n : ℕ) (k : Option ℕ) → MatchOption k (E p) (λ t. (n ≤ t) × (n < t → E p)) → HasTurns E p k n []
+pub last_turns : (E : ℕ → Type 0) (p n : ℕ) (k : Option ℕ) → MatchOption k (E p) (λ t. (n ≤ t) × (n < t → E p)) → HasTurns E p k n []
 last_turns E p n None m = (m, refl)
 last_turns E p n (Some t) m = (m.0, λ less. (m.1 less, refl))
 
-pub followed : (plans : List (List Call)) (es : List (ℕ × Option ℕ)) (p : ℕ) (k : Option ℕ) (old new : Run) → HasMadeTurns plans es old → TurnsMade plans p k old new → HasMadeTurns plans (es ++ (p, k) ∷ []) new
+pub followed : (plans : List (List Call)) (es : List (ℕ × Option ℕ)) (p : ℕ) (k : Option ℕ) (old new : Run) →
+    HasMadeTurns plans es old → TurnsMade plans p k old new → HasMadeTurns plans (es ++ (p, k) ∷ []) new
 followed plans es p k old new f t =
-    subst (MakeTurns (IsDone plans new.ports.items) (es ++ (p, k) ∷ [])) (sym t.1.trace)
-    (follows_push (IsDone plans old.ports.items) (IsDone plans new.ports.items) es (ports_of old.memory.trace.items) p (t.0) k t.1.kept t.1.none (last_turns (IsDone plans new.ports.items) p (t.0) k t.2) f)
-
--- the turns of an entry that are all made in steps leave no call begun
-pub ending_turns : (plans : List (List Call)) (p n : ℕ) (old mid new : Run) → StayStopped old mid → TurnMade plans p mid true new → StayStopped old new
-ending_turns plans p n old mid new s t q e = t.ending q (s q e)
-
-pub ending_last : (plans : List (List Call)) (p n : ℕ) (turns : Option ℕ) (old mid new : Run) → StayStopped old mid → TurnMade plans p mid false new → (turns ≡ Some n → ⊥) → (q : ℕ) → (q ≡ p → turns ≡ Some n) → StopsAtStep old.ports.items q → StopsAtStep new.ports.items q
-ending_last plans p n turns old mid new s t fewer q all e = t.ending q (λ same. fewer (all same)) (s q e)
+    subst (MakeTurns (IsDone plans new.ports.items) (es ++ (p, k) ∷ [])) (sym (ports_more t.steps p old new t.made))
+    (follows_push (IsDone plans old.ports.items) (IsDone plans new.ports.items) es (ports_of old.memory.trace.items) p t.steps k t.kept t.none (last_turns (IsDone plans new.ports.items) p t.steps k t.all) f)
 
 -- one more entry, of the plan's
 turns_push : (q i : ℕ) (steps : List (ℕ × ℕ)) (e : ℕ × ℕ) → slice_get steps i ≡ Some e → turns_by q (take (i + 1) steps) ≡ turns_by q (take i steps) + cond (e.0 == q) e.1 0
@@ -123,7 +106,7 @@ turns_push q i steps e s =
     let none : turns_by q [] ≡ 0 = refl in
     omega (arith, last, both, next, none)
 
-events_push : (q n p : ℕ) (ports : List ℕ) → events_in q (ports ++ replicate n p) ≡ events_in q ports + events_in q (replicate n p)
+pub events_push : (q n p : ℕ) (ports : List ℕ) → events_in q (ports ++ replicate n p) ≡ events_in q ports + events_in q (replicate n p)
 events_push q n p ports = ap length (filter-append (λ r. r == q) ports (replicate n p)) ∙ length-append (filter (λ r. r == q) ports) (filter (λ r. r == q) (replicate n p))
 
 pub range_push : (a n : ℕ) → range_with_len a (n + 1) ≡ range_with_len a n ++ (a + n) ∷ []
@@ -137,21 +120,9 @@ range_push a (suc n) =
 pub next_steps : (steps : List (ℕ × ℕ)) (i : ℕ) (e : ℕ × ℕ) → slice_get steps i ≡ Some e → map so_many (take (i + 1) steps) ≡ map so_many (take i steps) ++ so_many e ∷ []
 next_steps steps i e s = ap (map so_many) (take_next steps i e s) ∙ map_push so_many (take i steps) e
 
-pub followed_next : (plans : List (List Call)) (steps : List (ℕ × ℕ)) (i : ℕ) (old new : Run) → i < length steps → HasMadeTurns plans (map so_many (take i steps)) old → TurnsMade plans (get_or steps i (0, 0)).0 (Some (get_or steps i (0, 0)).1) old new → HasMadeTurns plans (map so_many (take (i + 1) steps)) new
-followed_next plans steps i old new below f t =
-    let e = get_or steps i (0, 0) in
-    let next : map so_many (take (i + 1) steps) ≡ map so_many (take i steps) ++ so_many e ∷ [] = next_steps steps i e (get_is steps i (0, 0) below) in
-    subst (λ (es : List (ℕ × Option ℕ)). HasMadeTurns plans es new) (sym next) (followed plans (map so_many (take i steps)) e.0 (Some e.1) old new f t)
-
 -- all entries are behind
-pub followed_all : (plans : List (List Call)) (steps : List (ℕ × ℕ)) (i : ℕ) (run : Run) → length steps ≤ i → HasMadeTurns plans (map so_many (take i steps)) run → HasMadeTurns plans (map so_many steps ++ []) run
-followed_all plans steps i run past f = subst (λ (es : List (ℕ × Option ℕ)). HasMadeTurns plans es run) (ap (map so_many) (take_whole steps i past) ∙ sym (append-nil (map so_many steps))) f
-  where
-    take_whole : (xs : List (ℕ × ℕ)) (n : ℕ) → length xs ≤ n → take n xs ≡ xs
-    take_whole [] zero past = refl
-    take_whole [] (suc n) past = refl
-    take_whole (x ∷ xs) zero past = absurd (omega (arith, past))
-    take_whole (x ∷ xs) (suc n) past = ap (λ (l : List (ℕ × ℕ)). x ∷ l) (take_whole xs n (omega (arith, past)))
+pub all_steps : (steps : List (ℕ × ℕ)) (i : ℕ) → length steps ≤ i → map so_many (take i steps) ≡ map so_many steps ++ []
+all_steps steps i past = ap (map so_many) (take_all i steps past) ∙ sym (append-nil (map so_many steps))
 
 pub next_end : (front : List (ℕ × Option ℕ)) (n : ℕ) → front ++ map to_its_end (range_with_len 0 (n + 1)) ≡ (front ++ map to_its_end (range_with_len 0 n)) ++ to_its_end n ∷ []
 next_end front n =
@@ -170,28 +141,35 @@ events_own n p behind = events_more p n p behind ∙ ap (λ (l : List ℕ). leng
 events_other : (q n p : ℕ) (behind : List ℕ) → q ≢ p → events_in q (replicate n p ++ behind) ≡ events_in q behind
 events_other q n p behind away = events_more q n p behind ∙ ap (λ (l : List ℕ). length l + events_in q behind) (other_events q n p (λ h. absurd (away h))) ∙ omega arith
 
-made_is : (D : ℕ → Type 0) (q : ℕ) (k : Option ℕ) (n left : ℕ) (behind : List ℕ) → left ≡ n + events_in q behind → HasTurns D q k n behind → made_in k left ≡ n
+pub made_is : (D : ℕ → Type 0) (q : ℕ) (k : Option ℕ) (n left : ℕ) (behind : List ℕ) → left ≡ n + events_in q behind → HasTurns D q k n behind → made_in k left ≡ n
 made_is D q None n left behind is h = let none = h.1 in omega (arith, is, none)
 made_is D q (Some k) n left behind is h = elim (cases_lt n k) [
   | inl less ↦ let none = (h.1 less).1 in omega (arith, is, none, less)
   | inr from ↦ let within = h.0 in omega (arith, is, within, from)
 ]
 
+-- what each port has left behind an entry is what it makes behind it
+pub left_same : (D : ℕ → Type 0) (e : ℕ × Option ℕ) (n : ℕ) (behind : List ℕ) (left : ℕ → ℕ) → ((q : ℕ) → left q ≡ events_in q (replicate n e.0 ++ behind)) → HasTurns D e.0 e.1 n behind →
+    (made_in e.1 (left e.0) ≡ n) × ((q : ℕ) → left_behind e left q ≡ events_in q behind)
+left_same D e n behind left all h =
+    let p = e.0 in
+    let own : left p ≡ n + events_in p behind = all p ∙ events_own n p behind in
+    let made : made_in e.1 (left p) ≡ n = made_is D p e.1 n (left p) behind own h in (
+      made,
+      λ q. elim (eqb_tells q p) [
+        | inl is ↦ ap (λ (b : Bool). cond b (left q - made_in e.1 (left q)) (left q)) is.0 ∙ ap (λ r. left r - made_in e.1 (left r)) is.1 ∙ ap (λ k. left p - k) made ∙ omega (arith, own) ∙ ap (λ r. events_in r behind) (sym is.1)
+        | inr other ↦ ap (λ (b : Bool). cond b (left q - made_in e.1 (left q)) (left q)) other.0 ∙ all q ∙ events_other q n p behind other.1
+      ],
+    )
+
 -- the ports are the turns' ones, of each port the first ones, as many as it has events
 pub follows_ports : (D : ℕ → Type 0) (es : List (ℕ × Option ℕ)) (ports : List ℕ) (left : ℕ → ℕ) → ((q : ℕ) → left q ≡ events_in q ports) → MakeTurns D es ports → ports ≡ ports_in es left
 follows_ports D [] ports left same f = f
 follows_ports D (e ∷ es) ports left same f =
     let n = f.0 in
-    let p = e.0 in
     let behind = f.1 in
-    let all : (q : ℕ) → left q ≡ events_in q (replicate n p ++ behind) = λ q. same q ∙ ap (events_in q) f.2 in
-    let own : left p ≡ n + events_in p behind = all p ∙ events_own n p behind in
-    let made : made_in e.1 (left p) ≡ n = made_is D p e.1 n (left p) behind own f.3 in
-    let rest : (q : ℕ) → cond (q == p) (left q - made_in e.1 (left q)) (left q) ≡ events_in q behind = λ q. elim (eqb_tells q p) [
-      | inl is ↦ ap (λ (b : Bool). cond b (left q - made_in e.1 (left q)) (left q)) is.0 ∙ ap (λ r. left r - made_in e.1 (left r)) is.1 ∙ ap (λ k. left p - k) made ∙ omega (arith, own) ∙ ap (λ r. events_in r behind) (sym is.1)
-      | inr other ↦ ap (λ (b : Bool). cond b (left q - made_in e.1 (left q)) (left q)) other.0 ∙ all q ∙ events_other q n p behind other.1
-    ] in
-    f.2 ∙ ap (λ k. replicate k p ++ behind) (sym made) ∙ ap (λ (l : List ℕ). replicate (made_in e.1 (left p)) p ++ l) (follows_ports D es behind (λ q. cond (q == p) (left q - made_in e.1 (left q)) (left q)) rest f.4)
+    let next = left_same D e n behind left (λ q. same q ∙ ap (events_in q) f.2) f.3 in
+    f.2 ∙ ap (λ k. replicate k e.0 ++ behind) (sym next.0) ∙ ap (λ (l : List ℕ). replicate (made_in e.1 (left e.0)) e.0 ++ l) (follows_ports D es behind (left_behind e left) next.1 f.4)
 
 -- without the rest a port's events are as many as its turns, or fewer, and then it has made all its calls
 pub record WithinTurns (D : ℕ → Type 0) (q turns events : ℕ) : Type 0 where
@@ -240,24 +218,24 @@ pub ending_next : (plans : List (List Call)) (steps : List (ℕ × ℕ)) (i : �
 ending_next plans steps i old new below f ends t q same =
     let e = get_or steps i (0, 0) in
     let p = e.0 in
-    let n = t.0 in
+    let n = t.steps in
     let ports = ports_of old.memory.trace.items in
     let turns = turns_push q i steps e (get_is steps i (0, 0) below) in
-    let events : events_in q (ports_of new.memory.trace.items) ≡ events_in q ports + events_in q (replicate n p) = ap (events_in q) t.1.trace ∙ events_push q n p ports in
+    let events : events_in q (ports_of new.memory.trace.items) ≡ events_in q ports + events_in q (replicate n p) = ap (events_in q) (ports_more n p old new t.made) ∙ events_push q n p ports in
     let within = (within_turns (IsDone plans old.ports.items) q (take i steps) ports f).within in
-    let few = t.2.0 in
+    let few = t.all.0 in
     elim (eqb_tells p q) [
       | inl is ↦
           let own : events_in q (replicate n p) ≡ n = ap (λ r. events_in r (replicate n p)) (sym is.1) ∙ ap length (own_events n p) ∙ length-replicate n p in
           let more : cond (p == q) e.1 0 ≡ e.1 = ap (λ (b : Bool). cond b e.1 0) is.0 in
           let before : events_in q ports ≡ turns_by q (take i steps) = omega (arith, turns, events, within, few, own, more, same) in
           let all : e.1 ≡ n = omega (arith, turns, events, within, few, own, more, same) in
-          t.3 q (λ h. ap Some all) (ends q before)
+          t.ending q (λ h. ap Some all) (ends q before)
       | inr other ↦
           let none : events_in q (replicate n p) ≡ 0 = ap length (other_events q n p (λ h. absurd (other.1 (sym h)))) in
           let more : cond (p == q) e.1 0 ≡ 0 = ap (λ (b : Bool). cond b e.1 0) other.0 in
           let before : events_in q ports ≡ turns_by q (take i steps) = omega (arith, turns, events, none, more, same) in
-          t.3 q (λ h. absurd (other.1 (sym h))) (ends q before)
+          t.ending q (λ h. absurd (other.1 (sym h))) (ends q before)
     ]
 
 -- what the turns make of each port

@@ -6,21 +6,16 @@ use Rattle.partial_model.specs.declared.call.Answer.TheVariants as answer
 use Rattle.partial_model.specs.declared.call.Note.TheVariants as note
 use Rattle.partial_model.specs.declared.call.Called.{Called}
 use Rattle.partial_machine.specs.declared.stage.Reply.{Reply}
-use Rattle.partial_machine.specs.declared.stage.Stage.TheVariants.{Idle}
+use Rattle.partial_machine.specs.declared.stage.Stage.TheVariants.{Idle, ReadBegun, UpdateBegun}
 use Rattle.partial_machine.specs.Machine.{CoreState, at_stage, advance, step_of, reply_of}
 use Rattle.partial_machine.specs.Possible.{IsPossible}
-use Rattle.partial_machine.specs.Calls.{refusal_of, begun_of, answer_for}
-use Rattle.partial_replay.specs.Trace.{Moment}
+use Rattle.partial_machine.specs.Calls.{refusal_of, begun_of, answer_for, begin_scan, read_refusal, update_refusal, scan_refusal}
+use Rattle.partial_replay.specs.Trace.{Moment, last_behind}
 
 -- the machine makes these events, each of them its due step with an answer that words may give, and comes to that state
 abbrev pub Makes : CoreState → List Moment → CoreState → Type 0
 Makes s [] t = t ≡ s
 Makes s (x ∷ xs) t = (step_of s ≡ Some x.event.step) × IsPossible s x.event.answer × Makes (advance s x.event.answer) xs t
-
--- how long the history is behind the last of them, or where there is none
-abbrev pub last_behind : ℕ → List Moment → ℕ
-last_behind n [] = n
-last_behind n (x ∷ xs) = last_behind x.behind xs
 
 -- a call without steps: the machine refuses it at once
 pub record IsRefusedAtOnce (s : CoreState) (c : Called) (t : CoreState) : Type 0 where

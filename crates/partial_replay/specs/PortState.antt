@@ -30,6 +30,8 @@ use Rattle.partial_core.specs.Steps.{begun_with}
 use Rattle.partial_places.specs.ScanPlace.{HasRecord, HasRecords}
 use Rattle.partial_replay.specs.Trace.{Moment}
 use Rattle.partial_replay.specs.CallSteps.{Makes, IsCallOf, AreStepsOf}
+use Rattle.partial_replay.specs.Turns.{BeginInTurns}
+use Rattle.partial_replay.specs.Listed.{steps_in}
 use Rattle.partial_replay.specs.Place.{IsNoteFrom, HasLeastPlace}
 use Rattle.partial_replay.specs.declared.port.Port.{Port}
 use Rattle.partial_replay.specs.declared.port.UnderWay.{UnderWay}
@@ -223,3 +225,18 @@ pub record PortMade (z : Layout) (n : ℕ) (calls : List Call) (p : ℕ) (xs : L
 -- the port's events are still the steps of its calls
 abbrev pub KeepsMade : List Call → ℕ → Port → Port → Type 0
 KeepsMade calls seen old new = (z : Layout) (p : ℕ) (xs : List Moment) → PortMade z seen calls p xs old → PortMade z seen calls p xs new
+
+-- how many steps the call under way has made, if there is one
+abbrev pub steps_under_way : Option UnderWay → ℕ
+steps_under_way way = option_map_or (λ v. v.steps) way 0
+
+-- The port has had turns in which the history was so long, and has begun its calls in them. As long as calls are left
+-- it has made a step in each turn, but for so many of the last.
+pub record HasTurned (idle : ℕ) (calls : List Call) (lengths : List ℕ) (port : Port) : Type 0 where
+  pub finished : BeginInTurns lengths 0 port.finished.items
+  pub turns : length port.finished.items < length calls → length lengths ≡ steps_in port.finished.items + steps_under_way port.under_way + idle
+  pub way : IfSome port.under_way (λ v. slice_get lengths (steps_in port.finished.items) ≡ Some v.began)
+
+-- in a turn in which the history is so long the port begins its next calls
+abbrev pub BeginsInTurn : List Call → ℕ → Port → Port → Type 0
+BeginsInTurn calls seen old new = (lengths : List ℕ) → HasTurned 0 calls lengths old → HasTurned 1 calls (lengths ++ seen ∷ []) new

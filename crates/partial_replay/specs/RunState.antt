@@ -68,6 +68,22 @@ IsRun plans run = IsRunOf plans run.memory.sizes run.opening run.memory.words.it
 abbrev pub HasRoom : Run → Type 0
 HasRoom run = run.memory.places ≡ run.memory.sizes.m
 
+-- a replay of these calls: its state is lawful, and there is room to find the places of scans
+pub record IsReplay (plans : List (List Call)) (run : Run) : Type 0 where
+  pub state : IsRun plans run
+  pub room : HasRoom run
+  pub served : ArePlans run.memory.sizes.m plans
+
+-- a replay between two turns: each call under way has made a step
+pub record IsBetweenTurns (plans : List (List Call)) (run : Run) : Type 0 where
+  pub replay : IsReplay plans run
+  pub started : AreStarted run.ports.items
+
+-- only the ports are others
+pub record IsSameMemory (old new : Run) : Type 0 where
+  pub memory : new.memory ≡ old.memory
+  pub opening : new.opening ≡ old.opening
+
 -- a replay goes on with the same sizes from the same opening
 pub record IsSameOpening (old new : Run) : Type 0 where
   pub sizes : new.memory.sizes ≡ old.memory.sizes

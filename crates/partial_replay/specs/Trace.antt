@@ -46,3 +46,8 @@ moments_from m n (e ∷ es) = record { event = e; before = n; behind = n + adds 
 -- the moments of port q's events
 abbrev pub moments_by : ℕ → ℕ → List Event → List Moment
 moments_by m q trace = filter (λ x. x.event.port == q) (moments_from m 0 trace)
+
+-- how long the history is behind the last of these moments, or with n entries where there is none
+abbrev pub last_behind : ℕ → List Moment → ℕ
+last_behind n [] = n
+last_behind n (x ∷ xs) = last_behind x.behind xs

@@ -1,10 +1,12 @@
 -- The turns of a replay: whose events they have made, and which ports have made all their calls.
-use Rattle.std.specs.Prelude.{ℕ, ◌≡◌, ◌≢◌, ◌<◌, ◌≤◌, ◌++◌, Bool, List, [], ◌∷◌, length, replicate, slice_get, Option, Some, None, MatchOption, MatchBool, if◌then◌else◌}
+use Rattle.std.specs.Prelude.{ℕ, ◌≡◌, ◌≢◌, ◌<◌, ◌≤◌, ◌==◌, ◌++◌, Bool, List, [], ◌∷◌, length, map, replicate, slice_get, Option, Some, None, MatchOption, MatchBool, if◌then◌else◌}
 use Rattle.partial_model.specs.declared.call.Call.{Call}
 use Rattle.partial_replay.specs.declared.port.Port.{Port}
 use Rattle.partial_replay.specs.declared.run.Run.{Run}
-use Rattle.partial_replay.specs.Trace.{ports_of, events_in}
-use Rattle.partial_replay.specs.Turns.{turns_by}
+use Rattle.partial_words.specs.declared.step.Event.{Event}
+use Rattle.partial_replay.specs.Trace.{Moment, ports_of, events_in, moments_from}
+use Rattle.partial_replay.specs.Turns.{turns_by, lengths_of, lengths_in}
+use Rattle.partial_replay.specs.PortState.{HasTurned}
 use Rattle.partial_replay.specs.Listed.{EndInStep}
 
 -- the port with that number has made all its calls
@@ -37,25 +39,63 @@ abbrev pub StayStoppedWith : ℕ → Run → Run → Type 0
 StayStoppedWith p old new = (q : ℕ) → (q ≢ p → StopsAtStep old.ports.items q) → StopsAtStep new.ports.items q
 
 -- the trace goes on with n events of port p
-abbrev pub GoesOnBy : ℕ → ℕ → Run → Run → Type 0
-GoesOnBy n p old new = ports_of new.memory.trace.items ≡ ports_of old.memory.trace.items ++ replicate n p
+pub record GoesOnBy (n p : ℕ) (old new : Run) : Type 0 where
+  pub events : List Event
+  pub trace : new.memory.trace.items ≡ old.memory.trace.items ++ events
+  pub ports : ports_of events ≡ replicate n p
+
+-- port q has begun its calls in turns in which the history was so long
+abbrev pub HasBegun : ℕ → List (List Call) → ℕ → List ℕ → List Port → Type 0
+HasBegun idle plans q lengths ports = (calls : List Call) (port : Port) →
+    slice_get plans q ≡ Some calls → slice_get ports q ≡ Some port → HasTurned idle calls lengths port
+
+-- the turns that are port q's, of those of port p
+abbrev pub own_turns : ℕ → ℕ → List ℕ → List ℕ
+own_turns q p lengths = if p == q then lengths else []
+
+-- in a turn of port p in which the history is so long that port begins its next calls, and no other does
+abbrev pub BeginsIn : List (List Call) → ℕ → ℕ → List Port → List Port → Type 0
+BeginsIn plans p seen old new = (q : ℕ) (lengths : List ℕ) → HasBegun 0 plans q lengths old →
+    (q ≢ p → HasBegun 0 plans q lengths new) × (q ≡ p → HasBegun 1 plans q (lengths ++ seen ∷ []) new)
+
+-- in the turn port p then makes a step
+abbrev pub StepsIn : List (List Call) → ℕ → List Port → List Port → Type 0
+StepsIn plans p old new = (q : ℕ) (lengths : List ℕ) →
+    (q ≢ p → HasBegun 0 plans q lengths old) → (q ≡ p → HasBegun 1 plans q lengths old) → HasBegun 0 plans q lengths new
+
+-- port p has had turns in which the history was so long, and the ports have begun their calls in their turns
+abbrev pub GoesOnIn : List (List Call) → ℕ → List ℕ → Run → Run → Type 0
+GoesOnIn plans p own old new = (q : ℕ) (lengths : List ℕ) →
+    HasBegun 0 plans q lengths old.ports.items → HasBegun 0 plans q (lengths ++ own_turns q p own) new.ports.items
+
+-- the events of a run from another one on, each with the lengths of the history
+abbrev pub moments_behind : Run → List Event → List Moment
+moments_behind old events = moments_from old.memory.sizes.m (length old.memory.history.items) events
 
 -- a turn of port p: it makes a step, or has made all its calls
 pub record TurnMade (plans : List (List Call)) (p : ℕ) (old : Run) (stepped : Bool) (new : Run) : Type 0 where
-  pub trace : GoesOnBy (if stepped then 1 else 0) p old new
+  pub made : GoesOnBy (if stepped then 1 else 0) p old new
+  pub begun : GoesOnIn plans p (length old.memory.history.items ∷ []) old new
   pub done : MatchBool stepped (¬ IsDone plans old.ports.items p) (IsDone plans new.ports.items p)
   pub kept : StayDone plans old new
   pub ending : MatchBool stepped (StayStopped old new) (StayStoppedBut p old new)
 
 -- turns of port p in a row in which it made n steps
 pub record StepsMade (plans : List (List Call)) (p n : ℕ) (old new : Run) : Type 0 where
-  pub trace : GoesOnBy n p old new
+  pub made : GoesOnBy n p old new
+  pub begun : GoesOnIn plans p (map (λ x. x.before) (moments_behind old made.events)) old new
   pub none : IsDone plans old.ports.items p → n ≡ 0
   pub kept : StayDone plans old new
 
 -- turns of port p in a row, so many or to its end: it makes a step in each until it has made all its calls
-abbrev pub TurnsMade : List (List Call) → ℕ → Option ℕ → Run → Run → Type 0
-TurnsMade plans p turns old new = (n : ℕ) × StepsMade plans p n old new × MatchOption turns (IsDone plans new.ports.items p) (λ k. (n ≤ k) × (n < k → IsDone plans new.ports.items p)) × ((q : ℕ) → (q ≡ p → turns ≡ Some n) → StopsAtStep old.ports.items q → StopsAtStep new.ports.items q)
+pub record TurnsMade (plans : List (List Call)) (p : ℕ) (turns : Option ℕ) (old new : Run) : Type 0 where
+  pub steps : ℕ
+  pub made : GoesOnBy steps p old new
+  pub begun : GoesOnIn plans p (lengths_of turns (length old.memory.history.items) (moments_behind old made.events)) old new
+  pub none : IsDone plans old.ports.items p → steps ≡ 0
+  pub kept : StayDone plans old new
+  pub all : MatchOption turns (IsDone plans new.ports.items p) (λ k. (steps ≤ k) × (steps < k → IsDone plans new.ports.items p))
+  pub ending : (q : ℕ) → (q ≡ p → turns ≡ Some steps) → StopsAtStep old.ports.items q → StopsAtStep new.ports.items q
 
 -- Port q has made n steps in an entry, and these events are behind it: a step in each turn until it has made
 -- all its calls, which D says.
@@ -75,3 +115,12 @@ StopAtSteps steps run = (q : ℕ) → events_in q (ports_of run.memory.trace.ite
 -- the replay has made these turns
 abbrev pub HasMadeTurns : List (List Call) → List (ℕ × Option ℕ) → Run → Type 0
 HasMadeTurns plans turns run = MakeTurns (IsDone plans run.ports.items) turns (ports_of run.memory.trace.items)
+
+-- how long the history was at each of port q's turns so far, where the replay has made these
+abbrev pub lengths_so_far : ℕ → List (ℕ × Option ℕ) → Run → List ℕ
+lengths_so_far q turns run =
+    lengths_in q turns (λ r. events_in r (ports_of run.memory.trace.items)) 0 (moments_from run.memory.sizes.m 0 run.memory.trace.items)
+
+-- each port has begun its calls in its turns
+abbrev pub HaveBegun : List (List Call) → List (ℕ × Option ℕ) → Run → Type 0
+HaveBegun plans turns run = (q : ℕ) → HasBegun 0 plans q (lengths_so_far q turns run) run.ports.items

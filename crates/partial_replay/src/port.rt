@@ -6,7 +6,7 @@ ghost use Rattle.std.specs.List.{AllByRecursion};
 ghost use Rattle.partial_machine.specs.declared.stage.Stage.TheVariants.{Idle};
 ghost use Rattle.partial_machine.specs.Machine.{reply_of};
 ghost use Rattle.partial_machine.specs.Calls.{answer_for, begun_of, refusal_of, IsServed};
-ghost use Rattle.partial_replay.specs.PortState.{IsExchangeWithin, AreWithin, IsDoneAtOnce, MayAnswer, call_at_once, entry_at, unfinished_call, IsEndedCall, KeepsFit, KeepsMade, MayStep, StepMade};
+ghost use Rattle.partial_replay.specs.PortState.{IsExchangeWithin, AreWithin, IsDoneAtOnce, MayAnswer, call_at_once, entry_at, unfinished_call, IsEndedCall, KeepsFit, KeepsMade, MayStep, StepMade, BeginsInTurn};
 
 use crate::memory::Memory;
 use crate::note::note_of;
@@ -127,6 +127,7 @@ impl Port {
         requires served { AllByRecursion (IsServed self.old.core.sizes.m) calls.now }
         ensures fits { OnOk result (KeepsFit calls.now seen self.old self.new) }
         ensures made { OnOk result (KeepsMade calls.now seen self.old self.new) }
+        ensures turn { OnOk result (BeginsInTurn calls.now seen self.old self.new) }
         ensures sizes { OnOk result (self.new.core.sizes ≡ self.old.core.sizes) }
         ensures more { OnOk result (length self.old.finished.items ≤ length self.new.finished.items) }
         ensures begun { IfOk result (λ begun. MatchBool begun (IsSome self.new.under_way × (length self.new.finished.items < length calls.now))

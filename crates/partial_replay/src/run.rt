@@ -37,8 +37,8 @@ fn opening_words(alloc: Global, sizes: Sizes, initial: &[u64]) -> Result<Vec<u64
 }
 
 impl Run {
-    ghost use Rattle.partial_replay.specs.RunState.{ArePlans, AreStarted, HasRoom, IsReady, IsRun, IsSameOpening, Tells, left_at};
-    ghost use Rattle.partial_replay.specs.TurnState.{StopAtSteps, GoesOnBy, IsDone, StayDone, StayStoppedBut, StayStoppedWith, TurnMade, TurnsMade};
+    ghost use Rattle.partial_replay.specs.RunState.{ArePlans, AreStarted, IsBetweenTurns, IsReady, IsReplay, IsSameMemory, IsSameOpening, Tells, left_at};
+    ghost use Rattle.partial_replay.specs.TurnState.{BeginsIn, GoesOnBy, HaveBegun, IsDone, StayDone, StayStoppedBut, StayStoppedWith, StepsIn, StopAtSteps, TurnMade, TurnsMade};
 
     /// The replay as it opens, with the ports of a plan.
     pub fn open(
@@ -50,11 +50,11 @@ impl Run {
         requires sizes { IsLayout sizes }
         requires values { length initial.now ≡ sizes.m }
         requires ports { length plans.now ≤ 64 }
-        ensures run { IfOk result (IsRun plans.now) }
+        requires plans { ArePlans sizes.m plans.now }
+        ensures between { IfOk result (IsBetweenTurns plans.now) }
         ensures opening { IfOk result (λ run. (run.memory.sizes ≡ sizes) × (run.opening.values ≡ initial.now)) }
-        ensures room { IfOk result HasRoom }
         ensures trace { IfOk result (λ run. run.memory.trace.items ≡ []) }
-        ensures started { IfOk result (λ run. AreStarted run.ports.items) }
+        ensures begun { IfOk result (HaveBegun plans.now []) }
         ensures ending { IfOk result (StopAtSteps []) }
     {
         let first = u64::from(sizes.pool_base());
@@ -81,15 +81,10 @@ impl Run {
         p: usize,
         plans: &[Sequence<Call>],
     ) -> Result<bool, AllocError>
-        requires run { IsRun plans.now self.old }
-        requires room { HasRoom self.old }
-        requires started { AreStarted self.old.ports.items }
-        requires plans { ArePlans self.old.memory.sizes.m plans.now }
+        requires between { IsBetweenTurns plans.now self.old }
         requires port { p < length plans.now }
-        ensures run { OnOk result (IsRun plans.now self.new) }
-        ensures room { OnOk result (HasRoom self.new) }
+        ensures between { OnOk result (IsBetweenTurns plans.now self.new) }
         ensures same { OnOk result (IsSameOpening self.old self.new) }
-        ensures started { OnOk result (AreStarted self.new.ports.items) }
         ensures turn { IfOk result (λ stepped. TurnMade plans.now p self.old stepped self.new) }
         ensures progress { IfOk result (λ stepped. OnTrue stepped (left_at p plans.now self.new.ports.items < left_at p plans.now self.old.ports.items)) }
     {
@@ -107,16 +102,12 @@ impl Run {
         p: usize,
         plans: &[Sequence<Call>],
     ) -> Result<bool, AllocError>
-        requires run { IsRun plans.now self.old }
-        requires room { HasRoom self.old }
-        requires started { AreStarted self.old.ports.items }
-        requires plans { ArePlans self.old.memory.sizes.m plans.now }
+        requires between { IsBetweenTurns plans.now self.old }
         requires port { p < length plans.now }
-        ensures run { OnOk result (IsRun plans.now self.new) }
-        ensures room { OnOk result (HasRoom self.new) }
-        ensures same { OnOk result (IsSameOpening self.old self.new) }
+        ensures replay { OnOk result (IsReplay plans.now self.new) }
+        ensures same { OnOk result (IsSameMemory self.old self.new) }
         ensures ready { IfOk result (λ ready. MatchBool ready (IsReady p self.new) (IsDone plans.now self.new.ports.items p × AreStarted self.new.ports.items)) }
-        ensures trace { OnOk result (GoesOnBy 0 p self.old self.new) }
+        ensures begun { OnOk result (BeginsIn plans.now p (length self.old.memory.history.items) self.old.ports.items self.new.ports.items) }
         ensures done { OnOk result (StayDone plans.now self.old self.new) }
         ensures ending { OnOk result (StayStoppedBut p self.old self.new) }
         ensures left { OnOk result (left_at p plans.now self.new.ports.items ≤ left_at p plans.now self.old.ports.items) }
@@ -138,16 +129,13 @@ impl Run {
         p: usize,
         plans: &[Sequence<Call>],
     ) -> Result<(), AllocError>
-        requires run { IsRun plans.now self.old }
-        requires room { HasRoom self.old }
-        requires plans { ArePlans self.old.memory.sizes.m plans.now }
+        requires replay { IsReplay plans.now self.old }
         requires port { p < length plans.now }
         requires ready { IsReady p self.old }
-        ensures run { OnOk result (IsRun plans.now self.new) }
-        ensures room { OnOk result (HasRoom self.new) }
+        ensures between { OnOk result (IsBetweenTurns plans.now self.new) }
         ensures same { OnOk result (IsSameOpening self.old self.new) }
-        ensures started { OnOk result (AreStarted self.new.ports.items) }
         ensures trace { OnOk result (GoesOnBy 1 p self.old self.new) }
+        ensures begun { OnOk result (StepsIn plans.now p self.old.ports.items self.new.ports.items) }
         ensures ending { OnOk result (StayStoppedWith p self.old self.new) }
         ensures done { OnOk result (StayDone plans.now self.old self.new) }
         ensures progress { OnOk result (left_at p plans.now self.new.ports.items < left_at p plans.now self.old.ports.items) }
@@ -165,15 +153,10 @@ impl Run {
         plans: &[Sequence<Call>],
         count: u32,
     ) -> Result<(), AllocError>
-        requires run { IsRun plans.now self.old }
-        requires room { HasRoom self.old }
-        requires started { AreStarted self.old.ports.items }
-        requires plans { ArePlans self.old.memory.sizes.m plans.now }
+        requires between { IsBetweenTurns plans.now self.old }
         requires port { p < length plans.now }
-        ensures run { OnOk result (IsRun plans.now self.new) }
-        ensures room { OnOk result (HasRoom self.new) }
+        ensures between { OnOk result (IsBetweenTurns plans.now self.new) }
         ensures same { OnOk result (IsSameOpening self.old self.new) }
-        ensures started { OnOk result (AreStarted self.new.ports.items) }
         ensures turns { OnOk result (TurnsMade plans.now p (Some count) self.old self.new) }
     {
         for _ in 0..count {
@@ -191,15 +174,10 @@ impl Run {
         p: usize,
         plans: &[Sequence<Call>],
     ) -> Result<(), AllocError>
-        requires run { IsRun plans.now self.old }
-        requires room { HasRoom self.old }
-        requires started { AreStarted self.old.ports.items }
-        requires plans { ArePlans self.old.memory.sizes.m plans.now }
+        requires between { IsBetweenTurns plans.now self.old }
         requires port { p < length plans.now }
-        ensures run { OnOk result (IsRun plans.now self.new) }
-        ensures room { OnOk result (HasRoom self.new) }
+        ensures between { OnOk result (IsBetweenTurns plans.now self.new) }
         ensures same { OnOk result (IsSameOpening self.old self.new) }
-        ensures started { OnOk result (AreStarted self.new.ports.items) }
         ensures turns { OnOk result (TurnsMade plans.now p None self.old self.new) }
     {
         while self.turn(alloc, p, plans)? {}
@@ -212,8 +190,7 @@ impl Run {
         alloc: Global,
         plans: &[Sequence<Call>],
     ) -> Result<Outcome, AllocError>
-        requires run { IsRun plans.now self }
-        requires plans { ArePlans self.memory.sizes.m plans.now }
+        requires { IsReplay plans.now self }
         ensures { IfOk result (Tells plans.now self) }
     {
         let Run {

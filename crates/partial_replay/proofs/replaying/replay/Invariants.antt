@@ -1,28 +1,26 @@
 use Rattle.std.proofs.Common.{◌≡◌, ◌++◌, map, take}
 use Rattle.std.specs.List.{range_with_len}
 use Rattle.partial_replay.specs.Turns.{so_many, to_its_end}
-use Rattle.partial_replay.specs.RunState.{AreStarted, HasRoom, IsRun}
-use Rattle.partial_replay.specs.TurnState.{StopAtSteps, HasMadeTurns}
+use Rattle.partial_replay.specs.RunState.{IsBetweenTurns}
+use Rattle.partial_replay.specs.TurnState.{StopAtSteps, HasMadeTurns, HaveBegun}
 use Rattle.partial_replay.proofs.replaying.replay.Given as goal
 
--- the state stays lawful, is of the plan's sizes and values, and has followed the turns so far
+-- the replay is of the plan's sizes and values, and has made the turns so far
 abbrev pub invariant-loop-p : goal.invariant-loop-p
 invariant-loop-p l = record {
-  run : IsRun l.plans l.run;
-  room : HasRoom l.run;
-  started : AreStarted l.run.ports.items;
+  between : IsBetweenTurns l.plans l.run;
   sizes : l.run.memory.sizes ≡ l.plan.sizes;
   values : l.run.opening.values ≡ l.plan.initial;
   turns : HasMadeTurns l.plans (map so_many (take l.p-index l.plan.steps)) l.run;
+  begun : HaveBegun l.plans (map so_many (take l.p-index l.plan.steps)) l.run;
   ending : StopAtSteps (take l.p-index l.plan.steps) l.run;
 }
 
 abbrev pub invariant-loop-p-then-rest : goal.invariant-loop-p-then-rest
 invariant-loop-p-then-rest l = record {
-  run : IsRun l.plans l.run;
-  room : HasRoom l.run;
-  started : AreStarted l.run.ports.items;
+  between : IsBetweenTurns l.plans l.run;
   sizes : l.run.memory.sizes ≡ l.plan.sizes;
   values : l.run.opening.values ≡ l.plan.initial;
   turns : HasMadeTurns l.plans (map so_many l.plan.steps ++ map to_its_end (range_with_len 0 l.p)) l.run;
+  begun : HaveBegun l.plans (map so_many l.plan.steps ++ map to_its_end (range_with_len 0 l.p)) l.run;
 }

@@ -7,6 +7,7 @@ use Rattle.partial_machine.specs.Calls.{IsServed}
 use Rattle.partial_replay.specs.PortState.{IsDoneAtOnce}
 use Rattle.partial_replay.proofs.PortLaws.{begun_fits, once_fits, once_idle, once_sizes, call_at_place, match_none, match_some}
 use Rattle.partial_replay.proofs.PortSteps.{begun_made, once_made}
+use Rattle.partial_replay.proofs.PortTurns.{turn_comes, turn_once, turn_begins}
 use Rattle.partial_replay.proofs.port.Port.begin_next.Goals as goal
 
 -- the call is one that the machine serves
@@ -43,6 +44,27 @@ returns-in-None-clause-made c z p xs m =
     let begun = match_none c.in_ok-called.field-0 _ _ c.in_ok-called.ensures c.in-None.is in
     begun_made z c.args.seen calls p xs port _ call (c.loop-alloc.invariant.made z p xs m) c.loop-alloc.invariant.none next begun.0 begun.2 refl refl
 
+pub returns-in-None-clause-turn : goal.returns-in-None-clause-turn
+returns-in-None-clause-turn c lengths w =
+    let port = c.loop-alloc.self in
+    let below : length port.finished.items < length c.args.calls.now = omega (arith, port.finished.ok.0) in
+    turn_begins c.args.calls.now lengths c.args.seen port _ below c.loop-alloc.invariant.none refl refl (c.loop-alloc.invariant.turn lengths w)
+
+pub returns-clause-turn : goal.returns-clause-turn
+returns-clause-turn c = c.loop-alloc.invariant.turn
+
+pub loop-alloc-init : goal.loop-alloc-init
+loop-alloc-init c = record {
+  idle = c.requires.idle;
+  none = c.requires.none;
+  sizes = refl;
+  few = c.requires.few;
+  more = omega arith;
+  fits = λ o log p x n w. w;
+  made = λ z p xs m. m;
+  turn = λ lengths w. turn_comes c.args.calls.now lengths c.args.seen c.args.self.now w;
+}
+
 pub loop-alloc-preserved : goal.loop-alloc-preserved
 loop-alloc-preserved c =
     let port = c.loop-alloc.self in
@@ -64,5 +86,6 @@ loop-alloc-preserved c =
       few = omega (arith, longer, below, same);
       more = let grown = c.loop-alloc.invariant.more in omega (arith, longer, grown);
       fits = λ o log p x n w. once_fits o log calls p x port _ call called (c.loop-alloc.invariant.fits o log p x n w) c.loop-alloc.invariant.none next (subst (λ (m : ℕ). IsDoneAtOnce port.number (length port.finished.items) call m port.core core called) (sym n) here) refl pushed c.loop-alloc.invariant.none;
+      turn = λ lengths w. turn_once calls lengths c.args.seen port _ called (omega (arith, below, same)) c.loop-alloc.invariant.none c.loop-alloc.invariant.none done.began done.steps pushed (c.loop-alloc.invariant.turn lengths w);
       made = λ z p xs m. once_made z c.args.seen calls p xs port _ call called (c.loop-alloc.invariant.made z p xs m) c.loop-alloc.invariant.none here pushed c.loop-alloc.invariant.none;
     }

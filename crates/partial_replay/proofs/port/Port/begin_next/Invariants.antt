@@ -1,6 +1,6 @@
 use Rattle.std.proofs.Common.{◌≡◌, ◌≤◌, ◌-◌, length, None}
 use Rattle.partial_machine.specs.declared.stage.Stage.TheVariants.{Idle}
-use Rattle.partial_replay.specs.PortState.{KeepsFit, KeepsMade}
+use Rattle.partial_replay.specs.PortState.{BeginsInTurn, KeepsFit, KeepsMade}
 use Rattle.partial_replay.proofs.port.Port.begin_next.Given as goal
 
 -- the machine is idle and of the same sizes, and the port goes on as its part's port
@@ -13,6 +13,7 @@ invariant-loop-alloc l = record {
   more : length l.fn.self.finished.items ≤ length l.self.finished.items;
   fits : KeepsFit l.calls l.seen l.fn.self l.self;
   made : KeepsMade l.calls l.seen l.fn.self l.self;
+  turn : BeginsInTurn l.calls l.seen l.fn.self l.self;
 }
 
 abbrev pub decreases-loop-alloc : goal.decreases-loop-alloc

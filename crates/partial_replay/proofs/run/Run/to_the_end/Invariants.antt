@@ -1,11 +1,16 @@
 use Rattle.std.proofs.Common.{ℕ}
-use Rattle.partial_replay.specs.RunState.{AreStarted, HasRoom, IsRun, IsSameOpening, left_at}
+use Rattle.partial_replay.specs.RunState.{IsBetweenTurns, IsSameOpening, left_at}
 use Rattle.partial_replay.specs.TurnState.{StayStopped, StepsMade}
 use Rattle.partial_replay.proofs.run.Run.to_the_end.Given as goal
 
--- the state stays lawful, and a step was made in each turn
+-- the replay is between two turns, and a step was made in each turn
 abbrev pub invariant-loop : goal.invariant-loop
-invariant-loop l = record { run : IsRun l.plans l.self; room : HasRoom l.self; started : AreStarted l.self.ports.items; ending : StayStopped l.fn.self l.self; same : IsSameOpening l.fn.self l.self; steps : (n : ℕ) × StepsMade l.plans l.p n l.fn.self l.self }
+invariant-loop l = record {
+  between : IsBetweenTurns l.plans l.self;
+  same : IsSameOpening l.fn.self l.self;
+  ending : StayStopped l.fn.self l.self;
+  steps : (n : ℕ) × StepsMade l.plans l.p n l.fn.self l.self;
+}
 
 abbrev pub decreases-loop : goal.decreases-loop
 decreases-loop l = left_at l.p l.plans l.self.ports.items
