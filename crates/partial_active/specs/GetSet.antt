@@ -145,6 +145,10 @@ advance_at Done p x = p
 abbrev pub advance : Pair → ℕ → Pair
 advance p x = advance_at p.0.stage p x
 
+-- the steps of a getSet at most
+abbrev pub most_steps : Layout → ℕ
+most_steps s = s.slots * (s.m + 3) + s.lists + 6
+
 -- the steps that are left at most to publish a list
 abbrev pub publish_left : Layout → ℕ
 publish_left s = s.slots + 4
@@ -155,7 +159,7 @@ walk_left s slot = (s.slots - slot) * (s.m + 2) + publish_left s
 
 -- the steps that are left at most
 abbrev pub left_at : Layout → Stage → ℕ
-left_at s Head = s.slots * (s.m + 3) + s.lists + 6
+left_at s Head = most_steps s
 left_at s (ListLen at) = list_end s - at + 1 + walk_left s 0
 left_at s (ListLow at left) = 2 * left + 1 + walk_left s 0
 left_at s (ListHigh at left lo) = 2 * left + walk_left s 0

@@ -97,7 +97,7 @@ impl Model for GetSet {
 
 impl GetSet {
     ghost use Rattle.partial_active.specs.Found.{Buffers, IsFor};
-    ghost use Rattle.partial_active.specs.GetSet.{step_of, advance, left_of, fresh, after_walk, at_slot, come_to, after_head, after_list_len, after_interval, after_counter, after_slot, after_len, after_index, after_claim, after_write};
+    ghost use Rattle.partial_active.specs.GetSet.{step_of, advance, left_of, most_steps, fresh, after_walk, at_slot, come_to, after_head, after_list_len, after_interval, after_counter, after_slot, after_len, after_index, after_claim, after_write};
     ghost use Rattle.partial_active.specs.GetSetAnswers.{IsPossible, GoTogether, IsWalking, IsAtSlot, IsReading, IsNextLow, IsListHead, IsListLen, IsSlotWord, IsAnnouncedLen, IsListClaim, EndsBelow, HasRead, HasNext};
 
     /// A getSet of a port that is marked for the list words, or isn't. It takes no memory: the buffers
@@ -105,7 +105,7 @@ impl GetSet {
     pub fn new(sizes: Sizes, lists_spent: bool) -> GetSet
         ensures state { result ≡ fresh sizes lists_spent }
         ensures together { (f : Buffers) → IsFor sizes f → GoTogether (result, f) }
-        ensures steps { left_of result ≡ sizes.slots * (sizes.m + 3) + sizes.lists + 6 }
+        ensures steps { left_of result ≡ most_steps sizes }
     {
         let _slots = sizes.slots();
         GetSet {

@@ -1,26 +1,44 @@
 -- The one law of steps, over all stages, and how a call begins.
-use Rattle.std.proofs.Common.{ℕ, ◌≡◌, ◌+◌, ◌++◌, Bool, true, false, cond, Some, None, List, [], ◌∷◌, length, MatchBool, refl, sym, ap, subst, ◌∙◌, arith}
+use Rattle.std.proofs.Common.{ℕ, ◌≡◌, ◌+◌, ◌<◌, ◌≤◌, ◌++◌, ◌⊎◌, Bool, true, false, cond, Some, None, List, [], ◌∷◌, length, take, get_or, refl, sym, ap, subst, ◌∙◌, inl, inr, arith}
 use Rattle.std.specs.List.{IsDistinct}
-use Rattle.std.specs.Prelude.{nat_eq}
+use Rattle.std.specs.Prelude.{nat_eq, IfSome}
 use Rattle.std.proofs.lemmas.Bool.{false≢true}
-use Rattle.std.proofs.lemmas.List.{append-nil}
+use Rattle.std.proofs.lemmas.List.{append-nil, take_all}
 use Rattle.partial_model.specs.declared.history.Applied.{Applied}
 use Rattle.partial_model.specs.declared.history.Opening.{Opening}
-use Rattle.partial_model.specs.Notes.{LegalNotes, seen_by}
+use Rattle.partial_model.specs.Notes.{Noted, LegalNotes, seen_by}
 use Rattle.partial_model.specs.Outcome.{places_by}
 use Rattle.partial_words.specs.declared.step.Step.{Step}
 use Rattle.partial_words.specs.declared.step.Step.TheVariants.{Add}
-use Rattle.partial_words.specs.Layout.{Layout, pool_counter}
+use Rattle.partial_words.specs.Layout.{Layout, IsLayout, pool_counter, list_base, pool_end, total}
+use Rattle.partial_words.specs.Announcement.{announcement_size}
+use Rattle.partial_words.specs.Step.{answer_of, words_after}
 use Rattle.partial_active.specs.Found.{IsFor as AreBuffersFor}
 use Rattle.partial_embedded.specs.Embedded.{IsFor as AreRowsFor}
+use Rattle.partial_machine.specs.declared.stage.Change.{Change}
 use Rattle.partial_machine.specs.declared.stage.Stage.{Stage}
 use Rattle.partial_machine.specs.declared.stage.Stage.TheVariants.{Idle, ReadBegun, LoadingValue, UpdateBegun, GettingSet, Viewing, ClaimingRecord, StoringRecord, Exchanging, ScanBegun, StoringAnnouncement, Joining, Scanning, Leaving, Finished}
-use Rattle.partial_machine.specs.Machine.{CoreState, lists_spent, record_size, step_at, step_of, AreComponents, is_sound_at}
-use Rattle.partial_state.specs.Holdings.{Holding}
+use Rattle.partial_machine.specs.Machine.{CoreState, lists_spent, record_size, advance, step_at, step_of, reply_of}
+use Rattle.partial_machine.specs.Calls.{is_begun, is_at_rest, begun_like}
+use Rattle.partial_machine.specs.Sound.{AreComponents, is_sound_at}
+use Rattle.partial_machine.specs.Possible.{IsPossible}
+use Rattle.partial_machine.specs.Behind.{IsBehind}
+use Rattle.partial_machine.proofs.Sound.{size_few}
+use Rattle.partial_machine.proofs.Behind.{answers_lead_on}
+use Rattle.partial_state.specs.Holdings.{Holding, unpublished, others_of}
+use Rattle.partial_state.specs.LawfulWords.{IsDue}
+use Rattle.partial_state.specs.Loads.{IsLoaded, IsPublished}
 use Rattle.partial_state.specs.Effects.{Keeps}
-use Rattle.partial_core.specs.Lawful.{Part, Lawful, IsKnown, core_of, port_of, holding_of, holdings, joined_since, MayBegin, MayBeginAt, is_begun, is_at_rest, begun_like, begun_with, kept_with, since_with, LeadsOn, StepsStayLawful}
-use Rattle.partial_core.proofs.Parts.{changed, holdings_split, once_same}
-use Rattle.partial_core.proofs.Steps.{LeadsAt, holding_in, known_here, sizes_here, sound_here, port_here, memory_here}
+use Rattle.partial_state.proofs.LoadLaw.{loads_are_true}
+use Rattle.partial_core.specs.Part.{Part, core_of, port_of, HasBegun, IsLedTo, has_no_step}
+use Rattle.partial_core.specs.Held.{holding_of, holdings, joined_since}
+use Rattle.partial_core.specs.Known.{IsKnown}
+use Rattle.partial_core.specs.Lawful.{Lawful}
+use Rattle.partial_core.specs.Steps.{begun_with, kept_with, since_with, past_with, added_by, AreNotesOf, LeadsOn, StepsStayLawful}
+use Rattle.partial_core.proofs.Added.{added_at, IsExchange, StepAdds, step_adds}
+use Rattle.partial_core.proofs.Parts.{changed, gone, gone_core, all_at, holdings_split, once_same}
+use Rattle.partial_core.proofs.Ports.{fits_here}
+use Rattle.partial_core.proofs.Steps.{LeadsAt, holding_in, known_here, sizes_here, sound_here, sound_at, port_here, memory_here, memory_at}
 use Rattle.partial_core.proofs.Reading.{read_begun, value_loaded, update_begun, viewing_leads, scanning_leads}
 use Rattle.partial_core.proofs.Getting.{getting_leads}
 use Rattle.partial_core.proofs.Claims.{record_claimed, announcement_claimed, announcement_stored}
@@ -31,7 +49,17 @@ use Rattle.partial_core.proofs.Stored.{record_stored}
 
 -- the part with its call begun
 abbrev pub started : CoreState → Part → Part
-started c x = record { seen = x.seen; notes = x.notes; begun = begun_with c x; kept = kept_with c x; since = since_with c x }
+started c x = record { seen = x.seen; notes = x.notes; begun = begun_with c x; kept = kept_with c x; since = since_with c x; past = past_with c x }
+
+-- the part whose port has just begun the call of the machine c
+abbrev pub fresh_call : CoreState → Part → Part
+fresh_call c x = record { seen = x.seen; notes = x.notes; begun = c; kept = []; since = length x.seen; past = length x.notes }
+
+pub started_fresh : (c : CoreState) (x : Part) → is_begun c.stage ≡ true → fresh_call c x ≡ started c x
+started_fresh c x begun = ap (λ (b : Bool). record { seen = x.seen; notes = x.notes; begun = cond b c x.begun; kept = cond b [] x.kept; since = cond b (length x.seen) x.since; past = cond b (length x.notes) x.past }) (sym begun)
+
+pub started_same : (c : CoreState) (x : Part) → is_begun c.stage ≡ false → x ≡ started c x
+started_same c x begun = ap (λ (b : Bool). record { seen = x.seen; notes = x.notes; begun = cond b c x.begun; kept = cond b [] x.kept; since = cond b (length x.seen) x.since; past = cond b (length x.notes) x.past }) (sym begun)
 
 -- what a machine holds that has no call under way, or one that has made no step
 abbrev bare : CoreState → Holding
@@ -48,42 +76,50 @@ rest_holds s Idle n is = refl
 rest_holds s (Finished r) n is = refl
 rest_holds s _ n is = absurd (false≢true is)
 
--- a machine that has begun a call is sound
-pub begun_sound : (s : CoreState) (t : Stage) → is_begun t ≡ true → MayBeginAt s t → is_sound_at s t
-begun_sound s (ReadBegun j) is may = may
-begun_sound s (UpdateBegun c) is may = may
-begun_sound s ScanBegun is may = may
-begun_sound s _ is may = absurd (false≢true is)
+-- a machine that has begun a call has made no step
+unmoved : (t : Stage) → is_begun t ≡ true → has_no_step t ≡ true
+unmoved (ReadBegun j) begun = refl
+unmoved (UpdateBegun c) begun = refl
+unmoved ScanBegun begun = refl
+unmoved _ begun = absurd (false≢true begun)
 
 module _ (z : Layout) (o : Opening) (words : List ℕ) (before : List Part) (x : Part) (after : List Part) (log : List Applied) (w : Lawful z o words (before ++ x ∷ after) log) where
+  -- what the port holds stays as a call begins
+  pub begin_holds : (c : CoreState) → HasBegun c x → holding_of (fresh_call c x) ≡ holding_of x
+  begin_holds c h = begun_holds c c.stage 0 h.begun ∙ ap bare h.like ∙ sym (rest_holds (core_of x) (core_of x).stage (joined_since x) h.rest)
+
   -- a call begins where the machine is at rest: nothing else changes
-  pub begin_lawful : (c : CoreState) → is_at_rest (core_of x).stage ≡ true → c ≡ begun_like (core_of x) c → AreComponents c.sizes c.asked → MayBegin c → is_begun c.stage ≡ true → let y : Part = record { seen = x.seen; notes = x.notes; begun = c; kept = []; since = seen_by 0 x.notes } in Lawful z o words (before ++ y ∷ after) log
-  begin_lawful c rest same asked may begun =
-      let y : Part = record { seen = x.seen; notes = x.notes; begun = c; kept = []; since = seen_by 0 x.notes } in
+  pub begin_lawful : (c : CoreState) → HasBegun c x → Lawful z o words (before ++ fresh_call c x ∷ after) log
+  begin_lawful c h =
+      let y : Part = fresh_call c x in
+      let same = h.like in
       let k = known_here z o words before x after log w in
       let sound = sound_here z o words before x after log w in
       let port : c.port ≡ port_of x = ap (λ (s : CoreState). s.port) same ∙ port_here z o words before x after log w in
       let below = k.port in
-      let holds : holding_of y ≡ holding_of x = begun_holds c c.stage 0 begun ∙ ap bare same ∙ sym (rest_holds (core_of x) (core_of x).stage (joined_since x) rest) in
+      let holds : holding_of y ≡ holding_of x = begin_holds c h in
       let all = holdings_split before y after ∙ ap (λ (h : Holding). holdings before ++ h ∷ holdings after) holds ∙ sym (holdings_split before x after) in
       let nil = append-nil log in
       let known : IsKnown z o words (holdings (before ++ y ∷ after)) log y = record {
         port = omega (arith, port, below);
         sizes = ap (λ (s : CoreState). s.sizes) same ∙ sizes_here z o words before x after log w;
         seen = k.seen;
-        notes = subst (λ p. LegalNotes o log p 0 x.notes) (sym port) k.notes;
+        notes = subst (λ p. LegalNotes o x.seen p 0 x.notes) (sym port) k.notes;
         shown = k.shown;
         sound = record {
-          asked = asked;
+          asked = h.asked;
           found = subst (λ (s : CoreState). AreBuffersFor s.sizes s.found) (sym same) sound.found;
           indices = subst (λ (s : CoreState). AreComponents s.sizes s.found.indices) (sym same) sound.indices;
           distinct = subst (λ (s : CoreState). IsDistinct nat_eq s.found.indices) (sym same) sound.distinct;
           rows = subst (λ (s : CoreState). AreRowsFor s.sizes s.rows) (sym same) sound.rows;
-          stage = begun_sound c c.stage begun may;
+          stage = h.may;
         };
-        begun = may;
-        since = k.shown;
-        earlier = λ _. omega arith;
+        begun = unmoved c.stage h.begun;
+        since = omega arith;
+        earlier = let shown = k.shown in let whole : seen_by 0 (take (length x.notes) x.notes) ≡ seen_by 0 x.notes = ap (seen_by 0) (take_all (length x.notes) x.notes (omega arith)) in omega (arith, shown, whole);
+        past = omega arith;
+        one = omega arith;
+        going = λ _. refl;
         kept = tt;
       } in
       let memory = memory_here z o words before x after log w in
@@ -104,7 +140,7 @@ module _ (z : Layout) (o : Opening) (words : List ℕ) (before : List Part) (x :
   leads_stage (ClaimingRecord c old) step e due = subst (LeadsAt z o words before x after log (core_of x) (ClaimingRecord c old)) (same_step (ap (λ (y : Layout). Some (Add (pool_counter y) (record_size (core_of x)))) (sym (sizes_here z o words before x after log w)) ∙ due)) (record_claimed z o words before x after log w c old e)
   leads_stage (StoringRecord c old at k) step e due = subst (LeadsAt z o words before x after log (core_of x) (StoringRecord c old at k)) (same_step due) (record_stored z o words before x after log w c old at k e)
   leads_stage (Exchanging c old at) step e due = subst (LeadsAt z o words before x after log (core_of x) (Exchanging c old at)) (same_step due) (record_exchanged z o words before x after log w c old at e)
-  leads_stage ScanBegun step e due = subst (LeadsAt z o words before x after log (core_of x) ScanBegun) (same_step (ap (λ (y : Layout). Some (Add (pool_counter y) (1 + length (core_of x).asked))) (sym (sizes_here z o words before x after log w)) ∙ due)) (announcement_claimed z o words before x after log w e)
+  leads_stage ScanBegun step e due = subst (LeadsAt z o words before x after log (core_of x) ScanBegun) (same_step (ap (λ (y : Layout). Some (Add (pool_counter y) (announcement_size (length (core_of x).asked)))) (sym (sizes_here z o words before x after log w)) ∙ due)) (announcement_claimed z o words before x after log w e)
   leads_stage (StoringAnnouncement at k) step e due = subst (LeadsAt z o words before x after log (core_of x) (StoringAnnouncement at k)) (same_step due) (announcement_stored z o words before x after log w at k e)
   leads_stage Joining step e due = joining_leads z o words before x after log w e step due
   leads_stage Scanning step e due = scanning_leads z o words before x after log w step e due
@@ -115,18 +151,118 @@ module _ (z : Layout) (o : Opening) (words : List ℕ) (before : List Part) (x :
   leads_core : (step : Step) → step_of (core_of x) ≡ Some step → LeadsAt z o words before x after log (core_of x) (core_of x).stage step
   leads_core step due = leads_stage (core_of x).stage step refl due
 
--- a step of the started part is a step of the machine
-leads_from : (z : Layout) (o : Opening) (words : List ℕ) (before : List Part) (x : Part) (after : List Part) (log : List Applied) (c : CoreState) (step : Step) → LeadsAt z o words before (started c x) after log c c.stage step → LeadsOn z o words before x after log c step
-leads_from z o words before x after log c step l = record { answers = l.answers; possible = l.possible; new = l.new; noted = l.noted; lawful = l.lawful }
+-- the step of a part with its call begun, told of the part as it was before
+module _ (z : Layout) (o : Opening) (words : List ℕ) (before : List Part) (x : Part) (after : List Part) (log : List Applied) (c : CoreState) (step : Step) (w : Lawful z o words (before ++ started c x ∷ after) log) (mine : c ≡ core_of (started c x)) (holds : holding_of (started c x) ≡ holding_of x) (port : port_of (started c x) ≡ port_of x) (due : step_of c ≡ Some step) where
+  abbrev v : Part
+  v = started c x
 
-law_begun : (z : Layout) (o : Opening) (words : List ℕ) (before : List Part) (x : Part) (after : List Part) (log : List Applied) (c : CoreState) (step : Step) (b : Bool) → is_begun c.stage ≡ b → Lawful z o words (before ++ x ∷ after) log → MatchBool b ((is_at_rest (core_of x).stage ≡ true) × (c ≡ begun_like (core_of x) c) × AreComponents c.sizes c.asked × MayBegin c) (c ≡ core_of x) → step_of c ≡ Some step → LeadsOn z o words before x after log c step
-law_begun z o words before x after log c step true begun w m due =
-    let y : Part = record { seen = x.seen; notes = x.notes; begun = c; kept = []; since = seen_by 0 x.notes } in
-    let is : y ≡ started c x = ap (λ (b : Bool). record { seen = x.seen; notes = x.notes; begun = cond b c x.begun; kept = cond b [] x.kept; since = cond b (seen_by 0 x.notes) x.since }) (sym begun) in
-    leads_from z o words before x after log c step (subst (λ (v : Part). LeadsAt z o words before v after log c c.stage step) is (leads_core z o words before y after log (begin_lawful z o words before x after log w c m.0 m.1 m.2 m.3 begun) step due))
-law_begun z o words before x after log c step false begun w m due =
-    let is : x ≡ started c x = ap (λ (b : Bool). record { seen = x.seen; notes = x.notes; begun = cond b c x.begun; kept = cond b [] x.kept; since = cond b (seen_by 0 x.notes) x.since }) (sym begun) in
-    leads_from z o words before x after log c step (subst (λ (v : Part). LeadsAt z o words before v after log c c.stage step) is (subst (λ (d : CoreState). LeadsAt z o words before x after log d d.stage step) (sym m) (leads_core z o words before x after log w step (ap step_of (sym m) ∙ due))))
+  abbrev s : CoreState
+  s = core_of (started c x)
+
+  abbrev a : ℕ
+  a = answer_of words step
+
+  abbrev entries : List Applied
+  entries = added_by z (port_of x) words step
+
+  due_here : step_of (core_of (started c x)) ≡ Some step
+  due_here = ap step_of (sym mine) ∙ due
+
+  leads : LeadsAt z o words before (started c x) after log (core_of (started c x)) (core_of (started c x)).stage step
+  leads = leads_core z o words before (started c x) after log w step due_here
+
+  number : (core_of (started c x)).port ≡ port_of x
+  number = port_here z o words before (started c x) after log w ∙ port
+
+  -- the record of an exchange that is due
+  exchange : (d : Change) (old at : ℕ) → (core_of (started c x)).stage ≡ Exchanging d old at → IsExchange z words d at
+  exchange d old at e =
+      let memory = memory_at z o words before (started c x) after log w (Exchanging d old at) e in
+      let held = holding_in (core_of (started c x)) (Exchanging d old at) (joined_since (started c x)) in
+      let all = holdings before ++ held ∷ holdings after in
+      let here = all_at (λ (h : Holding). IfSome h.due (IsDue z o words h (others_of h.port all) log)) (holdings before) held (holdings after) memory.due in
+      let sound = sound_at z o words before (started c x) after log w (Exchanging d old at) e in
+      let whole = sound_here z o words before (started c x) after log w in
+      let size = (size_few (core_of (started c x)) whole.indices.few).0 in
+      let end : pool_end (core_of (started c x)).sizes ≡ pool_end z = ap pool_end (sizes_here z o words before (started c x) after log w) in
+      let last = sound.1.1 in
+      let count = w.memory.count in
+      record { component = here.component; value = here.value; within = omega (arith, last, size, end, count) }
+
+  adds : StepAdds z (port_of x) (core_of (started c x)).stage words step
+  adds = let sound = sound_here z o words before (started c x) after log w in
+      step_adds z (port_of x) (core_of (started c x)) words (core_of (started c x)).stage step (sizes_here z o words before (started c x) after log w) sound.stage due_here exchange
+
+  grown : log ++ added_at (core_of (started c x)).port (core_of (started c x)).stage (answer_of words step) ≡ log ++ added_by z (port_of x) words step
+  grown = ap (λ (l : List Applied). log ++ l) (ap (λ n. added_at n (core_of (started c x)).stage (answer_of words step)) number ∙ sym adds.entries)
+
+  then_lawful : Lawful z o (words_after words step) (before ++ gone (started c x) (log ++ added_by z (port_of x) words step) (answer_of words step) leads.new ∷ after) (log ++ added_by z (port_of x) words step)
+  then_lawful = subst (λ (l : List Applied). Lawful z o (words_after words step) (before ++ gone (started c x) l (answer_of words step) leads.new ∷ after) l) grown leads.lawful
+
+  then_behind : IsBehind c (answer_of words step)
+  then_behind =
+      let sound = sound_here z o words before (started c x) after log w in
+      let layout : IsLayout (core_of (started c x)).sizes = subst IsLayout (sym (sizes_here z o words before (started c x) after log w)) w.memory.sizes in
+      subst (λ (d : CoreState). IsBehind d (answer_of words step)) (sym mine) (answers_lead_on (core_of (started c x)) (answer_of words step) layout sound leads.possible)
+
+  -- a published word stays
+  then_keeps : (n : ℕ) → list_base z ≤ n → n < total z → IsPublished z words (unpublished (holdings (before ++ x ∷ after))) n →
+      (get_or (words_after words step) n 0 ≡ get_or words n 0) × IsPublished z (words_after words step) (unpublished (holdings (before ++ gone (started c x) (log ++ added_by z (port_of x) words step) (answer_of words step) leads.new ∷ after))) n
+  then_keeps n low high published =
+      let same : holdings (before ++ x ∷ after) ≡ holdings (before ++ started c x ∷ after) = holdings_split before x after ∙ ap (λ (h : Holding). holdings before ++ h ∷ holdings after) (sym holds) ∙ sym (holdings_split before (started c x) after) in
+      let here : IsPublished z words (unpublished (holdings (before ++ started c x ∷ after))) n = subst (λ (hs : List Holding). IsPublished z words (unpublished hs) n) same published in
+      let loaded = leads.loads n (record { answer = get_or words n 0; at = length log }) (loads_are_true z o words (holdings (before ++ started c x ∷ after)) log n w.memory high (λ _. here)) in
+      let block = (subst (λ (l : List Applied). IsLoaded z o (words_after words step) (holdings (before ++ gone (started c x) l (answer_of words step) leads.new ∷ after)) l n (record { answer = get_or words n 0; at = length log })) grown loaded).block low in
+      (sym block.0, block.1)
+
+  pub leads_on : LeadsOn z o words before x after log c step
+  leads_on =
+      let l = leads in
+      let k = known_here z o words before (started c x) after log w in
+      let y = gone (started c x) (log ++ added_by z (port_of x) words step) (answer_of words step) l.new in
+      let core : core_of y ≡ advance c (answer_of words step) = gone_core (started c x) (log ++ added_by z (port_of x) words step) (answer_of words step) l.new ∙ ap (λ (d : CoreState). advance d (answer_of words step)) (sym mine) in
+      let behind = then_behind in
+      let lawful = then_lawful in
+      record {
+        answers = l.answers;
+        publishes = adds.within;
+        y = y;
+        tells = record {
+          new = l.new;
+          part = refl;
+          seen = k.seen;
+          possible = subst (λ (d : CoreState). IsPossible d (answer_of words step)) (sym mine) l.possible;
+          behind = behind;
+          machine = record { going = behind.begun; is = sym core };
+          sizes = ap (λ (d : CoreState). d.sizes) mine ∙ sizes_here z o words before (started c x) after log w;
+          begun_sizes = k.sizes;
+          number = ap (λ (d : CoreState). d.port) mine ∙ number;
+          port = port;
+          noted = subst (λ (d : CoreState). AreNotesOf y (reply_of (advance d (answer_of words step))) l.new) (sym mine)
+              (subst (λ (m : List Applied). AreNotesOf (gone (started c x) m (answer_of words step) l.new) (reply_of (advance (core_of (started c x)) (answer_of words step))) l.new) grown l.noted);
+          fits = fits_here z o (words_after words step) before y after (log ++ added_by z (port_of x) words step) lawful;
+        };
+        lawful = lawful;
+        keeps = then_keeps;
+      }
 
 pub steps_stay_lawful : StepsStayLawful
-steps_stay_lawful z o words before x after log c step w m due = law_begun z o words before x after log c step (is_begun c.stage) refl w m due
+steps_stay_lawful z o words before x after log c step w m due = by m
+  where
+    by : HasBegun c x ⊎ IsLedTo c x → LeadsOn z o words before x after log c step
+    by (inl h) =
+        let is : fresh_call c x ≡ started c x = started_fresh c x h.begun in
+        leads_on z o words before x after log c step
+        (subst (λ (v : Part). Lawful z o words (before ++ v ∷ after) log) is (begin_lawful z o words before x after log w c h))
+        (ap core_of is)
+        (ap holding_of (sym is) ∙ begin_holds z o words before x after log w c h)
+        (ap port_of (sym is) ∙ ap (λ (s : CoreState). s.port) h.like ∙ port_here z o words before x after log w)
+        due
+    by (inr l) =
+        let is : x ≡ started c x = started_same c x l.going in
+        leads_on z o words before x after log c step
+        (subst (λ (v : Part). Lawful z o words (before ++ v ∷ after) log) is w)
+        (l.is ∙ ap core_of is)
+        (ap holding_of (sym is))
+        (ap port_of (sym is))
+        due

@@ -1,18 +1,24 @@
 -- A port's call under way: where its answers lead its machine, and what it knows then.
-use Rattle.std.proofs.Common.{ℕ, ◌≡◌, ◌+◌, ◌<◌, ◌≤◌, ◌++◌, cond, List, [], ◌∷◌, length, refl, sym, ap, subst, ◌∙◌, arith}
-use Rattle.std.proofs.lemmas.Bool.{cond_both}
+use Rattle.std.proofs.Common.{ℕ, true, ◌≡◌, ◌+◌, ◌<◌, ◌≤◌, ◌++◌, cond, List, [], ◌∷◌, length, refl, sym, ap, subst, ◌∙◌, arith}
+use Rattle.std.proofs.lemmas.Bool.{false≢true, cond_both}
 use Rattle.partial_model.specs.declared.history.Applied.{Applied}
 use Rattle.partial_model.specs.declared.history.Opening.{Opening}
 use Rattle.partial_words.specs.Layout.{Layout, IsLayout}
 use Rattle.partial_machine.specs.declared.stage.Reply.TheVariants as reply
 use Rattle.partial_machine.specs.declared.stage.Stage.{Stage}
 use Rattle.partial_machine.specs.declared.stage.Stage.TheVariants.{Idle, ReadBegun, UpdateBegun, ScanBegun, StoringAnnouncement, Finished}
-use Rattle.partial_machine.specs.Machine.{CoreState, at_stage, expects, fits_pool, pool_refused, begin_getting, advance_at, advance, step_at, IsSound, IsPossibleAt}
+use Rattle.partial_machine.specs.Machine.{CoreState, at_stage, expects, fits_pool, pool_refused, begin_getting, advance_at, advance, step_at}
+use Rattle.partial_machine.specs.Sound.{IsSound}
+use Rattle.partial_machine.specs.Possible.{IsPossibleAt}
 use Rattle.partial_machine.proofs.Sound.{Keeps, kept}
 use Rattle.partial_state.specs.Holdings.{Holding}
 use Rattle.partial_state.specs.LawfulWords.{LawfulWords}
 use Rattle.partial_state.specs.Loads.{Kept}
-use Rattle.partial_core.specs.Lawful.{led_by, MayBegin, MayBeginAt, joins_at, joined_from, IsTrueYet, AreKept}
+use Rattle.partial_core.specs.Part.{led_by}
+use Rattle.partial_core.specs.Held.{joins_at, joined_from}
+use Rattle.partial_core.specs.Known.{IsTrueYet, AreKept}
+use Rattle.partial_core.specs.Part.{has_no_step}
+use Rattle.partial_machine.specs.Sound.{is_sound_at}
 use Rattle.partial_core.proofs.Going.{Knows, on_at}
 
 -- how long the history was at the last of the answers
@@ -48,16 +54,16 @@ module _ (z : Layout) (o : Opening) (words : List ℕ) (hs : List Holding) (log 
   layout = w.sizes
 
   -- behind the first answer
-  first_on : (since : ℕ) (s : CoreState) (k : Kept) (t : Stage) → s ≡ begun → s.sizes ≡ z → s.stage ≡ t → MayBeginAt s t → IsPossibleAt s t k.answer → IsTrueYet z o words hs log (step_at s t) k → Knows z o words hs log begun k.at since k.at (advance_at s t k.answer)
-  first_on since s k Idle is sizes e may possible yet = absurd possible
-  first_on since s k (ReadBegun j) is sizes e may possible yet = (j, ap (λ (c : CoreState). c.stage) (sym is) ∙ e, yet.component (subst (λ (y : Layout). j < y.m) sizes may))
-  first_on since s k (UpdateBegun c) is sizes e may possible yet = cond_both (expects c k.answer) (begin_getting s c k.answer) (at_stage s (Finished (reply.Changed k.answer))) (λ (t : CoreState). Knows z o words hs log begun k.at since k.at t)
+  first_on : (since : ℕ) (s : CoreState) (k : Kept) (t : Stage) → s ≡ begun → s.sizes ≡ z → s.stage ≡ t → has_no_step t ≡ true → is_sound_at s t → IsPossibleAt s t k.answer → IsTrueYet z o words hs log (step_at s t) k → Knows z o words hs log begun k.at since k.at (advance_at s t k.answer)
+  first_on since s k Idle is sizes e none may possible yet = absurd possible
+  first_on since s k (ReadBegun j) is sizes e none may possible yet = (j, ap (λ (c : CoreState). c.stage) (sym is) ∙ e, yet.component (subst (λ (y : Layout). j < y.m) sizes may))
+  first_on since s k (UpdateBegun c) is sizes e none may possible yet = cond_both (expects c k.answer) (begin_getting s c k.answer) (at_stage s (Finished (reply.Changed k.answer))) (λ (t : CoreState). Knows z o words hs log begun k.at since k.at t)
       (λ expected. (record { called = ap (λ (d : CoreState). d.stage) (sym is) ∙ e; expected = expected; stamp = yet.component (subst (λ (y : Layout). c.component < y.m) sizes may.0) }, tt))
       (λ other. tt)
-  first_on since s k ScanBegun is sizes e may possible yet = cond_both (fits_pool s.sizes (1 + length s.asked) k.answer) (at_stage s (StoringAnnouncement k.answer 0)) (pool_refused s) (λ (t : CoreState). Knows z o words hs log begun k.at since k.at t)
+  first_on since s k ScanBegun is sizes e none may possible yet = cond_both (fits_pool s.sizes (1 + length s.asked) k.answer) (at_stage s (StoringAnnouncement k.answer 0)) (pool_refused s) (λ (t : CoreState). Knows z o words hs log begun k.at since k.at t)
       (λ fits. record { called = ap (λ (d : CoreState). d.stage) (sym is) ∙ e; asked = ap (λ (d : CoreState). d.asked) is })
       (λ refused. tt)
-  first_on since s k _ is sizes e may possible yet = absurd may
+  first_on since s k _ is sizes e none may possible yet = absurd (false≢true none)
 
   -- what a machine knows behind further answers
   pub record HasGone (first since high : ℕ) (s : CoreState) : Type 0 where
@@ -80,12 +86,12 @@ module _ (z : Layout) (o : Opening) (words : List ℕ) (hs : List Holding) (log 
       led_on first (cond (joins_at s s.stage) k.at since) k.at (advance s k.answer) ks (one.sizes ∙ sizes) one.sound next kept_all.1
 
   -- a call that has made a step
-  pub called_on : (low : ℕ) (k : Kept) (ks : List Kept) → begun.sizes ≡ z → IsSound begun → MayBegin begun → AreKept z o words hs log low begun (k ∷ ks) → HasGone k.at (joined_from 0 begun (k ∷ ks)) (last_at low (k ∷ ks)) (led_by begun (k ∷ ks))
+  pub called_on : (low : ℕ) (k : Kept) (ks : List Kept) → begun.sizes ≡ z → IsSound begun → has_no_step begun.stage ≡ true → AreKept z o words hs log low begun (k ∷ ks) → HasGone k.at (joined_from 0 begun (k ∷ ks)) (last_at low (k ∷ ks)) (led_by begun (k ∷ ks))
   unfolding last_at
   called_on low k ks sizes sound may kept_all =
       let one : Keeps begun (advance begun k.answer) = kept begun k.answer (subst IsLayout (sym sizes) layout) sound kept_all.0.possible in
       led_on k.at (cond (joins_at begun begun.stage) k.at 0) k.at (advance begun k.answer) ks (one.sizes ∙ sizes) one.sound (record {
         order = omega arith;
         inside = kept_all.0.within;
-        knows = first_on (cond (joins_at begun begun.stage) k.at 0) begun k begun.stage refl sizes refl may kept_all.0.possible kept_all.0.true_yet;
+        knows = first_on (cond (joins_at begun begun.stage) k.at 0) begun k begun.stage refl sizes refl may sound.stage kept_all.0.possible kept_all.0.true_yet;
       }) kept_all.1

@@ -17,7 +17,8 @@ use Rattle.partial_words.proofs.RecordLemmas.{length-record_block}
 use Rattle.partial_machine.specs.declared.stage.Change.{Change}
 use Rattle.partial_machine.specs.declared.stage.Stage.{Stage}
 use Rattle.partial_machine.specs.declared.stage.Stage.TheVariants.{ClaimingRecord, StoringRecord, ScanBegun, StoringAnnouncement}
-use Rattle.partial_machine.specs.Machine.{CoreState, at_stage, step_at, record_size, record_words, view_at, fits_pool, pool_refused, begin_joining, IsPoolCount}
+use Rattle.partial_machine.specs.Machine.{CoreState, at_stage, step_at, record_size, record_words, view_at, fits_pool, pool_refused, begin_joining}
+use Rattle.partial_machine.specs.Possible.{IsPoolCount}
 use Rattle.partial_machine.proofs.Sound.{size_few}
 use Rattle.partial_state.specs.Holdings.{Holding, Own}
 use Rattle.partial_state.specs.Holdings.Space.{Pool}
@@ -26,7 +27,11 @@ use Rattle.partial_state.specs.Effects.{IsKept}
 use Rattle.partial_state.proofs.MarkLaws.{pool_refusals_are_kept}
 use Rattle.partial_state.proofs.BlockLaws.{claims_are_kept, stores_are_kept}
 use Rattle.partial_state.proofs.Quiet.{pool_bound}
-use Rattle.partial_core.specs.Lawful.{Part, Lawful, core_of, holding_of, holding_at, holdings, joined_since, call_at, update_call, MayBeginAt}
+use Rattle.partial_machine.specs.Sound.{is_sound_at}
+use Rattle.partial_core.specs.Part.{Part, core_of}
+use Rattle.partial_core.specs.Lawful.{Lawful}
+use Rattle.partial_core.specs.Held.{holding_of, holding_at, holdings, joined_since}
+use Rattle.partial_machine.specs.Calls.{call_at, update_call}
 use Rattle.partial_core.proofs.Leaves.{names_all}
 use Rattle.partial_core.proofs.Steps.{LeadsAt, holding_in, known_here, sizes_here, sound_here, sound_at, memory_at, going, quiet}
 use Rattle.partial_core.proofs.Reading.{begun_here}
@@ -113,7 +118,7 @@ module _ (z : Layout) (o : Opening) (words : List ℕ) (before : List Part) (x :
           let known = g.knows in
           let called = known.0.called in
           let k = known_here z o words before x after log w in
-          let below : c.component < x.begun.sizes.m = (subst (MayBeginAt x.begun) called k.begun).0 in
+          let below : c.component < x.begun.sizes.m = (subst (is_sound_at x.begun) called k.sound.stage).0 in
           quiet z o words before x after log w (ClaimingRecord c old) (Add (pool_counter z) (record_size s)) (pool_refused s) (holding_at (pool_refused s) (joined_since x)) e due (ap (λ (b : Bool). cond b (at_stage s (StoringRecord c old a 0)) (pool_refused s)) over) refl counter_inside pool_possible refl keeps (λ ks is. tt) refl
           (record { none = refl; call = update_call c.component c.expected c.value; made = ap (call_at x.begun) called; may = may_refuse c.expected below })
         where
@@ -143,7 +148,7 @@ module _ (z : Layout) (o : Opening) (words : List ℕ) (before : List Part) (x :
           let begun = begun_here z o words before x after log w ScanBegun e refl in
           let called : x.begun.stage ≡ ScanBegun = ap (λ (d : CoreState). d.stage) (sym begun) ∙ e in
           let k = known_here z o words before x after log w in
-          let may = subst (MayBeginAt x.begun) called k.begun in
+          let may = subst (is_sound_at x.begun) called k.sound.stage in
           quiet z o words before x after log w ScanBegun (Add (pool_counter z) (1 + length s.asked)) t (holding_at t (joined_since x)) e due (ap (λ (b : Bool). cond b (at_stage s (StoringAnnouncement a 0)) (pool_refused s)) over) refl counter_inside pool_possible refl keeps (λ ks is. tt) refl
           (record { none = refl; call = call.Scan x.begun.asked; made = ap (call_at x.begun) called; may = (names_all x.begun.sizes.m x.begun.asked k.sound.asked.each, may.0) })
 

@@ -23,24 +23,28 @@ use Rattle.partial_machine.specs.declared.stage.Reply.{Reply}
 use Rattle.partial_machine.specs.declared.stage.Reply.TheVariants as reply
 use Rattle.partial_machine.specs.declared.stage.Stage.{Stage}
 use Rattle.partial_machine.specs.declared.stage.Stage.TheVariants.{Exchanging, Finished}
-use Rattle.partial_machine.specs.Machine.{CoreState, at_stage, advance_at, step_at, step_of, overtaken, IsRecord, IsPossible, IsPossibleAt}
+use Rattle.partial_machine.specs.Machine.{CoreState, at_stage, advance_at, step_at, step_of, overtaken}
+use Rattle.partial_machine.specs.Sound.{IsRecord}
+use Rattle.partial_machine.specs.Possible.{IsPossible, IsPossibleAt}
 use Rattle.partial_state.specs.Holdings.{Holding, Due, HaveOtherPorts}
 use Rattle.partial_state.specs.Loads.{IsLoaded}
 use Rattle.partial_state.specs.Effects.{IsKept}
 use Rattle.partial_state.proofs.ListLemmas.{all_weaker, all_unmap, all_before, all_after, two_before, two_after}
 use Rattle.partial_state.proofs.MarkLaws.{drops_are_kept}
 use Rattle.partial_state.proofs.WinLaw.{wins_are_kept}
-use Rattle.partial_core.specs.Lawful.{Part, Lawful, IsKnown, core_of, port_of, holding_of, holdings, joined_since, is_at_rest, first_at, call_at, update_call, notes_by, added_at, IsTrueYet, AreNotesOf}
+use Rattle.partial_core.specs.Part.{Part, core_of, port_of, first_at}
+use Rattle.partial_core.specs.Lawful.{Lawful}
+use Rattle.partial_core.proofs.Added.{added_at}
+use Rattle.partial_core.specs.Known.{IsKnown, notes_by, IsTrueYet}
+use Rattle.partial_core.specs.Held.{holding_of, holdings, joined_since}
+use Rattle.partial_machine.specs.Calls.{is_at_rest, call_at, update_call}
+use Rattle.partial_core.specs.Steps.{AreNotesOf}
 use Rattle.partial_core.proofs.Going.{KnowsOld}
 use Rattle.partial_core.proofs.Calls.{led}
 use Rattle.partial_core.proofs.Parts.{known_grows, known_end, gone, changed, holdings_split, once_own, once_other}
 use Rattle.partial_core.proofs.Steps.{LeadsAt, holding_in, known_here, sizes_here, sound_at, port_here, seen_here, memory_here, memory_at, holding_gone, going, ends}
+use Rattle.partial_core.proofs.Ports.{others}
 use Rattle.partial_core.proofs.Reading.{stamp_now, stamp_then, component_record}
-
--- what holds of each element in two ways
-both_all : {A : Type 0} (P Q R : A → Type 0) → ((x : A) → P x → Q x → R x) → (xs : List A) → AllByRecursion P xs → AllByRecursion Q xs → AllByRecursion R xs
-both_all P Q R f [] v w = tt
-both_all P Q R f (x ∷ xs) v w = (f x v.0 w.0, both_all P Q R f xs v.1 w.1)
 
 module _ (z : Layout) (o : Opening) (words : List ℕ) (before : List Part) (x : Part) (after : List Part) (log : List Applied) (w : Lawful z o words (before ++ x ∷ after) log) (c : Change) (old at : ℕ) (e : (core_of x).stage ≡ Exchanging c old at) where
   abbrev s : CoreState
@@ -54,19 +58,6 @@ module _ (z : Layout) (o : Opening) (words : List ℕ) (before : List Part) (x :
 
   abbrev due : Due
   due = record { component = c.component; old = old; value = c.value; at = at }
-
-  -- the port of each other part
-  other_ports : (xs : List Part) → AllByRecursion (λ y. HaveOtherPorts (holding_of x) (holding_of y)) xs → AllByRecursion (IsKnown z o words hs log) xs → AllByRecursion (λ y. port_of x ≢ port_of y) xs
-  other_ports xs others known = both_all (λ y. HaveOtherPorts (holding_of x) (holding_of y)) (IsKnown z o words hs log) (λ y. port_of x ≢ port_of y)
-      (λ y other k same. other (port_here z o words before x after log w ∙ same ∙ sym (led z o words hs log y.since y.begun y.kept w.memory.sizes k.sizes k.sound k.kept).port)) xs others known
-
-  others : AllByRecursion (λ y. port_of x ≢ port_of y) before × AllByRecursion (λ y. port_of x ≢ port_of y) after
-  others =
-      let memory = memory_here z o words before x after log w in
-      let turn : (a b : Holding) → HaveOtherPorts a b → HaveOtherPorts b a = λ a b other same. other (sym same) in (
-        other_ports before (all_unmap (HaveOtherPorts (holding_of x)) holding_of before (two_before HaveOtherPorts turn (holdings before) (holding_of x) (holdings after) memory.ports)) (all_before (IsKnown z o words hs log) before x after w.known),
-        other_ports after (all_unmap (HaveOtherPorts (holding_of x)) holding_of after (two_after HaveOtherPorts turn (holdings before) (holding_of x) (holdings after) memory.ports)) (all_after (IsKnown z o words hs log) before x after w.known),
-      )
 
   old_known : KnowsOld o log x.begun (first_at x.kept) c old
   old_known = let g = going z o words before x after log w (Exchanging c old at) e refl refl in let known = g.knows in known.0
@@ -134,6 +125,7 @@ module _ (z : Layout) (o : Opening) (words : List ℕ) (before : List Part) (x :
         made = call_made None is;
         behind = let more = g.more (record { answer = found; at = length log }) in omega (arith, more, behind);
         within = omega (arith, within);
+        placed = within;
       })
   lost_at (Some t) is lost =
       let g = going z o words before x after log w (Exchanging c old at) e refl refl in
@@ -152,6 +144,7 @@ module _ (z : Layout) (o : Opening) (words : List ℕ) (before : List Part) (x :
         made = call_made (Some t) is;
         behind = let more = g.more (record { answer = found; at = length log }) in omega (arith, more, order, last);
         within = omega arith;
+        placed = omega arith;
       })
 
   -- the exchange is won: the history gains the entry
@@ -173,8 +166,8 @@ module _ (z : Layout) (o : Opening) (words : List ℕ) (before : List Part) (x :
       either : (b : Bool) → (s.port == p) ≡ b → places_by p 0 won_log ≡ places_written (notes_by p (before ++ y ∷ after))
       either true h =
           let is : port_of x ≡ p = sym mine ∙ eqb-true s.port p h in
-          let own_x : places_written (notes_by p (before ++ x ∷ after)) ≡ places_written x.notes = ap (λ n. places_written (notes_by n (before ++ x ∷ after))) (sym is) ∙ once_own before x after others.0 others.1 in
-          let own_y : places_written (notes_by p (before ++ y ∷ after)) ≡ places_written y.notes = ap (λ n. places_written (notes_by n (before ++ y ∷ after))) (sym (port ∙ is)) ∙ once_own before y after (all_weaker (λ (v : Part). port_of x ≢ port_of v) (λ (v : Part). port_of y ≢ port_of v) away before others.0) (all_weaker (λ (v : Part). port_of x ≢ port_of v) (λ (v : Part). port_of y ≢ port_of v) away after others.1) in
+          let own_x : places_written (notes_by p (before ++ x ∷ after)) ≡ places_written x.notes = ap (λ n. places_written (notes_by n (before ++ x ∷ after))) (sym is) ∙ once_own before x after (others z o words before x after log w).0 (others z o words before x after log w).1 in
+          let own_y : places_written (notes_by p (before ++ y ∷ after)) ≡ places_written y.notes = ap (λ n. places_written (notes_by n (before ++ y ∷ after))) (sym (port ∙ is)) ∙ once_own before y after (all_weaker (λ (v : Part). port_of x ≢ port_of v) (λ (v : Part). port_of y ≢ port_of v) away before (others z o words before x after log w).0) (all_weaker (λ (v : Part). port_of x ≢ port_of v) (λ (v : Part). port_of y ≢ port_of v) away after (others z o words before x after log w).1) in
           places_by-push p 0 log entry ∙ ap (λ (b : Bool). places_by p 0 log ++ cond b ((0 + length log) ∷ []) []) h ∙ ap (λ n. places_by p 0 log ++ n ∷ []) (omega arith) ∙ ap (λ (l : List ℕ). l ++ length log ∷ []) (w.once p ∙ own_x) ∙ sym more ∙ sym own_y
       either false h =
           places_by-push p 0 log entry ∙ ap (λ (b : Bool). places_by p 0 log ++ cond b ((0 + length log) ∷ []) []) h ∙ append-nil (places_by p 0 log) ∙ w.once p ∙ sym (once_other p before x y after port (λ same. eqb-false s.port p h (mine ∙ same)))
@@ -212,7 +205,7 @@ module _ (z : Layout) (o : Opening) (words : List ℕ) (before : List Part) (x :
       let pushed = seen_by-push 0 x.notes won_note in
       let due_step : step_of s ≡ Some step = ap (λ (u : Stage). step_at s u) e in
       let possible_here : IsPossible s found = subst (λ (u : Stage). IsPossibleAt s u found) (sym e) possible in
-      let known : IsKnown z o words' (holdings (before ++ y ∷ after)) won_log y = known_end z o words' (holdings (before ++ y ∷ after)) won_log x found won_note here possible_here (subst (λ (f : Option Step). IsTrueYet z o words' (holdings (before ++ y ∷ after)) won_log f (record { answer = found; at = length won_log })) (sym due_step) tt) (won_legal c.expected refl is) (omega (arith, pushed, longer)) (ap (λ (u : Stage). is_at_rest (advance_at s u found).stage) e ∙ ap (λ (d : CoreState). is_at_rest d.stage) leads) in
+      let known : IsKnown z o words' (holdings (before ++ y ∷ after)) won_log y = known_end z o words' (holdings (before ++ y ∷ after)) won_log x found won_note here (ap is_at_rest e) possible_here (subst (λ (f : Option Step). IsTrueYet z o words' (holdings (before ++ y ∷ after)) won_log f (record { answer = found; at = length won_log })) (sym due_step) tt) (won_legal c.expected refl is) (omega (arith, pushed, longer)) (ap (λ (u : Stage). is_at_rest (advance_at s u found).stage) e ∙ ap (λ (d : CoreState). is_at_rest d.stage) leads) in
       let lawful : Lawful z o words' (before ++ y ∷ after) won_log = changed z o words words' before x y after log (entry ∷ []) w keeps (λ p. won_once p y refl (places_written-append x.notes (won_note ∷ []))) known in
       let g = going z o words before x after log w (Exchanging c old at) e refl refl in
       let order = g.order in
@@ -228,8 +221,11 @@ module _ (z : Layout) (o : Opening) (words : List ℕ) (before : List Part) (x :
           made = call_made c.expected refl;
           behind = let more = g.more (record { answer = found; at = length won_log }) in omega (arith, more, order, last);
           within = omega (arith, longer);
+          placed = omega (arith, longer);
         });
         lawful = subst (λ (es : List Applied). Lawful z o words' (before ++ gone x (log ++ es) found (won_note ∷ []) ∷ after) (log ++ es)) (sym added) lawful;
+        loads = λ n k l. subst (λ (es : List Applied). IsLoaded z o words' (holdings (before ++ gone x (log ++ es) found (won_note ∷ []) ∷ after)) (log ++ es) n k) (sym added)
+            (subst (λ (ks : List Holding). IsLoaded z o words' ks won_log n k) (sym split) (keeps.loads n k (subst (λ (ks : List Holding). IsLoaded z o words ks log n k) (holdings_split before x after) l)));
       }
 
   pub record_exchanged : LeadsAt z o words before x after log s (Exchanging c old at) step

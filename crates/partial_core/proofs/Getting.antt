@@ -23,7 +23,8 @@ use Rattle.partial_machine.specs.declared.stage.Change.{Change}
 use Rattle.partial_machine.specs.declared.stage.Reply.{Reply}
 use Rattle.partial_machine.specs.declared.stage.Stage.{Stage}
 use Rattle.partial_machine.specs.declared.stage.Stage.TheVariants.{GettingSet, Viewing, ClaimingRecord}
-use Rattle.partial_machine.specs.Machine.{CoreState, getting, with_getting, after_getting, advance_at, step_at, reply_of, reply_at, is_sound_at}
+use Rattle.partial_machine.specs.Machine.{CoreState, getting, with_getting, after_getting, advance_at, step_at, reply_of, reply_at}
+use Rattle.partial_machine.specs.Sound.{is_sound_at}
 use Rattle.partial_state.specs.Holdings.{Own, Holding}
 use Rattle.partial_state.specs.Holdings.Space.{Lists}
 use Rattle.partial_state.specs.Effects.{IsKept}
@@ -34,7 +35,11 @@ use Rattle.partial_state.proofs.LoadLaw.{loads_are_true}
 use Rattle.partial_state.specs.LawfulWords.{LawfulWords}
 use Rattle.partial_knowledge.specs.Sets as sets
 use Rattle.partial_knowledge.proofs.Sets.{getsets_know}
-use Rattle.partial_core.specs.Lawful.{Part, Lawful, core_of, holdings, holding_of, joined_since, own_list, holding_at, first_at, AreNotesOf, IsTrueYet}
+use Rattle.partial_core.specs.Part.{Part, core_of, first_at}
+use Rattle.partial_core.specs.Lawful.{Lawful}
+use Rattle.partial_core.specs.Held.{holdings, holding_of, joined_since, own_list, holding_at}
+use Rattle.partial_core.specs.Steps.{AreNotesOf}
+use Rattle.partial_core.specs.Known.{IsTrueYet}
 use Rattle.partial_core.proofs.Parts.{gone}
 use Rattle.partial_core.proofs.Steps.{LeadsAt, holding_in, sizes_here, sound_at, memory_at, going, quiet, load_quiet}
 

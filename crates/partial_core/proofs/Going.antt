@@ -23,7 +23,9 @@ use Rattle.partial_embedded.specs.declared.embedded.Stage.TheVariants.{Collect, 
 use Rattle.partial_machine.specs.declared.stage.Change.{Change}
 use Rattle.partial_machine.specs.declared.stage.Stage.{Stage}
 use Rattle.partial_machine.specs.declared.stage.Stage.TheVariants.{Idle, ReadBegun, LoadingValue, UpdateBegun, GettingSet, Viewing, ClaimingRecord, StoringRecord, Exchanging, ScanBegun, StoringAnnouncement, Joining, Scanning, Leaving, Finished}
-use Rattle.partial_machine.specs.Machine.{CoreState, at_stage, getting, scanning, with_getting, with_scanning, record_size, expects, fits_pool, pool_refused, begin_joining, after_getting, after_scanning, after_joining, advance_at, step_at, IsSound, is_sound_at, IsPossibleAt}
+use Rattle.partial_machine.specs.Machine.{CoreState, at_stage, getting, scanning, with_getting, with_scanning, record_size, expects, fits_pool, pool_refused, begin_joining, after_getting, after_scanning, after_joining, advance_at, step_at}
+use Rattle.partial_machine.specs.Sound.{IsSound, is_sound_at}
+use Rattle.partial_machine.specs.Possible.{IsPossibleAt}
 use Rattle.partial_state.specs.Holdings.{Holding}
 use Rattle.partial_state.specs.LawfulWords.{LawfulWords}
 use Rattle.partial_state.specs.Loads.{Kept}
@@ -31,7 +33,8 @@ use Rattle.partial_knowledge.specs.Sets as sets
 use Rattle.partial_knowledge.specs.Scans as scans
 use Rattle.partial_knowledge.proofs.Sets.{getsets_know}
 use Rattle.partial_knowledge.proofs.Scans.{embedded_scans_know}
-use Rattle.partial_core.specs.Lawful.{is_storing, joins_at, IsTrueYet}
+use Rattle.partial_core.specs.Held.{is_storing, joins_at}
+use Rattle.partial_core.specs.Known.{IsTrueYet}
 
 -- the component's record as the update with this machine has loaded it first
 pub record KnowsOld (o : Opening) (log : List Applied) (begun : CoreState) (first : ℕ) (c : Change) (old : ℕ) : Type 0 where

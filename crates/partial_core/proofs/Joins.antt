@@ -16,14 +16,19 @@ use Rattle.partial_active.specs.declared.join.JoinStage.{JoinStage}
 use Rattle.partial_active.specs.declared.join.JoinStage.TheVariants.{Claiming, Storing, Joined as JoinedIn, Spent}
 use Rattle.partial_machine.specs.declared.stage.Stage.{Stage}
 use Rattle.partial_machine.specs.declared.stage.Stage.TheVariants.{ScanBegun, Joining}
-use Rattle.partial_machine.specs.Machine.{CoreState, advance_at, step_at, after_joining, slots_refused, reply_at, IsSound}
+use Rattle.partial_machine.specs.Machine.{CoreState, advance_at, step_at, after_joining, slots_refused, reply_at}
+use Rattle.partial_machine.specs.Sound.{IsSound, is_sound_at}
 use Rattle.partial_state.specs.Holdings.{Holding}
 use Rattle.partial_state.specs.LawfulWords.{LawfulWords}
 use Rattle.partial_state.specs.Effects.{State, Keeps, IsKept}
 use Rattle.partial_state.proofs.MarkLaws.{drops_are_kept, slot_refusals_are_kept}
 use Rattle.partial_state.proofs.SlotLaws.{slot_claims_are_kept, joins_are_kept}
 use Rattle.partial_state.proofs.Quiet.{slots_bound}
-use Rattle.partial_core.specs.Lawful.{Part, Lawful, core_of, holding_of, holding_at, holdings, joined_since, call_at, MayBeginAt, is_storing, joins_at, AreNotesOf}
+use Rattle.partial_core.specs.Part.{Part, core_of}
+use Rattle.partial_core.specs.Lawful.{Lawful}
+use Rattle.partial_core.specs.Held.{holding_of, holding_at, holdings, joined_since, is_storing, joins_at}
+use Rattle.partial_machine.specs.Calls.{call_at}
+use Rattle.partial_core.specs.Steps.{AreNotesOf}
 use Rattle.partial_core.proofs.Parts.{gone}
 use Rattle.partial_core.proofs.Leaves.{names_all}
 use Rattle.partial_core.proofs.Steps.{LeadsAt, holding_in, known_here, sizes_here, sound_here, sound_at, memory_at, going, quiet}
@@ -37,7 +42,7 @@ pub same_step : {a b : Step} → Some a ≡ Some b → a ≡ b
 same_step {a} {b} e = cc
 
 -- a scan of some positions may be refused for want of slots
-scan_refused : (s : CoreState) → IsSound s → MayBeginAt s ScanBegun → MayBeRefused s.sizes.m (call.Scan s.asked) refused.SlotsSpent
+scan_refused : (s : CoreState) → IsSound s → is_sound_at s ScanBegun → MayBeRefused s.sizes.m (call.Scan s.asked) refused.SlotsSpent
 scan_refused s sound may = (names_all s.sizes.m s.asked sound.asked.each, may.0)
 
 module _ (z : Layout) (o : Opening) (words : List ℕ) (before : List Part) (x : Part) (after : List Part) (log : List Applied) (w : Lawful z o words (before ++ x ∷ after) log) (e : (core_of x).stage ≡ Joining) where
@@ -106,7 +111,7 @@ module _ (z : Layout) (o : Opening) (words : List ℕ) (before : List Part) (x :
         let g = going z o words before x after log w Joining e refl refl in
         let known = g.knows in
         let k = known_here z o words before x after log w in
-        let begun = subst (MayBeginAt x.begun) known.called k.begun in
+        let begun = subst (is_sound_at x.begun) known.called k.sound.stage in
         quiet z o words before x after log w Joining (Add (slot_counter z) 1) t dropped e due (leads false over) refl inside possible (since_same t) keeps_x (λ ks is. tt) refl
         (record { none = refl; call = call.Scan x.begun.asked; made = ap (call_at x.begun) known.called; may = scan_refused x.begun k.sound begun })
 

@@ -25,7 +25,11 @@ use Rattle.partial_state.proofs.SlotLaws.{leaves_are_kept}
 use Rattle.partial_words.specs.Step.{words_after}
 use Rattle.partial_knowledge.specs.Scans as scans
 use Rattle.partial_knowledge.proofs.Scans.{there, got}
-use Rattle.partial_core.specs.Lawful.{Part, Lawful, core_of, holding_of, holdings, joined_since, call_at, MayBeginAt}
+use Rattle.partial_machine.specs.Sound.{is_sound_at}
+use Rattle.partial_core.specs.Part.{Part, core_of}
+use Rattle.partial_core.specs.Lawful.{Lawful}
+use Rattle.partial_core.specs.Held.{holding_of, holdings, joined_since}
+use Rattle.partial_machine.specs.Calls.{call_at}
 use Rattle.partial_core.proofs.Going.{is_finished}
 use Rattle.partial_core.proofs.Parts.{gone, gone_core, all_at, holdings_split}
 use Rattle.partial_core.proofs.Steps.{LeadsAt, holding_in, known_here, sizes_here, sound_here, sound_at, memory_at, going, ends}
@@ -156,7 +160,7 @@ module _ (z : Layout) (o : Opening) (words : List ℕ) (before : List Part) (x :
       let g = going z o words before x after log w Leaving e refl refl in
       let known = g.knows in
       let k = known_here z o words before x after log w in
-      let begun = subst (MayBeginAt x.begun) known.0.called k.begun in
+      let begun = subst (is_sound_at x.begun) known.0.called k.sound.stage in
       let some : 0 < length s.asked = let same : length s.asked ≡ length x.begun.asked = ap length known.0.asked in let first = begun.0 in omega (arith, same, first) in
       by_borrowed s.embedded.borrowed refl known.5 some known.4 known.3
     where
@@ -204,6 +208,7 @@ module _ (z : Layout) (o : Opening) (words : List ℕ) (before : List Part) (x :
         made = ap (call_at x.begun) known.0.called ∙ ap (λ js. Some (call.Scan js)) (sym known.0.asked);
         behind = let more = g.more (record { answer = 0; at = length log }) in omega (arith, more, first, from);
         within = inside;
+        placed = inside;
       })
     where
       core_is : (n : Noted) → core_of (gone x log 0 (n ∷ [])) ≡ record s { leave = record s.leave { left = true }; stage = Finished (scanned_reply s) }

@@ -12,4 +12,9 @@ pub mod Stored
 pub mod Exchange
 pub mod AllSteps
 pub mod Opened
+pub mod Added
+pub mod Ports
+pub mod WholeCalls
 pub mod Ordered
+pub mod Laws
+pub mod Machines

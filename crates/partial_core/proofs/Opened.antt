@@ -1,35 +1,24 @@
 -- A memory as it opens is lawful.
 use Rattle.std.proofs.Common.{ℕ, zero, suc, ◌≡◌, ◌+◌, ◌≤◌, ◌==◌, ◌++◌, Bool, true, false, cond, None, List, [], ◌∷◌, refl, sym, ◌∙◌, ap, subst, arith}
 use Rattle.std.specs.List.{AllByRecursion}
-use Rattle.std.proofs.lemmas.List.{length-replicate}
 use Rattle.partial_model.specs.declared.history.Opening.{Opening}
 use Rattle.partial_model.specs.Notes.{Noted}
 use Rattle.partial_model.specs.Outcome.{places_written}
 use Rattle.partial_words.specs.Layout.{Layout}
-use Rattle.partial_machine.specs.Machine.{fresh, IsSound}
-use Rattle.partial_machine.proofs.Indices.{no_index}
+use Rattle.partial_machine.proofs.Laws.{rests_are_sound}
 use Rattle.partial_state.specs.Holdings.{Holding}
 use Rattle.partial_state.specs.LawfulWords.{LawfulWords}
 use Rattle.partial_state.specs.Effects.{idle_holdings}
 use Rattle.partial_state.proofs.OpeningLaw.{opening_is_lawful}
-use Rattle.partial_core.specs.Lawful.{IsKnown, holdings, notes_by, fresh_parts, OpensLawful}
+use Rattle.partial_core.specs.Known.{IsKnown, notes_by}
+use Rattle.partial_core.specs.Held.{holdings}
+use Rattle.partial_core.specs.Part.{fresh_parts}
+use Rattle.partial_core.specs.Lawful.{OpensLawful}
 
 -- a port that has made no call holds nothing
 hold_nothing : (z : Layout) (p n : ℕ) → holdings (fresh_parts z p n) ≡ idle_holdings p n
 hold_nothing z p zero = refl
 hold_nothing z p (suc n) = ap (λ (hs : List Holding). record { port = p; claimed = None; own = None; due = None; pool_spent = false; slots_spent = false; lists_spent = false } ∷ hs) (hold_nothing z (p + 1) n)
-
-pub fresh_sound : (z : Layout) (p : ℕ) → IsSound (fresh z p)
-fresh_sound z p =
-    let none = no_index z.m in
-    record {
-      asked = record { few = omega arith; each = none.each };
-      found = record { limit = refl; room = refl };
-      indices = record { few = omega arith; each = none.each };
-      distinct = none.distinct;
-      rows = record { last = length-replicate z.m 0; changed = length-replicate z.m false; values = length-replicate z.m 0 };
-      stage = tt;
-    }
 
 fresh_known : (z : Layout) (o : Opening) (words : List ℕ) (hs : List Holding) (p n : ℕ) → p + n ≤ 64 → AllByRecursion (IsKnown z o words hs []) (fresh_parts z p n)
 fresh_known z o words hs p zero few = tt
@@ -40,10 +29,13 @@ fresh_known z o words hs p (suc n) few = (
     seen = refl;
     notes = tt;
     shown = omega arith;
-    sound = fresh_sound z p;
-    begun = tt;
+    sound = rests_are_sound.fresh z p;
+    begun = refl;
     since = omega arith;
-    earlier = λ rest. omega arith;
+    earlier = omega arith;
+    past = omega arith;
+    one = omega arith;
+    going = λ rest. refl;
     kept = tt;
   },
   fresh_known z o words hs (p + 1) n (omega (arith, few)),

@@ -35,13 +35,17 @@ use Rattle.partial_active.specs.declared.get_set.Stage.{Stage as SetStage}
 use Rattle.partial_active.specs.declared.get_set.Stage.TheVariants.{Head, ListLen, ListLow, ListHigh, Counter, Slot, Len as NamedLen, Index as NamedIndex, Claim, Write, Publish, Done as SetDone}
 use Rattle.partial_machine.specs.declared.stage.Stage.{Stage}
 use Rattle.partial_machine.specs.declared.stage.Stage.TheVariants.{Idle, ReadBegun, LoadingValue, UpdateBegun, GettingSet, Viewing, ClaimingRecord, StoringRecord, Exchanging, ScanBegun, StoringAnnouncement, Joining, Scanning, Leaving, Finished}
-use Rattle.partial_machine.specs.Machine.{CoreState, getting, record_size, record_words, step_at, step_of, is_sound_at, AreComponents}
-use Rattle.partial_core.specs.Lawful.{Part, Lawful, core_of, holding_of, holdings, joined_since, own_list, own_at, slot_claimed, is_begun, is_at_rest, begun_like, MayBegin}
+use Rattle.partial_machine.specs.Machine.{CoreState, getting, record_size, record_words, step_at, step_of}
+use Rattle.partial_machine.specs.Sound.{is_sound_at, AreComponents}
+use Rattle.partial_core.specs.Part.{HasBegun, IsLedTo, Part, core_of}
+use Rattle.partial_core.specs.Lawful.{Lawful}
+use Rattle.partial_core.specs.Held.{holding_of, holdings, joined_since, own_list, own_at, slot_claimed}
+use Rattle.partial_machine.specs.Calls.{is_begun, is_at_rest, begun_like}
 use Rattle.partial_core.proofs.Going.{view_loads}
 use Rattle.partial_core.proofs.Steps.{holding_in, sizes_here, sound_at, memory_here, memory_at}
 use Rattle.partial_core.proofs.StoredFacts.{length_record}
 use Rattle.partial_core.proofs.Leaves.{leave_due}
-use Rattle.partial_core.proofs.AllSteps.{begin_lawful}
+use Rattle.partial_core.proofs.AllSteps.{fresh_call, begin_lawful}
 use Rattle.partial_core.proofs.Parts.{all_at}
 use Rattle.partial_core.specs.Orderly.{LawfulIsOrderly, StepsAreOrderly}
 
@@ -273,10 +277,9 @@ module _ (z : Layout) (o : Opening) (words : List ℕ) (before : List Part) (x :
   core_orderly : (step : Step) → step_of s ≡ Some step → ComesFrom z words (words_after words step)
   core_orderly step due = comes_from z o words (holdings before) (holding_of x) (holdings after) log (memory_here z o words before x after log w) step (touches_at s.stage step refl due)
 
-orderly_begun : (z : Layout) (o : Opening) (words : List ℕ) (before : List Part) (x : Part) (after : List Part) (log : List Applied) (c : CoreState) (step : Step) (b : Bool) → is_begun c.stage ≡ b → Lawful z o words (before ++ x ∷ after) log → MatchBool b ((is_at_rest (core_of x).stage ≡ true) × (c ≡ begun_like (core_of x) c) × AreComponents c.sizes c.asked × MayBegin c) (c ≡ core_of x) → step_of c ≡ Some step → ComesFrom z words (words_after words step)
-orderly_begun z o words before x after log c step true begun w m due =
-    core_orderly z o words before (record { seen = x.seen; notes = x.notes; begun = c; kept = []; since = seen_by 0 x.notes }) after log (begin_lawful z o words before x after log w c m.0 m.1 m.2 m.3 begun) step due
-orderly_begun z o words before x after log c step false begun w m due = core_orderly z o words before x after log w step (ap step_of (sym m) ∙ due)
-
 pub steps_are_orderly : StepsAreOrderly
-steps_are_orderly z o words before x after log c step w m due = orderly_begun z o words before x after log c step (is_begun c.stage) refl w m due
+steps_are_orderly z o words before x after log c step w m due = by m
+  where
+    by : HasBegun c x ⊎ IsLedTo c x → ComesFrom z words (words_after words step)
+    by (inl h) = core_orderly z o words before (fresh_call c x) after log (begin_lawful z o words before x after log w c h) step due
+    by (inr l) = core_orderly z o words before x after log w step (ap step_of (sym l.is) ∙ due)

@@ -1,8 +1,8 @@
 -- A lawful state with one part in the place of another, and with other words.
-use Rattle.std.proofs.Common.{ℕ, ◌≡◌, ◌≢◌, ◌≤◌, ◌==◌, ◌++◌, Bool, true, false, cond, Option, Some, None, List, [], ◌∷◌, length, take, min, refl, sym, ap, subst, ◌∙◌, arith, append_assoc, length-append, length-take}
+use Rattle.std.proofs.Common.{ℕ, ◌+◌, ◌≡◌, ◌≢◌, ◌≤◌, ◌==◌, ◌++◌, Bool, true, false, cond, Option, Some, None, List, [], ◌∷◌, length, take, drop, min, refl, sym, ap, subst, ◌∙◌, arith, append_assoc, length-append, length-take}
 use Rattle.std.specs.List.{AllByRecursion}
 use Rattle.std.proofs.lemmas.Bool.{false≢true, ne_eqb, eq-eqb}
-use Rattle.std.proofs.lemmas.List.{append-nil, take_all, take-append-le}
+use Rattle.std.proofs.lemmas.List.{append-nil, take_all, take-append-drop, take-append-le}
 use Rattle.partial_model.specs.declared.history.Applied.{Applied}
 use Rattle.partial_model.specs.declared.history.Opening.{Opening}
 use Rattle.partial_model.specs.Notes.{Noted, LegalNotes, IsLegal, seen_by}
@@ -11,13 +11,18 @@ use Rattle.partial_model.proofs.NotesLemmas.{LegalNotes-push, LegalNotes-grows, 
 use Rattle.partial_words.specs.declared.step.Step.{Step}
 use Rattle.partial_words.specs.declared.step.Step.TheVariants.{Load, Store, Exchange, Add}
 use Rattle.partial_words.specs.Layout.{Layout}
-use Rattle.partial_machine.specs.Machine.{CoreState, advance, step_of, IsPossible}
+use Rattle.partial_machine.specs.Machine.{CoreState, advance, step_of}
+use Rattle.partial_machine.specs.Possible.{IsPossible}
 use Rattle.partial_state.specs.Holdings.{Holding}
 use Rattle.partial_state.specs.LawfulWords.{LawfulWords}
 use Rattle.partial_state.specs.Loads.{Kept, IsLoaded}
 use Rattle.partial_state.specs.Effects.{Keeps}
 use Rattle.partial_state.proofs.ListLemmas.{all_weaker}
-use Rattle.partial_core.specs.Lawful.{Part, Lawful, led_by, core_of, port_of, holding_of, holdings, is_at_rest, IsTrueYet, AreKept, IsKnown, notes_by}
+use Rattle.partial_core.specs.Part.{Part, led_by, core_of, port_of}
+use Rattle.partial_core.specs.Lawful.{Lawful}
+use Rattle.partial_core.specs.Held.{holding_of, holdings}
+use Rattle.partial_machine.specs.Calls.{is_at_rest}
+use Rattle.partial_core.specs.Known.{IsTrueYet, AreKept, IsKnown, notes_by}
 use Rattle.partial_core.proofs.Calls.{led_push}
 
 -- a beginning of a list is no longer than the list
@@ -43,12 +48,15 @@ known_grows z o words words' hs hs' log es loads x w = record {
   port = w.port;
   sizes = w.sizes;
   seen = w.seen ∙ sym (take-append-le (length x.seen) log es (seen_within x.seen log w.seen));
-  notes = LegalNotes-grows o log es (port_of x) 0 x.notes w.notes;
+  notes = w.notes;
   shown = w.shown;
   sound = w.sound;
   begun = w.begun;
   since = w.since;
   earlier = w.earlier;
+  past = w.past;
+  one = w.one;
+  going = w.going;
   kept = kept_grows z o words words' hs hs' log es loads x.since x.begun x.kept w.kept;
 }
 
@@ -61,15 +69,23 @@ kept_push z o words hs log low s (x ∷ ks) k w behind all possible within yet =
 
 -- the part behind one answer more
 abbrev pub gone : Part → List Applied → ℕ → List Noted → Part
-gone x l a new = record { seen = l; notes = x.notes ++ new; begun = x.begun; kept = x.kept ++ record { answer = a; at = length l } ∷ []; since = x.since }
+gone x l a new = record { seen = l; notes = x.notes ++ new; begun = x.begun; kept = x.kept ++ record { answer = a; at = length l } ∷ []; since = x.since; past = x.past }
 
 pub gone_core : (x : Part) (l : List Applied) (a : ℕ) (new : List Noted) → core_of (gone x l a new) ≡ advance (core_of x) a
 gone_core x l a new = led_push x.begun x.kept (record { answer = a; at = length l })
 
-known_gone : (z : Layout) (o : Opening) (words : List ℕ) (hs : List Holding) (l : List Applied) (x : Part) (a : ℕ) (new : List Noted) → IsKnown z o words hs l x → IsPossible (core_of x) a → IsTrueYet z o words hs l (step_of (core_of x)) (record { answer = a; at = length l }) → LegalNotes o l (port_of x) 0 (x.notes ++ new) → seen_by 0 (x.notes ++ new) ≤ length l → (is_at_rest (advance (core_of x) a).stage ≡ false → seen_by 0 (x.notes ++ new) ≤ x.since) → IsKnown z o words hs l (gone x l a new)
-known_gone z o words hs l x a new w possible yet legal shown earlier =
+-- notes that are legal in a beginning of the history are legal in the history
+pub legal_on : (o : Opening) (seen log : List Applied) (p n : ℕ) (ns : List Noted) → seen ≡ take (length seen) log → LegalNotes o seen p n ns → LegalNotes o log p n ns
+legal_on o seen log p n ns is w =
+    let all : seen ++ drop (length seen) log ≡ log = ap (λ (l : List Applied). l ++ drop (length seen) log) is ∙ take-append-drop (length seen) log in
+    subst (λ (l : List Applied). LegalNotes o l p n ns) all (LegalNotes-grows o seen (drop (length seen) log) p n ns w)
+
+known_gone : (z : Layout) (o : Opening) (words : List ℕ) (hs : List Holding) (l : List Applied) (x : Part) (a : ℕ) (new : List Noted) → IsKnown z o words hs l x → is_at_rest (core_of x).stage ≡ false → IsPossible (core_of x) a → IsTrueYet z o words hs l (step_of (core_of x)) (record { answer = a; at = length l }) → LegalNotes o l (port_of x) 0 (x.notes ++ new) → seen_by 0 (x.notes ++ new) ≤ length l → length new ≤ 1 → (is_at_rest (advance (core_of x) a).stage ≡ false → new ≡ []) → IsKnown z o words hs l (gone x l a new)
+known_gone z o words hs l x a new w going possible yet legal shown one none =
     let seen = seen_within x.seen l w.seen in
     let since = w.since in
+    let past = w.going going in
+    let long : length (x.notes ++ new) ≡ length x.notes + length new = length-append x.notes new in
     record {
       port = w.port;
       sizes = w.sizes;
@@ -79,7 +95,10 @@ known_gone z o words hs l x a new w possible yet legal shown earlier =
       sound = w.sound;
       begun = w.begun;
       since = omega (arith, since, seen);
-      earlier = λ rest. earlier (ap (λ (s : CoreState). is_at_rest s.stage) (sym (gone_core x l a new)) ∙ rest);
+      earlier = subst (λ (ns : List Noted). seen_by 0 ns ≤ x.since) (sym (take-append-le x.past x.notes new w.past)) w.earlier;
+      past = omega (arith, past, long);
+      one = omega (arith, past, long, one);
+      going = λ rest. let empty = none (ap (λ (s : CoreState). is_at_rest s.stage) (sym (gone_core x l a new)) ∙ rest) in let zero_long : length new ≡ 0 = ap length empty in omega (arith, past, long, zero_long);
       kept = kept_push z o words hs l x.since x.begun x.kept (record { answer = a; at = length l }) w.kept (omega (arith, since, seen)) (λ n h. h) possible (omega arith) yet;
     }
 
@@ -90,12 +109,12 @@ known_on z o words hs l x a w going possible yet =
     let seen = seen_within x.seen l w.seen in
     let shown : seen_by 0 (x.notes ++ []) ≡ seen_by 0 x.notes = ap (seen_by 0) same in
     let less = w.shown in
-    known_gone z o words hs l x a [] w possible yet (subst (LegalNotes o l (port_of x) 0) (sym same) w.notes) (omega (arith, shown, less, seen)) (λ rest. let earlier = w.earlier going in omega (arith, shown, earlier))
+    known_gone z o words hs l x a [] w going possible yet (subst (LegalNotes o l (port_of x) 0) (sym same) (legal_on o x.seen l (port_of x) 0 x.notes w.seen w.notes)) (omega (arith, shown, less, seen)) (omega arith) (λ _. refl)
 
 -- the call ends with a note
-pub known_end : (z : Layout) (o : Opening) (words : List ℕ) (hs : List Holding) (l : List Applied) (x : Part) (a : ℕ) (n : Noted) → IsKnown z o words hs l x → IsPossible (core_of x) a → IsTrueYet z o words hs l (step_of (core_of x)) (record { answer = a; at = length l }) → IsLegal o l (port_of x) (seen_by 0 x.notes) n → seen_by 0 (x.notes ++ n ∷ []) ≤ length l → is_at_rest (advance (core_of x) a).stage ≡ true → IsKnown z o words hs l (gone x l a (n ∷ []))
-known_end z o words hs l x a n w possible yet legal shown rest =
-    known_gone z o words hs l x a (n ∷ []) w possible yet (LegalNotes-push o l (port_of x) 0 x.notes n w.notes legal) shown (λ r. absurd (false≢true (sym r ∙ rest)))
+pub known_end : (z : Layout) (o : Opening) (words : List ℕ) (hs : List Holding) (l : List Applied) (x : Part) (a : ℕ) (n : Noted) → IsKnown z o words hs l x → is_at_rest (core_of x).stage ≡ false → IsPossible (core_of x) a → IsTrueYet z o words hs l (step_of (core_of x)) (record { answer = a; at = length l }) → IsLegal o l (port_of x) (seen_by 0 x.notes) n → seen_by 0 (x.notes ++ n ∷ []) ≤ length l → is_at_rest (advance (core_of x) a).stage ≡ true → IsKnown z o words hs l (gone x l a (n ∷ []))
+known_end z o words hs l x a n w going possible yet legal shown rest =
+    known_gone z o words hs l x a (n ∷ []) w going possible yet (LegalNotes-push o l (port_of x) 0 x.notes n (legal_on o x.seen l (port_of x) 0 x.notes w.seen w.notes) legal) shown (omega arith) (λ r. absurd (false≢true (sym r ∙ rest)))
 
 -- what the ports before, here and behind hold
 pub holdings_split : (before : List Part) (x : Part) (after : List Part) → holdings (before ++ x ∷ after) ≡ holdings before ++ holding_of x ∷ holdings after
@@ -107,7 +126,7 @@ pub all_at : {A : Type 0} (P : A → Type 0) (before : List A) (x : A) (after : 
 all_at P [] x after w = w.0
 all_at P (b ∷ before) x after w = all_at P before x after w.1
 
-all_changed : {A : Type 0} (P Q : A → Type 0) → ((x : A) → P x → Q x) → (before : List A) (x y : A) (after : List A) → AllByRecursion P (before ++ x ∷ after) → Q y → AllByRecursion Q (before ++ y ∷ after)
+pub all_changed : {A : Type 0} (P Q : A → Type 0) → ((x : A) → P x → Q x) → (before : List A) (x y : A) (after : List A) → AllByRecursion P (before ++ x ∷ after) → Q y → AllByRecursion Q (before ++ y ∷ after)
 all_changed P Q f [] x y after w here = (here, all_weaker P Q f after w.1)
 all_changed P Q f (b ∷ before) x y after w here = (f b w.0, all_changed P Q f before x y after w.1 here)
 

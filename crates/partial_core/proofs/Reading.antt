@@ -19,7 +19,8 @@ use Rattle.partial_machine.specs.declared.stage.Change.{Change}
 use Rattle.partial_machine.specs.declared.stage.Reply.TheVariants as reply
 use Rattle.partial_machine.specs.declared.stage.Stage.{Stage}
 use Rattle.partial_machine.specs.declared.stage.Stage.TheVariants.{ReadBegun, LoadingValue, UpdateBegun, Viewing, ClaimingRecord, Scanning, Leaving, Finished}
-use Rattle.partial_machine.specs.Machine.{CoreState, at_stage, scanning, with_scanning, is_sound_at, expects, begin_getting, after_scanning, step_at, reply_of, reply_at, IsRecord}
+use Rattle.partial_machine.specs.Machine.{CoreState, at_stage, scanning, with_scanning, expects, begin_getting, after_scanning, step_at, reply_of, reply_at}
+use Rattle.partial_machine.specs.Sound.{is_sound_at, IsRecord}
 use Rattle.partial_state.specs.Views.{IsWithin}
 use Rattle.partial_state.specs.Holdings.{Holding}
 use Rattle.partial_state.specs.Loads.{Kept}
@@ -27,7 +28,11 @@ use Rattle.partial_state.proofs.LoadLaw.{loads_are_true}
 use Rattle.partial_knowledge.specs.Sets.{IsReadable}
 use Rattle.partial_knowledge.specs.Scans as scans
 use Rattle.partial_knowledge.proofs.Chains.{stamp_within, standing, standing_word}
-use Rattle.partial_core.specs.Lawful.{Part, Lawful, core_of, holding_at, holdings, led_by, joined_since, is_begun, first_at, call_at, update_call, AreNotesOf}
+use Rattle.partial_core.specs.Part.{Part, core_of, led_by, first_at}
+use Rattle.partial_core.specs.Lawful.{Lawful}
+use Rattle.partial_core.specs.Held.{holding_at, holdings, joined_since}
+use Rattle.partial_machine.specs.Calls.{is_begun, call_at, update_call}
+use Rattle.partial_core.specs.Steps.{AreNotesOf}
 use Rattle.partial_core.proofs.Going.{view_leads, view_loads}
 use Rattle.partial_core.proofs.Parts.{gone}
 use Rattle.partial_core.proofs.Steps.{LeadsAt, holding_in, known_here, sizes_here, sound_at, seen_here, going, load_quiet, load_ends, starting}
@@ -95,7 +100,7 @@ module _ (z : Layout) (o : Opening) (words : List ℕ) (before : List Part) (x :
       let value : a ≡ value_of o (take first log) j = ap (λ m. get_or words (m + 1) 0) known.2 ∙ value_behind_stamp o words log j first w.memory.agrees below in
       load_ends z o words before x after log w (LoadingValue stamp) (stamp + 1) (at_stage (core_of x) (Finished (reply.Read a stamp))) e refl refl refl (standing_word z o words hs log w.memory stamp 1 (omega arith) s) tt refl
       n refl (below, ((omega (arith, order, inside), value, known.2), g.low)) (omega (arith, order, inside)) refl
-      (record { call = call.Read j; note = note.Saw first; is = refl; made = ap (call_at x.begun) known.1; behind = let more = g.more (record { answer = a; at = length log }) in omega (arith, more); within = omega (arith, order, inside) })
+      (record { call = call.Read j; note = note.Saw first; is = refl; made = ap (call_at x.begun) known.1; behind = let more = g.more (record { answer = a; at = length log }) in omega (arith, more); within = omega (arith, order, inside); placed = omega (arith, order, inside) })
 
   -- a call that has made no step keeps no answer, and its machine is the one that has begun it
   pub none_kept : (t : Stage) → (core_of x).stage ≡ t → is_begun t ≡ true → x.kept ≡ []
@@ -125,6 +130,7 @@ module _ (z : Layout) (o : Opening) (words : List ℕ) (before : List Part) (x :
         made = ap (call_at x.begun) (sym (ap (λ (d : CoreState). d.stage) begun) ∙ e) ∙ ap (λ (f : Option ℕ). Some (update_call c.component f c.value)) is;
         behind = let first : first_at (x.kept ++ record { answer = a; at = length log } ∷ []) ≡ length log = ap (λ (l : List Kept). first_at (l ++ record { answer = a; at = length log } ∷ [])) kept in omega (arith, first);
         within = omega arith;
+        placed = omega arith;
       })
 
   -- an update goes on where the component has the stamp that it expects

@@ -1,7 +1,7 @@
 -- What one step of a port's machine leads to, from what it does to the words and to what the port holds.
 use Rattle.std.proofs.Common.{ℕ, ◌≡◌, ◌<◌, ◌≤◌, ◌++◌, true, false, cond, Option, Some, List, [], ◌∷◌, length, get_or, refl, sym, ap, subst, ◌∙◌, arith}
 use Rattle.std.proofs.lemmas.Bool.{false≢true}
-use Rattle.std.proofs.lemmas.List.{append-nil}
+use Rattle.std.proofs.lemmas.List.{append-nil, take_all}
 use Rattle.partial_model.specs.declared.history.Applied.{Applied}
 use Rattle.partial_model.specs.declared.history.Opening.{Opening}
 use Rattle.partial_model.specs.Notes.{Noted, IsLegal, seen_by, seen_after}
@@ -13,14 +13,23 @@ use Rattle.partial_words.specs.Layout.{Layout}
 use Rattle.partial_words.specs.Step.{Answers, answer_of, words_after, word_of}
 use Rattle.partial_machine.specs.declared.stage.Stage.{Stage}
 use Rattle.partial_machine.specs.declared.stage.Stage.TheVariants.{Idle, ReadBegun, LoadingValue, UpdateBegun, GettingSet, Viewing, ClaimingRecord, StoringRecord, Exchanging, ScanBegun, StoringAnnouncement, Joining, Scanning, Leaving, Finished}
-use Rattle.partial_machine.specs.Machine.{CoreState, lists_spent, advance_at, step_at, step_of, reply_of, IsSound, is_sound_at, IsPossible, IsPossibleAt}
+use Rattle.partial_machine.specs.Machine.{CoreState, lists_spent, advance_at, step_at, step_of, reply_of}
+use Rattle.partial_machine.specs.Sound.{IsSound, is_sound_at}
+use Rattle.partial_machine.specs.Possible.{IsPossible, IsPossibleAt}
 use Rattle.partial_state.specs.Holdings.{Holding}
 use Rattle.partial_state.specs.LawfulWords.{LawfulWords}
 use Rattle.partial_state.specs.Loads.{Kept, IsLoaded}
 use Rattle.partial_state.specs.Effects.{Keeps, IsKept as IsKeptBy}
 use Rattle.partial_state.proofs.LoadLaw.{loads_are_true}
 use Rattle.partial_knowledge.specs.Sets.{IsReadable}
-use Rattle.partial_core.specs.Lawful.{Part, Lawful, core_of, port_of, holding_of, holding_at, holdings, led_by, joined_from, joined_since, joins_at, claimed_at, own_at, due_at, is_begun, is_at_rest, MayBeginAt, IsTrueYet, IsKnown, AreKept, AreNotesOf, added_at, first_at}
+use Rattle.partial_core.specs.Part.{Part, core_of, port_of, led_by, first_at}
+use Rattle.partial_core.specs.Lawful.{Lawful}
+use Rattle.partial_core.proofs.Added.{added_at}
+use Rattle.partial_core.specs.Held.{holding_of, holding_at, holdings, joined_from, joined_since, joins_at, claimed_at, own_at, due_at}
+use Rattle.partial_machine.specs.Calls.{is_begun, is_at_rest}
+use Rattle.partial_core.specs.Known.{IsTrueYet, IsKnown, AreKept}
+use Rattle.partial_core.specs.Steps.{AreNotesOf}
+use Rattle.partial_core.specs.Part.{has_no_step}
 use Rattle.partial_core.proofs.Going.{knows_at, Knows}
 use Rattle.partial_core.proofs.Calls.{led, IsLed, called_on, last_at, joined_push}
 use Rattle.partial_core.proofs.Parts.{seen_within, known_grows, gone, gone_core, known_on, known_end, holdings_split, all_at, changed, once_same}
@@ -32,6 +41,13 @@ pub record LeadsAt (z : Layout) (o : Opening) (words : List ℕ) (before : List 
   pub new : List Noted
   pub noted : AreNotesOf (gone x (log ++ added_at d.port s (answer_of words step)) (answer_of words step) new) (reply_of (advance_at d s (answer_of words step))) new
   pub lawful : Lawful z o (words_after words step) (before ++ gone x (log ++ added_at d.port s (answer_of words step)) (answer_of words step) new ∷ after) (log ++ added_at d.port s (answer_of words step))
+  pub loads : (n : ℕ) (k : Kept) → IsLoaded z o words (holdings (before ++ x ∷ after)) log n k → IsLoaded z o (words_after words step) (holdings (before ++ gone x (log ++ added_at d.port s (answer_of words step)) (answer_of words step) new ∷ after)) (log ++ added_at d.port s (answer_of words step)) n k
+
+-- a machine with a due step isn't at rest
+pub busy : (s : CoreState) (t : Stage) (step : Step) → step_at s t ≡ Some step → is_at_rest t ≡ false
+busy s Idle step e = absurd cc
+busy s (Finished r) step e = absurd cc
+busy s _ step e = refl
 
 -- what a machine holds at a stage that is named
 abbrev pub holding_in : CoreState → Stage → ℕ → Holding
@@ -121,6 +137,12 @@ module _ (z : Layout) (o : Opening) (words : List ℕ) (before : List Part) (x :
         (λ p. ap (λ (m : List Applied). places_by p 0 m) nil ∙ w.once p ∙ sym (once_same p before x y after refl (written_same x.notes new written)))
         (subst (λ (m : List Applied). IsKnown z o (words_after words step) (holdings (before ++ y ∷ after)) m y) (sym nil) (known (holdings (before ++ y ∷ after)) here true_now)))
 
+    -- what was loaded goes on being true
+    loads_then : (new : List Noted) (n : ℕ) (k : Kept) → IsLoaded z o words all_hold log n k → IsLoaded z o (words_after words step) (holdings (before ++ gone x log (answer_of words step) new ∷ after)) log n k
+    loads_then new n k l =
+        let split = holdings_split before (gone x log (answer_of words step) new) after ∙ ap (λ (h : Holding). holdings before ++ h ∷ holdings after) (holding_then new) in
+        subst (λ (hs : List Holding). IsLoaded z o (words_after words step) hs log n k) (sym split) (keeps.loads n k (subst (λ (hs : List Holding). IsLoaded z o words hs log n k) (holdings_split before x after) l))
+
     made : (new : List Noted) → Lawful z o (words_after words step) (before ++ gone x log (answer_of words step) new ∷ after) log → AreNotesOf (gone x log (answer_of words step) new) (reply_of t) new → LeadsAt z o words before x after log (core_of x) s step
     made new lawful noted =
         let nothing : log ++ added_at (core_of x).port s (answer_of words step) ≡ log = ap (λ (es : List Applied). log ++ es) added ∙ append-nil log in
@@ -130,6 +152,7 @@ module _ (z : Layout) (o : Opening) (words : List ℕ) (before : List Part) (x :
           new = new;
           noted = subst (λ (m : List Applied). AreNotesOf (gone x m (answer_of words step) new) (reply_of (advance_at (core_of x) s (answer_of words step))) new) (sym nothing) (subst (λ (c : CoreState). AreNotesOf (gone x log (answer_of words step) new) (reply_of c) new) (sym leads) noted);
           lawful = subst (λ (m : List Applied). Lawful z o (words_after words step) (before ++ gone x m (answer_of words step) new ∷ after) m) (sym nothing) lawful;
+          loads = λ n k l. subst (λ (m : List Applied). IsLoaded z o (words_after words step) (holdings (before ++ gone x m (answer_of words step) new ∷ after)) m n k) (sym nothing) (loads_then new n k l);
         }
 
     -- nothing is noted: the call goes on, or it is refused
@@ -140,7 +163,7 @@ module _ (z : Layout) (o : Opening) (words : List ℕ) (before : List Part) (x :
     pub ends : (n : Noted) → places_written (n ∷ []) ≡ [] → IsLegal o log (port_of x) (seen_by 0 x.notes) n → seen_after (seen_by 0 x.notes) n.note ≤ length log → is_at_rest t.stage ≡ true → AreNotesOf (gone x log (answer_of words step) (n ∷ [])) (reply_of t) (n ∷ []) → LeadsAt z o words before x after log (core_of x) s step
     ends n written legal shown rest noted =
         let pushed = seen_by-push 0 x.notes n in
-        made (n ∷ []) (lawful_then (n ∷ []) written (λ hs here true_now. known_end z o (words_after words step) hs log x (answer_of words step) n here possible_here true_now legal (omega (arith, pushed, shown)) (ap (λ (u : Stage). is_at_rest (advance_at (core_of x) u (answer_of words step)).stage) e ∙ ap (λ (c : CoreState). is_at_rest c.stage) leads ∙ rest))) noted
+        made (n ∷ []) (lawful_then (n ∷ []) written (λ hs here true_now. known_end z o (words_after words step) hs log x (answer_of words step) n here (ap is_at_rest e ∙ busy (core_of x) s step due) possible_here true_now legal (omega (arith, pushed, shown)) (ap (λ (u : Stage). is_at_rest (advance_at (core_of x) u (answer_of words step)).stage) e ∙ ap (λ (c : CoreState). is_at_rest c.stage) leads ∙ rest))) noted
 
   -- a load changes no word, and what the port holds stays
   module _ (s : Stage) (n : ℕ) (t : CoreState) (e : (core_of x).stage ≡ s) (due : step_at (core_of x) s ≡ Some (Load n)) (leads : advance_at (core_of x) s (get_or words n 0) ≡ t) (added : added_at (core_of x).port s (get_or words n 0) ≡ []) (readable : IsReadable z words all_hold n) (possible : IsPossibleAt (core_of x) s (get_or words n 0)) (holds : holding_at t (cond (joins_at (core_of x) s) (length log) (joined_since x)) ≡ holding_in (core_of x) s (joined_since x)) where
@@ -161,13 +184,13 @@ module _ (z : Layout) (o : Opening) (words : List ℕ) (before : List Part) (x :
     pub load_ends : (note : Noted) → places_written (note ∷ []) ≡ [] → IsLegal o log (port_of x) (seen_by 0 x.notes) note → seen_after (seen_by 0 x.notes) note.note ≤ length log → is_at_rest t.stage ≡ true → AreNotesOf (gone x log (get_or words n 0) (note ∷ [])) (reply_of t) (note ∷ []) → LeadsAt z o words before x after log (core_of x) s (Load n)
     load_ends note written legal shown rest noted = ends s (Load n) t (holding_in (core_of x) s (joined_since x)) e due leads added load_within possible holds load_keeps load_yet note written legal shown rest noted
 
--- a machine that may begin is begun or idle
-no_begin : (s : CoreState) (t : Stage) → MayBeginAt s t → is_begun t ≡ false → is_at_rest t ≡ false → ⊥
+-- a machine that has made no step is begun or idle
+no_begin : (s : CoreState) (t : Stage) → has_no_step t ≡ true → is_begun t ≡ false → is_at_rest t ≡ false → ⊥
 no_begin s Idle w begun rest = cc
 no_begin s (ReadBegun j) w begun rest = cc
 no_begin s (UpdateBegun c) w begun rest = cc
 no_begin s ScanBegun w begun rest = cc
-no_begin s _ w begun rest = w
+no_begin s _ w begun rest = false≢true w
 
 -- what a port in the middle of a call knows
 pub record IsGoing (z : Layout) (o : Opening) (words : List ℕ) (hs : List Holding) (log : List Applied) (x : Part) (s : Stage) : Type 0 where
@@ -189,7 +212,8 @@ going_from z o words hs log x (f ∷ ks) s is w k e begun rest =
     let gone_on = called_on z o words hs log w x.begun x.since f ks k.sizes k.sound k.begun kept in
     let order = gone_on.order in
     let behind = kept.0.behind in
-    let earlier = k.earlier (ap is_at_rest e ∙ rest) in
+    let past = k.going (ap is_at_rest e ∙ rest) in
+    let earlier : seen_by 0 x.notes ≤ x.since = subst (λ (ns : List Noted). seen_by 0 ns ≤ x.since) (take_all x.past x.notes (omega (arith, past))) k.earlier in
     let knows : Knows z o words hs log x.begun f.at (joined_from 0 x.begun (f ∷ ks)) (last_at x.since (f ∷ ks)) (led_by x.begun (f ∷ ks)) = gone_on.knows in
     let knows_x : Knows z o words hs log x.begun f.at (joined_since x) (last_at x.since (f ∷ ks)) (core_of x) = subst (λ (l : List Kept). Knows z o words hs log x.begun f.at (joined_from 0 x.begun l) (last_at x.since (f ∷ ks)) (led_by x.begun l)) (sym is) knows in
     record {

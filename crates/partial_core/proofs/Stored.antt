@@ -12,7 +12,8 @@ use Rattle.partial_words.specs.Step.{words_after}
 use Rattle.partial_machine.specs.declared.stage.Change.{Change}
 use Rattle.partial_machine.specs.declared.stage.Stage.{Stage}
 use Rattle.partial_machine.specs.declared.stage.Stage.TheVariants.{StoringRecord, Exchanging}
-use Rattle.partial_machine.specs.Machine.{CoreState, at_stage, AreComponents, record_words, record_size, scanning, is_sound_at}
+use Rattle.partial_machine.specs.Machine.{CoreState, at_stage, record_words, record_size, scanning}
+use Rattle.partial_machine.specs.Sound.{AreComponents, is_sound_at}
 use Rattle.partial_state.specs.Views.{Joined, IsBegunSince}
 use Rattle.partial_state.specs.Holdings.{Claimed, Holding, Own, Due, IfJoined, unpublished}
 use Rattle.partial_state.specs.Holdings.Space.{Pool}
@@ -27,7 +28,9 @@ use Rattle.partial_state.proofs.HoldingLemmas.{if_all, three_words}
 use Rattle.partial_state.proofs.ListLemmas.{all_of, all_before, all_after, all_append}
 use Rattle.partial_knowledge.specs.Sets as sets
 use Rattle.partial_knowledge.specs.Scans.{IsThird}
-use Rattle.partial_core.specs.Lawful.{Part, Lawful, core_of, holding_of, holdings, joined_since, first_at}
+use Rattle.partial_core.specs.Part.{Part, core_of, first_at}
+use Rattle.partial_core.specs.Lawful.{Lawful}
+use Rattle.partial_core.specs.Held.{holding_of, holdings, joined_since}
 use Rattle.partial_core.proofs.Going.{IsViewed}
 use Rattle.partial_core.proofs.Parts.{holdings_split}
 use Rattle.partial_core.proofs.Steps.{LeadsAt, holding_in, sizes_here, sound_here, sound_at, memory_at, going, quiet}

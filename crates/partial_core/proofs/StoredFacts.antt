@@ -15,7 +15,8 @@ use Rattle.partial_words.specs.Record.{record_block, view_block, StandsAt, Reads
 use Rattle.partial_words.proofs.RecordLemmas.{length-record_block, reads_back}
 use Rattle.partial_active.specs.IndexSet.{has_index}
 use Rattle.partial_machine.specs.declared.stage.Change.{Change}
-use Rattle.partial_machine.specs.Machine.{CoreState, AreComponents, record_words, record_size, own_pairs, view_at, scanning}
+use Rattle.partial_machine.specs.Machine.{CoreState, record_words, record_size, own_pairs, view_at, scanning}
+use Rattle.partial_machine.specs.Sound.{AreComponents}
 use Rattle.partial_state.specs.Views.{IsViewOf, Block, Joined, HasPairs, IsView, HasFreshView, IsWithin, IsBegunSince, Covers, Names, AreApart, IsApartFrom}
 use Rattle.partial_state.specs.Holdings.{Own, Holding, EachTwo, IfJoined, HaveOtherPorts, block_of, block_at, joined_in, others_of, unpublished}
 use Rattle.partial_state.specs.Holdings.Space.{Pool}

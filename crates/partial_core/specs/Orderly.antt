@@ -7,7 +7,8 @@ use Rattle.partial_words.specs.Layout.{Layout}
 use Rattle.partial_words.specs.Step.{words_after}
 use Rattle.partial_active.specs.Orderly.{Orderly, ComesFrom}
 use Rattle.partial_machine.specs.Machine.{CoreState, step_of}
-use Rattle.partial_core.specs.Lawful.{Part, Lawful, IsMachineOf}
+use Rattle.partial_core.specs.Part.{Part, IsMachineOf}
+use Rattle.partial_core.specs.Lawful.{Lawful}
 
 -- lawful words are orderly
 abbrev pub LawfulIsOrderly : Type 0

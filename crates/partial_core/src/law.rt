@@ -1,7 +1,10 @@
 //! Laws about the state of a memory. The functions have no code: their contracts hold of the definitions
 //! by which the machine's own contracts are stated.
 
-ghost use Rattle.partial_core.specs.Lawful.{OpensLawful, StepsStayLawful};
+ghost use Rattle.partial_core.specs.Lawful.{OpensLawful};
+ghost use Rattle.partial_core.specs.Steps.{StepsStayLawful};
+ghost use Rattle.partial_core.specs.Ports.{LawfulPortsFit, LooksStayLawful, LawfulCallsAreBounded, LawfulMachinesAreReady};
+ghost use Rattle.partial_core.specs.Calls.{FirstStepsMakeCalls, FurtherStepsMakeCalls, MadeCallsMakeTheirSteps, CallsBeginBetween, PortsComeBetween};
 ghost use Rattle.partial_core.specs.Orderly.{LawfulIsOrderly, StepsAreOrderly};
 
 /// A memory as it opens is lawful, with nothing applied and no call made.
@@ -15,6 +18,57 @@ pub fn memory_opens_lawful()
 /// that isn't refused, the port notes the call with its answer and its place, within the call.
 pub fn steps_stay_lawful()
     ensures { StepsStayLawful }
+{}
+
+/// In a lawful state each port's notes are legal in the history, its entries there are those of its notes,
+/// each once and in their order, and each entry is by one of the ports.
+pub fn lawful_ports_fit()
+    ensures { LawfulPortsFit }
+{}
+
+/// In a lawful state the machine of each port is sound, and has a step due unless it is at rest.
+pub fn lawful_machines_are_ready()
+    ensures { LawfulMachinesAreReady }
+{}
+
+/// A look by a port, the load of a component word, leads to a lawful state in which it has seen the whole
+/// history.
+pub fn looks_stay_lawful()
+    ensures { LooksStayLawful }
+{}
+
+/// In a lawful state each port's call has made no more steps than such a call may, with those that are left
+/// of it at most.
+pub fn lawful_calls_are_bounded()
+    ensures { LawfulCallsAreBounded }
+{}
+
+/// The first step of a call makes it a call that has made steps: what it keeps leads from its begin to where
+/// it is, and what it notes lies behind all that its port had seen before.
+pub fn first_steps_make_calls()
+    ensures { FirstStepsMakeCalls }
+{}
+
+/// Each further step of a call goes on with it.
+pub fn further_steps_make_calls()
+    ensures { FurtherStepsMakeCalls }
+{}
+
+/// By its kept answers a call has made no more steps than it may, a read 2, and a scan those of its positions
+/// and collects.
+pub fn made_calls_make_their_steps()
+    ensures { MadeCallsMakeTheirSteps }
+{}
+
+/// A call that isn't refused at once is the next one of a port between calls; a scan of no position leaves
+/// the port there.
+pub fn calls_begin_between()
+    ensures { CallsBeginBetween }
+{}
+
+/// A port is between calls as it is made, and where a call has ended and its reply was taken.
+pub fn ports_come_between()
+    ensures { PortsComeBetween }
 {}
 
 /// The words of a lawful state are orderly, as the active set asks of the words that answer a getSet.

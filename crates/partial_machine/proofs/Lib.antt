@@ -4,3 +4,7 @@ pub mod Sound
 pub mod StepCounts
 pub mod ScanCounts
 pub mod Submachines
+pub mod Begins
+pub mod DueWords
+pub mod Behind
+pub mod Laws

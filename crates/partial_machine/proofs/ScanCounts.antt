@@ -15,7 +15,9 @@ use Rattle.partial_machine.specs.declared.stage.Reply.{Reply}
 use Rattle.partial_machine.specs.declared.stage.Reply.TheVariants as reply
 use Rattle.partial_machine.specs.declared.stage.Stage.{Stage}
 use Rattle.partial_machine.specs.declared.stage.Stage.TheVariants.{Idle, ReadBegun, LoadingValue, UpdateBegun, GettingSet, Viewing, ClaimingRecord, StoringRecord, Exchanging, ScanBegun, StoringAnnouncement, Joining, Scanning, Leaving, Finished}
-use Rattle.partial_machine.specs.Machine.{CoreState, IsSound, is_sound_at, IsPossibleAt, at_stage, scanning, with_scanning, begin_joining, after_joining, pool_refused, fits_pool, advance, advance_at, reply_at}
+use Rattle.partial_machine.specs.Machine.{CoreState, at_stage, scanning, with_scanning, begin_joining, after_joining, pool_refused, fits_pool, advance, advance_at, reply_at}
+use Rattle.partial_machine.specs.Sound.{IsSound, is_sound_at}
+use Rattle.partial_machine.specs.Possible.{IsPossibleAt}
 use Rattle.partial_machine.specs.Steps.{Run, is_len, loads_len, pairs_loaded, AreOfScan, ScansMakeTheirSteps}
 use Rattle.partial_machine.proofs.Sound.{kept}
 

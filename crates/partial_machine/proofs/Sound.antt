@@ -21,7 +21,10 @@ use Rattle.partial_machine.specs.declared.stage.Change.{Change}
 use Rattle.partial_machine.specs.declared.stage.Reply.TheVariants as reply
 use Rattle.partial_machine.specs.declared.stage.Stage.{Stage}
 use Rattle.partial_machine.specs.declared.stage.Stage.TheVariants.{Idle, ReadBegun, LoadingValue, UpdateBegun, GettingSet, Viewing, ClaimingRecord, StoringRecord, Exchanging, ScanBegun, StoringAnnouncement, Joining, Scanning, Leaving, Finished}
-use Rattle.partial_machine.specs.Machine.{CoreState, at_stage, getting, scanning, with_getting, with_scanning, record_size, expects, overtaken, fits_pool, pool_refused, slots_refused, begin_getting, begin_joining, after_joining, scanned_reply, advance_at, advance, AreComponents, IsRecord, IsInPool, IsSound, is_sound_at, IsMachine, IsPoolCount, IsPossible, IsPossibleAt, left_at, steps_left}
+use Rattle.partial_machine.specs.Machine.{CoreState, at_stage, getting, scanning, with_getting, with_scanning, record_size, expects, overtaken, fits_pool, pool_refused, slots_refused, begin_getting, begin_joining, after_joining, scanned_reply, advance_at, advance}
+use Rattle.partial_machine.specs.Sound.{AreComponents, IsRecord, IsInPool, IsSound, is_sound_at, IsMachine}
+use Rattle.partial_machine.specs.Possible.{IsPoolCount, IsPossible, IsPossibleAt}
+use Rattle.partial_machine.specs.Bounds.{left_at, steps_left}
 use Rattle.partial_machine.proofs.Indices.{AreIndices, few_indices, found_kept}
 
 -- what an answer leaves of a machine

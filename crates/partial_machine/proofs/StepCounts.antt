@@ -1,11 +1,18 @@
 -- How many steps a call has made, over every run.
-use Rattle.std.proofs.Common.{ℕ, ◌≡◌, ◌+◌, List, [], ◌∷◌, length, Some, None, refl, sym, ◌∙◌, ap, subst, arith}
+use Rattle.std.proofs.Common.{ℕ, ◌≡◌, ◌+◌, ◌≤◌, Option, List, [], ◌∷◌, length, Some, None, refl, sym, ◌∙◌, ap, subst, arith}
+use Rattle.partial_model.specs.declared.call.Call.{Call}
+use Rattle.partial_model.specs.declared.call.Call.TheVariants as call
 use Rattle.partial_words.specs.Layout.{IsLayout}
+use Rattle.partial_embedded.specs.Embedded as viewing
+use Rattle.partial_machine.specs.Calls.{update_call, call_at}
 use Rattle.partial_machine.specs.declared.stage.Reply.{Reply}
 use Rattle.partial_machine.specs.declared.stage.Reply.TheVariants as reply
 use Rattle.partial_machine.specs.declared.stage.Stage.{Stage}
 use Rattle.partial_machine.specs.declared.stage.Stage.TheVariants.{ReadBegun, LoadingValue, UpdateBegun, ScanBegun, Finished}
-use Rattle.partial_machine.specs.Machine.{CoreState, IsSound, IsPossibleAt, at_stage, advance, advance_at, reply_of, reply_at, left_at, steps_left}
+use Rattle.partial_machine.specs.Machine.{CoreState, at_stage, advance, advance_at, reply_of, reply_at}
+use Rattle.partial_machine.specs.Sound.{IsSound, is_sound_at}
+use Rattle.partial_machine.specs.Possible.{IsPossibleAt}
+use Rattle.partial_machine.specs.Bounds.{most_steps, left_at, steps_left}
 use Rattle.partial_machine.specs.Steps.{Run, StaysSound, MakesFewSteps, ReadsInTwo}
 use Rattle.partial_machine.proofs.Sound.{kept}
 
@@ -18,14 +25,29 @@ stays_sound s t (x ∷ xs) layout w run =
     let steps = rest.1 in
     (rest.0, omega (arith, fewer, steps))
 
+-- a machine that has begun a call has no more steps left than such a call may make
+begun_few : (s : CoreState) (t : Stage) (c : Call) → IsSound s → s.stage ≡ t → call_at s t ≡ Some c → left_at s t ≤ most_steps s.sizes c
+begun_few s (ReadBegun j) c w e is = let same : call.Read j ≡ c = cc in subst (λ (d : Call). 2 ≤ most_steps s.sizes d) same (omega arith)
+begun_few s (UpdateBegun d) c w e is = let same : update_call d.component d.expected d.value ≡ c = cc in subst (λ (f : Call). left_at s (UpdateBegun d) ≤ most_steps s.sizes f) same (either d.expected)
+  where
+    either : (f : Option ℕ) → left_at s (UpdateBegun d) ≤ most_steps s.sizes (update_call d.component f d.value)
+    either None = omega arith
+    either (Some x) = omega arith
+begun_few s ScanBegun c w e is =
+    let same : call.Scan s.asked ≡ c = cc in
+    let some = (subst (is_sound_at s) e w.stage).0 in
+    subst (λ (f : Call). left_at s ScanBegun ≤ most_steps s.sizes f) same (positions s.asked refl)
+  where
+    positions : (js : List ℕ) → s.asked ≡ js → length js + 5 + viewing.most_steps s.sizes (length js) ≤ most_steps s.sizes (call.Scan js)
+    positions [] is = let some = (subst (is_sound_at s) e w.stage).0 in let none : length s.asked ≡ 0 = ap length is in absurd (omega (arith, some, none))
+    positions (j ∷ js) is = omega arith
+begun_few s _ c w e is = absurd cc
+
 pub makes_few_steps : MakesFewSteps
-makes_few_steps s t xs layout w run =
+makes_few_steps s t c xs layout w made run =
     let steps = (stays_sound s t xs layout w run).1 in
-    record {
-      read = λ i e. let left : steps_left s ≡ 2 = ap (left_at s) e in omega (arith, steps, left);
-      update = λ c e. let left : steps_left s ≡ left_at s (UpdateBegun c) = ap (left_at s) e in omega (arith, steps, left);
-      scan = λ e. let left : steps_left s ≡ left_at s ScanBegun = ap (left_at s) e in omega (arith, steps, left);
-    }
+    let most = begun_few s s.stage c w refl made in
+    omega (arith, steps, most)
 
 -- a machine at a stage without a reply has none
 not_yet : {P : Type 0} (s t : CoreState) (u : Stage) (r : Reply) → s.stage ≡ u → reply_at u ≡ None → t ≡ s → reply_of t ≡ Some r → P

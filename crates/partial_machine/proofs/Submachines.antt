@@ -8,7 +8,8 @@ use Rattle.partial_embedded.specs.Embedded as viewing
 use Rattle.partial_machine.specs.declared.stage.Change.{Change}
 use Rattle.partial_machine.specs.declared.stage.Stage.{Stage}
 use Rattle.partial_machine.specs.declared.stage.Stage.TheVariants.{GettingSet, Viewing, ClaimingRecord, Scanning, Leaving}
-use Rattle.partial_machine.specs.Machine.{CoreState, IsMachine, getting, scanning, with_getting, with_scanning, after_getting, after_scanning}
+use Rattle.partial_machine.specs.Machine.{CoreState, getting, scanning, with_getting, with_scanning, after_getting, after_scanning}
+use Rattle.partial_machine.specs.Sound.{IsMachine}
 use Rattle.partial_machine.proofs.Sound.{machine_on}
 
 -- where a step is due the machine goes on, and else it has come to the next stage

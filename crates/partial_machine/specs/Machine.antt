@@ -1,21 +1,18 @@
 -- A port's machine: the step that is due, what an answer makes of it, and the reply.
-use Rattle.std.specs.Prelude.{ℕ, ◌≡◌, ◌+◌, ◌*◌, ◌-◌, ◌/◌, ◌<◌, ◌≤◌, ◌==◌, ⊤, Bool, true, false, List, [], length, map, slice_index, nat_lt, Option, Some, None, IsSome, IsTrue, nat_eq, replicate, if◌then◌else◌}
-use Rattle.std.specs.List.{list_all, IsDistinct}
+use Rattle.std.specs.Prelude.{ℕ, ◌+◌, ◌/◌, ◌==◌, Bool, true, false, List, [], length, map, slice_index, nat_lt, Option, Some, None, replicate, if◌then◌else◌}
 use Rattle.std.specs.Option.{option_map_or}
-use Rattle.partial_model.specs.declared.call.Refused.{Refused}
 use Rattle.partial_model.specs.declared.call.Refused.TheVariants as refused
 use Rattle.partial_words.specs.declared.step.Step.{Step}
 use Rattle.partial_words.specs.declared.step.Step.TheVariants.{Load, Store, Exchange, Add}
-use Rattle.partial_words.specs.Layout.{Layout, IsLayout, component_word, pool_counter, pool_base, pool_end}
-use Rattle.partial_words.specs.Record.{record_block}
-use Rattle.partial_words.specs.Announcement.{announcement_block}
-use Rattle.partial_active.specs.Found.{Buffers, IsFor as AreBuffersFor}
-use Rattle.partial_active.specs.Join.{JoinState, fits_join, step_of_join, advance_join, join_left}
+use Rattle.partial_words.specs.Layout.{Layout, component_word, pool_counter, pool_end}
+use Rattle.partial_words.specs.Record.{record_block, plain_record_size, full_record_size, value_word, own_view}
+use Rattle.partial_words.specs.Announcement.{announcement_block, announcement_size}
+use Rattle.partial_active.specs.Found.{Buffers}
+use Rattle.partial_active.specs.Join.{JoinState, step_of_join, advance_join}
 use Rattle.partial_active.specs.declared.join.JoinStage.{JoinStage}
 use Rattle.partial_active.specs.declared.join.JoinStage.TheVariants.{Claiming, Storing, Joined, Spent}
 use Rattle.partial_active.specs.Leave.{LeaveState, step_of_leave, advance_leave}
 use Rattle.partial_active.specs.GetSet as finding
-use Rattle.partial_active.specs.GetSetAnswers as finding_answers
 use Rattle.partial_embedded.specs.Embedded as viewing
 use Rattle.partial_machine.specs.declared.stage.Change.{Change}
 use Rattle.partial_machine.specs.declared.stage.Reply.{Reply}
@@ -92,7 +89,7 @@ own_pairs s = option_map_or (λ _. []) s.embedded.borrowed (map (λ j. (j, slice
 
 -- The reference of that view for a record at `at`: the borrowed one, none, or the words behind the record.
 abbrev pub view_at : CoreState → ℕ → ℕ
-view_at s at = option_map_or (λ _. s.embedded.view) s.embedded.borrowed (if length s.found.indices == 0 then 0 else at + 3)
+view_at s at = option_map_or (λ _. s.embedded.view) s.embedded.borrowed (if length s.found.indices == 0 then 0 else own_view at)
 
 -- the words of the record that an update writes at `at`
 abbrev pub record_words : CoreState → Change → ℕ → ℕ → List ℕ
@@ -100,20 +97,21 @@ record_words s c old at = record_block old c.value (view_at s at) (own_pairs s)
 
 -- how many they are
 abbrev pub record_size : CoreState → ℕ
-record_size s = option_map_or (λ _. 3) s.embedded.borrowed (if length s.found.indices == 0 then 3 else 4 + 2 * length s.found.indices)
+record_size s = option_map_or (λ _. plain_record_size) s.embedded.borrowed
+    (if length s.found.indices == 0 then plain_record_size else full_record_size (length s.found.indices))
 
 -- the step that is due at a stage
 abbrev pub step_at : CoreState → Stage → Option Step
 step_at s Idle = None
 step_at s (ReadBegun j) = Some (Load (component_word s.sizes j))
-step_at s (LoadingValue stamp) = Some (Load (stamp + 1))
+step_at s (LoadingValue stamp) = Some (Load (value_word stamp))
 step_at s (UpdateBegun c) = Some (Load (component_word s.sizes c.component))
 step_at s (GettingSet c old) = finding.step_of s.get_set
 step_at s (Viewing c old) = viewing.step_of s.found.indices (scanning s)
 step_at s (ClaimingRecord c old) = Some (Add (pool_counter s.sizes) (record_size s))
 step_at s (StoringRecord c old at k) = Some (Store (at + k) (slice_index (record_words s c old at) k))
 step_at s (Exchanging c old at) = Some (Exchange (component_word s.sizes c.component) old at)
-step_at s ScanBegun = Some (Add (pool_counter s.sizes) (1 + length s.asked))
+step_at s ScanBegun = Some (Add (pool_counter s.sizes) (announcement_size (length s.asked)))
 step_at s (StoringAnnouncement at k) = Some (Store (at + k) (slice_index (announcement_block s.asked) k))
 step_at s Joining = step_of_join s.join
 step_at s Scanning = viewing.step_of s.asked (scanning s)
@@ -181,7 +179,7 @@ advance_at s (Viewing c old) x = after_scanning (with_scanning s (viewing.advanc
 advance_at s (ClaimingRecord c old) x = if fits_pool s.sizes (record_size s) x then at_stage s (StoringRecord c old x 0) else pool_refused s
 advance_at s (StoringRecord c old at k) x = at_stage s (if k + 1 == record_size s then Exchanging c old at else StoringRecord c old at (k + 1))
 advance_at s (Exchanging c old at) x = at_stage s (Finished (if x == old then reply.Applied at else overtaken c x))
-advance_at s ScanBegun x = if fits_pool s.sizes (1 + length s.asked) x then at_stage s (StoringAnnouncement x 0) else pool_refused s
+advance_at s ScanBegun x = if fits_pool s.sizes (announcement_size (length s.asked)) x then at_stage s (StoringAnnouncement x 0) else pool_refused s
 advance_at s (StoringAnnouncement at k) x = if k == length s.asked then begin_joining s at else at_stage s (StoringAnnouncement at (k + 1))
 advance_at s Joining x = let j = advance_join s.join x in after_joining (record s { join = j }) j.stage
 advance_at s Scanning x = after_scanning (with_scanning s (viewing.advance s.asked (scanning s) x)) s.asked Leaving
@@ -202,131 +200,3 @@ reply_of s = reply_at s.stage
 -- the values of the last scan that was answered, in the order of its positions
 abbrev pub scanned_values : CoreState → List ℕ
 scanned_values s = map (slice_index s.rows.values) s.asked
-
--- why a call is refused before any step: its indices come before the marks, and a read looks at no mark
-abbrev pub read_refusal : CoreState → ℕ → Option Refused
-read_refusal s i = if nat_lt i s.sizes.m then None else Some refused.Component
-
-abbrev pub update_refusal : CoreState → ℕ → Option Refused
-update_refusal s i = if nat_lt i s.sizes.m then (if s.pool_spent then Some refused.PoolSpent else None) else Some refused.Component
-
--- a scan of no position is never refused
-abbrev pub mark_refusal : CoreState → Option Refused
-mark_refusal s = if s.pool_spent then Some refused.PoolSpent else (if s.slots_spent then Some refused.SlotsSpent else None)
-
-abbrev pub scan_refusal : CoreState → List ℕ → Option Refused
-scan_refusal s indices = if list_all (λ i. nat_lt i s.sizes.m) indices then (if length indices == 0 then None else mark_refusal s) else Some refused.Component
-
--- a scan is begun; one of no position is finished at once
-abbrev pub begin_scan : CoreState → List ℕ → CoreState
-begin_scan s indices = record s { asked = indices; stage = if length indices == 0 then Finished (reply.Scanned 0 None) else ScanBegun }
-
--- the words of a record that begins at `at` are pool words
-abbrev pub IsRecord : Layout → ℕ → Type 0
-IsRecord z at = (pool_base z ≤ at) × (at + 3 ≤ pool_end z)
-
--- the indices name components, and there are at most m
-pub record AreComponents (z : Layout) (indices : List ℕ) : Type 0 where
-  pub few : length indices ≤ z.m
-  pub each : (k : ℕ) → k < length indices → slice_index indices k < z.m
-
--- what an update has loaded and found: its component is there, `old` is a record
-abbrev pub IsUpdating : CoreState → Change → ℕ → Type 0
-IsUpdating s c old = (c.component < s.sizes.m) × IsRecord s.sizes old × (s.pool_spent ≡ false)
-
--- a block of so many words at `at` is within the pool
-abbrev pub IsInPool : Layout → ℕ → ℕ → Type 0
-IsInPool z at size = (pool_base z ≤ at) × (at + size ≤ pool_end z)
-
--- the scan's slot is one of the slots, and isn't left yet
-abbrev pub IsLeaving : CoreState → Type 0
-IsLeaving s = (s.leave.sizes ≡ s.sizes) × (s.leave.slot < s.sizes.slots) × (s.leave.left ≡ false)
-
--- what is known of a stage, whatever was answered
-abbrev pub is_sound_at : CoreState → Stage → Type 0
-is_sound_at s Idle = ⊤
-is_sound_at s (ReadBegun j) = j < s.sizes.m
-is_sound_at s (LoadingValue stamp) = IsRecord s.sizes stamp
-is_sound_at s (UpdateBegun c) = (c.component < s.sizes.m) × (s.pool_spent ≡ false)
-is_sound_at s (GettingSet c old) = IsUpdating s c old × finding_answers.GoTogether (getting s) × (s.get_set.sizes ≡ s.sizes) × IsSome (finding.step_of s.get_set)
-is_sound_at s (Viewing c old) = IsUpdating s c old × viewing.GoTogether s.found.indices (scanning s) × (s.embedded.sizes ≡ s.sizes) × IsSome (viewing.step_of s.found.indices (scanning s))
-is_sound_at s (ClaimingRecord c old) = IsUpdating s c old
-is_sound_at s (StoringRecord c old at k) = IsUpdating s c old × IsInPool s.sizes at (record_size s) × (k < record_size s)
-is_sound_at s (Exchanging c old at) = IsUpdating s c old × IsInPool s.sizes at (record_size s)
-is_sound_at s ScanBegun = (0 < length s.asked) × (s.pool_spent ≡ false) × (s.slots_spent ≡ false)
-is_sound_at s (StoringAnnouncement at k) = (0 < length s.asked) × (s.slots_spent ≡ false) × IsInPool s.sizes at (1 + length s.asked) × (k < 1 + length s.asked)
-is_sound_at s Joining = (0 < length s.asked) × (s.slots_spent ≡ false) × (s.join.sizes ≡ s.sizes) × IsInPool s.sizes s.join.announcement (1 + length s.asked) × IsSome (step_of_join s.join) × IsTrue (fits_join s.join.sizes s.join.stage)
-is_sound_at s Scanning = viewing.GoTogether s.asked (scanning s) × (s.embedded.sizes ≡ s.sizes) × IsSome (viewing.step_of s.asked (scanning s)) × IsLeaving s
-is_sound_at s Leaving = IsLeaving s
-is_sound_at s (Finished r) = ⊤
-
--- what is always known of a port's machine
-pub record IsSound (s : CoreState) : Type 0 where
-  pub asked : AreComponents s.sizes s.asked
-  pub found : AreBuffersFor s.sizes s.found
-  pub indices : AreComponents s.sizes s.found.indices
-  pub distinct : IsDistinct nat_eq s.found.indices
-  pub rows : viewing.IsFor s.sizes s.rows
-  pub stage : is_sound_at s s.stage
-
--- what holds of every port's machine, whose room for positions is given
-pub record IsMachine (s : CoreState) (room : ℕ) : Type 0 where
-  pub sizes : IsLayout s.sizes
-  pub port : s.port < 64
-  pub sound : IsSound s
-  pub enough : s.sizes.m ≤ room
-
--- a counter of the pool is at its first word or behind it, and past its end by the claims of 64 ports at most
-abbrev pub IsPoolCount : Layout → ℕ → Type 0
-IsPoolCount z x = (pool_base z ≤ x) × (x ≤ pool_end z + 64 * (4 + 2 * z.m))
-
--- the answers that words may give
-abbrev pub IsPossibleAt : CoreState → Stage → ℕ → Type 0
-IsPossibleAt s Idle x = ⊥
-IsPossibleAt s (ReadBegun j) x = IsRecord s.sizes x
-IsPossibleAt s (LoadingValue stamp) x = ⊤
-IsPossibleAt s (UpdateBegun c) x = IsRecord s.sizes x
-IsPossibleAt s (GettingSet c old) x = finding_answers.IsPossible (getting s) x
-IsPossibleAt s (Viewing c old) x = viewing.IsPossible (scanning s) x
-IsPossibleAt s (ClaimingRecord c old) x = IsPoolCount s.sizes x
-IsPossibleAt s (StoringRecord c old at k) x = x ≡ 0
-IsPossibleAt s (Exchanging c old at) x = IsRecord s.sizes x
-IsPossibleAt s ScanBegun x = IsPoolCount s.sizes x
-IsPossibleAt s (StoringAnnouncement at k) x = x ≡ 0
-IsPossibleAt s Joining x = x ≤ s.sizes.slots + 64
-IsPossibleAt s Scanning x = viewing.IsPossible (scanning s) x
-IsPossibleAt s Leaving x = x ≡ 0
-IsPossibleAt s (Finished r) x = ⊥
-
--- a step is due, and the words may give this answer to it
-abbrev pub IsPossible : CoreState → ℕ → Type 0
-IsPossible s x = IsPossibleAt s s.stage x
-
--- the steps of an update behind its getSet and its embedded scan at most: a claim, the stores, an exchange
-abbrev pub write_left : Layout → ℕ
-write_left z = 2 * z.m + 6
-
--- the steps of a getSet and of an embedded scan of r positions at most
-abbrev pub set_left : Layout → ℕ
-set_left z = z.slots * (z.m + 3) + z.lists + 6
-
--- how many steps a call makes at most from a stage on
-abbrev pub left_at : CoreState → Stage → ℕ
-left_at s Idle = 0
-left_at s (ReadBegun j) = 2
-left_at s (LoadingValue stamp) = 1
-left_at s (UpdateBegun c) = 1 + set_left s.sizes + viewing.most_steps s.sizes s.sizes.m + write_left s.sizes
-left_at s (GettingSet c old) = finding.left_of s.get_set + viewing.most_steps s.sizes s.sizes.m + write_left s.sizes
-left_at s (Viewing c old) = viewing.left_of s.found.indices (scanning s) + write_left s.sizes
-left_at s (ClaimingRecord c old) = record_size s + 2
-left_at s (StoringRecord c old at k) = record_size s - k + 1
-left_at s (Exchanging c old at) = 1
-left_at s ScanBegun = length s.asked + 5 + viewing.most_steps s.sizes (length s.asked)
-left_at s (StoringAnnouncement at k) = length s.asked + 1 - k + 3 + viewing.most_steps s.sizes (length s.asked)
-left_at s Joining = join_left s.join.stage + viewing.most_steps s.sizes (length s.asked) + 1
-left_at s Scanning = viewing.left_of s.asked (scanning s) + 1
-left_at s Leaving = 1
-left_at s (Finished r) = 0
-
-abbrev pub steps_left : CoreState → ℕ
-steps_left s = left_at s s.stage

@@ -1,14 +1,18 @@
 -- How many steps the calls make, over all possible answers.
 use Rattle.std.specs.Prelude.{ℕ, ◌≡◌, ◌+◌, ◌*◌, ◌≤◌, Bool, true, false, List, [], ◌∷◌, length, Option, Some, None, if◌then◌else◌}
+use Rattle.partial_model.specs.declared.call.Call.{Call}
 use Rattle.partial_words.specs.Layout.{IsLayout}
 use Rattle.partial_embedded.specs.declared.embedded.Stage.{Stage as ViewStage}
 use Rattle.partial_embedded.specs.declared.embedded.Stage.TheVariants.{Len}
-use Rattle.partial_machine.specs.declared.stage.Change.{Change}
 use Rattle.partial_machine.specs.declared.stage.Reply.{Reply}
 use Rattle.partial_machine.specs.declared.stage.Reply.TheVariants as reply
 use Rattle.partial_machine.specs.declared.stage.Stage.{Stage}
-use Rattle.partial_machine.specs.declared.stage.Stage.TheVariants.{ReadBegun, UpdateBegun, ScanBegun, Scanning}
-use Rattle.partial_machine.specs.Machine.{CoreState, IsSound, IsPossible, advance, reply_of, steps_left}
+use Rattle.partial_machine.specs.declared.stage.Stage.TheVariants.{ReadBegun, ScanBegun, Scanning}
+use Rattle.partial_machine.specs.Machine.{CoreState, advance, reply_of}
+use Rattle.partial_machine.specs.Calls.{call_of}
+use Rattle.partial_machine.specs.Sound.{IsSound}
+use Rattle.partial_machine.specs.Possible.{IsPossible}
+use Rattle.partial_machine.specs.Bounds.{most_steps, steps_left}
 
 -- these answers lead the machine from one state to the other, each to a step that was due
 abbrev pub Run : CoreState → List ℕ → CoreState → Type 0
@@ -19,19 +23,9 @@ Run s (x ∷ xs) t = IsPossible s x × Run (advance s x) xs t
 abbrev pub StaysSound : Type 0
 StaysSound = (s t : CoreState) (xs : List ℕ) → IsLayout s.sizes → IsSound s → Run s xs t → IsSound t × (length xs + steps_left t ≤ steps_left s)
 
--- the greatest number of steps of an embedded scan of r positions, where there are m components
-abbrev pub most_embedded : ℕ → ℕ → ℕ
-most_embedded m r = r * (r + 2) + 2 * m + 2
-
--- so many steps are no more than the call that is begun may make
-pub record AreFew (s : CoreState) (steps : ℕ) : Type 0 where
-  pub read : (i : ℕ) → s.stage ≡ ReadBegun i → steps ≤ 2
-  pub update : (c : Change) → s.stage ≡ UpdateBegun c → steps ≤ s.sizes.slots * (s.sizes.m + 3) + s.sizes.lists + 6 + most_embedded s.sizes.m s.sizes.m + 2 * s.sizes.m + 7
-  pub scan : s.stage ≡ ScanBegun → steps ≤ most_embedded s.sizes.m (length s.asked) + length s.asked + 5
-
 -- a call makes few steps
 abbrev pub MakesFewSteps : Type 0
-MakesFewSteps = (s t : CoreState) (xs : List ℕ) → IsLayout s.sizes → IsSound s → Run s xs t → AreFew s (length xs)
+MakesFewSteps = (s t : CoreState) (c : Call) (xs : List ℕ) → IsLayout s.sizes → IsSound s → call_of s ≡ Some c → Run s xs t → length xs + steps_left t ≤ most_steps s.sizes c
 
 -- a read makes 2 steps
 abbrev pub ReadsInTwo : Type 0

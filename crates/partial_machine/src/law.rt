@@ -1,6 +1,7 @@
 //! Laws about whole calls. The functions have no code: their contracts hold of the definitions by
 //! which the machine's own contracts are stated.
 
+ghost use Rattle.partial_machine.specs.Behind.{AnswersLeadOn, DueWordsAreThere, CallsBegin, RestsAreSound, CallsAreRefusedAtOnce};
 ghost use Rattle.partial_machine.specs.Steps.{StaysSound, MakesFewSteps, ReadsInTwo, ScansMakeTheirSteps};
 
 /// Over all possible answers a machine stays sound, and each answer leaves it fewer steps to make.
@@ -24,4 +25,33 @@ pub fn reads_make_two_steps()
 /// most `r (c + 1) + 2 n + 7` where it borrows one of n pairs.
 pub fn scans_make_their_steps()
     ensures { ScansMakeTheirSteps }
+{}
+
+/// Where a possible answer leads a sound machine: it stays sound, rests exactly with a reply and has a step
+/// due otherwise; its call is refused only by a claim of pool words or of a slot that went past the end of
+/// its region, which marks the port; old marks stay, and no other comes.
+pub fn answers_lead_on()
+    ensures { AnswersLeadOn }
+{}
+
+/// A call that isn't refused at once is begun at the machine, which is as it was but for the call; only a
+/// scan of no position is finished with that.
+pub fn calls_begin()
+    ensures { CallsBegin }
+{}
+
+/// A call is refused at once for a cause for which it may be refused: a component that isn't there, or a
+/// mark that the port has.
+pub fn calls_are_refused_at_once()
+    ensures { CallsAreRefusedAtOnce }
+{}
+
+/// The word of the step that is due is one of the words, whatever was answered.
+pub fn due_words_are_there()
+    ensures { DueWordsAreThere }
+{}
+
+/// A machine that has made no call is sound, and so is one whose reply was taken.
+pub fn rests_are_sound()
+    ensures { RestsAreSound }
 {}

@@ -6,13 +6,17 @@ ghost use Rattle.std.specs.Vec.{vec_capacity};
 ghost use Rattle.partial_words.specs.Record.{pair_words};
 ghost use Rattle.partial_machine.specs.declared.stage.Stage.TheVariants.{Idle, ReadBegun, UpdateBegun, GettingSet, Viewing, ClaimingRecord, StoringRecord, Exchanging, ScanBegun, StoringAnnouncement, Joining, Scanning, Leaving, Finished};
 ghost use Rattle.partial_machine.specs.declared.stage.Reply.TheVariants as reply;
-ghost use Rattle.partial_machine.specs.Machine.{overtaken, CoreState, IsPossibleAt};
+ghost use Rattle.partial_machine.specs.Machine.{overtaken, CoreState};
+ghost use Rattle.partial_machine.specs.Possible.{IsPossibleAt};
 
 use crate::stage::{Change, Reply, Stage};
 use partial_active::{Found, GetSet, Join, Leave};
 use partial_embedded::{Embedded, Rows};
-use partial_model::Refused;
-use partial_words::{Sizes, Step, announcement_block_word};
+use partial_model::{Answer, Call, Refused, Sequence};
+use partial_words::{
+    Sizes, Step, announcement_block_word, announcement_size, full_record_size, own_view,
+    plain_record_size, value_word,
+};
 use std::alloc::{AllocError, Global};
 use std::marker::Model;
 
@@ -36,7 +40,8 @@ pub struct Core {
 
 impl Model for Core {
     ghost use Rattle.std.specs.Vec.{vec_capacity};
-    ghost use Rattle.partial_machine.specs.Machine.{CoreState, IsMachine};
+    ghost use Rattle.partial_machine.specs.Machine.{CoreState};
+    ghost use Rattle.partial_machine.specs.Sound.{IsMachine};
 
     ghost Value = { CoreState };
 
@@ -46,7 +51,11 @@ impl Model for Core {
 }
 
 impl Core {
-    ghost use Rattle.partial_machine.specs.Machine.{fresh, lists_spent, at_stage, begin_scan, step_of, advance, advance_at, reply_of, read_refusal, update_refusal, scan_refusal, scanned_values, IsPossible, IsPossibleAt, IsInPool, steps_left, record_size, record_words, view_at, pool_refused};
+    ghost use Rattle.partial_machine.specs.Machine.{fresh, lists_spent, at_stage, step_of, advance, advance_at, reply_of, scanned_values, record_size, record_words, view_at, pool_refused};
+    ghost use Rattle.partial_machine.specs.Calls.{begin_scan, read_refusal, update_refusal, scan_refusal, refusal_of, begun_of, answer_for, IsServed};
+    ghost use Rattle.partial_machine.specs.Possible.{IsPossible, IsPossibleAt};
+    ghost use Rattle.partial_machine.specs.Sound.{IsInPool};
+    ghost use Rattle.partial_machine.specs.Bounds.{steps_left};
 
     /// The machine of a port that has made no call. Only where memory is refused is there none.
     pub fn new(alloc: Global, sizes: Sizes, port: u32) -> Result<Core, AllocError>
@@ -203,6 +212,25 @@ impl Core {
         }
     }
 
+    /// Begins a call as the method of its kind does.
+    pub fn begin(&mut self, call: &Call) -> Result<(), Refused>
+        requires idle { self.old.stage ≡ Idle }
+        requires served { IsServed self.old.sizes.m call.now }
+        ensures ok { OnOk result ((refusal_of self.old call.now ≡ None) × (self.new ≡ begun_of self.old call.now)) }
+        ensures err { IfErr result (λ cause. (refusal_of self.old call.now ≡ Some cause) × (self.new ≡ self.old)) }
+    {
+        match call {
+            Call::Update { component, value } => self.begin_update(*component, *value),
+            Call::Scan { components } => self.begin_scan(components.as_slice()),
+            Call::Read { component } => self.begin_read(*component),
+            Call::UpdateIf {
+                component,
+                expected,
+                value,
+            } => self.begin_update_if(*component, *expected, *value),
+        }
+    }
+
     /// The step that is due, or None where no call is begun or the call is finished.
     pub fn step(&self) -> Option<Step>
         ensures { result ≡ step_of self.now }
@@ -211,7 +239,7 @@ impl Core {
         match self.stage {
             Stage::Idle => None,
             Stage::ReadBegun { component } => Some(Step::Load(sizes.component_word(component))),
-            Stage::LoadingValue { stamp } => Some(Step::Load((stamp + 1) as u32)),
+            Stage::LoadingValue { stamp } => Some(Step::Load(value_word(stamp) as u32)),
             Stage::UpdateBegun { change } => {
                 Some(Step::Load(sizes.component_word(change.component)))
             }
@@ -227,7 +255,10 @@ impl Core {
             Stage::Exchanging { change, old, at } => {
                 Some(Step::Exchange(sizes.component_word(change.component), old, at))
             }
-            Stage::ScanBegun => Some(Step::Add(sizes.pool_counter(), 1 + self.asked.len() as u64)),
+            Stage::ScanBegun => Some(Step::Add(
+                sizes.pool_counter(),
+                announcement_size(self.asked.len() as u64),
+            )),
             Stage::StoringAnnouncement { at, k } => Some(Step::Store(
                 (at + k) as u32,
                 announcement_block_word(&self.asked, k as usize),
@@ -245,9 +276,9 @@ impl Core {
     {
         let pairs = self.found.indices().len() as u64;
         match self.embedded.borrowed() {
-            Some(_) => 3,
-            None if pairs == 0 => 3,
-            None => 4 + 2 * pairs,
+            Some(_) => plain_record_size(),
+            None if pairs == 0 => plain_record_size(),
+            None => full_record_size(pairs),
         }
     }
 
@@ -274,7 +305,7 @@ impl Core {
         match self.embedded.borrowed() {
             Some(_) => self.embedded.view(),
             None if self.found.indices().is_empty() => 0,
-            None => at + 3,
+            None => own_view(at),
         }
     }
 
@@ -421,7 +452,7 @@ impl Core {
         requires possible { IsPossibleAt self.old ScanBegun at }
         ensures { self.new ≡ advance_at self.old ScanBegun at }
     {
-        let size = 1 + self.asked.len() as u64;
+        let size = announcement_size(self.asked.len() as u64);
         if at + size <= u64::from(self.sizes.pool_end()) {
             self.stage = Stage::StoringAnnouncement { at, k: 0 };
         } else {
@@ -519,6 +550,37 @@ impl Core {
         ensures { result ≡ slice_index (scanned_values self.now) k }
     {
         self.rows.value(self.asked[k])
+    }
+
+    // The values of the last scan that was answered.
+    fn scanned_values(&self, alloc: Global) -> Result<Sequence<u64>, AllocError>
+        ensures { IfOk result (λ values. values ≡ scanned_values self.now) }
+    {
+        let positions = self.asked.len();
+        let mut values = Vec::with_capacity(alloc, positions)?;
+        for k in 0..positions {
+            values.push(self.scanned(k))?;
+        }
+        Ok(Sequence::from(values))
+    }
+
+    /// The answer that a reply of this machine stands for. The values of a scan are read off the
+    /// machine: they are there until the next call is begun. Only where memory is refused is there none.
+    pub fn answer_for(&self, alloc: Global, reply: Reply) -> Result<Answer, AllocError>
+        ensures { IfOk result (λ answer. answer ≡ answer_for self.now reply) }
+    {
+        Ok(match reply {
+            Reply::Applied { stamp } => Answer::Applied { stamp },
+            Reply::Lost { by } => Answer::Lost { by },
+            Reply::Scanned { collects, borrowed } => Answer::Scanned {
+                values: self.scanned_values(alloc)?,
+                collects,
+                borrowed,
+            },
+            Reply::Read { value, stamp } => Answer::Read { value, stamp },
+            Reply::Refused(cause) => Answer::Refused { cause },
+            Reply::Changed { by } => Answer::Changed { by },
+        })
     }
 }
 

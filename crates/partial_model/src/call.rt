@@ -1,6 +1,9 @@
 //! The calls of a port, their answers, and the notes that place them in the history.
 
+ghost use Rattle.std.specs.Prelude.{◌≡◌, IfOk};
+
 use crate::sequence::Sequence;
+use std::alloc::{AllocError, Global};
 
 /// A call of a port.
 #[derive(Debug, Drop)]
@@ -24,6 +27,35 @@ pub enum Call {
         expected: u64,
         value: u64,
     },
+}
+
+impl Call {
+    /// The same call once more. Only a scan wants memory for it, and only where that is refused is there none.
+    pub fn copy(&self, alloc: Global) -> Result<Call, AllocError>
+        ensures { IfOk result (λ copy. copy ≡ self.now) }
+    {
+        Ok(match self {
+            Call::Update { component, value } => Call::Update {
+                component: *component,
+                value: *value,
+            },
+            Call::Scan { components } => Call::Scan {
+                components: Sequence::from(Vec::from_slice(alloc, components.as_slice())?),
+            },
+            Call::Read { component } => Call::Read {
+                component: *component,
+            },
+            Call::UpdateIf {
+                component,
+                expected,
+                value,
+            } => Call::UpdateIf {
+                component: *component,
+                expected: *expected,
+                value: *value,
+            },
+        })
+    }
 }
 
 /// Why a call was refused. A refused call applies nothing.

@@ -1,21 +1,22 @@
 -- A replay as it opens, and what it lists in the end.
-use Rattle.std.proofs.Common.{ℕ, zero, suc, ◌==◌, ◌^◌, drop, remove, append_assoc, ◌≡◌, ◌+◌, ◌<◌, ◌≤◌, ◌++◌, false, List, [], ◌∷◌, length, take, get_or, Option, Some, None, IfSome, MatchOption, slice_get, refl, sym, ◌∙◌, ap, subst, arith}
+use Rattle.std.proofs.Common.{ℕ, zero, suc, ◌==◌, ◌^◌, drop, remove, append_assoc, ◌≡◌, ◌+◌, ◌<◌, ◌≤◌, ◌++◌, false, List, [], ◌∷◌, length, take, get_or, Option, Some, None, MatchOption, slice_get, refl, sym, ◌∙◌, ap, subst, arith, map, IfSome}
 use Rattle.std.specs.List.{AllByRecursion}
 use Rattle.partial_model.specs.declared.history.Opening.{Opening}
 use Rattle.partial_model.specs.declared.call.Call.{Call}
 use Rattle.partial_model.specs.declared.call.Called.{Called}
-use Rattle.std.proofs.Common.{map}
 use Rattle.partial_model.specs.Notes.{LegalNotes, seen_by}
 use Rattle.partial_model.specs.Outcome.{places_written}
 use Rattle.partial_words.specs.Layout.{Layout, IsLayout, pool_base}
 use Rattle.partial_words.specs.Chain.{AreOpeningWords}
-use Rattle.partial_machine.specs.Machine.{CoreState, AreComponents, fresh}
-use Rattle.partial_core.specs.Lawful.{Part, begun_like, fresh_parts}
+use Rattle.partial_machine.specs.Machine.{CoreState, fresh}
+use Rattle.partial_machine.specs.Sound.{AreComponents}
+use Rattle.partial_core.specs.Part.{Part, fresh_parts, IsBetween}
+use Rattle.partial_machine.specs.Calls.{begun_like}
 use Rattle.partial_core.proofs.Opened.{opens_lawful}
 use Rattle.partial_replay.specs.declared.port.Port.{Port}
 use Rattle.partial_replay.specs.declared.port.UnderWay.{UnderWay}
-use Rattle.partial_replay.specs.PortState.{unfinished_call, AreFinished, AreFew, IsUnderWay, IsBetween, PortFits, notes_in, ends_of}
-use Rattle.partial_replay.specs.RunState.{PortsFit, IsRunOf, FreshFrom, AreFreshPorts, AreListed, ArePlans, left_over, calls_in}
+use Rattle.partial_replay.specs.PortState.{unfinished_call, AreFinished, AreFew, IsUnderWay, PortFits, notes_in, ends_of, IsGoing, HasTurned, steps_under_way}
+use Rattle.partial_replay.specs.RunState.{PortsFit, IsRunOf, FreshFrom, AreFreshPorts, AreListed, ArePlans, left_over, calls_in, ArePortsMade, AreStarted}
 use Rattle.std.specs.Option.{IsSome}
 use Rattle.std.proofs.lemmas.Bool.{false≢true}
 use Rattle.partial_model.specs.declared.history.Applied.{Applied}
@@ -23,9 +24,7 @@ use Rattle.partial_replay.specs.Place.{HasLeastPlace}
 use Rattle.partial_replay.proofs.PortLaws.{get_below, some_is}
 use Rattle.partial_replay.specs.Trace.{Moment}
 use Rattle.partial_replay.specs.CallSteps.{AreStepsOf}
-use Rattle.partial_replay.specs.PortState.{IsGoing, HasTurned, steps_under_way}
 use Rattle.partial_replay.specs.Turns.{BeginInTurns}
-use Rattle.partial_replay.specs.RunState.{ArePortsMade, AreStarted}
 use Rattle.partial_replay.specs.TurnState.{StopsAtStep}
 use Rattle.partial_replay.specs.Listed.{steps_in, EndInStep}
 
@@ -36,9 +35,9 @@ fresh_push z p [] port w number core finished none =
     (is, core ∙ ap (fresh z) is, finished, none, tt)
 fresh_push z p (x ∷ ports) port w number core finished none = (w.0, w.1, w.2, w.3, fresh_push z (p + 1) ports port w.4 (omega (arith, number)) core finished none)
 
-fresh_fits : (z : Layout) (o : Opening) (calls : List Call) (p : ℕ) (port : Port) → z.m ≡ length o.values → port.number ≡ p → port.core ≡ fresh z p → port.finished.items ≡ [] → port.under_way ≡ None → PortFits o [] calls p (record { seen = []; notes = []; begun = fresh z p; kept = []; since = 0 }) port
+fresh_fits : (z : Layout) (o : Opening) (calls : List Call) (p : ℕ) (port : Port) → z.m ≡ length o.values → port.number ≡ p → port.core ≡ fresh z p → port.finished.items ≡ [] → port.under_way ≡ None → PortFits o [] calls p (record { seen = []; notes = []; begun = fresh z p; kept = []; since = 0; past = 0 }) port
 fresh_fits z o calls p port m number core finished none =
-    let x : Part = record { seen = []; notes = []; begun = fresh z p; kept = []; since = 0 } in
+    let x : Part = record { seen = []; notes = []; begun = fresh z p; kept = []; since = 0; past = 0 } in
     record {
       number = number;
       part = refl;

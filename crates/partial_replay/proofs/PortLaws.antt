@@ -4,7 +4,7 @@ use Rattle.std.specs.List.{AllByRecursion, cons_option, list_all}
 use Rattle.std.specs.Option.{option_map, option_map_or}
 use Rattle.std.proofs.lemmas.Bool.Decides.{eqb_tells}
 use Rattle.std.proofs.lemmas.Bool.{ltb-true, ltb-false, false≢true}
-use Rattle.std.proofs.lemmas.List.{append-nil, length_push, map_push}
+use Rattle.std.proofs.lemmas.List.{append-nil, length_push, map_push, take-append-le}
 use Rattle.partial_model.specs.declared.history.Applied.{Applied}
 use Rattle.partial_model.specs.declared.history.Opening.{Opening}
 use Rattle.partial_model.specs.declared.call.Call.{Call}
@@ -16,7 +16,6 @@ use Rattle.partial_model.specs.declared.call.Answer.TheVariants as answer
 use Rattle.partial_model.specs.declared.call.Note.{Note}
 use Rattle.partial_model.specs.declared.call.Note.TheVariants as note
 use Rattle.partial_replay.specs.Place.{Shows, IsLeastFrom, HasLeastPlace}
-use Rattle.std.proofs.lemmas.List.{take-append-le}
 use Rattle.partial_model.specs.declared.call.Called.{Called}
 use Rattle.partial_model.specs.declared.call.Finish.{Finish}
 use Rattle.std.specs.declared.vec.Vec.{Vec}
@@ -30,15 +29,20 @@ use Rattle.partial_words.specs.Layout.{Layout}
 use Rattle.partial_words.specs.Step.{answer_of, words_after}
 use Rattle.partial_machine.specs.declared.stage.Reply.{Reply}
 use Rattle.partial_machine.specs.declared.stage.Reply.TheVariants as reply
-use Rattle.partial_machine.specs.declared.stage.Stage.TheVariants.{Idle, ScanBegun, Finished}
-use Rattle.partial_machine.specs.Machine.{CoreState, AreComponents, IsPossible, at_stage, begin_scan, advance, step_of, reply_at, reply_of, steps_left, left_at}
-use Rattle.partial_core.specs.Lawful.{Part, core_of, port_of, is_begun, is_at_rest, IsMachineOf, MayBegin, MayBeginAt, begun_like, call_at, call_of, answer_for}
+use Rattle.partial_machine.specs.declared.stage.Stage.TheVariants.{Idle, ReadBegun, UpdateBegun, ScanBegun, Finished}
+use Rattle.partial_machine.specs.Machine.{CoreState, at_stage, advance, step_of, reply_at, reply_of}
+use Rattle.partial_machine.specs.Sound.{AreComponents, IsSound}
+use Rattle.partial_machine.specs.Possible.{IsPossible}
+use Rattle.partial_machine.specs.Calls.{begin_scan, is_begun, is_at_rest, makes_steps, call_of, answer_for, begun_of, refusal_of, IsServed}
+use Rattle.partial_machine.specs.Bounds.{steps_left, left_at, most_steps}
+use Rattle.partial_core.specs.Part.{Part, core_of, port_of, HasBegun, IsMachineOf, IsBetween}
+use Rattle.partial_machine.specs.declared.stage.Stage.{Stage}
+use Rattle.partial_machine.proofs.Laws.{calls_begin, calls_are_refused_at_once}
+use Rattle.partial_core.proofs.Laws.{calls_begin_between}
 use Rattle.partial_replay.specs.declared.port.Port.{Port}
 use Rattle.partial_replay.specs.declared.port.UnderWay.{UnderWay}
-use Rattle.partial_model.proofs.Decisions.{Decides-list_all, Decides-nat_lt}
-use Rattle.partial_places.proofs.ScanPlaces.{position_below}
-use Rattle.partial_replay.specs.CallSteps.{begun_of, refusal_of, most_steps, IsRefusedAtOnce, IsFinishedAtOnce}
-use Rattle.partial_replay.specs.PortState.{IsServed, end_of, ends_of, IsFinished, AreFinished, AreFew, notes_in, IsUnderWay, IsBetween, PortFits, IsDoneAtOnce, entry_at, one_step_more, IsEndedCall, GoesOn, Ends, StepMade}
+use Rattle.partial_replay.specs.CallSteps.{IsRefusedAtOnce, IsFinishedAtOnce}
+use Rattle.partial_replay.specs.PortState.{end_of, ends_of, IsFinished, AreFinished, AreFew, notes_in, IsUnderWay, PortFits, IsDoneAtOnce, entry_at, one_step_more, IsEndedCall, GoesOn, Ends, StepMade}
 
 pub same_eqb : (a b : ℕ) → a ≡ b → (a == b) ≡ true
 same_eqb a b h = elim (eqb_tells a b) [ inl w ↦ w.0 | inr w ↦ absurd (w.1 h) ]
@@ -218,36 +222,6 @@ pub fits_with : (o : Opening) (log : List Applied) (calls : List Call) (p : ℕ)
 fits_with o log calls p x port places number part sizes w bounded same way =
     record { number = number; part = part; sizes = sizes; finished = w.finished; legal = w.legal; shown = w.shown; written = w.written ∙ same; made = w.made; few = w.few; bounded = bounded; least = w.least; way = way }
 
--- a refusal at once
-refused_update : (s : CoreState) (j : ℕ) (cause : Refused) (a b : Bool) → nat_lt j s.sizes.m ≡ a → s.pool_spent ≡ b → cond a (cond b (Some refused.PoolSpent) None) (Some refused.Component) ≡ Some cause → (c : Call) → indices_of c ≡ j ∷ [] → ClaimsPool c → MayBeRefused s.sizes.m c cause
-refused_update s j cause true true below spent is c names claims =
-    let same : refused.PoolSpent ≡ cause = cc in
-    let in' : j < s.sizes.m = ltb-true j s.sizes.m below in
-    subst (MayBeRefused s.sizes.m c) same (subst (λ (l : List ℕ). AllByRecursion (λ i. i < s.sizes.m) l) (sym names) (in', tt), claims)
-refused_update s j cause true false below spent is c names claims = let bad : None ≡ Some cause = is in cc
-refused_update s j cause false b below spent is c names claims =
-    let same : refused.Component ≡ cause = cc in
-    let out = ltb-false j s.sizes.m below in
-    subst (MayBeRefused s.sizes.m c) same (λ w. let in' : AllByRecursion (λ i. i < s.sizes.m) (j ∷ []) = subst (λ (l : List ℕ). AllByRecursion (λ i. i < s.sizes.m) l) names w in let below' = in'.0 in omega (arith, out, below'))
-
-refused_read : (s : CoreState) (j : ℕ) (cause : Refused) (a : Bool) → nat_lt j s.sizes.m ≡ a → cond a None (Some refused.Component) ≡ Some cause → MayBeRefused s.sizes.m (call.Read j) cause
-refused_read s j cause true below is = let bad : None ≡ Some cause = is in cc
-refused_read s j cause false below is =
-    let same : refused.Component ≡ cause = cc in
-    let out = ltb-false j s.sizes.m below in
-    subst (MayBeRefused s.sizes.m (call.Read j)) same (λ w. let in' = w.0 in omega (arith, out, in'))
-
--- the components of a list are there, or some is not
-all_below : (m : ℕ) (js : List ℕ) → list_all (λ i. nat_lt i m) js ≡ true → AllByRecursion (λ j. j < m) js
-all_below m js e = (Decides-list_all (λ i. nat_lt i m) (λ j. j < m) (λ i. Decides-nat_lt i m) js).0 e
-
-not_below : (m : ℕ) (js : List ℕ) → list_all (λ i. nat_lt i m) js ≡ false → ¬ AllByRecursion (λ j. j < m) js
-not_below m js e all = false≢true (sym e ∙ (Decides-list_all (λ i. nat_lt i m) (λ j. j < m) (λ i. Decides-nat_lt i m) js).1 all)
-
-some_position : (js : List ℕ) → (length js == 0) ≡ false → 0 < length js
-some_position [] e = absurd (false≢true (sym e))
-some_position (j ∷ js) e = omega arith
-
 no_position : (js : List ℕ) → (length js == 0) ≡ true → js ≡ []
 no_position [] e = refl
 no_position (j ∷ js) e = elim (eqb_tells (length (j ∷ js)) 0) [
@@ -255,66 +229,35 @@ no_position (j ∷ js) e = elim (eqb_tells (length (j ∷ js)) 0) [
   | inr some ↦ absurd (false≢true (sym some.0 ∙ e))
 ]
 
-refused_scan : (s : CoreState) (js : List ℕ) (cause : Refused) (a b p q : Bool) → list_all (λ i. nat_lt i s.sizes.m) js ≡ a → (length js == 0) ≡ b → cond a (cond b None (cond p (Some refused.PoolSpent) (cond q (Some refused.SlotsSpent) None))) (Some refused.Component) ≡ Some cause → MayBeRefused s.sizes.m (call.Scan js) cause
-refused_scan s js cause true true p q below none is = let bad : None ≡ Some cause = is in cc
-refused_scan s js cause true false true q below none is = let same : refused.PoolSpent ≡ cause = cc in subst (MayBeRefused s.sizes.m (call.Scan js)) same (all_below s.sizes.m js below, some_position js none)
-refused_scan s js cause true false false true below none is = let same : refused.SlotsSpent ≡ cause = cc in subst (MayBeRefused s.sizes.m (call.Scan js)) same (all_below s.sizes.m js below, some_position js none)
-refused_scan s js cause true false false false below none is = let bad : None ≡ Some cause = is in cc
-refused_scan s js cause false b p q below none is = let same : refused.Component ≡ cause = cc in subst (MayBeRefused s.sizes.m (call.Scan js)) same (not_below s.sizes.m js below)
-
 pub may_be_refused : (s : CoreState) (c : Call) (cause : Refused) → refusal_of s c ≡ Some cause → MayBeRefused s.sizes.m c cause
-may_be_refused s (call.Update j v) cause is = refused_update s j cause (nat_lt j s.sizes.m) s.pool_spent refl refl is (call.Update j v) refl tt
-may_be_refused s (call.Scan js) cause is = refused_scan s js cause (list_all (λ i. nat_lt i s.sizes.m) js) (length js == 0) s.pool_spent s.slots_spent refl refl is
-may_be_refused s (call.Read j) cause is = refused_read s j cause (nat_lt j s.sizes.m) refl is
-may_be_refused s (call.UpdateIf j x v) cause is = refused_update s j cause (nat_lt j s.sizes.m) s.pool_spent refl refl is (call.UpdateIf j x v) refl tt
+may_be_refused s c cause is = (calls_are_refused_at_once s c cause is).0
 
-begins_update : (s : CoreState) (j : ℕ) (a b : Bool) → nat_lt j s.sizes.m ≡ a → s.pool_spent ≡ b → cond a (cond b (Some refused.PoolSpent) None) (Some refused.Component) ≡ None → (j < s.sizes.m) × (s.pool_spent ≡ false)
-begins_update s j true true below spent is = cc
-begins_update s j true false below spent is = (ltb-true j s.sizes.m below, spent)
-begins_update s j false b below spent is = cc
-
-begins_read : (s : CoreState) (j : ℕ) (a : Bool) → nat_lt j s.sizes.m ≡ a → cond a None (Some refused.Component) ≡ None → j < s.sizes.m
-begins_read s j true below is = ltb-true j s.sizes.m below
-begins_read s j false below is = cc
-
--- the machine has begun the call, and a step of it is due
+-- the machine has begun a call, and a step of it is due
 pub record Begins (s : CoreState) (c : Call) : Type 0 where
   pub begun : is_begun (begun_of s c).stage ≡ true
   pub due : is_at_rest (begun_of s c).stage ≡ false
-  pub may : MayBegin (begun_of s c)
+  pub makes : makes_steps c ≡ true
   pub called : call_of (begun_of s c) ≡ Some c
   pub few : steps_left (begun_of s c) ≤ most_steps s.sizes c
-  pub asked : AreComponents s.sizes (begun_of s c).asked
+  pub sound : IsSound s → IsSound (begun_of s c)
 
-begins_scan : (s : CoreState) (js : List ℕ) (a b p q : Bool) → length js ≤ s.sizes.m → list_all (λ i. nat_lt i s.sizes.m) js ≡ a → (length js == 0) ≡ b → s.pool_spent ≡ p → s.slots_spent ≡ q → cond a (cond b None (cond p (Some refused.PoolSpent) (cond q (Some refused.SlotsSpent) None))) (Some refused.Component) ≡ None → reply_of (begin_scan s js) ≡ None → Begins s (call.Scan js)
-begins_scan s js true true p q few below none pool slots is none_yet =
-    let bad : Some (reply.Scanned 0 None) ≡ None = ap (λ (e : Bool). reply_at (cond e (Finished (reply.Scanned 0 None)) ScanBegun)) (sym none) ∙ none_yet in cc
-begins_scan s js true false true q few below none pool slots is none_yet = let bad : Some refused.PoolSpent ≡ None = is in cc
-begins_scan s js true false false true few below none pool slots is none_yet = let bad : Some refused.SlotsSpent ≡ None = is in cc
-begins_scan s js true false false false few below none pool slots is none_yet =
-    let stage : (begin_scan s js).stage ≡ ScanBegun = ap (λ (e : Bool). cond e (Finished (reply.Scanned 0 None)) ScanBegun) none in
-    record {
-      begun = ap is_begun stage;
-      due = ap is_at_rest stage;
-      may = subst (MayBeginAt (begin_scan s js)) (sym stage) (some_position js none, pool, slots);
-      called = ap (call_at (begin_scan s js)) stage;
-      few = let left : steps_left (begin_scan s js) ≡ left_at (begin_scan s js) ScanBegun = ap (left_at (begin_scan s js)) stage in omega (arith, left);
-      asked = record { few = few; each = λ k. position_below js s.sizes.m k (all_below s.sizes.m js below) };
-    }
-begins_scan s js false b p q few below none pool slots is none_yet = let bad : Some refused.Component ≡ None = is in cc
+-- a call that is begun isn't at rest
+begun_due : (t : Stage) → is_begun t ≡ true → is_at_rest t ≡ false
+begun_due (ReadBegun j) h = refl
+begun_due (UpdateBegun c) h = refl
+begun_due ScanBegun h = refl
+begun_due _ h = absurd (false≢true h)
 
 pub begins : (s : CoreState) (c : Call) → AreComponents s.sizes s.asked → IsServed s.sizes.m c → refusal_of s c ≡ None → reply_of (begun_of s c) ≡ None → Begins s c
-begins s (call.Update j v) asked served is reply = record { begun = refl; due = refl; may = begins_update s j (nat_lt j s.sizes.m) s.pool_spent refl refl is; called = refl; few = omega arith; asked = asked }
-begins s (call.Scan js) asked served is reply = begins_scan s js (list_all (λ i. nat_lt i s.sizes.m) js) (length js == 0) s.pool_spent s.slots_spent served refl refl refl refl is reply
-begins s (call.Read j) asked served is reply = record { begun = refl; due = refl; may = begins_read s j (nat_lt j s.sizes.m) refl is; called = refl; few = omega arith; asked = asked }
-begins s (call.UpdateIf j x v) asked served is reply = record { begun = refl; due = refl; may = begins_update s j (nat_lt j s.sizes.m) s.pool_spent refl refl is; called = refl; few = omega arith; asked = asked }
-
--- a machine that has begun a call differs from the one between calls by its stage and positions alone
-begun_from : (s d : CoreState) (c : Call) → s ≡ begun_like d s → begun_of s c ≡ begun_like d (begun_of s c)
-begun_from s d (call.Update j v) same = ap (λ (v' : CoreState). begun_of v' (call.Update j v)) same
-begun_from s d (call.Scan js) same = ap (λ (v' : CoreState). begun_of v' (call.Scan js)) same
-begun_from s d (call.Read j) same = ap (λ (v' : CoreState). begun_of v' (call.Read j)) same
-begun_from s d (call.UpdateIf j x v) same = ap (λ (v' : CoreState). begun_of v' (call.UpdateIf j x v)) same
+begins s c asked served is unreplied =
+    let b = calls_begin s c asked served is in
+    let makes : makes_steps c ≡ true = either (makes_steps c) refl b.at_once in
+    let begun : is_begun (begun_of s c).stage ≡ true = b.begun ∙ makes in
+    record { begun = begun; due = begun_due (begun_of s c).stage begun; makes = makes; called = b.made makes; few = b.few; sound = b.sound }
+  where
+    either : (f : Bool) → makes_steps c ≡ f → (makes_steps c ≡ false → reply_of (begun_of s c) ≡ Some (reply.Scanned 0 None)) → makes_steps c ≡ true
+    either true e g = e
+    either false e g = let bad : Some (reply.Scanned 0 None) ≡ None = sym (g e) ∙ unreplied in absurd cc
 
 pub begun_sizes : (s : CoreState) (c : Call) → (begun_of s c).sizes ≡ s.sizes
 begun_sizes s (call.Update j v) = refl
@@ -335,10 +278,8 @@ begun_fits o log calls p x port new call w none next served refusal reply number
     let b = begins port.core call between.asked served refusal reply in
     let begun : is_begun c.stage ≡ true = ap (λ (s : CoreState). is_begun s.stage) core ∙ b.begun in
     let sizes : c.sizes ≡ port.core.sizes = ap (λ (s : CoreState). s.sizes) core ∙ begun_sizes port.core call in
-    let from : c ≡ begun_like (core_of x) c = core ∙ begun_from port.core (core_of x) call between.machine ∙ ap (begun_like (core_of x)) (sym core) in
-    let may : MayBegin c = subst MayBegin (sym core) b.may in
-    let asked : AreComponents c.sizes c.asked = subst (λ (s : CoreState). AreComponents c.sizes s.asked) (sym core) (subst (λ (z : Layout). AreComponents z (begun_of port.core call).asked) (sym sizes) b.asked) in
-    let machine : IsMachineOf c x = subst (λ (b : Bool). MatchBool b ((is_at_rest (core_of x).stage ≡ true) × (c ≡ begun_like (core_of x) c) × AreComponents c.sizes c.asked × MayBegin c) (c ≡ core_of x)) (sym begun) (between.rest, from, asked, may) in
+    let h : HasBegun (begun_of port.core call) x = (calls_begin_between x port.core between).begins call served refusal b.makes in
+    let machine : IsMachineOf c x = inl (subst (λ (d : CoreState). HasBegun d x) (sym core) h) in
     let low = ends_within (length log) p 0 0 port.finished.items (omega arith) w.finished in
     let going : IsUnderWay (length log) calls x c new.finished.items (record { began = length log; steps = 0 }) = record {
       call = call;

@@ -1,13 +1,11 @@
 -- The events of a port are the steps of its calls.
 use Rattle.std.proofs.Common.{ℕ, ◌≢◌, ◌≤◌, suc, ◌≡◌, ◌+◌, ◌<◌, ◌==◌, ◌++◌, Bool, true, false, cond, List, [], ◌∷◌, length, map, set, Option, Some, None, IfSome, MatchOption, slice_get, refl, sym, ◌∙◌, ap, subst, inl, inr, arith, append_assoc, length-append}
-use Rattle.std.specs.List.{AllByRecursion, filter, filter_map, cons_option}
-use Rattle.std.specs.Option.{option_map}
+use Rattle.std.specs.List.{AllByRecursion, filter, filter_map, cons_option, sum_by}
+use Rattle.std.specs.Option.{option_map, is_some, IsSome}
 use Rattle.std.proofs.lemmas.List.{append-nil, length_push, length-map}
-use Rattle.std.specs.List.{sum_by}
 use Rattle.std.proofs.lemmas.List.Sums.{sum_by-cons}
-use Rattle.std.proofs.lemmas.Bool.{false≢true}
+use Rattle.std.proofs.lemmas.Bool.{false≢true, ne_eqb}
 use Rattle.std.proofs.lemmas.List.Elements.{filter-append}
-use Rattle.std.proofs.lemmas.Bool.{ne_eqb}
 use Rattle.std.proofs.lemmas.Bool.Decides.{eqb_tells}
 use Rattle.partial_model.specs.declared.history.Applied.{Applied}
 use Rattle.partial_model.specs.declared.call.Call.{Call}
@@ -21,15 +19,16 @@ use Rattle.partial_words.specs.Step.{word_of, answer_of}
 use Rattle.partial_machine.specs.declared.stage.Reply.{Reply}
 use Rattle.partial_machine.specs.declared.stage.Stage.{Stage}
 use Rattle.partial_machine.specs.declared.stage.Stage.TheVariants.{Idle, Finished}
-use Rattle.partial_machine.specs.Machine.{CoreState, IsPossible, at_stage, advance, step_of, reply_at, reply_of, fresh}
-use Rattle.partial_core.specs.Lawful.{Part, answer_for, is_at_rest}
+use Rattle.partial_machine.specs.Machine.{CoreState, at_stage, advance, step_of, reply_at, reply_of, fresh}
+use Rattle.partial_machine.specs.Possible.{IsPossible}
+use Rattle.partial_core.specs.Part.{Part, IsBetween}
+use Rattle.partial_machine.specs.Calls.{answer_for, is_at_rest, begun_of, refusal_of}
 use Rattle.partial_replay.specs.declared.port.Port.{Port}
 use Rattle.partial_replay.specs.declared.port.UnderWay.{UnderWay}
 use Rattle.partial_replay.specs.Trace.{Moment, last_behind, adds, is_won, new_of, entry_of, moments_from, moments_by, ports_of, events_in}
 use Rattle.partial_replay.specs.Listed.{EndInStep}
-use Rattle.std.specs.Option.{is_some, IsSome}
-use Rattle.partial_replay.specs.CallSteps.{begun_of, refusal_of, Makes, IsCallOf, AreStepsOf}
-use Rattle.partial_replay.specs.PortState.{IsUnderWay, IsBetween, PortFits, IsGoing, PortMade, KeepsMade, unfinished_call, began_at, IsDoneAtOnce, ended_call, one_step_more, GoesOn, Ends, StepMade}
+use Rattle.partial_replay.specs.CallSteps.{Makes, IsCallOf, AreStepsOf}
+use Rattle.partial_replay.specs.PortState.{IsUnderWay, PortFits, IsGoing, PortMade, KeepsMade, unfinished_call, began_at, IsDoneAtOnce, ended_call, one_step_more, GoesOn, Ends, StepMade}
 use Rattle.partial_replay.specs.RunState.{ArePortsMade, AreStarted, AreStartedBut, left_over, unvalued}
 use Rattle.partial_replay.specs.TurnState.{StopsAtStep}
 use Rattle.partial_replay.proofs.PortLaws.{same_eqb, get_set, get_set_other}

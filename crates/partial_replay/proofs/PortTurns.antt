@@ -9,7 +9,7 @@ use Rattle.partial_model.proofs.NotesLemmas.{slice_get_grows, slice_get_last}
 use Rattle.partial_words.specs.declared.step.Event.{Event}
 use Rattle.partial_machine.specs.declared.stage.Reply.{Reply}
 use Rattle.partial_machine.specs.Machine.{CoreState, reply_of}
-use Rattle.partial_core.specs.Lawful.{answer_for}
+use Rattle.partial_machine.specs.Calls.{answer_for}
 use Rattle.partial_replay.specs.declared.port.Port.{Port}
 use Rattle.partial_replay.specs.declared.port.UnderWay.{UnderWay}
 use Rattle.partial_replay.specs.PortState.{HasTurned, steps_under_way, one_step_more, ended_call, unfinished_call, GoesOn, Ends, StepMade, core_behind}

@@ -1,6 +1,6 @@
 -- What a replay has come to is an outcome of its plan.
 use Rattle.std.proofs.Common.{ℕ, Bool, true, false, cond, zero, suc, ◌⊎◌, ◌≡◌, ◌+◌, ◌<◌, ◌≤◌, ◌==◌, List, [], ◌∷◌, length, map, take, get_or, Some, slice_get, refl, sym, ◌∙◌, ap, subst, inl, inr, arith}
-use Rattle.std.specs.List.{filter_map}
+use Rattle.std.specs.List.{filter_map, sum_by, AllByRecursion}
 use Rattle.std.proofs.lemmas.Option.{get_or_from_slice_get}
 use Rattle.partial_model.specs.declared.history.Applied.{Applied}
 use Rattle.partial_model.specs.declared.history.Opening.{Opening}
@@ -12,18 +12,17 @@ use Rattle.partial_words.specs.Layout.{Layout, pool_base}
 use Rattle.partial_words.specs.Record.{value_of}
 use Rattle.partial_words.specs.Step.{Leads}
 use Rattle.partial_words.specs.Chain.{Agrees, AreOpeningWords}
-use Rattle.std.specs.List.{sum_by}
 use Rattle.std.proofs.lemmas.List.Sums.{sum_by-cons}
-use Rattle.partial_core.specs.Lawful.{holdings}
+use Rattle.partial_core.specs.Held.{holdings}
 use Rattle.partial_text.specs.PlanText.{PlanView}
 use Rattle.partial_machine.specs.Machine.{CoreState, fresh}
-use Rattle.partial_replay.specs.CallSteps.{AreStepsOf, most_steps}
+use Rattle.partial_replay.specs.CallSteps.{AreStepsOf}
+use Rattle.partial_machine.specs.Bounds.{most_steps}
 use Rattle.partial_replay.specs.PortState.{PortFits, AreFew}
 use Rattle.partial_replay.proofs.PortSteps.{ending_begun, steps_begun, events_steps, none_moments}
 use Rattle.partial_text.specs.declared.outcome.Outcome.{Outcome}
 use Rattle.partial_replay.specs.declared.port.Port.{Port}
 use Rattle.partial_replay.specs.declared.run.Run.{Run}
-use Rattle.std.specs.List.{AllByRecursion}
 use Rattle.partial_replay.specs.Place.{HasLeastPlace}
 use Rattle.partial_replay.specs.Trace.{entry_of, moments_from, moments_by, ports_of, events_in}
 use Rattle.partial_replay.specs.Turns.{turns_of, turns_by, ports_in, lengths_in, BeginInTurns}

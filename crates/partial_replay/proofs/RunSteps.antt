@@ -1,55 +1,41 @@
 -- A turn of a port among the others.
-use Rattle.std.proofs.Common.{ℕ, zero, suc, ◌≡◌, ◌+◌, ◌-◌, ◌*◌, ◌<◌, ◌≤◌, ◌==◌, ◌++◌, Bool, true, false, cond, List, [], ◌∷◌, length, get_or, set, Option, Some, None, IfSome, MatchOption, MatchBool, nat_lt, ◌^◌, slice_get, Result, Ok, Err, OnOk, refl, sym, ◌∙◌, ap, subst, arith, length-append, get_or-set_other, mul-le-mul, mul-suc}
+use Rattle.std.proofs.Common.{ℕ, zero, suc, ◌≡◌, ◌+◌, ◌-◌, ◌*◌, ◌<◌, ◌≤◌, ◌==◌, ◌++◌, Bool, true, false, cond, not, List, [], ◌∷◌, length, get_or, set, Option, Some, None, IfSome, MatchOption, MatchBool, nat_lt, ◌^◌, slice_get, Result, Ok, Err, OnOk, refl, sym, ◌∙◌, ap, subst, arith, length-append, get_or-set_other, mul-le-mul, mul-suc}
 use Rattle.std.proofs.Math.Nat.{mul-le-mul_left}
 use Rattle.std.specs.Bool.{⊤}
 use Rattle.std.specs.Option.{option_map_or, is_some, IsSome}
-use Rattle.std.proofs.lemmas.Bool.{false≢true}
+use Rattle.std.proofs.lemmas.Bool.{false≢true, ltb-true}
 use Rattle.std.proofs.lemmas.List.{append-nil, length_push}
 use Rattle.partial_model.specs.declared.history.Applied.{Applied}
 use Rattle.partial_model.specs.declared.history.Opening.{Opening}
 use Rattle.partial_model.specs.declared.call.Call.{Call}
 use Rattle.partial_model.specs.declared.call.Call.TheVariants as call
 use Rattle.partial_model.specs.declared.call.Called.{Called}
-use Rattle.partial_model.proofs.NotesLemmas.{LegalNotes-grows}
+use Rattle.partial_model.proofs.NotesLemmas.{LegalNotes-grows, AllByRecursion-get, AllByRecursion-push}
 use Rattle.partial_words.specs.declared.step.Step.{Step}
 use Rattle.partial_words.specs.declared.step.Step.TheVariants.{Load, Store, Exchange, Add}
 use Rattle.partial_words.specs.declared.step.Event.{Event}
-use Rattle.partial_words.specs.Layout.{Layout, IsLayout, total, slot_word}
+use Rattle.partial_words.specs.Layout.{Layout, IsLayout}
 use Rattle.partial_words.specs.Step.{Leads, answer_of, words_after}
 use Rattle.partial_words.specs.Record.{value_of}
-use Rattle.partial_active.specs.declared.get_set.Stage.{Stage as SetStage}
-use Rattle.partial_active.specs.declared.get_set.Stage.TheVariants.{Head, ListLen, ListLow, ListHigh, Counter, Slot, Len as NamedLen, Index as NamedIndex, Claim, Write, Publish, Done as SetDone}
-use Rattle.partial_active.specs.declared.join.JoinStage.{JoinStage}
-use Rattle.partial_active.specs.declared.join.JoinStage.TheVariants.{Claiming, Storing, Joined, Spent}
-use Rattle.partial_active.specs.GetSet as finding
-use Rattle.partial_active.specs.Join.{join_step}
-use Rattle.partial_embedded.specs.declared.embedded.Stage.{Stage as ViewStage}
-use Rattle.partial_embedded.specs.Embedded as viewing
-use Rattle.partial_machine.specs.declared.stage.Change.{Change}
 use Rattle.partial_machine.specs.declared.stage.Reply.{Reply}
-use Rattle.partial_machine.specs.declared.stage.Stage.{Stage}
-use Rattle.partial_machine.specs.declared.stage.Stage.TheVariants.{Idle, ReadBegun, LoadingValue, UpdateBegun, GettingSet, Viewing, ClaimingRecord, StoringRecord, Exchanging, ScanBegun, StoringAnnouncement, Joining, Scanning, Leaving, Finished}
-use Rattle.partial_machine.specs.Machine.{CoreState, AreComponents, IsInPool, is_sound_at, step_at, step_of, reply_of, record_size, steps_left}
-use Rattle.partial_machine.proofs.Sound.{size_few}
-use Rattle.partial_state.specs.Holdings.{Holding, others_of}
-use Rattle.partial_state.specs.LawfulWords.{IsDue}
-use Rattle.partial_state.proofs.HoldingLemmas.{if_some_at}
-use Rattle.partial_state.proofs.ListLemmas.{all_unmap}
-use Rattle.partial_core.proofs.Parts.{all_at}
-use Rattle.partial_core.specs.Lawful.{Part, Lawful, core_of, port_of, holding_of, holdings, due_at, is_begun, is_at_rest, IsMachineOf, MayBegin, begun_like, moved, added, added_at, answer_for}
-use Rattle.partial_core.proofs.AllSteps.{steps_stay_lawful}
-use Rattle.partial_core.proofs.Going.{view_loads}
+use Rattle.partial_machine.specs.declared.stage.Stage.TheVariants.{Idle}
+use Rattle.partial_machine.specs.Machine.{CoreState, step_of, reply_of}
+use Rattle.partial_machine.specs.Bounds.{steps_left, most_of_update, most_steps}
+use Rattle.partial_state.specs.LawfulWords.{IsEntry}
+use Rattle.partial_core.specs.Part.{Part, core_of, port_of, IsBetween}
+use Rattle.partial_core.specs.Lawful.{Lawful}
+use Rattle.partial_machine.specs.Calls.{answer_for, IsServed}
+use Rattle.partial_core.specs.Steps.{added_by, PublishesWithin, LeadsOn}
+use Rattle.partial_core.proofs.Laws.{steps_stay_lawful, lawful_machines_are_ready}
 use Rattle.partial_replay.specs.declared.port.Port.{Port}
 use Rattle.partial_replay.specs.declared.port.UnderWay.{UnderWay}
-use Rattle.partial_replay.specs.CallSteps.{most_of_update, most_steps}
-use Rattle.partial_replay.specs.PortState.{KeepsMade, IsServed, IsExchangeWithin, AreWithin, notes_in, IsUnderWay, IsBetween, PortFits, core_behind, entry_at, one_step_more, ended_call, GoesOn, Ends, StepMade, MayStep, KeepsFit}
+use Rattle.partial_replay.specs.PortState.{KeepsMade, IsExchangeWithin, AreWithin, notes_in, IsUnderWay, PortFits, core_behind, entry_at, one_step_more, ended_call, GoesOn, Ends, StepMade, MayStep, KeepsFit}
 use Rattle.partial_replay.specs.RunState.{AreStartedBut, ArePlans, PortsFit, IsRunOf, left_for, left_of, left_at}
 use Rattle.partial_replay.proofs.PortLaws.{least_grow, finished_grows, get_below, get_is, between_of}
-use Rattle.partial_replay.proofs.RunLaws.{MachineHere, machine_here, due_step, lawful_within, leads_push, sizes_y, step_fits, end_may}
+use Rattle.partial_replay.proofs.RunLaws.{due_step, lawful_within, leads_push, sizes_y, step_fits, end_may}
 use Rattle.partial_replay.proofs.PortSteps.{ports_step, ports_begin, log_long}
 use Rattle.partial_replay.proofs.Opens.{some_same}
 use Rattle.std.specs.List.{AllByRecursion}
-use Rattle.partial_model.proofs.NotesLemmas.{AllByRecursion-get, AllByRecursion-push}
 use Rattle.partial_replay.proofs.Traces.{entries_push}
 
 -- another port's history grows
@@ -150,133 +136,54 @@ under_way o log calls p x port way w is = subst (λ (f : Option UnderWay). Match
 is_below : (a b : ℕ) → a < b → nat_lt a b ≡ true
 is_below a b h = search (arith, h)
 
-not_below : (a b : ℕ) → b ≤ a → nat_lt a b ≡ false
-not_below a b h = search (arith, h)
+-- what a step adds to the history, as it is told by the words behind it, and that the record of an exchange lies within the words
+pub record StepAdds (z : Layout) (m : ℕ) (words : List ℕ) (step : Step) (port : ℕ) : Type 0 where
+  pub entry : entry_at m (words_after words step) port step (answer_of words step) ≡ added_by z port words step
+  pub within : IsExchangeWithin m words step
 
--- a step that exchanges no component word
-abbrev IsQuiet : ℕ → Step → Type 0
-IsQuiet m (Exchange w old new) = m ≤ w
-IsQuiet m _ = ⊤
+-- a record that a won exchange publishes stands behind the component words, so the exchange leaves its value
+adds : (z : Layout) (words : List ℕ) (port : ℕ) (step : Step) → PublishesWithin z words step → ((e : Applied) → added_by z port words step ≡ e ∷ [] → z.m ≤ e.stamp) → StepAdds z z.m words step port
+adds z words port (Load w) within above = record { entry = refl; within = tt }
+adds z words port (Store w v) within above = record { entry = refl; within = tt }
+adds z words port (Add w k) within above = record { entry = refl; within = tt }
+adds z words port (Exchange w old at) within above = record { entry = by (nat_lt w z.m) refl (get_or words w 0 == old) refl; within = λ below. let inside = within below in omega (arith, inside) }
+  where
+    by : (a : Bool) → nat_lt w z.m ≡ a → (b : Bool) → (get_or words w 0 == old) ≡ b →
+        cond {A = List Applied} (nat_lt w z.m) (cond (get_or words w 0 == old) (record { port = port; component = w; value = value_of (words_after words (Exchange w old at)) at; stamp = at } ∷ []) []) []
+        ≡ cond (nat_lt w z.m) (cond (get_or words w 0 == old) (record { port = port; component = w; value = value_of words at; stamp = at } ∷ []) []) []
+    by false ea b eb = ap (λ (c : Bool). cond {A = List Applied} c (cond (get_or words w 0 == old) (record { port = port; component = w; value = value_of (words_after words (Exchange w old at)) at; stamp = at } ∷ []) []) []) ea
+        ∙ sym (ap (λ (c : Bool). cond c (cond (get_or words w 0 == old) (record { port = port; component = w; value = value_of words at; stamp = at } ∷ []) []) []) ea)
+    by true ea false eb = ap (λ (c : Bool). cond (nat_lt w z.m) (cond c (record { port = port; component = w; value = value_of (words_after words (Exchange w old at)) at; stamp = at } ∷ []) []) []) eb
+        ∙ sym (ap (λ (c : Bool). cond (nat_lt w z.m) (cond c (record { port = port; component = w; value = value_of words at; stamp = at } ∷ []) []) []) eb)
+    by true ea true eb =
+        let one : added_by z port words (Exchange w old at) ≡ record { port = port; component = w; value = value_of words at; stamp = at } ∷ [] =
+        ap (λ (c : Bool). cond c (cond (get_or words w 0 == old) (record { port = port; component = w; value = value_of words at; stamp = at } ∷ []) []) []) ea
+        ∙ ap (λ (c : Bool). cond c (record { port = port; component = w; value = value_of words at; stamp = at } ∷ []) []) eb in
+        let behind = above (record { port = port; component = w; value = value_of words at; stamp = at }) one in
+        let below = ltb-true w z.m ea in
+        let same : value_of (words_after words (Exchange w old at)) at ≡ value_of words at = get_or-set_other words w (at + 1) (cond (get_or words w 0 == old) at (get_or words w 0)) 0 (λ h. omega (arith, behind, below, h)) in
+        ap (λ v. cond (nat_lt w z.m) (cond (get_or words w 0 == old) (record { port = port; component = w; value = v; stamp = at } ∷ []) []) []) same
 
--- it adds no entry, whatever its answer
-quiet_entry : (m : ℕ) (words : List ℕ) (p : ℕ) (step : Step) (a : ℕ) → IsQuiet m step → entry_at m words p step a ≡ []
-quiet_entry m words p (Load w) a quiet = refl
-quiet_entry m words p (Store w v) a quiet = refl
-quiet_entry m words p (Add w v) a quiet = refl
-quiet_entry m words p (Exchange w old new) a quiet = ap (λ (c : Bool). cond c (cond (a == old) (record { port = p; component = w; value = value_of words new; stamp = new } ∷ []) []) []) (not_below w m quiet)
+-- the last entry of a history
+last_of : {A : Type 0} (P : A → Type 0) (xs : List A) (x : A) → AllByRecursion P (xs ++ x ∷ []) → P x
+last_of P [] x all = all.0
+last_of P (y ∷ ys) x all = last_of P ys x all.1
 
-quiet_within : (m : ℕ) (words : List ℕ) (step : Step) → IsQuiet m step → IsExchangeWithin m words step
-quiet_within m words (Load w) quiet = tt
-quiet_within m words (Store w v) quiet = tt
-quiet_within m words (Add w v) quiet = tt
-quiet_within m words (Exchange w old new) quiet = λ below. absurd (omega (arith, quiet, below))
-
--- a getSet exchanges the list head alone
-getting_at : (z : Layout) (head : ℕ) (t : SetStage) (step : Step) → finding.step_at z head t ≡ Some step → IsQuiet z.m step
-getting_at z head Head step e = subst (IsQuiet z.m) (some_same e) tt
-getting_at z head (ListLen at) step e = subst (IsQuiet z.m) (some_same e) tt
-getting_at z head (ListLow at left) step e = subst (IsQuiet z.m) (some_same e) tt
-getting_at z head (ListHigh at left lo) step e = subst (IsQuiet z.m) (some_same e) tt
-getting_at z head Counter step e = subst (IsQuiet z.m) (some_same e) tt
-getting_at z head (Slot slot) step e = subst (IsQuiet z.m) (some_same e) tt
-getting_at z head (NamedLen slot at) step e = subst (IsQuiet z.m) (some_same e) tt
-getting_at z head (NamedIndex slot at left) step e = subst (IsQuiet z.m) (some_same e) tt
-getting_at z head (Claim count) step e = subst (IsQuiet z.m) (some_same e) tt
-getting_at z head (Write at k count word) step e = subst (IsQuiet z.m) (some_same e) tt
-getting_at z head (Publish at) step e = subst (IsQuiet z.m) (some_same e) (omega arith)
-getting_at z head SetDone step e = let bad : None ≡ Some step = e in cc
-
--- an embedded scan exchanges nothing, and neither do joins and leaves
-viewing_at : (m : ℕ) (y : Layout) (indices last : List ℕ) (t : ViewStage) (step : Step) → viewing.step_at y indices last t ≡ Some step → IsQuiet m step
-viewing_at m y indices last t step e = let load = view_loads y indices last t (ap is_some e) in subst (IsQuiet m) (some_same (sym load.1 ∙ e)) tt
-
-joining_at : (m : ℕ) (y : Layout) (at : ℕ) (t : JoinStage) (step : Step) → join_step y at t ≡ Some step → IsQuiet m step
-joining_at m y at Claiming step e = subst (IsQuiet m) (some_same e) tt
-joining_at m y at (Storing slot) step e = subst (IsQuiet m) (some_same e) tt
-joining_at m y at (Joined slot) step e = let bad : None ≡ Some step = e in cc
-joining_at m y at Spent step e = let bad : None ≡ Some step = e in cc
-
-leaving_at : (m : ℕ) (y : Layout) (slot : ℕ) (b : Bool) (step : Step) → cond b None (Some (Store (slot_word y slot) 1)) ≡ Some step → IsQuiet m step
-leaving_at m y slot true step e = let bad : None ≡ Some step = e in cc
-leaving_at m y slot false step e = subst (IsQuiet m) (some_same e) tt
-
--- what a step at a stage adds to the history, and that the record of an exchange lies within the words
-pub record StepAdds (c : CoreState) (t : Stage) (words : List ℕ) (step : Step) (number a : ℕ) : Type 0 where
-  pub entry : entry_at c.sizes.m (words_after words step) number step a ≡ added_at c.port t a
-  pub within : IsExchangeWithin c.sizes.m words step
-
--- a component's exchange that is due: its record stands within the words, and its component is there
-abbrev IsExchange : CoreState → List ℕ → Change → ℕ → ℕ → Type 0
-IsExchange c words ch old at = (get_or words (at + 1) 0 ≡ ch.value) × (ch.component < c.sizes.m) × (ch.component < at) × (at + 1 < length words)
-
-adds_quiet : (c : CoreState) (words : List ℕ) (t : Stage) (step : Step) (number a : ℕ) → IsQuiet c.sizes.m step → added_at c.port t a ≡ [] → StepAdds c t words step number a
-adds_quiet c words t step number a quiet none = record { entry = quiet_entry c.sizes.m (words_after words step) number step a quiet ∙ sym none; within = quiet_within c.sizes.m words step quiet }
-
--- a won exchange of a component
-exchanged_entry : (m p j old at a v : ℕ) (words : List ℕ) → nat_lt j m ≡ true → value_of words at ≡ v → entry_at m words p (Exchange j old at) a ≡ cond (a == old) (record { port = p; component = j; value = v; stamp = at } ∷ []) []
-exchanged_entry m p j old at a v words below value =
-    ap (λ (c : Bool). cond c (cond (a == old) (record { port = p; component = j; value = value_of words at; stamp = at } ∷ []) []) []) below
-    ∙ ap (λ n. cond (a == old) (record { port = p; component = j; value = n; stamp = at } ∷ []) []) value
-
-step_adds : (c : CoreState) (words : List ℕ) (t : Stage) (step : Step) (number a : ℕ) → c.port ≡ number → is_sound_at c t → step_at c t ≡ Some step → ((ch : Change) (old at : ℕ) → t ≡ Exchanging ch old at → IsExchange c words ch old at) → StepAdds c t words step number a
-step_adds c words Idle step number a port sound e f = let bad : None ≡ Some step = e in cc
-step_adds c words (ReadBegun j) step number a port sound e f = adds_quiet c words (ReadBegun j) step number a (subst (IsQuiet c.sizes.m) (some_same e) tt) refl
-step_adds c words (LoadingValue stamp) step number a port sound e f = adds_quiet c words (LoadingValue stamp) step number a (subst (IsQuiet c.sizes.m) (some_same e) tt) refl
-step_adds c words (UpdateBegun ch) step number a port sound e f = adds_quiet c words (UpdateBegun ch) step number a (subst (IsQuiet c.sizes.m) (some_same e) tt) refl
-step_adds c words (GettingSet ch old) step number a port sound e f = adds_quiet c words (GettingSet ch old) step number a (subst (λ (z : Layout). IsQuiet z.m step) sound.2 (getting_at c.get_set.sizes c.get_set.head c.get_set.stage step e)) refl
-step_adds c words (Viewing ch old) step number a port sound e f = adds_quiet c words (Viewing ch old) step number a (viewing_at c.sizes.m c.embedded.sizes c.found.indices c.rows.last c.embedded.stage step e) refl
-step_adds c words (ClaimingRecord ch old) step number a port sound e f = adds_quiet c words (ClaimingRecord ch old) step number a (subst (IsQuiet c.sizes.m) (some_same e) tt) refl
-step_adds c words (StoringRecord ch old at k) step number a port sound e f = adds_quiet c words (StoringRecord ch old at k) step number a (subst (IsQuiet c.sizes.m) (some_same e) tt) refl
-step_adds c words (Exchanging ch old at) step number a port sound e f =
-    let facts = f ch old at refl in
-    let apart = facts.2 in
-    let value : value_of (words_after words (Exchange ch.component old at)) at ≡ ch.value = get_or-set_other words ch.component (at + 1) (cond (get_or words ch.component 0 == old) at (get_or words ch.component 0)) 0 (λ h. omega (arith, apart, h)) ∙ facts.0 in
-    let entry : entry_at c.sizes.m (words_after words (Exchange ch.component old at)) number (Exchange ch.component old at) a ≡ added_at c.port (Exchanging ch old at) a =
-    exchanged_entry c.sizes.m number ch.component old at a ch.value (words_after words (Exchange ch.component old at)) (is_below ch.component c.sizes.m facts.1) value
-    ∙ ap (λ n. cond (a == old) (record { port = n; component = ch.component; value = ch.value; stamp = at } ∷ []) []) (sym port) in
-    subst (λ (s : Step). StepAdds c (Exchanging ch old at) words s number a) (some_same e) (record { entry = entry; within = λ _. facts.3 })
-step_adds c words ScanBegun step number a port sound e f = adds_quiet c words ScanBegun step number a (subst (IsQuiet c.sizes.m) (some_same e) tt) refl
-step_adds c words (StoringAnnouncement at k) step number a port sound e f = adds_quiet c words (StoringAnnouncement at k) step number a (subst (IsQuiet c.sizes.m) (some_same e) tt) refl
-step_adds c words Joining step number a port sound e f = adds_quiet c words Joining step number a (joining_at c.sizes.m c.join.sizes c.join.announcement c.join.stage step e) refl
-step_adds c words Scanning step number a port sound e f = adds_quiet c words Scanning step number a (viewing_at c.sizes.m c.embedded.sizes c.asked c.rows.last c.embedded.stage step e) refl
-step_adds c words Leaving step number a port sound e f = adds_quiet c words Leaving step number a (leaving_at c.sizes.m c.leave.sizes c.leave.slot c.leave.left step e) refl
-step_adds c words (Finished r) step number a port sound e f = let bad : None ≡ Some step = e in cc
-
--- the step of a port among the others
-module _ (z : Layout) (o : Opening) (words : List ℕ) (before : List Part) (x : Part) (after : List Part) (log : List Applied) (w : Lawful z o words (before ++ x ∷ after) log) (c : CoreState) (m : IsMachineOf c x) where
-  here : MachineHere z c x
-  here = machine_here z o words before x after log w c m
-
-  -- the exchange of a component that is due
-  exchange_due : (ch : Change) (old at : ℕ) → c.stage ≡ Exchanging ch old at → IsExchange c words ch old at
-  exchange_due ch old at e =
-      let h = here in
-      let is : c ≡ core_of x = in_middle c x (is_begun c.stage) m (ap is_begun e) in
-      let stage : (core_of x).stage ≡ Exchanging ch old at = ap (λ (s : CoreState). s.stage) (sym is) ∙ e in
-      let holding = all_at (λ y. IfSome (holding_of y).due (IsDue z o words (holding_of y) (others_of (holding_of y).port (holdings (before ++ x ∷ after))) log)) before x after (all_unmap (λ (v : Holding). IfSome v.due (IsDue z o words v (others_of v.port (holdings (before ++ x ∷ after))) log)) holding_of (before ++ x ∷ after) w.memory.due) in
-      let due = if_some_at (IsDue z o words (holding_of x) (others_of (holding_of x).port (holdings (before ++ x ∷ after))) log) (holding_of x).due (record { component = ch.component; old = old; value = ch.value; at = at }) (ap due_at stage) holding in
-      let sound : is_sound_at c (Exchanging ch old at) = subst (is_sound_at c) e h.sound.stage in
-      let place : IsInPool c.sizes at (record_size c) = sound.1 in
-      let size = size_few c h.sound.indices.few in
-      let low = place.0 in
-      let high = place.1 in
-      let three = size.0 in
-      let component = (sound.0).0 in
-      let count = w.memory.count in
-      let sizes : total c.sizes ≡ total z = ap total h.sizes in
-      (due.value, component, omega (arith, component, low), omega (arith, high, three, count, sizes))
-    where
-      in_middle : (c : CoreState) (x : Part) (b : Bool) → MatchBool b ((is_at_rest (core_of x).stage ≡ true) × (c ≡ begun_like (core_of x) c) × AreComponents c.sizes c.asked × MayBegin c) (c ≡ core_of x) → b ≡ false → c ≡ core_of x
-      in_middle c x true m e = absurd (false≢true (sym e))
-      in_middle c x false m e = m
-
-  -- what the due step adds
-  pub due_adds : (step : Step) (number a : ℕ) → port_of x ≡ number → step_of c ≡ Some step → StepAdds c c.stage words step number a
-  due_adds step number a port due = let h = here in step_adds c words c.stage step number a (h.port ∙ port) h.sound.stage due exchange_due
+-- the same of a step that leads on
+pub due_adds : (z : Layout) (o : Opening) (words : List ℕ) (before : List Part) (x : Part) (after : List Part) (log : List Applied) (c : CoreState) (step : Step) (number : ℕ) → port_of x ≡ number → LeadsOn z o words before x after log c step → StepAdds z c.sizes.m words step number
+due_adds z o words before x after log c step number port l =
+    let own : StepAdds z z.m words step (port_of x) = adds z words (port_of x) step l.publishes (λ e is.
+        let entries = l.lawful.memory.entries in
+        let entry : IsEntry z (words_after words step) e = last_of (IsEntry z (words_after words step)) log e (subst (λ (es : List Applied). AllByRecursion (IsEntry z (words_after words step)) (log ++ es)) is entries) in
+        let above = entry.above in
+        omega (arith, above)) in
+    let sizes : z.m ≡ c.sizes.m = ap (λ (y : Layout). y.m) (sym l.tells.sizes) in
+    subst (λ (n : ℕ). StepAdds z n words step number) sizes (subst (StepAdds z z.m words step) port own)
 
 -- fewer positions, fewer steps: a scan makes no more than an update
 most_of_scan : (z : Layout) (js : List ℕ) → length js ≤ z.m → most_steps z (call.Scan js) ≤ most_of_update z
-most_of_scan z js few = let times = mul-le-mul few (let more : length js + 2 ≤ z.m + 2 = omega (arith, few) in more) in omega (arith, few, times)
+most_of_scan z [] few = omega arith
+most_of_scan z (j ∷ js) few = let times = mul-le-mul few (let more : length (j ∷ js) + 2 ≤ z.m + 2 = omega (arith, few) in more) in omega (arith, few, times)
 
 most_of_call : (z : Layout) (c : Call) → IsServed z.m c → most_steps z c ≤ most_of_update z
 most_of_call z (call.Update j v) served = omega arith
@@ -303,16 +210,17 @@ may_step plans z o words ports log trace i calls port way w served c t is =
     let at = at_port o log 0 plans w.parts ports i calls port w.fit c t in
     let u = under_way o log calls (0 + i) (at.x) port way (at.fits) is in
     let lawful : Lawful z o words ((at.before) ++ (at.x) ∷ (at.after)) log = subst (λ (l : List Part). Lawful z o words l log) (at.is) w.lawful in
-    let here = machine_here z o words (at.before) (at.x) (at.after) log lawful port.core u.machine in
-    let due = due_step port.core here.sound u.due in
+    let here = lawful_machines_are_ready z o words (at.before) (at.x) (at.after) log port.core lawful u.machine in
+    let due = due_step port.core (here.due ∙ ap not u.due) in
     let step = due.0 in
     let a = answer_of words step in
     let l = steps_stay_lawful z o words (at.before) (at.x) (at.after) log port.core step lawful u.machine due.1 in
     let number : port_of (at.x) ≡ port.number = (at.fits).part ∙ sym ((at.fits).number) in
-    let adds = due_adds z o words (at.before) (at.x) (at.after) log lawful port.core u.machine step port.number a number due.1 in
+    let adds = due_adds z o words (at.before) (at.x) (at.after) log port.core step port.number number l in
+    let entries = added_by z (port_of (at.x)) words step in
     let call_served : IsServed z.m u.call = AllByRecursion-get (IsServed z.m) calls (length port.finished.items) u.call (AllByRecursion-get (λ (cs : List Call). (length cs < 2 ^ 32) × AllByRecursion (IsServed z.m) cs) plans i calls served c).1 u.next in
     let fits : most_steps port.core.sizes u.call + 1 < 2 ^ 64 = subst (λ (y : Layout). most_steps y u.call + 1 < 2 ^ 64) (sym here.sizes) (most_fits z u.call lawful.memory.sizes call_served) in
-    let within : AreWithin (length o.values) (words_after words step) (log ++ added port.core a) = lawful_within z o (words_after words step) _ (log ++ added port.core a) l.lawful.memory in
+    let within : AreWithin (length o.values) (words_after words step) (log ++ entries) = lawful_within z o (words_after words step) _ (log ++ entries) l.lawful.memory in
     record {
       step = step;
       way = way;
@@ -320,12 +228,12 @@ may_step plans z o words ports log trace i calls port way w served c t is =
       due = due.1;
       was = is;
       within = (l.answers).within;
-      possible = l.possible;
+      possible = l.tells.possible;
       exchange = adds.within;
       steps = omega (arith, u.steps, fits);
       next = u.next;
-      ends = end_may z o words (at.before) (at.x) (at.after) log calls (0 + i) port port step way here (at.fits) u l;
-      places = subst (λ (es : List Applied). AreWithin port.core.sizes.m (words_after words step) (log ++ es)) (sym adds.entry) (subst (λ n. AreWithin n (words_after words step) (log ++ added port.core a)) (sym (at.fits).sizes) within);
+      ends = end_may z o words (at.before) (at.x) (at.after) log calls (0 + i) port port step way (at.fits) u l;
+      places = subst (λ (es : List Applied). AreWithin port.core.sizes.m (words_after words step) (log ++ es)) (ap (λ n. added_by z n words step) number ∙ sym adds.entry) (subst (λ n. AreWithin n (words_after words step) (log ++ entries)) (sym (at.fits).sizes) within);
     }
 
 -- a step keeps the replay's state
@@ -334,20 +242,20 @@ step_keeps plans z o words words' ports log log' trace trace' i calls port new w
     let at = at_port o log 0 plans w.parts ports i calls port w.fit c t in
     let u = under_way o log calls (0 + i) (at.x) port (m.way) (at.fits) m.was in
     let lawful : Lawful z o words ((at.before) ++ (at.x) ∷ (at.after)) log = subst (λ (l : List Part). Lawful z o words l log) (at.is) w.lawful in
-    let machine = machine_here z o words (at.before) (at.x) (at.after) log lawful port.core u.machine in
     let l = steps_stay_lawful z o words (at.before) (at.x) (at.after) log port.core (m.step) lawful u.machine m.due in
     let a = answer_of words (m.step) in
     let number : port_of (at.x) ≡ port.number = (at.fits).part ∙ sym ((at.fits).number) in
-    let adds = due_adds z o words (at.before) (at.x) (at.after) log lawful port.core u.machine (m.step) port.number a number m.due in
-    let log_is : log' ≡ log ++ added port.core a = m.log_is ∙ ap (λ (ws : List ℕ). log ++ entry_at port.core.sizes.m ws port.number (m.step) a) m.words_are ∙ ap (λ (es : List Applied). log ++ es) adds.entry in
+    let adds = due_adds z o words (at.before) (at.x) (at.after) log port.core (m.step) port.number number l in
+    let gained = added_by z (port_of (at.x)) words (m.step) in
+    let log_is : log' ≡ log ++ gained = m.log_is ∙ ap (λ (ws : List ℕ). log ++ entry_at port.core.sizes.m ws port.number (m.step) a) m.words_are ∙ ap (λ (es : List Applied). log ++ es) adds.entry ∙ ap (λ n. log ++ added_by z n words (m.step)) (sym number) in
     let core = core_behind words (m.step) port in
-    let after : MatchOption (reply_of core) (GoesOn port new (m.way) core) (Ends calls (words_after words (m.step)) (log ++ added port.core a) port new (m.way) core) =
+    let after : MatchOption (reply_of core) (GoesOn port new (m.way) core) (Ends calls (words_after words (m.step)) (log ++ gained) port new (m.way) core) =
     subst (λ (k : List Applied). MatchOption (reply_of core) (GoesOn port new (m.way) core) (Ends calls (words_after words (m.step)) k port new (m.way) core)) log_is
     (subst (λ (ws : List ℕ). MatchOption (reply_of core) (GoesOn port new (m.way) core) (Ends calls ws log' port new (m.way) core)) m.words_are m.after) in
-    let y = moved port.core a log l.new (at.x) in
-    let fits = step_fits z o words (at.before) (at.x) (at.after) log calls (0 + i) port new (m.step) (m.way) machine (at.fits) u l (reply_of core) refl m.number m.falls after in
+    let y = l.y in
+    let fits = step_fits z o words (at.before) (at.x) (at.after) log calls (0 + i) port new (m.step) (m.way) (at.fits) u l (reply_of core) refl m.number m.falls after in
     let event : Event = record { port = port.number; step = m.step; answer = a } in
-    let components : port.core.sizes.m ≡ z.m = ap (λ (v : Layout). v.m) machine.sizes in
+    let components : port.core.sizes.m ≡ z.m = ap (λ (v : Layout). v.m) l.tells.sizes in
     let entries = entries_push z.m words' trace trace' log log' port.number (m.step) a w.entries m.trace_is (m.log_is ∙ ap (λ n. log ++ entry_at n words' port.number (m.step) a) components) in
     let here : port.number ≡ i = (at.fits).number ∙ omega arith in
     record {
@@ -355,7 +263,7 @@ step_keeps plans z o words words' ports log log' trace trace' i calls port new w
       opened = w.opened;
       opens = w.opens;
       lawful = subst (λ (ws : List ℕ). Lawful z o ws ((at.before) ++ y ∷ (at.after)) log') (sym m.words_are) (subst (λ (k : List Applied). Lawful z o (words_after words (m.step)) ((at.before) ++ y ∷ (at.after)) k) (sym log_is) l.lawful);
-      fit = subst (λ (k : List Applied). PortsFit o k 0 plans ((at.before) ++ y ∷ (at.after)) (set ports i new)) (sym log_is) (at.replace (added port.core a) y new fits);
+      fit = subst (λ (k : List Applied). PortsFit o k 0 plans ((at.before) ++ y ∷ (at.after)) (set ports i new)) (sym log_is) (at.replace gained y new fits);
       leads = subst (λ (ws : List ℕ). Leads w.opened trace' ws) (sym m.words_are) (subst (λ (es : List Event). Leads w.opened es (words_after words (m.step))) (sym m.trace_is) (leads_push w.opened words trace event w.leads l.answers));
       entries = entries;
       senders = subst (AllByRecursion (λ (e : Event). e.port < length plans)) (sym m.trace_is) (AllByRecursion-push (λ (e : Event). e.port < length plans) trace event w.senders (let below = get_below plans i calls c in omega (arith, below, here)));
@@ -368,9 +276,8 @@ step_sizes plans z o words words' ports log log' trace trace' i calls port new w
     let at = at_port o log 0 plans w.parts ports i calls port w.fit c t in
     let u = under_way o log calls (0 + i) (at.x) port (m.way) (at.fits) m.was in
     let lawful : Lawful z o words ((at.before) ++ (at.x) ∷ (at.after)) log = subst (λ (l : List Part). Lawful z o words l log) (at.is) w.lawful in
-    let machine = machine_here z o words (at.before) (at.x) (at.after) log lawful port.core u.machine in
     let l = steps_stay_lawful z o words (at.before) (at.x) (at.after) log port.core (m.step) lawful u.machine m.due in
-    sizes_y z o words (at.before) (at.x) (at.after) log calls (0 + i) port new (m.step) (m.way) machine (at.fits) u l
+    sizes_y z o words (at.before) (at.x) (at.after) log calls (0 + i) port new (m.step) (m.way) (at.fits) u l
 
 -- the steps that the port has left
 pub left_is : (plans : List (List Call)) (ports : List Port) (i : ℕ) (calls : List Call) (port : Port) → slice_get plans i ≡ Some calls → slice_get ports i ≡ Some port → left_at i plans ports ≡ left_of calls port

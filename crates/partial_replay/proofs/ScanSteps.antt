@@ -15,19 +15,15 @@ use Rattle.partial_machine.specs.declared.stage.Reply.{Reply}
 use Rattle.partial_machine.specs.declared.stage.Reply.TheVariants as reply
 use Rattle.partial_machine.specs.declared.stage.Stage.{Stage}
 use Rattle.partial_machine.specs.declared.stage.Stage.TheVariants.{Idle, ScanBegun, Finished}
-use Rattle.partial_machine.specs.Machine.{CoreState, IsSound, at_stage, begin_scan, advance, step_at, reply_at, reply_of, fresh}
+use Rattle.partial_machine.specs.Machine.{CoreState, at_stage, advance, step_at, reply_at, reply_of, fresh}
+use Rattle.partial_machine.specs.Sound.{IsSound}
+use Rattle.partial_machine.specs.Calls.{begin_scan, answer_for, begun_of, IsServed}
 use Rattle.partial_machine.specs.Steps.{Run, AreOfScan, pairs_loaded}
-use Rattle.partial_machine.proofs.Sound.{kept}
-use Rattle.partial_machine.proofs.StepCounts.{stays_sound}
-use Rattle.partial_machine.proofs.ScanCounts.{scans_make_their_steps}
-use Rattle.partial_core.specs.Lawful.{answer_for}
-use Rattle.partial_core.proofs.AllSteps.{begun_sound}
-use Rattle.partial_core.proofs.Opened.{fresh_sound}
+use Rattle.partial_machine.proofs.Laws.{answers_lead_on, rests_are_sound, stays_sound, scans_make_their_steps}
 use Rattle.partial_text.specs.PlanText.{PlanView, IsPlan, IsCall}
 use Rattle.partial_replay.specs.Trace.{Moment, moments_by}
-use Rattle.partial_replay.specs.CallSteps.{begun_of, Makes, IsCallOf, HasSteps, AreStepsOf}
+use Rattle.partial_replay.specs.CallSteps.{Makes, IsCallOf, HasSteps, AreStepsOf}
 use Rattle.partial_replay.specs.Listed.{calls_by}
-use Rattle.partial_replay.specs.PortState.{IsServed}
 use Rattle.partial_replay.specs.ScanSteps.{answers_of, events_in_front, own_events, IsOfItsScan, AnsweredScansMakeTheirSteps}
 use Rattle.partial_replay.proofs.PortLaws.{Begins, begins, begun_sizes, once_empty}
 use Rattle.partial_replay.proofs.StepsOf.{IsCut, steps_cut}
@@ -38,16 +34,6 @@ due_unreplied : (s : CoreState) (t : Stage) (step : Step) → step_at s t ≡ So
 due_unreplied s (Finished r) step e = let bad : None ≡ Some step = e in cc
 due_unreplied s _ step e = refl
 
--- a call that is begun leaves the machine sound
-begun_call_sound : (s : CoreState) (c : Call) → IsSound s → Begins s c → IsSound (begun_of s c)
-begun_call_sound s (call.Update j v) w b = record { asked = b.asked; found = w.found; indices = w.indices; distinct = w.distinct; rows = w.rows; stage = b.may }
-begun_call_sound s (call.Scan js) w b = record { asked = b.asked; found = w.found; indices = w.indices; distinct = w.distinct; rows = w.rows; stage = begun_sound (begin_scan s js) (begin_scan s js).stage b.begun b.may }
-begun_call_sound s (call.Read j) w b = record { asked = b.asked; found = w.found; indices = w.indices; distinct = w.distinct; rows = w.rows; stage = b.may }
-begun_call_sound s (call.UpdateIf j x v) w b = record { asked = b.asked; found = w.found; indices = w.indices; distinct = w.distinct; rows = w.rows; stage = b.may }
-
-idle_sound : (s : CoreState) → IsSound s → IsSound (at_stage s Idle)
-idle_sound s w = record { asked = w.asked; found = w.found; indices = w.indices; distinct = w.distinct; rows = w.rows; stage = tt }
-
 -- the events are answers that lead the machine on
 run_of : (s t : CoreState) (xs : List Moment) → Makes s xs t → Run s (answers_of xs) t
 run_of s t [] m = m
@@ -56,7 +42,7 @@ run_of s t (x ∷ xs) m = (m.1, run_of (advance s x.event.answer) t xs m.2)
 run_sizes : (s t : CoreState) (xs : List ℕ) → IsLayout s.sizes → IsSound s → Run s xs t → t.sizes ≡ s.sizes
 run_sizes s t [] layout w run = ap (λ (v : CoreState). v.sizes) run
 run_sizes s t (x ∷ xs) layout w run =
-    let k = kept s x layout w run.0 in
+    let k = answers_lead_on s x layout w run.0 in
     run_sizes (advance s x) t xs (subst IsLayout (sym k.sizes) layout) k.sound run.1 ∙ k.sizes
 
 -- a call with steps, as its machine sees it
@@ -73,7 +59,7 @@ call_run : (z : Layout) (s t : CoreState) (c : Called) (x : Moment) (xs : List M
 call_run z s t c x xs layout sizes w served h =
     let unreplied : reply_of (begun_of s c.call) ≡ None = due_unreplied (begun_of s c.call) (begun_of s c.call).stage x.event.step h.makes.0 in
     let b = begins s c.call w.asked (subst (λ (y : Layout). IsServed y.m c.call) (sym sizes) served) h.begins unreplied in
-    let sound = begun_call_sound s c.call w b in
+    let sound = b.sound w in
     let same : (begun_of s c.call).sizes ≡ z = begun_sizes s c.call ∙ sizes in
     let here : IsLayout (begun_of s c.call).sizes = subst IsLayout (sym same) layout in
     let run = run_of (begun_of s c.call) h.last (x ∷ xs) h.makes in
@@ -98,7 +84,7 @@ call_sound z s t c [] layout sizes w served h = elim h [
 ]
 call_sound z s t c (x ∷ xs) layout sizes w served h =
     let r = call_run z s t c x xs layout sizes w served h in
-    (subst IsSound (sym h.rests) (idle_sound h.last r.last_sound), ap (λ (v : CoreState). v.sizes) h.rests ∙ r.last_sizes)
+    (subst IsSound (sym h.rests) (rests_are_sound.idle h.last r.last_sound), ap (λ (v : CoreState). v.sizes) h.rests ∙ r.last_sizes)
 
 -- the reply behind the answer of a scan
 scan_replied : (s : CoreState) (f : Option Reply) (vs : List ℕ) (k : ℕ) (b : Option ℕ) → option_map (answer_for s) f ≡ Some (answer.Scanned vs k b) → f ≡ Some (reply.Scanned k b)
@@ -188,5 +174,5 @@ answered_scans_make_their_steps p outcome plan w q front c behind is =
     let calls : AllByRecursion (IsServed z.m) (map (λ (d : Called). d.call) cs) = subst (AllByRecursion (IsServed z.m)) (sym (w.calls q)) (all_take (IsServed z.m) (length cs) (get_or p.ports q []) (plan_served p q plan)) in
     let served = served_front z.m front c behind (subst (λ (l : List Called). AllByRecursion (IsServed z.m) (map (λ (d : Called). d.call) l)) is calls) in
     let cut = steps_cut first (events.0) front c behind xs (subst (λ (l : List Called). AreStepsOf first l xs (events.0)) is events.1) in
-    let sound = calls_sound z first cut.at front (events_in_front front xs) plan.sizes refl (fresh_sound z q) served.0 cut.led in
+    let sound = calls_sound z first cut.at front (events_in_front front xs) plan.sizes refl (rests_are_sound.fresh z q) served.0 cut.led in
     scan_of z first front c behind xs (events.0) cut (own_events front c xs) refl plan.sizes sound.1 sound.0 served.1 cut.call'

@@ -13,13 +13,16 @@ use Rattle.partial_model.specs.declared.call.Finish.{Finish}
 use Rattle.partial_model.specs.Notes.{Noted, LegalNotes, shown_by, place_of}
 use Rattle.partial_model.specs.Outcome.{noted_of, notes_of, places_written, Follows, RealTime, LegalOutcome}
 use Rattle.partial_words.specs.Layout.{Layout, IsLayout}
-use Rattle.partial_machine.specs.Machine.{CoreState, AreComponents}
+use Rattle.partial_machine.specs.Machine.{CoreState}
+use Rattle.partial_machine.specs.Sound.{AreComponents}
 use Rattle.partial_state.specs.Holdings.{Holding}
 use Rattle.partial_state.proofs.ListLemmas.{all_append}
 use Rattle.partial_core.proofs.Calls.{led}
-use Rattle.partial_replay.specs.CallSteps.{most_steps}
+use Rattle.partial_machine.specs.Bounds.{most_steps}
 use Rattle.partial_words.specs.declared.step.Event.{Event}
-use Rattle.partial_core.specs.Lawful.{Part, IsKnown, MayBegin, begun_like, core_of, is_at_rest, is_begun, port_of, notes_by}
+use Rattle.partial_core.specs.Part.{Part, core_of, port_of, IsBetween, IsMachineOf}
+use Rattle.partial_core.specs.Known.{IsKnown, notes_by}
+use Rattle.partial_machine.specs.Calls.{begun_like, is_at_rest, is_begun}
 use Rattle.partial_replay.specs.declared.port.Port.{Port}
 use Rattle.partial_replay.specs.declared.port.UnderWay.{UnderWay}
 use Rattle.partial_replay.specs.Place.{HasLeastPlace}
@@ -27,7 +30,7 @@ use Rattle.partial_replay.specs.Listed.{calls_by, AreFirstOf, AreAllMade}
 use Rattle.std.specs.Option.{IsSome}
 use Rattle.partial_replay.proofs.PortLaws.{take_next, same_eqb}
 use Rattle.partial_replay.proofs.Opens.{over_none, none_over}
-use Rattle.partial_replay.specs.PortState.{AreFinished, AreFew, IsUnderWay, IsBetween, PortFits, end_of, ends_of, notes_in, unfinished_call}
+use Rattle.partial_replay.specs.PortState.{AreFinished, AreFew, IsUnderWay, PortFits, end_of, ends_of, notes_in, unfinished_call}
 use Rattle.partial_replay.specs.RunState.{PortsFit, IsRunOf, left_over, calls_in}
 
 notes_split : (p : ℕ) (xs ys : List Called) → notes_of p (xs ++ ys) ≡ notes_of p xs ++ notes_of p ys
@@ -276,13 +279,13 @@ least_told o log q (c ∷ plans) (x ∷ parts) (t ∷ ports) w =
     all_append (HasLeastPlace o log) (t.finished.items ++ over) (calls_in plans ports) (all_append (HasLeastPlace o log) t.finished.items over w.0.least (least_over o log t (slice_get c (length t.finished.items)) t.under_way)) (least_told o log (q + 1) plans parts ports w.1)
 
 -- the machine of a port has the sizes of its part's
-sizes_at : (z : Layout) (core : CoreState) (x : Part) (b : Bool) → (core_of x).sizes ≡ z → MatchBool b ((is_at_rest (core_of x).stage ≡ true) × (core ≡ begun_like (core_of x) core) × AreComponents core.sizes core.asked × MayBegin core) (core ≡ core_of x) → core.sizes ≡ z
-sizes_at z core x true led m = ap (λ (s : CoreState). s.sizes) m.1 ∙ led
-sizes_at z core x false led m = ap (λ (s : CoreState). s.sizes) m ∙ led
+sizes_at : (z : Layout) (core : CoreState) (x : Part) → (core_of x).sizes ≡ z → IsMachineOf core x → core.sizes ≡ z
+sizes_at z core x led (inl h) = ap (λ (s : CoreState). s.sizes) h.like ∙ led
+sizes_at z core x led (inr l) = ap (λ (s : CoreState). s.sizes) l.is ∙ led
 
 port_sizes : (z : Layout) (n : ℕ) (calls : List Call) (x : Part) (core : CoreState) (done : List Called) (way : Option UnderWay) → (core_of x).sizes ≡ z → MatchOption way (IsBetween x core) (IsUnderWay n calls x core done) → core.sizes ≡ z
 port_sizes z n calls x core done None led w = ap (λ (s : CoreState). s.sizes) w.machine ∙ led
-port_sizes z n calls x core done (Some way) led w = sizes_at z core x (is_begun core.stage) led w.machine
+port_sizes z n calls x core done (Some way) led w = sizes_at z core x led w.machine
 
 -- the call that is left unfinished has made no more steps than it may
 few_over : (z : Layout) (n : ℕ) (calls : List Call) (x : Part) (port : Port) (way : Option UnderWay) → port.core.sizes ≡ z → MatchOption way (IsBetween x port.core) (IsUnderWay n calls x port.core port.finished.items) → AreFew z (left_over port (slice_get calls (length port.finished.items)) way)

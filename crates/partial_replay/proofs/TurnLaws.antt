@@ -1,10 +1,9 @@
 -- The turns of a replay, one behind the other.
-use Rattle.std.proofs.Common.{ℕ, zero, suc, ◌≡◌, ◌≢◌, ◌+◌, ◌-◌, ◌<◌, ◌≤◌, ◌==◌, ◌++◌, Bool, true, false, cond, List, [], ◌∷◌, length, get_or, map, take, replicate, set, Option, Some, None, slice_get, refl, sym, ◌∙◌, ap, subst, inl, inr, arith, append_assoc}
+use Rattle.std.proofs.Common.{ℕ, zero, suc, ◌≡◌, ◌≢◌, ◌+◌, ◌-◌, ◌<◌, ◌≤◌, ◌==◌, ◌++◌, Bool, true, false, cond, List, [], ◌∷◌, length, get_or, map, take, replicate, set, Option, Some, None, slice_get, refl, sym, ◌∙◌, ap, subst, inl, inr, arith, append_assoc, length-append, MatchOption}
 use Rattle.std.specs.List.{filter, range_with_len}
 use Rattle.std.proofs.lemmas.List.Elements.{filter-append}
 use Rattle.std.proofs.lemmas.List.Sums.{sum_by-cons, sum_by-append}
-use Rattle.std.proofs.Common.{length-append, MatchOption}
-use Rattle.partial_replay.specs.Turns.{so_many, to_its_end, made_in, left_behind, ports_in, turns_by, turns_of}
+use Rattle.partial_replay.specs.Turns.{so_many, to_its_end, made_in, ports_in, turns_by, turns_of, left_behind}
 use Rattle.partial_text.specs.PlanText.{PlanView}
 use Rattle.partial_replay.specs.Listed.{AreAllMade, EndInStep, HaveMade}
 use Rattle.partial_model.specs.declared.call.Called.{Called}
@@ -18,8 +17,7 @@ use Rattle.partial_model.specs.declared.history.Applied.{Applied}
 use Rattle.partial_replay.specs.PortState.{StepMade}
 use Rattle.partial_replay.specs.declared.port.Port.{Port}
 use Rattle.partial_replay.specs.declared.run.Run.{Run}
-use Rattle.partial_replay.specs.Trace.{ports_of}
-use Rattle.partial_replay.specs.Trace.{events_in}
+use Rattle.partial_replay.specs.Trace.{ports_of, events_in}
 use Rattle.partial_replay.specs.RunState.{IsReady}
 use Rattle.partial_replay.specs.TurnState.{IsDone, GoesOnBy, TurnsMade, StopAtSteps, HasTurns, MakeTurns, HasMadeTurns}
 use Rattle.partial_replay.proofs.PortLaws.{get_set, get_set_other, take_next, get_is, same_eqb}

@@ -1,44 +1,16 @@
--- The steps of a port's calls, call by call, and how many they are at most.
-use Rattle.std.specs.Prelude.{ℕ, ◌≡◌, ◌+◌, ◌*◌, ◌⊎◌, List, [], ◌∷◌, ◌++◌, length, Option, Some, None, IfSome}
+-- The steps of a port's calls, call by call.
+use Rattle.std.specs.Prelude.{ℕ, ◌≡◌, ◌⊎◌, List, [], ◌∷◌, ◌++◌, length, Some, None, IfSome}
 use Rattle.std.specs.Option.{option_map}
-use Rattle.partial_model.specs.declared.call.Call.{Call}
-use Rattle.partial_model.specs.declared.call.Call.TheVariants as call
 use Rattle.partial_model.specs.declared.call.Refused.{Refused}
 use Rattle.partial_model.specs.declared.call.Answer.TheVariants as answer
 use Rattle.partial_model.specs.declared.call.Note.TheVariants as note
 use Rattle.partial_model.specs.declared.call.Called.{Called}
-use Rattle.partial_words.specs.Layout.{Layout}
 use Rattle.partial_machine.specs.declared.stage.Reply.{Reply}
 use Rattle.partial_machine.specs.declared.stage.Stage.TheVariants.{Idle, ReadBegun, UpdateBegun}
-use Rattle.partial_machine.specs.Machine.{CoreState, IsPossible, at_stage, begin_scan, advance, step_of, reply_of, read_refusal, update_refusal, scan_refusal}
-use Rattle.partial_machine.specs.Steps.{most_embedded}
-use Rattle.partial_core.specs.Lawful.{answer_for}
+use Rattle.partial_machine.specs.Machine.{CoreState, at_stage, advance, step_of, reply_of}
+use Rattle.partial_machine.specs.Possible.{IsPossible}
+use Rattle.partial_machine.specs.Calls.{refusal_of, begun_of, answer_for, begin_scan, read_refusal, update_refusal, scan_refusal}
 use Rattle.partial_replay.specs.Trace.{Moment, last_behind}
-
--- the machine once it has begun the call
-abbrev pub begun_of : CoreState → Call → CoreState
-begun_of s (call.Update j v) = at_stage s (UpdateBegun (record { component = j; expected = None; value = v }))
-begun_of s (call.Scan js) = begin_scan s js
-begun_of s (call.Read j) = at_stage s (ReadBegun j)
-begun_of s (call.UpdateIf j x v) = at_stage s (UpdateBegun (record { component = j; expected = Some x; value = v }))
-
--- how many steps an update makes at most
-abbrev pub most_of_update : Layout → ℕ
-most_of_update z = z.slots * (z.m + 3) + z.lists + 6 + most_embedded z.m z.m + 2 * z.m + 7
-
--- how many steps a call makes at most
-abbrev pub most_steps : Layout → Call → ℕ
-most_steps z (call.Update j v) = most_of_update z
-most_steps z (call.Scan js) = most_embedded z.m (length js) + length js + 5
-most_steps z (call.Read j) = 2
-most_steps z (call.UpdateIf j x v) = most_of_update z
-
--- why a call is refused at once
-abbrev pub refusal_of : CoreState → Call → Option Refused
-refusal_of s (call.Update j v) = update_refusal s j
-refusal_of s (call.Scan js) = scan_refusal s js
-refusal_of s (call.Read j) = read_refusal s j
-refusal_of s (call.UpdateIf j x v) = update_refusal s j
 
 -- the machine makes these events, each of them its due step with an answer that words may give, and comes to that state
 abbrev pub Makes : CoreState → List Moment → CoreState → Type 0

@@ -21,21 +21,20 @@ use Rattle.partial_words.specs.Record.{value_of}
 use Rattle.partial_machine.specs.declared.stage.Reply.{Reply}
 use Rattle.partial_machine.specs.declared.stage.Reply.TheVariants as reply
 use Rattle.partial_machine.specs.declared.stage.Stage.TheVariants.{Idle}
-use Rattle.partial_machine.specs.Machine.{CoreState, AreComponents, at_stage, advance, fresh, step_of, reply_of, IsPossible, steps_left}
-use Rattle.partial_core.specs.Lawful.{Part, core_of, port_of, is_begun, is_at_rest, IsMachineOf, begun_like, begun_with, call_of, first_at, answer_for}
+use Rattle.partial_machine.specs.Machine.{CoreState, at_stage, advance, fresh, step_of, reply_of}
+use Rattle.partial_machine.specs.Possible.{IsPossible}
+use Rattle.partial_machine.specs.Bounds.{steps_left, most_steps}
+use Rattle.partial_core.specs.Part.{Part, port_of, IsMachineOf, IsBetween, first_at}
+use Rattle.partial_machine.specs.Calls.{is_begun, is_at_rest, call_of, answer_for, begun_of, refusal_of}
+use Rattle.partial_core.specs.Steps.{begun_with}
 use Rattle.partial_places.specs.ScanPlace.{HasRecord, HasRecords}
 use Rattle.partial_replay.specs.Trace.{Moment}
-use Rattle.partial_replay.specs.CallSteps.{begun_of, refusal_of, most_steps, Makes, IsCallOf, AreStepsOf}
+use Rattle.partial_replay.specs.CallSteps.{Makes, IsCallOf, AreStepsOf}
 use Rattle.partial_replay.specs.Turns.{BeginInTurns}
 use Rattle.partial_replay.specs.Listed.{steps_in}
 use Rattle.partial_replay.specs.Place.{IsNoteFrom, HasLeastPlace}
 use Rattle.partial_replay.specs.declared.port.Port.{Port}
 use Rattle.partial_replay.specs.declared.port.UnderWay.{UnderWay}
-
--- a call that the machine of a memory with m components serves: a scan has at most m positions
-abbrev pub IsServed : ℕ → Call → Type 0
-IsServed m (call.Scan js) = length js ≤ m
-IsServed m _ = ⊤
 
 -- how long the history was at the end of a call, and of the last of several
 abbrev pub end_of : ℕ → Called → ℕ
@@ -70,13 +69,6 @@ pub record IsUnderWay (n : ℕ) (calls : List Call) (x : Part) (core : CoreState
   pub machine : IsMachineOf core x
   pub due : is_at_rest core.stage ≡ false
   pub steps : way.steps + steps_left core ≤ most_steps core.sizes call
-
--- Between calls the machine is idle. It is the part's but for the positions of scans that made no step.
-pub record IsBetween (x : Part) (core : CoreState) : Type 0 where
-  pub rest : is_at_rest (core_of x).stage ≡ true
-  pub machine : core ≡ begun_like (core_of x) core
-  pub idle : core.stage ≡ Idle
-  pub asked : AreComponents core.sizes core.asked
 
 -- the calls have made no more steps than such calls may
 abbrev pub AreFew : Layout → List Called → Type 0
@@ -160,11 +152,6 @@ HasValues m _ vs = ⊥
 abbrev pub MayAnswer : ℕ → Call → Answer → Type 0
 MayAnswer m c (answer.Scanned vs collects borrowed) = HasValues m c vs
 MayAnswer m c _ = ⊤
-
--- where the reply is a scan's, the machine has a value for each position of the call
-abbrev pub HasPositions : CoreState → Call → Reply → Type 0
-HasPositions s c (reply.Scanned collects borrowed) = length (indices_of c) ≡ length s.asked
-HasPositions s c _ = ⊤
 
 -- the records of the components, and of the entries, lie within the words
 pub record AreWithin (m : ℕ) (words : List ℕ) (log : List Applied) : Type 0 where

@@ -10,8 +10,9 @@ use Rattle.partial_text.specs.PlanText.{PlanView}
 use Rattle.partial_text.specs.declared.outcome.Outcome.{Outcome}
 use Rattle.std.specs.List.{AllByRecursion}
 use Rattle.partial_replay.specs.Place.{HasLeastPlace}
-use Rattle.partial_replay.specs.Trace.{entry_of, moments_from, moments_by, ports_of}
-use Rattle.partial_replay.specs.CallSteps.{AreStepsOf, most_steps}
+use Rattle.partial_replay.specs.Trace.{entry_of, moments_by, ports_of, moments_from}
+use Rattle.partial_replay.specs.CallSteps.{AreStepsOf}
+use Rattle.partial_machine.specs.Bounds.{most_steps}
 use Rattle.partial_replay.specs.PortState.{AreFew}
 use Rattle.partial_replay.specs.Turns.{turns_of, turns_by, ports_in, lengths_in, BeginInTurns}
 use Rattle.partial_replay.specs.Listed.{calls_by, steps_by, AreFirstOf, AreAllMade, HaveMade}

@@ -10,15 +10,17 @@ use Rattle.partial_words.specs.declared.step.Event.{Event}
 use Rattle.partial_words.specs.Step.{Leads}
 use Rattle.partial_words.specs.Chain.{AreOpeningWords}
 use Rattle.std.specs.Option.{option_map_or}
-use Rattle.partial_machine.specs.Machine.{fresh, steps_left}
-use Rattle.partial_core.specs.Lawful.{Part, Lawful}
+use Rattle.partial_machine.specs.Machine.{fresh}
+use Rattle.partial_machine.specs.Bounds.{steps_left, most_of_update}
+use Rattle.partial_core.specs.Part.{Part}
+use Rattle.partial_core.specs.Lawful.{Lawful}
 use Rattle.partial_replay.specs.declared.port.Port.{Port}
 use Rattle.partial_replay.specs.declared.port.UnderWay.{UnderWay}
 use Rattle.partial_replay.specs.declared.run.Run.{Run}
 use Rattle.partial_text.specs.declared.outcome.Outcome.{Outcome}
 use Rattle.partial_replay.specs.Trace.{entry_of, moments_by}
-use Rattle.partial_replay.specs.CallSteps.{most_of_update}
-use Rattle.partial_replay.specs.PortState.{PortFits, PortMade, IsServed, unfinished_call}
+use Rattle.partial_replay.specs.PortState.{PortFits, PortMade, unfinished_call}
+use Rattle.partial_machine.specs.Calls.{IsServed}
 
 -- the ports from number p on, each with its calls and its part
 abbrev pub PortsFit : Opening → List Applied → ℕ → List (List Call) → List Part → List Port → Type 0

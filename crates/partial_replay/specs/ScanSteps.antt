@@ -9,7 +9,8 @@ use Rattle.partial_machine.specs.Steps.{AreOfScan, pairs_loaded}
 use Rattle.partial_text.specs.PlanText.{PlanView, IsPlan}
 use Rattle.partial_text.specs.declared.outcome.Outcome.{Outcome}
 use Rattle.partial_replay.specs.Trace.{Moment, moments_by}
-use Rattle.partial_replay.specs.CallSteps.{begun_of, IsCallOf, AreStepsOf}
+use Rattle.partial_machine.specs.Calls.{begun_of}
+use Rattle.partial_replay.specs.CallSteps.{IsCallOf, AreStepsOf}
 use Rattle.partial_replay.specs.Listed.{calls_by, steps_in}
 use Rattle.partial_replay.specs.Replayed.{IsReplayOf}
 

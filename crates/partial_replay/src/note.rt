@@ -1,16 +1,11 @@
 //! Where in the history a finished call has its place, and what it answers.
 
-ghost use Rattle.std.specs.Prelude.{◌≡◌, ◌<◌, ◌≤◌, ◌^◌, length, IfOk, IfSome, Some};
-ghost use Rattle.partial_model.specs.Notes.{indices_of};
-ghost use Rattle.partial_machine.specs.Machine.{scanned_values};
-ghost use Rattle.partial_core.specs.Lawful.{answer_for};
+ghost use Rattle.std.specs.Prelude.{◌≡◌, ◌<◌, ◌≤◌, ◌^◌, length, IfSome, Some};
 ghost use Rattle.partial_replay.specs.Place.{IsPlaceFrom, IsNoteFrom, prefix_from};
-ghost use Rattle.partial_replay.specs.PortState.{AreWithin, HasPositions, MayAnswer};
+ghost use Rattle.partial_replay.specs.PortState.{AreWithin, MayAnswer};
 
 use crate::memory::Memory;
-use partial_core::{Core, Reply};
-use partial_model::{Answer, Applied, Call, Note, Sequence};
-use std::alloc::{AllocError, Global};
+use partial_model::{Answer, Applied, Call, Note};
 
 /// The last place from `began` on whose entry has that stamp.
 fn place_of(history: &[Applied], began: usize, stamp: u64) -> Option<usize>
@@ -69,50 +64,4 @@ pub fn note_of(memory: &mut Memory, began: usize, call: &Call, answer: &Answer) 
         }
         Answer::Refused { .. } => None,
     }
-}
-
-// How many components a call names.
-fn positions_of(call: &Call) -> usize
-    ensures { result ≡ length (indices_of call.now) }
-{
-    match call {
-        Call::Scan { components } => components.len(),
-        _ => 1,
-    }
-}
-
-// The values of the last scan that was answered, of so many positions.
-fn values_of(alloc: Global, core: &Core, positions: usize) -> Result<Sequence<u64>, AllocError>
-    requires { positions ≡ length core.now.asked }
-    ensures { IfOk result (λ values. values ≡ scanned_values core.now) }
-{
-    let mut values = Vec::with_capacity(alloc, positions)?;
-    for k in 0..positions {
-        values.push(core.scanned(k))?;
-    }
-    Ok(Sequence::from(values))
-}
-
-/// The answer that a reply to the call stands for. The values of a scan are read off the machine.
-pub fn answer_of(
-    alloc: Global,
-    core: &Core,
-    call: &Call,
-    reply: Reply,
-) -> Result<Answer, AllocError>
-    requires { HasPositions core.now call.now reply }
-    ensures { IfOk result (λ answer. answer ≡ answer_for core.now reply) }
-{
-    Ok(match reply {
-        Reply::Applied { stamp } => Answer::Applied { stamp },
-        Reply::Lost { by } => Answer::Lost { by },
-        Reply::Scanned { collects, borrowed } => Answer::Scanned {
-            values: values_of(alloc, core, positions_of(call))?,
-            collects,
-            borrowed,
-        },
-        Reply::Read { value, stamp } => Answer::Read { value, stamp },
-        Reply::Refused(cause) => Answer::Refused { cause },
-        Reply::Changed { by } => Answer::Changed { by },
-    })
 }

@@ -5,14 +5,13 @@ ghost use Rattle.std.specs.Option.{option_to_list};
 ghost use Rattle.std.specs.List.{AllByRecursion};
 ghost use Rattle.partial_machine.specs.declared.stage.Stage.TheVariants.{Idle};
 ghost use Rattle.partial_machine.specs.Machine.{reply_of};
-ghost use Rattle.partial_core.specs.Lawful.{answer_for};
-ghost use Rattle.partial_replay.specs.CallSteps.{begun_of, refusal_of};
-ghost use Rattle.partial_replay.specs.PortState.{IsServed, IsExchangeWithin, AreWithin, IsDoneAtOnce, MayAnswer, call_at_once, entry_at, unfinished_call, IsEndedCall, BeginsInTurn, KeepsFit, KeepsMade, MayStep, StepMade};
+ghost use Rattle.partial_machine.specs.Calls.{answer_for, begun_of, refusal_of, IsServed};
+ghost use Rattle.partial_replay.specs.PortState.{IsExchangeWithin, AreWithin, IsDoneAtOnce, MayAnswer, call_at_once, entry_at, unfinished_call, IsEndedCall, KeepsFit, KeepsMade, MayStep, StepMade, BeginsInTurn};
 
 use crate::memory::Memory;
-use crate::note::{answer_of, note_of};
+use crate::note::note_of;
 use partial_core::{Core, Reply};
-use partial_model::{Answer, Applied, Call, Called, Finish, Note, Refused, Sequence};
+use partial_model::{Answer, Applied, Call, Called, Finish, Note};
 use partial_words::{Event, Sizes, Step, value_of};
 use std::alloc::{AllocError, Global};
 
@@ -35,52 +34,6 @@ pub struct Port {
     pub under_way: Option<UnderWay>,
 }
 
-// A copy of a call.
-fn copy_of(alloc: Global, call: &Call) -> Result<Call, AllocError>
-    ensures { IfOk result (λ copy. copy ≡ call.now) }
-{
-    Ok(match call {
-        Call::Update { component, value } => Call::Update {
-            component: *component,
-            value: *value,
-        },
-        Call::Scan { components } => Call::Scan {
-            components: Sequence::from(Vec::from_slice(alloc, components.as_slice())?),
-        },
-        Call::Read { component } => Call::Read {
-            component: *component,
-        },
-        Call::UpdateIf {
-            component,
-            expected,
-            value,
-        } => Call::UpdateIf {
-            component: *component,
-            expected: *expected,
-            value: *value,
-        },
-    })
-}
-
-// Begins the call at the port's machine.
-fn begin(core: &mut Core, call: &Call) -> Result<(), Refused>
-    requires idle { core.old.stage ≡ Idle }
-    requires served { IsServed core.old.sizes.m call.now }
-    ensures ok { OnOk result ((refusal_of core.old call.now ≡ None) × (core.new ≡ begun_of core.old call.now)) }
-    ensures err { IfErr result (λ cause. (refusal_of core.old call.now ≡ Some cause) × (core.new ≡ core.old)) }
-{
-    match call {
-        Call::Update { component, value } => core.begin_update(*component, *value),
-        Call::Scan { components } => core.begin_scan(components.as_slice()),
-        Call::Read { component } => core.begin_read(*component),
-        Call::UpdateIf {
-            component,
-            expected,
-            value,
-        } => core.begin_update_if(*component, *expected, *value),
-    }
-}
-
 // A call that was finished as it was begun.
 fn at_once(
     alloc: Global,
@@ -96,7 +49,7 @@ fn at_once(
     Ok(Called {
         port,
         number,
-        call: copy_of(alloc, call)?,
+        call: call.copy(alloc)?,
         began: seen,
         steps: 0,
         finish: Some(Finish {
@@ -123,7 +76,7 @@ fn begin_call(
         ((refusal_of core.old call.now ≡ None) × (reply_of (begun_of core.old call.now) ≡ None) × (core.new ≡ begun_of core.old call.now))
         (IsDoneAtOnce port number call.now seen core.old core.new)) }
 {
-    if let Err(cause) = begin(core, call) {
+    if let Err(cause) = core.begin(call) {
         let answer = Answer::Refused { cause };
         let called = at_once(alloc, port, number, call, seen, answer, None)?;
         return Ok(Some(called));
@@ -131,7 +84,7 @@ fn begin_call(
     let Some(reply) = core.take() else {
         return Ok(None);
     };
-    let answer = answer_of(alloc, core, call, reply)?;
+    let answer = core.answer_for(alloc, reply)?;
     let note = Some(Note::Saw(seen));
     let called = at_once(alloc, port, number, call, seen, answer, note)?;
     Ok(Some(called))
@@ -263,12 +216,12 @@ impl Port {
         ensures same { OnOk result (memory.new ≡ memory.old) }
     {
         let port = self.number;
-        let answer = answer_of(alloc, &self.core, call, reply)?;
+        let answer = self.core.answer_for(alloc, reply)?;
         let note = note_of(memory, way.began, call, &answer);
         Ok(Called {
             port,
             number: self.finished.len() as u32,
-            call: copy_of(alloc, call)?,
+            call: call.copy(alloc)?,
             began: way.began,
             steps: way.steps,
             finish: Some(Finish {
@@ -293,7 +246,7 @@ pub fn unfinished(
     Ok(Called {
         port,
         number,
-        call: copy_of(alloc, call)?,
+        call: call.copy(alloc)?,
         began: way.began,
         steps: way.steps,
         finish: None,

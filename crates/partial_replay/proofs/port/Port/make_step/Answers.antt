@@ -3,8 +3,9 @@ use Rattle.std.specs.Option.{option_to_list}
 use Rattle.std.proofs.lemmas.List.{append-nil, with_items_is}
 use Rattle.partial_model.specs.declared.history.Applied.{Applied}
 use Rattle.partial_words.specs.Step.{answer_of, words_after}
-use Rattle.partial_core.specs.Lawful.{answer_for}
-use Rattle.partial_machine.specs.Machine.{CoreState, IsPossible, at_stage}
+use Rattle.partial_machine.specs.Calls.{answer_for}
+use Rattle.partial_machine.specs.Machine.{CoreState, at_stage}
+use Rattle.partial_machine.specs.Possible.{IsPossible}
 use Rattle.partial_words.specs.declared.step.Step.{Step}
 use Rattle.partial_replay.proofs.Opens.{some_same}
 use Rattle.partial_machine.specs.declared.stage.Stage.TheVariants.{Idle}

@@ -1,0 +1,59 @@
+-- What a lawful state says of its ports: how they fit the history, what a look tells, and how many steps their calls have made.
+use Rattle.std.specs.Prelude.{ℕ, ◌≡◌, ◌+◌, ◌<◌, ◌≤◌, List, ◌∷◌, ◌++◌, length, map, take, Contains, Some, is_some, not}
+use Rattle.std.specs.List.{AllByRecursion}
+use Rattle.partial_model.specs.declared.call.Call.{Call}
+use Rattle.partial_model.specs.declared.history.Applied.{Applied}
+use Rattle.partial_model.specs.declared.history.Opening.{Opening}
+use Rattle.partial_words.specs.Layout.{Layout}
+use Rattle.partial_machine.specs.Machine.{CoreState, step_of}
+use Rattle.partial_machine.specs.Calls.{is_at_rest, call_of}
+use Rattle.partial_machine.specs.Sound.{IsSound}
+use Rattle.partial_machine.specs.Bounds.{most_steps, steps_left}
+use Rattle.partial_core.specs.Part.{Part, core_of, port_of, IsMachineOf, with_seen}
+use Rattle.partial_core.specs.Lawful.{Lawful}
+use Rattle.partial_core.specs.Steps.{Fits}
+
+-- each port fits the whole history, and each entry is by one of the ports
+pub record PortsFitHistory (o : Opening) (parts : List Part) (log : List Applied) : Type 0 where
+  pub each : AllByRecursion (Fits o log) parts
+  pub others : AllByRecursion (λ e. Contains (map port_of parts) e.port) log
+
+-- the ports of a lawful state fit its history
+abbrev pub LawfulPortsFit : Type 0
+LawfulPortsFit = (z : Layout) (o : Opening) (words : List ℕ) (parts : List Part) (log : List Applied) →
+    Lawful z o words parts log → PortsFitHistory o parts log
+
+-- what a look at the whole history leads to: the load of a component word by a port, between two of its calls or within one
+pub record Looks (z : Layout) (o : Opening) (words : List ℕ) (before : List Part) (x : Part) (after : List Part)
+    (log : List Applied) : Type 0 where
+  pub there : 0 < length words
+  pub seen : x.seen ≡ take (length x.seen) log
+  pub fits : Fits o log (with_seen log x)
+  pub lawful : Lawful z o words (before ++ with_seen log x ∷ after) log
+
+-- a look leads to a lawful state
+abbrev pub LooksStayLawful : Type 0
+LooksStayLawful = (z : Layout) (o : Opening) (words : List ℕ) (before : List Part) (x : Part) (after : List Part)
+    (log : List Applied) → Lawful z o words (before ++ x ∷ after) log → Looks z o words before x after log
+
+-- the steps of the port's last call, with those that are left of it at most, are no more than such a call may make
+abbrev pub MakesFewSteps : Layout → Part → Type 0
+MakesFewSteps z x = (c : Call) → call_of x.begun ≡ Some c → length x.kept + steps_left (core_of x) ≤ most_steps z c
+
+-- in a lawful state no call has made too many steps
+abbrev pub LawfulCallsAreBounded : Type 0
+LawfulCallsAreBounded = (z : Layout) (o : Opening) (words : List ℕ) (parts : List Part) (log : List Applied) →
+    Lawful z o words parts log → AllByRecursion (MakesFewSteps z) parts
+
+-- what a lawful state says of the machine of a port, with a call begun or where the kept answers lead
+pub record IsReady (z : Layout) (c : CoreState) (x : Part) : Type 0 where
+  pub sound : IsSound c
+  pub sizes : c.sizes ≡ z
+  pub number : c.port ≡ port_of x
+  -- a step is due unless it is at rest
+  pub due : is_some (step_of c) ≡ not (is_at_rest c.stage)
+
+-- the machines of a lawful state are ready
+abbrev pub LawfulMachinesAreReady : Type 0
+LawfulMachinesAreReady = (z : Layout) (o : Opening) (words : List ℕ) (before : List Part) (x : Part) (after : List Part)
+    (log : List Applied) (c : CoreState) → Lawful z o words (before ++ x ∷ after) log → IsMachineOf c x → IsReady z c x

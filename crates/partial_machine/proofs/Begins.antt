@@ -1,0 +1,158 @@
+-- How a call begins at a machine, and why one is refused at once.
+use Rattle.std.proofs.Common.{ℕ, zero, suc, ◌≡◌, ◌+◌, ◌<◌, ◌≤◌, ◌==◌, Bool, true, false, cond, Option, Some, None, List, [], ◌∷◌, length, get_or, refl, sym, ap, subst, ◌∙◌, arith}
+use Rattle.std.specs.Prelude.{nat_lt}
+use Rattle.std.specs.List.{AllByRecursion, list_all}
+use Rattle.std.proofs.lemmas.Bool.{false≢true, ltb-true, ltb-false, ne_eqb}
+use Rattle.partial_model.specs.declared.call.Call.{Call}
+use Rattle.partial_model.specs.declared.call.Call.TheVariants as call
+use Rattle.partial_model.specs.declared.call.Refused.{Refused}
+use Rattle.partial_model.specs.declared.call.Refused.TheVariants as refused
+use Rattle.partial_model.specs.Notes.{MayBeRefused}
+use Rattle.partial_model.proofs.Decisions.{Decides-list_all, Decides-nat_lt}
+use Rattle.partial_words.specs.Layout.{Layout}
+use Rattle.partial_machine.specs.declared.stage.Reply.TheVariants as reply
+use Rattle.partial_machine.specs.declared.stage.Stage.{Stage}
+use Rattle.partial_machine.specs.declared.stage.Stage.TheVariants.{ReadBegun, UpdateBegun, ScanBegun, Finished}
+use Rattle.partial_machine.specs.Machine.{CoreState, at_stage, reply_at}
+use Rattle.partial_machine.specs.Calls.{call_at, is_begun, begun_like, begin_scan, begun_of, refusal_of, makes_steps, IsServed}
+use Rattle.partial_machine.specs.Bounds.{most_of_update, most_steps, left_at, steps_left}
+use Rattle.partial_machine.specs.Sound.{AreComponents, IsSound, is_sound_at}
+use Rattle.partial_machine.specs.Behind.{IsBegunWith, IsOldMark, CallsBegin, RestsAreSound, CallsAreRefusedAtOnce}
+use Rattle.partial_machine.proofs.Indices.{no_index}
+use Rattle.std.proofs.lemmas.List.{length-replicate}
+
+-- the components of a list are there, or some is not
+all_below : (m : ℕ) (js : List ℕ) → list_all (λ i. nat_lt i m) js ≡ true → AllByRecursion (λ j. j < m) js
+all_below m js e = (Decides-list_all (λ i. nat_lt i m) (λ j. j < m) (λ i. Decides-nat_lt i m) js).0 e
+
+not_below : (m : ℕ) (js : List ℕ) → list_all (λ i. nat_lt i m) js ≡ false → ¬ AllByRecursion (λ j. j < m) js
+not_below m js e all = false≢true (sym e ∙ (Decides-list_all (λ i. nat_lt i m) (λ j. j < m) (λ i. Decides-nat_lt i m) js).1 all)
+
+position_below : (xs : List ℕ) (n k : ℕ) → AllByRecursion (λ j. j < n) xs → k < length xs → get_or xs k 0 < n
+position_below [] n k all within = absurd (omega arith)
+position_below (x ∷ xs) n zero all within = all.0
+position_below (x ∷ xs) n (suc k) all within = position_below xs n k all.1 (omega (arith, within))
+
+some_position : (js : List ℕ) → (length js == 0) ≡ false → 0 < length js
+some_position [] e = absurd (false≢true (sym e))
+some_position (j ∷ js) e = omega arith
+
+-- the machine with a call begun is sound
+sound_with : (s : CoreState) (js : List ℕ) (t : Stage) → AreComponents s.sizes js → is_sound_at (record s { asked = js; stage = t }) t → IsSound s → IsSound (record s { asked = js; stage = t })
+sound_with s js t asked stage w = record { asked = asked; found = w.found; indices = w.indices; distinct = w.distinct; rows = w.rows; stage = stage }
+
+-- what is known of an update that is begun, of a read, and of a scan
+begins_update : (s : CoreState) (j : ℕ) (a b : Bool) → nat_lt j s.sizes.m ≡ a → s.pool_spent ≡ b → cond a (cond b (Some refused.PoolSpent) None) (Some refused.Component) ≡ None → (j < s.sizes.m) × (s.pool_spent ≡ false)
+begins_update s j true true below spent is = let bad : Some refused.PoolSpent ≡ None = is in absurd cc
+begins_update s j true false below spent is = (ltb-true j s.sizes.m below, spent)
+begins_update s j false b below spent is = let bad : Some refused.Component ≡ None = is in absurd cc
+
+begins_read : (s : CoreState) (j : ℕ) (a : Bool) → nat_lt j s.sizes.m ≡ a → cond a None (Some refused.Component) ≡ None → j < s.sizes.m
+begins_read s j true below is = ltb-true j s.sizes.m below
+begins_read s j false below is = let bad : Some refused.Component ≡ None = is in absurd cc
+
+-- what is known of a scan of some positions
+record ScanMay (s : CoreState) (js : List ℕ) : Type 0 where
+  asked : AreComponents s.sizes js
+  may : (0 < length js) × (s.pool_spent ≡ false) × (s.slots_spent ≡ false)
+
+scan_may : (s : CoreState) (js : List ℕ) (a p q : Bool) → length js ≤ s.sizes.m → list_all (λ i. nat_lt i s.sizes.m) js ≡ a → s.pool_spent ≡ p → s.slots_spent ≡ q → 0 < length js → cond a (cond p (Some refused.PoolSpent) (cond q (Some refused.SlotsSpent) None)) (Some refused.Component) ≡ None → ScanMay s js
+scan_may s js true true q few below pool slots some is = let bad : Some refused.PoolSpent ≡ None = is in absurd cc
+scan_may s js true false true few below pool slots some is = let bad : Some refused.SlotsSpent ≡ None = is in absurd cc
+scan_may s js true false false few below pool slots some is = record { asked = record { few = few; each = λ k. position_below js s.sizes.m k (all_below s.sizes.m js below) }; may = (some, pool, slots) }
+scan_may s js false p q few below pool slots some is = let bad : Some refused.Component ≡ None = is in absurd cc
+
+begins_scan : (s : CoreState) (js : List ℕ) → length js ≤ s.sizes.m → refusal_of s (call.Scan js) ≡ None → IsBegunWith s (call.Scan js)
+begins_scan s [] few is =
+    let none : AreComponents s.sizes [] = record { few = omega arith; each = λ k below. absurd (omega (arith, below)) } in
+    record {
+      like = refl;
+      asked = none;
+      may = tt;
+      sound = sound_with s [] (Finished (reply.Scanned 0 None)) none tt;
+      few = omega arith;
+      begun = refl;
+      made = λ e. absurd (false≢true e);
+      at_once = λ e. refl;
+    }
+begins_scan s (j ∷ js) few is =
+    let none : (length (j ∷ js) == 0) ≡ false = ne_eqb (length (j ∷ js)) 0 (λ e. omega (arith, e)) in
+    let stage : cond (length (j ∷ js) == 0) (Finished (reply.Scanned 0 None)) ScanBegun ≡ ScanBegun = ap (λ (b : Bool). cond b (Finished (reply.Scanned 0 None)) ScanBegun) none in
+    let allowed : cond (list_all (λ i. nat_lt i s.sizes.m) (j ∷ js)) (cond s.pool_spent (Some refused.PoolSpent) (cond s.slots_spent (Some refused.SlotsSpent) None)) (Some refused.Component) ≡ None =
+    sym (ap (λ (b : Bool). cond (list_all (λ i. nat_lt i s.sizes.m) (j ∷ js)) (cond b None (cond s.pool_spent (Some refused.PoolSpent) (cond s.slots_spent (Some refused.SlotsSpent) None))) (Some refused.Component)) none) ∙ is in
+    let m = scan_may s (j ∷ js) (list_all (λ i. nat_lt i s.sizes.m) (j ∷ js)) s.pool_spent s.slots_spent few refl refl refl (omega arith) allowed in
+    let may : is_sound_at (begin_scan s (j ∷ js)) (begin_scan s (j ∷ js)).stage = subst (λ (u : Stage). is_sound_at (record s { asked = j ∷ js; stage = u }) u) (sym stage) m.may in
+    record {
+      like = refl;
+      asked = m.asked;
+      may = may;
+      sound = sound_with s (j ∷ js) (begin_scan s (j ∷ js)).stage m.asked may;
+      few = let left : steps_left (begin_scan s (j ∷ js)) ≡ left_at (begin_scan s (j ∷ js)) ScanBegun = ap (left_at (begin_scan s (j ∷ js))) stage in omega (arith, left);
+      begun = ap is_begun stage;
+      made = λ e. ap (call_at (begin_scan s (j ∷ js))) stage;
+      at_once = λ e. absurd (false≢true (sym e));
+    }
+
+begins_change : (s : CoreState) (j v : ℕ) (e : Option ℕ) (c : Call) → AreComponents s.sizes s.asked → (j < s.sizes.m) × (s.pool_spent ≡ false) → begun_of s c ≡ at_stage s (UpdateBegun (record { component = j; expected = e; value = v })) → call_at s (UpdateBegun (record { component = j; expected = e; value = v })) ≡ Some c → makes_steps c ≡ true → most_steps s.sizes c ≡ most_of_update s.sizes → IsBegunWith s c
+begins_change s j v e c asked may is made makes most =
+    let t : Stage = UpdateBegun (record { component = j; expected = e; value = v }) in
+    let sound = sound_with s s.asked t asked may in
+    record {
+      like = subst (λ (d : CoreState). d ≡ begun_like s d) (sym is) refl;
+      asked = subst (λ (d : CoreState). AreComponents s.sizes d.asked) (sym is) asked;
+      may = subst (λ (d : CoreState). is_sound_at d d.stage) (sym is) may;
+      sound = λ w. subst IsSound (sym is) (sound w);
+      few = let left : steps_left (begun_of s c) ≡ left_at s t = ap steps_left is in omega (arith, left, most);
+      begun = ap (λ (d : CoreState). is_begun d.stage) is ∙ sym makes;
+      made = λ _. ap (λ (d : CoreState). call_at d d.stage) is ∙ made;
+      at_once = λ f. absurd (false≢true (sym f ∙ makes));
+    }
+
+pub calls_begin : CallsBegin
+calls_begin s (call.Update j v) asked served is = begins_change s j v None (call.Update j v) asked (begins_update s j (nat_lt j s.sizes.m) s.pool_spent refl refl is) refl refl refl refl
+calls_begin s (call.Scan js) asked served is = begins_scan s js served is
+calls_begin s (call.Read j) asked served is =
+    let may = begins_read s j (nat_lt j s.sizes.m) refl is in
+    record { like = refl; asked = asked; may = may; sound = sound_with s s.asked (ReadBegun j) asked may; few = omega arith; begun = refl; made = λ e. refl; at_once = λ e. absurd (false≢true (sym e)) }
+calls_begin s (call.UpdateIf j x v) asked served is = begins_change s j v (Some x) (call.UpdateIf j x v) asked (begins_update s j (nat_lt j s.sizes.m) s.pool_spent refl refl is) refl refl refl refl
+
+pub rests_are_sound : RestsAreSound
+rests_are_sound = record {
+  fresh = λ z port.
+      let none = no_index z.m in
+      record {
+        asked = record { few = omega arith; each = none.each };
+        found = record { limit = refl; room = refl };
+        indices = record { few = omega arith; each = none.each };
+        distinct = none.distinct;
+        rows = record { last = length-replicate z.m 0; changed = length-replicate z.m false; values = length-replicate z.m 0 };
+        stage = tt;
+      };
+  idle = λ s w. record { asked = w.asked; found = w.found; indices = w.indices; distinct = w.distinct; rows = w.rows; stage = tt };
+}
+
+-- a cause with what is said of it
+abbrev IsWhy : CoreState → Call → Refused → Type 0
+IsWhy s c cause = MayBeRefused s.sizes.m c cause × IsOldMark s cause
+
+refused_update : (s : CoreState) (j : ℕ) (cause : Refused) (a b : Bool) → nat_lt j s.sizes.m ≡ a → s.pool_spent ≡ b → cond a (cond b (Some refused.PoolSpent) None) (Some refused.Component) ≡ Some cause → (c : Call) → ((k : j < s.sizes.m) → MayBeRefused s.sizes.m c refused.PoolSpent) → (s.sizes.m ≤ j → MayBeRefused s.sizes.m c refused.Component) → IsWhy s c cause
+refused_update s j cause true true below spent is c pool out = let same : refused.PoolSpent ≡ cause = cc in subst (IsWhy s c) same (pool (ltb-true j s.sizes.m below), spent)
+refused_update s j cause true false below spent is c pool out = let bad : None ≡ Some cause = is in absurd cc
+refused_update s j cause false b below spent is c pool out = let same : refused.Component ≡ cause = cc in subst (IsWhy s c) same (out (ltb-false j s.sizes.m below), tt)
+
+refused_scan : (s : CoreState) (js : List ℕ) (cause : Refused) (a b p q : Bool) → list_all (λ i. nat_lt i s.sizes.m) js ≡ a → (length js == 0) ≡ b → s.pool_spent ≡ p → s.slots_spent ≡ q → cond a (cond b None (cond p (Some refused.PoolSpent) (cond q (Some refused.SlotsSpent) None))) (Some refused.Component) ≡ Some cause → IsWhy s (call.Scan js) cause
+refused_scan s js cause true true p q below none pool slots is = let bad : None ≡ Some cause = is in absurd cc
+refused_scan s js cause true false true q below none pool slots is = let same : refused.PoolSpent ≡ cause = cc in subst (IsWhy s (call.Scan js)) same ((all_below s.sizes.m js below, some_position js none), pool)
+refused_scan s js cause true false false true below none pool slots is = let same : refused.SlotsSpent ≡ cause = cc in subst (IsWhy s (call.Scan js)) same ((all_below s.sizes.m js below, some_position js none), slots)
+refused_scan s js cause true false false false below none pool slots is = let bad : None ≡ Some cause = is in absurd cc
+refused_scan s js cause false b p q below none pool slots is = let same : refused.Component ≡ cause = cc in subst (IsWhy s (call.Scan js)) same (not_below s.sizes.m js below, tt)
+
+refused_read : (s : CoreState) (j : ℕ) (cause : Refused) (a : Bool) → nat_lt j s.sizes.m ≡ a → cond a None (Some refused.Component) ≡ Some cause → IsWhy s (call.Read j) cause
+refused_read s j cause true below is = let bad : None ≡ Some cause = is in absurd cc
+refused_read s j cause false below is = let same : refused.Component ≡ cause = cc in let out = ltb-false j s.sizes.m below in subst (IsWhy s (call.Read j)) same ((λ w. let below' = w.0 in omega (arith, out, below')), tt)
+
+pub calls_are_refused_at_once : CallsAreRefusedAtOnce
+calls_are_refused_at_once s (call.Update j v) cause is = refused_update s j cause (nat_lt j s.sizes.m) s.pool_spent refl refl is (call.Update j v) (λ below. ((below, tt), tt)) (λ out w. let below' = w.0 in omega (arith, out, below'))
+calls_are_refused_at_once s (call.Scan js) cause is = refused_scan s js cause (list_all (λ i. nat_lt i s.sizes.m) js) (length js == 0) s.pool_spent s.slots_spent refl refl refl refl is
+calls_are_refused_at_once s (call.Read j) cause is = refused_read s j cause (nat_lt j s.sizes.m) refl is
+calls_are_refused_at_once s (call.UpdateIf j x v) cause is = refused_update s j cause (nat_lt j s.sizes.m) s.pool_spent refl refl is (call.UpdateIf j x v) (λ below. ((below, tt), tt)) (λ out w. let below' = w.0 in omega (arith, out, below'))

@@ -1,0 +1,98 @@
+-- How a call is begun at a machine, why it is refused at once, and the answer that a reply stands for.
+use Rattle.std.specs.Prelude.{ℕ, ◌≤◌, ◌==◌, ⊤, Bool, true, false, List, [], length, nat_lt, Option, Some, None, if◌then◌else◌}
+use Rattle.std.specs.List.{list_all}
+use Rattle.partial_model.specs.declared.call.Call.{Call}
+use Rattle.partial_model.specs.declared.call.Call.TheVariants as call
+use Rattle.partial_model.specs.declared.call.Refused.{Refused}
+use Rattle.partial_model.specs.declared.call.Refused.TheVariants as refused
+use Rattle.partial_model.specs.declared.call.Answer.{Answer}
+use Rattle.partial_model.specs.declared.call.Answer.TheVariants as answer
+use Rattle.partial_machine.specs.declared.stage.Change.{Change}
+use Rattle.partial_machine.specs.declared.stage.Reply.{Reply}
+use Rattle.partial_machine.specs.declared.stage.Reply.TheVariants as reply
+use Rattle.partial_machine.specs.declared.stage.Stage.{Stage}
+use Rattle.partial_machine.specs.declared.stage.Stage.TheVariants.{Idle, ReadBegun, UpdateBegun, ScanBegun, Finished}
+use Rattle.partial_machine.specs.Machine.{CoreState, at_stage, scanned_values}
+
+-- why a call is refused before any step: its indices come before the marks, and a read looks at no mark
+abbrev pub read_refusal : CoreState → ℕ → Option Refused
+read_refusal s i = if nat_lt i s.sizes.m then None else Some refused.Component
+
+abbrev pub update_refusal : CoreState → ℕ → Option Refused
+update_refusal s i = if nat_lt i s.sizes.m then (if s.pool_spent then Some refused.PoolSpent else None) else Some refused.Component
+
+-- a scan of no position is never refused
+abbrev pub mark_refusal : CoreState → Option Refused
+mark_refusal s = if s.pool_spent then Some refused.PoolSpent else (if s.slots_spent then Some refused.SlotsSpent else None)
+
+abbrev pub scan_refusal : CoreState → List ℕ → Option Refused
+scan_refusal s indices = if list_all (λ i. nat_lt i s.sizes.m) indices then (if length indices == 0 then None else mark_refusal s) else Some refused.Component
+
+-- a scan is begun; one of no position is finished at once
+abbrev pub begin_scan : CoreState → List ℕ → CoreState
+begin_scan s indices = record s { asked = indices; stage = if length indices == 0 then Finished (reply.Scanned 0 None) else ScanBegun }
+
+-- why a call is refused at once
+abbrev pub refusal_of : CoreState → Call → Option Refused
+refusal_of s (call.Update j v) = update_refusal s j
+refusal_of s (call.Scan js) = scan_refusal s js
+refusal_of s (call.Read j) = read_refusal s j
+refusal_of s (call.UpdateIf j x v) = update_refusal s j
+
+-- the machine once it has begun the call
+abbrev pub begun_of : CoreState → Call → CoreState
+begun_of s (call.Update j v) = at_stage s (UpdateBegun (record { component = j; expected = None; value = v }))
+begun_of s (call.Scan js) = begin_scan s js
+begun_of s (call.Read j) = at_stage s (ReadBegun j)
+begun_of s (call.UpdateIf j x v) = at_stage s (UpdateBegun (record { component = j; expected = Some x; value = v }))
+
+-- a call that a machine serves: a scan has at most m positions
+abbrev pub IsServed : ℕ → Call → Type 0
+IsServed m (call.Scan js) = length js ≤ m
+IsServed m _ = ⊤
+
+-- whether a call makes a step where it isn't refused at once: all but a scan of no position
+abbrev pub makes_steps : Call → Bool
+makes_steps (call.Scan []) = false
+makes_steps _ = true
+
+-- a call is begun and has made no step
+abbrev pub is_begun : Stage → Bool
+is_begun (ReadBegun j) = true
+is_begun (UpdateBegun c) = true
+is_begun ScanBegun = true
+is_begun _ = false
+
+-- no step is due
+abbrev pub is_at_rest : Stage → Bool
+is_at_rest Idle = true
+is_at_rest (Finished r) = true
+is_at_rest _ = false
+
+-- the machine s with the call that c has begun
+abbrev pub begun_like : CoreState → CoreState → CoreState
+begun_like s c = record s { asked = c.asked; stage = c.stage }
+
+-- an update, conditional where a stamp is expected
+abbrev pub update_call : ℕ → Option ℕ → ℕ → Call
+update_call j None v = call.Update j v
+update_call j (Some e) v = call.UpdateIf j e v
+
+-- the call that a machine has begun
+abbrev pub call_at : CoreState → Stage → Option Call
+call_at s (ReadBegun j) = Some (call.Read j)
+call_at s (UpdateBegun c) = Some (update_call c.component c.expected c.value)
+call_at s ScanBegun = Some (call.Scan s.asked)
+call_at s _ = None
+
+abbrev pub call_of : CoreState → Option Call
+call_of s = call_at s s.stage
+
+-- the answer that a reply stands for: a scan's values are read off the machine
+abbrev pub answer_for : CoreState → Reply → Answer
+answer_for s (reply.Applied stamp) = answer.Applied stamp
+answer_for s (reply.Lost by) = answer.Lost by
+answer_for s (reply.Scanned collects borrowed) = answer.Scanned (scanned_values s) collects borrowed
+answer_for s (reply.Read v stamp) = answer.Read v stamp
+answer_for s (reply.Refused cause) = answer.Refused cause
+answer_for s (reply.Changed by) = answer.Changed by

@@ -1,0 +1,35 @@
+-- The answers that words may give to a machine's step.
+use Rattle.std.specs.Prelude.{ℕ, ◌≡◌, ◌+◌, ◌*◌, ◌≤◌, ⊤}
+use Rattle.partial_words.specs.Layout.{Layout, pool_base, pool_end, greatest_record}
+use Rattle.partial_active.specs.GetSetAnswers as finding_answers
+use Rattle.partial_embedded.specs.Embedded as viewing
+use Rattle.partial_machine.specs.declared.stage.Stage.{Stage}
+use Rattle.partial_machine.specs.declared.stage.Stage.TheVariants.{Idle, ReadBegun, LoadingValue, UpdateBegun, GettingSet, Viewing, ClaimingRecord, StoringRecord, Exchanging, ScanBegun, StoringAnnouncement, Joining, Scanning, Leaving, Finished}
+use Rattle.partial_machine.specs.Machine.{CoreState, getting, scanning}
+use Rattle.partial_machine.specs.Sound.{IsRecord}
+
+-- a counter of the pool is at its first word or behind it, and past its end by the claims of 64 ports at most
+abbrev pub IsPoolCount : Layout → ℕ → Type 0
+IsPoolCount z x = (pool_base z ≤ x) × (x ≤ pool_end z + 64 * greatest_record z)
+
+-- the answers that words may give
+abbrev pub IsPossibleAt : CoreState → Stage → ℕ → Type 0
+IsPossibleAt s Idle x = ⊥
+IsPossibleAt s (ReadBegun j) x = IsRecord s.sizes x
+IsPossibleAt s (LoadingValue stamp) x = ⊤
+IsPossibleAt s (UpdateBegun c) x = IsRecord s.sizes x
+IsPossibleAt s (GettingSet c old) x = finding_answers.IsPossible (getting s) x
+IsPossibleAt s (Viewing c old) x = viewing.IsPossible (scanning s) x
+IsPossibleAt s (ClaimingRecord c old) x = IsPoolCount s.sizes x
+IsPossibleAt s (StoringRecord c old at k) x = x ≡ 0
+IsPossibleAt s (Exchanging c old at) x = IsRecord s.sizes x
+IsPossibleAt s ScanBegun x = IsPoolCount s.sizes x
+IsPossibleAt s (StoringAnnouncement at k) x = x ≡ 0
+IsPossibleAt s Joining x = x ≤ s.sizes.slots + 64
+IsPossibleAt s Scanning x = viewing.IsPossible (scanning s) x
+IsPossibleAt s Leaving x = x ≡ 0
+IsPossibleAt s (Finished r) x = ⊥
+
+-- a step is due, and the words may give this answer to it
+abbrev pub IsPossible : CoreState → ℕ → Type 0
+IsPossible s x = IsPossibleAt s s.stage x
