@@ -8,6 +8,11 @@ pub mod TurnLaws
 pub mod TurnLengths
 pub mod PortTurns
 pub mod RunTurns
+pub mod PortRuns
+pub mod OneTrace
+pub mod OneNote
+pub mod OneList
+pub mod OneOutcome
 pub mod Opens
 pub mod Plans
 pub mod Told

@@ -135,10 +135,10 @@ next_end front n =
 events_more : (q n p : ℕ) (behind : List ℕ) → events_in q (replicate n p ++ behind) ≡ length (filter (λ r. r == q) (replicate n p)) + events_in q behind
 events_more q n p behind = ap length (filter-append (λ r. r == q) (replicate n p) behind) ∙ length-append (filter (λ r. r == q) (replicate n p)) (filter (λ r. r == q) behind)
 
-events_own : (n p : ℕ) (behind : List ℕ) → events_in p (replicate n p ++ behind) ≡ n + events_in p behind
+pub events_own : (n p : ℕ) (behind : List ℕ) → events_in p (replicate n p ++ behind) ≡ n + events_in p behind
 events_own n p behind = events_more p n p behind ∙ ap (λ (l : List ℕ). length l + events_in p behind) (own_events n p) ∙ ap (λ k. k + events_in p behind) (length-replicate n p)
 
-events_other : (q n p : ℕ) (behind : List ℕ) → q ≢ p → events_in q (replicate n p ++ behind) ≡ events_in q behind
+pub events_other : (q n p : ℕ) (behind : List ℕ) → q ≢ p → events_in q (replicate n p ++ behind) ≡ events_in q behind
 events_other q n p behind away = events_more q n p behind ∙ ap (λ (l : List ℕ). length l + events_in q behind) (other_events q n p (λ h. absurd (away h))) ∙ omega arith
 
 pub made_is : (D : ℕ → Type 0) (q : ℕ) (k : Option ℕ) (n left : ℕ) (behind : List ℕ) → left ≡ n + events_in q behind → HasTurns D q k n behind → made_in k left ≡ n

@@ -9,3 +9,4 @@ pub mod Listed
 pub mod Replayed
 pub mod Alone
 pub mod ScanSteps
+pub mod OneOutcome

@@ -2,6 +2,7 @@
 //! the contract of `replay` is stated.
 
 ghost use Rattle.partial_replay.specs.Alone.{OnePortIsAlone};
+ghost use Rattle.partial_replay.specs.OneOutcome.{PlansHaveOneOutcome};
 ghost use Rattle.partial_replay.specs.ScanSteps.{AnsweredScansMakeTheirSteps};
 
 /// In the replay of a plan with one port no update is lost, each scan and read answers the whole
@@ -17,4 +18,11 @@ pub fn one_port_is_alone()
 /// of its port in front of it, as many as it has steps.
 pub fn answered_scans_make_their_steps()
     ensures { AnsweredScansMakeTheirSteps }
+{}
+
+/// Two outcomes of one plan tell the same: one opening, one history, the same calls with their begins,
+/// steps, ends, answers and notes, the same words at the end and the same trace. So what is read off an
+/// outcome, its text and the verdict on it too, is a function of the plan.
+pub fn plans_have_one_outcome()
+    ensures { PlansHaveOneOutcome }
 {}
