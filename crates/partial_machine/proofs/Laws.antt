@@ -4,3 +4,4 @@ pub use Rattle.partial_machine.proofs.Begins.{calls_begin, rests_are_sound, call
 pub use Rattle.partial_machine.proofs.DueWords.{due_words_are_there}
 pub use Rattle.partial_machine.proofs.StepCounts.{stays_sound, makes_few_steps, reads_in_two}
 pub use Rattle.partial_machine.proofs.ScanCounts.{scans_make_their_steps}
+pub use Rattle.partial_machine.proofs.Claims.{calls_claim_once}

@@ -7,4 +7,5 @@ pub mod Submachines
 pub mod Begins
 pub mod DueWords
 pub mod Behind
+pub mod Claims
 pub mod Laws

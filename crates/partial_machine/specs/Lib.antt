@@ -5,3 +5,4 @@ pub mod Possible
 pub mod Bounds
 pub mod Steps
 pub mod Behind
+pub mod Claims

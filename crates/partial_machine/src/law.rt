@@ -2,6 +2,7 @@
 //! which the machine's own contracts are stated.
 
 ghost use Rattle.partial_machine.specs.Behind.{AnswersLeadOn, DueWordsAreThere, CallsBegin, RestsAreSound, CallsAreRefusedAtOnce};
+ghost use Rattle.partial_machine.specs.Claims.{CallsClaimOnce};
 ghost use Rattle.partial_machine.specs.Steps.{StaysSound, MakesFewSteps, ReadsInTwo, ScansMakeTheirSteps};
 
 /// Over all possible answers a machine stays sound, and each answer leaves it fewer steps to make.
@@ -54,4 +55,9 @@ pub fn due_words_are_there()
 /// A machine that has made no call is sound, and so is one whose reply was taken.
 pub fn rests_are_sound()
     ensures { RestsAreSound }
+{}
+
+/// A call makes one claim of pool words at most, and one of a slot.
+pub fn calls_claim_once()
+    ensures { CallsClaimOnce }
 {}
