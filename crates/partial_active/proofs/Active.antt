@@ -8,7 +8,7 @@ use Rattle.partial_words.specs.declared.step.Step.{Step}
 use Rattle.partial_words.specs.declared.step.Step.TheVariants.{Load, Add}
 use Rattle.partial_words.specs.Layout.{Layout, IsLayout, slot_counter, list_head, list_counter, slot_word, list_end, pool_base, pool_end}
 use Rattle.partial_words.specs.Record.{StandsAt}
-use Rattle.partial_words.specs.Announcement.{announcement_block}
+use Rattle.partial_words.specs.Announcement.{announcement_block, announcement_size}
 use Rattle.partial_words.specs.VacatedList.{list_block}
 use Rattle.partial_words.specs.Step.{answer_of, words_after}
 use Rattle.partial_words.specs.declared.step.Event.{Event}
@@ -353,8 +353,8 @@ module _ (p : Pair) (layout : IsLayout p.0.sizes) (first : List ℕ) (past : Pas
       )
 
   -- the announcement in the slot is whole, and it is the one that stood there at the first moment if one did
-  loaded_facts : (slot at : ℕ) (named : List ℕ) → AtSome (IsLoaded p.0.sizes slot at named) past → (pool_base p.0.sizes ≤ at) × (at + 1 + length named ≤ pool_end p.0.sizes) × (length named ≤ p.0.sizes.m) × ((k : ℕ) → k < length named → slice_index named k < p.0.sizes.m)
-  loaded_facts slot at named was = some_gives (IsLoaded p.0.sizes slot at named) ((pool_base p.0.sizes ≤ at) × (at + 1 + length named ≤ pool_end p.0.sizes) × (length named ≤ p.0.sizes.m) × ((k : ℕ) → k < length named → slice_index named k < p.0.sizes.m)) past
+  loaded_facts : (slot at : ℕ) (named : List ℕ) → AtSome (IsLoaded p.0.sizes slot at named) past → (pool_base p.0.sizes ≤ at) × (at + announcement_size (length named) ≤ pool_end p.0.sizes) × (length named ≤ p.0.sizes.m) × ((k : ℕ) → k < length named → slice_index named k < p.0.sizes.m)
+  loaded_facts slot at named was = some_gives (IsLoaded p.0.sizes slot at named) ((pool_base p.0.sizes ≤ at) × (at + announcement_size (length named) ≤ pool_end p.0.sizes) × (length named ≤ p.0.sizes.m) × ((k : ℕ) → k < length named → slice_index named k < p.0.sizes.m)) past
       (λ w h. (h.1.from, h.1.to, h.1.count, h.1.each)) was
 
   done_at : (slot at : ℕ) (named : List ℕ) (indices : List ℕ) → common_of p.0.sizes first past p → AtSome (IsLoaded p.0.sizes slot at named) past → ((k : ℕ) → k < length named → has_index indices (slice_index named k) ≡ true) → CompleteAt p.0.sizes first (now ∷ past) indices slot

@@ -128,7 +128,7 @@ module _ (p : Pair) (layout : IsLayout p.0.sizes) (sizes : IsFor p.0.sizes p.1) 
               some = omega (arith, eqb-false x 0 e);
               room = omega (arith, none, possible.1);
             },
-            possible.0,
+            omega (arith, possible.0),
           );
         };
         fewer = omega (arith, possible.0);
@@ -222,7 +222,7 @@ module _ (p : Pair) (layout : IsLayout p.0.sizes) (sizes : IsFor p.0.sizes p.1) 
   keeps_len slot at x goes possible = cond_both (eqb x 0) (come_to p (slot + 1)) (in_stage p (Index slot (at + 1) x)) (λ q. Keeps q (left_at p.0.sizes (Len slot at)))
       (λ e. keeps_next slot (left_at p.0.sizes (Len slot at)) (walk_next p slot goes.0) (omega arith))
       (λ e. record {
-        together = record { sizes = sizes; stage = (at_in_stage slot (Index slot (at + 1) x) goes.0, omega (arith, eqb-false x 0 e), possible.1, possible.0) };
+        together = record { sizes = sizes; stage = (at_in_stage slot (Index slot (at + 1) x) goes.0, omega (arith, eqb-false x 0 e), possible.1, omega (arith, possible.0)) };
         fewer = omega (arith, possible.1);
       })
 

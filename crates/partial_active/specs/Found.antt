@@ -30,7 +30,8 @@ touches list lo = nat_lt 0 (length list) && (highest list (last_place list) + 1 
 
 -- the list with the numbers from lo to hi behind it: the last interval grows where they touch it
 abbrev pub extended : Ranges → ℕ → ℕ → Ranges
-extended list lo hi = if touches list lo then slice_set list (last_place list) (lowest list (last_place list), hi) else list ++ (lo, hi) ∷ []
+extended list lo hi =
+    if touches list lo then slice_set list (last_place list) (lowest list (last_place list), hi) else list ++ (lo, hi) ∷ []
 
 -- the numbers from lo to hi lie behind the list
 pub record IsBehind (list : Ranges) (lo hi : ℕ) : Type 0 where

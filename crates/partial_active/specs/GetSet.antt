@@ -1,11 +1,11 @@
 -- A getSet: it reads the list of vacated slots, walks the other slots for announcements, and publishes
 -- the list with the slots that it found vacated.
 use Rattle.std.specs.Prelude.{ℕ, ◌+◌, ◌-◌, ◌*◌, ◌==◌, Bool, true, false, not, ◌&&◌, Option, Some, None, nat_lt, min, [], ◌∷◌, ◌++◌, length, slice_index, if◌then◌else◌}
-use Rattle.partial_intervals.specs.Intervals.{lowest, highest}
+use Rattle.partial_intervals.specs.Intervals.{Ranges, lowest, highest}
 use Rattle.partial_words.specs.declared.step.Step.{Step}
 use Rattle.partial_words.specs.declared.step.Step.TheVariants.{Load, Store, Exchange, Add}
-use Rattle.partial_words.specs.Layout.{Layout, slot_counter, list_head, list_counter, slot_word, list_end}
-use Rattle.partial_words.specs.VacatedList.{list_block}
+use Rattle.partial_words.specs.Layout.{Layout, slot_counter, list_head, list_counter, slot_word, list_end, greatest_list}
+use Rattle.partial_words.specs.VacatedList.{list_block, list_size}
 use Rattle.partial_active.specs.declared.get_set.Stage.{Stage}
 use Rattle.partial_active.specs.declared.get_set.Stage.TheVariants.{Head, ListLen, ListLow, ListHigh, Counter, Slot, Len, Index, Claim, Write, Publish, Done}
 use Rattle.partial_active.specs.IndexSet.{with_index}
@@ -47,7 +47,7 @@ Pair = GetSetState × Buffers
 
 -- how many words the block of the next list has
 abbrev pub next_words : Buffers → ℕ
-next_words f = 1 + 2 * length f.next
+next_words f = list_size (length f.next)
 
 -- the step that is due
 abbrev pub step_at : Layout → ℕ → Stage → Option Step
@@ -77,7 +77,9 @@ at_slot p slot = if nat_lt slot p.0.end then (record p.0 { stage = Slot slot }, 
 
 -- the interval of the list read that begins at the slot goes into the next list
 abbrev pub pass_interval : Pair → Pair
-pass_interval p = (record p.0 { passed = p.0.passed + 1 }, record p.1 { next = extended p.1.next (lowest p.1.read p.0.passed) (highest p.1.read p.0.passed) })
+pass_interval p =
+    let next : Ranges = extended p.1.next (lowest p.1.read p.0.passed) (highest p.1.read p.0.passed) in
+    (record p.0 { passed = p.0.passed + 1 }, record p.1 { next = next })
 
 -- the walk comes to a slot, and leaves out an interval of the list read that begins there
 abbrev pub come_to : Pair → ℕ → Pair
@@ -109,23 +111,30 @@ after_len p slot at x = if x == 0 then come_to p (slot + 1) else in_stage p (Ind
 
 -- one more interval of the list was read
 abbrev pub after_interval : Pair → ℕ → ℕ → ℕ → ℕ → Pair
-after_interval p at left lo x = (record p.0 { stage = if left == 1 then Counter else ListLow (at + 1) (left - 1) }, record p.1 { read = p.1.read ++ (lo, x) ∷ [] })
+after_interval p at left lo x =
+    (record p.0 { stage = if left == 1 then Counter else ListLow (at + 1) (left - 1) }, record p.1 { read = p.1.read ++ (lo, x) ∷ [] })
 
 -- one more index of the announcement was read
 abbrev pub after_index : Pair → ℕ → ℕ → ℕ → ℕ → Pair
-after_index p slot at left x = let q : Pair = (p.0, record p.1 { indices = with_index p.1.indices x }) in if left == 1 then come_to q (slot + 1) else in_stage q (Index slot (at + 1) (left - 1))
+after_index p slot at left x =
+    let q : Pair = (p.0, record p.1 { indices = with_index p.1.indices x }) in
+    if left == 1 then come_to q (slot + 1) else in_stage q (Index slot (at + 1) (left - 1))
 
 -- a slot was loaded: EMPTY is skipped, VACATED is noted, and else there is an announcement
 abbrev pub after_slot : Pair → ℕ → ℕ → Pair
-after_slot p slot x = if x == 0 then come_to p (slot + 1) else (if x == 1 then come_to (note_slot p slot) (slot + 1) else in_stage p (Len slot x))
+after_slot p slot x =
+    if x == 0 then come_to p (slot + 1) else (if x == 1 then come_to (note_slot p slot) (slot + 1) else in_stage p (Len slot x))
 
 -- the claim of list words: past the end it marks the port and nothing more is done
 abbrev pub after_claim : Pair → ℕ → ℕ → Pair
-after_claim p words x = if nat_lt (list_end p.0.sizes) (x + words) then (record p.0 { lists_spent = true; stage = Done }, p.1) else in_stage p (Write x 0 words (length p.1.next))
+after_claim p words x =
+    if nat_lt (list_end p.0.sizes) (x + words) then (record p.0 { lists_spent = true; stage = Done }, p.1)
+    else in_stage p (Write x 0 words (length p.1.next))
 
 -- one more word of the next list was written
 abbrev pub after_write : Pair → ℕ → ℕ → ℕ → Pair
-after_write p at k words = in_stage p (if k + 1 == words then Publish at else Write at (k + 1) words (slice_index (list_block p.1.next) (k + 1)))
+after_write p at k words =
+    in_stage p (if k + 1 == words then Publish at else Write at (k + 1) words (slice_index (list_block p.1.next) (k + 1)))
 
 -- what an answer makes of the machine and its buffers
 abbrev pub advance_at : Stage → Pair → ℕ → Pair
@@ -151,7 +160,7 @@ most_steps s = s.slots * (s.m + 3) + s.lists + 6
 
 -- the steps that are left at most to publish a list
 abbrev pub publish_left : Layout → ℕ
-publish_left s = s.slots + 4
+publish_left s = greatest_list s + 2
 
 -- the steps that are left at most once the slots are walked from that one on
 abbrev pub walk_left : Layout → ℕ → ℕ

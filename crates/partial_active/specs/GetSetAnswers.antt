@@ -1,8 +1,9 @@
 -- Which answers a getSet may be given, and how its machine and its buffers go together.
 use Rattle.std.specs.Prelude.{ℕ, ◌≡◌, ◌+◌, ◌*◌, ◌<◌, ◌≤◌, ◌⊎◌, [], length, slice_index}
 use Rattle.partial_intervals.specs.Intervals.{Ranges, lowest, highest, IsNormal}
-use Rattle.partial_words.specs.Layout.{Layout, list_base, list_end, pool_base, pool_end}
-use Rattle.partial_words.specs.VacatedList.{list_block}
+use Rattle.partial_words.specs.Layout.{Layout, list_base, list_end, pool_base, pool_end, greatest_list}
+use Rattle.partial_words.specs.Announcement.{announcement_size}
+use Rattle.partial_words.specs.VacatedList.{list_block, list_size}
 use Rattle.partial_active.specs.declared.get_set.Stage.{Stage}
 use Rattle.partial_active.specs.declared.get_set.Stage.TheVariants.{Head, ListLen, ListLow, ListHigh, Counter, Slot, Len, Index, Claim, Write, Publish, Done}
 use Rattle.partial_active.specs.Found.{IsFor}
@@ -22,7 +23,7 @@ IsSlotWord s x = (x ≡ 0) ⊎ ((x ≡ 1) ⊎ ((pool_base s ≤ x) × (x < pool_
 
 -- the number of intervals of a list whose words begin at the reference
 abbrev pub IsListLen : Layout → ℕ → ℕ → Type 0
-IsListLen s at x = (at + 1 + 2 * x ≤ list_end s) × (2 * x ≤ s.slots + 1)
+IsListLen s at x = (at + list_size x ≤ list_end s) × (2 * x ≤ s.slots + 1)
 
 -- the next interval begins beyond those that were read, below the slots
 abbrev pub IsNextLow : Layout → Ranges → ℕ → Type 0
@@ -30,11 +31,11 @@ IsNextLow s read x = (x < s.slots) × ((k : ℕ) → k < length read → highest
 
 -- the number of indices of an announcement whose words begin at the reference
 abbrev pub IsAnnouncedLen : Layout → ℕ → ℕ → Type 0
-IsAnnouncedLen s at x = (at + 1 + x ≤ pool_end s) × (x ≤ s.m)
+IsAnnouncedLen s at x = (at + announcement_size x ≤ pool_end s) × (x ≤ s.m)
 
 -- a claim of list words: the counter is not below them, and does not wrap
 abbrev pub IsListClaim : Layout → ℕ → Type 0
-IsListClaim s x = (list_base s ≤ x) × (x ≤ list_end s + 64 * (s.slots + 2))
+IsListClaim s x = (list_base s ≤ x) × (x ≤ list_end s + 64 * greatest_list s)
 
 -- the number may answer the step that is due
 abbrev pub is_possible_at : Stage → Pair → ℕ → Type 0
@@ -101,7 +102,8 @@ goes_at (Slot slot) p = IsAtSlot p slot
 goes_at (Len slot at) p = IsAtSlot p slot × (pool_base p.0.sizes ≤ at) × (at < pool_end p.0.sizes)
 goes_at (Index slot at left) p = IsAtSlot p slot × (0 < left) × (left ≤ p.0.sizes.m) × (at + left ≤ pool_end p.0.sizes)
 goes_at (Claim words) p = HasNext p words
-goes_at (Write at k words word) p = HasNext p words × (k < words) × (at + words ≤ list_end p.0.sizes) × (word ≡ slice_index (list_block p.1.next) k)
+goes_at (Write at k words word) p =
+    HasNext p words × (k < words) × (at + words ≤ list_end p.0.sizes) × (word ≡ slice_index (list_block p.1.next) k)
 goes_at (Publish at) p = IsNormal p.1.next × EndsBelow p.1.next p.0.sizes.slots
 goes_at Done p = Unit {0}
 

@@ -4,10 +4,10 @@ use Rattle.std.specs.Prelude.{ℕ, ◌≡◌, ◌+◌, ◌*◌, ◌<◌, ◌≤�
 use Rattle.partial_intervals.specs.Intervals.{Ranges, Holds, IsNormal}
 use Rattle.partial_words.specs.declared.step.Step.{Step}
 use Rattle.partial_words.specs.declared.step.Event.{Event}
-use Rattle.partial_words.specs.Layout.{Layout, slot_counter, list_head, list_counter, slot_word, list_base, list_end, pool_base, pool_end}
+use Rattle.partial_words.specs.Layout.{Layout, slot_counter, list_head, list_counter, slot_word, list_base, list_end, pool_base, pool_end, greatest_list}
 use Rattle.partial_words.specs.Record.{StandsAt}
-use Rattle.partial_words.specs.Announcement.{announcement_block}
-use Rattle.partial_words.specs.VacatedList.{list_block}
+use Rattle.partial_words.specs.Announcement.{announcement_block, announcement_size}
+use Rattle.partial_words.specs.VacatedList.{list_block, list_size}
 use Rattle.partial_words.specs.Step.{answer_of, words_after}
 use Rattle.partial_active.specs.IndexSet.{has_index}
 use Rattle.partial_active.specs.declared.get_set.Stage.TheVariants.{Slot, Claim, Write, Publish}
@@ -23,7 +23,7 @@ head_at s words = slice_index words (list_head s)
 -- a whole announcement of these indices stands at the word
 pub record IsAnnouncement (s : Layout) (words : List ℕ) (at : ℕ) (named : List ℕ) : Type 0 where
   pub from : pool_base s ≤ at
-  pub to : at + 1 + length named ≤ pool_end s
+  pub to : at + announcement_size (length named) ≤ pool_end s
   pub count : length named ≤ s.m
   pub each : (k : ℕ) → k < length named → slice_index named k < s.m
   pub stands : StandsAt words at (announcement_block named)
@@ -31,7 +31,7 @@ pub record IsAnnouncement (s : Layout) (words : List ℕ) (at : ℕ) (named : Li
 -- a whole list of these slots stands at the word, and all of them are VACATED
 pub record IsVacatedList (s : Layout) (words : List ℕ) (at : ℕ) (list : Ranges) : Type 0 where
   pub from : list_base s ≤ at
-  pub to : at + 1 + 2 * length list ≤ list_end s
+  pub to : at + list_size (length list) ≤ list_end s
   pub normal : IsNormal list
   pub stands : StandsAt words at (list_block list)
   pub within : (x : ℕ) → Holds list x → x < s.slots
@@ -51,13 +51,15 @@ pub record Orderly (s : Layout) (words : List ℕ) : Type 0 where
   pub unclaimed : (slot : ℕ) → slice_index words (slot_counter s) ≤ slot → slot < s.slots → slot_at s words slot ≡ 0
   pub head : IsHeadOf s words (head_at s words)
   pub lists_from : list_base s ≤ slice_index words (list_counter s)
-  pub lists_to : slice_index words (list_counter s) ≤ list_end s + 64 * (s.slots + 2)
+  pub lists_to : slice_index words (list_counter s) ≤ list_end s + 64 * greatest_list s
 
 -- later words come from earlier ones: a slot goes from EMPTY to an announcement and from that to
 -- VACATED, and a block that was published never changes
 pub record ComesFrom (s : Layout) (earlier later : List ℕ) : Type 0 where
-  pub slots : (slot : ℕ) → slot < s.slots → (slot_at s later slot ≡ slot_at s earlier slot) ⊎ ((slot_at s earlier slot ≡ 0) ⊎ (slot_at s later slot ≡ 1))
-  pub announcements : (slot : ℕ) (named : List ℕ) → slot < s.slots → IsAnnouncement s earlier (slot_at s earlier slot) named → StandsAt later (slot_at s earlier slot) (announcement_block named)
+  pub slots : (slot : ℕ) → slot < s.slots →
+      (slot_at s later slot ≡ slot_at s earlier slot) ⊎ ((slot_at s earlier slot ≡ 0) ⊎ (slot_at s later slot ≡ 1))
+  pub announcements : (slot : ℕ) (named : List ℕ) → slot < s.slots → IsAnnouncement s earlier (slot_at s earlier slot) named →
+      StandsAt later (slot_at s earlier slot) (announcement_block named)
   pub lists : (list : Ranges) → IsVacatedList s earlier (head_at s earlier) list → StandsAt later (head_at s earlier) (list_block list)
 
 -- what holds at each of the moments, and at some of them
@@ -72,7 +74,8 @@ AtSome P (words ∷ more) = P words ⊎ AtSome P more
 -- the words of each moment are orderly, and come from those of every earlier one
 abbrev pub IsOrderlyRun : Layout → List (List ℕ) → List (List ℕ) → Type 0
 IsOrderlyRun s past [] = Unit {0}
-IsOrderlyRun s past (words ∷ more) = Orderly s words × OnEach (λ earlier. ComesFrom s earlier words) past × IsOrderlyRun s (words ∷ past) more
+IsOrderlyRun s past (words ∷ more) =
+    Orderly s words × OnEach (λ earlier. ComesFrom s earlier words) past × IsOrderlyRun s (words ∷ past) more
 
 -- the machine's steps, each answered from the words of its moment, lead it from p to q
 abbrev pub LeadsTo : Pair → List (List ℕ) → Pair → Type 0
@@ -86,7 +89,8 @@ all_moments words (e ∷ es) = words ∷ all_moments (words_after words e.step) 
 
 abbrev pub own_moments : ℕ → List ℕ → List Event → List (List ℕ)
 own_moments own words [] = []
-own_moments own words (e ∷ es) = if e.port == own then words ∷ own_moments own (words_after words e.step) es else own_moments own (words_after words e.step) es
+own_moments own words (e ∷ es) =
+    if e.port == own then words ∷ own_moments own (words_after words e.step) es else own_moments own (words_after words e.step) es
 
 -- the events of the port are the machine's steps, and they lead it from p to q
 abbrev pub MakesOwn : ℕ → Pair → List ℕ → List Event → Pair → Type 0
@@ -108,7 +112,9 @@ pub record Names (s : Layout) (index : ℕ) (words : List ℕ) : Type 0 where
 -- the indices of an active set over these moments: those of each announcement that stood in its slot at
 -- all of them, and none but those of announcements that stood in a slot at some of them
 pub record IsActiveSet (s : Layout) (first : List ℕ) (moments : List (List ℕ)) (indices : List ℕ) : Type 0 where
-  pub complete : (slot : ℕ) (named : List ℕ) → slot < s.slots → IsAnnouncement s first (slot_at s first slot) named → OnEach (λ words. slot_at s words slot ≡ slot_at s first slot) moments → (k : ℕ) → k < length named → has_index indices (slice_index named k) ≡ true
+  pub complete : (slot : ℕ) (named : List ℕ) → slot < s.slots → IsAnnouncement s first (slot_at s first slot) named →
+      OnEach (λ words. slot_at s words slot ≡ slot_at s first slot) moments → (k : ℕ) → k < length named →
+      has_index indices (slice_index named k) ≡ true
   pub sound : (j : ℕ) → has_index indices j ≡ true → AtSome (Names s j) moments
 
 -- the same for the moments of the steps, the first of which begins the getSet
@@ -127,10 +133,12 @@ pub record KeepsLists (s : Layout) (moments : List (List ℕ)) (q : Pair) : Type
   -- a slot of the list that it read is not loaded
   pub loads_none : (slot : ℕ) → q.0.stage ≡ Slot slot → Holds q.1.read slot → ⊥
   -- what it stores are the words of the block of a list that was vacated, one after another
-  pub writes : (at k words word : ℕ) → q.0.stage ≡ Write at k words word → WasVacated s moments q.1.next × (word ≡ slice_index (list_block q.1.next) k) × (at + length (list_block q.1.next) ≤ list_end s)
+  pub writes : (at k words word : ℕ) → q.0.stage ≡ Write at k words word →
+      WasVacated s moments q.1.next × (word ≡ slice_index (list_block q.1.next) k) × (at + length (list_block q.1.next) ≤ list_end s)
   -- what it publishes was vacated
   pub publishes : (at : ℕ) → q.0.stage ≡ Publish at → WasVacated s moments q.1.next
   -- the answer of the exchange of the list head changes nothing
   pub exchange : (at x y : ℕ) → q.0.stage ≡ Publish at → advance q x ≡ advance q y
   -- a claim past the list words ends the getSet, with all that it found
-  pub refused : (words x : ℕ) → q.0.stage ≡ Claim words → list_end q.0.sizes < x + words → (step_of (advance q x).0 ≡ None) × ((advance q x).1 ≡ q.1)
+  pub refused : (words x : ℕ) → q.0.stage ≡ Claim words → list_end q.0.sizes < x + words →
+      (step_of (advance q x).0 ≡ None) × ((advance q x).1 ≡ q.1)

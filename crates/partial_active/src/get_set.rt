@@ -11,7 +11,7 @@ ghost use Rattle.partial_active.specs.GetSetAnswers.{IsPossible};
 ghost use Rattle.partial_active.specs.Orderly.{IsOrderlyRun, LeadsTo, MakesOwn, all_moments, own_moments, FindsActiveSet, KeepsLists};
 
 use crate::found::Found;
-use partial_words::{Sizes, Step};
+use partial_words::{Sizes, Step, list_size};
 use std::marker::Model;
 
 /// Where a getSet is: the step that is due, and what it needs for it.
@@ -150,7 +150,8 @@ impl GetSet {
     pub fn lists_spent(&self) -> bool
         ensures { result ≡ self.now.lists_spent }
     {
-        self.lists_spent
+        let GetSet { lists_spent, .. } = self;
+        *lists_spent
     }
 
     /// Takes the answer of the step that was due, with the buffers of this getSet. The first answer
@@ -359,7 +360,7 @@ impl GetSet {
     {
         self.stage = if self.noted && !self.lists_spent {
             Stage::Claim {
-                words: 1 + 2 * found.next_len() as u32,
+                words: list_size(found.next_len() as u64) as u32,
             }
         } else {
             Stage::Done
@@ -429,7 +430,7 @@ impl GetSet {
             Stage::Head => x == 0 || self.is_list_word(x),
             Stage::ListLen { at } => {
                 x <= u64::from(self.sizes.slots())
-                    && u64::from(at) + 1 + 2 * x <= u64::from(self.sizes.list_end())
+                    && u64::from(at) + list_size(x) <= u64::from(self.sizes.list_end())
                     && 2 * x <= u64::from(self.sizes.slots()) + 1
             }
             Stage::ListLow { .. } => {
@@ -442,7 +443,8 @@ impl GetSet {
             Stage::Slot { .. } => x <= 1 || self.is_pool_word(x),
             Stage::Len { at, .. } => {
                 x <= u64::from(self.sizes.m())
-                    && u64::from(at) + 1 + x <= u64::from(self.sizes.pool_end())
+                    && u64::from(at) + partial_words::announcement_size(x)
+                        <= u64::from(self.sizes.pool_end())
             }
             Stage::Index { .. } => x < u64::from(self.sizes.m()),
             Stage::Claim { .. } => {

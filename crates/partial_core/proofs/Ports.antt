@@ -18,7 +18,7 @@ use Rattle.partial_machine.specs.Bounds.{most_steps, steps_left}
 use Rattle.partial_machine.specs.Steps.{Run}
 use Rattle.partial_machine.proofs.StepCounts.{makes_few_steps}
 use Rattle.partial_state.specs.Holdings.{Holding, HaveOtherPorts}
-use Rattle.partial_state.specs.LawfulWords.{LawfulWords}
+use Rattle.partial_state.specs.LawfulWords.{LawfulWords, IsEntry}
 use Rattle.partial_state.specs.Loads.{Kept}
 use Rattle.partial_state.proofs.ListLemmas.{all_unmap, all_before, all_after, all_weaker, two_before, two_after}
 use Rattle.partial_core.specs.Part.{Part, led_by, core_of, port_of, answers_of, with_seen}
@@ -26,7 +26,7 @@ use Rattle.partial_core.specs.Held.{holding_of, holdings}
 use Rattle.partial_core.specs.Known.{AreKept, IsKnown, notes_by}
 use Rattle.partial_core.specs.Lawful.{Lawful}
 use Rattle.partial_core.specs.Steps.{Fits}
-use Rattle.partial_core.specs.Ports.{PortsFitHistory, LawfulPortsFit, LooksStayLawful, MakesFewSteps, LawfulCallsAreBounded}
+use Rattle.partial_core.specs.Ports.{PortsFitHistory, LawfulPortsFit, LawfulRecordsAreWithin, LooksStayLawful, MakesFewSteps, LawfulCallsAreBounded}
 use Rattle.partial_core.proofs.Calls.{led}
 use Rattle.partial_core.proofs.Parts.{seen_within, legal_on, all_at, all_changed, holdings_split, once_same, once_own}
 use Rattle.partial_core.proofs.Steps.{known_here, memory_here, port_here}
@@ -107,6 +107,7 @@ entries_by P k (e ∷ log) each = (first (each e.port), entries_by P (k + 1) log
 pub lawful_ports_fit : LawfulPortsFit
 lawful_ports_fit z o words parts log w = record {
   each = each_fits z o words [] parts log w;
+  sizes = all_weaker (IsKnown z o words (holdings parts) log) (λ x. (core_of x).sizes ≡ z) (λ x k. (led z o words (holdings parts) log x.since x.begun x.kept w.memory.sizes k.sizes k.sound k.kept).sizes) parts w.known;
   others = entries_by (Contains (map port_of parts)) 0 log (λ p. either p (is_part p parts));
 }
   where
@@ -150,6 +151,21 @@ looks_stay_lawful z o words before x after log w =
       seen = k.seen;
       fits = fits_here z o words before y after log lawful;
       lawful = lawful;
+    }
+
+pub lawful_records_are_within : LawfulRecordsAreWithin
+lawful_records_are_within z o words parts log w =
+    let values = w.memory.values in
+    let count = w.memory.count in
+    let stamps = w.memory.stamps in
+    let pool = w.memory.sizes.pool.0 in
+    record {
+      sizes = w.memory.sizes;
+      values = values;
+      history = w.memory.history;
+      agrees = w.memory.agrees;
+      initial = λ j below. omega (arith, below, count, stamps, pool);
+      entries = all_weaker (IsEntry z words) (λ (e : Applied). (z.m ≤ e.stamp) × (e.stamp + 2 < length words)) (λ e entry. let above = entry.above in let within = entry.within in (omega (arith, above), omega (arith, within, count))) log w.memory.entries;
     }
 
 -- the answers that are kept lead to the part's machine

@@ -8,7 +8,7 @@ use Rattle.partial_machine.specs.declared.stage.Stage.TheVariants.{Idle, ReadBeg
 use Rattle.partial_machine.specs.Machine.{CoreState, advance, fresh}
 use Rattle.partial_machine.specs.Calls.{is_begun, is_at_rest, begun_like}
 use Rattle.partial_machine.specs.Sound.{AreComponents, is_sound_at}
-use Rattle.partial_state.specs.Loads.{Kept}
+pub use Rattle.partial_state.specs.Loads.{Kept}
 
 -- A port's part of the state. `since` and `past` tell of the time at which its last call that made a step began.
 pub record Part : Type 0 where

@@ -4,7 +4,10 @@ use Rattle.std.specs.List.{AllByRecursion}
 use Rattle.partial_model.specs.declared.call.Call.{Call}
 use Rattle.partial_model.specs.declared.history.Applied.{Applied}
 use Rattle.partial_model.specs.declared.history.Opening.{Opening}
-use Rattle.partial_words.specs.Layout.{Layout}
+use Rattle.partial_model.specs.History.{IsHistory, initial_stamp}
+use Rattle.partial_words.specs.Layout.{Layout, IsLayout}
+use Rattle.partial_words.specs.Record.{view_word}
+use Rattle.partial_words.specs.Chain.{Agrees}
 use Rattle.partial_machine.specs.Machine.{CoreState, step_of}
 use Rattle.partial_machine.specs.Calls.{is_at_rest, call_of}
 use Rattle.partial_machine.specs.Sound.{IsSound}
@@ -13,15 +16,30 @@ use Rattle.partial_core.specs.Part.{Part, core_of, port_of, IsMachineOf, with_se
 use Rattle.partial_core.specs.Lawful.{Lawful}
 use Rattle.partial_core.specs.Steps.{Fits}
 
--- each port fits the whole history, and each entry is by one of the ports
-pub record PortsFitHistory (o : Opening) (parts : List Part) (log : List Applied) : Type 0 where
+-- each port fits the whole history, with a machine of the memory's sizes, and each entry is by one of the ports
+pub record PortsFitHistory (z : Layout) (o : Opening) (parts : List Part) (log : List Applied) : Type 0 where
   pub each : AllByRecursion (Fits o log) parts
+  pub sizes : AllByRecursion (λ x. (core_of x).sizes ≡ z) parts
   pub others : AllByRecursion (λ e. Contains (map port_of parts) e.port) log
 
 -- the ports of a lawful state fit its history
 abbrev pub LawfulPortsFit : Type 0
 LawfulPortsFit = (z : Layout) (o : Opening) (words : List ℕ) (parts : List Part) (log : List Applied) →
-    Lawful z o words parts log → PortsFitHistory o parts log
+    Lawful z o words parts log → PortsFitHistory z o parts log
+
+-- the words agree with the history, and each record lies within them, behind the component words
+pub record RecordsAreWithin (z : Layout) (o : Opening) (words : List ℕ) (log : List Applied) : Type 0 where
+  pub sizes : IsLayout z
+  pub values : length o.values ≡ z.m
+  pub history : IsHistory o log
+  pub agrees : Agrees o words log
+  pub initial : (j : ℕ) → j < z.m → view_word (initial_stamp o j) < length words
+  pub entries : AllByRecursion (λ e. (z.m ≤ e.stamp) × (view_word e.stamp < length words)) log
+
+-- the records of a lawful state are within its words
+abbrev pub LawfulRecordsAreWithin : Type 0
+LawfulRecordsAreWithin = (z : Layout) (o : Opening) (words : List ℕ) (parts : List Part) (log : List Applied) →
+    Lawful z o words parts log → RecordsAreWithin z o words log
 
 -- what a look at the whole history leads to: the load of a component word by a port, between two of its calls or within one
 pub record Looks (z : Layout) (o : Opening) (words : List ℕ) (before : List Part) (x : Part) (after : List Part)

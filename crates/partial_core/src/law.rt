@@ -3,7 +3,7 @@
 
 ghost use Rattle.partial_core.specs.Lawful.{OpensLawful};
 ghost use Rattle.partial_core.specs.Steps.{StepsStayLawful};
-ghost use Rattle.partial_core.specs.Ports.{LawfulPortsFit, LooksStayLawful, LawfulCallsAreBounded, LawfulMachinesAreReady};
+ghost use Rattle.partial_core.specs.Ports.{LawfulPortsFit, LawfulRecordsAreWithin, LooksStayLawful, LawfulCallsAreBounded, LawfulMachinesAreReady};
 ghost use Rattle.partial_core.specs.Calls.{FirstStepsMakeCalls, FurtherStepsMakeCalls, MadeCallsMakeTheirSteps, CallsBeginBetween, PortsComeBetween};
 ghost use Rattle.partial_core.specs.Orderly.{LawfulIsOrderly, StepsAreOrderly};
 
@@ -24,6 +24,11 @@ pub fn steps_stay_lawful()
 /// each once and in their order, and each entry is by one of the ports.
 pub fn lawful_ports_fit()
     ensures { LawfulPortsFit }
+{}
+
+/// In a lawful state the words agree with the history, and each record lies within them.
+pub fn lawful_records_are_within()
+    ensures { LawfulRecordsAreWithin }
 {}
 
 /// In a lawful state the machine of each port is sound, and has a step due unless it is at rest.

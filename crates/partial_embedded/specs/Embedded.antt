@@ -4,6 +4,7 @@ use Rattle.std.specs.Prelude.{ℕ, ◌≡◌, ◌+◌, ◌-◌, ◌*◌, ◌<◌
 use Rattle.partial_words.specs.declared.step.Step.{Step}
 use Rattle.partial_words.specs.declared.step.Step.TheVariants.{Load}
 use Rattle.partial_words.specs.Layout.{Layout, component_word, pool_base, pool_end}
+use Rattle.partial_words.specs.Record.{plain_record_size, view_size, value_word, view_word}
 use Rattle.partial_embedded.specs.declared.embedded.Stage.{Stage}
 use Rattle.partial_embedded.specs.declared.embedded.Stage.TheVariants.{Collect, View, Len, Index, PairValue, Value, Done}
 
@@ -41,11 +42,11 @@ fresh s shares = record { sizes = s; shares = shares; collects = 1; moved = fals
 -- the step that is due
 abbrev pub step_at : Layout → List ℕ → List ℕ → Stage → Option Step
 step_at s indices last (Collect k) = Some (Load (component_word s (slice_index indices k)))
-step_at s indices last (View stamp) = Some (Load (stamp + 2))
+step_at s indices last (View stamp) = Some (Load (view_word stamp))
 step_at s indices last (Len at) = Some (Load at)
 step_at s indices last (Index at left) = Some (Load at)
 step_at s indices last (PairValue at left index) = Some (Load at)
-step_at s indices last (Value k) = Some (Load (slice_index last k + 1))
+step_at s indices last (Value k) = Some (Load (value_word (slice_index last k)))
 step_at s indices last Done = None
 
 abbrev pub step_of : List ℕ → Pair → Option Step
@@ -73,11 +74,15 @@ borrow p x = (record p.0 { borrowed = Some x; stage = View x }, p.1)
 
 -- the load of position k is noted
 abbrev pub noted : Pair → ℕ → ℕ → Pair
-noted p k x = (record p.0 { moved = p.0.moved || differs p k x }, record p.1 { last = slice_set p.1.last k x; changed = slice_set p.1.changed k (differs p k x || was_changed p k) })
+noted p k x =
+    let changed : List Bool = slice_set p.1.changed k (differs p k x || was_changed p k) in
+    (record p.0 { moved = p.0.moved || differs p k x }, record p.1 { last = slice_set p.1.last k x; changed = changed })
 
 -- the collect is whole: another one is made where it was the first or has shown a change
 abbrev pub after_collect : Pair → Pair
-after_collect p = if is_first p || p.0.moved then (record p.0 { collects = p.0.collects + 1; moved = false; stage = Collect 0 }, p.1) else at_stage p (Value 0)
+after_collect p =
+    if is_first p || p.0.moved then (record p.0 { collects = p.0.collects + 1; moved = false; stage = Collect 0 }, p.1)
+    else at_stage p (Value 0)
 
 -- the position behind k, or the end of the collect
 abbrev pub go_on : ℕ → Pair → ℕ → Pair
@@ -105,7 +110,8 @@ advance_at indices p (View stamp) x = (after_view p.0 x, p.1)
 advance_at indices p (Len at) x = at_stage p (pairs_from (at + 1) x)
 advance_at indices p (Index at left) x = at_stage p (PairValue (at + 1) left x)
 advance_at indices p (PairValue at left index) x = at_stage (with_value p index x) (pairs_from (at + 1) (left - 1))
-advance_at indices p (Value k) x = at_stage (with_value p (slice_index indices k) x) (if nat_lt (k + 1) (length indices) then Value (k + 1) else Done)
+advance_at indices p (Value k) x =
+    at_stage (with_value p (slice_index indices k) x) (if nat_lt (k + 1) (length indices) then Value (k + 1) else Done)
 advance_at indices p Done x = p
 
 abbrev pub advance : List ℕ → Pair → ℕ → Pair
@@ -113,7 +119,7 @@ advance indices p x = advance_at indices p p.0.stage x
 
 -- the words of a record that begins at `at` are pool words
 abbrev pub IsRecord : Layout → ℕ → Type 0
-IsRecord s at = (pool_base s ≤ at) × (at + 3 ≤ pool_end s)
+IsRecord s at = (pool_base s ≤ at) × (at + plain_record_size ≤ pool_end s)
 
 -- how many of the first r are true
 abbrev pub count_true : ℕ → List Bool → ℕ
@@ -158,11 +164,14 @@ AreLoaded s rows n = (k : ℕ) → k < n → IsRecord s (slice_index rows.last k
 
 -- what is known at a stage
 abbrev pub goes_at : List ℕ → Pair → Stage → Type 0
-goes_at indices p (Collect k) = (k < length indices) × (p.0.collects + future (length indices) p ≤ length indices + 2) × (1 ≤ p.0.collects) × AreLoaded p.0.sizes p.1 (if is_first p then k else length indices)
+goes_at indices p (Collect k) =
+    (k < length indices) × (p.0.collects + future (length indices) p ≤ length indices + 2) × (1 ≤ p.0.collects)
+    × AreLoaded p.0.sizes p.1 (if is_first p then k else length indices)
 goes_at indices p (View stamp) = IsRecord p.0.sizes stamp
 goes_at indices p (Len at) = (pool_base p.0.sizes ≤ at) × (at < pool_end p.0.sizes)
 goes_at indices p (Index at left) = (0 < left) × (left ≤ p.0.sizes.m) × (at + 2 * left ≤ pool_end p.0.sizes) × (pool_base p.0.sizes ≤ at)
-goes_at indices p (PairValue at left index) = (0 < left) × (left ≤ p.0.sizes.m) × (at + 2 * left ≤ pool_end p.0.sizes + 1) × (index < p.0.sizes.m) × (pool_base p.0.sizes ≤ at)
+goes_at indices p (PairValue at left index) =
+    (0 < left) × (left ≤ p.0.sizes.m) × (at + 2 * left ≤ pool_end p.0.sizes + 1) × (index < p.0.sizes.m) × (pool_base p.0.sizes ≤ at)
 goes_at indices p (Value k) = (k < length indices) × AreLoaded p.0.sizes p.1 (length indices)
 goes_at indices p Done = ⊤
 
@@ -177,7 +186,7 @@ pub record GoTogether (indices : List ℕ) (p : Pair) : Type 0 where
 abbrev pub IsPossibleAt : Layout → Stage → ℕ → Type 0
 IsPossibleAt s (Collect k) x = IsRecord s x
 IsPossibleAt s (View stamp) x = (x ≡ 0) ⊎ ((pool_base s ≤ x) × (x < pool_end s))
-IsPossibleAt s (Len at) x = (x ≤ s.m) × (at + 1 + 2 * x ≤ pool_end s)
+IsPossibleAt s (Len at) x = (x ≤ s.m) × (at + view_size x ≤ pool_end s)
 IsPossibleAt s (Index at left) x = x < s.m
 IsPossibleAt s (PairValue at left index) x = ⊤
 IsPossibleAt s (Value k) x = ⊤

@@ -21,11 +21,15 @@ IsOfPosition indices w = (k : ℕ) × (k < length indices) × (slice_index indic
 
 -- each step is a load, and it loads no component word but those of its positions
 abbrev pub LoadsItsPositionsAlone : Type 0
-LoadsItsPositionsAlone = (s : Layout) (shares : Bool) (indices : List ℕ) (rows : RowsState) (xs : List ℕ) (q : Pair) (step : Step) → RunsTo s shares indices rows xs q → step_of indices q ≡ Some step → (w : ℕ) × (step ≡ Load w) × (w < s.m → IsOfPosition indices w)
+LoadsItsPositionsAlone =
+    (s : Layout) (shares : Bool) (indices : List ℕ) (rows : RowsState) (xs : List ℕ) (q : Pair) (step : Step) →
+    RunsTo s shares indices rows xs q → step_of indices q ≡ Some step → (w : ℕ) × (step ≡ Load w) × (w < s.m → IsOfPosition indices w)
 
 -- it makes r + 2 collects at most, and in all no more steps than its bound
 abbrev pub MakesFewCollects : Type 0
-MakesFewCollects = (s : Layout) (shares : Bool) (indices : List ℕ) (rows : RowsState) (xs : List ℕ) (q : Pair) → RunsTo s shares indices rows xs q → (q.0.collects ≤ length indices + 2) × (length xs + left_of indices q ≤ most_steps s (length indices))
+MakesFewCollects =
+    (s : Layout) (shares : Bool) (indices : List ℕ) (rows : RowsState) (xs : List ℕ) (q : Pair) → RunsTo s shares indices rows xs q →
+    (q.0.collects ≤ length indices + 2) × (length xs + left_of indices q ≤ most_steps s (length indices))
 
 -- the load of position k in collect c, both counted from 0
 abbrev pub load_in : ℕ → List ℕ → ℕ → ℕ → ℕ
@@ -56,4 +60,7 @@ pub record ShowsThirdRecord (r : ℕ) (xs : List ℕ) (collects stamp : ℕ) : T
 
 -- it loads values only behind two equal collects, and borrows only from a third record at one position
 abbrev pub EndsInEqualCollectsOrAThirdRecord : Type 0
-EndsInEqualCollectsOrAThirdRecord = (s : Layout) (shares : Bool) (indices : List ℕ) (rows : RowsState) (xs : List ℕ) (q : Pair) → RunsTo s shares indices rows xs q → (q.0.stage ≡ Value 0 → LastTwoAreEqual (length indices) xs q.0.collects) × ((stamp : ℕ) → q.0.stage ≡ View stamp → ShowsThirdRecord (length indices) xs q.0.collects stamp)
+EndsInEqualCollectsOrAThirdRecord =
+    (s : Layout) (shares : Bool) (indices : List ℕ) (rows : RowsState) (xs : List ℕ) (q : Pair) → RunsTo s shares indices rows xs q →
+    (q.0.stage ≡ Value 0 → LastTwoAreEqual (length indices) xs q.0.collects)
+    × ((stamp : ℕ) → q.0.stage ≡ View stamp → ShowsThirdRecord (length indices) xs q.0.collects stamp)

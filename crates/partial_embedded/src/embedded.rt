@@ -5,7 +5,7 @@ ghost use Rattle.partial_embedded.specs.Embedded.{Pair, RowsState, GoTogether, I
 ghost use Rattle.partial_embedded.specs.declared.embedded.Stage.TheVariants.{Collect};
 
 use crate::rows::Rows;
-use partial_words::{Sizes, Step};
+use partial_words::{Sizes, Step, value_word, view_word};
 use std::marker::Model;
 
 /// Where an embedded scan is: the step that is due, and what it needs for it.
@@ -85,11 +85,11 @@ impl Embedded {
             Stage::Collect { position } => {
                 Some(Step::Load(self.sizes.component_word(indices[position])))
             }
-            Stage::View { stamp } => Some(Step::Load((stamp + 2) as u32)),
+            Stage::View { stamp } => Some(Step::Load(view_word(stamp) as u32)),
             Stage::Len { at } => Some(Step::Load(at as u32)),
             Stage::Index { at, .. } => Some(Step::Load(at as u32)),
             Stage::PairValue { at, .. } => Some(Step::Load(at as u32)),
-            Stage::Value { position } => Some(Step::Load((rows.latest(position) + 1) as u32)),
+            Stage::Value { position } => Some(Step::Load(value_word(rows.latest(position)) as u32)),
             Stage::Done => None,
         }
     }
@@ -219,13 +219,14 @@ impl Embedded {
     {
         match self.stage {
             Stage::Collect { .. } => {
-                self.is_pool_word(x) && x + 3 <= u64::from(self.sizes.pool_end())
+                self.is_pool_word(x)
+                    && x + partial_words::plain_record_size() <= u64::from(self.sizes.pool_end())
             }
             Stage::View { .. } => x == 0 || self.is_pool_word(x),
             Stage::Len { at } => {
                 self.is_pool_word(at)
                     && x <= u64::from(self.sizes.m())
-                    && at + 1 + 2 * x <= u64::from(self.sizes.pool_end())
+                    && at + partial_words::view_size(x) <= u64::from(self.sizes.pool_end())
             }
             Stage::Index { .. } => x < u64::from(self.sizes.m()),
             Stage::PairValue { .. } => true,

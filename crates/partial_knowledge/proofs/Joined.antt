@@ -1,10 +1,10 @@
 -- What lawful words tell of a port that is joined.
-use Rattle.std.proofs.Common.{ℕ, ◌≡◌, ◌+◌, ◌*◌, ◌<◌, ◌≤◌, List, length, get_or, slice_index, slice_get, Option, Some, None, IfSome, MatchOption, refl, sym, ◌∙◌, ap, subst, arith}
+use Rattle.std.proofs.Common.{ℕ, ◌≡◌, ◌<◌, List, length, slice_index, Option, Some, IfSome, sym, ◌∙◌, subst, arith}
 use Rattle.std.specs.List.{AllByRecursion}
 use Rattle.partial_model.specs.declared.history.Applied.{Applied}
 use Rattle.partial_model.specs.declared.history.Opening.{Opening}
 use Rattle.partial_model.proofs.StampsStay.{found}
-use Rattle.partial_words.specs.Layout.{Layout, slot_word, slot_counter, pool_base}
+use Rattle.partial_words.specs.Layout.{Layout, slot_word, slot_counter}
 use Rattle.partial_words.specs.Record.{StandsAt}
 use Rattle.partial_words.specs.Announcement.{announcement_block}
 use Rattle.partial_words.proofs.BlockLemmas.{announcement_reads_back}

@@ -1,31 +1,29 @@
 -- What an embedded scan knows leads on, in lawful words.
 use Rattle.std.proofs.Common.{ℕ, zero, suc, ◌≡◌, ◌≢◌, ◌+◌, ◌-◌, ◌*◌, ◌<◌, ◌≤◌, ◌==◌, Bool, true, false, ◌&&◌, ◌||◌, not, cond, Option, Some, None, List, [], ◌∷◌, length, take, get_or, set, slice_get, inl, inr, refl, sym, ap, subst, ◌∙◌, arith, get_or-set_other, get_or-set_same}
-use Rattle.std.specs.List.{AllByRecursion}
 use Rattle.std.specs.Option.{option_map_or}
 use Rattle.std.specs.Prelude.{nat_lt, slice_index, slice_index_or}
-use Rattle.std.proofs.lemmas.Bool.{false≢true, eq-eqb, cond_both, or_cases, and_parts, and_cases, ltb-true, ltb-false, eqb-true, eqb-false}
+use Rattle.std.proofs.lemmas.Bool.{false≢true, eq-eqb, cond_both, or_cases, and_parts, ltb-true, ltb-false, eqb-true, eqb-false}
 use Rattle.std.proofs.lemmas.Bool.Decides.{eqb_tells}
 use Rattle.partial_model.specs.declared.history.Applied.{Applied}
 use Rattle.partial_model.specs.declared.history.Opening.{Opening}
-use Rattle.partial_model.specs.History.{IsHistory, value_of, stamp_of}
+use Rattle.partial_model.specs.History.{value_of, stamp_of}
 use Rattle.partial_model.proofs.HistoryLemmas.{place_below}
 use Rattle.partial_model.proofs.StampsStay.{stamps_never_return, found}
-use Rattle.partial_words.specs.declared.step.Step.{Step}
 use Rattle.partial_words.specs.declared.step.Step.TheVariants.{Load}
-use Rattle.partial_words.specs.Layout.{Layout, list_base, pool_base, pool_end, total}
-use Rattle.partial_words.specs.Record.{prev_of, view_of, view_block}
+use Rattle.partial_words.specs.Layout.{Layout, list_base, pool_end}
+use Rattle.partial_words.specs.Record.{prev_of, view_of, view_block, view_size}
 use Rattle.partial_words.proofs.ChainLemmas.{value_behind_stamp}
 use Rattle.partial_words.proofs.BlockLemmas.{list_reads_back}
 use Rattle.partial_words.proofs.RecordLemmas.{length-pairs}
 use Rattle.partial_embedded.specs.declared.embedded.Stage.{Stage}
 use Rattle.partial_embedded.specs.declared.embedded.Stage.TheVariants.{Collect, View, Len, Index, PairValue, Value, Done}
-use Rattle.partial_embedded.specs.Embedded.{Pair, RowsState, GoTogether, IsPossible, IsPossibleAt, IsRecord, goes_at, is_first, differs, was_changed, borrow, noted, go_on, after_collect, after_load, after_view, at_stage, with_value, pairs_from, step_at, step_of, advance, advance_at}
+use Rattle.partial_embedded.specs.Embedded.{Pair, RowsState, GoTogether, IsPossibleAt, goes_at, is_first, differs, was_changed, borrow, noted, go_on, after_collect, after_load, after_view, at_stage, with_value, pairs_from, step_at, advance_at}
 use Rattle.partial_state.specs.Views.{IsWithin, IsBegunSince, HasPairs, IsView, HasFreshView}
 use Rattle.partial_state.specs.Holdings.{Holding, unpublished}
 use Rattle.partial_state.specs.LawfulWords.{LawfulWords}
 use Rattle.partial_state.specs.Loads.{Kept, IsLoaded}
 use Rattle.partial_knowledge.specs.Sets.{IsReadable}
-use Rattle.partial_knowledge.specs.Scans.{HasEntry, IsLatest, IsCollecting, HasValues, Agreed, IsThird, HasLoaded, Loads, knows_at, Knows, KnowsOn, EmbeddedScansKnow}
+use Rattle.partial_knowledge.specs.Scans.{HasEntry, IsLatest, IsCollecting, HasValues, Agreed, IsThird, HasLoaded, Loads, knows_at, Knows, EmbeddedScansKnow}
 use Rattle.partial_knowledge.proofs.Chains.{newer, begun_since, begun_within, stamp_within, standing, standing_word, IsStanding, apart_part}
 
 -- an entry between two lengths stands between wider ones
@@ -316,7 +314,7 @@ module _ (o : Opening) (words : List ℕ) (hs : List Holding) (log : List Applie
   view_here stamp pairs some (inl empty) = absurd (some empty.0)
   view_here stamp pairs some (inr view) = view
 
-  pub step_len : (at t x : ℕ) → knows_at p.0.sizes o words hs log indices low high (Len at) p → x ≡ get_or words at 0 → ((x ≤ p.0.sizes.m) × (at + 1 + 2 * x ≤ pool_end p.0.sizes)) × Knows_at t (at_stage p (pairs_from (at + 1) x))
+  pub step_len : (at t x : ℕ) → knows_at p.0.sizes o words hs log indices low high (Len at) p → x ≡ get_or words at 0 → ((x ≤ p.0.sizes.m) × (at + view_size x ≤ pool_end p.0.sizes)) × Knows_at t (at_stage p (pairs_from (at + 1) x))
   unfolding Knows_at
   step_len at t x knows is =
       let stamp = knows.0 in

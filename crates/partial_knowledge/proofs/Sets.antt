@@ -1,13 +1,13 @@
 -- What a getSet knows leads on, in lawful words.
-use Rattle.std.proofs.Common.{ℕ, ◌≡◌, ◌+◌, ◌-◌, ◌*◌, ◌<◌, ◌≤◌, ◌⊎◌, min, Bool, true, false, ◌&&◌, not, eqb, ltb, Option, Some, None, List, [], ◌∷◌, ◌++◌, length, take, get_or, slice_index, cond, IsSome, inl, inr, refl, sym, ap, subst, ◌∙◌, arith}
+use Rattle.std.proofs.Common.{ℕ, ◌≡◌, ◌+◌, ◌-◌, ◌*◌, ◌<◌, ◌≤◌, min, Bool, true, false, ◌&&◌, not, eqb, ltb, Option, Some, None, List, [], ◌∷◌, ◌++◌, length, take, get_or, slice_index, cond, IsSome, inl, inr, refl, sym, ap, subst, ◌∙◌, arith}
 use Rattle.std.proofs.lemmas.Bool.{false≢true, and_parts, cases_eq, cases_lt, cond_both, ltb-false, eqb-true, eqb-false}
 use Rattle.std.proofs.lemmas.List.{take_more, take_all, get_or-take, length_push}
 use Rattle.partial_model.specs.declared.history.Applied.{Applied}
 use Rattle.partial_model.specs.declared.history.Opening.{Opening}
-use Rattle.partial_intervals.specs.Intervals.{Ranges, lowest, highest, Holds, IsNormal}
+use Rattle.partial_intervals.specs.Intervals.{Ranges, lowest, highest, Holds}
 use Rattle.partial_words.specs.declared.step.Step.{Step}
 use Rattle.partial_words.specs.declared.step.Step.TheVariants.{Load, Store, Exchange, Add}
-use Rattle.partial_words.specs.Layout.{Layout, IsLayout, slot_counter, list_head, list_counter, slot_word, list_base, list_end, pool_base, pool_end, total}
+use Rattle.partial_words.specs.Layout.{Layout, IsLayout, slot_counter, list_head, slot_word, list_base, list_end}
 use Rattle.partial_words.specs.Record.{StandsAt}
 use Rattle.partial_words.specs.VacatedList.{list_block}
 use Rattle.partial_words.specs.Announcement.{announcement_block}
@@ -17,19 +17,19 @@ use Rattle.partial_active.specs.declared.get_set.Stage.{Stage}
 use Rattle.partial_active.specs.declared.get_set.Stage.TheVariants.{Head, ListLen, ListLow, ListHigh, Counter, Slot, Len, Index, Claim, Write, Publish, Done}
 use Rattle.partial_active.specs.IndexSet.{has_index, with_index}
 use Rattle.partial_active.specs.Found.{begins_at}
-use Rattle.partial_active.specs.GetSet.{Pair, step_at, step_of, advance, advance_at, after_walk, at_slot, come_to, pass_interval, note_slot, in_stage, next_words}
-use Rattle.partial_active.specs.GetSetAnswers.{EndsBelow, IsListHead, IsListLen, IsSlotWord, is_possible_at, IsPossible, IsWalking, IsAtSlot, goes_at, GoTogether}
+use Rattle.partial_active.specs.GetSet.{Pair, step_at, step_of, advance_at, after_walk, at_slot, come_to, pass_interval, note_slot, in_stage, next_words}
+use Rattle.partial_active.specs.GetSetAnswers.{EndsBelow, IsSlotWord, is_possible_at, IsPossible, IsWalking, IsAtSlot, goes_at}
 use Rattle.partial_active.proofs.Extended.{length_normal, held_extended}
 use Rattle.partial_active.proofs.Walk.{begun}
 use Rattle.partial_active.proofs.Answered.{walk_begins, walk_next, walk_noted}
 use Rattle.partial_active.proofs.Active.{with_index_keeps, with_index_new}
-use Rattle.partial_state.specs.Views.{Joined, IsAnnounced, IsPublishedList, IsHead, IsApartFrom, AreApart, Block}
-use Rattle.partial_state.specs.Holdings.{Holding, unpublished, IfJoined}
+use Rattle.partial_state.specs.Views.{Joined, IsAnnounced, IsPublishedList, IsApartFrom, Block}
+use Rattle.partial_state.specs.Holdings.{Holding, unpublished}
 use Rattle.partial_state.specs.LawfulWords.{LawfulWords}
-use Rattle.partial_state.specs.Loads.{Kept, IsLoaded, IsPublished, IsSlotAnswer}
+use Rattle.partial_state.specs.Loads.{Kept, IsLoaded, IsSlotAnswer}
 use Rattle.partial_knowledge.specs.Joins.{Joins}
-use Rattle.partial_knowledge.specs.Sets.{AreVacated, HasAll, IsInSlot, FindsJoined, HasReadSo, HasWalked, HasReadNamed, walks, has_found, knows_at, Knows, IsReadable, IsKeptAnswer, KnowsOn, GetSetsKnow}
-use Rattle.partial_knowledge.proofs.Joined.{at_joined, IsShown, shown, reference_above, same_named}
+use Rattle.partial_knowledge.specs.Sets.{HasAll, IsInSlot, FindsJoined, walks, knows_at, Knows, IsReadable, IsKeptAnswer, GetSetsKnow}
+use Rattle.partial_knowledge.proofs.Joined.{at_joined, shown, reference_above, same_named}
 
 module _ (z : Layout) (o : Opening) (words : List ℕ) (hs : List Holding) (log : List Applied) (low : ℕ) (w : LawfulWords z o words hs log) where
   -- a slot that is VACATED is no joined port's

@@ -1,7 +1,7 @@
 -- The ports that are joined.
 use Rattle.std.specs.Prelude.{ℕ, ◌≡◌, List, Some, slice_get}
 use Rattle.partial_state.specs.Views.{Joined}
-use Rattle.partial_state.specs.Holdings.{Claimed, Holding}
+use Rattle.partial_state.specs.Holdings.{Holding}
 
 -- a port is joined with this announcement in this slot
 abbrev pub Joins : List Holding → ℕ → Joined → Type 0

@@ -1,17 +1,16 @@
 -- What an embedded scan knows at each of its stages by the answers that it has kept, in lawful words.
-use Rattle.std.specs.Prelude.{ℕ, ◌≡◌, ◌≢◌, ◌+◌, ◌*◌, ◌<◌, ◌≤◌, Bool, true, false, List, length, take, slice_get, slice_index, slice_index_or, Option, Some, None}
+use Rattle.std.specs.Prelude.{ℕ, ◌≡◌, ◌≢◌, ◌+◌, ◌<◌, ◌≤◌, true, false, List, length, take, slice_get, slice_index, slice_index_or, Some, None}
 use Rattle.std.specs.List.{AllByRecursion}
 use Rattle.partial_model.specs.declared.history.Applied.{Applied}
 use Rattle.partial_model.specs.declared.history.Opening.{Opening}
 use Rattle.partial_model.specs.History.{value_of, stamp_of}
-use Rattle.partial_words.specs.declared.step.Step.{Step}
 use Rattle.partial_words.specs.declared.step.Step.TheVariants.{Load}
 use Rattle.partial_words.specs.Layout.{Layout}
-use Rattle.partial_words.specs.Record.{view_of}
+use Rattle.partial_words.specs.Record.{pair_index_word, pair_value_word, prev_of, view_of}
 use Rattle.partial_embedded.specs.declared.embedded.Stage.{Stage}
 use Rattle.partial_embedded.specs.declared.embedded.Stage.TheVariants.{Collect, View, Len, Index, PairValue, Value, Done}
 use Rattle.partial_embedded.specs.Embedded.{Pair, RowsState, GoTogether, IsPossible, is_first, step_of, advance}
-use Rattle.partial_state.specs.Views.{IsBegunSince, HasPairs, IsView}
+use Rattle.partial_state.specs.Views.{IsBegunSince, HasPairs}
 use Rattle.partial_state.specs.Holdings.{Holding, unpublished}
 use Rattle.partial_state.specs.LawfulWords.{LawfulWords}
 use Rattle.partial_state.specs.Loads.{Kept, IsLoaded}
@@ -35,7 +34,8 @@ pub record IsCollecting (o : Opening) (log : List Applied) (indices : List ℕ) 
   pub from : low ≤ middle
   pub to : middle ≤ high
   pub loaded : (i : ℕ) → i < k → (t : ℕ) × IsLatest o log indices low p.1 i t × (middle ≤ t) × (t ≤ high)
-  pub same : is_first p ≡ false → p.0.moved ≡ false → (i : ℕ) → i < k → slice_index p.1.last i ≡ stamp_of o (take middle log) (slice_index indices i)
+  pub same : is_first p ≡ false → p.0.moved ≡ false → (i : ℕ) → i < k →
+      slice_index p.1.last i ≡ stamp_of o (take middle log) (slice_index indices i)
   -- in the first collect no position has changed, and in the second none that isn't loaded yet
   pub calm_first : is_first p ≡ true → (i : ℕ) → i < k → slice_index_or p.1.changed i false ≡ false
   pub calm_second : p.0.collects ≡ 2 → (i : ℕ) → k ≤ i → i < length indices → slice_index_or p.1.changed i false ≡ false
@@ -67,28 +67,37 @@ pub record IsThird (words : List ℕ) (log : List Applied) (indices : List ℕ) 
   pub position : ℕ
   pub within : position < length indices
   pub component : entry.component ≡ slice_index indices position
-  pub begun : IsBegunSince log low (slice_index words stamp)
+  pub begun : IsBegunSince log low (prev_of words stamp)
 
 -- So many pairs of the view of the third record are loaded: each is the value of its component after the first n entries.
-pub record HasLoaded (z : Layout) (o : Opening) (words : List ℕ) (hs : List Holding) (log : List Applied) (low place : ℕ) (rows : RowsState) (stamp : ℕ) (pairs : List (ℕ × ℕ)) (count : ℕ) : Type 0 where
+pub record HasLoaded (z : Layout) (o : Opening) (words : List ℕ) (hs : List Holding) (log : List Applied) (low place : ℕ) (rows : RowsState)
+    (stamp : ℕ) (pairs : List (ℕ × ℕ)) (count : ℕ) : Type 0 where
   pub shown : HasPairs z words (unpublished hs) stamp pairs
   pub prefix : ℕ
   pub from : low ≤ prefix
   pub to : prefix ≤ place
   pub fresh : AllByRecursion (λ pair. pair.1 ≡ value_of o (take prefix log) pair.0) pairs
-  pub loaded : (i : ℕ) → i < count → (c v : ℕ) → slice_get pairs i ≡ Some (c, v) → slice_index rows.values c ≡ value_of o (take prefix log) c
+  pub loaded : (i : ℕ) → i < count → (c v : ℕ) → slice_get pairs i ≡ Some (c, v) →
+      slice_index rows.values c ≡ value_of o (take prefix log) c
 
 -- the view of the third record, so many pairs of which are loaded
 abbrev pub Loads : Layout → Opening → List ℕ → List Holding → List Applied → List ℕ → ℕ → Pair → ℕ → Type 0
-Loads z o words hs log indices low p left = (stamp : ℕ) × (t : IsThird words log indices low p stamp) × (p.0.view ≡ view_of words stamp) × (pairs : List (ℕ × ℕ)) × (count : ℕ) × (count + left ≡ length pairs) × HasLoaded z o words hs log low t.place p.1 stamp pairs count
+Loads z o words hs log indices low p left =
+    (stamp : ℕ) × (t : IsThird words log indices low p stamp) × (p.0.view ≡ view_of words stamp) × (pairs : List (ℕ × ℕ)) × (count : ℕ)
+    × (count + left ≡ length pairs) × HasLoaded z o words hs log low t.place p.1 stamp pairs count
 
 -- what is known at a stage: each load was made at a length from `low` to `high`
 abbrev pub knows_at : Layout → Opening → List ℕ → List Holding → List Applied → List ℕ → ℕ → ℕ → Stage → Pair → Type 0
 knows_at z o words hs log indices low high (Collect k) p = IsCollecting o log indices low high p k
 knows_at z o words hs log indices low high (View stamp) p = IsThird words log indices low p stamp
-knows_at z o words hs log indices low high (Len at) p = (stamp : ℕ) × IsThird words log indices low p stamp × (p.0.view ≡ view_of words stamp) × (at ≡ view_of words stamp) × (at ≢ 0) × (p.0.shares ≡ false)
-knows_at z o words hs log indices low high (Index at left) p = (p.0.shares ≡ false) × (l : Loads z o words hs log indices low p left) × (at ≡ p.0.view + 1 + 2 * l.4) × (0 < left)
-knows_at z o words hs log indices low high (PairValue at left index) p = (p.0.shares ≡ false) × (l : Loads z o words hs log indices low p left) × (at ≡ p.0.view + 2 + 2 * l.4) × (0 < left) × ((v : ℕ) × (slice_get l.3 l.4 ≡ Some (index, v)))
+knows_at z o words hs log indices low high (Len at) p =
+    (stamp : ℕ) × IsThird words log indices low p stamp × (p.0.view ≡ view_of words stamp) × (at ≡ view_of words stamp) × (at ≢ 0)
+    × (p.0.shares ≡ false)
+knows_at z o words hs log indices low high (Index at left) p =
+    (p.0.shares ≡ false) × (l : Loads z o words hs log indices low p left) × (at ≡ pair_index_word p.0.view l.4) × (0 < left)
+knows_at z o words hs log indices low high (PairValue at left index) p =
+    (p.0.shares ≡ false) × (l : Loads z o words hs log indices low p left) × (at ≡ pair_value_word p.0.view l.4) × (0 < left)
+    × ((v : ℕ) × (slice_get l.3 l.4 ≡ Some (index, v)))
 knows_at z o words hs log indices low high (Value k) p = Agreed o log indices low high p k
 knows_at z o words hs log indices low high Done p =
     (p.0.borrowed ≡ None → (2 ≤ p.0.collects) × (n : ℕ) × HasValues o log indices low high p.1 n (length indices))
@@ -100,12 +109,16 @@ Knows z o words hs log indices low high p = knows_at z o words hs log indices lo
 
 -- What an embedded scan knows leads on: the word that it is to load may be loaded and gives a possible answer, and
 -- each answer of a load that is true yet leads to what is known next.
-pub record KnowsOn (z : Layout) (o : Opening) (words : List ℕ) (hs : List Holding) (log : List Applied) (indices : List ℕ) (low high : ℕ) (p : Pair) : Type 0 where
+pub record KnowsOn (z : Layout) (o : Opening) (words : List ℕ) (hs : List Holding) (log : List Applied) (indices : List ℕ) (low high : ℕ)
+    (p : Pair) : Type 0 where
   pub readable : (w : ℕ) → step_of indices p ≡ Some (Load w) → IsReadable z words hs w
-  pub possible : (w : ℕ) → step_of indices p ≡ Some (Load w) → IsLoaded z o words hs log w (record { answer = slice_index words w; at = length log }) → IsPossible p (slice_index words w)
-  pub on : (w : ℕ) (k : Kept) → step_of indices p ≡ Some (Load w) → IsLoaded z o words hs log w k → high ≤ k.at → Knows z o words hs log indices low k.at (advance indices p k.answer)
+  pub possible : (w : ℕ) → step_of indices p ≡ Some (Load w) →
+      IsLoaded z o words hs log w (record { answer = slice_index words w; at = length log }) → IsPossible p (slice_index words w)
+  pub on : (w : ℕ) (k : Kept) → step_of indices p ≡ Some (Load w) → IsLoaded z o words hs log w k → high ≤ k.at →
+      Knows z o words hs log indices low k.at (advance indices p k.answer)
 
 -- in lawful words what an embedded scan knows leads on, from stage to stage
 abbrev pub EmbeddedScansKnow : Type 0
 EmbeddedScansKnow = (o : Opening) (words : List ℕ) (hs : List Holding) (log : List Applied) (indices : List ℕ) (low high : ℕ) (p : Pair) →
-    LawfulWords p.0.sizes o words hs log → GoTogether indices p → low ≤ high → high ≤ length log → Knows p.0.sizes o words hs log indices low high p → KnowsOn p.0.sizes o words hs log indices low high p
+    LawfulWords p.0.sizes o words hs log → GoTogether indices p → low ≤ high → high ≤ length log →
+    Knows p.0.sizes o words hs log indices low high p → KnowsOn p.0.sizes o words hs log indices low high p

@@ -1,11 +1,13 @@
 -- What a getSet knows at each of its stages by the answers that it has kept, in lawful words.
-use Rattle.std.specs.Prelude.{ℕ, ◌≡◌, ◌+◌, ◌*◌, ◌<◌, ◌≤◌, ⊤, true, false, List, [], ◌∷◌, length, take, slice_index, Option, Some, None}
+use Rattle.std.specs.Prelude.{ℕ, ◌≡◌, ◌+◌, ◌<◌, ◌≤◌, ⊤, true, false, List, length, take, slice_index, Option, Some, None}
 use Rattle.partial_intervals.specs.Intervals.{Ranges, lowest, Holds}
 use Rattle.partial_words.specs.declared.step.Step.{Step}
 use Rattle.partial_words.specs.declared.step.Step.TheVariants.{Load, Store, Exchange, Add}
 use Rattle.partial_model.specs.declared.history.Applied.{Applied}
 use Rattle.partial_model.specs.declared.history.Opening.{Opening}
 use Rattle.partial_words.specs.Layout.{Layout, slot_word, list_base, total}
+use Rattle.partial_words.specs.Announcement.{announced_word}
+use Rattle.partial_words.specs.VacatedList.{low_word, high_word}
 use Rattle.partial_active.specs.declared.get_set.Stage.{Stage}
 use Rattle.partial_active.specs.declared.get_set.Stage.TheVariants.{Head, ListLen, ListLow, ListHigh, Counter, Slot, Len, Index, Claim, Write, Publish, Done}
 use Rattle.partial_active.specs.IndexSet.{has_index}
@@ -40,17 +42,19 @@ pub record HasReadSo (z : Layout) (words : List ℕ) (hs : List Holding) (from :
   pub sum : length read + left ≡ length list
 
 -- the slots below are done
-pub record HasWalked (z : Layout) (words : List ℕ) (hs : List Holding) (low end : ℕ) (read next : Ranges) (indices : List ℕ) (slot : ℕ) : Type 0 where
+pub record HasWalked (z : Layout) (words : List ℕ) (hs : List Holding) (low end : ℕ) (read next : Ranges) (indices : List ℕ) (slot : ℕ) :
+    Type 0 where
   pub listed : AreVacated z words read
   pub noted : AreVacated z words next
   pub ended : (l : ℕ) (j : Joined) → Joins hs l j → j.since < low → l < end
   pub complete : (l : ℕ) (j : Joined) → Joins hs l j → j.since < low → l < slot → HasAll indices j
 
 -- so much of the announcement is read
-pub record HasReadNamed (z : Layout) (words : List ℕ) (hs : List Holding) (low slot at left : ℕ) (indices : List ℕ) (a : ℕ) (named : List ℕ) (i : ℕ) : Type 0 where
+pub record HasReadNamed (z : Layout) (words : List ℕ) (hs : List Holding) (low slot at left : ℕ) (indices : List ℕ) (a : ℕ) (named : List ℕ)
+    (i : ℕ) : Type 0 where
   pub announced : IsAnnounced z words (unpublished hs) a named
   pub here : IsInSlot hs low slot a
-  pub place : at ≡ a + 1 + i
+  pub place : at ≡ announced_word a i
   pub sum : i + left ≡ length named
   pub so_far : (k : ℕ) → k < i → has_index indices (slice_index named k) ≡ true
 
@@ -65,12 +69,17 @@ has_found z words hs low p = AreVacated z words p.1.next × FindsJoined hs low p
 abbrev pub knows_at : Layout → List ℕ → List Holding → ℕ → Stage → Pair → Type 0
 knows_at z words hs low Head p = ⊤
 knows_at z words hs low (ListLen at) p = (list : Ranges) × IsPublishedList z words (unpublished hs) at list
-knows_at z words hs low (ListLow at left) p = (from : ℕ) × (list : Ranges) × HasReadSo z words hs from list p.1.read left × (at ≡ from + 1 + 2 * length p.1.read)
-knows_at z words hs low (ListHigh at left lo) p = (from : ℕ) × (list : Ranges) × HasReadSo z words hs from list p.1.read left × (at ≡ from + 2 + 2 * length p.1.read) × (lo ≡ lowest list (length p.1.read))
+knows_at z words hs low (ListLow at left) p =
+    (from : ℕ) × (list : Ranges) × HasReadSo z words hs from list p.1.read left × (at ≡ low_word from (length p.1.read))
+knows_at z words hs low (ListHigh at left lo) p =
+    (from : ℕ) × (list : Ranges) × HasReadSo z words hs from list p.1.read left × (at ≡ high_word from (length p.1.read))
+    × (lo ≡ lowest list (length p.1.read))
 knows_at z words hs low Counter p = AreVacated z words p.1.read
 knows_at z words hs low (Slot slot) p = walks z words hs low p slot
-knows_at z words hs low (Len slot at) p = walks z words hs low p slot × ((named : List ℕ) × IsAnnounced z words (unpublished hs) at named × IsInSlot hs low slot at)
-knows_at z words hs low (Index slot at left) p = walks z words hs low p slot × ((a : ℕ) × (named : List ℕ) × (i : ℕ) × HasReadNamed z words hs low slot at left p.1.indices a named i)
+knows_at z words hs low (Len slot at) p =
+    walks z words hs low p slot × ((named : List ℕ) × IsAnnounced z words (unpublished hs) at named × IsInSlot hs low slot at)
+knows_at z words hs low (Index slot at left) p =
+    walks z words hs low p slot × ((a : ℕ) × (named : List ℕ) × (i : ℕ) × HasReadNamed z words hs low slot at left p.1.indices a named i)
 knows_at z words hs low (Claim count) p = has_found z words hs low p × (p.0.lists_spent ≡ false)
 knows_at z words hs low (Write at k count word) p = has_found z words hs low p
 knows_at z words hs low (Publish at) p = has_found z words hs low p
@@ -95,7 +104,9 @@ IsKeptAnswer z o words hs log low p (Some (Add w n)) k = IsPossible p k.answer
 -- each answer that it keeps leads to what is known next.
 pub record KnowsOn (z : Layout) (o : Opening) (words : List ℕ) (hs : List Holding) (log : List Applied) (low : ℕ) (p : Pair) : Type 0 where
   pub readable : (w : ℕ) → step_of p.0 ≡ Some (Load w) → IsReadable z words hs w
-  pub possible : (w : ℕ) → step_of p.0 ≡ Some (Load w) → IsLoaded z o words hs log w (record { answer = slice_index words w; at = length log }) → low ≤ length log → IsPossible p (slice_index words w)
+  pub possible : (w : ℕ) → step_of p.0 ≡ Some (Load w) →
+      IsLoaded z o words hs log w (record { answer = slice_index words w; at = length log }) → low ≤ length log →
+      IsPossible p (slice_index words w)
   pub on : (k : Kept) → IsKeptAnswer z o words hs log low p (step_of p.0) k → Knows z words hs low (advance p k.answer)
 
 -- in lawful words what a getSet knows leads on, from stage to stage

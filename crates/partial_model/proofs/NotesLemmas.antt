@@ -98,6 +98,10 @@ pub AllByRecursion-push : {A : Type 0} (P : A → Type 0) (xs : List A) (x : A) 
 AllByRecursion-push P [] x w p = (p, tt)
 AllByRecursion-push P (y ∷ ys) x w p = (w.0, AllByRecursion-push P ys x w.1 p)
 
+pub AllByRecursion-append : {A : Type 0} (P : A → Type 0) (xs ys : List A) → AllByRecursion P xs → AllByRecursion P ys → AllByRecursion P (xs ++ ys)
+AllByRecursion-append P [] ys v w = w
+AllByRecursion-append P (x ∷ xs) ys v w = (v.0, AllByRecursion-append P xs ys v.1 w)
+
 pub AllByRecursion-weaker : {A : Type 0} (P Q : A → Type 0) → ((x : A) → P x → Q x) → (xs : List A) → AllByRecursion P xs → AllByRecursion Q xs
 AllByRecursion-weaker P Q f [] w = w
 AllByRecursion-weaker P Q f (x ∷ xs) w = (f x w.0, AllByRecursion-weaker P Q f xs w.1)

@@ -1,9 +1,9 @@
 -- Where in the history a finished scan has its place: what its search keeps, and the least prefix that shows its values.
-use Rattle.std.specs.Prelude.{ℕ, ◌≡◌, ◌==◌, ◌+◌, ◌<◌, ◌≤◌, Bool, not, false, List, length, map, take, Option, Some, None, slice_index, slice_index_or, slice_set}
+use Rattle.std.specs.Prelude.{ℕ, ◌≡◌, ◌==◌, ◌<◌, ◌≤◌, Bool, not, false, List, length, map, take, Option, Some, None, slice_index, slice_index_or, slice_set}
 use Rattle.partial_model.specs.declared.history.Applied.{Applied}
 use Rattle.partial_model.specs.declared.history.Opening.{Opening}
 use Rattle.partial_model.specs.History.{value_of as value_after}
-use Rattle.partial_words.specs.Record.{prev_of, value_of}
+use Rattle.partial_words.specs.Record.{value_word, prev_of, value_of}
 
 -- the value of each component after the first n entries
 abbrev pub values_after : Opening → List Applied → ℕ → ℕ → ℕ
@@ -29,17 +29,18 @@ AllHave wanted value = (j v : ℕ) → slice_index_or wanted j None ≡ Some v �
 -- the components of the first n positions are to have the values of such positions
 pub record AreWanted (wanted : List (Option ℕ)) (components values : List ℕ) (n : ℕ) : Type 0 where
   pub each : (k : ℕ) → k < n → (v : ℕ) × (slice_index_or wanted (slice_index components k) None ≡ Some v)
-  pub only : (j v : ℕ) → slice_index_or wanted j None ≡ Some v → (k : ℕ) × (k < n) × (slice_index components k ≡ j) × (slice_index values k ≡ v)
+  pub only : (j v : ℕ) → slice_index_or wanted j None ≡ Some v →
+      (k : ℕ) × (k < n) × (slice_index components k ≡ j) × (slice_index values k ≡ v)
 
 -- the word of each component names a record within the words
 abbrev pub HasRecords : List ℕ → ℕ → Type 0
-HasRecords words room = (j : ℕ) → j < room → (j < length words) × (slice_index words j + 1 < length words)
+HasRecords words room = (j : ℕ) → j < room → (j < length words) × (value_word (slice_index words j) < length words)
 
 -- the record of an entry, and the one before it, lie within the words
 pub record HasRecord (words : List ℕ) (room : ℕ) (e : Applied) : Type 0 where
   pub component : e.component < room
   pub own : e.stamp < length words
-  pub before : prev_of words e.stamp + 1 < length words
+  pub before : value_word (prev_of words e.stamp) < length words
 
 -- the first n entries show the values at the positions
 abbrev pub ShowsValues : Opening → List Applied → List ℕ → List ℕ → ℕ → Type 0
@@ -63,7 +64,8 @@ AreComponents o wanted = (j v : ℕ) → slice_index_or wanted j None ≡ Some v
 
 -- what is still to have a value stands at a position from the k-th on
 abbrev pub IsLeft : List (Option ℕ) → List ℕ → ℕ → Type 0
-IsLeft wanted components k = (j v : ℕ) → slice_index_or wanted j None ≡ Some v → (i : ℕ) × (k ≤ i) × (i < length components) × (slice_index components i ≡ j)
+IsLeft wanted components k =
+    (j v : ℕ) → slice_index_or wanted j None ≡ Some v → (i : ℕ) × (k ≤ i) × (i < length components) × (slice_index components i ≡ j)
 
 -- only what is to have a value is marked
 abbrev pub AreMarksOf : List (Option ℕ) → List Bool → Type 0

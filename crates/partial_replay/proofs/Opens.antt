@@ -12,7 +12,7 @@ use Rattle.partial_machine.specs.Machine.{CoreState, fresh}
 use Rattle.partial_machine.specs.Sound.{AreComponents}
 use Rattle.partial_core.specs.Part.{Part, fresh_parts, IsBetween}
 use Rattle.partial_machine.specs.Calls.{begun_like}
-use Rattle.partial_core.proofs.Opened.{opens_lawful}
+use Rattle.partial_core.proofs.Laws.{opens_lawful}
 use Rattle.partial_replay.specs.declared.port.Port.{Port}
 use Rattle.partial_replay.specs.declared.port.UnderWay.{UnderWay}
 use Rattle.partial_replay.specs.PortState.{unfinished_call, AreFinished, AreFew, IsUnderWay, PortFits, notes_in, ends_of, IsGoing, HasTurned, steps_under_way}

@@ -13,7 +13,6 @@ use Rattle.partial_words.specs.Record.{value_of}
 use Rattle.partial_words.specs.Step.{Leads}
 use Rattle.partial_words.specs.Chain.{Agrees, AreOpeningWords}
 use Rattle.std.proofs.lemmas.List.Sums.{sum_by-cons}
-use Rattle.partial_core.specs.Held.{holdings}
 use Rattle.partial_text.specs.PlanText.{PlanView}
 use Rattle.partial_machine.specs.Machine.{CoreState, fresh}
 use Rattle.partial_replay.specs.CallSteps.{AreStepsOf}
@@ -32,6 +31,7 @@ use Rattle.partial_replay.specs.RunState.{AreStarted, IsBetweenTurns, IsRunOf, T
 use Rattle.partial_replay.specs.TurnState.{StopsAtStep, StopAtSteps, IsDone, HasMadeTurns, HasBegun, lengths_so_far, HaveBegun}
 use Rattle.partial_replay.proofs.PortLaws.{get_below}
 use Rattle.partial_replay.proofs.RunSteps.{port_in, ports_length}
+use Rattle.partial_core.proofs.Laws.{lawful_ports_fit}
 use Rattle.partial_replay.proofs.Told.{begun_by, few_told, least_told, run_legal, listed_at, none_listed, first_begun, all_made}
 use Rattle.partial_replay.proofs.TurnLaws.{follows_ports, turns_told}
 use Rattle.partial_replay.proofs.TurnLengths.{lengths_same}
@@ -207,7 +207,7 @@ replay_told p run outcome between sizes values f begun ends t =
     subst (λ (l : List Called). BeginInTurns (turn_lengths p outcome q) 0 (calls_by q l)) (sym t.calls)
     (subst (λ (l : List ℕ). BeginInTurns l 0 (calls_by q calls)) (lengths q)
     (begins_told p.ports z o run.memory.words.items run.ports.items run.memory.history.items run.memory.trace.items w q (lengths_so_far q (turns_of p) run) (begun q))) in
-    let few : AreFew p.sizes outcome.calls.items = subst (λ (y : Layout). AreFew y outcome.calls.items) sizes (subst (AreFew z) (sym t.calls) (few_told z o run.memory.words.items (holdings w.parts) run.memory.history.items 0 p.ports w.parts run.ports.items w.lawful.memory.sizes w.fit w.lawful.known)) in
+    let few : AreFew p.sizes outcome.calls.items = subst (λ (y : Layout). AreFew y outcome.calls.items) sizes (subst (AreFew z) (sym t.calls) (few_told z o run.memory.history.items 0 p.ports w.parts run.ports.items w.fit (lawful_ports_fit z o run.memory.words.items w.parts run.memory.history.items w.lawful).sizes)) in
     record {
       values = ap (λ (v : Opening). v.values) t.opening ∙ values;
       first = ap (λ (v : Opening). v.first) t.opening ∙ w.lawful.memory.stamps ∙ ap pool_base sizes;

@@ -13,7 +13,7 @@ use Rattle.partial_model.specs.declared.call.Note.TheVariants as note
 use Rattle.partial_model.specs.declared.call.Called.{Called}
 use Rattle.partial_model.specs.Notes.{Noted, LegalNotes, IsLegal, MayBeRefused, seen_by, seen_after, shown_by, place_of, Fits, IsTrueOf}
 use Rattle.partial_model.specs.Outcome.{places_written, wrote}
-use Rattle.partial_model.proofs.NotesLemmas.{places_written-append, AllByRecursion-push}
+use Rattle.partial_model.proofs.NotesLemmas.{places_written-append, AllByRecursion-push, AllByRecursion-weaker}
 use Rattle.partial_words.specs.declared.step.Step.{Step}
 use Rattle.partial_words.specs.declared.step.Event.{Event}
 use Rattle.partial_words.specs.Layout.{Layout}
@@ -24,18 +24,21 @@ use Rattle.partial_machine.specs.declared.stage.Stage.TheVariants.{Idle}
 use Rattle.partial_machine.specs.Machine.{CoreState, at_stage, scanned_values, advance, step_of, reply_of}
 use Rattle.partial_machine.specs.Sound.{AreComponents, IsSound}
 use Rattle.partial_machine.specs.Bounds.{steps_left, most_steps}
+<<<<<<< HEAD
 use Rattle.partial_core.specs.Part.{Part, core_of, port_of, IsBetween, first_at}
+=======
+use Rattle.partial_core.specs.Part.{Part, Kept, core_of, port_of, IsBetween, first_at}
+use Rattle.partial_core.specs.Lawful.{Lawful}
+>>>>>>> main
 use Rattle.partial_core.specs.Steps.{begun_with, kept_with, added_by, LeadsOn, IsNoteOf, IsRefusal, AreNotesOf}
 use Rattle.partial_machine.specs.Calls.{is_begun, is_at_rest, begun_like, call_of, answer_for}
-use Rattle.partial_state.specs.Loads.{Kept}
 use Rattle.partial_replay.specs.declared.port.Port.{Port}
 use Rattle.partial_replay.specs.declared.port.UnderWay.{UnderWay}
 use Rattle.partial_replay.specs.PortState.{ends_of, notes_in, AreFew, IsUnderWay, PortFits, AreWithin, HasValues, MayAnswer, one_step_more, ended_call, GoesOn, Ends}
 use Rattle.partial_replay.specs.Place.{IsNoteFrom, IsLeastFrom}
 use Rattle.partial_places.proofs.ScanPlaces.{has_records, has_record}
-use Rattle.partial_state.specs.Holdings.{Holding}
-use Rattle.partial_state.specs.LawfulWords.{LawfulWords, IsEntry}
-use Rattle.partial_state.proofs.ListLemmas.{all_weaker}
+use Rattle.partial_words.specs.Record.{view_word}
+use Rattle.partial_core.proofs.Laws.{lawful_records_are_within}
 use Rattle.partial_model.specs.History.{initial_stamp}
 use Rattle.std.specs.List.{AllByRecursion}
 use Rattle.partial_replay.proofs.Places.{finds_place}
@@ -63,17 +66,15 @@ leads_push words last [] e w a = (subst (λ (l : List ℕ). Answers l e.step e.a
 leads_push words last (x ∷ trace) e w a = (w.0, leads_push (words_after words x.step) last trace e w.1 a)
 
 -- the records that are read to find the place of a scan lie within lawful words
-pub lawful_within : (z : Layout) (o : Opening) (words : List ℕ) (hs : List Holding) (log : List Applied) → LawfulWords z o words hs log → AreWithin (length o.values) words log
-lawful_within z o words hs log w =
-    let values = w.values in
-    let count = w.count in
-    let stamps = w.stamps in
-    let pool = w.sizes.pool.0 in
-    let own : AllByRecursion (λ (e : Applied). e.stamp + 1 < length words) log = all_weaker (IsEntry z words) (λ (e : Applied). e.stamp + 1 < length words) (λ e entry. let within = entry.within in omega (arith, within, count)) log w.entries in
-    let first : (j : ℕ) → j < length o.values → initial_stamp o j + 1 < length words = λ j below. omega (arith, below, values, count, stamps, pool) in
+pub lawful_within : (z : Layout) (o : Opening) (words : List ℕ) (parts : List Part) (log : List Applied) → Lawful z o words parts log → AreWithin (length o.values) words log
+lawful_within z o words parts log w =
+    let r = lawful_records_are_within z o words parts log w in
+    let values = r.values in
+    let own : AllByRecursion (λ (e : Applied). e.stamp + 1 < length words) log = AllByRecursion-weaker (λ (e : Applied). (z.m ≤ e.stamp) × (view_word e.stamp < length words)) (λ (e : Applied). e.stamp + 1 < length words) (λ e both. let within = both.1 in omega (arith, within)) log r.entries in
+    let first : (j : ℕ) → j < length o.values → initial_stamp o j + 1 < length words = λ j below. let within = r.initial j (omega (arith, below, values)) in omega (arith, within) in
     record {
-      components = has_records o words log w.agrees own first;
-      entries = has_record o words log w.agrees own (w.history).components first;
+      components = has_records o words log r.agrees own first;
+      entries = has_record o words log r.agrees own (r.history).components first;
     }
 
 -- only a scan answers values: those of components that are there

@@ -1,6 +1,7 @@
 -- A turn of a port among the others.
-use Rattle.std.proofs.Common.{ℕ, zero, suc, ◌≡◌, ◌+◌, ◌-◌, ◌*◌, ◌<◌, ◌≤◌, ◌==◌, ◌++◌, Bool, true, false, cond, not, List, [], ◌∷◌, length, get_or, set, Option, Some, None, MatchOption, MatchBool, nat_lt, ◌^◌, slice_get, Result, Ok, Err, OnOk, refl, sym, ◌∙◌, ap, subst, arith, length-append, get_or-set_other, mul-le-mul, mul-suc}
+use Rattle.std.proofs.Common.{ℕ, zero, suc, ◌≡◌, ◌+◌, ◌-◌, ◌*◌, ◌<◌, ◌≤◌, ◌==◌, ◌++◌, Bool, true, false, cond, not, List, [], ◌∷◌, length, get_or, set, Option, Some, None, IfSome, MatchOption, MatchBool, nat_lt, ◌^◌, slice_get, Result, Ok, Err, OnOk, refl, sym, ◌∙◌, ap, subst, arith, length-append, get_or-set_other, mul-le-mul, mul-suc}
 use Rattle.std.proofs.Math.Nat.{mul-le-mul_left}
+use Rattle.std.specs.Bool.{⊤}
 use Rattle.std.specs.Option.{option_map_or, is_some, IsSome}
 use Rattle.std.proofs.lemmas.Bool.{false≢true, ltb-true}
 use Rattle.std.proofs.lemmas.List.{append-nil, length_push}
@@ -15,17 +16,16 @@ use Rattle.partial_words.specs.declared.step.Step.TheVariants.{Load, Store, Exch
 use Rattle.partial_words.specs.declared.step.Event.{Event}
 use Rattle.partial_words.specs.Layout.{Layout, IsLayout}
 use Rattle.partial_words.specs.Step.{Leads, answer_of, words_after}
-use Rattle.partial_words.specs.Record.{value_of}
+use Rattle.partial_words.specs.Record.{value_of, view_word}
 use Rattle.partial_machine.specs.declared.stage.Reply.{Reply}
 use Rattle.partial_machine.specs.declared.stage.Stage.TheVariants.{Idle}
-use Rattle.partial_machine.specs.Machine.{CoreState, reply_of}
+use Rattle.partial_machine.specs.Machine.{CoreState, step_of, reply_of}
 use Rattle.partial_machine.specs.Bounds.{steps_left, most_of_update, most_steps}
-use Rattle.partial_state.specs.LawfulWords.{IsEntry}
-use Rattle.partial_core.specs.Part.{Part, port_of, IsBetween}
+use Rattle.partial_core.specs.Part.{Part, core_of, port_of, IsBetween}
 use Rattle.partial_core.specs.Lawful.{Lawful}
 use Rattle.partial_machine.specs.Calls.{answer_for, IsServed}
 use Rattle.partial_core.specs.Steps.{added_by, PublishesWithin, LeadsOn}
-use Rattle.partial_core.proofs.Laws.{steps_stay_lawful, lawful_machines_are_ready}
+use Rattle.partial_core.proofs.Laws.{steps_stay_lawful, lawful_machines_are_ready, lawful_records_are_within}
 use Rattle.partial_replay.specs.declared.port.Port.{Port}
 use Rattle.partial_replay.specs.declared.port.UnderWay.{UnderWay}
 use Rattle.partial_replay.specs.PortState.{KeepsMade, IsExchangeWithin, AreWithin, notes_in, IsUnderWay, PortFits, core_behind, entry_at, one_step_more, ended_call, GoesOn, Ends, StepMade, MayStep, KeepsFit}
@@ -33,6 +33,7 @@ use Rattle.partial_replay.specs.RunState.{AreStartedBut, ArePlans, PortsFit, IsR
 use Rattle.partial_replay.proofs.PortLaws.{least_grow, finished_grows, get_below, get_is, between_of}
 use Rattle.partial_replay.proofs.RunLaws.{due_step, lawful_within, leads_push, sizes_y, step_fits, end_may}
 use Rattle.partial_replay.proofs.PortSteps.{ports_step, ports_begin, log_long}
+use Rattle.partial_replay.proofs.Opens.{some_same}
 use Rattle.std.specs.List.{AllByRecursion}
 use Rattle.partial_replay.proofs.Traces.{entries_push}
 
@@ -171,10 +172,9 @@ last_of P (y ∷ ys) x all = last_of P ys x all.1
 pub due_adds : (z : Layout) (o : Opening) (words : List ℕ) (before : List Part) (x : Part) (after : List Part) (log : List Applied) (c : CoreState) (step : Step) (number : ℕ) → port_of x ≡ number → LeadsOn z o words before x after log c step → StepAdds z c.sizes.m words step number
 due_adds z o words before x after log c step number port l =
     let own : StepAdds z z.m words step (port_of x) = adds z words (port_of x) step l.publishes (λ e is.
-        let entries = l.lawful.memory.entries in
-        let entry : IsEntry z (words_after words step) e = last_of (IsEntry z (words_after words step)) log e (subst (λ (es : List Applied). AllByRecursion (IsEntry z (words_after words step)) (log ++ es)) is entries) in
-        let above = entry.above in
-        omega (arith, above)) in
+        let records = lawful_records_are_within z o (words_after words step) (before ++ l.y ∷ after) (log ++ added_by z (port_of x) words step) l.lawful in
+        let IsBehind : Applied → Type 0 = λ e. (z.m ≤ e.stamp) × (view_word e.stamp < length (words_after words step)) in
+        (last_of IsBehind log e (subst (λ (es : List Applied). AllByRecursion IsBehind (log ++ es)) is records.entries)).0) in
     let sizes : z.m ≡ c.sizes.m = ap (λ (y : Layout). y.m) (sym l.tells.sizes) in
     subst (λ (n : ℕ). StepAdds z n words step number) sizes (subst (StepAdds z z.m words step) port own)
 
@@ -218,7 +218,7 @@ may_step plans z o words ports log trace i calls port way w served c t is =
     let entries = added_by z (port_of (at.x)) words step in
     let call_served : IsServed z.m u.call = AllByRecursion-get (IsServed z.m) calls (length port.finished.items) u.call (AllByRecursion-get (λ (cs : List Call). (length cs < 2 ^ 32) × AllByRecursion (IsServed z.m) cs) plans i calls served c).1 u.next in
     let fits : most_steps port.core.sizes u.call + 1 < 2 ^ 64 = subst (λ (y : Layout). most_steps y u.call + 1 < 2 ^ 64) (sym here.sizes) (most_fits z u.call lawful.memory.sizes call_served) in
-    let within : AreWithin (length o.values) (words_after words step) (log ++ entries) = lawful_within z o (words_after words step) _ (log ++ entries) l.lawful.memory in
+    let within : AreWithin (length o.values) (words_after words step) (log ++ entries) = lawful_within z o (words_after words step) ((at.before) ++ l.y ∷ (at.after)) (log ++ entries) l.lawful in
     record {
       step = step;
       way = way;

@@ -1,5 +1,5 @@
 -- The calls that a replay tells are a legal outcome.
-use Rattle.std.proofs.Common.{ℕ, zero, suc, ◌⊎◌, map, take, ◌≡◌, ◌≢◌, ◌+◌, ◌<◌, ◌≤◌, ◌++◌, ◌==◌, Bool, true, false, cond, List, [], ◌∷◌, length, Option, Some, None, IfSome, IsSomeAnd, MatchOption, slice_get, refl, sym, ◌∙◌, ap, subst, inl, inr, arith, append_assoc}
+use Rattle.std.proofs.Common.{ℕ, zero, suc, ◌⊎◌, map, take, ◌≡◌, ◌≢◌, ◌+◌, ◌<◌, ◌≤◌, ◌++◌, ◌==◌, Bool, true, false, cond, List, [], ◌∷◌, length, Option, Some, None, IfSome, IsSomeAnd, MatchOption, MatchBool, slice_get, refl, sym, ◌∙◌, ap, subst, inl, inr, arith, append_assoc}
 use Rattle.std.specs.List.{filter, filter_map, AllByRecursion}
 use Rattle.std.proofs.lemmas.List.Elements.{filter-append, filter_map-append}
 use Rattle.std.proofs.lemmas.List.{append-nil, length_push, map_push}
@@ -14,13 +14,13 @@ use Rattle.partial_model.specs.Notes.{Noted, LegalNotes, shown_by, place_of}
 use Rattle.partial_model.specs.Outcome.{noted_of, notes_of, places_written, Follows, RealTime, LegalOutcome}
 use Rattle.partial_words.specs.Layout.{Layout, IsLayout}
 use Rattle.partial_machine.specs.Machine.{CoreState}
-use Rattle.partial_state.specs.Holdings.{Holding}
-use Rattle.partial_state.proofs.ListLemmas.{all_append}
-use Rattle.partial_core.proofs.Calls.{led}
+use Rattle.partial_machine.specs.Sound.{AreComponents}
 use Rattle.partial_machine.specs.Bounds.{most_steps}
 use Rattle.partial_words.specs.declared.step.Event.{Event}
+use Rattle.partial_model.proofs.NotesLemmas.{AllByRecursion-append}
+use Rattle.partial_core.specs.Known.{notes_by}
 use Rattle.partial_core.specs.Part.{Part, core_of, port_of, IsBetween, IsMachineOf}
-use Rattle.partial_core.specs.Known.{IsKnown, notes_by}
+use Rattle.partial_machine.specs.Calls.{begun_like, is_at_rest, is_begun}
 use Rattle.partial_replay.specs.declared.port.Port.{Port}
 use Rattle.partial_replay.specs.declared.port.UnderWay.{UnderWay}
 use Rattle.partial_replay.specs.Place.{HasLeastPlace}
@@ -274,7 +274,7 @@ least_told o log q (c ∷ plans) [] ports w = absurd w
 least_told o log q (c ∷ plans) (x ∷ parts) [] w = absurd w
 least_told o log q (c ∷ plans) (x ∷ parts) (t ∷ ports) w =
     let over = left_over t (slice_get c (length t.finished.items)) t.under_way in
-    all_append (HasLeastPlace o log) (t.finished.items ++ over) (calls_in plans ports) (all_append (HasLeastPlace o log) t.finished.items over w.0.least (least_over o log t (slice_get c (length t.finished.items)) t.under_way)) (least_told o log (q + 1) plans parts ports w.1)
+    AllByRecursion-append (HasLeastPlace o log) (t.finished.items ++ over) (calls_in plans ports) (AllByRecursion-append (HasLeastPlace o log) t.finished.items over w.0.least (least_over o log t (slice_get c (length t.finished.items)) t.under_way)) (least_told o log (q + 1) plans parts ports w.1)
 
 -- the machine of a port has the sizes of its part's
 sizes_at : (z : Layout) (core : CoreState) (x : Part) → (core_of x).sizes ≡ z → IsMachineOf core x → core.sizes ≡ z
@@ -294,18 +294,16 @@ few_over z n calls x port (Some way) sizes w =
     subst (λ (f : Option Call). AreFew z (left_over port f (Some way))) (sym w.next) (omega (arith, steps, most), tt)
 
 -- no call that is listed has made more steps than it may
-pub few_told : (z : Layout) (o : Opening) (words : List ℕ) (hs : List Holding) (log : List Applied) (q : ℕ) (plans : List (List Call)) (parts : List Part) (ports : List Port) → IsLayout z → PortsFit o log q plans parts ports → AllByRecursion (IsKnown z o words hs log) parts → AreFew z (calls_in plans ports)
-few_told z o words hs log q [] [] [] layout w known = tt
-few_told z o words hs log q [] [] (t ∷ ports) layout w known = absurd w
-few_told z o words hs log q [] (x ∷ parts) ports layout w known = absurd w
-few_told z o words hs log q (c ∷ plans) [] ports layout w known = absurd w
-few_told z o words hs log q (c ∷ plans) (x ∷ parts) [] layout w known = absurd w
-few_told z o words hs log q (c ∷ plans) (x ∷ parts) (t ∷ ports) layout w known =
-    let k = known.0 in
-    let same : (core_of x).sizes ≡ z = (led z o words hs log x.since x.begun x.kept layout k.sizes k.sound k.kept).sizes in
-    let sizes = port_sizes z (length log) c x t.core t.finished.items t.under_way same w.0.way in
+pub few_told : (z : Layout) (o : Opening) (log : List Applied) (q : ℕ) (plans : List (List Call)) (parts : List Part) (ports : List Port) → PortsFit o log q plans parts ports → AllByRecursion (λ (x : Part). (core_of x).sizes ≡ z) parts → AreFew z (calls_in plans ports)
+few_told z o log q [] [] [] w same = tt
+few_told z o log q [] [] (t ∷ ports) w same = absurd w
+few_told z o log q [] (x ∷ parts) ports w same = absurd w
+few_told z o log q (c ∷ plans) [] ports w same = absurd w
+few_told z o log q (c ∷ plans) (x ∷ parts) [] w same = absurd w
+few_told z o log q (c ∷ plans) (x ∷ parts) (t ∷ ports) w same =
+    let sizes = port_sizes z (length log) c x t.core t.finished.items t.under_way same.0 w.0.way in
     let over = left_over t (slice_get c (length t.finished.items)) t.under_way in
-    all_append (λ (d : Called). d.steps ≤ most_steps z d.call) (t.finished.items ++ over) (calls_in plans ports) (all_append (λ (d : Called). d.steps ≤ most_steps z d.call) t.finished.items over (subst (λ (y : Layout). AreFew y t.finished.items) sizes w.0.bounded) (few_over z (length log) c x t t.under_way sizes w.0.way)) (few_told z o words hs log (q + 1) plans parts ports layout w.1 known.1)
+    AllByRecursion-append (λ (d : Called). d.steps ≤ most_steps z d.call) (t.finished.items ++ over) (calls_in plans ports) (AllByRecursion-append (λ (d : Called). d.steps ≤ most_steps z d.call) t.finished.items over (subst (λ (y : Layout). AreFew y t.finished.items) sizes w.0.bounded) (few_over z (length log) c x t t.under_way sizes w.0.way)) (few_told z o log (q + 1) plans parts ports w.1 same.1)
 
 -- the calls of a replay are a legal outcome of its history
 pub run_legal : (plans : List (List Call)) (z : Layout) (o : Opening) (words : List ℕ) (ports : List Port) (log : List Applied) (trace : List Event) → IsRunOf plans z o words ports log trace → LegalOutcome o log (calls_in plans ports)

@@ -1,11 +1,11 @@
 -- What each kind of step does to lawful words, and that it keeps them lawful and what was loaded true.
-use Rattle.std.specs.Prelude.{ℕ, zero, suc, ◌≡◌, ◌+◌, ◌*◌, ◌<◌, ◌≤◌, true, false, List, [], ◌∷◌, ◌++◌, length, slice_index, Some, None}
+use Rattle.std.specs.Prelude.{ℕ, zero, suc, ◌≡◌, ◌+◌, ◌<◌, ◌≤◌, true, false, List, [], ◌∷◌, ◌++◌, length, slice_index, Some, None}
 use Rattle.partial_intervals.specs.Intervals.{Ranges, Holds, IsNormal}
 use Rattle.partial_model.specs.declared.history.Applied.{Applied}
 use Rattle.partial_model.specs.declared.history.Opening.{Opening}
 use Rattle.partial_words.specs.declared.step.Step.TheVariants.{Store, Exchange, Add}
-use Rattle.partial_words.specs.Layout.{Layout, component_word, slot_counter, list_head, pool_counter, list_counter, slot_word, list_base, list_end, pool_end, total}
-use Rattle.partial_words.specs.Announcement.{announcement_block}
+use Rattle.partial_words.specs.Layout.{Layout, component_word, slot_counter, list_head, pool_counter, list_counter, slot_word, list_base, list_end, pool_end, total, greatest_record, greatest_list}
+use Rattle.partial_words.specs.Announcement.{announcement_block, announcement_size}
 use Rattle.partial_words.specs.VacatedList.{list_block}
 use Rattle.partial_words.specs.Chain.{OpensWith}
 use Rattle.partial_words.specs.Step.{words_after}
@@ -28,85 +28,118 @@ IsLawful z o s = LawfulWords z o s.words s.holdings s.log
 -- the later state is lawful, and what was loaded goes on being true
 pub record Keeps (z : Layout) (o : Opening) (earlier later : State) : Type 0 where
   pub lawful : IsLawful z o later
-  pub loads : (w : ℕ) (k : Kept) → IsLoaded z o earlier.words earlier.holdings earlier.log w k → IsLoaded z o later.words later.holdings later.log w k
+  pub loads : (w : ℕ) (k : Kept) → IsLoaded z o earlier.words earlier.holdings earlier.log w k →
+      IsLoaded z o later.words later.holdings later.log w k
 
 -- A law of one kind of step, made by the port that holds h beside others: it leads to `words`, the port then
 -- holds h' and the history is `log`.
-abbrev pub IsKept : Layout → Opening → List ℕ → List Holding → Holding → List Holding → List Applied → List ℕ → Holding → List Applied → Type 0
+abbrev pub IsKept : Layout → Opening → List ℕ → List Holding → Holding → List Holding → List Applied →
+    List ℕ → Holding → List Applied → Type 0
 IsKept z o words before h after log words' h' log' =
-    Keeps z o (record { words = words; holdings = before ++ h ∷ after; log = log }) (record { words = words'; holdings = before ++ h' ∷ after; log = log' })
+    Keeps z o (record { words = words; holdings = before ++ h ∷ after; log = log })
+    (record { words = words'; holdings = before ++ h' ∷ after; log = log' })
 
 -- a claim of a block within its space
 abbrev pub ClaimsAreKept : Type 0
-ClaimsAreKept = (z : Layout) (o : Opening) (words : List ℕ) (before : List Holding) (h : Holding) (after : List Holding) (log : List Applied) (space : Space) (block : List ℕ) →
-    LawfulWords z o words (before ++ h ∷ after) log → h.own ≡ None → h.due ≡ None → slice_index words (counter_of z space) + length block ≤ end_of z space →
-    IsKept z o words before h after log (words_after words (Add (counter_of z space) (length block))) (record h { own = Some (record { space = space; at = slice_index words (counter_of z space); words = block; stored = 0 }) }) log
+ClaimsAreKept =
+    (z : Layout) (o : Opening) (words : List ℕ) (before : List Holding) (h : Holding) (after : List Holding) (log : List Applied)
+    (space : Space) (block : List ℕ) →
+    LawfulWords z o words (before ++ h ∷ after) log → h.own ≡ None → h.due ≡ None →
+    slice_index words (counter_of z space) + length block ≤ end_of z space →
+    IsKept z o words before h after log (words_after words (Add (counter_of z space) (length block)))
+    (record h { own = Some (record { space = space; at = slice_index words (counter_of z space); words = block; stored = 0 }) }) log
 
 -- a claim past the end of its space: the port is marked, where it wasn't
 abbrev pub PoolRefusalsAreKept : Type 0
-PoolRefusalsAreKept = (z : Layout) (o : Opening) (words : List ℕ) (before : List Holding) (h : Holding) (after : List Holding) (log : List Applied) (size : ℕ) →
-    LawfulWords z o words (before ++ h ∷ after) log → h.pool_spent ≡ false → size ≤ 4 + 2 * z.m → pool_end z < slice_index words (pool_counter z) + size →
+PoolRefusalsAreKept =
+    (z : Layout) (o : Opening) (words : List ℕ) (before : List Holding) (h : Holding) (after : List Holding) (log : List Applied)
+    (size : ℕ) →
+    LawfulWords z o words (before ++ h ∷ after) log → h.pool_spent ≡ false → size ≤ greatest_record z →
+    pool_end z < slice_index words (pool_counter z) + size →
     IsKept z o words before h after log (words_after words (Add (pool_counter z) size)) (record h { pool_spent = true }) log
 
 abbrev pub ListRefusalsAreKept : Type 0
-ListRefusalsAreKept = (z : Layout) (o : Opening) (words : List ℕ) (before : List Holding) (h : Holding) (after : List Holding) (log : List Applied) (size : ℕ) →
-    LawfulWords z o words (before ++ h ∷ after) log → h.lists_spent ≡ false → size ≤ z.slots + 2 → list_end z < slice_index words (list_counter z) + size →
+ListRefusalsAreKept =
+    (z : Layout) (o : Opening) (words : List ℕ) (before : List Holding) (h : Holding) (after : List Holding) (log : List Applied)
+    (size : ℕ) →
+    LawfulWords z o words (before ++ h ∷ after) log → h.lists_spent ≡ false → size ≤ greatest_list z →
+    list_end z < slice_index words (list_counter z) + size →
     IsKept z o words before h after log (words_after words (Add (list_counter z) size)) (record h { lists_spent = true }) log
 
 -- a store of the next word of a block of one's own
 abbrev pub StoresAreKept : Type 0
-StoresAreKept = (z : Layout) (o : Opening) (words : List ℕ) (before : List Holding) (h : Holding) (after : List Holding) (log : List Applied) (b : Own) →
+StoresAreKept =
+    (z : Layout) (o : Opening) (words : List ℕ) (before : List Holding) (h : Holding) (after : List Holding) (log : List Applied)
+    (b : Own) →
     LawfulWords z o words (before ++ h ∷ after) log → h.own ≡ Some b → h.due ≡ None → b.stored < length b.words →
-    IsKept z o words before h after log (words_after words (Store (b.at + b.stored) (slice_index b.words b.stored))) (record h { own = Some (record b { stored = b.stored + 1 }) }) log
+    IsKept z o words before h after log (words_after words (Store (b.at + b.stored) (slice_index b.words b.stored)))
+    (record h { own = Some (record b { stored = b.stored + 1 }) }) log
 
 -- an exchange comes to be due
 abbrev pub DuesAreKept : Type 0
-DuesAreKept = (z : Layout) (o : Opening) (words : List ℕ) (before : List Holding) (h : Holding) (after : List Holding) (log : List Applied) (d : Due) →
+DuesAreKept =
+    (z : Layout) (o : Opening) (words : List ℕ) (before : List Holding) (h : Holding) (after : List Holding) (log : List Applied)
+    (d : Due) →
     LawfulWords z o words (before ++ h ∷ after) log → IsDue z o words h (others_of h.port (before ++ h ∷ after)) log d →
     IsKept z o words before h after log words (record h { due = Some d }) log
 
 -- a block of one's own is given up: its exchange was lost, or the call is refused
 abbrev pub DropsAreKept : Type 0
-DropsAreKept = (z : Layout) (o : Opening) (words : List ℕ) (before : List Holding) (h : Holding) (after : List Holding) (log : List Applied) →
+DropsAreKept =
+    (z : Layout) (o : Opening) (words : List ℕ) (before : List Holding) (h : Holding) (after : List Holding) (log : List Applied) →
     LawfulWords z o words (before ++ h ∷ after) log →
     IsKept z o words before h after log words (record h { own = None; due = None }) log
 
 -- a won exchange of a component: the record is published, and the history gains its entry
 abbrev pub WinsAreKept : Type 0
-WinsAreKept = (z : Layout) (o : Opening) (words : List ℕ) (before : List Holding) (h : Holding) (after : List Holding) (log : List Applied) (d : Due) →
+WinsAreKept =
+    (z : Layout) (o : Opening) (words : List ℕ) (before : List Holding) (h : Holding) (after : List Holding) (log : List Applied)
+    (d : Due) →
     LawfulWords z o words (before ++ h ∷ after) log → h.due ≡ Some d → slice_index words d.component ≡ d.old →
-    IsKept z o words before h after log (words_after words (Exchange (component_word z d.component) d.old d.at)) (record h { own = None; due = None })
+    IsKept z o words before h after log (words_after words (Exchange (component_word z d.component) d.old d.at))
+    (record h { own = None; due = None })
     (log ++ record { port = h.port; component = d.component; value = d.value; stamp = d.at } ∷ [])
 
 -- a claim of a slot
 abbrev pub SlotClaimsAreKept : Type 0
-SlotClaimsAreKept = (z : Layout) (o : Opening) (words : List ℕ) (before : List Holding) (h : Holding) (after : List Holding) (log : List Applied) →
+SlotClaimsAreKept =
+    (z : Layout) (o : Opening) (words : List ℕ) (before : List Holding) (h : Holding) (after : List Holding) (log : List Applied) →
     LawfulWords z o words (before ++ h ∷ after) log → h.claimed ≡ None → slice_index words (slot_counter z) < z.slots →
-    IsKept z o words before h after log (words_after words (Add (slot_counter z) 1)) (record h { claimed = Some (record { slot = slice_index words (slot_counter z); joined = None }) }) log
+    IsKept z o words before h after log (words_after words (Add (slot_counter z) 1))
+    (record h { claimed = Some (record { slot = slice_index words (slot_counter z); joined = None }) }) log
 
 -- a claim past the last slot: the port is marked, where it wasn't
 abbrev pub SlotRefusalsAreKept : Type 0
-SlotRefusalsAreKept = (z : Layout) (o : Opening) (words : List ℕ) (before : List Holding) (h : Holding) (after : List Holding) (log : List Applied) →
+SlotRefusalsAreKept =
+    (z : Layout) (o : Opening) (words : List ℕ) (before : List Holding) (h : Holding) (after : List Holding) (log : List Applied) →
     LawfulWords z o words (before ++ h ∷ after) log → h.slots_spent ≡ false → z.slots ≤ slice_index words (slot_counter z) →
     IsKept z o words before h after log (words_after words (Add (slot_counter z) 1)) (record h { slots_spent = true }) log
 
 -- a join: the announcement that the port has written is published in its slot
 abbrev pub JoinsAreKept : Type 0
-JoinsAreKept = (z : Layout) (o : Opening) (words : List ℕ) (before : List Holding) (h : Holding) (after : List Holding) (log : List Applied) (slot at : ℕ) (indices : List ℕ) →
+JoinsAreKept =
+    (z : Layout) (o : Opening) (words : List ℕ) (before : List Holding) (h : Holding) (after : List Holding) (log : List Applied)
+    (slot at : ℕ) (indices : List ℕ) →
     LawfulWords z o words (before ++ h ∷ after) log → h.claimed ≡ Some (record { slot = slot; joined = None }) → h.due ≡ None →
-    h.own ≡ Some (record { space = Pool; at = at; words = announcement_block indices; stored = 1 + length indices }) →
+    h.own ≡ Some (record { space = Pool; at = at; words = announcement_block indices; stored = announcement_size (length indices) }) →
     length indices ≤ z.m → ((k : ℕ) → k < length indices → slice_index indices k < z.m) →
-    IsKept z o words before h after log (words_after words (Store (slot_word z slot) at)) (record h { own = None; claimed = Some (record { slot = slot; joined = Some (record { at = at; indices = indices; since = length log }) }) }) log
+    IsKept z o words before h after log (words_after words (Store (slot_word z slot) at))
+    (let j : Joined = record { at = at; indices = indices; since = length log } in
+    record h { own = None; claimed = Some (record { slot = slot; joined = Some j }) }) log
 
 -- a leave: the slot is VACATED
 abbrev pub LeavesAreKept : Type 0
-LeavesAreKept = (z : Layout) (o : Opening) (words : List ℕ) (before : List Holding) (h : Holding) (after : List Holding) (log : List Applied) (slot : ℕ) (j : Joined) →
+LeavesAreKept =
+    (z : Layout) (o : Opening) (words : List ℕ) (before : List Holding) (h : Holding) (after : List Holding) (log : List Applied) (slot : ℕ)
+    (j : Joined) →
     LawfulWords z o words (before ++ h ∷ after) log → h.claimed ≡ Some (record { slot = slot; joined = Some j }) →
     IsKept z o words before h after log (words_after words (Store (slot_word z slot) 1)) (record h { claimed = None }) log
 
 -- an exchange of the list head: where it is won the list that the port has written is published, and else it is given up
 abbrev pub PublishingsAreKept : Type 0
-PublishingsAreKept = (z : Layout) (o : Opening) (words : List ℕ) (before : List Holding) (h : Holding) (after : List Holding) (log : List Applied) (old at : ℕ) (list : Ranges) →
+PublishingsAreKept =
+    (z : Layout) (o : Opening) (words : List ℕ) (before : List Holding) (h : Holding) (after : List Holding) (log : List Applied)
+    (old at : ℕ) (list : Ranges) →
     LawfulWords z o words (before ++ h ∷ after) log → h.due ≡ None →
     h.own ≡ Some (record { space = Lists; at = at; words = list_block list; stored = length (list_block list) }) →
     IsNormal list → ((x : ℕ) → Holds list x → (x < z.slots) × (slice_index words (slot_word z x) ≡ 1)) →
@@ -121,8 +154,11 @@ LoadsAreTrue = (z : Layout) (o : Opening) (words : List ℕ) (hs : List Holding)
 -- ports that hold nothing, from that port on
 abbrev pub idle_holdings : ℕ → ℕ → List Holding
 idle_holdings port zero = []
-idle_holdings port (suc n) = record { port = port; claimed = None; own = None; due = None; pool_spent = false; slots_spent = false; lists_spent = false } ∷ idle_holdings (port + 1) n
+idle_holdings port (suc n) =
+    record { port = port; claimed = None; own = None; due = None; pool_spent = false; slots_spent = false; lists_spent = false } ∷
+    idle_holdings (port + 1) n
 
 -- words as they open, with at most 64 ports that hold nothing, are lawful
 abbrev pub OpeningIsLawful : Type 0
-OpeningIsLawful = (z : Layout) (o : Opening) (words : List ℕ) (n : ℕ) → OpensWith z o words → n ≤ 64 → LawfulWords z o words (idle_holdings 0 n) []
+OpeningIsLawful =
+    (z : Layout) (o : Opening) (words : List ℕ) (n : ℕ) → OpensWith z o words → n ≤ 64 → LawfulWords z o words (idle_holdings 0 n) []

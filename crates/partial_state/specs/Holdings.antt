@@ -1,10 +1,11 @@
 -- What a port holds in the words: a slot, a block that it writes, an exchange that is due, and its marks.
-use Rattle.std.specs.Prelude.{ℕ, ◌≢◌, ◌+◌, ◌*◌, ◌==◌, ⊤, Bool, List, [], ◌∷◌, ◌++◌, length, map, filter_map, Option, Some, None, IfSome, if◌then◌else◌}
+use Rattle.std.specs.Prelude.{ℕ, ◌≢◌, ◌+◌, ◌==◌, ⊤, Bool, List, [], ◌∷◌, ◌++◌, length, map, filter_map, Option, Some, None, IfSome, if◌then◌else◌}
 use Rattle.std.specs.List.{AllByRecursion}
 use Rattle.std.specs.Option.{option_map}
 use Rattle.partial_model.specs.declared.history.Applied.{Applied}
-use Rattle.partial_words.specs.Layout.{Layout, pool_counter, list_counter, list_base, list_end, pool_base, pool_end}
-use Rattle.partial_words.specs.Record.{view_of, view_len}
+use Rattle.partial_words.specs.Layout.{Layout, pool_counter, list_counter, list_base, list_end, pool_base, pool_end, initial_words, first_free}
+use Rattle.partial_words.specs.Record.{plain_record_size, full_record_size, own_view, view_of, view_len}
+use Rattle.partial_words.specs.Announcement.{announcement_size}
 use Rattle.partial_state.specs.Views.{Block, Joined}
 
 -- a slot that a port has claimed and not left: EMPTY until the port joins, then its announcement's reference
@@ -19,7 +20,7 @@ pub data Space : Type 0 where
 
 -- the first word that is claimed, the word behind the last one, and the counter of a space
 abbrev pub first_of : Layout → Space → ℕ
-first_of z Pool = pool_base z + 3 * z.m
+first_of z Pool = first_free z
 first_of z Lists = list_base z
 
 abbrev pub end_of : Layout → Space → ℕ
@@ -71,15 +72,19 @@ joined_in None = None
 joined_in (Some c) = c.joined
 
 abbrev pub announcements : List Holding → List Block
-announcements hs = filter_map (λ h. option_map (λ j. record { at = j.at; size = 1 + length j.indices }) (joined_in h.claimed)) hs
+announcements hs =
+    filter_map (λ h. option_map (λ j. record { at = j.at; size = announcement_size (length j.indices) }) (joined_in h.claimed)) hs
 
 -- the block of the record at `stamp`, with the view behind it where it has one of its own
 abbrev pub block_at : List ℕ → ℕ → Block
-block_at words stamp = record { at = stamp; size = if view_of words stamp == stamp + 3 then 4 + 2 * view_len words (stamp + 3) else 3 }
+block_at words stamp =
+    let size : ℕ = if view_of words stamp == own_view stamp then full_record_size (view_len words (own_view stamp)) else plain_record_size in
+    record { at = stamp; size = size }
 
 -- the initial records, the entries' records, the announcements that stand in slots, and the blocks that aren't published yet
 abbrev pub blocks_in : Layout → List ℕ → List Holding → List Applied → List Block
-blocks_in z words hs log = record { at = pool_base z; size = 3 * z.m } ∷ (map (λ e. block_at words e.stamp) log ++ (announcements hs ++ unpublished hs))
+blocks_in z words hs log =
+    record { at = pool_base z; size = initial_words z } ∷ (map (λ e. block_at words e.stamp) log ++ (announcements hs ++ unpublished hs))
 
 -- R holds of each two of the list
 abbrev pub EachTwo : {A : Type 0} → (A → A → Type 0) → List A → Type 0

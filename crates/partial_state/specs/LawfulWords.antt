@@ -4,8 +4,8 @@ use Rattle.std.specs.List.{AllByRecursion}
 use Rattle.partial_model.specs.declared.history.Applied.{Applied}
 use Rattle.partial_model.specs.declared.history.Opening.{Opening}
 use Rattle.partial_model.specs.History.{IsHistory}
-use Rattle.partial_words.specs.Layout.{Layout, IsLayout, slot_counter, list_head, pool_counter, list_counter, slot_word, list_base, list_end, pool_base, pool_end, total}
-use Rattle.partial_words.specs.Record.{prev_of, value_of}
+use Rattle.partial_words.specs.Layout.{Layout, IsLayout, slot_counter, list_head, pool_counter, list_counter, slot_word, list_base, list_end, pool_base, pool_end, total, first_free, greatest_record, greatest_list}
+use Rattle.partial_words.specs.Record.{plain_record_size, prev_of, value_of}
 use Rattle.partial_words.specs.Chain.{Agrees}
 use Rattle.partial_state.specs.Views.{AreApart, HasFreshView, Covers, IsWithin, IsAnnounced, IsHead}
 use Rattle.partial_state.specs.Holdings.Space.{Pool}
@@ -35,7 +35,8 @@ IsClaimedIn l (h ∷ hs) = IsSomeAnd h.claimed (λ c. c.slot ≡ l) ⊎ IsClaime
 pub record IsClaim (z : Layout) (words : List ℕ) (hs : List Holding) (log : List Applied) (c : Claimed) : Type 0 where
   pub slot : c.slot < z.slots
   pub below : c.slot < slice_index words (slot_counter z)
-  pub holds : MatchOption c.joined (slice_index words (slot_word z c.slot) ≡ 0) (λ j. (slice_index words (slot_word z c.slot) ≡ j.at) × (j.since ≤ length log) × IsAnnounced z words (unpublished hs) j.at j.indices)
+  pub holds : MatchOption c.joined (slice_index words (slot_word z c.slot) ≡ 0)
+      (λ j. (slice_index words (slot_word z c.slot) ≡ j.at) × (j.since ≤ length log) × IsAnnounced z words (unpublished hs) j.at j.indices)
 
 -- the record at `stamp` covers the announcement of each joined port
 abbrev pub CoversAll : Layout → List ℕ → List Holding → List Applied → ℕ → Type 0
@@ -44,20 +45,22 @@ CoversAll z words hs log stamp = AllByRecursion (λ h. IfJoined h (λ l j. Cover
 -- The exchange is due: the port's own block is that record and stands whole, the record before it is one of the
 -- history, the port isn't joined, and if the exchange won, its view would be fresh and covering; it is then no block of
 -- the port's own any more.
-pub record IsDue (z : Layout) (o : Opening) (words : List ℕ) (h : Holding) (others : List Holding) (log : List Applied) (d : Due) : Type 0 where
+pub record IsDue (z : Layout) (o : Opening) (words : List ℕ) (h : Holding) (others : List Holding) (log : List Applied) (d : Due) :
+    Type 0 where
   pub component : d.component < z.m
   pub own : IsSomeAnd h.own (λ b. (b.space ≡ Pool) × (block_of b ≡ block_at words d.at) × (b.stored ≡ length b.words))
   pub prev : prev_of words d.at ≡ d.old
   pub value : value_of words d.at ≡ d.value
   pub before : IsWithin o log (length log) d.old
   pub unjoined : joined_in h.claimed ≡ None
-  pub would : slice_index words d.component ≡ d.old → HasFreshView z o words (unpublished others) log (length log) d.at × CoversAll z words others log d.at
+  pub would : slice_index words d.component ≡ d.old →
+      HasFreshView z o words (unpublished others) log (length log) d.at × CoversAll z words others log d.at
 
 -- an entry's record lies in the pool, behind the initial records and below the counter
 pub record IsEntry (z : Layout) (words : List ℕ) (e : Applied) : Type 0 where
-  pub above : pool_base z + 3 * z.m ≤ e.stamp
-  pub within : e.stamp + 3 ≤ pool_end z
-  pub below : e.stamp + 3 ≤ slice_index words (pool_counter z)
+  pub above : first_free z ≤ e.stamp
+  pub within : e.stamp + plain_record_size ≤ pool_end z
+  pub below : e.stamp + plain_record_size ≤ slice_index words (pool_counter z)
 
 -- Lawful words: of at most 64 ports with what each holds in them, and of the history of all that was applied.
 pub record LawfulWords (z : Layout) (o : Opening) (words : List ℕ) (hs : List Holding) (log : List Applied) : Type 0 where
@@ -100,12 +103,12 @@ pub record LawfulWords (z : Layout) (o : Opening) (words : List ℕ) (hs : List 
   -- the list head is none or the reference of a published list
   pub head : IsHead z words (unpublished hs) (slice_index words (list_head z))
   -- the pool's counter is behind the initial records
-  pub pool_low : pool_base z + 3 * z.m ≤ slice_index words (pool_counter z)
+  pub pool_low : first_free z ≤ slice_index words (pool_counter z)
   -- it is past the pool's end by no more than one greatest claim for each port that is marked for it
-  pub pool_high : slice_index words (pool_counter z) ≤ pool_end z + (4 + 2 * z.m) * pool_marks hs
+  pub pool_high : slice_index words (pool_counter z) ≤ pool_end z + greatest_record z * pool_marks hs
   -- the slot counter is past the last slot by no more than one for each port that is marked for it
   pub slots_high : slice_index words (slot_counter z) ≤ z.slots + slot_marks hs
   -- the list counter is at the first list word or behind it
   pub lists_low : list_base z ≤ slice_index words (list_counter z)
   -- it is past the last list word by no more than one greatest claim for each port that is marked for it
-  pub lists_high : slice_index words (list_counter z) ≤ list_end z + (z.slots + 2) * list_marks hs
+  pub lists_high : slice_index words (list_counter z) ≤ list_end z + greatest_list z * list_marks hs

@@ -15,11 +15,13 @@ pub record Kept : Type 0 where
 
 -- a slot's answer: EMPTY, or VACATED and so for ever, or the reference of a published announcement
 abbrev pub IsSlotAnswer : Layout → List ℕ → List Block → ℕ → ℕ → Type 0
-IsSlotAnswer z words unpublished l x = (x ≡ 0) ⊎ ((x ≡ 1) × (slice_index words (slot_word z l) ≡ 1)) ⊎ ((indices : List ℕ) × IsAnnounced z words unpublished x indices)
+IsSlotAnswer z words unpublished l x =
+    (x ≡ 0) ⊎ ((x ≡ 1) × (slice_index words (slot_word z l) ≡ 1)) ⊎ ((indices : List ℕ) × IsAnnounced z words unpublished x indices)
 
 -- a word of a list or of the pool that is claimed and belongs to no block that isn't published yet
 pub record IsPublished (z : Layout) (words : List ℕ) (unpublished : List Block) (w : ℕ) : Type 0 where
-  pub claimed : ((w < list_end z) × (w < slice_index words (list_counter z))) ⊎ ((pool_base z ≤ w) × (w < slice_index words (pool_counter z)))
+  pub claimed : ((w < list_end z) × (w < slice_index words (list_counter z)))
+      ⊎ ((pool_base z ≤ w) × (w < slice_index words (pool_counter z)))
   pub apart : IsApartFrom unpublished (record { at = w; size = 1 })
 
 -- what a kept answer of a load of word w goes on telling

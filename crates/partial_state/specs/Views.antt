@@ -1,12 +1,13 @@
 -- What is published and never changes: views, announcements and lists, and which views are fresh and covering.
-use Rattle.std.specs.Prelude.{ℕ, ◌≡◌, ◌+◌, ◌*◌, ◌<◌, ◌≤◌, ◌⊎◌, List, [], length, map, take, slice_index, slice_get, Contains, Some}
+use Rattle.std.specs.Prelude.{ℕ, ◌≡◌, ◌+◌, ◌<◌, ◌≤◌, ◌⊎◌, List, [], length, map, take, slice_index, slice_get, Contains, Some}
 use Rattle.std.specs.List.{AllByRecursion}
 use Rattle.partial_intervals.specs.Intervals.{Ranges}
 use Rattle.partial_model.specs.declared.history.Applied.{Applied}
 use Rattle.partial_model.specs.declared.history.Opening.{Opening}
 use Rattle.partial_model.specs.History.{initial_stamp, value_of}
-use Rattle.partial_words.specs.Layout.{Layout, pool_counter, list_counter, pool_base, pool_end}
-use Rattle.partial_words.specs.Record.{StandsAt, view_block, prev_of, view_of}
+use Rattle.partial_words.specs.Layout.{Layout, pool_counter, list_counter, pool_end, first_free}
+use Rattle.partial_words.specs.Record.{StandsAt, view_block, own_view, prev_of, view_of}
+use Rattle.partial_words.specs.Announcement.{announcement_size}
 use Rattle.partial_words.specs.VacatedList.{list_block}
 use Rattle.partial_active.specs.Orderly.{IsAnnouncement, IsVacatedList}
 
@@ -25,7 +26,7 @@ IsApartFrom unpublished a = AllByRecursion (AreApart a) unpublished
 
 -- a whole view stands at the word: at most m pairs of a component and a value, published for ever
 pub record IsView (z : Layout) (words : List ℕ) (unpublished : List Block) (at : ℕ) (pairs : List (ℕ × ℕ)) : Type 0 where
-  pub above : pool_base z + 3 * z.m ≤ at
+  pub above : first_free z ≤ at
   pub within : at + length (view_block pairs) ≤ pool_end z
   pub below : at + length (view_block pairs) ≤ slice_index words (pool_counter z)
   pub few : length pairs ≤ z.m
@@ -35,19 +36,24 @@ pub record IsView (z : Layout) (words : List ℕ) (unpublished : List Block) (at
 
 -- the pairs of the view that the record at `stamp` refers to: 0 is the empty view
 abbrev pub HasPairs : Layout → List ℕ → List Block → ℕ → List (ℕ × ℕ) → Type 0
-HasPairs z words unpublished stamp pairs = ((view_of words stamp ≡ 0) × (pairs ≡ [])) ⊎ IsView z words unpublished (view_of words stamp) pairs
+HasPairs z words unpublished stamp pairs =
+    ((view_of words stamp ≡ 0) × (pairs ≡ [])) ⊎ IsView z words unpublished (view_of words stamp) pairs
 
 -- the stamp is an initial one, or that of one of the first n entries
 abbrev pub IsWithin : Opening → List Applied → ℕ → ℕ → Type 0
-IsWithin o log n stamp = ((j : ℕ) × (j < length o.values) × (stamp ≡ initial_stamp o j)) ⊎ ((k : ℕ) × (e : Applied) × (k < n) × (slice_get log k ≡ Some e) × (e.stamp ≡ stamp))
+IsWithin o log n stamp =
+    ((j : ℕ) × (j < length o.values) × (stamp ≡ initial_stamp o j))
+    ⊎ ((k : ℕ) × (e : Applied) × (k < n) × (slice_get log k ≡ Some e) × (e.stamp ≡ stamp))
 
 -- the view of the record at `stamp` is none, stands behind the record itself, or behind the record of an entry
 abbrev pub IsViewOf : List Applied → ℕ → ℕ → Type 0
-IsViewOf log stamp view = (view ≡ 0) ⊎ (view ≡ stamp + 3) ⊎ ((k : ℕ) × (e : Applied) × (slice_get log k ≡ Some e) × (view ≡ e.stamp + 3))
+IsViewOf log stamp view =
+    (view ≡ 0) ⊎ (view ≡ own_view stamp) ⊎ ((k : ℕ) × (e : Applied) × (slice_get log k ≡ Some e) × (view ≡ own_view e.stamp))
 
 -- The record at `stamp`, whose place in the history is k or would be, has a fresh view: the values after
 -- one prefix of the history that contains the record before it and doesn't contain itself.
-pub record HasFreshView (z : Layout) (o : Opening) (words : List ℕ) (unpublished : List Block) (log : List Applied) (k stamp : ℕ) : Type 0 where
+pub record HasFreshView (z : Layout) (o : Opening) (words : List ℕ) (unpublished : List Block) (log : List Applied) (k stamp : ℕ) :
+    Type 0 where
   pub pairs : List (ℕ × ℕ)
   pub shown : HasPairs z words unpublished stamp pairs
   pub owner : IsViewOf log stamp (view_of words stamp)
@@ -68,7 +74,9 @@ IsBegunSince log since prev = (k : ℕ) × (e : Applied) × (since ≤ k) × (sl
 
 -- the view of the record at `stamp` names each of the indices
 abbrev pub Names : Layout → List ℕ → List Block → ℕ → List ℕ → Type 0
-Names z words unpublished stamp indices = (pairs : List (ℕ × ℕ)) × HasPairs z words unpublished stamp pairs × AllByRecursion (λ j. Contains (map (λ pair. pair.0) pairs) j) indices
+Names z words unpublished stamp indices =
+    (pairs : List (ℕ × ℕ)) × HasPairs z words unpublished stamp pairs
+    × AllByRecursion (λ j. Contains (map (λ pair. pair.0) pairs) j) indices
 
 -- the record at `stamp` covers the announcement: it names its indices where it was begun since the port joined
 abbrev pub Covers : Layout → List ℕ → List Block → List Applied → ℕ → Joined → Type 0
@@ -77,9 +85,9 @@ Covers z words unpublished log stamp j = IsBegunSince log j.since (prev_of words
 -- a whole announcement stands at the word, published for ever
 pub record IsAnnounced (z : Layout) (words : List ℕ) (unpublished : List Block) (at : ℕ) (indices : List ℕ) : Type 0 where
   pub whole : IsAnnouncement z words at indices
-  pub above : pool_base z + 3 * z.m ≤ at
-  pub below : at + 1 + length indices ≤ slice_index words (pool_counter z)
-  pub apart : IsApartFrom unpublished (record { at = at; size = 1 + length indices })
+  pub above : first_free z ≤ at
+  pub below : at + announcement_size (length indices) ≤ slice_index words (pool_counter z)
+  pub apart : IsApartFrom unpublished (record { at = at; size = announcement_size (length indices) })
 
 -- a whole list of vacated slots stands at the word, published for ever
 pub record IsPublishedList (z : Layout) (words : List ℕ) (unpublished : List Block) (at : ℕ) (list : Ranges) : Type 0 where

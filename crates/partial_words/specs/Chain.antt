@@ -1,5 +1,5 @@
 -- The chain of records of a component, and when words agree with a history.
-use Rattle.std.specs.Prelude.{ℕ, ◌≡◌, ◌+◌, ◌*◌, ◌-◌, ◌/◌, ◌%◌, ◌<◌, ◌==◌, List, [], ◌∷◌, length, slice_index, nat_lt, if◌then◌else◌}
+use Rattle.std.specs.Prelude.{ℕ, ◌≡◌, ◌-◌, ◌/◌, ◌%◌, ◌<◌, ◌==◌, List, [], ◌∷◌, length, slice_index, nat_lt, if◌then◌else◌}
 use Rattle.partial_model.specs.declared.history.Applied.{Applied}
 use Rattle.partial_model.specs.declared.history.Opening.{Opening}
 use Rattle.partial_model.specs.History.{initial_stamp, stamp_of}
@@ -28,7 +28,8 @@ chain_of o j h = links_from (record { stamp = initial_stamp o j; value = slice_i
 
 -- each component word names the last record of its component, and its chain is that of the history
 abbrev pub Agrees : Opening → List ℕ → List Applied → Type 0
-Agrees o words h = (j : ℕ) → j < length o.values → (slice_index words j ≡ stamp_of o h j) × IsChain words (slice_index words j) (chain_of o j h)
+Agrees o words h =
+    (j : ℕ) → j < length o.values → (slice_index words j ≡ stamp_of o h j) × IsChain words (slice_index words j) (chain_of o j h)
 
 -- word k of the initial records from the pool's first word on: 0, the value, 0 for each component
 abbrev pub initial_record_word : List ℕ → ℕ → ℕ

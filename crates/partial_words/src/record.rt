@@ -2,9 +2,12 @@
 
 ghost use Rattle.std.specs.Prelude.{◌≡◌, ℕ, ◌+◌, ◌*◌, ◌^◌, ◌<◌, List, length, slice_index};
 ghost use Rattle.std.specs.List.{flat_map};
-ghost use Rattle.partial_words.specs.Record.{pair_words, record_block, plain_record_size, full_record_size, value_word, view_word, own_view, pair_value_word, StandsAt, ReadsBackRecord, prev_of, value_of, view_of, view_len, view_pair};
+ghost use Rattle.partial_words.specs.Record.{pair_words, record_block, view_size, plain_record_size, full_record_size, value_word, view_word, own_view, pair_value_word, StandsAt, ReadsBackRecord, prev_of, value_of, view_of, view_len, view_pair};
 
-// Which word of a record holds its value, which one the reference of its view, and where a view of its own begins.
+// Which word of a record holds the reference of the record before it, which one its value, which one the reference of
+// its view, and where a view of its own begins.
+const PREV: usize = 0;
+
 const VALUE: usize = 1;
 
 const VIEW: usize = 2;
@@ -35,6 +38,14 @@ pub fn own_view(at: u64) -> u64
     at + OWN_VIEW as u64
 }
 
+/// How many words a view of that many pairs has.
+pub fn view_size(pairs: u64) -> u64
+    requires { pairs < 2 ^ 32 }
+    ensures { result ≡ view_size pairs }
+{
+    1 + 2 * pairs
+}
+
 /// How many words a record has that has no view of its own.
 pub fn plain_record_size() -> u64
     ensures { result ≡ plain_record_size }
@@ -47,7 +58,7 @@ pub fn full_record_size(pairs: u64) -> u64
     requires { pairs < 2 ^ 32 }
     ensures { result ≡ full_record_size pairs }
 {
-    plain_record_size() + 1 + 2 * pairs
+    plain_record_size() + view_size(pairs)
 }
 
 /// Word `k` of a record: the reference of the record before it, its value, the reference of its view
@@ -79,7 +90,7 @@ pub fn prev_of(words: &[u64], at: usize) -> u64
     requires { at < length words.now }
     ensures { result ≡ prev_of words.now at }
 {
-    words[at]
+    words[at + PREV]
 }
 
 /// The value of the record at that word.

@@ -7,12 +7,7 @@ overflow_cast-self c =
     let within = rw (← c.self.view_is) at c.requires in
     omega (arith, c.self.invariant.0.slots, c.next_len.ensures.count, length_normal c.args.found.now.next c.self.inside.sizes.slots c.next_len.ensures.normal within)
 
-pub overflow_mul-self : goal.overflow_mul-self
-overflow_mul-self c =
-    let within = rw (← c.self.view_is) at c.requires in
-    omega (arith, c.self.invariant.0.slots, c.next_len.ensures.count, length_normal c.args.found.now.next c.self.inside.sizes.slots c.next_len.ensures.normal within)
-
-pub overflow_add-self : goal.overflow_add-self
-overflow_add-self c =
+pub list_size-requires : goal.list_size-requires
+list_size-requires c =
     let within = rw (← c.self.view_is) at c.requires in
     omega (arith, c.self.invariant.0.slots, c.next_len.ensures.count, length_normal c.args.found.now.next c.self.inside.sizes.slots c.next_len.ensures.normal within)
