@@ -24,13 +24,10 @@ use Rattle.partial_machine.specs.declared.stage.Stage.TheVariants.{Idle}
 use Rattle.partial_machine.specs.Machine.{CoreState, at_stage, scanned_values, advance, step_of, reply_of}
 use Rattle.partial_machine.specs.Sound.{AreComponents, IsSound}
 use Rattle.partial_machine.specs.Bounds.{steps_left, most_steps}
-<<<<<<< HEAD
-use Rattle.partial_core.specs.Part.{Part, core_of, port_of, IsBetween, first_at}
-=======
 use Rattle.partial_core.specs.Part.{Part, Kept, core_of, port_of, IsBetween, first_at}
 use Rattle.partial_core.specs.Lawful.{Lawful}
->>>>>>> main
 use Rattle.partial_core.specs.Steps.{begun_with, kept_with, added_by, LeadsOn, IsNoteOf, IsRefusal, AreNotesOf}
+use Rattle.partial_core.specs.Held.{holdings}
 use Rattle.partial_machine.specs.Calls.{is_begun, is_at_rest, begun_like, call_of, answer_for}
 use Rattle.partial_replay.specs.declared.port.Port.{Port}
 use Rattle.partial_replay.specs.declared.port.UnderWay.{UnderWay}
