@@ -17,9 +17,9 @@ use Rattle.partial_model.specs.Outcome.{Follows, RealTime}
 use Rattle.partial_machine.specs.declared.stage.Reply.{Reply}
 use Rattle.partial_machine.specs.declared.stage.Stage.TheVariants.{Idle}
 use Rattle.partial_machine.specs.Machine.{CoreState, at_stage, advance, reply_of}
-use Rattle.partial_core.specs.Lawful.{answer_for}
+use Rattle.partial_machine.specs.Calls.{answer_for, begun_of, refusal_of}
 use Rattle.partial_replay.specs.Trace.{Moment, last_behind}
-use Rattle.partial_replay.specs.CallSteps.{begun_of, refusal_of, Makes, HasSteps, IsFinishedAtOnce, IsRefusedAtOnce, IsCallOf, AreStepsOf}
+use Rattle.partial_replay.specs.CallSteps.{Makes, HasSteps, IsFinishedAtOnce, IsRefusedAtOnce, IsCallOf, AreStepsOf}
 use Rattle.partial_replay.specs.Listed.{calls_by, AreFirstOf, EndInStep}
 use Rattle.partial_replay.specs.Turns.{BeginInTurns}
 use Rattle.partial_replay.proofs.PortLaws.{same_eqb}

@@ -1,16 +1,15 @@
 -- How a port of a replay goes on as its part's port.
-use Rattle.std.proofs.Common.{ℕ, ◌==◌, ◌≢◌, set, inl, inr, zero, suc, ◌≡◌, ◌+◌, ◌<◌, ◌≤◌, ◌++◌, Bool, true, false, cond, List, [], ◌∷◌, length, take, map, get_or, Option, Some, None, IsSome, IfSome, IsSomeAnd, MatchOption, MatchBool, slice_get, nat_lt, refl, sym, ◌∙◌, ap, subst, arith, length-append}
-use Rattle.std.specs.List.{AllByRecursion, cons_option, list_all}
+use Rattle.std.proofs.Common.{ℕ, ◌==◌, ◌≢◌, set, inl, inr, zero, suc, ◌≡◌, ◌+◌, ◌<◌, ◌≤◌, ◌++◌, Bool, true, false, cond, List, [], ◌∷◌, length, take, map, get_or, Option, Some, None, IsSome, IfSome, IsSomeAnd, MatchOption, slice_get, refl, sym, ◌∙◌, ap, subst, arith, length-append}
+use Rattle.std.specs.List.{AllByRecursion, cons_option}
 use Rattle.std.specs.Option.{option_map, option_map_or}
 use Rattle.std.proofs.lemmas.Bool.Decides.{eqb_tells}
-use Rattle.std.proofs.lemmas.Bool.{ltb-true, ltb-false, false≢true}
+use Rattle.std.proofs.lemmas.Bool.{false≢true}
 use Rattle.std.proofs.lemmas.List.{append-nil, length_push, map_push, take-append-le}
 use Rattle.partial_model.specs.declared.history.Applied.{Applied}
 use Rattle.partial_model.specs.declared.history.Opening.{Opening}
 use Rattle.partial_model.specs.declared.call.Call.{Call}
 use Rattle.partial_model.specs.declared.call.Call.TheVariants as call
 use Rattle.partial_model.specs.declared.call.Refused.{Refused}
-use Rattle.partial_model.specs.declared.call.Refused.TheVariants as refused
 use Rattle.partial_model.specs.declared.call.Answer.{Answer}
 use Rattle.partial_model.specs.declared.call.Answer.TheVariants as answer
 use Rattle.partial_model.specs.declared.call.Note.{Note}
@@ -20,7 +19,7 @@ use Rattle.partial_model.specs.declared.call.Called.{Called}
 use Rattle.partial_model.specs.declared.call.Finish.{Finish}
 use Rattle.std.specs.declared.vec.Vec.{Vec}
 use Rattle.std.specs.declared.alloc.Global.{Global}
-use Rattle.partial_model.specs.Notes.{Noted, indices_of, ClaimsPool, LegalNotes, IsLegal, MayBeRefused, seen_by, seen_after, shown_by, place_of}
+use Rattle.partial_model.specs.Notes.{Noted, LegalNotes, IsLegal, MayBeRefused, seen_by, seen_after, shown_by, place_of}
 use Rattle.partial_model.specs.Outcome.{noted_of, places_written, wrote}
 use Rattle.partial_model.proofs.NotesLemmas.{AllByRecursion-push, LegalNotes-push, LegalNotes-grows, seen_by-push, places_written-push}
 use Rattle.partial_words.specs.declared.step.Step.{Step}
@@ -34,8 +33,8 @@ use Rattle.partial_machine.specs.Machine.{CoreState, at_stage, advance, step_of,
 use Rattle.partial_machine.specs.Sound.{AreComponents, IsSound}
 use Rattle.partial_machine.specs.Possible.{IsPossible}
 use Rattle.partial_machine.specs.Calls.{begin_scan, is_begun, is_at_rest, makes_steps, call_of, answer_for, begun_of, refusal_of, IsServed}
-use Rattle.partial_machine.specs.Bounds.{steps_left, left_at, most_steps}
-use Rattle.partial_core.specs.Part.{Part, core_of, port_of, HasBegun, IsMachineOf, IsBetween}
+use Rattle.partial_machine.specs.Bounds.{steps_left, most_steps}
+use Rattle.partial_core.specs.Part.{Part, port_of, HasBegun, IsMachineOf, IsBetween}
 use Rattle.partial_machine.specs.declared.stage.Stage.{Stage}
 use Rattle.partial_machine.proofs.Laws.{calls_begin, calls_are_refused_at_once}
 use Rattle.partial_core.proofs.Laws.{calls_begin_between}

@@ -13,9 +13,9 @@ use Rattle.partial_machine.specs.declared.stage.Reply.{Reply}
 use Rattle.partial_machine.specs.declared.stage.Stage.{Stage}
 use Rattle.partial_machine.specs.declared.stage.Stage.TheVariants.{Idle, Finished}
 use Rattle.partial_machine.specs.Machine.{CoreState, at_stage, advance, step_at, step_of, reply_at, reply_of}
-use Rattle.partial_core.specs.Lawful.{answer_for}
+use Rattle.partial_machine.specs.Calls.{answer_for, begun_of, refusal_of}
 use Rattle.partial_replay.specs.Trace.{Moment}
-use Rattle.partial_replay.specs.CallSteps.{begun_of, refusal_of, Makes, HasSteps, IsCallOf, AreStepsOf}
+use Rattle.partial_replay.specs.CallSteps.{Makes, HasSteps, IsCallOf, AreStepsOf}
 use Rattle.partial_replay.specs.Listed.{AreFirstOf, AreAllMade}
 
 -- the machine of a port, in the call under way or idle behind the last one, and the plan's calls behind it

@@ -1,15 +1,15 @@
 -- The steps of a port's calls, call by call.
-use Rattle.std.specs.Prelude.{ℕ, ◌≡◌, ◌⊎◌, List, [], ◌∷◌, ◌++◌, length, Some, None, IfSome}
+use Rattle.std.specs.Prelude.{◌≡◌, ◌⊎◌, List, [], ◌∷◌, ◌++◌, length, Some, None, IfSome}
 use Rattle.std.specs.Option.{option_map}
 use Rattle.partial_model.specs.declared.call.Refused.{Refused}
 use Rattle.partial_model.specs.declared.call.Answer.TheVariants as answer
 use Rattle.partial_model.specs.declared.call.Note.TheVariants as note
 use Rattle.partial_model.specs.declared.call.Called.{Called}
 use Rattle.partial_machine.specs.declared.stage.Reply.{Reply}
-use Rattle.partial_machine.specs.declared.stage.Stage.TheVariants.{Idle, ReadBegun, UpdateBegun}
+use Rattle.partial_machine.specs.declared.stage.Stage.TheVariants.{Idle}
 use Rattle.partial_machine.specs.Machine.{CoreState, at_stage, advance, step_of, reply_of}
 use Rattle.partial_machine.specs.Possible.{IsPossible}
-use Rattle.partial_machine.specs.Calls.{refusal_of, begun_of, answer_for, begin_scan, read_refusal, update_refusal, scan_refusal}
+use Rattle.partial_machine.specs.Calls.{refusal_of, begun_of, answer_for}
 use Rattle.partial_replay.specs.Trace.{Moment, last_behind}
 
 -- the machine makes these events, each of them its due step with an answer that words may give, and comes to that state

@@ -1,5 +1,5 @@
 -- What a port of a replay has made of its calls, and what one step makes of it.
-use Rattle.std.specs.Prelude.{ℕ, ◌≡◌, ◌+◌, ◌<◌, ◌≤◌, ◌==◌, ◌^◌, ⊤, true, false, List, [], ◌∷◌, ◌++◌, length, map, take, nat_lt, slice_get, Option, Some, None, IfSome, IsSomeAnd, MatchOption, if◌then◌else◌}
+use Rattle.std.specs.Prelude.{ℕ, ◌≡◌, ◌+◌, ◌<◌, ◌≤◌, ◌==◌, ◌^◌, ⊤, false, List, [], ◌∷◌, ◌++◌, length, map, take, nat_lt, slice_get, Option, Some, None, IfSome, IsSomeAnd, MatchOption, if◌then◌else◌}
 use Rattle.std.specs.List.{AllByRecursion, filter_map}
 use Rattle.std.specs.Option.{option_map_or}
 use Rattle.partial_model.specs.declared.history.Applied.{Applied}
@@ -10,7 +10,7 @@ use Rattle.partial_model.specs.declared.call.Answer.{Answer}
 use Rattle.partial_model.specs.declared.call.Answer.TheVariants as answer
 use Rattle.partial_model.specs.declared.call.Note.{Note}
 use Rattle.partial_model.specs.declared.call.Called.{Called}
-use Rattle.partial_model.specs.Notes.{Noted, LegalNotes, indices_of, seen_by, shown_by, place_of}
+use Rattle.partial_model.specs.Notes.{Noted, LegalNotes, seen_by, shown_by, place_of}
 use Rattle.partial_model.specs.Outcome.{noted_of, places_written}
 use Rattle.partial_words.specs.declared.step.Step.{Step}
 use Rattle.partial_words.specs.declared.step.Step.TheVariants.{Exchange}
@@ -19,7 +19,6 @@ use Rattle.partial_words.specs.Layout.{Layout}
 use Rattle.partial_words.specs.Step.{word_of, answer_of, words_after}
 use Rattle.partial_words.specs.Record.{value_of}
 use Rattle.partial_machine.specs.declared.stage.Reply.{Reply}
-use Rattle.partial_machine.specs.declared.stage.Reply.TheVariants as reply
 use Rattle.partial_machine.specs.declared.stage.Stage.TheVariants.{Idle}
 use Rattle.partial_machine.specs.Machine.{CoreState, at_stage, advance, fresh, step_of, reply_of}
 use Rattle.partial_machine.specs.Possible.{IsPossible}

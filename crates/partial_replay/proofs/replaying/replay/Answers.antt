@@ -4,7 +4,7 @@ use Rattle.std.proofs.lemmas.List.{take_all}
 use Rattle.std.proofs.lemmas.Bool.{false≢true}
 use Rattle.partial_model.specs.declared.call.Call.{Call}
 use Rattle.partial_replay.specs.declared.run.Run.{Run}
-use Rattle.partial_replay.specs.RunState.{AreStarted, IsRun, Tells, ArePlans, IsBetweenTurns}
+use Rattle.partial_replay.specs.RunState.{Tells, ArePlans, IsBetweenTurns}
 use Rattle.partial_replay.specs.TurnState.{StopAtSteps, HasMadeTurns, TurnsMade, HaveBegun}
 use Rattle.partial_replay.specs.Replayed.{IsReplayOf}
 use Rattle.partial_replay.proofs.Plans.{are_plans}
