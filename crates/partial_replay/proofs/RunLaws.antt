@@ -27,7 +27,6 @@ use Rattle.partial_machine.specs.Bounds.{steps_left, most_steps}
 use Rattle.partial_core.specs.Part.{Part, Kept, core_of, port_of, IsBetween, first_at}
 use Rattle.partial_core.specs.Lawful.{Lawful}
 use Rattle.partial_core.specs.Steps.{begun_with, kept_with, added_by, LeadsOn, IsNoteOf, IsRefusal, AreNotesOf}
-use Rattle.partial_core.specs.Held.{holdings}
 use Rattle.partial_machine.specs.Calls.{is_begun, is_at_rest, begun_like, call_of, answer_for}
 use Rattle.partial_replay.specs.declared.port.Port.{Port}
 use Rattle.partial_replay.specs.declared.port.UnderWay.{UnderWay}

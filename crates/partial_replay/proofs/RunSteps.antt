@@ -1,7 +1,6 @@
 -- A turn of a port among the others.
-use Rattle.std.proofs.Common.{ℕ, zero, suc, ◌≡◌, ◌+◌, ◌-◌, ◌*◌, ◌<◌, ◌≤◌, ◌==◌, ◌++◌, Bool, true, false, cond, not, List, [], ◌∷◌, length, get_or, set, Option, Some, None, IfSome, MatchOption, MatchBool, nat_lt, ◌^◌, slice_get, Result, Ok, Err, OnOk, refl, sym, ◌∙◌, ap, subst, arith, length-append, get_or-set_other, mul-le-mul, mul-suc}
+use Rattle.std.proofs.Common.{ℕ, zero, suc, ◌≡◌, ◌+◌, ◌-◌, ◌*◌, ◌<◌, ◌≤◌, ◌==◌, ◌++◌, Bool, true, false, cond, not, List, [], ◌∷◌, length, get_or, set, Option, Some, None, MatchOption, MatchBool, nat_lt, ◌^◌, slice_get, Result, Ok, Err, OnOk, refl, sym, ◌∙◌, ap, subst, arith, length-append, get_or-set_other, mul-le-mul, mul-suc}
 use Rattle.std.proofs.Math.Nat.{mul-le-mul_left}
-use Rattle.std.specs.Bool.{⊤}
 use Rattle.std.specs.Option.{option_map_or, is_some, IsSome}
 use Rattle.std.proofs.lemmas.Bool.{false≢true, ltb-true}
 use Rattle.std.proofs.lemmas.List.{append-nil, length_push}
@@ -19,9 +18,9 @@ use Rattle.partial_words.specs.Step.{Leads, answer_of, words_after}
 use Rattle.partial_words.specs.Record.{value_of, view_word}
 use Rattle.partial_machine.specs.declared.stage.Reply.{Reply}
 use Rattle.partial_machine.specs.declared.stage.Stage.TheVariants.{Idle}
-use Rattle.partial_machine.specs.Machine.{CoreState, step_of, reply_of}
+use Rattle.partial_machine.specs.Machine.{CoreState, reply_of}
 use Rattle.partial_machine.specs.Bounds.{steps_left, most_of_update, most_steps}
-use Rattle.partial_core.specs.Part.{Part, core_of, port_of, IsBetween}
+use Rattle.partial_core.specs.Part.{Part, port_of, IsBetween}
 use Rattle.partial_core.specs.Lawful.{Lawful}
 use Rattle.partial_machine.specs.Calls.{answer_for, IsServed}
 use Rattle.partial_core.specs.Steps.{added_by, PublishesWithin, LeadsOn}
@@ -33,7 +32,6 @@ use Rattle.partial_replay.specs.RunState.{AreStartedBut, ArePlans, PortsFit, IsR
 use Rattle.partial_replay.proofs.PortLaws.{least_grow, finished_grows, get_below, get_is, between_of}
 use Rattle.partial_replay.proofs.RunLaws.{due_step, lawful_within, leads_push, sizes_y, step_fits, end_may}
 use Rattle.partial_replay.proofs.PortSteps.{ports_step, ports_begin, log_long}
-use Rattle.partial_replay.proofs.Opens.{some_same}
 use Rattle.std.specs.List.{AllByRecursion}
 use Rattle.partial_replay.proofs.Traces.{entries_push}
 

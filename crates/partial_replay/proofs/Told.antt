@@ -1,5 +1,5 @@
 -- The calls that a replay tells are a legal outcome.
-use Rattle.std.proofs.Common.{ℕ, zero, suc, ◌⊎◌, map, take, ◌≡◌, ◌≢◌, ◌+◌, ◌<◌, ◌≤◌, ◌++◌, ◌==◌, Bool, true, false, cond, List, [], ◌∷◌, length, Option, Some, None, IfSome, IsSomeAnd, MatchOption, MatchBool, slice_get, refl, sym, ◌∙◌, ap, subst, inl, inr, arith, append_assoc}
+use Rattle.std.proofs.Common.{ℕ, zero, suc, ◌⊎◌, map, take, ◌≡◌, ◌≢◌, ◌+◌, ◌<◌, ◌≤◌, ◌++◌, ◌==◌, Bool, true, false, cond, List, [], ◌∷◌, length, Option, Some, None, IfSome, IsSomeAnd, MatchOption, slice_get, refl, sym, ◌∙◌, ap, subst, inl, inr, arith, append_assoc}
 use Rattle.std.specs.List.{filter, filter_map, AllByRecursion}
 use Rattle.std.proofs.lemmas.List.Elements.{filter-append, filter_map-append}
 use Rattle.std.proofs.lemmas.List.{append-nil, length_push, map_push}
@@ -12,15 +12,13 @@ use Rattle.partial_model.specs.declared.call.Called.{Called}
 use Rattle.partial_model.specs.declared.call.Finish.{Finish}
 use Rattle.partial_model.specs.Notes.{Noted, LegalNotes, shown_by, place_of}
 use Rattle.partial_model.specs.Outcome.{noted_of, notes_of, places_written, Follows, RealTime, LegalOutcome}
-use Rattle.partial_words.specs.Layout.{Layout, IsLayout}
+use Rattle.partial_words.specs.Layout.{Layout}
 use Rattle.partial_machine.specs.Machine.{CoreState}
-use Rattle.partial_machine.specs.Sound.{AreComponents}
 use Rattle.partial_machine.specs.Bounds.{most_steps}
 use Rattle.partial_words.specs.declared.step.Event.{Event}
 use Rattle.partial_model.proofs.NotesLemmas.{AllByRecursion-append}
 use Rattle.partial_core.specs.Known.{notes_by}
 use Rattle.partial_core.specs.Part.{Part, core_of, port_of, IsBetween, IsMachineOf}
-use Rattle.partial_machine.specs.Calls.{begun_like, is_at_rest, is_begun}
 use Rattle.partial_replay.specs.declared.port.Port.{Port}
 use Rattle.partial_replay.specs.declared.port.UnderWay.{UnderWay}
 use Rattle.partial_replay.specs.Place.{HasLeastPlace}
