@@ -1,5 +1,5 @@
 -- A replay as it opens, and what it lists in the end.
-use Rattle.std.proofs.Common.{ℕ, zero, suc, ◌==◌, ◌^◌, drop, remove, append_assoc, ◌≡◌, ◌+◌, ◌<◌, ◌≤◌, ◌++◌, false, List, [], ◌∷◌, length, take, get_or, Option, Some, None, MatchOption, slice_get, refl, sym, ◌∙◌, ap, subst, arith, map, IfSome}
+use Rattle.std.proofs.Common.{ℕ, zero, suc, ◌^◌, append_assoc, ◌≡◌, ◌+◌, ◌<◌, ◌≤◌, ◌++◌, List, [], ◌∷◌, length, take, get_or, Option, Some, None, MatchOption, slice_get, refl, sym, ◌∙◌, ap, subst, arith, map, IfSome}
 use Rattle.std.specs.List.{AllByRecursion}
 use Rattle.partial_model.specs.declared.history.Opening.{Opening}
 use Rattle.partial_model.specs.declared.call.Call.{Call}
@@ -18,7 +18,8 @@ use Rattle.partial_replay.specs.declared.port.UnderWay.{UnderWay}
 use Rattle.partial_replay.specs.PortState.{unfinished_call, AreFinished, AreFew, IsUnderWay, PortFits, notes_in, ends_of, IsGoing, HasTurned, steps_under_way}
 use Rattle.partial_replay.specs.RunState.{PortsFit, IsRunOf, FreshFrom, AreFreshPorts, AreListed, ArePlans, left_over, calls_in, ArePortsMade, AreStarted}
 use Rattle.std.specs.Option.{IsSome}
-use Rattle.std.proofs.lemmas.Bool.{false≢true}
+use Rattle.std.specs.List.{zip}
+use Rattle.std.proofs.lemmas.List.{append-nil}
 use Rattle.partial_model.specs.declared.history.Applied.{Applied}
 use Rattle.partial_replay.specs.Place.{HasLeastPlace}
 use Rattle.partial_replay.proofs.PortLaws.{get_below, some_is}
@@ -131,37 +132,67 @@ run_listed o log q [] (x ∷ parts) ports m w p = absurd w
 run_listed o log q (c ∷ plans) [] ports m w p = absurd w
 run_listed o log q (c ∷ plans) (x ∷ parts) [] m w p = absurd w
 
--- the port at the front, and those behind it
-pub front_is : (ports : List Port) (port : Port) (rest : List Port) → 0 < length ports → port ≡ get_or ports 0 port → rest ≡ remove ports 0 → ports ≡ port ∷ rest
-front_is [] port rest some f r = absurd (omega (arith, some))
-front_is (t ∷ ports) port rest some f r = let is : port ≡ t = f in let tail : rest ≡ ports = r in cc
+-- the port at a place with its calls
+pub pair_at : (ports : List Port) (plans : List (List Call)) (n : ℕ) (port : Port) (calls : List Call) → (n < length (zip ports plans)) × ((port, calls) ≡ get_or (zip ports plans) n (port, calls)) →
+    (slice_get ports n ≡ Some port) × (slice_get plans n ≡ Some calls)
+pair_at [] plans n port calls here = let below = here.0 in absurd (omega (arith, below))
+pair_at (u ∷ ports) [] n port calls here = let below = here.0 in absurd (omega (arith, below))
+pair_at (u ∷ ports) (d ∷ plans) zero port calls here =
+    let one : port ≡ u = ap (λ (x : Port × List Call). x.0) here.1 in
+    let two : calls ≡ d = ap (λ (x : Port × List Call). x.1) here.1 in
+    (ap Some (sym one), ap Some (sym two))
+pair_at (u ∷ ports) (d ∷ plans) (suc n) port calls here = let below = here.0 in pair_at ports plans n port calls (omega (arith, below), here.1)
 
--- the calls of the port at the front
-pub record AtFront (plans : List (List Call)) (p : ℕ) (port : Port) (rest : List Port) : Type 0 where
-  pub calls : List Call
-  pub is : drop p plans ≡ calls ∷ drop (suc p) plans
-  pub get : slice_get plans p ≡ Some calls
-  pub short : length calls < 2 ^ 32
-  pub within : IsSome port.under_way → length port.finished.items < length calls
-  pub listed : AreListed (drop (suc p) plans) rest
+-- a call under way is one of the port's calls, and its number fits
+pub listed_at_place : (plans : List (List Call)) (ports : List Port) (n : ℕ) (calls : List Call) (port : Port) → AreListed plans ports → slice_get plans n ≡ Some calls → slice_get ports n ≡ Some port →
+    (length calls < 2 ^ 32) × (IsSome port.under_way → length port.finished.items < length calls)
+listed_at_place [] ports n calls port w c t = let bad : None ≡ Some calls = c in cc
+listed_at_place (d ∷ plans) [] n calls port w c t = absurd w
+listed_at_place (d ∷ plans) (u ∷ ports) zero calls port w c t =
+    let is : d ≡ calls = cc in
+    let same : u ≡ port = cc in
+    (subst (λ (e : List Call). length e < 2 ^ 32) is w.0, subst (λ (v : Port). IsSome v.under_way → length v.finished.items < length calls) same (subst (λ (e : List Call). IsSome u.under_way → length u.finished.items < length e) is w.1))
+listed_at_place (d ∷ plans) (u ∷ ports) (suc n) calls port w c t = listed_at_place plans ports n calls port w.2 c t
 
-pub at_front : (plans : List (List Call)) (p : ℕ) (port : Port) (rest : List Port) → AreListed (drop p plans) (port ∷ rest) → AtFront plans p port rest
-at_front [] zero port rest w = absurd w
-at_front [] (suc p) port rest w = absurd w
-at_front (c ∷ plans) zero port rest w = record { calls = c; is = refl; get = refl; short = w.0; within = w.1; listed = w.2 }
-at_front (c ∷ plans) (suc p) port rest w =
-    let f = at_front plans p port rest w in
-    record { calls = f.calls; is = f.is; get = f.get; short = f.short; within = f.within; listed = f.listed }
+pub length-zip : (plans : List (List Call)) (ports : List Port) → AreListed plans ports → length (zip ports plans) ≡ length ports
+length-zip [] [] w = refl
+length-zip (d ∷ plans) (u ∷ ports) w = ap suc (length-zip plans ports w.2)
+length-zip [] (u ∷ ports) w = absurd w
+length-zip (d ∷ plans) [] w = absurd w
 
--- one port's calls behind those of the ports before it
-pub told_on : (plans : List (List Call)) (p : ℕ) (port : Port) (rest : List Port) (all so_far now : List Called) → (f : AtFront plans p port rest) → so_far ++ calls_in (drop p plans) (port ∷ rest) ≡ all → now ≡ (so_far ++ port.finished.items) ++ left_over port (slice_get (f.calls) (length port.finished.items)) port.under_way → now ++ calls_in (drop (suc p) plans) rest ≡ all
-told_on plans p port rest all so_far now f told is =
-    let over = left_over port (slice_get (f.calls) (length port.finished.items)) port.under_way in
-    let behind = calls_in (drop (suc p) plans) rest in
-    ap (λ (l : List Called). l ++ behind) is
-    ∙ ap (λ (l : List Called). l ++ behind) (append_assoc so_far port.finished.items over)
-    ∙ append_assoc so_far (port.finished.items ++ over) behind
-    ∙ subst (λ (l : List (List Call)). so_far ++ calls_in l (port ∷ rest) ≡ all) f.is told
+pub none_in : (plans : List (List Call)) → calls_in plans [] ≡ []
+none_in [] = refl
+none_in (d ∷ plans) = refl
+
+-- one port's calls behind those of the ports in front of it
+calls_next : (plans : List (List Call)) (ports : List Port) (n : ℕ) (calls : List Call) (port : Port) → slice_get plans n ≡ Some calls → slice_get ports n ≡ Some port →
+    calls_in plans (take (suc n) ports) ≡ (calls_in plans (take n ports) ++ port.finished.items) ++ left_over port (slice_get calls (length port.finished.items)) port.under_way
+calls_next [] ports n calls port c t = let bad : None ≡ Some calls = c in cc
+calls_next (d ∷ plans) [] n calls port c t = let bad : None ≡ Some port = t in cc
+calls_next (d ∷ plans) (u ∷ ports) zero calls port c t =
+    let same : u ≡ port = cc in
+    let is : d ≡ calls = cc in
+    ap (λ (l : List Called). (u.finished.items ++ left_over u (slice_get d (length u.finished.items)) u.under_way) ++ l) (none_in plans)
+    ∙ append-nil (u.finished.items ++ left_over u (slice_get d (length u.finished.items)) u.under_way)
+    ∙ ap (λ (v : Port). v.finished.items ++ left_over v (slice_get d (length v.finished.items)) v.under_way) same
+    ∙ ap (λ (e : List Call). port.finished.items ++ left_over port (slice_get e (length port.finished.items)) port.under_way) is
+calls_next (d ∷ plans) (u ∷ ports) (suc n) calls port c t =
+    let over = left_over u (slice_get d (length u.finished.items)) u.under_way in
+    let own = left_over port (slice_get calls (length port.finished.items)) port.under_way in
+    let front = calls_in plans (take n ports) in
+    ap (λ (l : List Called). (u.finished.items ++ over) ++ l) (calls_next plans ports n calls port c t)
+    ∙ sym (append_assoc (u.finished.items ++ over) (front ++ port.finished.items) own)
+    ∙ ap (λ (l : List Called). l ++ own) (sym (append_assoc (u.finished.items ++ over) front port.finished.items))
+
+pub calls_more : (plans : List (List Call)) (ports : List Port) (n k : ℕ) (calls : List Call) (port : Port) (over so_far now : List Called) → k ≡ n + 1 → slice_get plans n ≡ Some calls → slice_get ports n ≡ Some port →
+    so_far ≡ calls_in plans (take n ports) → over ≡ left_over port (slice_get calls (length port.finished.items)) port.under_way → now ≡ (so_far ++ port.finished.items) ++ over → now ≡ calls_in plans (take k ports)
+calls_more plans ports n k calls port over so_far now long c t told o is =
+    let one : suc n ≡ k = omega (arith, long) in
+    is
+    ∙ ap (λ (l : List Called). (so_far ++ port.finished.items) ++ l) o
+    ∙ ap (λ (l : List Called). (l ++ port.finished.items) ++ left_over port (slice_get calls (length port.finished.items)) port.under_way) told
+    ∙ sym (calls_next plans ports n calls port c t)
+    ∙ ap (λ i. calls_in plans (take i ports)) one
 
 -- the call that a port leaves unfinished
 pub over_is : (port : Port) (calls : List Call) (way : UnderWay) (call : Call) (c : Called) → port.under_way ≡ Some way → slice_get calls (length port.finished.items) ≡ Some call → c ≡ unfinished_call port.number (length port.finished.items) call way → c ∷ [] ≡ left_over port (slice_get calls (length port.finished.items)) port.under_way
@@ -179,7 +210,3 @@ none_over port call none = sym (over_none port call) ∙ ap (left_over port call
 
 pub some_same : {A : Type 0} {a b : A} → Some a ≡ Some b → a ≡ b
 some_same h = cc
-
-pub not_empty : (ports : List Port) (n : ℕ) → n ≡ length ports → (n == 0) ≡ false → 0 < length ports
-not_empty [] n same none = absurd (false≢true (sym none ∙ ap (λ (k : ℕ). k == 0) same))
-not_empty (t ∷ ports) n same none = omega arith

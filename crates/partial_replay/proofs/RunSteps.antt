@@ -170,9 +170,9 @@ last_of P (y ∷ ys) x all = last_of P ys x all.1
 pub due_adds : (z : Layout) (o : Opening) (words : List ℕ) (before : List Part) (x : Part) (after : List Part) (log : List Applied) (c : CoreState) (step : Step) (number : ℕ) → port_of x ≡ number → LeadsOn z o words before x after log c step → StepAdds z c.sizes.m words step number
 due_adds z o words before x after log c step number port l =
     let own : StepAdds z z.m words step (port_of x) = adds z words (port_of x) step l.publishes (λ e is.
-        let records = lawful_records_are_within z o (words_after words step) (before ++ l.y ∷ after) (log ++ added_by z (port_of x) words step) l.lawful in
-        let IsBehind : Applied → Type 0 = λ e. (z.m ≤ e.stamp) × (view_word e.stamp < length (words_after words step)) in
-        (last_of IsBehind log e (subst (λ (es : List Applied). AllByRecursion IsBehind (log ++ es)) is records.entries)).0) in
+    let records = lawful_records_are_within z o (words_after words step) (before ++ l.y ∷ after) (log ++ added_by z (port_of x) words step) l.lawful in
+    let IsBehind : Applied → Type 0 = λ e. (z.m ≤ e.stamp) × (view_word e.stamp < length (words_after words step)) in
+    (last_of IsBehind log e (subst (λ (es : List Applied). AllByRecursion IsBehind (log ++ es)) is records.entries)).0) in
     let sizes : z.m ≡ c.sizes.m = ap (λ (y : Layout). y.m) (sym l.tells.sizes) in
     subst (λ (n : ℕ). StepAdds z n words step number) sizes (subst (StepAdds z z.m words step) port own)
 

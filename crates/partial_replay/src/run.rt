@@ -237,30 +237,26 @@ fn fresh_ports(alloc: Global, sizes: Sizes, count: usize) -> Result<Vec<Port>, A
 // The calls that the ports have begun, by port and then by number.
 fn calls_of(
     alloc: Global,
-    mut ports: Vec<Port>,
+    ports: Vec<Port>,
     plans: &[Sequence<Call>],
 ) -> Result<Vec<Called>, AllocError>
     requires { AreListed plans.now ports.items }
     ensures { IfOk result (λ calls. calls.items ≡ calls_in plans.now ports.items) }
 {
     let mut calls = Vec::new(alloc);
-    let mut p = 0;
-    while !ports.is_empty() {
+    for (port, plan) in ports.into_iter().zip(plans) {
         let Port {
             number,
-            core,
-            finished,
+            mut finished,
             under_way,
-        } = ports.remove(0);
-        drop(core);
-        let mut finished = finished;
+            ..
+        } = port;
         let done = finished.len();
         calls.append(&mut finished)?;
         if let Some(way) = under_way {
-            let plan = plans[p].as_slice();
-            calls.push(unfinished(alloc, number, done as u32, &plan[done], way)?)?;
+            let call = &plan.as_slice()[done];
+            calls.push(unfinished(alloc, number, done as u32, call, way)?)?;
         }
-        p += 1;
     }
     Ok(calls)
 }

@@ -1,55 +1,99 @@
-use Rattle.std.proofs.Common.{ℕ, suc, ◌≡◌, ◌+◌, ◌++◌, List, [], ◌∷◌, length, drop, ap, ◌∙◌, subst, sym, arith, Some, slice_get, get_or, ◌<◌}
-use Rattle.std.specs.declared.vec.Vec.{Vec}
-use Rattle.std.specs.declared.alloc.Global.{Global}
-use Rattle.std.proofs.lemmas.List.{append-nil}
+use Rattle.std.proofs.Common.{◌≡◌, ◌++◌, List, [], ◌∷◌, length, get_or, slice_get, sym, ◌∙◌, ap, arith}
+use Rattle.std.proofs.lemmas.Iterator.{YieldsList-from_slice, YieldsList-from_zip}
+use Rattle.std.proofs.lemmas.Iterator.Adapters.{YieldsList-from_vec}
+use Rattle.std.proofs.lemmas.Iterator.Consumers.{YieldsList-turn, YieldsList-end}
+use Rattle.std.proofs.lemmas.List.{append-nil, length_push, take_all}
 use Rattle.std.specs.Option.{is_some}
+use Rattle.std.specs.declared.alloc.Global.{Global}
+use Rattle.std.specs.declared.vec.Vec.{Vec}
 use Rattle.partial_model.specs.declared.call.Call.{Call}
-use Rattle.partial_replay.specs.PortState.{unfinished_call}
 use Rattle.partial_model.specs.declared.call.Called.{Called}
-use Rattle.partial_replay.specs.declared.port.Port.{Port}
-use Rattle.partial_replay.specs.RunState.{AreListed, calls_in, left_over}
-use Rattle.partial_replay.proofs.Opens.{AtFront, listed_length, front_is, at_front, told_on, over_is, none_over, not_empty, some_same}
-use Rattle.partial_replay.proofs.PortLaws.{call_at_place, get_is}
-use Rattle.partial_replay.proofs.run.calls_of.Goals.{in-Some+in_ok-unfinished+in_ok-push, in_default}
+use Rattle.partial_replay.specs.PortState.{unfinished_call}
+use Rattle.partial_replay.specs.RunState.{calls_in}
+use Rattle.partial_replay.proofs.Opens.{pair_at, listed_at_place, length-zip, none_in, calls_more, over_is, none_over}
+use Rattle.partial_replay.proofs.PortLaws.{call_at_place}
+use Rattle.partial_replay.proofs.run.calls_of.Goals.{in-Some-under_way+in_ok-unfinished+in_ok-push, in_default}
 use Rattle.partial_replay.proofs.run.calls_of.Goals as goal
 
-pub loop-alloc-init : goal.loop-alloc-init
-loop-alloc-init c =
-    let many = listed_length c.args.plans.now c.args.ports.items c.requires in
-    record { left = omega (arith, many); listed = c.requires; told = ap (λ (l : List Called). l ++ calls_in c.args.plans.now c.args.ports.items) c.new-calls.ensures.items }
+pub loop-port-init : goal.loop-port-init
+loop-port-init c = c.new-calls.ensures.items ∙ sym (none_in c.args.plans.now)
 
-pub loop-alloc-preserved : goal.loop-alloc-preserved
-loop-alloc-preserved c =
-    let port : Port = c.remove-number.result in
-    let rest = c.remove-number.new.self.items in
+pub bounds-as_slice-done : goal.bounds-as_slice-done
+bounds-as_slice-done c =
     let plans = c.args.plans.now in
-    let p = c.loop-alloc.p in
-    let is : c.loop-alloc.ports.items ≡ port ∷ rest = front_is c.loop-alloc.ports.items port rest (not_empty c.loop-alloc.ports.items c.loop-alloc.ports.len (omega (arith, c.loop-alloc.ports.ok.0)) (sym c.is_empty.ensures ∙ c.loop-alloc-test.true)) c.remove-number.ensures.value c.remove-number.ensures.items in
-    let f : AtFront plans p port rest = at_front plans p port rest (subst (λ (l : List Port). AreListed (drop p plans) l) is c.loop-alloc.invariant.listed) in
-    let many : length c.loop-alloc.ports.items ≡ length rest + 1 = (let n = ap length is in omega (arith, n)) in
-    let told = subst (λ (l : List Port). c.loop-alloc.calls.items ++ calls_in (drop p plans) l ≡ calls_in plans c.args.ports.items) is c.loop-alloc.invariant.told in
-    let next : suc p ≡ p + 1 = omega arith in
-    let left : length rest + (p + 1) ≡ length plans = omega (arith, many, c.loop-alloc.invariant.left) in
-    let listed : AreListed (drop (p + 1) plans) rest = subst (λ (n : ℕ). AreListed (drop n plans) rest) next f.listed in
-    let all = calls_in plans c.args.ports.items in
-    let on : (over now : List Called) → over ≡ left_over port (slice_get (f.calls) (length port.finished.items)) port.under_way → now ≡ (c.loop-alloc.calls.items ++ port.finished.items) ++ over → now ++ calls_in (drop (p + 1) plans) rest ≡ all
-    = λ over now o n. subst (λ (k : ℕ). now ++ calls_in (drop k plans) rest ≡ all) next (told_on plans p port rest all c.loop-alloc.calls.items now f told (n ∙ ap (λ (l : List Called). (c.loop-alloc.calls.items ++ port.finished.items) ++ l) o)) in
+    let ports = c.args.ports.items in
+    let port = c.in-Some.port in
+    let plan = c.in-Some.plan.now in
+    let n = length c.loop-port.yielded in
+    let given = c.into_iter-port-iterator.ensures.into_iter_gives in
+    let first = c.zip-port-items.ensures.first in
+    let front = YieldsList-from_vec ports (rw (given, first) c.into_iter.ensures.rest) (rw (given, first) (omega (arith, c.into_iter.ensures.len, c.args.ports.ok.0))) in
+    let road = YieldsList-from_zip front (YieldsList-from_slice plans (rw given c.zip-port-items.ensures.second.0)) in
+    let turn = YieldsList-turn road c.loop-port.yielded c.loop-port.port-iterator c.loop-port.yielded_by c.next.result c.next.new.self (port, c.in-Some.plan) c.in-Some.is c.next.ensures.steps in
+    let here = pair_at ports plans n port plan turn in
+    let within = (listed_at_place plans ports n plan port c.requires here.1 here.0).1 (ap is_some c.in-Some-under_way.is) in
+    let same : length c.as_slice.result.now ≡ length plan = ap length c.as_slice.ensures in
+    omega (arith, within, same, port.finished.ok.0, c.len-done.ensures)
+
+pub overflow_cast-done : goal.overflow_cast-done
+overflow_cast-done c =
+    let plans = c.args.plans.now in
+    let ports = c.args.ports.items in
+    let port = c.in-Some.port in
+    let plan = c.in-Some.plan.now in
+    let n = length c.loop-port.yielded in
+    let given = c.into_iter-port-iterator.ensures.into_iter_gives in
+    let first = c.zip-port-items.ensures.first in
+    let front = YieldsList-from_vec ports (rw (given, first) c.into_iter.ensures.rest) (rw (given, first) (omega (arith, c.into_iter.ensures.len, c.args.ports.ok.0))) in
+    let road = YieldsList-from_zip front (YieldsList-from_slice plans (rw given c.zip-port-items.ensures.second.0)) in
+    let turn = YieldsList-turn road c.loop-port.yielded c.loop-port.port-iterator c.loop-port.yielded_by c.next.result c.next.new.self (port, c.in-Some.plan) c.in-Some.is c.next.ensures.steps in
+    let here = pair_at ports plans n port plan turn in
+    let listed = listed_at_place plans ports n plan port c.requires here.1 here.0 in
+    let within = listed.1 (ap is_some c.in-Some-under_way.is) in
+    let short = listed.0 in
+    omega (arith, within, short, port.finished.ok.0, c.len-done.ensures)
+
+pub loop-port-preserved : goal.loop-port-preserved
+loop-port-preserved c =
+    let plans = c.args.plans.now in
+    let ports = c.args.ports.items in
+    let port = c.in-Some.port in
+    let plan = c.in-Some.plan.now in
+    let n = length c.loop-port.yielded in
+    let given = c.into_iter-port-iterator.ensures.into_iter_gives in
+    let first = c.zip-port-items.ensures.first in
+    let front = YieldsList-from_vec ports (rw (given, first) c.into_iter.ensures.rest) (rw (given, first) (omega (arith, c.into_iter.ensures.len, c.args.ports.ok.0))) in
+    let road = YieldsList-from_zip front (YieldsList-from_slice plans (rw given c.zip-port-items.ensures.second.0)) in
+    let turn = YieldsList-turn road c.loop-port.yielded c.loop-port.port-iterator c.loop-port.yielded_by c.next.result c.next.new.self (port, c.in-Some.plan) c.in-Some.is c.next.ensures.steps in
+    let here = pair_at ports plans n port plan turn in
+    let long = length_push c.loop-port.yielded (port, c.in-Some.plan) in
+    let k = length (c.loop-port.yielded ++ (port, c.in-Some.plan) ∷ []) in
+    let now = c.match-under_way.calls.items in
     elim c.match-under_way.branch [
-      | in-Some+in_ok-unfinished+in_ok-push w ↦
-          let now : c.match-under_way.calls.items ≡ (c.loop-alloc.calls.items ++ port.finished.items) ++ w.in_ok-unfinished.field-0 ∷ [] =
-          ap (λ (v : Vec Called Global). v.items) w.calls-is ∙ w.in_ok-push.ensures.items ∙ ap (λ (l : List Called). l ++ w.in_ok-unfinished.field-0 ∷ []) c.in_ok-append.ensures.items in
-          let done = c.len-done.result in
-          let call : Call = w.index-plan-done.result in
-          let within : length port.finished.items < length (f.calls) = f.within (ap is_some w.in-Some.is) in
-          let same : done ≡ length port.finished.items = omega (arith, port.finished.ok.0) in
-          let done_below : done < length (f.calls) = omega (arith, same, within) in
-          let below : p < length plans = omega (arith, left) in
-          let plan : w.as_slice-plan.result.now ≡ f.calls = w.as_slice-plan.ensures ∙ w.index-plans-p.is ∙ some_same (sym (get_is plans p w.index-plans-p.result below) ∙ f.get) in
-          let get : slice_get (f.calls) (length port.finished.items) ≡ Some call = call_at_place (f.calls) port.finished.items done call same done_below (w.index-plan-done.is ∙ ap (λ (l : List Call). get_or l done call) plan) in
-          let over = over_is port (f.calls) w.in-Some.way call w.in_ok-unfinished.field-0 w.in-Some.is get (w.in_ok-unfinished.ensures ∙ ap (λ (n : ℕ). unfinished_call port.number n call w.in-Some.way) same) in
-          record { left = left; listed = listed; told = on (w.in_ok-unfinished.field-0 ∷ []) c.match-under_way.calls.items over now }
+      | in-Some-under_way+in_ok-unfinished+in_ok-push w ↦
+          let call : Call = w.index-as_slice-done.result in
+          let ended : Called = w.in_ok-unfinished.field-0 in
+          let within = (listed_at_place plans ports n plan port c.requires here.1 here.0).1 (ap is_some w.in-Some-under_way.is) in
+          let same : c.len-done.result ≡ length port.finished.items = omega (arith, port.finished.ok.0, c.len-done.ensures) in
+          let get = call_at_place plan port.finished.items c.len-done.result call same (omega (arith, same, within)) (w.index-as_slice-done.is ∙ ap (λ (l : List Call). get_or l c.len-done.result call) w.as_slice.ensures) in
+          let over = over_is port plan w.in-Some-under_way.way call ended w.in-Some-under_way.is get (w.in_ok-unfinished.ensures ∙ ap (λ i. unfinished_call port.number i call w.in-Some-under_way.way) same) in
+          let is : now ≡ (c.loop-port.calls.items ++ port.finished.items) ++ ended ∷ [] = ap (λ (v : Vec Called Global). v.items) w.calls-is ∙ w.in_ok-push.ensures.items ∙ ap (λ (l : List Called). l ++ ended ∷ []) c.in_ok-append.ensures.items in
+          calls_more plans ports n k plan port (ended ∷ []) c.loop-port.calls.items now long here.1 here.0 c.loop-port.invariant over is
       | in_default w ↦
-          let now : c.match-under_way.calls.items ≡ (c.loop-alloc.calls.items ++ port.finished.items) ++ [] =
-          ap (λ (v : Vec Called Global). v.items) w.calls-is ∙ c.in_ok-append.ensures.items ∙ sym (append-nil (c.loop-alloc.calls.items ++ port.finished.items)) in
-          record { left = left; listed = listed; told = on [] c.match-under_way.calls.items (none_over port (slice_get (f.calls) (length port.finished.items)) w.in_default.is) now }
+          let over = none_over port (slice_get plan (length port.finished.items)) w.in_default.is in
+          let is : now ≡ (c.loop-port.calls.items ++ port.finished.items) ++ [] = ap (λ (v : Vec Called Global). v.items) w.calls-is ∙ c.in_ok-append.ensures.items ∙ sym (append-nil (c.loop-port.calls.items ++ port.finished.items)) in
+          calls_more plans ports n k plan port [] c.loop-port.calls.items now long here.1 here.0 c.loop-port.invariant over is
     ]
+
+pub returns : goal.returns
+returns c =
+    let plans = c.args.plans.now in
+    let ports = c.args.ports.items in
+    let given = c.into_iter-port-iterator.ensures.into_iter_gives in
+    let first = c.zip-port-items.ensures.first in
+    let front = YieldsList-from_vec ports (rw (given, first) c.into_iter.ensures.rest) (rw (given, first) (omega (arith, c.into_iter.ensures.len, c.args.ports.ok.0))) in
+    let road = YieldsList-from_zip front (YieldsList-from_slice plans (rw given c.zip-port-items.ensures.second.0)) in
+    let end = YieldsList-end road c.loop-port.yielded c.loop-port.port-iterator c.loop-port.yielded_by c.next.result c.next.new.self c.in-None.is c.next.ensures.steps in
+    let long = length-zip plans ports c.requires in
+    let all = end.1 in
+    c.loop-port.invariant ∙ ap (calls_in plans) (take_all (length c.loop-port.yielded) ports (omega (arith, all, long)))
