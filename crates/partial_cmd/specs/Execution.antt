@@ -1,5 +1,5 @@
 -- What a command answers, and what it writes.
-use Rattle.std.specs.Prelude.{ℕ, ◌≡◌, List, [], ◌∷◌, ◌++◌, take, codes, Option, None, IfSome, Result, Ok, Err}
+use Rattle.std.specs.Prelude.{ℕ, ◌≡◌, List, [], ◌∷◌, ◌++◌, take, codes, Option, Some, None, IfSome, Result, Ok, Err}
 use Rattle.std.specs.Io.KnownBytes.{Appends}
 use Rattle.partial_text.specs.declared.fault.Cause.{Cause}
 use Rattle.partial_text.specs.declared.fault.PlanError.{PlanError}
@@ -64,12 +64,18 @@ pub record IsReplayed (text : Option (List ℕ)) (p : PlanView) (outcome : Outco
   pub read : IfSome text (λ bytes. bytes ≡ plan_text p)
   pub replayed : IsReplayOf p outcome
 
--- what the verb asks for was written of a replay of the plan
-abbrev pub WritesOutcome : Verb → Option (List ℕ) → Option (List ℕ) → Option (List ℕ) → Type 0
-WritesOutcome verb text before after =
-    (p : PlanView) × (outcome : Outcome) × IsReplayed text p outcome × Appends before after (text_of verb outcome)
+-- that is what the verb asks to be written of the plan with this text: of an outcome of its replay
+abbrev pub IsAnswer : Verb → Option (List ℕ) → List ℕ → Type 0
+IsAnswer verb text answer = (p : PlanView) × (outcome : Outcome) × IsReplayed text p outcome × (answer ≡ text_of verb outcome)
 
--- a part of such a text was written, from its front
+-- it was written
+abbrev pub WritesOutcome : Verb → Option (List ℕ) → Option (List ℕ) → Option (List ℕ) → Type 0
+WritesOutcome verb text before after = (answer : List ℕ) × IsAnswer verb text answer × Appends before after answer
+
+-- a part of it was written, from its front
 abbrev pub WritesPart : Verb → Option (List ℕ) → Option (List ℕ) → Option (List ℕ) → Type 0
-WritesPart verb text before after =
-    (p : PlanView) × (outcome : Outcome) × (n : ℕ) × IsReplayed text p outcome × Appends before after (take n (text_of verb outcome))
+WritesPart verb text before after = (answer : List ℕ) × (n : ℕ) × IsAnswer verb text answer × Appends before after (take n answer)
+
+-- what a verb asks to be written is a function of the bytes of the plan's text
+abbrev pub PlansHaveOneAnswer : Type 0
+PlansHaveOneAnswer = (verb : Verb) (bytes a b : List ℕ) → IsAnswer verb (Some bytes) a → IsAnswer verb (Some bytes) b → a ≡ b

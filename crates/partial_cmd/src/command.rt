@@ -57,7 +57,7 @@ pub fn execute<R: Read, W: Write>(
     // A replay is done, and a check finds the outcome lawful, whatever the plan.
     ensures verdict { IfOk result (λ verdict. verdict ≡ verdict_of verb) }
     // Exactly the text that the verb asks for is written, of a legal outcome of the plan's calls, made in
-    // the plan's turns.
+    // the plan's turns: `plans_have_one_answer` says that this is one text for each text of a plan.
     ensures written { OnOk result (WritesOutcome verb (R.remaining plan.old.inner)
         (W.contents out.old.inner) (W.contents out.new.inner)) }
     // Nothing is written but after a fault of the writer, and then a part of such a text.

@@ -3,8 +3,10 @@
 
 mod command;
 mod fault;
+mod law;
 #[cfg(test)]
 mod tests;
 
 pub use command::{Verb, Verdict, execute};
 pub use fault::Fault;
+pub use law::plans_have_one_answer;

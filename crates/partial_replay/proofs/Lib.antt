@@ -19,4 +19,5 @@ pub mod Told
 pub mod Replays
 pub mod Alone
 pub mod StepsOf
-mod ScanSteps
+pub mod ScanSteps
+pub mod Laws

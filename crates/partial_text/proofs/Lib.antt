@@ -11,3 +11,4 @@ pub mod LineLaws
 pub mod PlanLaws
 pub mod ReaderLaws
 pub mod AgainLaws
+pub mod Laws
