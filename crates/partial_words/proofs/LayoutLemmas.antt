@@ -1,5 +1,5 @@
 -- The regions of the words, and the words at opening.
-use Rattle.std.proofs.Common.{ℕ, ◌≡◌, ◌+◌, ◌-◌, ◌*◌, ◌/◌, ◌%◌, ◌<◌, ◌≤◌, ◌==◌, cond, List, [], slice_index, refl, sym, ◌∙◌, ap, inl, inr, arith}
+use Rattle.std.proofs.Common.{ℕ, ◌≡◌, ◌+◌, ◌-◌, ◌*◌, ◌/◌, ◌%◌, ◌<◌, ◌≤◌, ◌==◌, cond, List, [], length, slice_index, refl, sym, ◌∙◌, ap, inl, inr, arith}
 use Rattle.std.proofs.lemmas.Bool.{cases_lt}
 use Rattle.std.proofs.lemmas.Bool.Decides.{nat_tests}
 use Rattle.partial_model.specs.declared.history.Opening.{Opening}
@@ -94,4 +94,5 @@ opening_agrees s o words opens j below =
     let value : slice_index words (pool_base s + (3 * j + 1)) ≡ slice_index o.values j = opens.words.each (pool_base s + (3 * j + 1)) (omega arith) ∙ opening_record s o.values (3 * j + 1) (omega arith) ∙ initial_value o.values j in
     let stamp : o.first + 3 * j ≡ pool_base s + 3 * j = ap (λ n. n + 3 * j) opens.stamps in
     let next : slice_index words j + 1 ≡ pool_base s + (3 * j + 1) = omega (arith, named) in
-    (named ∙ sym stamp, (stamp ∙ sym named, ap (slice_index words) next ∙ value, ap (slice_index words) named ∙ prev))
+    let count : length words ≡ total s = opens.words.count in
+    (named ∙ sym stamp, (record { stamp = stamp ∙ sym named; within = omega (arith, named, count, pool, in'); value = ap (slice_index words) next ∙ value }, ap (slice_index words) named ∙ prev))
