@@ -134,7 +134,7 @@ module _ (z : Layout) (o : Opening) (words words' : List ℕ) (before : List Hol
   pub entry_prev : (k : ℕ) (e : Applied) → slice_get log k ≡ Some e → get_or words' e.stamp 0 ≡ get_or words e.stamp 0
   entry_prev k e s = let none : e.stamp ≡ e.stamp + 0 = omega arith in ap (λ n. get_or words' n 0) none ∙ entry_three k e 0 s (omega arith) ∙ ap (λ n. get_or words n 0) (sym none)
 
-  initial_word : (n : ℕ) → pool_base z ≤ n → n < pool_base z + 3 * z.m → get_or words' n 0 ≡ get_or words n 0
+  pub initial_word : (n : ℕ) → pool_base z ≤ n → n < pool_base z + 3 * z.m → get_or words' n 0 ≡ get_or words n 0
   initial_word n from to =
       let b : Block = record { at = pool_base z; size = 3 * z.m } in
       m.same n (omega (arith, from)) (if_some (λ c. AreApart (record { at = pool_base z; size = 3 * z.m }) (block_of c)) (λ c. AreApart (word_at n) (block_of c)) h.own (λ c is a. part_apart (word_at n) (record { at = pool_base z; size = 3 * z.m }) (block_of c) from (omega (arith, to)) a) (from_own b (initial_free z o words (before ++ h ∷ after) log w)))

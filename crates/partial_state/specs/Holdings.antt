@@ -78,7 +78,8 @@ announcements hs =
 -- the block of the record at `stamp`, with the view behind it where it has one of its own
 abbrev pub block_at : List ℕ → ℕ → Block
 block_at words stamp =
-    let size : ℕ = if view_of words stamp == own_view stamp then full_record_size (view_len words (own_view stamp)) else plain_record_size in
+    let size : ℕ = if view_of words stamp == own_view stamp then full_record_size (view_len words (own_view stamp)) else plain_record_size
+    in
     record { at = stamp; size = size }
 
 -- the initial records, the entries' records, the announcements that stand in slots, and the blocks that aren't published yet
