@@ -1,5 +1,5 @@
 -- A finite set of numbers as a list of closed intervals.
-use Rattle.std.specs.Prelude.{ℕ, ◌+◌, ◌<◌, ◌≤◌, List, length, slice_index_or}
+use Rattle.std.specs.Prelude.{ℕ, ◌≡◌, ◌↔◌, ◌+◌, ◌<◌, ◌≤◌, List, length, slice_index_or}
 
 -- the intervals in order, each as its lowest and its highest number
 abbrev pub Ranges : Type 0
@@ -22,6 +22,10 @@ pub record IsNormal (list : Ranges) : Type 0 where
   pub closed : (k : ℕ) → k < length list → lowest list k ≤ highest list k
   pub bounded : (k : ℕ) → k < length list → highest list k < 4294967295
   pub apart : (j k : ℕ) → j < k → k < length list → highest list j + 1 < lowest list k
+
+-- two normal forms of one set are equal
+abbrev pub NormalFormsAreOne : Type 0
+NormalFormsAreOne = (a b : Ranges) → IsNormal a → IsNormal b → ((l : ℕ) → Holds a l ↔ Holds b l) → a ≡ b
 
 -- the list goes on with the interval from lo to hi
 pub record GoesOn (list : Ranges) (lo hi : ℕ) : Type 0 where
