@@ -161,10 +161,11 @@ module _ (z : Layout) (o : Opening) (words : List ℕ) (before : List Part) (x :
         let inside : first ≤ length log = omega (arith, order, end) in
         let sizes = sizes_here z o words before x after log w in
         let below : c.component < z.m = subst (λ (y : Layout). c.component < y.m) sizes sound.0.0 in
-        let indices : AreComponents z s.found.indices = subst (λ (y : Layout). AreComponents y s.found.indices) sizes (sound_here z o words before x after log w).indices in
+        let sound_part = sound_here z o words before x after log w in
+        let indices : AreComponents z s.found.indices = subst (λ (y : Layout). AreComponents y s.found.indices) sizes sound_part.indices in
         let viewed : HasViewed o words' log first s = viewed_then z o words words' (holdings (before ++ x ∷ after)) log first s inside entry_stays known.1 in
         let dues = dues_are_kept z o words' (holdings before) (record held { own = Some whole }) (holdings after) log due all_stored.lawful
-        (record_due z o words' (holdings before) (record held { own = Some whole }) (holdings after) log all_stored.lawful s c old at refl first inside below known.0.stamp (others_found first known.1.0) refl viewed indices) in
+        (record_due z o words' (holdings before) (record held { own = Some whole }) (holdings after) log all_stored.lawful s c old at refl first inside below known.0.stamp (others_found first known.1.0) refl viewed indices sound_part.distinct) in
         keeps_then z o (record { words = words; holdings = hs; log = log }) (record { words = words'; holdings = holdings before ++ record held { own = Some whole } ∷ holdings after; log = log }) (record { words = words'; holdings = holdings before ++ record held { own = Some whole; due = Some due } ∷ holdings after; log = log }) all_stored dues
 
     last_stored : LeadsAt z o words before x after log s (StoringRecord c old at k) step

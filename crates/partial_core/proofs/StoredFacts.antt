@@ -1,7 +1,7 @@
 -- The record that an update writes: how many words it has, and what its view shows once all of them stand.
 use Rattle.std.proofs.Common.{ℕ, ◌≡◌, ◌≢◌, ◌+◌, ◌*◌, ◌<◌, ◌≤◌, ◌==◌, ◌++◌, ◌⊎◌, Bool, true, false, cond, suc, zero, Option, Some, None, List, [], ◌∷◌, length, get_or, slice_get, take, map, inl, inr, refl, sym, ap, subst, ◌∙◌, arith}
-use Rattle.std.specs.Prelude.{Contains}
-use Rattle.std.specs.List.{AllByRecursion}
+use Rattle.std.specs.Prelude.{Contains, nat_eq}
+use Rattle.std.specs.List.{AllByRecursion, IsDistinct}
 use Rattle.std.specs.Option.{option_map_or, option_map}
 use Rattle.std.proofs.lemmas.Bool.{ne_eqb, eq-eqb, eqb-true, eqb-false, or_cases, false≢true}
 use Rattle.std.proofs.lemmas.List.{length-map}
@@ -176,7 +176,7 @@ module _ (z : Layout) (o : Opening) (words : List ℕ) (before : List Holding) (
   })
 
   -- nothing is borrowed: the view is the record's own, with the values after one prefix
-  module _ (none : s.embedded.borrowed ≡ None) (n : ℕ) (values : HasValues o log s.found.indices first (length log) s.rows n (length s.found.indices)) (few : length s.found.indices ≤ z.m) (each : (i : ℕ) → i < length s.found.indices → get_or s.found.indices i 0 < z.m) where
+  module _ (none : s.embedded.borrowed ≡ None) (n : ℕ) (values : HasValues o log s.found.indices first (length log) s.rows n (length s.found.indices)) (few : length s.found.indices ≤ z.m) (each : (i : ℕ) → i < length s.found.indices → get_or s.found.indices i 0 < z.m) (distinct : IsDistinct nat_eq s.found.indices) where
     abbrev pairs : List (ℕ × ℕ)
     pairs = map (λ j. (j, get_or s.rows.values j 0)) s.found.indices
 
@@ -209,6 +209,7 @@ module _ (z : Layout) (o : Opening) (words : List ℕ) (before : List Holding) (
           below = omega (arith, l, size, total);
           few = omega (arith, few, count);
           components = all_map (λ (q : ℕ × ℕ). q.0 < z.m) (λ j. (j, get_or s.rows.values j 0)) s.found.indices (each_index (λ j. j < z.m) s.found.indices each);
+          distinct = subst (IsDistinct nat_eq) (sym (firsts (λ j. get_or s.rows.values j 0) s.found.indices)) distinct;
           stands = view_stands words at old c.value (view_at s at) pairs some (subst (λ (ps : List (ℕ × ℕ)). StandsAt words at (record_block old c.value (view_at s at) ps)) pairs_are stands);
           apart = parts_apart us (record { at = at + 3; size = length (view_block pairs) }) (block_of block) (omega arith) (omega (arith, size, total)) apart_own;
         }
@@ -323,9 +324,9 @@ module _ (z : Layout) (o : Opening) (words : List ℕ) (before : List Holding) (
         }
 
   -- the record's exchange may be due
-  pub record_due : joined_in h.claimed ≡ None → HasViewed o words log first s → AreComponents z s.found.indices → IsDue z o words h (others_of h.port hs) log (record { component = c.component; old = old; value = c.value; at = at })
-  record_due free viewed indices = due_of free (by_borrowed s.embedded.borrowed refl)
+  pub record_due : joined_in h.claimed ≡ None → HasViewed o words log first s → AreComponents z s.found.indices → IsDistinct nat_eq s.found.indices → IsDue z o words h (others_of h.port hs) log (record { component = c.component; old = old; value = c.value; at = at })
+  record_due free viewed indices distinct = due_of free (by_borrowed s.embedded.borrowed refl)
     where
       by_borrowed : (f : Option ℕ) → s.embedded.borrowed ≡ f → Shows
-      by_borrowed None is = let own = viewed.own is in shows_own is own.0 own.1 indices.few indices.each
+      by_borrowed None is = let own = viewed.own is in shows_own is own.0 own.1 indices.few indices.each distinct
       by_borrowed (Some stamp) is = let third = viewed.borrowed stamp is in shows_borrowed stamp is third.0 third.1

@@ -1,3 +1,4 @@
 pub mod Keeps
 pub mod RunLaws
 pub mod Traces
+pub mod Ends

@@ -18,14 +18,14 @@ one_longer : (xs : List ℕ) (x : ℕ) → length (xs ++ x ∷ []) ≡ length xs
 one_longer xs x = length-append xs (x ∷ [])
 
 -- a position has changed by collect c, of which the first k positions were loaded
-record HasChanged (r : ℕ) (xs : List ℕ) (c k i : ℕ) : Type 0 where
+pub record HasChanged (r : ℕ) (xs : List ℕ) (c k i : ℕ) : Type 0 where
   collect : ℕ
   by : collect + 1 ≤ c
   loaded : collect + 1 ≡ c → i < k
   changes : Changes r xs collect i
 
 -- in collect c, of which the first k positions were loaded
-record Traced (r : ℕ) (p : Pair) (k : ℕ) (xs : List ℕ) : Type 0 where
+pub record Traced (r : ℕ) (p : Pair) (k : ℕ) (xs : List ℕ) : Type 0 where
   c : ℕ
   collects : p.0.collects ≡ c + 1
   long : length xs ≡ r * c + k
@@ -36,7 +36,7 @@ record Traced (r : ℕ) (p : Pair) (k : ℕ) (xs : List ℕ) : Type 0 where
   unmoved : (b : ℕ) → c ≡ b + 1 → p.0.moved ≡ false → (i : ℕ) → i < k → load_in r xs c i ≡ load_in r xs b i
 
 -- what the answers so far tell at a stage
-abbrev trace_at : ℕ → Pair → List ℕ → Stage → Type 0
+abbrev pub trace_at : ℕ → Pair → List ℕ → Stage → Type 0
 trace_at r p xs (Collect k) = Traced r p k xs
 trace_at r p xs (View stamp) = ShowsThirdRecord r xs p.0.collects stamp
 trace_at r p xs (Value k) = k ≡ 0 → LastTwoAreEqual r xs p.0.collects
@@ -129,6 +129,7 @@ module _ (r : ℕ) (p : Pair) (k x : ℕ) (xs : List ℕ) (t : Traced r p k xs) 
         again = λ same. eqb-false (get_or p.1.last k 0) x other (last_is b e ∙ sym (before_is b e k within) ∙ same ∙ next);
         last = omega (arith, collects, e);
         shown = next;
+        left = let l = one_longer xs x in let long = t.long in let times : r * t.c ≡ r * (b + 1) = ap (λ n. r * n) e in omega (arith, l, long, times);
       }
     where
       and_left : (a b : Bool) → (a && b) ≡ true → a ≡ true
@@ -284,7 +285,7 @@ module _ (indices : List ℕ) (p : Pair) (x : ℕ) (xs : List ℕ) (w : GoTogeth
   value_traced q ys k true = λ e. absurd (omega (arith, e))
   value_traced q ys k false = tt
 
-  step_traced : (s : Stage) → goes_at indices p s → IsPossibleAt p.0.sizes s x → trace_at (length indices) p xs s → trace_at (length indices) (advance_at indices p s x) (xs ++ x ∷ []) (advance_at indices p s x).0.stage
+  pub step_traced : (s : Stage) → goes_at indices p s → IsPossibleAt p.0.sizes s x → trace_at (length indices) p xs s → trace_at (length indices) (advance_at indices p s x) (xs ++ x ∷ []) (advance_at indices p s x).0.stage
   step_traced (Collect k) goes possible t = collect_traced k goes.0 t
   step_traced (View stamp) goes possible t = done_or (after_view p.0 x, p.1) (xs ++ x ∷ []) ((x == 0) || p.0.shares) (Len x) tt
   step_traced (Len at) goes possible t = done_or (at_stage p (pairs_from (at + 1) x)) (xs ++ x ∷ []) (x == 0) (Index (at + 1) x) tt
@@ -294,14 +295,14 @@ module _ (indices : List ℕ) (p : Pair) (x : ℕ) (xs : List ℕ) (w : GoTogeth
   step_traced Done goes possible t = absurd possible
 
 -- over a run
-run_traced : (indices : List ℕ) (p : Pair) (past xs : List ℕ) (q : Pair) → GoTogether indices p → trace_at (length indices) p past p.0.stage → Run indices p xs q → trace_at (length indices) q (past ++ xs) q.0.stage
+pub run_traced : (indices : List ℕ) (p : Pair) (past xs : List ℕ) (q : Pair) → GoTogether indices p → trace_at (length indices) p past p.0.stage → Run indices p xs q → trace_at (length indices) q (past ++ xs) q.0.stage
 run_traced indices p past [] q w t is =
     subst (λ (l : List ℕ). trace_at (length indices) q l q.0.stage) (sym (append-nil past)) (subst (λ (u : Pair). trace_at (length indices) u past u.0.stage) (sym is) t)
 run_traced indices p past (x ∷ xs) q w t run =
     subst (λ (l : List ℕ). trace_at (length indices) q l q.0.stage) (append_assoc past (x ∷ []) xs)
     (run_traced indices (advance indices p x) (past ++ x ∷ []) xs q (kept indices p x w run.0).together (step_traced indices p x past w p.0.stage w.stage run.0 t) run.1)
 
-fresh_traced : (s : Layout) (shares : Bool) (rows : RowsState) (r : ℕ) → Traced r (fresh s shares, rows) 0 []
+pub fresh_traced : (s : Layout) (shares : Bool) (rows : RowsState) (r : ℕ) → Traced r (fresh s shares, rows) 0 []
 fresh_traced s shares rows r = record {
   c = 0;
   collects = refl;

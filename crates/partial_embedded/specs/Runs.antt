@@ -1,9 +1,9 @@
 -- What an embedded scan does over every run of possible answers.
-use Rattle.std.specs.Prelude.{ℕ, ◌≡◌, ◌≢◌, ◌*◌, ◌+◌, ◌<◌, ◌≤◌, Bool, Some, List, [], ◌∷◌, length, slice_index}
+use Rattle.std.specs.Prelude.{ℕ, ◌≡◌, ◌≢◌, ◌*◌, ◌+◌, ◌<◌, ◌≤◌, Bool, Some, None, List, [], ◌∷◌, ◌++◌, length, take, slice_index, slice_set}
 use Rattle.partial_words.specs.declared.step.Step.{Step}
 use Rattle.partial_words.specs.declared.step.Step.TheVariants.{Load}
 use Rattle.partial_words.specs.Layout.{Layout}
-use Rattle.partial_embedded.specs.declared.embedded.Stage.TheVariants.{View, Value}
+use Rattle.partial_embedded.specs.declared.embedded.Stage.TheVariants.{View, Value, Done}
 use Rattle.partial_embedded.specs.Embedded.{Pair, RowsState, ArePositions, IsFor, IsPossible, fresh, advance, step_of, left_of, most_steps}
 
 -- these answers lead the machine from one state to the other, each a possible one
@@ -46,7 +46,8 @@ pub record LastTwoAreEqual (r : ℕ) (xs : List ℕ) (collects : ℕ) : Type 0 w
 abbrev pub Changes : ℕ → List ℕ → ℕ → ℕ → Type 0
 Changes r xs c k = load_in r xs c k ≢ load_in r xs (c + 1) k
 
--- a position has changed twice, the second time in the last collect, where it shows this record
+-- A position has changed twice, the second time in the last collect, where it shows this record. That load is the last one:
+-- the collect is left at once.
 pub record ShowsThirdRecord (r : ℕ) (xs : List ℕ) (collects stamp : ℕ) : Type 0 where
   pub position : ℕ
   pub within : position < r
@@ -57,6 +58,7 @@ pub record ShowsThirdRecord (r : ℕ) (xs : List ℕ) (collects stamp : ℕ) : T
   pub again : Changes r xs second position
   pub last : collects ≡ second + 2
   pub shown : load_in r xs (second + 1) position ≡ stamp
+  pub left : length xs ≡ r * (second + 1) + position + 1
 
 -- it loads values only behind two equal collects, and borrows only from a third record at one position
 abbrev pub EndsInEqualCollectsOrAThirdRecord : Type 0
@@ -64,3 +66,38 @@ EndsInEqualCollectsOrAThirdRecord =
     (s : Layout) (shares : Bool) (indices : List ℕ) (rows : RowsState) (xs : List ℕ) (q : Pair) → RunsTo s shares indices rows xs q →
     (q.0.stage ≡ Value 0 → LastTwoAreEqual (length indices) xs q.0.collects)
     × ((stamp : ℕ) → q.0.stage ≡ View stamp → ShowsThirdRecord (length indices) xs q.0.collects stamp)
+
+-- the values of the components once these loads were taken in, position by position: where one repeats the last load counts
+abbrev pub written : List ℕ → List ℕ → List ℕ → List ℕ
+written [] loads values = values
+written (j ∷ js) [] values = values
+written (j ∷ js) (x ∷ xs) values = written js xs (slice_set values j x)
+
+-- the answers are whole collects, the last two of them equal, and then the values of so many positions
+pub record LoadsValues (indices xs : List ℕ) (q : Pair) (k : ℕ) : Type 0 where
+  pub front : List ℕ
+  pub loads : List ℕ
+  pub is : xs ≡ front ++ loads
+  pub count : length loads ≡ k
+  pub equal : LastTwoAreEqual (length indices) front q.0.collects
+  pub before : List ℕ
+  pub values : q.1.values ≡ written (take k indices) loads before
+
+-- the answers are collects up to a third record at one position, and then loads of its view, whose reference comes first
+pub record LoadsView (r : ℕ) (xs : List ℕ) (q : Pair) (stamp : ℕ) : Type 0 where
+  pub front : List ℕ
+  pub behind : List ℕ
+  pub is : xs ≡ front ++ q.0.view ∷ behind
+  pub third : ShowsThirdRecord r front q.0.collects stamp
+  pub borrowed : q.0.borrowed ≡ Some stamp
+
+-- A finished scan has borrowed nothing, and then its values are those that it loaded behind two equal collects; or it has
+-- borrowed the view of the record that was the third one at some position.
+pub record EndsWell (indices xs : List ℕ) (q : Pair) : Type 0 where
+  pub own : q.0.borrowed ≡ None → LoadsValues indices xs q (length indices)
+  pub shared : (stamp : ℕ) → q.0.borrowed ≡ Some stamp → LoadsView (length indices) xs q stamp
+
+-- a finished scan ends in one of the two ways
+abbrev pub FinishedScansEndWell : Type 0
+FinishedScansEndWell = (s : Layout) (shares : Bool) (indices : List ℕ) (rows : RowsState) (xs : List ℕ) (q : Pair) →
+    RunsTo s shares indices rows xs q → q.0.stage ≡ Done → EndsWell indices xs q

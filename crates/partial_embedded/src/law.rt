@@ -1,7 +1,7 @@
 //! Laws about whole embedded scans. The functions have no code: their contracts hold of the definitions
 //! by which the machine's own contracts are stated.
 
-ghost use Rattle.partial_embedded.specs.Runs.{EndsInEqualCollectsOrAThirdRecord, LoadsItsPositionsAlone, MakesFewCollects};
+ghost use Rattle.partial_embedded.specs.Runs.{EndsInEqualCollectsOrAThirdRecord, FinishedScansEndWell, LoadsItsPositionsAlone, MakesFewCollects};
 
 /// Each step of an embedded scan is a load, and it loads no component word but those of its positions.
 pub fn loads_its_positions_alone()
@@ -17,4 +17,10 @@ pub fn makes_few_collects()
 /// from a record that is the third one at some position.
 pub fn ends_in_equal_collects_or_a_third_record()
     ensures { EndsInEqualCollectsOrAThirdRecord }
+{}
+
+/// A finished embedded scan has the values that it loaded behind two equal collects, or it has borrowed the
+/// view of the record that was the third one at some position, at which it left its collect at once.
+pub fn finished_scans_end_well()
+    ensures { FinishedScansEndWell }
 {}

@@ -1,5 +1,5 @@
 -- A finite set of numbers as a list of closed intervals.
-use Rattle.std.specs.Prelude.{ℕ, ◌+◌, ◌<◌, ◌≤◌, List, length, slice_index_or}
+use Rattle.std.specs.Prelude.{ℕ, ◌≡◌, ◌↔◌, ◌+◌, ◌<◌, ◌≤◌, List, length, slice_index_or}
 
 -- the intervals in order, each as its lowest and its highest number
 abbrev pub Ranges : Type 0
@@ -45,3 +45,7 @@ pub record IsCountUpTo (list : Ranges) (l count : ℕ) : Type 0 where
   pub in_range : count ≤ length list
   pub at_or_below : (j : ℕ) → j < count → lowest list j ≤ l
   pub beyond : (j : ℕ) → count ≤ j → j < length list → l < lowest list j
+
+-- two lists in normal form that hold the same numbers are one
+abbrev pub NormalFormsAreUnique : Type 0
+NormalFormsAreUnique = (a b : Ranges) → IsNormal a → IsNormal b → ((x : ℕ) → Holds a x ↔ Holds b x) → a ≡ b

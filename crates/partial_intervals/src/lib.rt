@@ -3,6 +3,7 @@
 #![tactic(auto)]
 
 pub mod intervals;
+pub mod law;
 
 pub use intervals::Intervals;
 

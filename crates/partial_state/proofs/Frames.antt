@@ -132,6 +132,7 @@ module _ (z : Layout) (words words' : List ℕ) (us us' : List Block) (f : Frame
         below = omega (arith, below, more);
         few = w.few;
         components = w.components;
+        distinct = w.distinct;
         stands = stands_moves at (view_block pairs) (omega (arith, above)) claimed w.apart w.stands;
         apart = f.apart block claimed w.apart;
       }

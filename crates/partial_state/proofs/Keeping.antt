@@ -6,8 +6,8 @@ use Rattle.partial_model.specs.declared.history.Applied.{Applied}
 use Rattle.partial_model.specs.declared.history.Opening.{Opening}
 use Rattle.partial_model.specs.History.{IsHistory, stamp_of}
 use Rattle.partial_model.proofs.HistoryLemmas.{place_below}
-use Rattle.partial_words.specs.Layout.{Layout, slot_counter, list_head, pool_counter, list_counter, slot_word, list_end, pool_end}
-use Rattle.partial_words.specs.Record.{prev_of, value_of, view_of}
+use Rattle.partial_words.specs.Layout.{Layout, slot_counter, list_head, pool_counter, list_counter, slot_word, list_end, pool_end, initial_record}
+use Rattle.partial_words.specs.Record.{view_word, prev_of, value_of, view_of}
 use Rattle.partial_words.specs.Chain.{Agrees}
 use Rattle.partial_state.specs.Views.{Block, AreApart, Joined, HasFreshView, IsWithin, Covers, IsAnnounced, IsHead}
 use Rattle.partial_state.specs.Holdings.{Claimed, Own, Due, Holding, block_of, block_at, unpublished, blocks_in, others_of, IfJoined, joined_in, EachTwo, HaveOtherPorts, HaveOtherSlots, pool_marks, slot_marks, list_marks}
@@ -18,7 +18,7 @@ use Rattle.partial_state.specs.Effects.{IsKept}
 use Rattle.partial_state.proofs.ListLemmas.{all_at, all_before, all_after, all_join, all_weaker, two_before, two_after, two_join, length_same, all_of, all_found}
 use Rattle.partial_state.proofs.Frames.{Frame, Grows, within_more, within_grows, published_moves, announced_moves, head_moves, slot_moves, fresh_moves, covers_moves, covers_newer}
 use Rattle.partial_state.proofs.HoldingLemmas.{own_far, if_some, if_some_at, some_found, found_some, joined_weaker, HaveOtherBlocks, blocks_turn, ports_turn, slots_turn, others_split, block_stays, three_words}
-use Rattle.partial_state.proofs.Rebuild.{Moves, frame_of, tied_moves, other_word, entry_three, entry_prev, own_before, own_after}
+use Rattle.partial_state.proofs.Rebuild.{Moves, frame_of, tied_moves, other_word, initial_word, entry_three, entry_prev, own_before, own_after}
 
 -- an entry of the new history that the old one hadn't
 pub record IsNew (z : Layout) (o : Opening) (words : List ℕ) (hs : List Holding) (log : List Applied) (k : ℕ) (e : Applied) : Type 0 where
@@ -235,6 +235,7 @@ module _ (z : Layout) (o : Opening) (words words' : List ℕ) (before : List Hol
         ports = two_join HaveOtherPorts ports_turn before h h' after w.ports (all_weaker (HaveOtherPorts h) (HaveOtherPorts h') (λ v k e. k (sym port ∙ e)) before port_b) (all_weaker (HaveOtherPorts h) (HaveOtherPorts h') (λ v k e. k (sym port ∙ e)) after port_a);
         history = c.history;
         agrees = c.agrees;
+        initial = λ j below. initial_word z o words words' before h h' after log w c.moves (view_word (initial_record z j)) (omega arith) (omega (arith, below)) ∙ w.initial j below;
         entries = all_of (IsEntry z words') log' (λ k e s. (each_entry k e s).entry);
         tied = each (IsTied z words') (λ v t. tied_moves z words words' h h' c.moves v t.3 (blocks_turn h v t.2)) c.tied;
         apart = c.apart;

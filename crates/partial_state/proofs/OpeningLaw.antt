@@ -4,7 +4,7 @@ use Rattle.std.specs.List.{AllByRecursion}
 use Rattle.std.proofs.lemmas.Bool.Decides.{nat_tests}
 use Rattle.partial_words.specs.Layout.{Layout, slot_counter, list_head, pool_counter, list_counter, slot_word, list_base, pool_base}
 use Rattle.partial_words.specs.Chain.{opening_word}
-use Rattle.partial_words.proofs.LayoutLemmas.{opening_agrees}
+use Rattle.partial_words.proofs.LayoutLemmas.{opening_agrees, view_opens}
 use Rattle.partial_state.specs.Views.{Block, AreApart}
 use Rattle.partial_state.specs.Holdings.{Holding, EachTwo, HaveOtherPorts, HaveOtherSlots, announcements, unpublished}
 use Rattle.partial_state.specs.LawfulWords.{IsTied}
@@ -77,6 +77,7 @@ opening_is_lawful z o words n opens few =
       ports = idle_ports 0 n;
       history = record { components = tt; distinct = tt; not_initial = tt };
       agrees = opening_agrees z o words opens;
+      initial = λ j below. view_opens z o words j opens below;
       entries = tt;
       tied = idle_all (IsTied z words) (λ p. record { own = tt; pool_marked = λ m. cc; slots_marked = λ m. cc; lists_marked = λ m. cc }) 0 n;
       apart = subst (λ (l : List Block). EachTwo AreApart (record { at = pool_base z; size = 3 * z.m } ∷ l)) (sym blocks) (tt, tt);

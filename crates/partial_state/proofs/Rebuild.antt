@@ -6,7 +6,7 @@ use Rattle.partial_model.specs.declared.history.Opening.{Opening}
 use Rattle.partial_model.specs.History.{initial_stamp}
 use Rattle.partial_words.specs.Layout.{Layout, slot_counter, pool_counter, list_counter, slot_word, list_base, pool_base}
 use Rattle.partial_words.specs.Record.{prev_of}
-use Rattle.partial_words.specs.Chain.{Agrees, Link, IsChain, chain_of}
+use Rattle.partial_words.specs.Chain.{Agrees, Link, IsLink, IsChain, chain_of}
 use Rattle.partial_words.proofs.ChainLemmas.{chain_all}
 use Rattle.partial_state.specs.Views.{Block, AreApart}
 use Rattle.partial_state.specs.Holdings.{Own, Holding, Space, counter_of, block_of, block_at, announcements, unpublished, blocks_in, EachTwo}
@@ -101,15 +101,19 @@ module _ (z : Layout) (words words' : List ℕ) (h h' : Holding) (m : Moves z wo
   tied_moves v w other =
       marked_moves v (if_some (IsOwn z words) (IsOwn z words') v.own (λ b e own. own_moves b (if_some_at (λ b. IfSome h.own (λ c. AreApart (block_of b) (block_of c))) v.own b e other) own) w.own) w
 
+-- a record whose words stay
+link_stays : (words words' : List ℕ) → length words' ≡ length words → (at : ℕ) (l : Link) → get_or words' (at + 1) 0 ≡ get_or words (at + 1) 0 → IsLink words at l → IsLink words' at l
+link_stays words words' count at l same c = record { stamp = c.stamp; within = let within = c.within in omega (arith, count, within); value = same ∙ c.value }
+
 -- a chain whose words stay
-pub chain_stays : (words words' : List ℕ) (at : ℕ) (links : List Link) → AllByRecursion (λ l. (get_or words' l.stamp 0 ≡ get_or words l.stamp 0) × (get_or words' (l.stamp + 1) 0 ≡ get_or words (l.stamp + 1) 0)) links → IsChain words at links → IsChain words' at links
-chain_stays words words' at [] all c = c
-chain_stays words words' at (l ∷ []) all c =
-    let both : (get_or words' at 0 ≡ get_or words at 0) × (get_or words' (at + 1) 0 ≡ get_or words (at + 1) 0) = subst (λ n. (get_or words' n 0 ≡ get_or words n 0) × (get_or words' (n + 1) 0 ≡ get_or words (n + 1) 0)) c.0 all.0 in
-    (c.0, both.1 ∙ c.1, both.0 ∙ c.2)
-chain_stays words words' at (l ∷ k ∷ ls) all c =
-    let both : (get_or words' at 0 ≡ get_or words at 0) × (get_or words' (at + 1) 0 ≡ get_or words (at + 1) 0) = subst (λ n. (get_or words' n 0 ≡ get_or words n 0) × (get_or words' (n + 1) 0 ≡ get_or words (n + 1) 0)) c.0 all.0 in
-    (c.0, both.1 ∙ c.1, subst (λ n. IsChain words' n (k ∷ ls)) (sym both.0) (chain_stays words words' (prev_of words at) (k ∷ ls) all.1 c.2))
+pub chain_stays : (words words' : List ℕ) → length words' ≡ length words → (at : ℕ) (links : List Link) → AllByRecursion (λ l. (get_or words' l.stamp 0 ≡ get_or words l.stamp 0) × (get_or words' (l.stamp + 1) 0 ≡ get_or words (l.stamp + 1) 0)) links → IsChain words at links → IsChain words' at links
+chain_stays words words' count at [] all c = c
+chain_stays words words' count at (l ∷ []) all c =
+    let both : (get_or words' at 0 ≡ get_or words at 0) × (get_or words' (at + 1) 0 ≡ get_or words (at + 1) 0) = subst (λ n. (get_or words' n 0 ≡ get_or words n 0) × (get_or words' (n + 1) 0 ≡ get_or words (n + 1) 0)) c.0.stamp all.0 in
+    (link_stays words words' count at l both.1 c.0, both.0 ∙ c.1)
+chain_stays words words' count at (l ∷ k ∷ ls) all c =
+    let both : (get_or words' at 0 ≡ get_or words at 0) × (get_or words' (at + 1) 0 ≡ get_or words (at + 1) 0) = subst (λ n. (get_or words' n 0 ≡ get_or words n 0) × (get_or words' (n + 1) 0 ≡ get_or words (n + 1) 0)) c.0.stamp all.0 in
+    (link_stays words words' count at l both.1 c.0, subst (λ n. IsChain words' n (k ∷ ls)) (sym both.0) (chain_stays words words' count (prev_of words at) (k ∷ ls) all.1 c.1))
 
 module _ (z : Layout) (o : Opening) (words words' : List ℕ) (before : List Holding) (h h' : Holding) (after : List Holding) (log : List Applied) (w : LawfulWords z o words (before ++ h ∷ after) log) (m : Moves z words words' h h') where
   -- what is apart from each block that isn't published is apart from the port's own
@@ -130,7 +134,7 @@ module _ (z : Layout) (o : Opening) (words words' : List ℕ) (before : List Hol
   pub entry_prev : (k : ℕ) (e : Applied) → slice_get log k ≡ Some e → get_or words' e.stamp 0 ≡ get_or words e.stamp 0
   entry_prev k e s = let none : e.stamp ≡ e.stamp + 0 = omega arith in ap (λ n. get_or words' n 0) none ∙ entry_three k e 0 s (omega arith) ∙ ap (λ n. get_or words n 0) (sym none)
 
-  initial_word : (n : ℕ) → pool_base z ≤ n → n < pool_base z + 3 * z.m → get_or words' n 0 ≡ get_or words n 0
+  pub initial_word : (n : ℕ) → pool_base z ≤ n → n < pool_base z + 3 * z.m → get_or words' n 0 ≡ get_or words n 0
   initial_word n from to =
       let b : Block = record { at = pool_base z; size = 3 * z.m } in
       m.same n (omega (arith, from)) (if_some (λ c. AreApart (record { at = pool_base z; size = 3 * z.m }) (block_of c)) (λ c. AreApart (word_at n) (block_of c)) h.own (λ c is a. part_apart (word_at n) (record { at = pool_base z; size = 3 * z.m }) (block_of c) from (omega (arith, to)) a) (from_own b (initial_free z o words (before ++ h ∷ after) log w)))
@@ -141,7 +145,7 @@ module _ (z : Layout) (o : Opening) (words words' : List ℕ) (before : List Hol
       let base = w.stamps in
       let values = w.values in
       let P : ℕ → Type 0 = λ s. (get_or words' s 0 ≡ get_or words s 0) × (get_or words' (s + 1) 0 ≡ get_or words (s + 1) 0) in
-      chain_stays words words' (get_or words j 0) (chain_of o j log)
+      chain_stays words words' m.count (get_or words j 0) (chain_of o j log)
       (chain_all P o j log (all_of (λ (e : Applied). P e.stamp) log (λ k e s. (entry_prev k e s, entry_three k e 1 s (omega arith)))) (initial_word (initial_stamp o j) (omega (arith, base)) (omega (arith, base, values, below)), initial_word (initial_stamp o j + 1) (omega (arith, base)) (omega (arith, base, values, below))))
       (w.agrees j below).1
 

@@ -12,7 +12,7 @@ use Rattle.partial_model.proofs.HistoryLemmas.{stamp_of-push}
 use Rattle.partial_model.proofs.NotesLemmas.{distinct_push, slice_get_grows, AllByRecursion-push}
 use Rattle.partial_words.specs.Layout.{Layout, slot_counter, list_head, pool_counter, list_counter, slot_word, list_end, pool_base, pool_end}
 use Rattle.partial_words.specs.Record.{prev_of, view_of}
-use Rattle.partial_words.specs.Chain.{IsChain, chain_of}
+use Rattle.partial_words.specs.Chain.{IsLink, IsChain, chain_of}
 use Rattle.partial_words.proofs.ChainLemmas.{chain_cons, links_from-push}
 use Rattle.partial_state.specs.Views.{Block, AreApart, Joined, HasFreshView, Covers, IsWithin}
 use Rattle.partial_state.specs.Holdings.{Claimed, Own, Due, Holding, Space, first_of, end_of, counter_of, block_of, block_at, announcements, unpublished, blocks_in, others_of, IfJoined, joined_in, EachTwo, HaveOtherPorts}
@@ -179,8 +179,13 @@ module _ (z : Layout) (o : Opening) (words : List ℕ) (before : List Holding) (
       let chain : chain_of o i longer ≡ record { stamp = at; value = d.value } ∷ chain_of o i log = links_from-push (record { stamp = initial_stamp o i; value = get_or o.values i 0 } ∷ []) i log entry ∙ ap (λ (b : Bool). cond b (record { stamp = at; value = d.value } ∷ chain_of o i log) (chain_of o i log)) same in
       let value : get_or exchanged (at + 1) 0 ≡ d.value = higher (at + 1) (omega (arith, far)) ∙ due.value in
       let prev : get_or exchanged at 0 ≡ old = higher at (omega (arith, far)) ∙ due.prev in
+      let count : length exchanged ≡ length words = moves.count in
+      let size = three in
+      let whole = published.within in
+      let all = w.count in
+      let here : IsLink exchanged at (record { stamp = at; value = d.value }) = record { stamp = refl; within = omega (arith, count, size, whole, all); value = value } in
       let before' : IsChain exchanged old (chain_of o i log) = subst (λ n. IsChain exchanged n (chain_of o i log)) (ap (λ n. get_or words n 0) (sym is') ∙ won) (chain_moves z o words exchanged before h behind after log w moves i below) in
-      (now' ∙ sym stamp, subst (λ (n : ℕ). IsChain exchanged n (chain_of o i longer)) (sym now') (subst (IsChain exchanged at) (sym chain) (chain_cons exchanged at old (record { stamp = at; value = d.value }) (chain_of o i log) refl value prev before')))
+      (now' ∙ sym stamp, subst (λ (n : ℕ). IsChain exchanged n (chain_of o i longer)) (sym now') (subst (IsChain exchanged at) (sym chain) (chain_cons exchanged at old (record { stamp = at; value = d.value }) (chain_of o i log) here prev before')))
   agrees_at i below false same =
       let j = d.component in
       let at = d.at in

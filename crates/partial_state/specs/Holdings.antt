@@ -75,11 +75,14 @@ abbrev pub announcements : List Holding → List Block
 announcements hs =
     filter_map (λ h. option_map (λ j. record { at = j.at; size = announcement_size (length j.indices) }) (joined_in h.claimed)) hs
 
--- the block of the record at `stamp`, with the view behind it where it has one of its own
+-- how many words the record at `stamp` has, with the view behind it where it has one of its own
+abbrev pub size_at : List ℕ → ℕ → ℕ
+size_at words stamp =
+    if view_of words stamp == own_view stamp then full_record_size (view_len words (own_view stamp)) else plain_record_size
+
+-- the block of the record at `stamp`
 abbrev pub block_at : List ℕ → ℕ → Block
-block_at words stamp =
-    let size : ℕ = if view_of words stamp == own_view stamp then full_record_size (view_len words (own_view stamp)) else plain_record_size in
-    record { at = stamp; size = size }
+block_at words stamp = record { at = stamp; size = size_at words stamp }
 
 -- the initial records, the entries' records, the announcements that stand in slots, and the blocks that aren't published yet
 abbrev pub blocks_in : Layout → List ℕ → List Holding → List Applied → List Block

@@ -4,8 +4,8 @@ use Rattle.std.specs.List.{AllByRecursion}
 use Rattle.partial_model.specs.declared.history.Applied.{Applied}
 use Rattle.partial_model.specs.declared.history.Opening.{Opening}
 use Rattle.partial_model.specs.History.{IsHistory}
-use Rattle.partial_words.specs.Layout.{Layout, IsLayout, slot_counter, list_head, pool_counter, list_counter, slot_word, list_base, list_end, pool_base, pool_end, total, first_free, greatest_record, greatest_list}
-use Rattle.partial_words.specs.Record.{plain_record_size, prev_of, value_of}
+use Rattle.partial_words.specs.Layout.{Layout, IsLayout, slot_counter, list_head, pool_counter, list_counter, slot_word, list_base, list_end, pool_base, pool_end, total, initial_record, first_free, greatest_record, greatest_list}
+use Rattle.partial_words.specs.Record.{plain_record_size, prev_of, value_of, view_of}
 use Rattle.partial_words.specs.Chain.{Agrees}
 use Rattle.partial_state.specs.Views.{AreApart, HasFreshView, Covers, IsWithin, IsAnnounced, IsHead}
 use Rattle.partial_state.specs.Holdings.Space.{Pool}
@@ -80,6 +80,8 @@ pub record LawfulWords (z : Layout) (o : Opening) (words : List ℕ) (hs : List 
   pub history : IsHistory o log
   -- the words agree with the history
   pub agrees : Agrees o words log
+  -- the view of each initial record is the empty one
+  pub initial : (j : ℕ) → j < z.m → view_of words (initial_record z j) ≡ 0
   -- each entry's record lies in the pool, behind the initial records and below the counter
   pub entries : AllByRecursion (IsEntry z words) log
   -- each block that isn't published belongs to one port, and lies below its counter

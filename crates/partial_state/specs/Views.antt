@@ -1,6 +1,6 @@
 -- What is published and never changes: views, announcements and lists, and which views are fresh and covering.
-use Rattle.std.specs.Prelude.{ℕ, ◌≡◌, ◌+◌, ◌<◌, ◌≤◌, ◌⊎◌, List, [], length, map, take, slice_index, slice_get, Contains, Some}
-use Rattle.std.specs.List.{AllByRecursion}
+use Rattle.std.specs.Prelude.{ℕ, ◌≡◌, ◌+◌, ◌<◌, ◌≤◌, ◌⊎◌, List, [], length, map, nat_eq, take, slice_index, slice_get, Contains, Some}
+use Rattle.std.specs.List.{AllByRecursion, IsDistinct}
 use Rattle.partial_intervals.specs.Intervals.{Ranges}
 use Rattle.partial_model.specs.declared.history.Applied.{Applied}
 use Rattle.partial_model.specs.declared.history.Opening.{Opening}
@@ -24,13 +24,14 @@ AreApart a b = (a.at + a.size ≤ b.at) ⊎ (b.at + b.size ≤ a.at)
 abbrev pub IsApartFrom : List Block → Block → Type 0
 IsApartFrom unpublished a = AllByRecursion (AreApart a) unpublished
 
--- a whole view stands at the word: at most m pairs of a component and a value, published for ever
+-- a whole view stands at the word: at most m pairs of a component and a value, no component twice, published for ever
 pub record IsView (z : Layout) (words : List ℕ) (unpublished : List Block) (at : ℕ) (pairs : List (ℕ × ℕ)) : Type 0 where
   pub above : first_free z ≤ at
   pub within : at + length (view_block pairs) ≤ pool_end z
   pub below : at + length (view_block pairs) ≤ slice_index words (pool_counter z)
   pub few : length pairs ≤ z.m
   pub components : AllByRecursion (λ pair. pair.0 < z.m) pairs
+  pub distinct : IsDistinct nat_eq (map (λ pair. pair.0) pairs)
   pub stands : StandsAt words at (view_block pairs)
   pub apart : IsApartFrom unpublished (record { at = at; size = length (view_block pairs) })
 

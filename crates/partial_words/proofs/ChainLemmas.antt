@@ -1,13 +1,15 @@
 -- Chains of records: what a step elsewhere leaves of them, what one entry more adds, and what they hold.
-use Rattle.std.proofs.Common.{ℕ, zero, suc, ◌≡◌, ◌≢◌, ◌+◌, ◌<◌, ◌==◌, ◌++◌, ◌⊎◌, Bool, true, false, cond, List, [], ◌∷◌, length, take, get_or, set, slice_get, refl, sym, ◌∙◌, ap, subst, inl, inr, Option, Some, None, get_or-set_other, arith}
+use Rattle.std.proofs.Common.{ℕ, zero, suc, ◌≡◌, ◌≢◌, ◌+◌, ◌<◌, ◌==◌, ◌++◌, ◌⊎◌, Bool, true, false, cond, List, [], ◌∷◌, length, take, get_or, set, slice_get, refl, sym, ◌∙◌, ap, subst, inl, inr, Option, Some, None, get_or-set_other, length-set, arith}
 use Rattle.std.proofs.lemmas.Bool.{eq-eqb}
+use Rattle.std.proofs.lemmas.List.{take_all}
 use Rattle.std.specs.List.{AllByRecursion}
 use Rattle.std.specs.Option.{option_map_or}
 use Rattle.partial_model.specs.declared.history.Applied.{Applied}
 use Rattle.partial_model.specs.declared.history.Opening.{Opening}
 use Rattle.partial_model.specs.History.{last_from, initial_stamp, stamp_of, value_of as value_after}
-use Rattle.partial_words.specs.Record.{prev_of, value_of}
-use Rattle.partial_words.specs.Chain.{Link, IsChain, links_from, chain_of, Agrees}
+use Rattle.partial_model.proofs.HistoryLemmas.{stamp_of-push}
+use Rattle.partial_words.specs.Record.{view_word, prev_of, value_of}
+use Rattle.partial_words.specs.Chain.{Link, IsLink, IsChain, links_from, chain_of, Agrees, LieWithin}
 
 -- the step to another word leaves the record
 pub record IsElsewhere (w : ℕ) (stamp : ℕ) : Type 0 where
@@ -20,19 +22,26 @@ prev_kept words w v at e = get_or-set_other words w at v 0 e.prev
 value_kept : (words : List ℕ) (w v at : ℕ) → IsElsewhere w at → value_of (set words w v) at ≡ value_of words at
 value_kept words w v at e = get_or-set_other words w (at + 1) v 0 e.value
 
+link_kept : (words : List ℕ) (w v at : ℕ) (l : Link) → IsElsewhere w at → IsLink words at l → IsLink (set words w v) at l
+link_kept words w v at l e c = record {
+  stamp = c.stamp;
+  within = let count = length-set words w v in let within = c.within in omega (arith, count, within);
+  value = value_kept words w v at e ∙ c.value;
+}
+
 pub chain_kept : (words : List ℕ) (w v at : ℕ) (links : List Link) → AllByRecursion (λ l. IsElsewhere w l.stamp) links → IsChain words at links → IsChain (set words w v) at links
 chain_kept words w v at [] all c = c
 chain_kept words w v at (l ∷ []) all c =
-    let e : IsElsewhere w at = subst (IsElsewhere w) c.0 all.0 in
-    (c.0, value_kept words w v at e ∙ c.1, prev_kept words w v at e ∙ c.2)
+    let e : IsElsewhere w at = subst (IsElsewhere w) c.0.stamp all.0 in
+    (link_kept words w v at l e c.0, prev_kept words w v at e ∙ c.1)
 chain_kept words w v at (l ∷ k ∷ ls) all c =
-    let e : IsElsewhere w at = subst (IsElsewhere w) c.0 all.0 in
-    (c.0, value_kept words w v at e ∙ c.1, subst (λ n. IsChain (set words w v) n (k ∷ ls)) (sym (prev_kept words w v at e)) (chain_kept words w v (prev_of words at) (k ∷ ls) all.1 c.2))
+    let e : IsElsewhere w at = subst (IsElsewhere w) c.0.stamp all.0 in
+    (link_kept words w v at l e c.0, subst (λ n. IsChain (set words w v) n (k ∷ ls)) (sym (prev_kept words w v at e)) (chain_kept words w v (prev_of words at) (k ∷ ls) all.1 c.1))
 
 -- a record before a chain is a chain
-pub chain_cons : (words : List ℕ) (at prev : ℕ) (l : Link) (links : List Link) → l.stamp ≡ at → value_of words at ≡ l.value → prev_of words at ≡ prev → IsChain words prev links → IsChain words at (l ∷ links)
-chain_cons words at prev l [] stamp value before c = absurd c
-chain_cons words at prev l (k ∷ ls) stamp value before c = (stamp, value, subst (λ n. IsChain words n (k ∷ ls)) (sym before) c)
+pub chain_cons : (words : List ℕ) (at prev : ℕ) (l : Link) (links : List Link) → IsLink words at l → prev_of words at ≡ prev → IsChain words prev links → IsChain words at (l ∷ links)
+chain_cons words at prev l [] here before c = absurd c
+chain_cons words at prev l (k ∷ ls) here before c = (here, subst (λ n. IsChain words n (k ∷ ls)) (sym before) c)
 
 -- the chain with one entry more
 pub links_from-push : (found : List Link) (j : ℕ) (h : List Applied) (e : Applied) → links_from found j (h ++ e ∷ []) ≡ cond (e.component == j) (record { stamp = e.stamp; value = e.value } ∷ links_from found j h) (links_from found j h)
@@ -96,20 +105,32 @@ newest_among : (o : Opening) (j : ℕ) (h : List Applied) → Among (newest o j 
 unfolding Among
 newest_among o j h = let w = newest_first o j h in subst (Among (newest o j (last_from None j h))) (sym w.1) (inl refl)
 
+-- a link stands at its own stamp
+own_link : (words : List ℕ) (at : ℕ) (k l : Link) → k ≡ l → IsLink words at k → IsLink words l.stamp l
+own_link words at k l same c = subst (λ (x : Link). IsLink words x.stamp x) same (subst (λ n. IsLink words n k) (sym c.stamp) c)
+
 -- each link of a chain stands in the words
-link_stands : (words : List ℕ) (at : ℕ) (links : List Link) (l : Link) → IsChain words at links → Among l links → value_of words l.stamp ≡ l.value
+link_stands : (words : List ℕ) (at : ℕ) (links : List Link) (l : Link) → IsChain words at links → Among l links → IsLink words l.stamp l
 unfolding Among
 link_stands words at [] l c w = absurd w
-link_stands words at (k ∷ []) l c (inl same) = ap (λ (x : Link). value_of words x.stamp) (sym same) ∙ ap (value_of words) c.0 ∙ c.1 ∙ ap (λ (x : Link). x.value) same
+link_stands words at (k ∷ []) l c (inl same) = own_link words at k l same c.0
 link_stands words at (k ∷ []) l c (inr w) = absurd w
-link_stands words at (k ∷ m ∷ ls) l c (inl same) = ap (λ (x : Link). value_of words x.stamp) (sym same) ∙ ap (value_of words) c.0 ∙ c.1 ∙ ap (λ (x : Link). x.value) same
-link_stands words at (k ∷ m ∷ ls) l c (inr w) = link_stands words (prev_of words at) (m ∷ ls) l c.2 w
+link_stands words at (k ∷ m ∷ ls) l c (inl same) = own_link words at k l same c.0
+link_stands words at (k ∷ m ∷ ls) l c (inr w) = link_stands words (prev_of words at) (m ∷ ls) l c.1 w
+
+-- the record of each stamp that a component has had stands in the words
+stamp_stands : (o : Opening) (words : List ℕ) (h : List Applied) (j a : ℕ) → Agrees o words h → j < length o.values → IsLink words (stamp_of o (take a h) j) (record { stamp = stamp_of o (take a h) j; value = value_after o (take a h) j })
+unfolding newest
+stamp_stands o words h j a agrees below =
+    link_stands words (get_or words j 0) (chain_of o j h) (newest o j (last_from None j (take a h))) (agrees j below).1 (among_later (newest o j (last_from None j (take a h))) (record { stamp = initial_stamp o j; value = get_or o.values j 0 } ∷ []) j h a (newest_among o j (take a h)))
 
 -- behind each stamp that a component has had stands the value that it had with it
 pub value_behind_stamp : (o : Opening) (words : List ℕ) (h : List Applied) (j a : ℕ) → Agrees o words h → j < length o.values → value_of words (stamp_of o (take a h) j) ≡ value_after o (take a h) j
-unfolding newest
-value_behind_stamp o words h j a agrees below =
-    link_stands words (get_or words j 0) (chain_of o j h) (newest o j (last_from None j (take a h))) (agrees j below).1 (among_later (newest o j (last_from None j (take a h))) (record { stamp = initial_stamp o j; value = get_or o.values j 0 } ∷ []) j h a (newest_among o j (take a h)))
+value_behind_stamp o words h j a agrees below = (stamp_stands o words h j a agrees below).value
+
+-- the record of each stamp that a component has had lies within the words
+record_within : (o : Opening) (words : List ℕ) (h : List Applied) (j a : ℕ) → Agrees o words h → j < length o.values → view_word (stamp_of o (take a h) j) < length words
+record_within o words h j a agrees below = (stamp_stands o words h j a agrees below).within
 
 -- the older part of a chain is a chain
 older_chain : (words : List ℕ) (at : ℕ) (l : Link) (found : List Link) (j : ℕ) (h : List Applied) → IsChain words at (links_from (l ∷ found) j h) → (from : ℕ) × IsChain words from (l ∷ found)
@@ -118,7 +139,7 @@ older_chain words at l found j [] c = (at, c)
 older_chain words at l found j (x ∷ h) c = step (x.component == j) (older_chain words at (record { stamp = x.stamp; value = x.value }) (l ∷ found) j h) (older_chain words at l found j h) c
   where
     step : (b : Bool) → (IsChain words at (links_from (record { stamp = x.stamp; value = x.value } ∷ l ∷ found) j h) → (from : ℕ) × IsChain words from (record { stamp = x.stamp; value = x.value } ∷ l ∷ found)) → (IsChain words at (links_from (l ∷ found) j h) → (from : ℕ) × IsChain words from (l ∷ found)) → IsChain words at (links_from (cond b (record { stamp = x.stamp; value = x.value } ∷ l ∷ found) (l ∷ found)) j h) → (from : ℕ) × IsChain words from (l ∷ found)
-    step true one none c = let more = one c in (prev_of words more.0, more.1.2)
+    step true one none c = let more = one c in (prev_of words more.0, more.1.1)
     step false one none c = none c
 
 -- the chain after the first n entries is a part of the chain
@@ -137,8 +158,13 @@ chain_then words at l found j (suc n) (x ∷ h) c = step (x.component == j) (cha
 
 -- the first two records of a chain
 first_two : (words : List ℕ) (at : ℕ) (l k : Link) (ls : List Link) → IsChain words at (l ∷ k ∷ ls) → prev_of words l.stamp ≡ k.stamp
-first_two words at l k [] c = ap (prev_of words) c.0 ∙ sym c.2.0
-first_two words at l k (m ∷ ls) c = ap (prev_of words) c.0 ∙ sym c.2.0
+first_two words at l k [] c = ap (prev_of words) c.0.stamp ∙ sym c.1.0.stamp
+first_two words at l k (m ∷ ls) c = ap (prev_of words) c.0.stamp ∙ sym c.1.0.stamp
+
+take_one : (h : List Applied) (k : ℕ) (e : Applied) → slice_get h k ≡ Some e → take (suc k) h ≡ take k h ++ e ∷ []
+take_one [] k e s = let bad : None ≡ Some e = s in cc
+take_one (x ∷ h) zero e s = let is : x ≡ e = cc in ap (λ (y : Applied). y ∷ []) is
+take_one (x ∷ h) (suc k) e s = ap (λ l. x ∷ l) (take_one h k e s)
 
 -- before each entry's record stands the stamp that its component had before
 pub prev_before_entry : (o : Opening) (words : List ℕ) (h : List Applied) (k : ℕ) (e : Applied) → Agrees o words h → e.component < length o.values → slice_get h k ≡ Some e → prev_of words e.stamp ≡ stamp_of o (take k h) e.component
@@ -152,8 +178,22 @@ prev_before_entry o words h k e agrees below stands =
     let links : chain_of o j (take (k + 1) h) ≡ record { stamp = e.stamp; value = e.value } ∷ chain_of o j (take k h) = ap (chain_of o j) one_more ∙ links_from-push (initial ∷ []) j (take k h) e ∙ ap (λ b. cond b (record { stamp = e.stamp; value = e.value } ∷ chain_of o j (take k h)) (chain_of o j (take k h))) (eq-eqb j j refl) in
     let first = newest_first o j (take k h) in
     first_two words part.0 (record { stamp = e.stamp; value = e.value }) (newest o j (last_from None j (take k h))) first.0 (subst (IsChain words part.0) (links ∙ ap (λ ls. record { stamp = e.stamp; value = e.value } ∷ ls) first.1) part.1)
-  where
-    take_one : (h : List Applied) (k : ℕ) (e : Applied) → slice_get h k ≡ Some e → take (suc k) h ≡ take k h ++ e ∷ []
-    take_one [] k e s = let bad : None ≡ Some e = s in cc
-    take_one (x ∷ h) zero e s = let is : x ≡ e = cc in ap (λ (y : Applied). y ∷ []) is
-    take_one (x ∷ h) (suc k) e s = ap (λ l. x ∷ l) (take_one h k e s)
+
+-- the records of the components, of the entries, and those before them lie within the words
+pub records_within : (o : Opening) (words : List ℕ) (h : List Applied) → Agrees o words h → LieWithin o words h
+records_within o words h agrees = record {
+  components = λ j below.
+      let now : get_or words j 0 ≡ stamp_of o (take (length h) h) j = (agrees j below).0 ∙ ap (λ (l : List Applied). stamp_of o l j) (sym (take_all (length h) h (omega arith))) in
+      let within = record_within o words h j (length h) agrees below in
+      omega (arith, now, within);
+  entries = λ k e stands below.
+      let next : k + 1 ≡ suc k = omega arith in
+      let one_more : take (k + 1) h ≡ take k h ++ e ∷ [] = ap (λ n. take n h) next ∙ take_one h k e stands in
+      let stamp : stamp_of o (take (k + 1) h) e.component ≡ e.stamp = ap (λ (l : List Applied). stamp_of o l e.component) one_more ∙ stamp_of-push o (take k h) e e.component ∙ ap (λ b. cond b e.stamp (stamp_of o (take k h) e.component)) (eq-eqb e.component e.component refl) in
+      let within = record_within o words h e.component (k + 1) agrees below in
+      omega (arith, stamp, within);
+  before = λ k e stands below.
+      let prev = prev_before_entry o words h k e agrees below stands in
+      let within = record_within o words h e.component k agrees below in
+      omega (arith, prev, within);
+}

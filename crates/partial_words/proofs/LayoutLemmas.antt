@@ -1,10 +1,11 @@
 -- The regions of the words, and the words at opening.
-use Rattle.std.proofs.Common.{ℕ, ◌≡◌, ◌+◌, ◌-◌, ◌*◌, ◌/◌, ◌%◌, ◌<◌, ◌≤◌, ◌==◌, cond, List, [], slice_index, refl, sym, ◌∙◌, ap, inl, inr, arith}
+use Rattle.std.proofs.Common.{ℕ, ◌≡◌, ◌+◌, ◌-◌, ◌*◌, ◌/◌, ◌%◌, ◌<◌, ◌≤◌, ◌==◌, cond, List, [], length, slice_index, refl, sym, ◌∙◌, ap, inl, inr, arith}
 use Rattle.std.proofs.lemmas.Bool.{cases_lt}
 use Rattle.std.proofs.lemmas.Bool.Decides.{nat_tests}
 use Rattle.partial_model.specs.declared.history.Opening.{Opening}
 use Rattle.partial_model.specs.History.{last_from}
-use Rattle.partial_words.specs.Layout.{Layout, Region, Components, SlotCounter, ListHead, PoolCounter, ListCounter, Slots, Lists, Pool, StandsIn, AreRegionsOf, total, pool_base}
+use Rattle.partial_words.specs.Layout.{Layout, Region, Components, SlotCounter, ListHead, PoolCounter, ListCounter, Slots, Lists, Pool, StandsIn, AreRegionsOf, total, pool_base, initial_record}
+use Rattle.partial_words.specs.Record.{view_word, view_of}
 use Rattle.partial_words.specs.Chain.{OpensWith, Agrees, opening_word, initial_record_word, links_from}
 
 region_cover : (s : Layout) (w : ℕ) → w < total s → (region : Region) × StandsIn s w region
@@ -83,6 +84,18 @@ initial_prev initial j =
     let e : (3 * j) % 3 ≡ 0 = omega arith in
     ap (λ n. cond (n == 1) (slice_index initial (3 * j / 3)) 0) e
 
+initial_view : (initial : List ℕ) (j : ℕ) → initial_record_word initial (3 * j + 2) ≡ 0
+initial_view initial j =
+    let e : (3 * j + 2) % 3 ≡ 2 = omega arith in
+    ap (λ n. cond (n == 1) (slice_index initial ((3 * j + 2) / 3)) 0) e
+
+-- the view of the initial record of component j is the empty one
+pub view_opens : (s : Layout) (o : Opening) (words : List ℕ) (j : ℕ) → OpensWith s o words → j < s.m → view_of words (initial_record s j) ≡ 0
+view_opens s o words j opens below =
+    let pool : 3 * s.m ≤ s.pool = opens.sizes.pool.0 in
+    let at : view_word (initial_record s j) ≡ pool_base s + (3 * j + 2) = omega arith in
+    ap (slice_index words) at ∙ opens.words.each (pool_base s + (3 * j + 2)) (omega (arith, pool, below)) ∙ opening_record s o.values (3 * j + 2) (omega (arith, below)) ∙ initial_view o.values j
+
 -- component j of an opening names its initial record, which holds its value and has none before it
 pub opening_agrees : (s : Layout) (o : Opening) (words : List ℕ) → OpensWith s o words → Agrees o words []
 unfolding last_from links_from
@@ -94,4 +107,5 @@ opening_agrees s o words opens j below =
     let value : slice_index words (pool_base s + (3 * j + 1)) ≡ slice_index o.values j = opens.words.each (pool_base s + (3 * j + 1)) (omega arith) ∙ opening_record s o.values (3 * j + 1) (omega arith) ∙ initial_value o.values j in
     let stamp : o.first + 3 * j ≡ pool_base s + 3 * j = ap (λ n. n + 3 * j) opens.stamps in
     let next : slice_index words j + 1 ≡ pool_base s + (3 * j + 1) = omega (arith, named) in
-    (named ∙ sym stamp, (stamp ∙ sym named, ap (slice_index words) next ∙ value, ap (slice_index words) named ∙ prev))
+    let count : length words ≡ total s = opens.words.count in
+    (named ∙ sym stamp, (record { stamp = stamp ∙ sym named; within = omega (arith, named, count, pool, in'); value = ap (slice_index words) next ∙ value }, ap (slice_index words) named ∙ prev))

@@ -1,21 +1,27 @@
 -- The chain of records of a component, and when words agree with a history.
-use Rattle.std.specs.Prelude.{ℕ, ◌≡◌, ◌-◌, ◌/◌, ◌%◌, ◌<◌, ◌==◌, List, [], ◌∷◌, length, slice_index, nat_lt, if◌then◌else◌}
+use Rattle.std.specs.Prelude.{ℕ, ◌≡◌, ◌-◌, ◌/◌, ◌%◌, ◌<◌, ◌==◌, List, [], ◌∷◌, length, slice_index, slice_get, Some, nat_lt, if◌then◌else◌}
 use Rattle.partial_model.specs.declared.history.Applied.{Applied}
 use Rattle.partial_model.specs.declared.history.Opening.{Opening}
 use Rattle.partial_model.specs.History.{initial_stamp, stamp_of}
 use Rattle.partial_words.specs.Layout.{Layout, IsLayout, pool_base, pool_counter, list_base, list_counter, total, initial_record, first_free}
-use Rattle.partial_words.specs.Record.{prev_of, value_of}
+use Rattle.partial_words.specs.Record.{view_word, prev_of, value_of}
 
 -- a record of a chain: its reference, which is its stamp, and its value
 pub record Link : Type 0 where
   pub stamp : ℕ
   pub value : ℕ
 
+-- the record at that reference lies within the words, and is this one
+pub record IsLink (words : List ℕ) (at : ℕ) (l : Link) : Type 0 where
+  pub stamp : l.stamp ≡ at
+  pub within : view_word at < length words
+  pub value : value_of words at ≡ l.value
+
 -- the records from that reference along `prev` are these, down to one whose `prev` is 0
 abbrev pub IsChain : List ℕ → ℕ → List Link → Type 0
 IsChain words at [] = ⊥
-IsChain words at (l ∷ []) = (l.stamp ≡ at) × (value_of words at ≡ l.value) × (prev_of words at ≡ 0)
-IsChain words at (l ∷ k ∷ ls) = (l.stamp ≡ at) × (value_of words at ≡ l.value) × IsChain words (prev_of words at) (k ∷ ls)
+IsChain words at (l ∷ []) = IsLink words at l × (prev_of words at ≡ 0)
+IsChain words at (l ∷ k ∷ ls) = IsLink words at l × IsChain words (prev_of words at) (k ∷ ls)
 
 -- the records of component j, newest first, where these were there before
 unfoldable pub links_from : List Link → ℕ → List Applied → List Link
@@ -30,6 +36,13 @@ chain_of o j h = links_from (record { stamp = initial_stamp o j; value = slice_i
 abbrev pub Agrees : Opening → List ℕ → List Applied → Type 0
 Agrees o words h =
     (j : ℕ) → j < length o.values → (slice_index words j ≡ stamp_of o h j) × IsChain words (slice_index words j) (chain_of o j h)
+
+-- the record of each component, that of each entry, and the one before it lie within the words
+pub record LieWithin (o : Opening) (words : List ℕ) (h : List Applied) : Type 0 where
+  pub components : (j : ℕ) → j < length o.values → view_word (slice_index words j) < length words
+  pub entries : (k : ℕ) (e : Applied) → slice_get h k ≡ Some e → e.component < length o.values → view_word e.stamp < length words
+  pub before : (k : ℕ) (e : Applied) → slice_get h k ≡ Some e → e.component < length o.values →
+      view_word (prev_of words e.stamp) < length words
 
 -- word k of the initial records from the pool's first word on: 0, the value, 0 for each component
 abbrev pub initial_record_word : List ℕ → ℕ → ℕ

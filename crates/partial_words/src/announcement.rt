@@ -58,5 +58,6 @@ mod tests {
         assert_eq!(rt; announced_len(&words, 1), 2);
         assert_eq!(rt; announced(&words, 1, 0), 1);
         assert_eq!(rt; announced(&words, 1, 1), 0);
+        assert_eq!(rt; announcement_size(2), 3);
     }
 }

@@ -68,6 +68,7 @@ mod tests {
         assert_eq!(rt; list_len(&words, 1), 2);
         assert_eq!(rt; interval(&words, 1, 0), (0, 1));
         assert_eq!(rt; interval(&words, 1, 1), (3, 4));
+        assert_eq!(rt; list_size(2), 5);
         Ok(())
     }
 }

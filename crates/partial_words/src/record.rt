@@ -2,6 +2,9 @@
 
 ghost use Rattle.std.specs.Prelude.{◌≡◌, ℕ, ◌+◌, ◌*◌, ◌^◌, ◌<◌, List, length, slice_index};
 ghost use Rattle.std.specs.List.{flat_map};
+ghost use Rattle.partial_model.specs.declared.history.Applied.{Applied};
+ghost use Rattle.partial_model.specs.declared.history.Opening.{Opening};
+ghost use Rattle.partial_words.specs.Chain.{Agrees, LieWithin};
 ghost use Rattle.partial_words.specs.Record.{pair_words, record_block, view_size, plain_record_size, full_record_size, value_word, view_word, own_view, pair_value_word, StandsAt, ReadsBackRecord, prev_of, value_of, view_of, view_len, view_pair};
 
 // Which word of a record holds the reference of the record before it, which one its value, which one the reference of
@@ -130,6 +133,12 @@ pub fn records_read_back()
     ensures { (words : List ℕ) (at prev value view : ℕ) (pairs : List (ℕ × ℕ)) → StandsAt words at (record_block prev value view pairs) → ReadsBackRecord words at prev value view pairs }
 {}
 
+/// In words that agree with a history all records lie within the words: those of the components, those of
+/// the entries, and those before them.
+pub fn records_lie_within()
+    ensures { (o : Opening) (words : List ℕ) (h : List Applied) → Agrees o words h → LieWithin o words h }
+{}
+
 #[cfg(test)]
 mod tests {
     use super::*;
@@ -146,6 +155,8 @@ mod tests {
         assert_eq!(rt; view_of(&words, 0), 29);
         assert_eq!(rt; view_len(&words, 3), 1);
         assert_eq!(rt; view_pair(&words, 3, 0), (0, 10));
+        assert_eq!(rt; (value_word(26), view_word(26), own_view(26)), (27, 28, 29));
+        assert_eq!(rt; (view_size(1), plain_record_size(), full_record_size(1)), (3, 3, 6));
         Ok(())
     }
 }

@@ -282,6 +282,7 @@ mod tests {
         assert_eq!(rt; sizes.pool_base(), 18);
         assert_eq!(rt; sizes.pool_end(), 82);
         assert_eq!(rt; sizes.total(), 82);
+        assert_eq!(rt; (sizes.initial_record(1), sizes.first_free()), (21, 24));
         Ok(())
     }
 
