@@ -59,6 +59,28 @@ for plan in "$top"/plans/*.plan; do
     case_of "$name checked" 0 check "$plan"
 done
 
+# The rows of the tests of partial_cmd stand in plans/ with the same texts, each of them.
+rows=$(sed 's/^ *b"/b"/' "$top/crates/partial_cmd/src/tests/rows.rt")
+whole() {
+    local text
+    text=$(cat "$1" && printf .)
+    printf -v "$2" '%s' "${text%.}"
+}
+same=0
+for plan in "$top"/plans/*.plan; do
+    name=$(basename "$plan" .plan)
+    whole "$plan" given
+    whole "$top/plans/$name.expected" wanted
+    row="\"$name\","$'\n'"b\"$given\","$'\n'"b\"$wanted\","
+    [[ $rows == *"$row"* ]] && same=$((same + 1))
+done
+if [ "$same" -gt 0 ] && [ "$(grep -c 'b"sizes ' <<<"$rows")" -eq "$same" ]; then
+    passed=$((passed + 1))
+else
+    failed=$((failed + 1))
+    echo "failed: only $same rows of the tests stand in plans/"
+fi
+
 # Each fault.
 head=$'sizes 2 4 8 64\ninitial 10 20\n'
 tail=$'port read 0\nsteps rest\n'
