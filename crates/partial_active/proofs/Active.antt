@@ -12,18 +12,19 @@ use Rattle.partial_words.specs.Announcement.{announcement_block, announcement_si
 use Rattle.partial_words.specs.VacatedList.{list_block}
 use Rattle.partial_words.specs.Step.{answer_of, words_after}
 use Rattle.partial_words.specs.declared.step.Event.{Event}
-use Rattle.partial_words.proofs.RecordLemmas.{length-pairs}
 use Rattle.partial_words.proofs.BlockLemmas.{announcement_reads_back, list_reads_back}
 use Rattle.partial_active.specs.declared.get_set.Stage.{Stage}
 use Rattle.partial_active.specs.declared.get_set.Stage.TheVariants.{Head, ListLen, ListLow, ListHigh, Counter, Slot, Len, Index, Claim, Write, Publish, Done}
 use Rattle.partial_active.specs.IndexSet.{has_index, with_index}
 use Rattle.partial_active.specs.Found.{Buffers, IsFor, begins_at}
 use Rattle.partial_active.specs.GetSet.{Pair, fresh, step_at, step_of, advance, advance_at, left_of, after_walk, at_slot, come_to, pass_interval, note_slot, in_stage, next_words}
-use Rattle.partial_active.specs.GetSetAnswers.{EndsBelow, IsListHead, IsListLen, IsSlotWord, is_possible_at, IsWalking, IsAtSlot, goes_at, IsPossible, GoTogether}
-use Rattle.partial_active.specs.Orderly.{slot_at, head_at, IsAnnouncement, IsVacatedList, IsSlotOf, Orderly, ComesFrom, OnEach, AtSome, Names, IsOrderlyRun, LeadsTo, all_moments, own_moments, MakesOwn, FindsActiveSet, WasVacated, KeepsLists}
+use Rattle.partial_active.specs.GetSetAnswers.{EndsBelow, IsListHead, IsListLen, IsSlotWord, is_possible_at, IsWalking, goes_at, IsPossible, GoTogether}
+use Rattle.partial_active.specs.Orderly.{slot_at, head_at, IsAnnouncement, IsVacatedList, IsSlotOf, Orderly, ComesFrom}
+use Rattle.partial_active.specs.Moments.{OnEach, AtSome, IsOrderlyRun, LeadsTo, all_moments, own_moments, MakesOwn}
+use Rattle.partial_active.specs.ActiveSet.{Names, FindsActiveSet}
 use Rattle.partial_active.proofs.Extended.{length_normal, held_extended}
 use Rattle.partial_active.proofs.Walk.{begun}
-use Rattle.partial_active.proofs.Answered.{walk_begins, walk_next, walk_noted, keeps_head, keeps_at}
+use Rattle.partial_active.proofs.Answered.{walk_begins, walk_next, walk_noted, at_with, keeps_head, keeps_at}
 use Rattle.partial_active.proofs.Sizes.{sizes_at}
 use Rattle.partial_active.proofs.Known.{Past, some_both, some_gives, KeepsFirst, Common, Listed, CompleteAt, IsHeadList, Walked, IsLoaded, AllComplete, walked_of, common_of, finished_of, knows_at, Knows}
 
@@ -49,7 +50,7 @@ with_index_new xs x = cond_both (has_index xs x) xs (xs ++ x ∷ []) (λ ys. has
     (λ e. list_any-append (λ i. eqb i x) xs (x ∷ []) ∙ ap (λ b. b || (eqb x x || false)) e ∙ ap (λ b. b || false) (eq-eqb x x refl))
 
 -- two announcements at one word name the same indices
-same_named : (words : List ℕ) (at : ℕ) (a b : List ℕ) → StandsAt words at (announcement_block a) → StandsAt words at (announcement_block b) → (length a ≡ length b) × ((k : ℕ) → k < length a → slice_index b k ≡ slice_index a k)
+pub same_named : (words : List ℕ) (at : ℕ) (a b : List ℕ) → StandsAt words at (announcement_block a) → StandsAt words at (announcement_block b) → (length a ≡ length b) × ((k : ℕ) → k < length a → slice_index b k ≡ slice_index a k)
 same_named words at a b stands_a stands_b =
     let ra = announcement_reads_back words at a stands_a in
     let rb = announcement_reads_back words at b stands_b in
@@ -75,7 +76,7 @@ module _ (s : Layout) (layout : IsLayout s) (first : List ℕ) (past : Past) (no
       (some_both (IsHeadList s at list) (λ v. ComesFrom s v now) (λ w. IsHeadList s at list w × ComesFrom s w now) past (λ w a b. (a, b)) was comes)
 
   -- the announcement that stood in the slot stands yet
-  loaded_stands : (slot at : ℕ) (named : List ℕ) → slot < s.slots → OnEach (λ v. ComesFrom s v now) past → AtSome (IsLoaded s slot at named) past → StandsAt now at (announcement_block named)
+  pub loaded_stands : (slot at : ℕ) (named : List ℕ) → slot < s.slots → OnEach (λ v. ComesFrom s v now) past → AtSome (IsLoaded s slot at named) past → StandsAt now at (announcement_block named)
   loaded_stands slot at named within comes was = some_gives (λ w. IsLoaded s slot at named w × ComesFrom s w now) (StandsAt now at (announcement_block named)) past
       (λ w h.
       let there : IsAnnouncement s w (slot_at s w slot) named = subst (λ a. IsAnnouncement s w a named) (sym h.0.0) h.0.1 in
@@ -169,7 +170,7 @@ module _ (s : Layout) (layout : IsLayout s) (first : List ℕ) (past : Past) whe
 -- each step, answered from the words of one moment more
 module _ (s : Layout) (layout : IsLayout s) (first : List ℕ) (past : Past) (now : List ℕ) (orderly : Orderly s now) (comes : OnEach (λ v. ComesFrom s v now) past) where
   -- a slot word is possible
-  slot_word_possible : (a : ℕ) → IsSlotOf s now a → IsSlotWord s a
+  pub slot_word_possible : (a : ℕ) → IsSlotOf s now a → IsSlotWord s a
   slot_word_possible a is = elim is [
     | inl empty ↦ inl empty
     | inr some ↦ elim some [
@@ -449,7 +450,7 @@ module _ (p : Pair) (layout : IsLayout p.0.sizes) (first : List ℕ) (past : Pas
       rw word (
         facts.3 i lt,
         cond_both (eqb left 1) (come_to q (slot + 1)) (in_stage q (Index slot (at + 1) (left - 1))) (λ r. Knows p.0.sizes first (now ∷ past) r)
-            (λ e. knows_come_to p.0.sizes layout first (now ∷ past) q (slot + 1) (walk_next q slot (with_here x goes.0)) common (walked_next p.0.sizes layout first (now ∷ past) q slot walked
+            (λ e. knows_come_to p.0.sizes layout first (now ∷ past) q (slot + 1) (walk_next q slot (at_with p slot x goes.0)) common (walked_next p.0.sizes layout first (now ∷ past) q slot walked
             (done_at slot a named (with_index p.1.indices x) knows.0 k.was (λ j less. found j (omega (arith, k.count, eqb-true left 1 e))))))
             (λ e. (
               common,
@@ -471,23 +472,6 @@ module _ (p : Pair) (layout : IsLayout p.0.sizes) (first : List ℕ) (past : Pas
       each_unit : (ws : Past) → OnEach (λ w. Unit {0}) ws
       each_unit [] = tt
       each_unit (w ∷ ws) = (tt, each_unit ws)
-
-      with_here : (x : ℕ) → IsAtSlot p slot → IsAtSlot (p.0, record p.1 { indices = with_index p.1.indices x }) slot
-      with_here x here = record {
-        walking = record {
-          list = here.walking.list;
-          end_within = here.walking.end_within;
-          list_before_end = here.walking.list_before_end;
-          next = here.walking.next;
-          next_below = here.walking.next_below;
-          slot_within = here.walking.slot_within;
-          passed = here.walking.passed;
-          before = here.walking.before;
-          behind = here.walking.behind;
-        };
-        below = here.below;
-        outside = here.outside;
-      }
 
   finished_more : finished_of p.0.sizes first past p → finished_of p.0.sizes first (now ∷ past) p
   finished_more knows = (more knows.0, complete_more p.0.sizes layout first past now p.1.indices knows.1)
@@ -537,7 +521,7 @@ pub record Reached (s : Layout) (first : List ℕ) (past : Past) (q : Pair) : Ty
   pub knows : Knows s first past q
 
 -- one step more
-step_from : (s : Layout) (p : Pair) → p.0.sizes ≡ s → IsLayout s → (first : List ℕ) (past : Past) (now : List ℕ) → Orderly s now → OnEach (λ v. ComesFrom s v now) past → GoTogether p → Knows s first past p → (step : Step) → step_of p.0 ≡ Some step → IsPossible p (answer_of now step) × Reached s first (now ∷ past) (advance p (answer_of now step)) × (left_of (advance p (answer_of now step)).0 < left_of p.0)
+pub step_from : (s : Layout) (p : Pair) → p.0.sizes ≡ s → IsLayout s → (first : List ℕ) (past : Past) (now : List ℕ) → Orderly s now → OnEach (λ v. ComesFrom s v now) past → GoTogether p → Knows s first past p → (step : Step) → step_of p.0 ≡ Some step → IsPossible p (answer_of now step) × Reached s first (now ∷ past) (advance p (answer_of now step)) × (left_of (advance p (answer_of now step)).0 < left_of p.0)
 step_from s p same = subst (λ t. IsLayout t → (first : List ℕ) (past : Past) (now : List ℕ) → Orderly t now → OnEach (λ v. ComesFrom t v now) past → GoTogether p → Knows t first past p → (step : Step) → step_of p.0 ≡ Some step → IsPossible p (answer_of now step) × Reached t first (now ∷ past) (advance p (answer_of now step)) × (left_of (advance p (answer_of now step)).0 < left_of p.0)) same
     (λ layout first past now orderly comes together knows step e.
     let x = answer_of now step in
@@ -546,7 +530,7 @@ step_from s p same = subst (λ t. IsLayout t → (first : List ℕ) (past : Past
     (known.0, record { sizes = sizes_at p.0.stage p x; together = keeps.together; knows = known.1 }, keeps.fewer))
 
 -- the moments of a list put behind, one after another
-pub onto : Past → Past → Past
+unfoldable pub onto : Past → Past → Past
 onto [] past = past
 onto (w ∷ ws) past = onto ws (w ∷ past)
 
@@ -562,7 +546,7 @@ unfolding onto
 onto_each P [] past behind ahead = behind
 onto_each P (w ∷ ws) past behind ahead = onto_each P ws (w ∷ past) (ahead.0, behind) ahead.1
 
-onto_some : (P : List ℕ → Type 0) (ms past : Past) → AtSome P (onto ms past) → AtSome P past ⊎ AtSome P ms
+pub onto_some : (P : List ℕ → Type 0) (ms past : Past) → AtSome P (onto ms past) → AtSome P past ⊎ AtSome P ms
 unfolding onto
 onto_some P [] past some = inl some
 onto_some P (w ∷ ws) past some = elim (onto_some P ws (w ∷ past) some) [
@@ -571,7 +555,7 @@ onto_some P (w ∷ ws) past some = elim (onto_some P ws (w ∷ past) some) [
 ]
 
 -- the first step: it empties the buffers
-head_reached : (s : Layout) → IsLayout s → (spent : Bool) (f : Buffers) → IsFor s f → (first : List ℕ) → Orderly s first → (step : Step) → step_of (fresh s spent) ≡ Some step → IsPossible (fresh s spent, f) (answer_of first step) × Reached s first (first ∷ []) (advance (fresh s spent, f) (answer_of first step)) × (left_of (advance (fresh s spent, f) (answer_of first step)).0 < left_of (fresh s spent))
+pub head_reached : (s : Layout) → IsLayout s → (spent : Bool) (f : Buffers) → IsFor s f → (first : List ℕ) → Orderly s first → (step : Step) → step_of (fresh s spent) ≡ Some step → IsPossible (fresh s spent, f) (answer_of first step) × Reached s first (first ∷ []) (advance (fresh s spent, f) (answer_of first step)) × (left_of (advance (fresh s spent, f) (answer_of first step)).0 < left_of (fresh s spent))
 head_reached s layout spent f sizes first orderly step e =
     let p : Pair = (fresh s spent, f) in
     let x = head_at s first in
@@ -630,7 +614,7 @@ finds s layout spent f sizes (first ∷ ms) q orderly leads done =
     }
 
 -- the port's events lead the machine through the moments before them
-own_leads : (own : ℕ) (p q : Pair) (words : List ℕ) (es : List Event) → MakesOwn own p words es q → LeadsTo p (own_moments own words es) q
+pub own_leads : (own : ℕ) (p q : Pair) (words : List ℕ) (es : List Event) → MakesOwn own p words es q → LeadsTo p (own_moments own words es) q
 own_leads own p q words [] makes = makes
 own_leads own p q words (e ∷ es) makes =
     let after = words_after words e.step in
@@ -642,7 +626,7 @@ own_leads own p q words (e ∷ es) makes =
     by_port (eqb e.port own) makes
 
 -- an orderly run is orderly at the moments of one port
-own_orderly : (s : Layout) (own : ℕ) (all past : Past) (words : List ℕ) (es : List Event) → ((w : List ℕ) → OnEach (λ v. ComesFrom s v w) all → OnEach (λ v. ComesFrom s v w) past) → IsOrderlyRun s all (all_moments words es) → IsOrderlyRun s past (own_moments own words es)
+pub own_orderly : (s : Layout) (own : ℕ) (all past : Past) (words : List ℕ) (es : List Event) → ((w : List ℕ) → OnEach (λ v. ComesFrom s v w) all → OnEach (λ v. ComesFrom s v w) past) → IsOrderlyRun s all (all_moments words es) → IsOrderlyRun s past (own_moments own words es)
 own_orderly s own all past words [] fewer orderly = tt
 own_orderly s own all past words (e ∷ es) fewer orderly = elim (eqb e.port own) as (λ b. IsOrderlyRun s past (cond b (words ∷ own_moments own (words_after words e.step) es) (own_moments own (words_after words e.step) es))) [
   | true ↦ (orderly.0, fewer words orderly.1, own_orderly s own (words ∷ all) (words ∷ past) (words_after words e.step) es (λ w h. (h.0, fewer w h.1)) orderly.2)
@@ -654,7 +638,7 @@ finds_by_events s spent f own words events q layout sizes orderly makes done =
     finds s layout spent f sizes (own_moments own words events) q (own_orderly s own [] [] words events (λ w h. h) orderly) (own_leads own (fresh s spent, f) q words events makes) done
 
 -- a run up to a moment, and that moment
-run_split : (s : Layout) (ms past : Past) (now : List ℕ) → IsOrderlyRun s past (ms ++ now ∷ []) → IsOrderlyRun s past ms × Orderly s now × OnEach (λ v. ComesFrom s v now) (onto ms past)
+pub run_split : (s : Layout) (ms past : Past) (now : List ℕ) → IsOrderlyRun s past (ms ++ now ∷ []) → IsOrderlyRun s past ms × Orderly s now × OnEach (λ v. ComesFrom s v now) (onto ms past)
 unfolding onto
 run_split s [] past now orderly = (tt, orderly.0, orderly.1)
 run_split s (w ∷ ws) past now orderly =
@@ -673,68 +657,9 @@ possible_next s spent f (first ∷ ms) now q step layout sizes orderly leads e =
     (step_from s q reached.sizes layout first (onto ms (first ∷ [])) now split.1 split.2 reached.together reached.knows step e).0
 
 -- a run from a fresh machine, wherever it has come to
-reached_from : (s : Layout) (spent : Bool) (f : Buffers) (first : List ℕ) (ms : Past) (q : Pair) → IsLayout s → IsFor s f → IsOrderlyRun s [] (first ∷ ms) → LeadsTo (fresh s spent, f) (first ∷ ms) q → Reached s first (onto ms (first ∷ [])) q
+pub reached_from : (s : Layout) (spent : Bool) (f : Buffers) (first : List ℕ) (ms : Past) (q : Pair) → IsLayout s → IsFor s f → IsOrderlyRun s [] (first ∷ ms) → LeadsTo (fresh s spent, f) (first ∷ ms) q → Reached s first (onto ms (first ∷ [])) q
 reached_from s spent f first ms q layout sizes orderly leads =
     run s layout first ms (first ∷ []) (advance (fresh s spent, f) (answer_of first leads.0)) q orderly.2 (head_reached s layout spent f sizes first orderly.0 leads.0 leads.1).1 leads.2
-
--- no interval of the list read has the slot at which the walk stands
-pub at_slot_outside : (p : Pair) (slot : ℕ) → IsAtSlot p slot → Holds p.1.read slot → ⊥
-at_slot_outside p slot here holds = elim (cases_lt holds.0 p.0.passed) [
-  | inl passed ↦ omega (arith, here.walking.before holds.0 passed, holds.3)
-  | inr ahead ↦ omega (arith, here.outside holds.0 ahead holds.1, holds.2)
-]
-
-goes_in : (q : Pair) (stage : Stage) → GoTogether q → q.0.stage ≡ stage → goes_at stage q
-goes_in q stage together is = subst (λ st. goes_at st q) is together.stage
-
-knows_in : (s : Layout) (first : List ℕ) (past : Past) (q : Pair) (stage : Stage) → Knows s first past q → q.0.stage ≡ stage → knows_at s first past stage q
-knows_in s first past q stage knows is = subst (λ st. knows_at s first past st q) is knows
-
--- what is behind was at one of the moments of the run
-from_onto : (P : List ℕ → Type 0) (first : List ℕ) (ms : Past) → AtSome P (onto ms (first ∷ [])) → AtSome P (first ∷ ms)
-from_onto P first ms some = elim (onto_some P ms (first ∷ []) some) [
-  | inl behind ↦ elim behind [ inl here ↦ inl here | inr never ↦ absurd never ]
-  | inr ahead ↦ inr ahead
-]
-
-module _ (s : Layout) (first : List ℕ) (ms : Past) (q : Pair) (reached : Reached s first (onto ms (first ∷ [])) q) where
-  vacated_list : IsNormal q.1.next → EndsBelow q.1.next q.0.sizes.slots → Listed s (onto ms (first ∷ [])) q.1.next → WasVacated s (first ∷ ms) q.1.next
-  vacated_list normal below listed = record {
-    normal = normal;
-    within = λ x holds. omega (arith, below holds.0 holds.1, holds.3, ap (λ (l : Layout). l.slots) reached.sizes);
-    vacated = λ x holds. from_onto (λ w. slot_at s w x ≡ 1) first ms (listed x holds);
-  }
-
--- the lists of vacated slots, for each machine that a run has come to
-pub keeps_lists : (s : Layout) (spent : Bool) (f : Buffers) (moments : Past) (q : Pair) → IsLayout s → IsFor s f → IsOrderlyRun s [] moments → LeadsTo (fresh s spent, f) moments q → KeepsLists s moments q
-keeps_lists s spent f [] q layout sizes orderly leads =
-    let fresh_stage : q.0.stage ≡ Head = ap (λ (r : Pair). r.0.stage) leads in
-    record {
-      loads_none = λ slot is holds. let never : ⊥ = cc in never;
-      writes = λ at k words word is. let never : ⊥ = cc in absurd never;
-      publishes = λ at is. let never : ⊥ = cc in absurd never;
-      exchange = λ at x y is. let never : ⊥ = cc in absurd never;
-      refused = λ words x is past_end. let never : ⊥ = cc in absurd never;
-    }
-keeps_lists s spent f (first ∷ ms) q layout sizes orderly leads =
-    let reached = reached_from s spent f first ms q layout sizes orderly leads in
-    let past = onto ms (first ∷ []) in
-    record {
-      loads_none = λ slot is. at_slot_outside q slot (goes_in q (Slot slot) reached.together is);
-      writes = λ at k words word is.
-          let goes = goes_in q (Write at k words word) reached.together is in
-          let knows = knows_in s first past q (Write at k words word) reached.knows is in
-          (vacated_list s first ms q reached goes.0.next goes.0.within knows.0.vacated, goes.3, omega (arith, goes.2, goes.0.count, length-pairs q.1.next, ap list_end reached.sizes));
-      publishes = λ at is.
-          let goes = goes_in q (Publish at) reached.together is in
-          let knows = knows_in s first past q (Publish at) reached.knows is in
-          vacated_list s first ms q reached goes.0 goes.1 knows.0.vacated;
-      exchange = λ at x y is. subst (λ st. advance_at st q x ≡ advance_at st q y) (sym is) refl;
-      refused = λ words x is past_end. subst (λ st. (step_of (advance_at st q x).0 ≡ None) × ((advance_at st q x).1 ≡ q.1)) (sym is)
-          (cond_both (ltb (list_end q.0.sizes) (x + words)) (record q.0 { lists_spent = true; stage = Done }, q.1) (in_stage q (Write x 0 words (length q.1.next))) (λ (r : Pair). (step_of r.0 ≡ None) × (r.1 ≡ q.1))
-          (λ e. (refl, refl))
-          (λ e. absurd (omega (arith, ltb-false (list_end q.0.sizes) (x + words) e))));
-    }
 
 -- a run makes no more steps than were left
 run_steps : (s : Layout) → IsLayout s → (first : List ℕ) (ms past : Past) (p q : Pair) → IsOrderlyRun s past ms → Reached s first past p → LeadsTo p ms q → length ms + left_of q.0 ≤ left_of p.0

@@ -245,30 +245,30 @@ module _ (p : Pair) (layout : IsLayout p.0.sizes) (sizes : IsFor p.0.sizes p.1) 
   pub keeps_publish : (at x : ℕ) → Keeps (advance_at (Publish at) p x) (left_at p.0.sizes (Publish at))
   keeps_publish at x = record { together = record { sizes = sizes; stage = tt }; fewer = omega arith }
 
-module _ (p : Pair) (layout : IsLayout p.0.sizes) (sizes : IsFor p.0.sizes p.1) where
-  -- an index that is put at the end changes nothing else
-  at_with : (slot index : ℕ) → IsAtSlot p slot → IsAtSlot (p.0, record p.1 { indices = with_index p.1.indices index }) slot
-  at_with slot index here = record {
-    walking = record {
-      list = here.walking.list;
-      end_within = here.walking.end_within;
-      list_before_end = here.walking.list_before_end;
-      next = here.walking.next;
-      next_below = here.walking.next_below;
-      slot_within = here.walking.slot_within;
-      passed = here.walking.passed;
-      before = here.walking.before;
-      behind = here.walking.behind;
-    };
-    below = here.below;
-    outside = here.outside;
-  }
+-- an index that is put at the end changes nothing else
+pub at_with : (p : Pair) (slot index : ℕ) → IsAtSlot p slot → IsAtSlot (p.0, record p.1 { indices = with_index p.1.indices index }) slot
+at_with p slot index here = record {
+  walking = record {
+    list = here.walking.list;
+    end_within = here.walking.end_within;
+    list_before_end = here.walking.list_before_end;
+    next = here.walking.next;
+    next_below = here.walking.next_below;
+    slot_within = here.walking.slot_within;
+    passed = here.walking.passed;
+    before = here.walking.before;
+    behind = here.walking.behind;
+  };
+  below = here.below;
+  outside = here.outside;
+}
 
+module _ (p : Pair) (layout : IsLayout p.0.sizes) (sizes : IsFor p.0.sizes p.1) where
   pub keeps_index : (slot at left x : ℕ) → goes_at (Index slot at left) p → x < p.0.sizes.m → Keeps (advance_at (Index slot at left) p x) (left_at p.0.sizes (Index slot at left))
   keeps_index slot at left x goes possible =
       let q : Pair = (p.0, record p.1 { indices = with_index p.1.indices x }) in
       let q_sizes : IsFor p.0.sizes q.1 = record { limit = sizes.limit; room = sizes.room } in
-      let here = at_with slot x goes.0 in
+      let here = at_with p slot x goes.0 in
       cond_both (eqb left 1) (come_to q (slot + 1)) (in_stage q (Index slot (at + 1) (left - 1))) (λ r. Keeps r (left_at p.0.sizes (Index slot at left)))
       (λ e. keeps_next q layout q_sizes slot (left_at p.0.sizes (Index slot at left)) (walk_next q slot here) (omega (arith, goes.1)))
       (λ e.

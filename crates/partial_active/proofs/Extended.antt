@@ -1,5 +1,5 @@
 -- The list that a walk makes: it stays a normal form, and gains the numbers that were put behind it.
-use Rattle.std.proofs.Common.{ℕ, zero, suc, ◌≡◌, ◌+◌, ◌-◌, ◌*◌, ◌<◌, ◌≤◌, ◌⊎◌, true, false, eqb, ltb, [], ◌∷◌, ◌++◌, length, set, inl, inr, sym, ap, arith}
+use Rattle.std.proofs.Common.{ℕ, zero, suc, ◌≡◌, ◌+◌, ◌-◌, ◌*◌, ◌<◌, ◌≤◌, ◌⊎◌, true, false, eqb, ltb, [], ◌∷◌, ◌++◌, length, set, inl, inr, refl, sym, ap, arith}
 use Rattle.std.proofs.lemmas.Bool.{cases_eq, cases_lt, cond_both, and_parts, and_cases, ltb-true, ltb-false, eqb-true, eqb-false}
 use Rattle.std.proofs.lemmas.List.{length_push, get_or_append_left, get_or_push, length-set}
 use Rattle.partial_intervals.specs.Intervals.{Ranges, lowest, highest, Holds, IsNormal, GoesOn}
@@ -126,4 +126,31 @@ held_extended list lo hi normal x = cond_both (touches list lo) (set list (last_
     (λ e h. elim (cases_lt h.0 (length list)) [
       | inl before ↦ inl (h.0, before, omega (arith, low_before list lo hi h.0 before), omega (arith, high_before list lo hi h.0 before))
       | inr last ↦ inr (omega (arith, low_last list lo hi h.0 (omega (arith, pushed list lo hi))), omega (arith, high_last list lo hi h.0 (omega (arith, pushed list lo hi))))
+    ])
+
+-- and it holds what the list held and the new numbers
+pub holds_extended : (list : Ranges) (lo hi : ℕ) → IsNormal list → IsBehind list lo hi → (x : ℕ) → Holds list x ⊎ ((lo ≤ x) × (x ≤ hi)) → Holds (extended list lo hi) x
+holds_extended list lo hi normal behind x = cond_both (touches list lo) (set list (last_place list) (lowest list (last_place list), hi)) (list ++ (lo, hi) ∷ []) (λ l. Holds list x ⊎ ((lo ≤ x) × (x ≤ hi)) → Holds l x)
+    (λ e.
+    let t = touching list lo hi e in
+    let last : last_place list < length list = omega (arith, t.0) in
+    let same = length-set list (last_place list) (lowest list (last_place list), hi) in
+    let low = lowest_here list (last_place list) (lowest list (last_place list), hi) last in
+    let high = highest_here list (last_place list) (lowest list (last_place list), hi) last in
+    λ h. elim h [
+      | inl held ↦ elim (cases_eq held.0 (last_place list)) [
+        | inl here ↦
+            let from : lowest list (last_place list) ≤ x = rw here at held.2 in
+            let to : x ≤ highest list (last_place list) = rw here at held.3 in
+            let closed = behind.closed in
+            (last_place list, omega (arith, same, last), omega (arith, low, from), omega (arith, high, to, t.1, closed))
+        | inr other ↦ (held.0, omega (arith, same, held.1), omega (arith, lowest_other list (last_place list) (lowest list (last_place list), hi) last held.0 other, held.2), omega (arith, highest_other list (last_place list) (lowest list (last_place list), hi) last held.0 other, held.3))
+      ]
+      | inr new ↦
+          let from : lowest list (last_place list) ≤ x = omega (arith, new.0, t.1, normal.closed (last_place list) last) in
+          (last_place list, omega (arith, same, last), omega (arith, low, from), omega (arith, high, new.1))
+    ])
+    (λ e h. elim h [
+      | inl held ↦ (held.0, omega (arith, pushed list lo hi, held.1), omega (arith, low_before list lo hi held.0 held.1, held.2), omega (arith, high_before list lo hi held.0 held.1, held.3))
+      | inr new ↦ (length list, omega (arith, pushed list lo hi), omega (arith, low_last list lo hi (length list) refl, new.0), omega (arith, high_last list lo hi (length list) refl, new.1))
     ])

@@ -8,7 +8,9 @@ use Rattle.partial_active.specs.declared.get_set.Stage.{Stage}
 use Rattle.partial_active.specs.declared.get_set.Stage.TheVariants.{Head, ListLen, ListLow, ListHigh, Counter, Slot, Len, Index, Claim, Write, Publish, Done}
 use Rattle.partial_active.specs.IndexSet.{has_index}
 use Rattle.partial_active.specs.GetSet.{Pair}
-use Rattle.partial_active.specs.Orderly.{slot_at, head_at, IsAnnouncement, IsVacatedList, OnEach, AtSome, Names}
+use Rattle.partial_active.specs.Orderly.{slot_at, head_at, IsAnnouncement, IsVacatedList}
+use Rattle.partial_active.specs.Moments.{OnEach, AtSome}
+use Rattle.partial_active.specs.ActiveSet.{Names}
 
 -- the moments behind, the latest first
 abbrev pub Past : Type 0

@@ -5,3 +5,6 @@ pub mod Answered
 pub mod Sizes
 pub mod Known
 pub mod Active
+pub mod Moments
+pub mod Lists
+pub mod Named

@@ -5,3 +5,6 @@ pub mod Leave
 pub mod GetSet
 pub mod GetSetAnswers
 pub mod Orderly
+pub mod Moments
+pub mod ActiveSet
+pub mod VacatedLists

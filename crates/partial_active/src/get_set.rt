@@ -1,14 +1,8 @@
 //! The getSet of an active set: it reads the list of vacated slots, walks the other slots for
 //! announcements, and publishes the list with the slots that it found vacated.
 
-ghost use Rattle.std.specs.Prelude.{◌≡◌, ◌+◌, ◌-◌, ◌*◌, ◌<◌, ◌≤◌, ◌↔◌, ◌++◌, ◌∷◌, ℕ, Bool, List, [], IsSome, IsTrue, Some, None, length};
-ghost use Rattle.partial_words.specs.Layout.{Layout, IsLayout, list_base, list_end, pool_base, pool_end};
-ghost use Rattle.partial_words.specs.declared.step.Event.{Event};
-ghost use Rattle.partial_words.specs.Step.{answer_of};
-ghost use Rattle.partial_active.specs.Found.{Buffers, IsFor};
-ghost use Rattle.partial_active.specs.GetSet.{Pair, fresh, step_of};
-ghost use Rattle.partial_active.specs.GetSetAnswers.{IsPossible};
-ghost use Rattle.partial_active.specs.Orderly.{IsOrderlyRun, LeadsTo, MakesOwn, all_moments, own_moments, FindsActiveSet, KeepsLists};
+ghost use Rattle.std.specs.Prelude.{◌≡◌, ◌+◌, ◌*◌, ◌<◌, ◌≤◌, ◌↔◌, [], IsSome, IsTrue};
+ghost use Rattle.partial_words.specs.Layout.{IsLayout, list_base, list_end, pool_base, pool_end};
 
 use crate::found::Found;
 use partial_words::{Sizes, Step, list_size};
@@ -395,28 +389,6 @@ impl GetSet {
         }
     }
 }
-
-/// What a getSet finds, over all orders of the ports' steps. Let the words before each event be orderly
-/// and come from those before every earlier one, and let the events of one port be the steps of a fresh
-/// getSet, which they finish. Then it names every index of each announcement that stood in a slot from
-/// its first step to its last, and no index but those of announcements that stood in a slot at some
-/// moment of it. It makes at most S (m + 3) + L + 6 steps, for S slots, m components and L list words.
-pub fn finds_the_active_set()
-    ensures finds { (s : Layout) (spent : Bool) (f : Buffers) (own : ℕ) (words : List ℕ) (events : List Event) (q : Pair) → IsLayout s → IsFor s f → IsOrderlyRun s [] (all_moments words events) → MakesOwn own (fresh s spent, f) words events q → step_of q.0 ≡ None → FindsActiveSet s (own_moments own words events) q.1.indices }
-    ensures steps { (s : Layout) (spent : Bool) (f : Buffers) (own : ℕ) (words : List ℕ) (events : List Event) (q : Pair) → IsLayout s → IsFor s f → IsOrderlyRun s [] (all_moments words events) → MakesOwn own (fresh s spent, f) words events q → length (own_moments own words events) ≤ s.slots * (s.m + 3) + s.lists + 6 }
-{}
-
-/// What a getSet does with the lists of vacated slots, wherever it has come to: it loads no slot of the
-/// list that it read, it publishes whole lists of vacated slots alone, a lost exchange of the list head
-/// changes nothing, and list words that run out leave it with all that it found.
-pub fn keeps_vacated_lists()
-    ensures { (s : Layout) (spent : Bool) (f : Buffers) (moments : List (List ℕ)) (q : Pair) → IsLayout s → IsFor s f → IsOrderlyRun s [] moments → LeadsTo (fresh s spent, f) moments q → KeepsLists s moments q }
-{}
-
-/// The answers that orderly words give are possible: [`GetSet::answer`] may be called with each of them.
-pub fn orderly_answers_are_possible()
-    ensures { (s : Layout) (spent : Bool) (f : Buffers) (moments : List (List ℕ)) (now : List ℕ) (q : Pair) (step : Step) → IsLayout s → IsFor s f → IsOrderlyRun s [] (moments ++ now ∷ []) → LeadsTo (fresh s spent, f) moments q → step_of q.0 ≡ Some step → IsPossible q (answer_of now step) }
-{}
 
 #[cfg(test)]
 impl GetSet {

@@ -1,10 +1,12 @@
-//! announcements that stand in them. A machine says which atomic step is due and takes its answer.
+//! The active set of a partial snapshot object as pure machines: a join, a leave, and a getSet that finds the
+//! announcements that stand in the slots. A machine says which atomic step is due and takes its answer.
 #![tactic(auto)]
 
 pub mod found;
 pub mod get_set;
 mod index_set;
 pub mod join;
+pub mod law;
 pub mod leave;
 
 pub use found::Found;

@@ -1,0 +1,95 @@
+-- What holds at some of a getSet's steps, and an induction over the steps behind the first.
+use Rattle.std.proofs.Common.{ℕ, ◌≡◌, ◌++◌, ◌⊎◌, Bool, Option, Some, List, [], ◌∷◌, inl, inr, refl, sym, ◌∙◌, ap, subst, append_assoc, append-nil}
+use Rattle.std.specs.Option.{option_map_or}
+use Rattle.partial_words.specs.declared.step.Step.{Step}
+use Rattle.partial_words.specs.declared.step.Step.TheVariants.{Load}
+use Rattle.partial_words.specs.Layout.{Layout, IsLayout, list_head}
+use Rattle.partial_words.specs.Step.{answer_of}
+use Rattle.partial_active.specs.Found.{Buffers, IsFor}
+use Rattle.partial_active.specs.GetSet.{Pair, fresh, step_of, advance}
+use Rattle.partial_active.specs.GetSetAnswers.{GoTogether, IsPossible}
+use Rattle.partial_active.specs.Orderly.{Orderly, ComesFrom, head_at}
+use Rattle.partial_active.specs.Moments.{OnEach, AtSomeStep, IsOrderlyRun, LeadsTo, answered_from}
+use Rattle.partial_active.proofs.Known.{Past}
+use Rattle.partial_active.proofs.Active.{onto, run_split, step_from, reached_from}
+
+-- what held at some step goes on to be so
+pub at_later : (P : Pair → List ℕ → Type 0) (p : Pair) (ms : Past) (now : List ℕ) → AtSomeStep P p ms → AtSomeStep P p (ms ++ now ∷ [])
+at_later P p [] now some = absurd some
+at_later P p (w ∷ ws) now (inl h) = inl h
+at_later P p (w ∷ ws) now (inr h) = inr (at_later P (answered_from p w) ws now h)
+
+-- the steps lead the machine behind its first step on
+leads_on : (p q : Pair) (w : List ℕ) (ws : Past) → LeadsTo p (w ∷ ws) q → LeadsTo (answered_from p w) ws q
+leads_on p q w ws leads = subst (λ (r : Pair). LeadsTo r ws q) (sym (ap (λ (o : Option Step). option_map_or (λ step. advance p (answer_of w step)) o p) leads.1)) leads.2
+
+-- it holds of the machine to which the steps lead
+pub at_here : (P : Pair → List ℕ → Type 0) (p q : Pair) (ms : Past) (now : List ℕ) → LeadsTo p ms q → P q now → AtSomeStep P p (ms ++ now ∷ [])
+at_here P p q [] now leads h = inl (subst (λ (r : Pair). P r now) leads h)
+at_here P p q (w ∷ ws) now leads h = inr (at_here P (answered_from p w) q ws now (leads_on p q w ws leads) h)
+
+-- what held at some step held before, or holds of that machine
+pub at_split : (P : Pair → List ℕ → Type 0) (p q : Pair) (ms : Past) (now : List ℕ) → LeadsTo p ms q → AtSomeStep P p (ms ++ now ∷ []) → AtSomeStep P p ms ⊎ P q now
+at_split P p q [] now leads (inl h) = inr (subst (λ (r : Pair). P r now) (sym leads) h)
+at_split P p q [] now leads (inr h) = absurd h
+at_split P p q (w ∷ ws) now leads (inl h) = inl (inl h)
+at_split P p q (w ∷ ws) now leads (inr h) = elim (at_split P (answered_from p w) q ws now (leads_on p q w ws leads) h) [ inl t ↦ inl (inr t) | inr t ↦ inr t ]
+
+-- one step more
+leads_push : (p q : Pair) (ms : Past) (now : List ℕ) (step : Step) → LeadsTo p ms q → step_of q.0 ≡ Some step → LeadsTo p (ms ++ now ∷ []) (advance q (answer_of now step))
+leads_push p q [] now step leads e = (step, ap (λ (r : Pair). step_of r.0) (sym leads) ∙ e, ap (λ (r : Pair). advance r (answer_of now step)) leads)
+leads_push p q (w ∷ ws) now step leads e = (leads.0, leads.1, leads_push (advance p (answer_of w leads.0)) q ws now step leads.2 e)
+
+-- the front of an orderly run is one
+run_front : (s : Layout) (past ms more : Past) → IsOrderlyRun s past (ms ++ more) → IsOrderlyRun s past ms
+run_front s past [] more run = tt
+run_front s past (w ∷ ws) more run = (run.0, run.1, run_front s (w ∷ past) ws more run.2)
+
+-- what holds of the moments put behind holds of them
+onto_back : (P : List ℕ → Type 0) (ms past : Past) → OnEach P (onto ms past) → OnEach P past × OnEach P ms
+unfolding onto
+onto_back P [] past each = (each, tt)
+onto_back P (w ∷ ws) past each = let both = onto_back P ws (w ∷ past) each in (both.0.1, (both.0.0, both.1))
+
+-- the machine behind the first moment and some more, and the words that answer it now
+pub record Behind (s : Layout) (spent : Bool) (f : Buffers) (done : Past) (p : Pair) (now : List ℕ) : Type 0 where
+  pub leads : LeadsTo (fresh s spent, f) done p
+  pub sizes : p.0.sizes ≡ s
+  pub together : GoTogether p
+  pub orderly : Orderly s now
+  pub comes : OnEach (λ v. ComesFrom s v now) done
+  pub possible : (st : Step) → step_of p.0 ≡ Some st → IsPossible p (answer_of now st)
+
+-- what holds behind the first step, and goes on to hold behind each later one, holds behind all of them
+module _ (s : Layout) (layout : IsLayout s) (spent : Bool) (f : Buffers) (sizes : IsFor s f) (first : List ℕ) (Holds : Past → Pair → Type 0)
+    (step : (done : Past) (p : Pair) (now : List ℕ) (st : Step) → Behind s spent f (first ∷ done) p now → step_of p.0 ≡ Some st → Holds (first ∷ done) p →
+    Holds ((first ∷ done) ++ now ∷ []) (advance p (answer_of now st))) where
+  go : (done rest : Past) (p q : Pair) → IsOrderlyRun s [] ((first ∷ done) ++ rest) → LeadsTo (fresh s spent, f) (first ∷ done) p → LeadsTo p rest q → Holds (first ∷ done) p →
+      Holds ((first ∷ done) ++ rest) q
+  unfolding onto
+  go done [] p q orderly before leads holds = subst (λ (ms : Past). Holds ms q) (sym (append-nil (first ∷ done))) (subst (λ (r : Pair). Holds (first ∷ done) r) (sym leads) holds)
+  go done (w ∷ ws) p q orderly before leads holds =
+      let joined : ((first ∷ done) ++ w ∷ []) ++ ws ≡ (first ∷ done) ++ w ∷ ws = append_assoc (first ∷ done) (w ∷ []) ws in
+      let whole : IsOrderlyRun s [] (((first ∷ done) ++ w ∷ []) ++ ws) = subst (IsOrderlyRun s []) (sym joined) orderly in
+      let split = run_split s (first ∷ done) [] w (run_front s [] ((first ∷ done) ++ w ∷ []) ws whole) in
+      let reached = reached_from s spent f first done p layout sizes split.0 before in
+      let behind : Behind s spent f (first ∷ done) p w = record {
+        leads = before;
+        sizes = reached.sizes;
+        together = reached.together;
+        orderly = split.1;
+        comes = (onto_back (λ v. ComesFrom s v w) (first ∷ done) [] split.2).1;
+        possible = λ st e. (step_from s p reached.sizes layout first (onto done (first ∷ [])) w split.1 split.2 reached.together reached.knows st e).0;
+      } in
+      subst (λ (ms : Past). Holds ms q) joined
+      (go (done ++ w ∷ []) ws (advance p (answer_of w leads.0)) q whole (leads_push (fresh s spent, f) p (first ∷ done) w leads.0 before leads.1) leads.2
+      (step done p w leads.0 behind leads.1 holds))
+
+  pub holds_behind : (ms : Past) (q : Pair) → Holds (first ∷ []) (advance (fresh s spent, f) (head_at s first)) → IsOrderlyRun s [] (first ∷ ms) →
+      LeadsTo (fresh s spent, f) (first ∷ ms) q → Holds (first ∷ ms) q
+  holds_behind ms q base orderly leads =
+      let is : leads.0 ≡ Load (list_head s) = cc in
+      let begun : advance (fresh s spent, f) (head_at s first) ≡ advance (fresh s spent, f) (answer_of first leads.0) = ap (λ (st : Step). advance (fresh s spent, f) (answer_of first st))
+      (sym is) in
+      let begins : LeadsTo (fresh s spent, f) (first ∷ []) (advance (fresh s spent, f) (answer_of first leads.0)) = (leads.0, leads.1, refl) in
+      go [] ms (advance (fresh s spent, f) (answer_of first leads.0)) q orderly begins leads.2 (subst (Holds (first ∷ [])) begun base)
