@@ -156,7 +156,10 @@ mod tests {
         assert_eq!(rt; view_len(&words, 3), 1);
         assert_eq!(rt; view_pair(&words, 3, 0), (0, 10));
         assert_eq!(rt; (value_word(26), view_word(26), own_view(26)), (27, 28, 29));
-        assert_eq!(rt; (view_size(1), plain_record_size(), full_record_size(1)), (3, 3, 6));
+        assert_eq!(rt;
+            (view_size(1), plain_record_size(), full_record_size(1)),
+            (3, 3, 6)
+        );
         Ok(())
     }
 }
