@@ -1,3 +1,4 @@
+pub mod AllLemmas
 pub mod CheckLaws
 pub mod Decisions
 pub mod HistoryLemmas

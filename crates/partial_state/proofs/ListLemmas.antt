@@ -5,27 +5,7 @@ use Rattle.partial_model.proofs.HistoryLemmas.{place_below}
 use Rattle.partial_model.proofs.NotesLemmas.{slice_get_last}
 use Rattle.std.specs.List.{AllByRecursion}
 use Rattle.partial_state.specs.Holdings.{EachTwo}
-
-module _ {A : Type 0} (P : A → Type 0) where
-  pub all_before : (before : List A) (x : A) (after : List A) → AllByRecursion P (before ++ x ∷ after) → AllByRecursion P before
-  all_before [] x after w = tt
-  all_before (b ∷ before) x after w = (w.0, all_before before x after w.1)
-
-  pub all_at : (before : List A) (x : A) (after : List A) → AllByRecursion P (before ++ x ∷ after) → P x
-  all_at [] x after w = w.0
-  all_at (b ∷ before) x after w = all_at before x after w.1
-
-  pub all_after : (before : List A) (x : A) (after : List A) → AllByRecursion P (before ++ x ∷ after) → AllByRecursion P after
-  all_after [] x after w = w.1
-  all_after (b ∷ before) x after w = all_after before x after w.1
-
-  pub all_join : (before : List A) (x : A) (after : List A) → AllByRecursion P before → P x → AllByRecursion P after → AllByRecursion P (before ++ x ∷ after)
-  all_join [] x after w p v = (p, v)
-  all_join (b ∷ before) x after w p v = (w.0, all_join before x after w.1 p v)
-
-pub all_weaker : {A : Type 0} (P R : A → Type 0) → ((x : A) → P x → R x) → (xs : List A) → AllByRecursion P xs → AllByRecursion R xs
-all_weaker P R f [] p = tt
-all_weaker P R f (x ∷ xs) p = (f x p.0, all_weaker P R f xs p.1)
+pub use Rattle.partial_model.proofs.AllLemmas.{all_before, all_at, all_after, all_join, all_weaker, all_append, all_front, all_back, all_map, all_unmap}
 
 module _ {A : Type 0} (R : A → A → Type 0) (turn : (x y : A) → R x y → R y x) where
   -- R holds of an element and each other
@@ -45,19 +25,6 @@ pub length_same : {A : Type 0} (before : List A) (x y : A) (after : List A) → 
 length_same [] x y after = refl
 length_same (b ∷ before) x y after = ap suc (length_same before x y after)
 
--- two lists, one behind the other
-pub all_append : {A : Type 0} (P : A → Type 0) (xs ys : List A) → AllByRecursion P xs → AllByRecursion P ys → AllByRecursion P (xs ++ ys)
-all_append P [] ys v w = w
-all_append P (x ∷ xs) ys v w = (v.0, all_append P xs ys v.1 w)
-
-pub all_front : {A : Type 0} (P : A → Type 0) (xs ys : List A) → AllByRecursion P (xs ++ ys) → AllByRecursion P xs
-all_front P [] ys w = tt
-all_front P (x ∷ xs) ys w = (w.0, all_front P xs ys w.1)
-
-pub all_back : {A : Type 0} (P : A → Type 0) (xs ys : List A) → AllByRecursion P (xs ++ ys) → AllByRecursion P ys
-all_back P [] ys w = w
-all_back P (x ∷ xs) ys w = all_back P xs ys w.1
-
 pub two_back : {A : Type 0} (R : A → A → Type 0) (xs ys : List A) → EachTwo R (xs ++ ys) → EachTwo R ys
 two_back R [] ys w = w
 two_back R (x ∷ xs) ys w = two_back R xs ys w.1
@@ -65,15 +32,6 @@ two_back R (x ∷ xs) ys w = two_back R xs ys w.1
 pub two_across : {A : Type 0} (R : A → A → Type 0) (xs ys : List A) → EachTwo R (xs ++ ys) → AllByRecursion (λ x. AllByRecursion (R x) ys) xs
 two_across R [] ys w = tt
 two_across R (x ∷ xs) ys w = (all_back (R x) xs ys w.0, two_across R xs ys w.1)
-
--- a list of what a function gives
-pub all_map : {A B : Type 0} (P : B → Type 0) (g : A → B) (xs : List A) → AllByRecursion (λ x. P (g x)) xs → AllByRecursion P (map g xs)
-all_map P g [] w = tt
-all_map P g (x ∷ xs) w = (w.0, all_map P g xs w.1)
-
-pub all_unmap : {A B : Type 0} (P : B → Type 0) (g : A → B) (xs : List A) → AllByRecursion P (map g xs) → AllByRecursion (λ x. P (g x)) xs
-all_unmap P g [] w = tt
-all_unmap P g (x ∷ xs) w = (w.0, all_unmap P g xs w.1)
 
 pub map_same : {A B : Type 0} (g h : A → B) (xs : List A) → AllByRecursion (λ x. g x ≡ h x) xs → map g xs ≡ map h xs
 map_same g h [] w = refl

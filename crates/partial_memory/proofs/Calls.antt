@@ -1,0 +1,117 @@
+-- The steps of a call, one after the other.
+use Rattle.std.proofs.Common.{ℕ, ◌≡◌, ◌+◌, ◌<◌, ◌≤◌, ◌++◌, ◌⊎◌, ◌||◌, Bool, true, false, cond, Option, Some, None, List, [], ◌∷◌, length, refl, sym, ap, subst, ◌∙◌, inl, inr, arith}
+use Rattle.std.specs.Prelude.{is_some, not}
+use Rattle.std.proofs.lemmas.Bool.{false≢true}
+use Rattle.std.proofs.lemmas.List.{length_push}
+use Rattle.partial_words.specs.declared.step.Step.{Step}
+use Rattle.partial_words.specs.Layout.{Layout, IsLayout, total}
+use Rattle.partial_words.specs.Step.{word_of}
+use Rattle.partial_machine.specs.declared.stage.Reply.{Reply}
+use Rattle.partial_machine.specs.declared.stage.Stage.{Stage}
+use Rattle.partial_machine.specs.declared.stage.Stage.TheVariants.{ReadBegun, UpdateBegun, ScanBegun, Finished}
+use Rattle.partial_machine.specs.Machine.{CoreState, advance, step_of, step_at, reply_of, reply_at}
+use Rattle.partial_machine.specs.Calls.{is_begun}
+use Rattle.partial_machine.specs.Behind.{refuses_pool, refuses_slots}
+use Rattle.partial_machine.proofs.Laws.{due_words_are_there}
+use Rattle.partial_core.specs.Part.{Part, Kept, HasBegun, IsMachineOf}
+use Rattle.partial_core.specs.Steps.{Tells}
+use Rattle.partial_core.specs.Calls.{Made}
+use Rattle.partial_core.proofs.Laws.{first_steps_make_calls, further_steps_make_calls}
+use Rattle.partial_memory.specs.declared.rule.About.{About}
+use Rattle.partial_memory.specs.Rule.{Seated, AreByOpened, Told}
+use Rattle.partial_memory.specs.Steps.{Begins, CallMade}
+
+-- a machine with a due step has no reply
+due_none : (s : CoreState) (t : Stage) (step : Step) → step_at s t ≡ Some step → reply_at t ≡ None
+due_none s (Finished r) step e = absurd cc
+due_none s _ step e = refl
+
+-- one that has begun a call has a due step
+begun_due : (s : CoreState) (t : Stage) → is_begun t ≡ true → step_at s t ≡ None → ⊥
+begun_due s (ReadBegun j) b e = absurd cc
+begun_due s (UpdateBegun c) b e = absurd cc
+begun_due s ScanBegun b e = absurd cc
+begun_due s _ b e = absurd (false≢true b)
+
+-- the machine that a step leads to, and its port
+module _ (x : Seated) (c : CoreState) (y : Seated) (a : ℕ) (z : Seated) (about : y.about ≡ x.about) (t : Told c y a z) where
+  abbrev TellsFor : About → Type 0
+  TellsFor o = Tells o.sizes o.opening t.log t.entries y.part c a z.part
+
+  tells_here : TellsFor x.about
+  tells_here = subst TellsFor about t.tells
+
+  others_here : AreByOpened x.about z.part.seen
+  others_here = subst (λ (o : About). AreByOpened o z.part.seen) about t.others
+
+-- the first step
+first_made : (b : CoreState) (x : Seated) (a : ℕ) (z : Seated) → Begins b x → Told b x a z → CallMade b x (advance b a) z
+first_made b x a z w t =
+    let m = first_steps_make_calls x.about.sizes x.about.opening t.log t.entries b x.part a z.part w.begun w.sound t.tells in
+    let kept : z.part.kept ≡ record { answer = a; at = length (t.log ++ t.entries) } ∷ [] =
+    ap (λ (v : Part). v.kept) t.tells.part ∙ ap (λ f. cond f [] x.part.kept ++ record { answer = a; at = length (t.log ++ t.entries) } ∷ []) w.begun.begun in
+    record {
+      about = t.about;
+      made = m;
+      steps = t.steps ∙ ap (λ (ks : List Kept). x.steps + length ks) (sym kept);
+      others = t.others;
+      pool = t.tells.behind.pool;
+      slots = t.tells.behind.slots;
+    }
+
+-- a further step
+next_made : (b : CoreState) (x : Seated) (c : CoreState) (y : Seated) (a : ℕ) (z : Seated) → CallMade b x c y → reply_of c ≡ None → Told c y a z →
+    CallMade b x (advance c a) z
+next_made b x c y a z m none t =
+    let going : is_begun c.stage ≡ false = m.made.machine.going in
+    let last : Kept = record { answer = a; at = length (t.log ++ t.entries) } in
+    let kept : z.part.kept ≡ y.part.kept ++ last ∷ [] = ap (λ (v : Part). v.kept) t.tells.part ∙ ap (λ f. cond f [] y.part.kept ++ last ∷ []) going in
+    let count : length z.part.kept ≡ length y.part.kept + 1 = ap length kept ∙ length_push y.part.kept last in
+    let steps = t.steps in
+    let before = m.steps in
+    record {
+      about = t.about ∙ m.about;
+      made = further_steps_make_calls x.about.sizes x.about.opening t.log t.entries b x.part c y.part a z.part m.made (tells_here x c y a z m.about t);
+      steps = omega (arith, steps, before, count);
+      others = others_here x c y a z m.about t;
+      pool = t.tells.behind.pool ∙ ap (λ p. refuses_pool (reply_of (advance c a)) || p) (m.pool ∙ ap (λ r. refuses_pool r || b.pool_spent) none);
+      slots = t.tells.behind.slots ∙ ap (λ p. refuses_slots (reply_of (advance c a)) || p) (m.slots ∙ ap (λ r. refuses_slots r || b.slots_spent) none);
+    }
+
+-- A call in the middle: it is begun and has made no step, or it has made some.
+abbrev pub Runs : CoreState → Seated → CoreState → Seated → Type 0
+Runs b x c y = ((c ≡ b) × (y ≡ x)) ⊎ CallMade b x c y
+
+pub runs_on : (b : CoreState) (x : Seated) (c : CoreState) (y : Seated) (a : ℕ) (z : Seated) (s : Step) → Begins b x → Runs b x c y → step_of c ≡ Some s →
+    Told c y a z → CallMade b x (advance c a) z
+runs_on b x c y a z s begins (inl w) due t =
+    let told : Told b x a z = subst (λ (d : CoreState). Told d x a z) w.0 (subst (λ (v : Seated). Told c v a z) w.1 t) in
+    subst (λ (d : CoreState). CallMade b x (advance d a) z) (sym w.0) (first_made b x a z begins told)
+runs_on b x c y a z s begins (inr m) due t = next_made b x c y a z m (due_none c c.stage s due) t
+
+-- the machine of a call in the middle is its port's
+pub runs_machine : (b : CoreState) (x : Seated) (c : CoreState) (y : Seated) → Begins b x → Runs b x c y → IsMachineOf c y.part
+runs_machine b x c y begins (inl w) = inl (subst (λ (v : Seated). HasBegun c v.part) (sym w.1) (subst (λ (d : CoreState). HasBegun d x.part) (sym w.0) begins.begun))
+runs_machine b x c y begins (inr m) = inr m.made.machine
+
+pub runs_about : (b : CoreState) (x : Seated) (c : CoreState) (y : Seated) → Runs b x c y → y.about ≡ x.about
+runs_about b x c y (inl w) = ap (λ (v : Seated). v.about) w.1
+runs_about b x c y (inr m) = m.about
+
+-- the word of the step that is due is there
+pub runs_within : (b : CoreState) (x : Seated) (c : CoreState) (y : Seated) (s : Step) → Begins b x → Runs b x c y → step_of c ≡ Some s → word_of s < total x.about.sizes
+runs_within b x c y s begins (inl w) due =
+    subst (λ (z : Layout). word_of s < total z) begins.sizes (due_words_are_there b s begins.layout begins.sound (ap step_of (sym w.0) ∙ due))
+runs_within b x c y s begins (inr m) due =
+    let sizes : c.sizes ≡ x.about.sizes = m.made.sizes in
+    subst (λ (z : Layout). word_of s < total z) sizes (due_words_are_there c s (subst IsLayout (begins.sizes ∙ sym sizes) begins.layout) m.made.sound due)
+
+-- where no step is due a call has made some, and has a reply
+replied : (o : Option Reply) → not (is_some o) ≡ false → (r : Reply) × (o ≡ Some r)
+replied None e = absurd cc
+replied (Some r) e = (r, refl)
+
+pub runs_ended : (b : CoreState) (x : Seated) (c : CoreState) (y : Seated) → Begins b x → Runs b x c y → step_of c ≡ None →
+    CallMade b x c y × ((r : Reply) × (reply_of c ≡ Some r))
+runs_ended b x c y begins (inl w) over = absurd (begun_due b b.stage begins.begun.begun (ap step_of (sym w.0) ∙ over))
+runs_ended b x c y begins (inr m) over = (m, replied (reply_of c) (sym m.made.due ∙ ap is_some over))

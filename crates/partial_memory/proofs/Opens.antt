@@ -1,0 +1,71 @@
+-- A memory as it opens, and its ports.
+use Rattle.std.proofs.Common.{ℕ, zero, suc, ◌≡◌, ◌+◌, ◌-◌, ◌<◌, ◌≤◌, ◌++◌, List, [], ◌∷◌, map, refl, sym, ap, subst, ◌∙◌, arith, append-nil, append_assoc}
+use Rattle.atomic_table.specs.Table.{Me, opening}
+use Rattle.atomic_table.specs.Seated.{TableId}
+use Rattle.partial_words.specs.Layout.{Layout, IsLayout}
+use Rattle.partial_words.specs.Chain.{OpensWith}
+use Rattle.partial_machine.specs.Machine.{CoreState, fresh}
+use Rattle.partial_machine.proofs.Laws.{rests_are_sound}
+use Rattle.partial_core.specs.Part.{fresh_parts}
+use Rattle.partial_core.specs.Lawful.{Lawful}
+use Rattle.partial_core.proofs.Laws.{opens_lawful, ports_come_between}
+use Rattle.partial_memory.specs.declared.rule.About.{About}
+use Rattle.partial_memory.specs.Rule.{Seated, AreOpened, IsKept, IsShuffle, newcomer, newcomers, parts_of, first_of, others_of, one_in}
+use Rattle.partial_memory.specs.Ports.{PortView, port_view, IsResting, new_ports}
+use Rattle.partial_memory.proofs.Shuffles.{same_order}
+
+newcomers_parts : (about : About) (port n : ℕ) → parts_of (newcomers about port n) ≡ fresh_parts about.sizes port n
+newcomers_parts about port zero = refl
+newcomers_parts about port (suc n) = ap (λ l. (newcomer about port).part ∷ l) (newcomers_parts about (port + 1) n)
+
+newcomers_below : (about : About) (port n most : ℕ) → port + n ≤ most → AreOpened most (newcomers about port n)
+newcomers_below about port zero most far = tt
+newcomers_below about port (suc n) most far = (omega (arith, far), newcomers_below about (port + 1) n most (omega (arith, far)))
+
+pub opens : {S : Type 0} (about : About) (words : List ℕ) → OpensWith about.sizes about.opening words → about.ports ≤ 64 →
+    IsKept {S = S} about (opening words [] (newcomers about 0 about.ports))
+opens about words opened few = record {
+  log = [];
+  all = newcomers about 0 about.ports;
+  shuffle = subst (λ l. IsShuffle l (newcomers about 0 about.ports)) (sym (append-nil (newcomers about 0 about.ports))) (same_order (newcomers about 0 about.ports));
+  lawful = subst (λ l. Lawful about.sizes about.opening words l []) (sym (newcomers_parts about 0 about.ports)) (opens_lawful about.sizes about.opening words about.ports opened few);
+  opened = newcomers_below about 0 about.ports about.ports (omega arith);
+}
+
+next_new : (about : About) (i n : ℕ) → i < n → newcomers about i (n - i) ≡ newcomer about i ∷ newcomers about (i + 1) (n - (i + 1))
+next_new about i n l = let e : n - i ≡ suc (n - (i + 1)) = omega arith in ap (newcomers about i) e
+
+newcomer_rests : (about : About) (i : ℕ) → IsLayout about.sizes → IsResting ((newcomer about i ∷ []) ∷ []) (fresh about.sizes i) i
+newcomer_rests about i layout = record {
+  one = refl;
+  between = ports_come_between.0 about.sizes i;
+  sound = rests_are_sound.fresh about.sizes i;
+  layout = layout;
+  sizes = refl;
+  number = refl;
+  fits = record { history = record { components = tt; distinct = tt; not_initial = tt }; legal = tt; shown = omega arith; once = refl };
+  others = tt;
+}
+
+module _ (about : About) (i n : ℕ) (inside : i < n) (v : List Seated) (left : v ≡ newcomers about i (n - i)) where
+  pub newcomer_next : first_of v ≡ newcomer about i ∷ []
+  newcomer_next = ap first_of (left ∙ next_new about i n inside)
+
+  pub rests_new : (views : List (List Seated)) (core : CoreState) (z : Layout) → IsLayout z → views ≡ first_of v ∷ [] → core ≡ fresh z i → about.sizes ≡ z → IsResting views core i
+  rests_new views core z layout is idle sizes =
+      let e : views ≡ (newcomer about i ∷ []) ∷ [] = is ∙ ap (λ (w : List Seated). w ∷ []) newcomer_next in
+      let rest = newcomer_rests about i (subst IsLayout (sym sizes) layout) in
+      subst (λ (w : List (List Seated)). IsResting w core i) (sym e) (subst (λ (s : CoreState). IsResting ((newcomer about i ∷ []) ∷ []) s i) (sym (idle ∙ ap (λ (y : Layout). fresh y i) (sym sizes))) rest)
+
+  pub deals_next : {S : Type 0} (me : Me S (List Seated)) (at : List (ℕ × S)) → me ≡ (others_of v, at) → at ≡ [] → (me.0 ≡ newcomers about (i + 1) (n - (i + 1))) × (me.1 ≡ [])
+  deals_next {S} me at is none = (ap (λ (m : Me S (List Seated)). m.0) is ∙ ap others_of (left ∙ next_new about i n inside), ap (λ (m : Me S (List Seated)). m.1) is ∙ none)
+
+  pub made_next : {S : Type 0} (t : TableId) (all old new : List PortView) (p : PortView) (views : List (List Seated)) (me : Me S (List Seated)) (at : List (ℕ × S)) →
+      all ≡ old ++ new_ports t v → new ≡ old ++ p ∷ [] → views ≡ first_of v ∷ [] → p ≡ port_view t (one_in views) → me ≡ (others_of v, at) → all ≡ new ++ new_ports t me.0
+  made_next {S} t all old new p views me at made is here port less =
+      let one : p ≡ port_view t (newcomer about i) = port ∙ ap (λ (w : List (List Seated)). port_view t (one_in w)) here ∙ ap (λ (w : List Seated). port_view t (one_in (w ∷ []))) newcomer_next in
+      let rest : new_ports t me.0 ≡ new_ports t (newcomers about (i + 1) (n - (i + 1))) =
+      ap (λ (m : Me S (List Seated)). new_ports t m.0) less ∙ ap (λ (w : List Seated). new_ports t (others_of w)) (left ∙ next_new about i n inside) in
+      let this : new_ports t v ≡ p ∷ new_ports t me.0 =
+      ap (new_ports t) (left ∙ next_new about i n inside) ∙ ap (λ (q : PortView). q ∷ new_ports t (newcomers about (i + 1) (n - (i + 1)))) (sym one) ∙ ap (λ l. p ∷ l) (sym rest) in
+      made ∙ ap (λ l. old ++ l) this ∙ sym (append_assoc old (p ∷ []) (new_ports t me.0)) ∙ ap (λ l. l ++ new_ports t me.0) (sym is)

@@ -1,0 +1,131 @@
+-- A read in two loads, whose machine is where its port's kept answers lead.
+use Rattle.std.proofs.Common.{ℕ, ◌≡◌, ◌+◌, ◌<◌, ◌≤◌, ◌^◌, Bool, true, false, Some, None, List, [], ◌∷◌, refl, sym, ap, subst, ◌∙◌, inl, inr, cond, arith}
+use Rattle.std.specs.Prelude.{is_some, nat_lt}
+use Rattle.std.proofs.lemmas.Bool.{ltb-true}
+use Rattle.atomic_table.specs.Table.{Me, Allows}
+use Rattle.atomic_table.specs.Seated.{TableId}
+use Rattle.partial_model.specs.declared.call.Call.TheVariants as call
+use Rattle.partial_model.specs.declared.call.Refused.TheVariants as refused
+use Rattle.partial_words.specs.declared.step.Step.{Step}
+use Rattle.partial_words.specs.declared.step.Step.TheVariants.{Load}
+use Rattle.partial_words.specs.Layout.{Layout, IsLayout, total}
+use Rattle.partial_words.specs.Record.{value_word}
+use Rattle.partial_machine.specs.declared.stage.Reply.TheVariants as reply
+use Rattle.partial_machine.specs.declared.stage.Stage.TheVariants.{Idle, ReadBegun}
+use Rattle.partial_machine.specs.Machine.{CoreState, advance, at_stage, step_of}
+use Rattle.partial_machine.specs.Calls.{begin_scan, begun_of, refusal_of}
+use Rattle.partial_machine.proofs.Laws.{calls_begin, rests_are_sound}
+use Rattle.partial_core.specs.Part.{Part, IsBetween, IsMachineOf, begun_like, core_of, port_of}
+use Rattle.partial_core.specs.Steps.{Fits}
+use Rattle.partial_core.proofs.Laws.{calls_begin_between, ports_come_between}
+use Rattle.partial_memory.specs.declared.rule.About.{About}
+use Rattle.partial_memory.specs.Rule.{Seated, AreByOpened, IsBadgeOfOne, IsKept, IsOne, Told, makes, one_in, one_of, reading}
+use Rattle.partial_memory.specs.Steps.{CallMade}
+use Rattle.partial_memory.specs.Ports.{PortView, IsResting, port_view}
+use Rattle.partial_memory.specs.Calls.{Reads}
+use Rattle.partial_memory.proofs.Calls.{runs_machine, runs_on, runs_within}
+use Rattle.partial_memory.proofs.Resting.{CallBegins, call_begins}
+use Rattle.partial_memory.proofs.Replies.{read_told}
+use Rattle.partial_memory.proofs.Steps.{step_asked}
+
+below_none : (s : CoreState) (j : ℕ) → j < s.sizes.m → refusal_of s (call.Read j) ≡ None
+below_none s j below = ap (λ b. cond b None (Some refused.Component)) (ltb-true j s.sizes.m below)
+
+module _ (views : List (List Seated)) (core : CoreState) (number : ℕ) (w : IsResting views core number) where
+  -- the port between calls, with a machine that asks for no position
+  cleared : IsResting views (at_stage (begin_scan core []) Idle) number
+  cleared =
+      let x = one_in views in
+      let from = calls_begin core (call.Scan []) w.between.asked (omega arith) refl in
+      record {
+        one = w.one;
+        between = (calls_begin_between x.part core w.between).at_once;
+        sound = rests_are_sound.idle (begin_scan core []) (from.sound w.sound);
+        layout = w.layout;
+        sizes = w.sizes;
+        number = w.number;
+        fits = w.fits;
+        others = w.others;
+      }
+
+  -- it begins a read
+  pub read_begins : (t : TableId) (j : ℕ) → j < core.sizes.m → CallBegins t (one_in views) (reading (one_in views).part j) (call.Read j)
+  read_begins t j below =
+      let s : CoreState = at_stage (begin_scan core []) Idle in
+      let is : reading (one_in views).part j ≡ begun_of s (call.Read j) = ap (λ (d : CoreState). record d { asked = []; stage = ReadBegun j }) (sym w.between.machine) in
+      call_begins views s number cleared t (reading (one_in views).part j) (call.Read j) tt (below_none s j below) refl is
+
+  module _ (t : TableId) (j : ℕ) (below : j < core.sizes.m) (stamp : ℕ) (y : Seated) (first : Told (reading (one_in views).part j) (one_in views) stamp y) where
+    abbrev b : CoreState
+    b = reading (one_in views).part j
+
+    half : CallMade b (one_in views) (advance b stamp) y
+    half =
+        let from = read_begins t j below in
+        runs_on b (one_in views) b (one_in views) stamp y (Load j) from.begins (inl (refl, refl)) refl first
+
+    -- the machine of its second load
+    pub next_is : core_of y.part ≡ advance b stamp
+    next_is = let h = half in sym h.made.machine.is
+
+    pub next_machine : IsMachineOf (core_of y.part) y.part
+    next_machine = let from = read_begins t j below in subst (λ (d : CoreState). IsMachineOf d y.part) (sym next_is) (runs_machine b (one_in views) (advance b stamp) y from.begins (inr half))
+
+    pub next_within : value_word stamp < total (one_in views).about.sizes
+    next_within = let from = read_begins t j below in runs_within b (one_in views) (advance b stamp) y (Load (value_word stamp)) from.begins (inr half) refl
+
+    pub next_small : stamp + 1 < 2 ^ 64
+    next_small =
+        let within = next_within in
+        let layout : IsLayout (one_in views).about.sizes = subst IsLayout w.sizes w.layout in
+        let a = layout.components in
+        let b = layout.slots in
+        let c = layout.lists in
+        let d = layout.pool in
+        omega (arith, within, a.1, b.1, c, d.1)
+
+    module _ (value : ℕ) (v : Seated) (second : Told (core_of y.part) y value v) where
+      read_made : CallMade b (one_in views) (advance (advance b stamp) value) v
+      read_made =
+          let from = read_begins t j below in
+          runs_on b (one_in views) (advance b stamp) y value v (Load (value_word stamp)) from.begins (inr half) refl (subst (λ (d : CoreState). Told d y value v) next_is second)
+
+      pub read_is : Reads (port_view t (one_in views)) j value stamp (port_view t v)
+      read_is = let from = read_begins t j below in read_told t b (one_in views) (advance (advance b stamp) value) v read_made j from (reply.Read value stamp) refl
+
+      -- its port is between calls again
+      pub read_rests : (after : List (List Seated)) → IsBadgeOfOne after → one_in after ≡ v → IsResting after core number
+      read_rests after one is =
+          let m = read_made in
+          let z : Layout = (one_in views).about.sizes in
+          let ended = ports_come_between.1 z (one_in views).about.opening b (one_in views).part (advance (advance b stamp) value) v.part m.made refl in
+          let like : core ≡ begun_like (core_of v.part) core =
+              w.between.machine ∙ ap (λ (d : CoreState). begun_like d core) m.made.machine.is in
+          let between : IsBetween v.part core = record { rest = ended.rest; machine = like; idle = w.between.idle; asked = w.between.asked } in
+          let about = m.about in
+          record {
+            one = one;
+            between = subst (λ (u : Seated). IsBetween u.part core) (sym is) between;
+            sound = w.sound;
+            layout = w.layout;
+            sizes = w.sizes ∙ ap (λ (o : About). o.sizes) (sym about) ∙ ap (λ (u : Seated). u.about.sizes) (sym is);
+            number = w.number ∙ sym m.made.port ∙ ap (λ (u : Seated). port_of u.part) (sym is);
+            fits = subst (λ (u : Seated). Fits u.about.opening u.part.seen u.part) (sym is) (subst (λ (o : About). Fits o.opening v.part.seen v.part) (sym about) m.made.fits);
+            others = subst (λ (u : Seated). AreByOpened u.about u.part.seen) (sym is) (subst (λ (o : About). AreByOpened o v.part.seen) (sym about) m.others);
+          }
+
+-- the loads of a read are allowed
+pub begins_asked : {S : Type 0} (about : About) (slots id : ℕ) (me : Me S (List Seated)) (views : List (List Seated)) (core : CoreState) (number : ℕ) → IsResting views core number → TableId → (j : ℕ) → j < core.sizes.m →
+    me ≡ (one_in views ∷ [], []) → (one_in views).about ≡ about → Allows (IsKept about) slots id me j (λ n. n) (makes (reading (one_of me.0).part j) me)
+begins_asked {S} about slots id me views core number w t j below is own =
+    let from = read_begins views core number w t j below in
+    let x = one_in views in
+    let seat : Me S (List Seated) = (x ∷ [], []) in
+    let allowed = step_asked about slots (j + 1) id seat (reading x.part j) (reading x.part j) (Load j) (Load j) (omega arith) (refl, refl) own refl (inl from.begins.begun, refl) refl in
+    subst (λ (m : Me S (List Seated)). Allows (IsKept about) slots id m j (λ n. n) (makes (reading (one_of m.0).part j) m)) (sym is) allowed.1
+
+pub goes_on_asked : {S : Type 0} (about : About) (slots id : ℕ) (me : Me S (List Seated)) (j : ℕ) → IsOne me → (one_of me.0).about ≡ about → IsMachineOf (core_of (one_of me.0).part) (one_of me.0).part →
+    ((s : Step) → s ≡ Load j → step_of (core_of (one_of me.0).part) ≡ Some s) → Allows (IsKept about) slots id me j (λ n. n) (makes (core_of (one_of me.0).part) me)
+goes_on_asked {S} about slots id me j one own machine due =
+    let c = core_of (one_of me.0).part in
+    (step_asked about slots (j + 1) id me c c (Load j) (Load j) (omega arith) one own refl (machine, due (Load j) refl) refl).1

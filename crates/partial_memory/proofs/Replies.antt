@@ -1,0 +1,309 @@
+-- What a call that has ended leaves of its port, by its reply.
+use Rattle.std.proofs.Common.{ℕ, ◌≡◌, ◌≢◌, ◌+◌, ◌<◌, ◌≤◌, ◌++◌, ◌||◌, Bool, true, false, Option, Some, None, List, [], ◌∷◌, length, map, take, slice_index, refl, sym, ap, subst, ◌∙◌, inr, arith}
+use Rattle.std.specs.Prelude.{Result, Ok, Err, IfOk, IfErr}
+use Rattle.std.proofs.lemmas.List.{length-map}
+use Rattle.atomic_table.specs.Seated.{TableId}
+use Rattle.partial_model.specs.declared.history.Applied.{Applied}
+use Rattle.partial_model.specs.declared.history.Opening.{Opening}
+use Rattle.partial_model.specs.declared.call.Call.{Call}
+use Rattle.partial_model.specs.declared.call.Call.TheVariants as call
+use Rattle.partial_model.specs.declared.call.Answer.TheVariants as answer
+use Rattle.partial_model.specs.declared.call.Note.{Note}
+use Rattle.partial_model.specs.declared.call.Note.TheVariants as note
+use Rattle.partial_model.specs.declared.call.Refused.{Refused}
+use Rattle.partial_model.specs.declared.call.Refused.TheVariants as refused
+use Rattle.partial_model.specs.History.{value_of}
+use Rattle.partial_model.specs.Notes.{Noted, Fits as NoteFits, IsLegal, IsTrueOf, LegalNotes, MayBeRefused, seen_by, seen_after}
+use Rattle.partial_machine.specs.declared.stage.Reply.{Reply}
+use Rattle.partial_machine.specs.declared.stage.Reply.TheVariants as reply
+use Rattle.partial_machine.specs.declared.stage.Stage.TheVariants.{ScanBegun}
+use Rattle.partial_machine.specs.Machine.{CoreState, reply_of, scanned_values}
+use Rattle.partial_machine.specs.Calls.{answer_for, begun_of, call_of, update_refusal}
+use Rattle.partial_machine.specs.Bounds.{most_steps}
+use Rattle.partial_machine.specs.Behind.{refuses_pool, refuses_slots}
+use Rattle.partial_machine.specs.Steps.{Run, AreOfScan, pairs_loaded}
+use Rattle.partial_core.specs.Part.{Part, answers_of, core_of, port_of}
+use Rattle.partial_core.specs.Steps.{AreNotesOf, IsNoteOf, IsPlacedAt, IsRefusal}
+use Rattle.partial_core.specs.Calls.{IsRefusedLast}
+use Rattle.partial_core.proofs.Laws.{made_calls_make_their_steps}
+use Rattle.partial_words.specs.Layout.{Layout, IsLayout}
+use Rattle.partial_memory.specs.declared.rule.About.{About}
+use Rattle.partial_memory.specs.declared.answers.Updated.TheVariants as updated
+use Rattle.partial_memory.specs.declared.answers.UpdatedIf.TheVariants as conditional
+use Rattle.partial_memory.specs.declared.answers.Scanned.{Scanned}
+use Rattle.partial_memory.specs.Rule.{Seated, one_in}
+use Rattle.partial_memory.specs.Steps.{CallMade, Ended}
+use Rattle.partial_memory.specs.Ports.{PortView, port_view, IsResting, Knows, Goes, MakesSteps, Answered, RefusedLate, is_pool, is_slots}
+use Rattle.partial_memory.specs.Calls.{Updates, UpdatesIf, Reads, Scans, ScansSome}
+use Rattle.partial_memory.proofs.Resting.{CallBegins, call_begins}
+
+-- the last of a port's notes
+legal_last : (o : Opening) (h : List Applied) (p seen : ℕ) (ns : List Noted) (n : Noted) → LegalNotes o h p seen (ns ++ n ∷ []) → IsLegal o h p (seen_by seen ns) n
+legal_last o h p seen [] n w = w.0
+legal_last o h p seen (x ∷ ns) n w = legal_last o h p (seen_after seen x.note) ns n w.1
+
+-- a call that was answered: its note fits, is true of what is seen now, and has its place there
+pub record IsAnswered (p q : PortView) (c : Call) (machine : CoreState) (r : Reply) : Type 0 where
+  pub note : Note
+  pub answered : Answered p q c (answer_for machine r) note
+  pub fits : NoteFits (length q.memory.about.opening.values) c (answer_for machine r) (Some note)
+  pub holds : IsTrueOf q.memory.about.opening q.seen q.number c (answer_for machine r) note
+  pub placed : IsPlacedAt r note (length q.seen)
+
+pool_refused_is : (cause : Refused) → refuses_pool (Some (reply.Refused cause)) ≡ is_pool cause
+pool_refused_is refused.Component = refl
+pool_refused_is refused.SlotsSpent = refl
+pool_refused_is refused.PoolSpent = refl
+
+slots_refused_is : (cause : Refused) → refuses_slots (Some (reply.Refused cause)) ≡ is_slots cause
+slots_refused_is refused.Component = refl
+slots_refused_is refused.SlotsSpent = refl
+slots_refused_is refused.PoolSpent = refl
+
+module _ (t : TableId) (b : CoreState) (x : Seated) (c : CoreState) (y : Seated) (m : CallMade b x c y) (call : Call) (w : CallBegins t x b call) where
+  abbrev p : PortView
+  p = port_view t x
+
+  abbrev q : PortView
+  q = port_view t y
+
+  knows_here : Knows q
+  knows_here = subst (λ (o : About). Knows (port_view t (record { about = o; part = y.part; steps = y.steps }))) (sym m.about) (record {
+    history = m.made.fits.history;
+    legal = m.made.fits.legal;
+    shown = m.made.fits.shown;
+    once = m.made.fits.once;
+    others = m.others;
+  })
+
+  goes_with : (new : List Noted) → y.part.notes ≡ x.part.notes ++ new → Goes p q new
+  goes_with new is = record {
+    memory = ap (λ (o : About). record { table = t; about = o }) m.about;
+    number = m.made.port;
+    seen = m.made.seen;
+    notes = is;
+    knows = knows_here;
+  }
+
+  steps_here : (r : Reply) → reply_of c ≡ Some r → MakesSteps p q call r c
+  steps_here r is =
+      let z : Layout = x.about.sizes in
+      let layout : IsLayout z = subst IsLayout w.begins.sizes w.begins.layout in
+      let few = (made_calls_make_their_steps z x.about.opening b x.part c y.part layout m.made).few call w.call in
+      record {
+        call = ap call_of m.made.begun ∙ w.call;
+        run = subst (λ (s : CoreState). Run s (answers_of y.part.kept) c) (sym m.made.begun) m.made.run;
+        replies = is;
+        first = m.made.first;
+        steps = m.steps;
+        few = omega (arith, few);
+      }
+
+  -- the marks of the port before and behind the call
+  pool_before : b.pool_spent ≡ p.pool_spent
+  pool_before = ap (λ (s : CoreState). s.pool_spent) w.begins.begun.like
+
+  slots_before : b.slots_spent ≡ p.slots_spent
+  slots_before = ap (λ (s : CoreState). s.slots_spent) w.begins.begun.like
+
+  pool_behind : (r : Reply) → reply_of c ≡ Some r → q.pool_spent ≡ (refuses_pool (Some r) || p.pool_spent)
+  pool_behind r is = ap (λ (s : CoreState). s.pool_spent) (sym m.made.machine.is) ∙ m.pool ∙ ap (λ o. refuses_pool o || b.pool_spent) is ∙ ap (λ s. refuses_pool (Some r) || s) pool_before
+
+  slots_behind : (r : Reply) → reply_of c ≡ Some r → q.slots_spent ≡ (refuses_slots (Some r) || p.slots_spent)
+  slots_behind r is = ap (λ (s : CoreState). s.slots_spent) (sym m.made.machine.is) ∙ m.slots ∙ ap (λ o. refuses_slots o || b.slots_spent) is ∙ ap (λ s. refuses_slots (Some r) || s) slots_before
+
+  pub refused_with : (cause : Refused) → reply_of c ≡ Some (reply.Refused cause) → RefusedLate p q call cause
+  refused_with cause is =
+      let n : IsRefusal y.part cause m.made.new = subst (λ f. AreNotesOf y.part f m.made.new) is m.made.noted in
+      let same : Some n.call ≡ Some call = sym n.made ∙ ap call_of m.made.begun ∙ w.call in
+      let one : n.call ≡ call = cc in
+      let size : y.part.begun.sizes ≡ x.about.sizes = ap (λ (s : CoreState). s.sizes) m.made.begun ∙ m.made.begun_sizes in
+      record {
+        allowed = w.allowed;
+        goes = goes_with [] (m.made.notes ∙ ap (λ l. x.part.notes ++ l) n.none);
+        machine = c;
+        makes = steps_here (reply.Refused cause) is;
+        may = subst (λ (d : Call). MayBeRefused x.about.sizes.m d cause) one (subst (λ (z : Layout). MayBeRefused z.m n.call cause) size n.may);
+        last = subst (λ (s : CoreState). IsRefusedLast s (answers_of y.part.kept) c cause) (sym m.made.begun) (m.made.refused_by cause is);
+        pool = pool_behind (reply.Refused cause) is ∙ ap (λ f. f || p.pool_spent) (pool_refused_is cause);
+        slots = slots_behind (reply.Refused cause) is ∙ ap (λ f. f || p.slots_spent) (slots_refused_is cause);
+      }
+
+  pub answered_with : (r : Reply) → reply_of c ≡ Some r → refuses_pool (Some r) ≡ false → refuses_slots (Some r) ≡ false → IsNoteOf y.part r m.made.new → IsAnswered p q call c r
+  answered_with r is plain plain' n =
+      let same : Some n.call ≡ Some call = sym n.made ∙ ap call_of m.made.begun ∙ w.call in
+      let one : n.call ≡ call = cc in
+      let noted : Noted = record { call = call; answer = answer_for c r; note = Some n.note } in
+      let new : m.made.new ≡ noted ∷ [] =
+      n.is ∙ ap (λ (d : Call). record { call = d; answer = answer_for (core_of y.part) r; note = Some n.note } ∷ []) one
+      ∙ ap (λ (s : CoreState). record { call = call; answer = answer_for s r; note = Some n.note } ∷ []) (sym m.made.machine.is) in
+      let notes : y.part.notes ≡ x.part.notes ++ noted ∷ [] = m.made.notes ∙ ap (λ l. x.part.notes ++ l) new in
+      let legal = legal_last q.memory.about.opening q.seen q.number 0 x.part.notes noted (subst (LegalNotes q.memory.about.opening q.seen q.number 0) notes knows_here.legal) in
+      let first = m.made.first in
+      let behind = n.behind in
+      record {
+        note = n.note;
+        answered = record {
+          allowed = w.allowed;
+          goes = goes_with (noted ∷ []) notes;
+          machine = c;
+          reply = r;
+          answer = refl;
+          makes = steps_here r is;
+          behind = n.behind;
+          new = omega (arith, first, behind);
+          within = n.within;
+          pool = pool_behind r is ∙ ap (λ f. f || p.pool_spent) plain;
+          slots = slots_behind r is ∙ ap (λ f. f || p.slots_spent) plain';
+        };
+        fits = legal.0;
+        holds = legal.1.0;
+        placed = n.placed;
+      }
+
+-- how an update ends, by its reply
+abbrev pub UpdateTold : PortView → ℕ → ℕ → Reply → PortView → Type 0
+UpdateTold p j v (reply.Applied stamp) q = Updates p j v (updated.Applied stamp) q
+UpdateTold p j v (reply.Lost by) q = Updates p j v (updated.Lost by) q
+UpdateTold p j v (reply.Refused cause) q = RefusedLate p q (call.Update j v) cause
+UpdateTold p j v _ q = ⊥
+
+-- a conditional one
+abbrev pub UpdateIfTold : PortView → ℕ → ℕ → ℕ → Reply → PortView → Type 0
+UpdateIfTold p j x v (reply.Applied stamp) q = UpdatesIf p j x v (conditional.Applied stamp) q
+UpdateIfTold p j x v (reply.Changed by) q = UpdatesIf p j x v (conditional.Changed by) q
+UpdateIfTold p j x v (reply.Refused cause) q = RefusedLate p q (call.UpdateIf j x v) cause
+UpdateIfTold p j x v _ q = ⊥
+
+-- a read is never refused behind a step
+abbrev pub ReadTold : PortView → ℕ → Reply → PortView → Type 0
+ReadTold p j (reply.Read v s) q = Reads p j v s q
+ReadTold p j _ q = ⊥
+
+-- a scan: its values are the machine's, one for each position
+pub record ScanAnswered (p : PortView) (which : List ℕ) (machine : CoreState) (collects : ℕ) (borrowed : Option ℕ) (q : PortView) : Type 0 where
+  pub made : ScansSome p which (scanned_values machine) (record { collects = collects; borrowed = borrowed }) q
+  pub asked : length machine.asked ≡ length which
+
+abbrev pub ScanTold : PortView → List ℕ → CoreState → Reply → PortView → Type 0
+ScanTold p which machine (reply.Scanned k s) q = ScanAnswered p which machine k s q
+ScanTold p which machine (reply.Refused cause) q = RefusedLate p q (call.Scan which) cause
+ScanTold p which machine _ q = ⊥
+
+module _ (p q : PortView) (c : CoreState) where
+  wrote_note : (j v s : ℕ) (n : Note) → Answered p q (call.Update j v) (answer.Applied s) n → NoteFits (length q.memory.about.opening.values) (call.Update j v) (answer.Applied s) (Some n) → IsPlacedAt (reply.Applied s) n (length q.seen) →
+      Updates p j v (updated.Applied s) q
+  wrote_note j v s (note.Wrote k) a f e = (k, a, e)
+  wrote_note j v s (note.Saw k) a f e = absurd f
+  wrote_note j v s (note.Lost k) a f e = absurd f
+
+  lost_note : (j v s : ℕ) (n : Note) → Answered p q (call.Update j v) (answer.Lost s) n → NoteFits (length q.memory.about.opening.values) (call.Update j v) (answer.Lost s) (Some n) → Updates p j v (updated.Lost s) q
+  lost_note j v s (note.Lost k) a f = (k, a)
+  lost_note j v s (note.Saw k) a f = absurd f
+  lost_note j v s (note.Wrote k) a f = absurd f
+
+  wrote_if_note : (j x v s : ℕ) (n : Note) → Answered p q (call.UpdateIf j x v) (answer.Applied s) n → NoteFits (length q.memory.about.opening.values) (call.UpdateIf j x v) (answer.Applied s) (Some n) → IsPlacedAt (reply.Applied s) n (length q.seen) →
+      UpdatesIf p j x v (conditional.Applied s) q
+  wrote_if_note j x v s (note.Wrote k) a f e = (k, a, e)
+  wrote_if_note j x v s (note.Saw k) a f e = absurd f
+  wrote_if_note j x v s (note.Lost k) a f e = absurd f
+
+  changed_note : (j x v s : ℕ) (n : Note) → Answered p q (call.UpdateIf j x v) (answer.Changed s) n → NoteFits (length q.memory.about.opening.values) (call.UpdateIf j x v) (answer.Changed s) (Some n) → UpdatesIf p j x v (conditional.Changed s) q
+  changed_note j x v s (note.Saw n) a f = (n, a)
+  changed_note j x v s (note.Wrote n) a f = absurd f
+  changed_note j x v s (note.Lost n) a f = absurd f
+
+  read_note : (j v s : ℕ) (n : Note) → Answered p q (call.Read j) (answer.Read v s) n → NoteFits (length q.memory.about.opening.values) (call.Read j) (answer.Read v s) (Some n) → Reads p j v s q
+  read_note j v s (note.Saw n) a f = (n, a)
+  read_note j v s (note.Wrote n) a f = absurd f
+  read_note j v s (note.Lost n) a f = absurd f
+
+module _ (t : TableId) (b : CoreState) (x : Seated) (c : CoreState) (y : Seated) (m : CallMade b x c y) where
+  noted_by : (r : Reply) → reply_of c ≡ Some r → AreNotesOf y.part (Some r) m.made.new
+  noted_by r is = subst (λ f. AreNotesOf y.part f m.made.new) is m.made.noted
+
+  pub update_told : (j v : ℕ) → CallBegins t x b (call.Update j v) → (r : Reply) → reply_of c ≡ Some r → UpdateTold (port_view t x) j v r (port_view t y)
+  update_told j v w (reply.Applied s) is =
+      let a = answered_with t b x c y m (call.Update j v) w (reply.Applied s) is refl refl (noted_by (reply.Applied s) is) in wrote_note (port_view t x) (port_view t y) c j v s a.note a.answered a.fits a.placed
+  update_told j v w (reply.Lost s) is =
+      let a = answered_with t b x c y m (call.Update j v) w (reply.Lost s) is refl refl (noted_by (reply.Lost s) is) in lost_note (port_view t x) (port_view t y) c j v s a.note a.answered a.fits
+  update_told j v w (reply.Refused cause) is = refused_with t b x c y m (call.Update j v) w cause is
+  update_told j v w (reply.Read u s) is = let a = answered_with t b x c y m (call.Update j v) w (reply.Read u s) is refl refl (noted_by (reply.Read u s) is) in absurd a.fits
+  update_told j v w (reply.Scanned k s) is = let a = answered_with t b x c y m (call.Update j v) w (reply.Scanned k s) is refl refl (noted_by (reply.Scanned k s) is) in absurd a.fits
+  update_told j v w (reply.Changed s) is = let a = answered_with t b x c y m (call.Update j v) w (reply.Changed s) is refl refl (noted_by (reply.Changed s) is) in absurd a.fits
+
+  pub update_if_told : (j e v : ℕ) → CallBegins t x b (call.UpdateIf j e v) → (r : Reply) → reply_of c ≡ Some r → UpdateIfTold (port_view t x) j e v r (port_view t y)
+  update_if_told j e v w (reply.Applied s) is =
+      let a = answered_with t b x c y m (call.UpdateIf j e v) w (reply.Applied s) is refl refl (noted_by (reply.Applied s) is) in wrote_if_note (port_view t x) (port_view t y) c j e v s a.note a.answered a.fits a.placed
+  update_if_told j e v w (reply.Changed s) is =
+      let a = answered_with t b x c y m (call.UpdateIf j e v) w (reply.Changed s) is refl refl (noted_by (reply.Changed s) is) in changed_note (port_view t x) (port_view t y) c j e v s a.note a.answered a.fits
+  update_if_told j e v w (reply.Refused cause) is = refused_with t b x c y m (call.UpdateIf j e v) w cause is
+  update_if_told j e v w (reply.Read u s) is = let a = answered_with t b x c y m (call.UpdateIf j e v) w (reply.Read u s) is refl refl (noted_by (reply.Read u s) is) in absurd a.fits
+  update_if_told j e v w (reply.Scanned k s) is = let a = answered_with t b x c y m (call.UpdateIf j e v) w (reply.Scanned k s) is refl refl (noted_by (reply.Scanned k s) is) in absurd a.fits
+  update_if_told j e v w (reply.Lost s) is = let a = answered_with t b x c y m (call.UpdateIf j e v) w (reply.Lost s) is refl refl (noted_by (reply.Lost s) is) in absurd a.fits
+
+  pub read_told : (j : ℕ) → CallBegins t x b (call.Read j) → (r : Reply) → reply_of c ≡ Some r → ReadTold (port_view t x) j r (port_view t y)
+  read_told j w (reply.Read u s) is =
+      let a = answered_with t b x c y m (call.Read j) w (reply.Read u s) is refl refl (noted_by (reply.Read u s) is) in read_note (port_view t x) (port_view t y) c j u s a.note a.answered a.fits
+  read_told j w (reply.Refused refused.Component) is = let a = (refused_with t b x c y m (call.Read j) w refused.Component is).last in absurd a.past
+  read_told j w (reply.Refused refused.PoolSpent) is = let a = refused_with t b x c y m (call.Read j) w refused.PoolSpent is in absurd a.may.1
+  read_told j w (reply.Refused refused.SlotsSpent) is = let a = refused_with t b x c y m (call.Read j) w refused.SlotsSpent is in absurd a.may.1
+  read_told j w (reply.Applied s) is = let a = answered_with t b x c y m (call.Read j) w (reply.Applied s) is refl refl (noted_by (reply.Applied s) is) in absurd a.fits
+  read_told j w (reply.Lost s) is = let a = answered_with t b x c y m (call.Read j) w (reply.Lost s) is refl refl (noted_by (reply.Lost s) is) in absurd a.fits
+  read_told j w (reply.Scanned k s) is = let a = answered_with t b x c y m (call.Read j) w (reply.Scanned k s) is refl refl (noted_by (reply.Scanned k s) is) in absurd a.fits
+  read_told j w (reply.Changed s) is = let a = answered_with t b x c y m (call.Read j) w (reply.Changed s) is refl refl (noted_by (reply.Changed s) is) in absurd a.fits
+
+  saw_note : (which : List ℕ) → CallBegins t x b (call.Scan which) → b.stage ≡ ScanBegun → b.asked ≡ which → (k : ℕ) (s : Option ℕ) (n : Note) → reply_of c ≡ Some (reply.Scanned k s) → NoteFits (length y.about.opening.values) (call.Scan which) (answer.Scanned (scanned_values c) k s) (Some n)
+      → IsTrueOf y.about.opening y.part.seen (port_of y.part) (call.Scan which) (answer.Scanned (scanned_values c) k s) n → Answered (port_view t x) (port_view t y) (call.Scan which) (answer.Scanned (scanned_values c) k s) n → ScanTold (port_view t x) which c (reply.Scanned k s) (port_view t y)
+  saw_note which w stage asked k s (note.Saw n) is f holds a =
+      let z : Layout = x.about.sizes in
+      let layout : IsLayout z = subst IsLayout w.begins.sizes w.begins.layout in
+      let values : length (scanned_values c) ≡ length which = ap length holds.values ∙ length-map which (λ j. value_of y.about.opening (take n y.part.seen) j) in
+      let steps = (made_calls_make_their_steps z x.about.opening b x.part c y.part layout m.made).scan k s stage is in
+      record {
+        made = record {
+          n = n;
+          answered = a;
+          steps = subst (λ (v : CoreState). AreOfScan (length which) k (pairs_loaded v (answers_of y.part.kept)) (length y.part.kept) s) (sym m.made.begun)
+              (subst (λ (l : List ℕ). AreOfScan (length l) k (pairs_loaded b (answers_of y.part.kept)) (length y.part.kept) s) asked steps);
+        };
+        asked = sym (length-map c.asked (slice_index c.rows.values)) ∙ values;
+      }
+  saw_note which w stage asked k s (note.Wrote n) is f holds a = absurd f
+  saw_note which w stage asked k s (note.Lost n) is f holds a = absurd f
+
+  pub scan_told : (which : List ℕ) → CallBegins t x b (call.Scan which) → b.stage ≡ ScanBegun → b.asked ≡ which → (r : Reply) → reply_of c ≡ Some r → ScanTold (port_view t x) which c r (port_view t y)
+  scan_told which w stage asked (reply.Scanned k s) is =
+      let a = answered_with t b x c y m (call.Scan which) w (reply.Scanned k s) is refl refl (noted_by (reply.Scanned k s) is) in saw_note which w stage asked k s a.note is a.fits a.holds a.answered
+  scan_told which w stage asked (reply.Refused cause) is = refused_with t b x c y m (call.Scan which) w cause is
+  scan_told which w stage asked (reply.Applied s) is = let a = answered_with t b x c y m (call.Scan which) w (reply.Applied s) is refl refl (noted_by (reply.Applied s) is) in absurd a.fits
+  scan_told which w stage asked (reply.Lost s) is = let a = answered_with t b x c y m (call.Scan which) w (reply.Lost s) is refl refl (noted_by (reply.Lost s) is) in absurd a.fits
+  scan_told which w stage asked (reply.Read u s) is = let a = answered_with t b x c y m (call.Scan which) w (reply.Read u s) is refl refl (noted_by (reply.Read u s) is) in absurd a.fits
+  scan_told which w stage asked (reply.Changed s) is = let a = answered_with t b x c y m (call.Scan which) w (reply.Changed s) is refl refl (noted_by (reply.Changed s) is) in absurd a.fits
+
+-- the same at a call, from a port between calls that callers see as p, to one that they see as q
+module _ (views : List (List Seated)) (core : CoreState) (number : ℕ) (w : IsResting views core number) (t t' : TableId) (same : t' ≡ t) (p : PortView) (seen : port_view t (one_in views) ≡ p)
+    (b : CoreState) (r : Reply) (next : CoreState) (y : Seated) (e : Ended b (one_in views) r next y) where
+  seen_as : (P : PortView → PortView → Type 0) → P (port_view t (one_in views)) (port_view t y) → P p (port_view t' y)
+  seen_as P h = subst (λ (u : TableId). P p (port_view u y)) (sym same) (subst (λ (v : PortView). P v (port_view t y)) seen h)
+
+  pub update_ended : (j v : ℕ) → update_refusal core j ≡ None → b ≡ begun_of core (call.Update j v) → (s : Reply) → r ≡ s → UpdateTold p j v s (port_view t' y)
+  update_ended j v none is s told = seen_as (λ a z. UpdateTold a j v s z)
+      (update_told t b (one_in views) e.machine y e.made j v (call_begins views core number w t b (call.Update j v) tt none refl is) s (e.replies ∙ ap Some told))
+
+  pub update_if_ended : (j x v : ℕ) → update_refusal core j ≡ None → b ≡ begun_of core (call.UpdateIf j x v) → (s : Reply) → r ≡ s → UpdateIfTold p j x v s (port_view t' y)
+  update_if_ended j x v none is s told = seen_as (λ a z. UpdateIfTold a j x v s z)
+      (update_if_told t b (one_in views) e.machine y e.made j x v (call_begins views core number w t b (call.UpdateIf j x v) tt none refl is) s (e.replies ∙ ap Some told))
+
+-- where a result is the answer or the refusal
+pub ok_ok : {A E : Type 0} (res : Result A E) (a : A) (P : A → Type 0) → res ≡ Ok a → P a → IfOk res P
+ok_ok res a P is h = subst (λ (v : Result _ _). IfOk v P) (sym is) h
+
+pub err_ok : {A E : Type 0} (res : Result A E) (e : E) (P : A → Type 0) → res ≡ Err e → IfOk res P
+err_ok res e P is = subst (λ (v : Result _ _). IfOk v P) (sym is) tt
+
+pub err_err : {A E : Type 0} (res : Result A E) (e : E) (P : E → Type 0) → res ≡ Err e → P e → IfErr res P
+err_err res e P is h = subst (λ (v : Result _ _). IfErr v P) (sym is) h
+
+pub ok_err : {A E : Type 0} (res : Result A E) (a : A) (P : E → Type 0) → res ≡ Ok a → IfErr res P
+ok_err res a P is = subst (λ (v : Result _ _). IfErr v P) (sym is) tt

@@ -1,0 +1,112 @@
+-- A port between two calls: how it begins one, and that it is between two again once that has ended.
+use Rattle.std.proofs.Common.{ℕ, ◌≡◌, ◌==◌, ◌&&◌, Bool, true, false, cond, Option, Some, None, List, [], ◌∷◌, length, refl, sym, ap, subst, ◌∙◌, arith}
+use Rattle.std.specs.Prelude.{is_some, nat_lt}
+use Rattle.std.proofs.lemmas.Bool.{ne_eqb}
+use Rattle.std.specs.List.{list_all}
+use Rattle.atomic_table.specs.Seated.{TableId}
+use Rattle.partial_model.specs.declared.call.Call.{Call}
+use Rattle.partial_model.specs.declared.call.Call.TheVariants as call
+use Rattle.partial_model.specs.declared.call.Refused.{Refused}
+use Rattle.partial_model.specs.declared.call.Refused.TheVariants as refused
+use Rattle.partial_model.specs.Notes.{indices_of}
+use Rattle.partial_words.specs.Layout.{Layout, IsLayout}
+use Rattle.partial_machine.specs.declared.stage.Reply.{Reply}
+use Rattle.partial_machine.specs.declared.stage.Stage.TheVariants.{Idle}
+use Rattle.partial_machine.specs.Machine.{CoreState, at_stage, reply_of}
+use Rattle.partial_machine.specs.Calls.{IsServed, begun_of, call_of, makes_steps, refusal_of}
+use Rattle.partial_machine.proofs.Laws.{calls_begin, rests_are_sound}
+use Rattle.partial_core.specs.Part.{core_of, port_of}
+use Rattle.partial_core.specs.Steps.{Fits}
+use Rattle.partial_core.proofs.Laws.{calls_begin_between, ports_come_between}
+use Rattle.partial_memory.specs.declared.rule.About.{About}
+use Rattle.partial_memory.specs.Rule.{Seated, IsBadgeOfOne, AreByOpened, one_in}
+use Rattle.partial_memory.specs.Steps.{Begins, Ended}
+use Rattle.partial_memory.specs.Ports.{IsResting, port_view, refusal}
+
+and_true : (b : Bool) → (b && true) ≡ b
+and_true true = refl
+and_true false = refl
+
+-- why a call is refused at once, by the machine and by the marks of its port
+abbrev by_marks : Bool → Bool → Call → Option Refused
+by_marks pool slots (call.Update j v) = cond pool (Some refused.PoolSpent) None
+by_marks pool slots (call.UpdateIf j s v) = cond pool (Some refused.PoolSpent) None
+by_marks pool slots (call.Scan (j ∷ js)) = cond pool (Some refused.PoolSpent) (cond slots (Some refused.SlotsSpent) None)
+by_marks pool slots _ = None
+
+abbrev refusal_by : ℕ → Bool → Bool → Call → Option Refused
+refusal_by m pool slots c = cond (list_all (λ j. nat_lt j m) (indices_of c)) (by_marks pool slots c) (Some refused.Component)
+
+machine_refusal : (s : CoreState) (c : Call) → refusal_of s c ≡ refusal_by s.sizes.m s.pool_spent s.slots_spent c
+machine_refusal s (call.Update j v) = ap (λ b. cond b (cond s.pool_spent (Some refused.PoolSpent) None) (Some refused.Component)) (sym (and_true (nat_lt j s.sizes.m)))
+machine_refusal s (call.UpdateIf j x v) = ap (λ b. cond b (cond s.pool_spent (Some refused.PoolSpent) None) (Some refused.Component)) (sym (and_true (nat_lt j s.sizes.m)))
+machine_refusal s (call.Read j) = ap (λ b. cond b None (Some refused.Component)) (sym (and_true (nat_lt j s.sizes.m)))
+machine_refusal s (call.Scan []) = refl
+machine_refusal s (call.Scan (j ∷ js)) =
+    let some : (length (j ∷ js) == 0) ≡ false = ne_eqb (length (j ∷ js)) 0 (λ e. absurd (omega (arith, e))) in
+    ap (λ b. cond (list_all (λ i. nat_lt i s.sizes.m) (j ∷ js)) (cond b None (by_marks s.pool_spent s.slots_spent (call.Scan (j ∷ js)))) (Some refused.Component)) some
+
+port_refusal : (t : TableId) (x : Seated) (c : Call) → refusal (port_view t x) c ≡ refusal_by x.about.sizes.m (core_of x.part).pool_spent (core_of x.part).slots_spent c
+port_refusal t x (call.Update j v) = refl
+port_refusal t x (call.UpdateIf j s v) = refl
+port_refusal t x (call.Read j) = refl
+port_refusal t x (call.Scan []) = refl
+port_refusal t x (call.Scan (j ∷ js)) = refl
+
+-- a call that a port begins
+pub record CallBegins (t : TableId) (x : Seated) (b : CoreState) (c : Call) : Type 0 where
+  pub begins : Begins b x
+  pub call : call_of b ≡ Some c
+  pub allowed : refusal (port_view t x) c ≡ None
+
+module _ (views : List (List Seated)) (core : CoreState) (number : ℕ) (w : IsResting views core number) where
+  pub refusal_here : (t : TableId) (c : Call) → refusal (port_view t (one_in views)) c ≡ refusal_of core c
+  refusal_here t c =
+      let x = one_in views in
+      let s : Layout = core.sizes in
+      let pool : core.pool_spent ≡ (core_of x.part).pool_spent = ap (λ (d : CoreState). d.pool_spent) w.between.machine in
+      let slots : core.slots_spent ≡ (core_of x.part).slots_spent = ap (λ (d : CoreState). d.slots_spent) w.between.machine in
+      port_refusal t x c
+      ∙ sym (ap (λ (z : Layout). refusal_by z.m core.pool_spent core.slots_spent c) w.sizes
+      ∙ ap (λ p. refusal_by x.about.sizes.m p core.slots_spent c) pool
+      ∙ ap (λ q. refusal_by x.about.sizes.m (core_of x.part).pool_spent q c) slots)
+      ∙ sym (machine_refusal core c)
+
+  pub call_begins : (t : TableId) (b : CoreState) (c : Call) → IsServed core.sizes.m c → refusal_of core c ≡ None → makes_steps c ≡ true → b ≡ begun_of core c →
+      CallBegins t (one_in views) b c
+  call_begins t b c served none some is =
+      let x = one_in views in
+      let from = calls_begin core c w.between.asked served none in
+      let between = calls_begin_between x.part core w.between in
+      let begins : Begins (begun_of core c) x = record {
+        begun = between.begins c served none some;
+        sound = from.sound w.sound;
+        layout = subst IsLayout (sym (ap (λ (s : CoreState). s.sizes) from.like)) w.layout;
+        sizes = ap (λ (s : CoreState). s.sizes) from.like ∙ w.sizes;
+      } in
+      record {
+        begins = subst (λ (s : CoreState). Begins s x) (sym is) begins;
+        call = ap call_of is ∙ from.made some;
+        allowed = refusal_here t c ∙ none;
+      }
+
+-- a call has ended, and its port is between calls
+pub rests : (views : List (List Seated)) (b : CoreState) (x : Seated) (r : Reply) (core : CoreState) (number : ℕ) → IsBadgeOfOne views → Begins b x →
+    Ended b x r core (one_in views) → number ≡ port_of x.part → IsResting views core number
+rests views b x r core number one begins e named =
+    let y = one_in views in
+    let c = e.machine in
+    let m = e.made in
+    let idle : CoreState = at_stage c Idle in
+    let between = ports_come_between.1 x.about.sizes x.about.opening b x.part c y.part m.made (ap is_some e.replies) in
+    let rest : IsResting views idle number = record {
+      one = one;
+      between = between;
+      sound = rests_are_sound.idle c m.made.sound;
+      layout = subst IsLayout (begins.sizes ∙ sym m.made.sizes) begins.layout;
+      sizes = m.made.sizes ∙ ap (λ (o : About). o.sizes) (sym m.about);
+      number = named ∙ sym m.made.port;
+      fits = subst (λ (o : About). Fits o.opening y.part.seen y.part) (sym m.about) m.made.fits;
+      others = subst (λ (o : About). AreByOpened o y.part.seen) (sym m.about) m.others;
+    } in
+    subst (λ (s : CoreState). IsResting views s number) (sym e.idle) rest

@@ -1,0 +1,147 @@
+-- Each step that is due is allowed: whatever the table is then, the words and the ports of all seats stay those of a lawful state.
+use Rattle.std.proofs.Common.{ℕ, zero, suc, ◌≡◌, ◌+◌, ◌<◌, ◌==◌, ◌%◌, ◌^◌, ◌++◌, Bool, true, false, cond, Some, List, [], ◌∷◌, length, map, get_or, set, refl, sym, ap, subst, ◌∙◌, arith}
+use Rattle.std.specs.List.{AllByRecursion, Contains}
+use mathlib.Core.Option.{some}
+use lib.ListN.{get_elem?}
+use lib.Seq.{set-get_or}
+use prog.Atomic.{either}
+use Rattle.atomic_table.specs.Table.{State, Me, keeps, Allows}
+use Rattle.partial_model.specs.declared.history.Applied.{Applied}
+use Rattle.partial_words.specs.declared.step.Step.{Step}
+use Rattle.partial_words.specs.declared.step.Step.TheVariants.{Load, Store, Exchange, Add}
+use Rattle.partial_words.specs.Step.{word_of, answer_of, words_after}
+use Rattle.partial_machine.specs.Machine.{CoreState, step_of}
+use Rattle.partial_model.proofs.AllLemmas.{all_at, all_join, all_before, all_after}
+use Rattle.partial_core.specs.Part.{Part, IsMachineOf, port_of}
+use Rattle.partial_core.specs.Lawful.{Lawful}
+use Rattle.partial_core.specs.Steps.{LeadsOn, added_by}
+use Rattle.partial_core.proofs.Laws.{steps_stay_lawful, lawful_ports_fit, lawful_machines_are_ready}
+use Rattle.partial_memory.specs.declared.rule.About.{About}
+use Rattle.partial_memory.specs.Rule.{Seated, AreOpened, AreByOpened, Told, IsKept, IsShuffle, IsOne, one_of, parts_of, flatten, makes}
+use Rattle.partial_memory.proofs.Shuffles.{find}
+use Rattle.partial_memory.proofs.Views.{around}
+
+-- what the word of a step becomes, and what a machine is told of the number found
+abbrev pub change_of : Step → ℕ → ℕ
+change_of (Load w) n = n
+change_of (Store w v) n = v
+change_of (Exchange w old new) n = either (n == old) new n
+change_of (Add w k) n = (n + k) % 2 ^ 64
+
+abbrev pub told_of : Step → ℕ → ℕ
+told_of (Load w) n = n
+told_of (Store w v) n = 0
+told_of (Exchange w old new) n = n
+told_of (Add w k) n = n
+
+-- the parts before, here and behind
+pub parts_split : (before : List Seated) (x : Seated) (after : List Seated) → parts_of (before ++ x ∷ after) ≡ parts_of before ++ x.part ∷ parts_of after
+parts_split [] x after = refl
+parts_split (b ∷ before) x after = ap (λ l. b.part ∷ l) (parts_split before x after)
+
+either_cond : (b : Bool) (x y : ℕ) → either b x y ≡ cond b x y
+either_cond true x y = refl
+either_cond false x y = refl
+
+-- a step does the same to the words of a table and to plain words
+words_then : (words : List ℕ) (s : Step) → words_after words s ≡ set words (word_of s) (change_of s (get_or words (word_of s) 0))
+words_then words (Load w) = sym (set-get_or words w 0)
+words_then words (Store w v) = refl
+words_then words (Exchange w old new) = ap (set words w) (sym (either_cond (get_or words w 0 == old) new (get_or words w 0)))
+words_then words (Add w k) = refl
+
+told_then : (words : List ℕ) (s : Step) → answer_of words s ≡ told_of s (get_or words (word_of s) 0)
+told_then words (Load w) = refl
+told_then words (Store w v) = refl
+told_then words (Exchange w old new) = refl
+told_then words (Add w k) = refl
+
+-- a port among those of the parts is one that was opened
+contained_opened : (n p : ℕ) (xs : List Seated) → AreOpened n xs → Contains (map port_of (parts_of xs)) p → p < n
+contained_opened n p [] w (k, below, is) = absurd (omega (arith, below))
+contained_opened n p (x ∷ xs) w (zero, below, is) = let here = w.0 in omega (arith, here, is)
+contained_opened n p (x ∷ xs) w (suc k, below, is) = contained_opened n p xs w.1 (k, omega (arith, below), is)
+
+-- so each entry is by a port that was opened
+pub entries_opened : (about : About) (xs : List Seated) (log : List Applied) → AreOpened about.ports xs →
+    AllByRecursion (λ (e : Applied). Contains (map port_of (parts_of xs)) e.port) log → AreByOpened about log
+entries_opened about xs [] w each = tt
+entries_opened about xs (e ∷ log) w each = (contained_opened about.ports e.port xs w each.0, entries_opened about xs log w each.1)
+
+module _ (words : List ℕ) (before : List Seated) (x : Seated) (after : List Seated) (log : List Applied) (c : CoreState) (s : Step)
+    (w : Lawful x.about.sizes x.about.opening words (parts_of (before ++ x ∷ after)) log) (opened : AreOpened x.about.ports (before ++ x ∷ after))
+    (machine : IsMachineOf c x.part) (due : step_of c ≡ Some s) where
+  lawful_here : Lawful x.about.sizes x.about.opening words (parts_of before ++ x.part ∷ parts_of after) log
+  lawful_here = subst (λ l. Lawful x.about.sizes x.about.opening words l log) (parts_split before x after) w
+
+  pub leads : LeadsOn x.about.sizes x.about.opening words (parts_of before) x.part (parts_of after) log c s
+  leads = steps_stay_lawful x.about.sizes x.about.opening words (parts_of before) x.part (parts_of after) log c s lawful_here machine due
+
+  -- the port behind the step, and the history
+  abbrev pub next : Seated
+  next = record { about = x.about; part = leads.y; steps = x.steps + 1 }
+
+  abbrev pub longer : List Applied
+  longer = log ++ added_by x.about.sizes (port_of x.part) words s
+
+  pub opened_then : AreOpened x.about.ports (before ++ next ∷ after)
+  opened_then =
+      let P : Seated → Type 0 = λ h. port_of h.part < x.about.ports in
+      let here = all_at P before x after opened in
+      let same = leads.tells.port in
+      all_join P before next after (all_before P before x after opened) (omega (arith, same, here)) (all_after P before x after opened)
+
+  pub lawful_then : Lawful x.about.sizes x.about.opening (words_after words s) (parts_of (before ++ next ∷ after)) longer
+  lawful_then = subst (λ l. Lawful x.about.sizes x.about.opening (words_after words s) l longer) (sym (parts_split before next after)) leads.lawful
+
+  pub told_here : Told c x (answer_of words s) next
+  told_here =
+      let ready = lawful_machines_are_ready x.about.sizes x.about.opening words (parts_of before) x.part (parts_of after) log c lawful_here machine in
+      let fit = lawful_ports_fit x.about.sizes x.about.opening (words_after words s) (parts_of (before ++ next ∷ after)) longer lawful_then in
+      let seen : leads.y.seen ≡ longer = ap (λ (v : Part). v.seen) leads.tells.part in
+      record {
+        about = refl;
+        steps = refl;
+        sound = ready.sound;
+        log = log;
+        entries = added_by x.about.sizes (port_of x.part) words s;
+        tells = leads.tells;
+        others = subst (AreByOpened x.about) (sym seen) (entries_opened x.about (before ++ next ∷ after) longer opened_then fit.others);
+      }
+
+-- the step can be made, and keeps the rule
+step_kept : {S : Type 0} (slots id : ℕ) (me : Me S (List Seated)) (c : CoreState) (s : Step) → IsOne me → IsMachineOf c (one_of me.0).part →
+    step_of c ≡ Some s → Allows (IsKept (one_of me.0).about) slots id me (word_of s) (change_of s) (λ n. makes c me (told_of s n))
+step_kept {S} slots id me c s one machine due table kept homes at small =
+    let x : Seated = one_of me.0 in
+    let r = around table.views id (x ∷ []) (subst (λ v. get_elem? table.views id ≡ some v) one.0 at) in
+    let f = find r.before x r.behind kept.all (subst (λ l. IsShuffle l kept.all) r.now kept.shuffle) in
+    let w : Lawful x.about.sizes x.about.opening table.words (parts_of (f.before ++ x ∷ f.after)) kept.log =
+    subst (λ l. Lawful x.about.sizes x.about.opening table.words (parts_of l) kept.log) f.is kept.lawful in
+    let opened : AreOpened x.about.ports (f.before ++ x ∷ f.after) = subst (AreOpened x.about.ports) f.is kept.opened in
+    let y : Seated = next table.words f.before x f.after kept.log c s w opened machine due in
+    let log : List Applied = longer table.words f.before x f.after kept.log c s w opened machine due in (
+      y ∷ [],
+      keeps,
+      tt,
+      record {
+        log = log;
+        all = f.before ++ y ∷ f.after;
+        shuffle = subst (λ l. IsShuffle l (f.before ++ y ∷ f.after)) (sym (r.then (y ∷ []))) (f.more y);
+        lawful = subst (λ l. Lawful x.about.sizes x.about.opening l (parts_of (f.before ++ y ∷ f.after)) log) (words_then table.words s)
+            (lawful_then table.words f.before x f.after kept.log c s w opened machine due);
+        opened = opened_then table.words f.before x f.after kept.log c s w opened machine due;
+      },
+      ((refl, one.1), subst (λ a. Told c x a y) (told_then table.words s) (told_here table.words f.before x f.after kept.log c s w opened machine due)),
+    )
+
+-- the same at a call, where the step is one of the four kinds
+pub step_asked : {S : Type 0} (about : About) (slots count id : ℕ) (me : Me S (List Seated)) (c d : CoreState) (t s : Step) →
+    word_of t < count → IsOne me → (one_of me.0).about ≡ about → c ≡ d → IsMachineOf c (one_of me.0).part × (step_of c ≡ Some t) → t ≡ s →
+    (word_of s < count) × Allows (IsKept about) slots id me (word_of s) (change_of s) (λ n. makes d me (told_of s n))
+step_asked about slots count id me c d t s within one own same due is =
+    let step : step_of c ≡ Some s = due.1 ∙ ap Some is in
+    let due' : IsMachineOf d (one_of me.0).part × (step_of d ≡ Some s) = subst (λ (z : CoreState). IsMachineOf z (one_of me.0).part × (step_of z ≡ Some s)) same (due.0, step) in (
+      subst (λ u. word_of u < count) is within,
+      subst (λ (a : About). Allows (IsKept a) slots id me (word_of s) (change_of s) (λ n. makes d me (told_of s n))) own (step_kept slots id me d s one due'.0 due'.1),
+    )

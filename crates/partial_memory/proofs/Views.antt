@@ -1,0 +1,50 @@
+-- The parts of all views: around one view, cut off and gathered.
+use Rattle.std.proofs.Common.{◌≡◌, ℕ, zero, suc, List, [], ◌∷◌, ◌++◌, set, refl, ap, sym, ◌∙◌, subst, append_assoc, append-nil}
+use mathlib.Core.Option.{some, some-injective, some-ne-none}
+use lib.ListN.{get_elem?}
+use Rattle.atomic_table.specs.Table.{State, Splits, Joins}
+use Rattle.partial_memory.specs.declared.rule.About.{About}
+use Rattle.partial_memory.specs.Rule.{Seated, flatten, IsKept, IsShuffle, others_of, first_of}
+use Rattle.partial_memory.proofs.Shuffles.{put_elsewhere}
+
+-- the parts before and behind those of the view at a place, whatever that view becomes
+pub record Around (views : List (List Seated)) (id : ℕ) (v : List Seated) : Type 0 where
+  pub before : List Seated
+  pub behind : List Seated
+  pub now : flatten views ≡ before ++ (v ++ behind)
+  pub then : (w : List Seated) → flatten (set views id w) ≡ before ++ (w ++ behind)
+
+pub around : (views : List (List Seated)) (id : ℕ) (v : List Seated) → get_elem? views id ≡ some v → Around views id v
+around [] id v e = absurd (some-ne-none v (sym e))
+around (u ∷ us) zero v e = record {
+  before = [];
+  behind = flatten us;
+  now = ap (λ w. w ++ flatten us) (some-injective u v e);
+  then = λ w. refl;
+}
+around (u ∷ us) (suc id) v e = let r = around us id v e in record {
+  before = u ++ r.before;
+  behind = r.behind;
+  now = ap (λ l. u ++ l) r.now ∙ sym (append_assoc u r.before (v ++ r.behind));
+  then = λ w. ap (λ l. u ++ l) (r.then w) ∙ sym (append_assoc u r.before (w ++ r.behind));
+}
+
+pub flatten-snoc : (views : List (List Seated)) (v : List Seated) → flatten (views ++ v ∷ []) ≡ flatten views ++ (v ++ [])
+flatten-snoc [] v = refl
+flatten-snoc (u ∷ us) v = ap (λ l. u ++ l) (flatten-snoc us v) ∙ sym (append_assoc u (flatten us) (v ++ []))
+
+-- a state with the parts in another order
+pub reordered : {S : Type 0} (about : About) (s : State S (List Seated)) (views : List (List Seated)) → (kept : IsKept about s) → IsShuffle (flatten views) kept.all → IsKept about (record { words = s.words; homes = s.homes; views = views })
+reordered about s views kept shuffle = record { log = kept.log; all = kept.all; shuffle = shuffle; lawful = kept.lawful; opened = kept.opened }
+
+-- the first part may have a seat of its own
+pub deals : {S : Type 0} (about : About) (id : ℕ) (v : List Seated) → Splits {S = S} (IsKept about) id v (others_of v) (first_of v)
+deals about id [] s kept at =
+    let r = around s.views id [] at in
+    let same : flatten (set s.views id [] ++ [] ∷ []) ≡ flatten s.views = flatten-snoc (set s.views id []) [] ∙ append-nil (flatten (set s.views id [])) ∙ r.then [] ∙ sym r.now in
+    reordered about s (set s.views id [] ++ [] ∷ []) kept (subst (λ l. IsShuffle l kept.all) (sym same) kept.shuffle)
+deals about id (x ∷ xs) s kept at =
+    let r = around s.views id (x ∷ xs) at in
+    let less : r.before ++ (xs ++ r.behind) ≡ (r.before ++ (xs ++ r.behind)) ++ [] = sym (append-nil (r.before ++ (xs ++ r.behind))) in
+    let then : flatten (set s.views id xs ++ (x ∷ []) ∷ []) ≡ (r.before ++ (xs ++ r.behind)) ++ x ∷ [] = flatten-snoc (set s.views id xs) (x ∷ []) ∙ ap (λ l. l ++ x ∷ []) (r.then xs) in
+    reordered about s (set s.views id xs ++ (x ∷ []) ∷ []) kept (subst (λ l. IsShuffle l kept.all) (sym then) (put_elsewhere r.before x (xs ++ r.behind) (r.before ++ (xs ++ r.behind)) [] kept.all less (subst (λ l. IsShuffle l kept.all) r.now kept.shuffle)))

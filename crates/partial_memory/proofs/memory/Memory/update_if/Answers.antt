@@ -1,0 +1,51 @@
+use Rattle.std.proofs.Common.{rules, ◌≡◌, ap, sym, ◌∙◌, subst, refl, inl, inr}
+use Rattle.partial_model.specs.declared.call.Call.TheVariants as call
+use Rattle.partial_machine.specs.declared.stage.Reply.TheVariants as reply
+use Rattle.partial_memory.specs.Ports.{PortView, MemoryView}
+use Rattle.partial_memory.proofs.Resting.{call_begins, rests}
+use Rattle.partial_memory.proofs.Replies.{update_if_ended, ok_ok, err_ok, err_err, ok_err}
+use Rattle.partial_memory.proofs.memory.Memory.update_if.Goals as goal
+use Rattle.partial_memory.proofs.memory.Memory.update_if.Goals.{in-Applied, in-Changed, in-Refused}
+
+pub finish-requires : goal.finish-requires
+finish-requires c =
+    let begins = call_begins _ _ _ c.me.invariant c.me.inside.badge.table_id _ (call.UpdateIf c.args.component c.args.expected c.args.value) tt c.in_ok-begin_update_if.ensures.ok.0 refl c.in_ok-begin_update_if.ensures.ok.1 in
+    record { table = search rules; one = c.me.invariant.one; own = search rules; begins = begins.begins }
+
+pub invariant_of-me-2 : goal.invariant_of-me-2
+invariant_of-me-2 c =
+    let begins = call_begins _ _ _ c.me.invariant c.me.inside.badge.table_id _ (call.UpdateIf c.args.component c.args.expected c.args.value) tt c.in_ok-begin_update_if.ensures.ok.0 refl c.in_ok-begin_update_if.ensures.ok.1 in
+    rests _ _ _ _ _ _ c.finish.ensures.one begins.begins c.finish.ensures.ended c.me.invariant.number
+
+pub unreachable-requires : goal.unreachable-requires
+unreachable-requires c =
+    let told = update_if_ended _ _ _ c.me.invariant _ _ c.finish.ensures.table _ c.me.view_is _ _ _ _ c.finish.ensures.ended c.args.component c.args.expected c.args.value c.in_ok-begin_update_if.ensures.ok.0 c.in_ok-begin_update_if.ensures.ok.1 in
+    told (reply.Scanned _ _) c.in-Scanned.is
+
+pub unreachable-requires-in-Read : goal.unreachable-requires-in-Read
+unreachable-requires-in-Read c =
+    let told = update_if_ended _ _ _ c.me.invariant _ _ c.finish.ensures.table _ c.me.view_is _ _ _ _ c.finish.ensures.ended c.args.component c.args.expected c.args.value c.in_ok-begin_update_if.ensures.ok.0 c.in_ok-begin_update_if.ensures.ok.1 in
+    told (reply.Read _ _) c.in-Read.is
+
+pub unreachable-requires-in-Lost : goal.unreachable-requires-in-Lost
+unreachable-requires-in-Lost c =
+    let told = update_if_ended _ _ _ c.me.invariant _ _ c.finish.ensures.table _ c.me.view_is _ _ _ _ c.finish.ensures.ended c.args.component c.args.expected c.args.value c.in_ok-begin_update_if.ensures.ok.0 c.in_ok-begin_update_if.ensures.ok.1 in
+    told (reply.Lost _) c.in-Lost.is
+
+pub returns-clause-ok : goal.returns-clause-ok
+returns-clause-ok c =
+    let told = update_if_ended _ _ _ c.me.invariant _ _ c.finish.ensures.table _ c.me.view_is _ _ _ _ c.finish.ensures.ended c.args.component c.args.expected c.args.value c.in_ok-begin_update_if.ensures.ok.0 c.in_ok-begin_update_if.ensures.ok.1 in
+    elim c.match-finish.branch [
+      | in-Applied w ↦ ok_ok _ _ _ w.result-is (told (reply.Applied _) w.in-Applied.is)
+      | in-Changed w ↦ ok_ok _ _ _ w.result-is (told (reply.Changed _) w.in-Changed.is)
+      | in-Refused w ↦ err_ok _ _ _ w.result-is
+    ]
+
+pub returns-clause-err : goal.returns-clause-err
+returns-clause-err c =
+    let told = update_if_ended _ _ _ c.me.invariant _ _ c.finish.ensures.table _ c.me.view_is _ _ _ _ c.finish.ensures.ended c.args.component c.args.expected c.args.value c.in_ok-begin_update_if.ensures.ok.0 c.in_ok-begin_update_if.ensures.ok.1 in
+    elim c.match-finish.branch [
+      | in-Applied w ↦ ok_err _ _ _ w.result-is
+      | in-Changed w ↦ ok_err _ _ _ w.result-is
+      | in-Refused w ↦ err_err _ _ _ w.result-is (inr (told (reply.Refused _) w.in-Refused.is))
+    ]

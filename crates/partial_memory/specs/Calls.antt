@@ -1,0 +1,57 @@
+-- What each call of a memory leaves of its port.
+use Rattle.std.specs.Prelude.{ℕ, ◌≡◌, ◌+◌, ◌⊎◌, List, [], ◌∷◌, length, take, Option, Some, None}
+use Rattle.partial_model.specs.declared.history.Applied.{Applied}
+use Rattle.partial_model.specs.declared.call.Call.TheVariants as call
+use Rattle.partial_model.specs.declared.call.Answer.TheVariants as answer
+use Rattle.partial_model.specs.declared.call.Note.TheVariants as note
+use Rattle.partial_machine.specs.Steps.{AreOfScan, pairs_loaded}
+use Rattle.partial_core.specs.Part.{answers_of}
+use Rattle.partial_memory.specs.declared.answers.Scanned.{Scanned}
+use Rattle.partial_memory.specs.declared.answers.Updated.{Updated}
+use Rattle.partial_memory.specs.declared.answers.Updated.TheVariants.{Applied as IsApplied, Lost}
+use Rattle.partial_memory.specs.declared.answers.UpdatedIf.{UpdatedIf}
+use Rattle.partial_memory.specs.declared.answers.UpdatedIf.TheVariants as conditional
+use Rattle.partial_memory.specs.Rule.{meeting_steps}
+use Rattle.partial_memory.specs.Ports.{PortView, Answered, Knows}
+
+-- An update that ended: an applied one is the last entry of all that is seen, a lost one was overwritten by an entry that had not been
+-- seen before.
+abbrev pub Updates : PortView → ℕ → ℕ → Updated → PortView → Type 0
+Updates p j v (IsApplied stamp) q = (k : ℕ) × Answered p q (call.Update j v) (answer.Applied stamp) (note.Wrote k) × (k + 1 ≡ length q.seen)
+Updates p j v (Lost by) q = (k : ℕ) × Answered p q (call.Update j v) (answer.Lost by) (note.Lost k)
+
+-- a conditional update that ended: applied likewise, or it saw another stamp than the expected one
+abbrev pub UpdatesIf : PortView → ℕ → ℕ → ℕ → UpdatedIf → PortView → Type 0
+UpdatesIf p j expected v (conditional.Applied stamp) q =
+    (k : ℕ) × Answered p q (call.UpdateIf j expected v) (answer.Applied stamp) (note.Wrote k) × (k + 1 ≡ length q.seen)
+UpdatesIf p j expected v (conditional.Changed by) q = (n : ℕ) × Answered p q (call.UpdateIf j expected v) (answer.Changed by) (note.Saw n)
+
+-- a read that ended: the value and the stamp of the component after a prefix of what is seen now
+abbrev pub Reads : PortView → ℕ → ℕ → ℕ → PortView → Type 0
+Reads p j value stamp q = (n : ℕ) × Answered p q (call.Read j) (answer.Read value stamp) (note.Saw n)
+
+-- a scan of some positions that ended: the values after one prefix, with the steps that such a scan makes
+pub record ScansSome (p : PortView) (which values : List ℕ) (s : Scanned) (q : PortView) : Type 0 where
+  pub n : ℕ
+  pub answered : Answered p q (call.Scan which) (answer.Scanned values s.collects s.borrowed) (note.Saw n)
+  pub steps : AreOfScan (length which) s.collects (pairs_loaded q.last.begun (answers_of q.last.kept)) (length q.last.kept) s.borrowed
+
+-- a scan that ended; one of no position makes no step and isn't noted
+abbrev pub Scans : PortView → List ℕ → List ℕ → Scanned → PortView → Type 0
+Scans p [] values s q = (values ≡ []) × (s.collects ≡ 0) × (s.borrowed ≡ None) × (q ≡ p)
+Scans p (j ∷ js) values s q = ScansSome p (j ∷ js) values s q
+
+-- the port once it has seen that history in a meeting
+abbrev pub met : List Applied → PortView → PortView
+met log p = record p { seen = log; steps = p.steps + meeting_steps }
+
+-- Two ports that met: both have seen one history, which begins with all that each had seen, and of which each one's entries are those
+-- of its notes. Nothing else has changed.
+pub record Meets (a b c d : PortView) : Type 0 where
+  pub log : List Applied
+  pub first : c ≡ met log a
+  pub second : d ≡ met log b
+  pub first_seen : a.seen ≡ take (length a.seen) log
+  pub second_seen : b.seen ≡ take (length b.seen) log
+  pub first_knows : Knows c
+  pub second_knows : Knows d

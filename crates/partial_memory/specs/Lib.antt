@@ -1,0 +1,4 @@
+pub mod Rule
+pub mod Steps
+pub mod Ports
+pub mod Calls

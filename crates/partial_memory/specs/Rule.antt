@@ -1,0 +1,129 @@
+-- The rule of the table: the parts of all views are those of one lawful state. And what its steps tell.
+use Rattle.std.specs.Prelude.{ℕ, zero, suc, ◌≡◌, ◌+◌, ◌<◌, List, [], ◌∷◌, ◌++◌, length, map, take}
+use Rattle.std.specs.List.{AllByRecursion}
+use Rattle.atomic_table.specs.Table.{State, Step, Me}
+use Rattle.partial_model.specs.declared.history.Applied.{Applied}
+use Rattle.partial_words.specs.Layout.{Layout}
+use Rattle.partial_machine.specs.declared.stage.Stage.TheVariants.{ReadBegun}
+use Rattle.partial_machine.specs.Machine.{CoreState}
+use Rattle.partial_machine.specs.Sound.{IsSound}
+use Rattle.partial_core.specs.Part.{Part, core_of, port_of, fresh_part, with_seen}
+use Rattle.partial_core.specs.Lawful.{Lawful}
+use Rattle.partial_core.specs.Steps.{Fits, Tells}
+use Rattle.partial_memory.specs.declared.rule.About.{About}
+
+-- what a seat knows of a port: the memory that it belongs to, the port's part of the lawful state, and how many steps it has made
+pub record Seated : Type 0 where
+  pub about : About
+  pub part : Part
+  pub steps : ℕ
+
+-- the ports of all views
+abbrev pub flatten : List (List Seated) → List Seated
+flatten [] = []
+flatten (v ∷ vs) = v ++ flatten vs
+
+abbrev pub parts_of : List Seated → List Part
+parts_of xs = map (λ x. x.part) xs
+
+-- each port is one of those that were opened
+abbrev pub AreOpened : ℕ → List Seated → Type 0
+AreOpened n xs = AllByRecursion (λ x. port_of x.part < n) xs
+
+-- the second list has the elements of the first, in any order
+abbrev pub IsShuffle : {A : Type 0} → List A → List A → Type 0
+IsShuffle [] ys = ys ≡ []
+IsShuffle {A} (x ∷ xs) ys = (before : List A) × (after : List A) × (ys ≡ before ++ x ∷ after) × IsShuffle xs (before ++ after)
+
+-- the rule: for one history and some order of the ports the words are lawful with the ports of all views
+pub record IsKept {S : Type 0} (about : About) (s : State S (List Seated)) : Type 0 where
+  pub log : List Applied
+  pub all : List Seated
+  pub shuffle : IsShuffle (flatten s.views) all
+  pub lawful : Lawful about.sizes about.opening s.words (parts_of all) log
+  pub opened : AreOpened about.ports all
+
+-- a port that has made no call
+abbrev pub newcomer : About → ℕ → Seated
+newcomer about port = record { about = about; part = fresh_part about.sizes port; steps = 0 }
+
+-- n such ports from that number on
+abbrev pub newcomers : About → ℕ → ℕ → List Seated
+newcomers about port zero = []
+newcomers about port (suc n) = newcomer about port ∷ newcomers about (port + 1) n
+
+-- what stands for a port where a view has none
+abbrev pub nobody : Seated
+nobody = newcomer (record { sizes = record { m = 1; slots = 1; lists = 0; pool = 3 }; opening = record { values = []; first = 0 }; ports = 0 }) 0
+
+-- the first port of a view, and of the first view
+abbrev pub one_of : List Seated → Seated
+one_of [] = nobody
+one_of (x ∷ xs) = x
+
+abbrev pub one_in : List (List Seated) → Seated
+one_in [] = nobody
+one_in (v ∷ vs) = one_of v
+
+-- the seat stands for one port, and has no slot; the badge is the seat of one port
+abbrev pub IsOne : {S : Type 0} → Me S (List Seated) → Type 0
+IsOne me = (me.0 ≡ one_of me.0 ∷ []) × (me.1 ≡ [])
+
+abbrev pub IsBadgeOfOne : List (List Seated) → Type 0
+IsBadgeOfOne views = views ≡ (one_in views ∷ []) ∷ []
+
+-- each entry is by one of the ports that were opened
+abbrev pub AreByOpened : About → List Applied → Type 0
+AreByOpened about h = AllByRecursion (λ e. e.port < about.ports) h
+
+-- what a step of the machine c tells its seat: what the law of steps tells its port, and that each entry is by a port that was opened
+pub record Told (c : CoreState) (x : Seated) (a : ℕ) (y : Seated) : Type 0 where
+  pub about : y.about ≡ x.about
+  pub steps : y.steps ≡ x.steps + 1
+  pub sound : IsSound c
+  pub log : List Applied
+  pub entries : List Applied
+  pub tells : Tells x.about.sizes x.about.opening log entries x.part c a y.part
+  pub others : AreByOpened x.about y.part.seen
+
+-- the same of the one port of a seat
+abbrev pub makes : {S : Type 0} → CoreState → Me S (List Seated) → ℕ → Me S (List Seated) → Type 0
+makes c me a me' = IsOne me' × Told c (one_of me.0) a (one_of me'.0)
+
+-- the machine of a port that has begun a read of that component
+abbrev pub reading : Part → ℕ → CoreState
+reading x j = record (core_of x) { asked = []; stage = ReadBegun j }
+
+-- a load begins a read, and the call of a seat goes on with a further load
+abbrev pub begins_read : {S : Type 0} → Step S → Me S (List Seated) → ℕ → Me S (List Seated) → Type 0
+begins_read s me = makes (reading (one_of me.0).part s.word) me
+
+abbrev pub goes_on : {S : Type 0} → Step S → Me S (List Seated) → ℕ → Me S (List Seated) → Type 0
+goes_on s me = makes (core_of (one_of me.0).part) me
+
+-- the first port of a view, and the others
+abbrev pub first_of : List Seated → List Seated
+first_of [] = []
+first_of (x ∷ xs) = x ∷ []
+
+abbrev pub others_of : List Seated → List Seated
+others_of [] = []
+others_of (x ∷ xs) = xs
+
+-- how many loads a meeting makes: one as the seats are joined, one to look, and one as they are split
+abbrev pub meeting_steps : ℕ
+meeting_steps = 3
+
+-- the port once it has seen that history in a meeting
+abbrev pub having_met : List Applied → Seated → Seated
+having_met log x = record { about = x.about; part = with_seen log x.part; steps = x.steps + meeting_steps }
+
+-- the port has seen a beginning of the history, and knows what a port knows of it
+pub record IsIn (log : List Applied) (x : Seated) : Type 0 where
+  pub seen : x.part.seen ≡ take (length x.part.seen) log
+  pub fits : Fits x.about.opening log (with_seen log x.part)
+  pub others : AreByOpened x.about log
+
+-- a look in a meeting tells all ports of the seat the whole history
+abbrev pub looks : {S : Type 0} → Me S (List Seated) → ℕ → Me S (List Seated) → Type 0
+looks me a me' = (log : List Applied) × (me'.0 ≡ map (having_met log) me.0) × (me'.1 ≡ me.1) × AllByRecursion (IsIn log) me.0

@@ -1,0 +1,35 @@
+-- The steps that a call makes: how it begins, goes on and ends at its seat.
+use Rattle.std.specs.Prelude.{◌≡◌, ◌+◌, ◌||◌, length, Some}
+use Rattle.partial_words.specs.Layout.{IsLayout}
+use Rattle.partial_machine.specs.declared.stage.Reply.{Reply}
+use Rattle.partial_machine.specs.declared.stage.Stage.TheVariants.{Idle}
+use Rattle.partial_machine.specs.Machine.{CoreState, at_stage, reply_of}
+use Rattle.partial_machine.specs.Sound.{IsSound}
+use Rattle.partial_machine.specs.Behind.{refuses_pool, refuses_slots}
+use Rattle.partial_core.specs.Part.{HasBegun}
+use Rattle.partial_core.specs.Calls.{Made}
+use Rattle.partial_memory.specs.Rule.{Seated, AreByOpened}
+
+-- the machine b has begun a call at the port x
+pub record Begins (b : CoreState) (x : Seated) : Type 0 where
+  pub begun : HasBegun b x.part
+  pub sound : IsSound b
+  pub layout : IsLayout b.sizes
+  pub sizes : b.sizes ≡ x.about.sizes
+
+-- The call has made some steps, which have led to the machine c and the port y. The port comes to be marked exactly where the call is
+-- refused.
+pub record CallMade (b : CoreState) (x : Seated) (c : CoreState) (y : Seated) : Type 0 where
+  pub about : y.about ≡ x.about
+  pub made : Made x.about.sizes x.about.opening b x.part c y.part
+  pub steps : y.steps ≡ x.steps + length y.part.kept
+  pub others : AreByOpened x.about y.part.seen
+  pub pool : c.pool_spent ≡ (refuses_pool (reply_of c) || b.pool_spent)
+  pub slots : c.slots_spent ≡ (refuses_slots (reply_of c) || b.slots_spent)
+
+-- the call has ended with that reply, which was taken from the machine
+pub record Ended (b : CoreState) (x : Seated) (r : Reply) (core : CoreState) (y : Seated) : Type 0 where
+  pub machine : CoreState
+  pub made : CallMade b x machine y
+  pub replies : reply_of machine ≡ Some r
+  pub idle : core ≡ at_stage machine Idle

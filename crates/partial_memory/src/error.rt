@@ -1,0 +1,41 @@
+//! Why a memory was not opened or closed.
+
+ghost use Rattle.std.specs.Prelude.{◌≡◌};
+
+use std::alloc::AllocError;
+use thiserror::Error;
+
+/// Why a memory was not opened. Nothing was made then.
+#[derive(Clone, Copy, Debug, PartialEq, Eq, Error)]
+pub enum OpenError {
+    /// There are 1 to 64 ports.
+    #[error("ports out of range")]
+    Ports,
+    /// A growth was refused.
+    #[error("out of memory")]
+    Memory,
+}
+
+impl OpenError {
+    ghost use Rattle.partial_memory.specs.Ports.{open_code};
+
+    /// The number of the refusal: 5 or 6.
+    pub fn code(&self) -> u8
+        ensures { result ≡ open_code self.now }
+    {
+        match self {
+            OpenError::Ports => 5,
+            OpenError::Memory => 6,
+        }
+    }
+}
+
+impl From<AllocError> for OpenError {
+    ghost use Rattle.partial_memory.specs.declared.error.OpenError.TheVariants.{Memory};
+
+    ghost from_gives = { λ _ e. e ≡ Memory };
+
+    fn from(_error: AllocError) -> OpenError {
+        OpenError::Memory
+    }
+}

@@ -1,0 +1,16 @@
+//! The running memory: ports that update, read and scan its components in any threads, over the words
+//! of one table that change in single atomic steps.
+#![tactic(auto)]
+
+mod answers;
+mod driver;
+mod error;
+mod memory;
+mod port;
+mod rule;
+
+pub use answers::{Scanned, Updated, UpdatedIf};
+pub use error::OpenError;
+pub use memory::Memory;
+pub use port::Port;
+pub use rule::About;

@@ -1,0 +1,235 @@
+//! The memory, and the calls of its ports.
+
+ghost use Rattle.std.specs.Prelude.{◌≡◌, ℕ, ◌≤◌, ◌<◌, ◌⊎◌, length, Some, IfOk, IfErr};
+ghost use Rattle.partial_model.specs.declared.call.Call.TheVariants as call;
+ghost use Rattle.partial_words.specs.Layout.{pool_base};
+ghost use Rattle.partial_words.specs.Chain.{AreOpeningWords};
+ghost use Rattle.partial_machine.specs.Machine.{scanned_values};
+ghost use Rattle.partial_memory.specs.declared.error.OpenError.TheVariants.{Ports};
+ghost use Rattle.partial_memory.specs.Rule.{newcomers};
+ghost use Rattle.partial_memory.specs.Ports.{IsOf, IsRefused, new_ports, refusal};
+ghost use Rattle.partial_memory.specs.Calls.{Updates, UpdatesIf, Reads, Scans, Meets};
+
+use crate::answers::{Scanned, Updated, UpdatedIf};
+use crate::driver::{finish, take_seat};
+use crate::error::OpenError;
+use crate::port::Port;
+use crate::rule::{About, BeginsRead, Deals, Gathers, GoesOn, Lawful, Looks, View};
+use atomic_table::Table;
+use partial_core::{Core, Reply};
+use partial_model::{Opening, Refused, Sequence};
+use partial_words::{Sizes, value_word};
+use std::alloc::{AllocError, Global};
+use std::marker::Model;
+
+/// A memory of components that many threads share. Its ports update, read and scan them; no call waits
+/// for another, and none but `open` takes memory.
+#[derive(Drop)]
+pub struct Memory {
+    sizes: Sizes,
+    table: Table<(), View, About, Lawful, Global>,
+}
+
+impl Model for Memory {
+    ghost use Rattle.std.specs.Prelude.{◌≡◌};
+    ghost use Rattle.partial_words.specs.Layout.{total};
+    ghost use Rattle.partial_memory.specs.Ports.{MemoryView};
+
+    ghost Value = { MemoryView };
+
+    ghost view = { λ m. record { table = m.table.shared.table_id; about = m.table.shared.key } };
+
+    ghost invariant = { λ m. (m.sizes ≡ m.table.shared.key.sizes) × (m.table.shared.table_id.words ≡ total m.table.shared.key.sizes) × (m.table.shared.table_id.slots ≡ 0) };
+}
+
+// The words at opening.
+fn opening_words(alloc: Global, sizes: Sizes, initial: &[u64]) -> Result<Vec<u64>, AllocError>
+    requires { length initial.now ≡ sizes.m }
+    ensures { IfOk result (λ words. AreOpeningWords sizes initial.now words.items) }
+{
+    let total = sizes.total();
+    let mut words = Vec::with_capacity(alloc, total as usize)?;
+    for w in 0..total {
+        words.push(sizes.opening_word(initial, w))?;
+    }
+    Ok(words)
+}
+
+impl Memory {
+    /// Opens a memory whose components hold these values, and its ports, numbered from 0 in their order.
+    ///
+    /// # Errors
+    /// [`OpenError::Ports`] where there are not 1 to 64 ports, and then [`OpenError::Memory`] where a
+    /// growth was refused. Nothing was made then.
+    pub fn open(
+        alloc: Global,
+        sizes: Sizes,
+        initial: &[u64],
+        ports: u32,
+    ) -> Result<(Memory, Vec<Port>), OpenError>
+        requires { length initial.now ≡ sizes.m }
+        ensures about { IfOk result (λ r. (r.0.about.sizes ≡ sizes) × (r.0.about.opening.values ≡ initial.now) × (r.0.about.opening.first ≡ pool_base sizes) × (r.0.about.ports ≡ ports)) }
+        ensures ports { IfOk result (λ r. r.1.items ≡ new_ports r.0.table (newcomers r.0.about 0 ports)) }
+        ensures many { IfOk result (λ r. (1 ≤ ports) × (ports ≤ 64)) }
+        ensures refused { IfErr result (λ e. e ≡ Ports → (ports ≡ 0) ⊎ (64 < ports)) }
+    {
+        if ports == 0 || ports > 64 {
+            return Err(OpenError::Ports);
+        }
+        let about = About {
+            sizes,
+            opening: Opening {
+                values: Sequence::from(Vec::from_slice(alloc, initial)?),
+                first: u64::from(sizes.pool_base()),
+            },
+            ports,
+        };
+        let words = opening_words(alloc, sizes, initial)?;
+        let mut all = Vec::with_capacity(alloc, ports as usize)?;
+        let (table, mut seat) = Table::of_words(alloc, &words, &about)?;
+        for number in 0..ports {
+            let core = Core::new(alloc, sizes, number)?;
+            let place = table.shared.split_seat::<Deals>(&mut seat);
+            all.push_reserved(Port {
+                badge: place.into_badge(),
+                core,
+                number,
+                apart: [0; 16],
+            });
+        }
+        Ok((Memory { sizes, table }, all))
+    }
+
+    /// Sets component `component` to `value`, in no more atomic steps than an update may make.
+    ///
+    /// An applied update is the last entry of the history that the port has seen afterwards. A lost one
+    /// was overwritten, during the call, by the update that it names.
+    ///
+    /// # Errors
+    /// [`Refused::Component`] for an index that isn't below the number of components, and
+    /// [`Refused::PoolSpent`] where the port is marked for the pool: no step was made. PoolSpent too
+    /// where the call's claim went past the end of the pool, and the port is marked from then on.
+    pub fn update(&self, me: &mut Port, component: u32, value: u64) -> Result<Updated, Refused>
+        requires { IsOf self.now me.old }
+        ensures ok { IfOk result (λ r. Updates me.old component value r me.new) }
+        ensures err { IfErr result (λ cause. IsRefused me.old (call.Update component value) cause me.new) }
+    {
+        me.core.begin_update(component, value)?;
+        match finish(&self.table.shared, &mut me.badge, &mut me.core) {
+            Reply::Applied { stamp } => Ok(Updated::Applied { stamp }),
+            Reply::Lost { by } => Ok(Updated::Lost { by }),
+            Reply::Refused(cause) => Err(cause),
+            Reply::Scanned { .. } => unreachable!(),
+            Reply::Read { .. } => unreachable!(),
+            Reply::Changed { .. } => unreachable!(),
+        }
+    }
+
+    /// Sets component `component` to `value` where it has the stamp `expected`, in no more atomic steps
+    /// than an update may make.
+    ///
+    /// An applied update found that stamp, and is the last entry of the history that the port has seen
+    /// afterwards. Otherwise the component had another stamp at a moment of the call.
+    ///
+    /// # Errors
+    /// As those of [`Memory::update`].
+    pub fn update_if(
+        &self,
+        me: &mut Port,
+        component: u32,
+        expected: u64,
+        value: u64,
+    ) -> Result<UpdatedIf, Refused>
+        requires { IsOf self.now me.old }
+        ensures ok { IfOk result (λ r. UpdatesIf me.old component expected value r me.new) }
+        ensures err { IfErr result (λ cause. IsRefused me.old (call.UpdateIf component expected value) cause me.new) }
+    {
+        me.core.begin_update_if(component, expected, value)?;
+        match finish(&self.table.shared, &mut me.badge, &mut me.core) {
+            Reply::Applied { stamp } => Ok(UpdatedIf::Applied { stamp }),
+            Reply::Changed { by } => Ok(UpdatedIf::Changed { by }),
+            Reply::Refused(cause) => Err(cause),
+            Reply::Scanned { .. } => unreachable!(),
+            Reply::Read { .. } => unreachable!(),
+            Reply::Lost { .. } => unreachable!(),
+        }
+    }
+    /// Reads component `component`: its value and its stamp at a moment of the call, in two atomic steps.
+    ///
+    /// # Errors
+    /// [`Refused::Component`] for an index that isn't below the number of components: no step was made.
+    pub fn read(&self, me: &mut Port, component: u32) -> Result<(u64, u64), Refused>
+        requires { IsOf self.now me.old }
+        ensures ok { IfOk result (λ r. Reads me.old component r.0 r.1 me.new) }
+        ensures err { IfErr result (λ cause. (refusal me.old (call.Read component) ≡ Some cause) × (me.new ≡ me.old)) }
+    {
+        if component >= self.sizes.m() {
+            return Err(Refused::Component);
+        }
+        let words = &self.table.shared;
+        let word = self.sizes.component_word(component);
+        let mut seat = take_seat(&mut me.badge);
+        let stamp = words.load::<BeginsRead>(&mut seat, word as usize);
+        let value = words.load::<GoesOn>(&mut seat, value_word(stamp) as usize);
+        me.badge = seat.into_badge();
+        Ok((value, stamp))
+    }
+
+    /// Scans these components, in this order and with repeats: `into` has their values as they stood
+    /// together at one moment of the call. It makes at most as many collects as there are positions, and
+    /// two more; a scan of no position makes no step.
+    ///
+    /// # Errors
+    /// [`Refused::Component`] for an index that isn't below the number of components, then
+    /// [`Refused::PoolSpent`] and [`Refused::SlotsSpent`] where the port is marked for the pool or the
+    /// slots: no step was made. PoolSpent or SlotsSpent too where a claim of the call went past the end
+    /// of the pool or the slots, and the port is marked from then on. `into` is unchanged.
+    pub fn scan(&self, me: &mut Port, which: &[u32], into: &mut [u64]) -> Result<Scanned, Refused>
+        requires own { IsOf self.now me.old }
+        requires lengths { (length into.old ≡ length which.now) × (length which.now ≤ self.now.about.sizes.m) }
+        ensures ok { IfOk result (λ s. Scans me.old which.now into.new s me.new) }
+        ensures err { IfErr result (λ cause. IsRefused me.old (call.Scan which.now) cause me.new × (into.new ≡ into.old)) }
+    {
+        if which.is_empty() {
+            return Ok(Scanned {
+                collects: 0,
+                borrowed: None,
+            });
+        }
+        me.core.begin_scan(which)?;
+        match finish(&self.table.shared, &mut me.badge, &mut me.core) {
+            Reply::Scanned { collects, borrowed } => {
+                copy_values(&me.core, into);
+                Ok(Scanned { collects, borrowed })
+            }
+            Reply::Refused(cause) => Err(cause),
+            Reply::Applied { .. } => unreachable!(),
+            Reply::Lost { .. } => unreachable!(),
+            Reply::Read { .. } => unreachable!(),
+            Reply::Changed { .. } => unreachable!(),
+        }
+    }
+
+    /// Lets two ports see all that either has seen, in three atomic steps.
+    pub fn meet(&self, first: &mut Port, second: &mut Port)
+        requires { IsOf self.now first.old × IsOf self.now second.old }
+        ensures { Meets first.old second.old first.new second.new }
+    {
+        let words = &self.table.shared;
+        let mut seat = take_seat(&mut first.badge);
+        words.join_seat::<Gathers>(&mut seat, take_seat(&mut second.badge));
+        words.load::<Looks>(&mut seat, 0);
+        first.badge = words.split_seat::<Deals>(&mut seat).into_badge();
+        second.badge = seat.into_badge();
+    }
+}
+
+// Copies the values of the last scan that was answered.
+fn copy_values(core: &Core, into: &mut [u64])
+    requires { length into.old ≡ length core.now.asked }
+    ensures { into.new ≡ scanned_values core.now }
+{
+    for k in 0..into.len() {
+        into[k] = core.scanned(k);
+    }
+}

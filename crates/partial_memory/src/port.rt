@@ -1,0 +1,55 @@
+//! What one caller holds of a memory.
+
+ghost use Rattle.std.specs.Prelude.{◌≡◌};
+
+use crate::rule::View;
+use atomic_table::Badge;
+use partial_core::Core;
+use std::marker::Model;
+
+/// A caller's token of a memory, used by one caller at a time. To contracts it is what the caller
+/// reasons about: the memory that it belongs to, its number, the history that it has seen, the notes of
+/// its calls, its marks, its steps, and its last call.
+#[derive(Drop)]
+pub struct Port {
+    pub(crate) badge: Badge<View>,
+    pub(crate) core: Core,
+    pub(crate) number: u32,
+    // Keeps ports that lie side by side on cache lines of their own.
+    pub(crate) apart: [u64; 16],
+}
+
+impl Model for Port {
+    ghost use Rattle.partial_memory.specs.Rule.{one_in};
+    ghost use Rattle.partial_memory.specs.Ports.{PortView, port_view, IsResting};
+
+    ghost Value = { PortView };
+
+    ghost view = { λ p. port_view p.badge.table_id (one_in p.badge.views) };
+
+    ghost invariant = { λ p. IsResting p.badge.views p.core p.number };
+}
+
+impl Port {
+    /// The number of the port: 0, 1 and so on, in the order in which `open` gives them.
+    pub fn number(&self) -> u32
+        ensures { result ≡ self.now.number }
+    {
+        self.number
+    }
+
+    /// Whether a pool claim of this port went past the end of the pool. Its updates and scans are
+    /// refused from then on.
+    pub fn pool_spent(&self) -> bool
+        ensures { result ≡ self.now.pool_spent }
+    {
+        self.core.pool_spent()
+    }
+
+    /// Whether a slot claim of this port went past the last slot. Its scans are refused from then on.
+    pub fn slots_spent(&self) -> bool
+        ensures { result ≡ self.now.slots_spent }
+    {
+        self.core.slots_spent()
+    }
+}
