@@ -1,7 +1,7 @@
 -- A read in two loads, whose machine is where its port's kept answers lead.
 use Rattle.std.proofs.Common.{ℕ, ◌≡◌, ◌+◌, ◌<◌, ◌≤◌, ◌^◌, Bool, true, false, Some, None, List, [], ◌∷◌, refl, sym, ap, subst, ◌∙◌, inl, inr, cond, arith}
 use Rattle.std.specs.Prelude.{is_some, nat_lt}
-use Rattle.std.proofs.lemmas.Bool.{ltb-true}
+use Rattle.std.proofs.lemmas.Bool.{lt-ltb}
 use Rattle.atomic_table.specs.Table.{Me, Allows}
 use Rattle.atomic_table.specs.Seated.{TableId}
 use Rattle.partial_model.specs.declared.call.Call.TheVariants as call
@@ -13,9 +13,9 @@ use Rattle.partial_words.specs.Record.{value_word}
 use Rattle.partial_machine.specs.declared.stage.Reply.TheVariants as reply
 use Rattle.partial_machine.specs.declared.stage.Stage.TheVariants.{Idle, ReadBegun}
 use Rattle.partial_machine.specs.Machine.{CoreState, advance, at_stage, step_of}
-use Rattle.partial_machine.specs.Calls.{begin_scan, begun_of, refusal_of}
+use Rattle.partial_machine.specs.Calls.{begin_scan, begun_like, begun_of, refusal_of}
 use Rattle.partial_machine.proofs.Laws.{calls_begin, rests_are_sound}
-use Rattle.partial_core.specs.Part.{Part, IsBetween, IsMachineOf, begun_like, core_of, port_of}
+use Rattle.partial_core.specs.Part.{Part, IsBetween, IsMachineOf, core_of, port_of}
 use Rattle.partial_core.specs.Steps.{Fits}
 use Rattle.partial_core.proofs.Laws.{calls_begin_between, ports_come_between}
 use Rattle.partial_memory.specs.declared.rule.About.{About}
@@ -29,7 +29,7 @@ use Rattle.partial_memory.proofs.Replies.{read_told}
 use Rattle.partial_memory.proofs.Steps.{step_asked}
 
 below_none : (s : CoreState) (j : ℕ) → j < s.sizes.m → refusal_of s (call.Read j) ≡ None
-below_none s j below = ap (λ b. cond b None (Some refused.Component)) (ltb-true j s.sizes.m below)
+below_none s j below = ap (λ b. cond b None (Some refused.Component)) (lt-ltb j s.sizes.m below)
 
 module _ (views : List (List Seated)) (core : CoreState) (number : ℕ) (w : IsResting views core number) where
   -- the port between calls, with a machine that asks for no position
@@ -74,16 +74,6 @@ module _ (views : List (List Seated)) (core : CoreState) (number : ℕ) (w : IsR
     pub next_within : value_word stamp < total (one_in views).about.sizes
     next_within = let from = read_begins t j below in runs_within b (one_in views) (advance b stamp) y (Load (value_word stamp)) from.begins (inr half) refl
 
-    pub next_small : stamp + 1 < 2 ^ 64
-    next_small =
-        let within = next_within in
-        let layout : IsLayout (one_in views).about.sizes = subst IsLayout w.sizes w.layout in
-        let a = layout.components in
-        let b = layout.slots in
-        let c = layout.lists in
-        let d = layout.pool in
-        omega (arith, within, a.1, b.1, c, d.1)
-
     module _ (value : ℕ) (v : Seated) (second : Told (core_of y.part) y value v) where
       read_made : CallMade b (one_in views) (advance (advance b stamp) value) v
       read_made =
@@ -114,6 +104,10 @@ module _ (views : List (List Seated)) (core : CoreState) (number : ℕ) (w : IsR
             others = subst (λ (u : Seated). AreByOpened u.about u.part.seen) (sym is) (subst (λ (o : About). AreByOpened o v.part.seen) (sym about) m.others);
           }
 
+-- what a load told a seat, of the one port for which it stands
+pub first_told : {S : Type 0} (x : Seated) (me : Me S (List Seated)) (w j a : ℕ) (y : Seated) → me ≡ (x ∷ [], []) → w ≡ j → Told (reading (one_of me.0).part w) (one_of me.0) a y → Told (reading x.part j) x a y
+first_told {S} x me w j a y is word told = subst (λ k. Told (reading x.part k) x a y) word (subst (λ (m : Me S (List Seated)). Told (reading (one_of m.0).part w) (one_of m.0) a y) is told)
+
 -- the loads of a read are allowed
 pub begins_asked : {S : Type 0} (about : About) (slots id : ℕ) (me : Me S (List Seated)) (views : List (List Seated)) (core : CoreState) (number : ℕ) → IsResting views core number → TableId → (j : ℕ) → j < core.sizes.m →
     me ≡ (one_in views ∷ [], []) → (one_in views).about ≡ about → Allows (IsKept about) slots id me j (λ n. n) (makes (reading (one_of me.0).part j) me)
@@ -125,7 +119,19 @@ begins_asked {S} about slots id me views core number w t j below is own =
     subst (λ (m : Me S (List Seated)). Allows (IsKept about) slots id m j (λ n. n) (makes (reading (one_of m.0).part j) m)) (sym is) allowed.1
 
 pub goes_on_asked : {S : Type 0} (about : About) (slots id : ℕ) (me : Me S (List Seated)) (j : ℕ) → IsOne me → (one_of me.0).about ≡ about → IsMachineOf (core_of (one_of me.0).part) (one_of me.0).part →
-    ((s : Step) → s ≡ Load j → step_of (core_of (one_of me.0).part) ≡ Some s) → Allows (IsKept about) slots id me j (λ n. n) (makes (core_of (one_of me.0).part) me)
+    step_of (core_of (one_of me.0).part) ≡ Some (Load j) → Allows (IsKept about) slots id me j (λ n. n) (makes (core_of (one_of me.0).part) me)
 goes_on_asked {S} about slots id me j one own machine due =
     let c = core_of (one_of me.0).part in
-    (step_asked about slots (j + 1) id me c c (Load j) (Load j) (omega arith) one own refl (machine, due (Load j) refl) refl).1
+    (step_asked about slots (j + 1) id me c c (Load j) (Load j) (omega arith) one own refl (machine, due) refl).1
+
+-- the badge of a seat of one port
+pub badge_of : (views : List (List Seated)) (v : List Seated) → views ≡ v ∷ [] → v ≡ one_of v ∷ [] → IsBadgeOfOne views
+badge_of views v is one = is ∙ ap (λ (u : List Seated). u ∷ []) one ∙ ap (λ (us : List (List Seated)). (one_in us ∷ []) ∷ []) (sym is)
+
+-- a read, as callers see the port before and behind it
+pub read_seen : (t t' : TableId) (x : Seated) (p : PortView) (views : List (List Seated)) (v : List Seated) (j value stamp : ℕ) → port_view t x ≡ p → t' ≡ t → views ≡ v ∷ [] →
+    Reads (port_view t x) j value stamp (port_view t (one_of v)) → Reads p j value stamp (port_view t' (one_in views))
+read_seen t t' x p views v j value stamp seen same is w =
+    subst (λ (a : PortView). Reads a j value stamp (port_view t' (one_in views))) seen
+    (subst (λ (u : TableId). Reads (port_view t x) j value stamp (port_view u (one_in views))) (sym same)
+    (subst (λ (us : List (List Seated)). Reads (port_view t x) j value stamp (port_view t (one_in us))) (sym is) w))

@@ -1,6 +1,7 @@
 -- What a call that has ended leaves of its port, by its reply.
-use Rattle.std.proofs.Common.{ℕ, ◌≡◌, ◌≢◌, ◌+◌, ◌<◌, ◌≤◌, ◌++◌, ◌||◌, Bool, true, false, Option, Some, None, List, [], ◌∷◌, length, map, take, slice_index, refl, sym, ap, subst, ◌∙◌, inr, arith}
+use Rattle.std.proofs.Common.{ℕ, ◌≡◌, ◌≢◌, ◌+◌, ◌<◌, ◌≤◌, ◌++◌, ◌||◌, Bool, true, false, cond, Option, Some, None, List, [], ◌∷◌, length, map, take, slice_index, refl, sym, ap, subst, ◌∙◌, inr, arith}
 use Rattle.std.specs.Prelude.{Result, Ok, Err, IfOk, IfErr}
+use Rattle.std.proofs.lemmas.Bool.{ne_eqb}
 use Rattle.std.proofs.lemmas.List.{length-map}
 use Rattle.atomic_table.specs.Seated.{TableId}
 use Rattle.partial_model.specs.declared.history.Applied.{Applied}
@@ -16,9 +17,9 @@ use Rattle.partial_model.specs.History.{value_of}
 use Rattle.partial_model.specs.Notes.{Noted, Fits as NoteFits, IsLegal, IsTrueOf, LegalNotes, MayBeRefused, seen_by, seen_after}
 use Rattle.partial_machine.specs.declared.stage.Reply.{Reply}
 use Rattle.partial_machine.specs.declared.stage.Reply.TheVariants as reply
-use Rattle.partial_machine.specs.declared.stage.Stage.TheVariants.{ScanBegun}
-use Rattle.partial_machine.specs.Machine.{CoreState, reply_of, scanned_values}
-use Rattle.partial_machine.specs.Calls.{answer_for, begun_of, call_of, update_refusal}
+use Rattle.partial_machine.specs.declared.stage.Stage.TheVariants.{Finished, Idle, ScanBegun}
+use Rattle.partial_machine.specs.Machine.{CoreState, at_stage, reply_of, scanned_values}
+use Rattle.partial_machine.specs.Calls.{answer_for, begin_scan, begun_of, call_of, scan_refusal, update_refusal}
 use Rattle.partial_machine.specs.Bounds.{most_steps}
 use Rattle.partial_machine.specs.Behind.{refuses_pool, refuses_slots}
 use Rattle.partial_machine.specs.Steps.{Run, AreOfScan, pairs_loaded}
@@ -35,7 +36,7 @@ use Rattle.partial_memory.specs.Rule.{Seated, one_in}
 use Rattle.partial_memory.specs.Steps.{CallMade, Ended}
 use Rattle.partial_memory.specs.Ports.{PortView, port_view, IsResting, Knows, Goes, MakesSteps, Answered, RefusedLate, is_pool, is_slots}
 use Rattle.partial_memory.specs.Calls.{Updates, UpdatesIf, Reads, Scans, ScansSome}
-use Rattle.partial_memory.proofs.Resting.{CallBegins, call_begins}
+use Rattle.partial_memory.proofs.Resting.{CallBegins, call_begins, scan_begins}
 
 -- the last of a port's notes
 legal_last : (o : Opening) (h : List Applied) (p seen : ℕ) (ns : List Noted) (n : Noted) → LegalNotes o h p seen (ns ++ n ∷ []) → IsLegal o h p (seen_by seen ns) n
@@ -294,6 +295,26 @@ module _ (views : List (List Seated)) (core : CoreState) (number : ℕ) (w : IsR
   pub update_if_ended : (j x v : ℕ) → update_refusal core j ≡ None → b ≡ begun_of core (call.UpdateIf j x v) → (s : Reply) → r ≡ s → UpdateIfTold p j x v s (port_view t' y)
   update_if_ended j x v none is s told = seen_as (λ a z. UpdateIfTold a j x v s z)
       (update_if_told t b (one_in views) e.machine y e.made j x v (call_begins views core number w t b (call.UpdateIf j x v) tt none refl is) s (e.replies ∙ ap Some told))
+
+  pub scan_ended : (which : List ℕ) → length which ≤ core.sizes.m → (length which ≡ 0 → ⊥) → scan_refusal core which ≡ None → b ≡ begin_scan core which → (s : Reply) → r ≡ s → ScanTold p which e.machine s (port_view t' y)
+  scan_ended which served some none is s told =
+      let begins = scan_begins views core number w t b which served some none is in
+      let stage : b.stage ≡ ScanBegun = ap (λ (d : CoreState). d.stage) is ∙ ap (λ f. cond f (Finished (reply.Scanned 0 None)) ScanBegun) (ne_eqb (length which) 0 some) in
+      seen_as (λ a z. ScanTold a which e.machine s z) (scan_told t b (one_in views) e.machine y e.made which begins stage (ap (λ (d : CoreState). d.asked) is) s (e.replies ∙ ap Some told))
+
+-- the values that a scan copied are those of the machine whose reply was taken
+pub scan_copied : (p q : PortView) (which into : List ℕ) (machine taken : CoreState) (k : ℕ) (s : Option ℕ) → (length which ≡ 0 → ⊥) → taken ≡ at_stage machine Idle → into ≡ scanned_values taken → ScanAnswered p which machine k s q →
+    Scans p which into (record { collects = k; borrowed = s }) q
+scan_copied p q [] into machine taken k s some idle is w = absurd (some refl)
+scan_copied p q (j ∷ js) into machine taken k s some idle is w =
+    subst (λ (l : List ℕ). ScansSome p (j ∷ js) l (record { collects = k; borrowed = s }) q) (sym (is ∙ ap scanned_values idle)) w.made
+
+pub scan_asked : (p q : PortView) (which : List ℕ) (machine taken : CoreState) (k : ℕ) (s : Option ℕ) → taken ≡ at_stage machine Idle → ScanAnswered p which machine k s q → length taken.asked ≡ length which
+scan_asked p q which machine taken k s idle w = ap (λ (d : CoreState). length d.asked) idle ∙ w.asked
+
+-- a scan of no position
+pub scans_none : (p : PortView) (which into : List ℕ) (q : PortView) → which ≡ [] → into ≡ [] → q ≡ p → Scans p which into (record { collects = 0; borrowed = None }) q
+scans_none p which into q none empty same = subst (λ (l : List ℕ). Scans p l into (record { collects = 0; borrowed = None }) q) (sym none) (empty, refl, refl, same)
 
 -- where a result is the answer or the refusal
 pub ok_ok : {A E : Type 0} (res : Result A E) (a : A) (P : A → Type 0) → res ≡ Ok a → P a → IfOk res P

@@ -1,5 +1,5 @@
 -- A port between two calls: how it begins one, and that it is between two again once that has ended.
-use Rattle.std.proofs.Common.{ℕ, ◌≡◌, ◌==◌, ◌&&◌, Bool, true, false, cond, Option, Some, None, List, [], ◌∷◌, length, refl, sym, ap, subst, ◌∙◌, arith}
+use Rattle.std.proofs.Common.{ℕ, ◌≡◌, ◌≤◌, ◌==◌, ◌&&◌, Bool, true, false, cond, Option, Some, None, List, [], ◌∷◌, length, refl, sym, ap, subst, ◌∙◌, arith}
 use Rattle.std.specs.Prelude.{is_some, nat_lt}
 use Rattle.std.proofs.lemmas.Bool.{ne_eqb}
 use Rattle.std.specs.List.{list_all}
@@ -13,7 +13,7 @@ use Rattle.partial_words.specs.Layout.{Layout, IsLayout}
 use Rattle.partial_machine.specs.declared.stage.Reply.{Reply}
 use Rattle.partial_machine.specs.declared.stage.Stage.TheVariants.{Idle}
 use Rattle.partial_machine.specs.Machine.{CoreState, at_stage, reply_of}
-use Rattle.partial_machine.specs.Calls.{IsServed, begun_of, call_of, makes_steps, refusal_of}
+use Rattle.partial_machine.specs.Calls.{IsServed, begin_scan, begun_of, call_of, makes_steps, refusal_of, scan_refusal}
 use Rattle.partial_machine.proofs.Laws.{calls_begin, rests_are_sound}
 use Rattle.partial_core.specs.Part.{core_of, port_of}
 use Rattle.partial_core.specs.Steps.{Fits}
@@ -89,6 +89,15 @@ module _ (views : List (List Seated)) (core : CoreState) (number : ℕ) (w : IsR
         call = ap call_of is ∙ from.made some;
         allowed = refusal_here t c ∙ none;
       }
+
+-- a scan of some positions
+some_positions : (which : List ℕ) → (length which ≡ 0 → ⊥) → makes_steps (call.Scan which) ≡ true
+some_positions [] some = absurd (some refl)
+some_positions (j ∷ js) some = refl
+
+pub scan_begins : (views : List (List Seated)) (core : CoreState) (number : ℕ) → IsResting views core number → (t : TableId) (b : CoreState) (which : List ℕ) → length which ≤ core.sizes.m → (length which ≡ 0 → ⊥) →
+    scan_refusal core which ≡ None → b ≡ begin_scan core which → CallBegins t (one_in views) b (call.Scan which)
+scan_begins views core number w t b which served some none is = call_begins views core number w t b (call.Scan which) served none (some_positions which some) is
 
 -- a call has ended, and its port is between calls
 pub rests : (views : List (List Seated)) (b : CoreState) (x : Seated) (r : Reply) (core : CoreState) (number : ℕ) → IsBadgeOfOne views → Begins b x →

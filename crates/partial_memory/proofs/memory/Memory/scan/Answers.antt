@@ -1,0 +1,78 @@
+use Rattle.std.proofs.Common.{rules, ◌≡◌, ◌≤◌, ap, sym, ◌∙◌, subst, refl, length, inl, inr}
+use Rattle.partial_words.specs.Layout.{Layout}
+use Rattle.partial_machine.specs.declared.stage.Reply.TheVariants as reply
+use Rattle.partial_memory.proofs.Resting.{rests, scan_begins}
+use Rattle.partial_memory.proofs.Replies.{scan_ended, scan_copied, scan_asked, ok_ok, err_ok, err_err, ok_err}
+use Rattle.partial_memory.proofs.memory.Memory.scan.Goals as goal
+use Rattle.partial_memory.proofs.memory.Memory.scan.Goals.{in-Scanned, in-Refused}
+
+pub finish-requires : goal.finish-requires
+finish-requires c =
+    let some : length c.args.which.now ≡ 0 → ⊥ = search rules in
+    let sizes : c.me.inside.core.sizes ≡ c.args.self.now.about.sizes = search rules in
+    let few : length c.args.which.now ≤ c.me.inside.core.sizes.m = subst (λ (z : Layout). length c.args.which.now ≤ z.m) (sym sizes) c.requires.lengths.1 in
+    let begins = scan_begins _ _ _ c.me.invariant c.me.inside.badge.table_id _ _ few some c.in_ok-begin_scan.ensures.ok.0 c.in_ok-begin_scan.ensures.ok.1 in
+    record { table = search rules; one = c.me.invariant.one; own = search rules; begins = begins.begins }
+
+pub invariant_of-me-2 : goal.invariant_of-me-2
+invariant_of-me-2 c =
+    let some : length c.args.which.now ≡ 0 → ⊥ = search rules in
+    let sizes : c.me.inside.core.sizes ≡ c.args.self.now.about.sizes = search rules in
+    let few : length c.args.which.now ≤ c.me.inside.core.sizes.m = subst (λ (z : Layout). length c.args.which.now ≤ z.m) (sym sizes) c.requires.lengths.1 in
+    let begins = scan_begins _ _ _ c.me.invariant c.me.inside.badge.table_id _ _ few some c.in_ok-begin_scan.ensures.ok.0 c.in_ok-begin_scan.ensures.ok.1 in
+    rests _ _ _ _ _ _ c.finish.ensures.one begins.begins c.finish.ensures.ended c.me.invariant.number
+
+pub copy_values-requires : goal.copy_values-requires
+copy_values-requires c =
+    let some : length c.args.which.now ≡ 0 → ⊥ = search rules in
+    let sizes : c.me.inside.core.sizes ≡ c.args.self.now.about.sizes = search rules in
+    let few : length c.args.which.now ≤ c.me.inside.core.sizes.m = subst (λ (z : Layout). length c.args.which.now ≤ z.m) (sym sizes) c.requires.lengths.1 in
+    c.requires.lengths.0 ∙ sym (scan_asked _ _ _ _ _ _ _ c.finish.ensures.ended.idle (scan_ended _ _ _ c.me.invariant _ _ c.finish.ensures.table _ c.me.view_is _ _ _ _ c.finish.ensures.ended _ few some c.in_ok-begin_scan.ensures.ok.0 c.in_ok-begin_scan.ensures.ok.1 (reply.Scanned _ _) c.in-Scanned.is))
+
+pub unreachable-requires : goal.unreachable-requires
+unreachable-requires c =
+    let some : length c.args.which.now ≡ 0 → ⊥ = search rules in
+    let sizes : c.me.inside.core.sizes ≡ c.args.self.now.about.sizes = search rules in
+    let few : length c.args.which.now ≤ c.me.inside.core.sizes.m = subst (λ (z : Layout). length c.args.which.now ≤ z.m) (sym sizes) c.requires.lengths.1 in
+    scan_ended _ _ _ c.me.invariant _ _ c.finish.ensures.table _ c.me.view_is _ _ _ _ c.finish.ensures.ended _ few some c.in_ok-begin_scan.ensures.ok.0 c.in_ok-begin_scan.ensures.ok.1 (reply.Applied _) c.in-Applied.is
+
+pub unreachable-requires-in-Lost : goal.unreachable-requires-in-Lost
+unreachable-requires-in-Lost c =
+    let some : length c.args.which.now ≡ 0 → ⊥ = search rules in
+    let sizes : c.me.inside.core.sizes ≡ c.args.self.now.about.sizes = search rules in
+    let few : length c.args.which.now ≤ c.me.inside.core.sizes.m = subst (λ (z : Layout). length c.args.which.now ≤ z.m) (sym sizes) c.requires.lengths.1 in
+    scan_ended _ _ _ c.me.invariant _ _ c.finish.ensures.table _ c.me.view_is _ _ _ _ c.finish.ensures.ended _ few some c.in_ok-begin_scan.ensures.ok.0 c.in_ok-begin_scan.ensures.ok.1 (reply.Lost _) c.in-Lost.is
+
+pub unreachable-requires-in-Read : goal.unreachable-requires-in-Read
+unreachable-requires-in-Read c =
+    let some : length c.args.which.now ≡ 0 → ⊥ = search rules in
+    let sizes : c.me.inside.core.sizes ≡ c.args.self.now.about.sizes = search rules in
+    let few : length c.args.which.now ≤ c.me.inside.core.sizes.m = subst (λ (z : Layout). length c.args.which.now ≤ z.m) (sym sizes) c.requires.lengths.1 in
+    scan_ended _ _ _ c.me.invariant _ _ c.finish.ensures.table _ c.me.view_is _ _ _ _ c.finish.ensures.ended _ few some c.in_ok-begin_scan.ensures.ok.0 c.in_ok-begin_scan.ensures.ok.1 (reply.Read _ _) c.in-Read.is
+
+pub unreachable-requires-in-Changed : goal.unreachable-requires-in-Changed
+unreachable-requires-in-Changed c =
+    let some : length c.args.which.now ≡ 0 → ⊥ = search rules in
+    let sizes : c.me.inside.core.sizes ≡ c.args.self.now.about.sizes = search rules in
+    let few : length c.args.which.now ≤ c.me.inside.core.sizes.m = subst (λ (z : Layout). length c.args.which.now ≤ z.m) (sym sizes) c.requires.lengths.1 in
+    scan_ended _ _ _ c.me.invariant _ _ c.finish.ensures.table _ c.me.view_is _ _ _ _ c.finish.ensures.ended _ few some c.in_ok-begin_scan.ensures.ok.0 c.in_ok-begin_scan.ensures.ok.1 (reply.Changed _) c.in-Changed.is
+
+pub returns-clause-ok : goal.returns-clause-ok
+returns-clause-ok c =
+    let some : length c.args.which.now ≡ 0 → ⊥ = search rules in
+    let sizes : c.me.inside.core.sizes ≡ c.args.self.now.about.sizes = search rules in
+    let few : length c.args.which.now ≤ c.me.inside.core.sizes.m = subst (λ (z : Layout). length c.args.which.now ≤ z.m) (sym sizes) c.requires.lengths.1 in
+    elim c.match-finish.branch [
+    | in-Scanned w ↦ ok_ok _ _ _ w.result-is (scan_copied _ _ _ _ _ _ _ _ some c.finish.ensures.ended.idle (w.into-is ∙ w.copy_values.ensures) (scan_ended _ _ _ c.me.invariant _ _ c.finish.ensures.table _ c.me.view_is _ _ _ _ c.finish.ensures.ended _ few some c.in_ok-begin_scan.ensures.ok.0 c.in_ok-begin_scan.ensures.ok.1 (reply.Scanned _ _) w.in-Scanned.is))
+    | in-Refused w ↦ err_ok _ _ _ w.result-is
+    ]
+
+pub returns-clause-err : goal.returns-clause-err
+returns-clause-err c =
+    let some : length c.args.which.now ≡ 0 → ⊥ = search rules in
+    let sizes : c.me.inside.core.sizes ≡ c.args.self.now.about.sizes = search rules in
+    let few : length c.args.which.now ≤ c.me.inside.core.sizes.m = subst (λ (z : Layout). length c.args.which.now ≤ z.m) (sym sizes) c.requires.lengths.1 in
+    elim c.match-finish.branch [
+    | in-Scanned w ↦ ok_err _ _ _ w.result-is
+    | in-Refused w ↦ err_err _ _ _ w.result-is (inr (scan_ended _ _ _ c.me.invariant _ _ c.finish.ensures.table _ c.me.view_is _ _ _ _ c.finish.ensures.ended _ few some c.in_ok-begin_scan.ensures.ok.0 c.in_ok-begin_scan.ensures.ok.1 (reply.Refused _) w.in-Refused.is), w.into-is)
+    ]
