@@ -6,3 +6,5 @@ mod Resting
 mod Replies
 mod Reading
 mod Opens
+mod Looks
+mod Meetings

@@ -1,0 +1,74 @@
+-- Two ports that meet.
+use Rattle.std.proofs.Common.{ℕ, ◌≡◌, ◌++◌, List, [], ◌∷◌, map, refl, sym, ap, subst, ◌∙◌}
+use Rattle.std.specs.List.{AllByRecursion}
+use Rattle.atomic_table.specs.Table.{Me}
+use Rattle.atomic_table.specs.Seated.{TableId}
+use Rattle.partial_model.specs.declared.history.Applied.{Applied}
+use Rattle.partial_machine.specs.Machine.{CoreState}
+use Rattle.partial_memory.specs.declared.rule.About.{About}
+use Rattle.partial_memory.specs.Rule.{Seated, IsBadgeOfOne, IsIn, first_of, having_met, looks, one_in, others_of}
+use Rattle.partial_memory.specs.Ports.{IsResting, Knows, PortView, port_view}
+use Rattle.partial_memory.specs.Calls.{Meets}
+use Rattle.partial_memory.proofs.Looks.{AreOf}
+
+-- what a port knows of the history that it has seen in a meeting
+knows_met : (t : TableId) (log : List Applied) (x : Seated) → IsIn log x → Knows (port_view t (having_met log x))
+knows_met t log x w = record { history = w.fits.history; legal = w.fits.legal; shown = w.fits.shown; once = w.fits.once; others = w.others }
+
+-- it is between calls yet
+pub rests_met : (views after : List (List Seated)) (core : CoreState) (number : ℕ) (log : List Applied) → IsResting views core number → IsIn log (one_in views) → after ≡ (having_met log (one_in views) ∷ []) ∷ [] → IsResting after core number
+rests_met views after core number log w fit is =
+    let y = having_met log (one_in views) in
+    let rest : IsResting ((y ∷ []) ∷ []) core number = record {
+      one = refl;
+      between = record { rest = w.between.rest; machine = w.between.machine; idle = w.between.idle; asked = w.between.asked };
+      sound = w.sound;
+      layout = w.layout;
+      sizes = w.sizes;
+      number = w.number;
+      fits = fit.fits;
+      others = fit.others;
+    } in
+    subst (λ (v : List (List Seated)). IsResting v core number) (sym is) rest
+
+-- the ports of two seats, and what a look told them
+pub record Looked (x y : Seated) (v : List Seated) : Type 0 where
+  pub log : List Applied
+  pub is : v ≡ having_met log x ∷ having_met log y ∷ []
+  pub first : IsIn log x
+  pub second : IsIn log y
+
+pub looked : {S : Type 0} (x y : Seated) (me me' : Me S (List Seated)) (n : ℕ) → me.0 ≡ x ∷ y ∷ [] → looks me n me' → Looked x y me'.0
+looked x y me me' n is w =
+    let log : List Applied = w.0 in
+    let each : AllByRecursion (IsIn log) (x ∷ y ∷ []) = subst (AllByRecursion (IsIn log)) is w.3 in
+    record { log = log; is = w.1 ∙ ap (map (having_met log)) is; first = each.0; second = each.1.0 }
+
+pub both_of : (about : About) (x y : Seated) (v : List Seated) → v ≡ x ∷ y ∷ [] → x.about ≡ about → y.about ≡ about → AreOf about v
+both_of about x y v is own own' = subst (AreOf about) (sym is) (own, (own', tt))
+
+pub meets : (t t' u u' : TableId) (x y : Seated) (v : List Seated) (views views' : List (List Seated)) (p q : PortView) → Looked x y v → port_view t x ≡ p → port_view t' y ≡ q → u ≡ t → u' ≡ t' → views ≡ first_of v ∷ [] → views' ≡ others_of v ∷ [] →
+    Meets p q (port_view u (one_in views)) (port_view u' (one_in views'))
+meets t t' u u' x y v views views' p q w seen seen' same same' is is' =
+    let one : one_in views ≡ having_met w.log x = ap one_in (is ∙ ap (λ (l : List Seated). first_of l ∷ []) w.is) in
+    let two : one_in views' ≡ having_met w.log y = ap one_in (is' ∙ ap (λ (l : List Seated). others_of l ∷ []) w.is) in
+    let met : Meets (port_view t x) (port_view t' y) (port_view t (having_met w.log x)) (port_view t' (having_met w.log y)) = record {
+      log = w.log;
+      first = refl;
+      second = refl;
+      first_seen = w.first.seen;
+      second_seen = w.second.seen;
+      first_knows = knows_met t w.log x w.first;
+      second_knows = knows_met t' w.log y w.second;
+    } in
+    let first : port_view t (having_met w.log x) ≡ port_view u (one_in views) = ap (λ (i : TableId). port_view i (having_met w.log x)) (sym same) ∙ ap (port_view u) (sym one) in
+    let second : port_view t' (having_met w.log y) ≡ port_view u' (one_in views') = ap (λ (i : TableId). port_view i (having_met w.log y)) (sym same') ∙ ap (port_view u') (sym two) in
+    subst (λ (a : PortView). Meets a q (port_view u (one_in views)) (port_view u' (one_in views'))) seen
+    (subst (λ (b : PortView). Meets (port_view t x) b (port_view u (one_in views)) (port_view u' (one_in views'))) seen'
+    (subst (λ (c : PortView). Meets (port_view t x) (port_view t' y) c (port_view u' (one_in views'))) first
+    (subst (λ (d : PortView). Meets (port_view t x) (port_view t' y) (port_view t (having_met w.log x)) d) second met)))
+
+-- the ports of two seats that came together
+pub joined : {S : Type 0} (x y : Seated) (a b m : Me S (List Seated)) → a ≡ (x ∷ [], []) → b ≡ (y ∷ [], []) → m ≡ (a.0 ++ b.0, a.1) → m.0 ≡ x ∷ y ∷ []
+joined {S} x y a b m one two is =
+    ap (λ (v : Me S (List Seated)). v.0) is ∙ ap (λ (v : Me S (List Seated)). v.0 ++ b.0) one ∙ ap (λ (v : Me S (List Seated)). x ∷ v.0) two

@@ -1,0 +1,52 @@
+use Rattle.std.proofs.Common.{rules, ◌≡◌, ◌++◌, ap, sym, ◌∙◌, subst, refl, List, [], ◌∷◌}
+use Rattle.atomic_table.specs.Table.{Me}
+use Rattle.partial_memory.specs.Rule.{Seated, first_of, one_in, others_of}
+use Rattle.partial_memory.specs.Ports.{MemoryView, PortView}
+use Rattle.partial_memory.proofs.Views.{deals}
+use Rattle.partial_memory.proofs.Looks.{looks_on, gathers}
+use Rattle.partial_memory.proofs.Meetings.{both_of, joined, looked, meets, rests_met}
+use Rattle.partial_memory.proofs.memory.Memory.meet.Goals as goal
+
+pub join_seat-requires : goal.join_seat-requires
+join_seat-requires c =
+    let here = ap (λ (m : Me (Unit {0}) (List Seated)). m.0) c.take_seat.ensures.one in
+    (search rules, search rules, ap (λ (m : Me (Unit {0}) (List Seated)). m.1) c.take_seat.ensures.one, search rules, gathers _ _ _ _ _ (one_in c.second.inside.badge.views) here)
+
+pub load-requires : goal.load-requires
+load-requires c =
+    let own : (one_in c.first.inside.badge.views).about ≡ c.self.inside.table.shared.key = search rules in
+    let own' : (one_in c.second.inside.badge.views).about ≡ c.self.inside.table.shared.key = search rules in
+    (search rules, search rules, looks_on _ _ _ _ (both_of _ (one_in c.first.inside.badge.views) (one_in c.second.inside.badge.views) _ (joined _ _ _ _ _ c.take_seat-seat.ensures.one c.take_seat.ensures.one c.join_seat.ensures.2) own own'))
+
+pub split_seat-requires : goal.split_seat-requires
+split_seat-requires c = (search rules, search rules, deals _ _ _)
+
+pub invariant_of-first : goal.invariant_of-first
+invariant_of-first c =
+    let x = one_in c.first.inside.badge.views in
+    let y = one_in c.second.inside.badge.views in
+    let told = looked x y _ c.load.new.seat.me c.load.result (joined x y _ _ _ c.take_seat-seat.ensures.one c.take_seat.ensures.one c.join_seat.ensures.2) c.load.ensures.2 in
+    let view = c.into_badge.ensures.2 ∙ ap (λ (m : Me (Unit {0}) (List Seated)). m.0 ∷ []) c.split_seat.ensures.4 ∙ ap (λ (v : List Seated). first_of v ∷ []) told.is in
+    rests_met _ _ _ _ told.log c.first.invariant told.first view
+
+pub invariant_of-second : goal.invariant_of-second
+invariant_of-second c =
+    let x = one_in c.first.inside.badge.views in
+    let y = one_in c.second.inside.badge.views in
+    let told = looked x y _ c.load.new.seat.me c.load.result (joined x y _ _ _ c.take_seat-seat.ensures.one c.take_seat.ensures.one c.join_seat.ensures.2) c.load.ensures.2 in
+    let view = c.into_badge-2.ensures.2 ∙ ap (λ (m : Me (Unit {0}) (List Seated)). m.0 ∷ []) c.split_seat.ensures.2 ∙ ap (λ (v : List Seated). others_of v ∷ []) told.is in
+    rests_met _ _ _ _ told.log c.second.invariant told.second view
+
+pub returns : goal.returns
+returns c =
+    let x = one_in c.first.inside.badge.views in
+    let y = one_in c.second.inside.badge.views in
+    let told = looked x y _ c.load.new.seat.me c.load.result (joined x y _ _ _ c.take_seat-seat.ensures.one c.take_seat.ensures.one c.join_seat.ensures.2) c.load.ensures.2 in
+    let first = c.into_badge.ensures.2 ∙ ap (λ (m : Me (Unit {0}) (List Seated)). m.0 ∷ []) c.split_seat.ensures.4 in
+    let second = c.into_badge-2.ensures.2 ∙ ap (λ (m : Me (Unit {0}) (List Seated)). m.0 ∷ []) c.split_seat.ensures.2 in
+    let seat = c.load.ensures.0 ∙ c.join_seat.ensures.0 ∙ c.take_seat-seat.ensures.table in
+    let same : c.into_badge.result.table_id ≡ c.first.inside.badge.table_id = c.into_badge.ensures.0 ∙ c.split_seat.ensures.3 ∙ seat in
+    let memory : c.args.first.now.memory ≡ c.args.second.now.memory = c.requires.0 ∙ sym c.requires.1 in
+    let tables : c.first.inside.badge.table_id ≡ c.second.inside.badge.table_id = ap (λ (p : PortView). p.memory.table) c.first.view_is ∙ ap (λ (m : MemoryView). m.table) memory ∙ ap (λ (p : PortView). p.memory.table) (sym c.second.view_is) in
+    let same' : c.into_badge-2.result.table_id ≡ c.second.inside.badge.table_id = c.into_badge-2.ensures.0 ∙ c.split_seat.ensures.0 ∙ seat ∙ tables in
+    meets _ _ _ _ x y c.load.new.seat.me.0 _ _ _ _ told c.first.view_is c.second.view_is same same' first second
