@@ -99,7 +99,10 @@ own_leads own p q words [] makes = makes
 own_leads own p q words (e ∷ es) makes =
     let after = words_after words e.step in
     let rest = own_moments own after es in
-    let by_port : (b : Bool) → MatchBool b ((step_of p.0 ≡ Some e.step) × MakesOwn own (advance p (answer_of words e.step)) after es q) (MakesOwn own p after es q) → LeadsTo p (cond b (words ∷ rest) rest) q = λ b. elim b as (λ b. MatchBool b ((step_of p.0 ≡ Some e.step) × MakesOwn own (advance p (answer_of words e.step)) after es q) (MakesOwn own p after es q) → LeadsTo p (cond b (words ∷ rest) rest) q) [
+    let Mine : Type 0 = (step_of p.0 ≡ Some e.step) × MakesOwn own (advance p (answer_of words e.step)) after es q in
+    let Other : Type 0 = MakesOwn own p after es q in
+    let by_port : (b : Bool) → MatchBool b Mine Other → LeadsTo p (cond b (words ∷ rest) rest) q
+    = λ b. elim b as (λ b. MatchBool b Mine Other → LeadsTo p (cond b (words ∷ rest) rest) q) [
       | true ↦ λ h. (e.step, h.0, own_leads own (advance p (answer_of words e.step)) q after es h.1)
       | false ↦ λ h. own_leads own p q after es h
     ] in

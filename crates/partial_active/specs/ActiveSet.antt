@@ -87,6 +87,7 @@ GetSetsMakeFewSteps = (s : Layout) (spent : Bool) (f : Buffers) (own : ℕ) (wor
 
 -- a run of orderly events gives possible answers
 abbrev pub OrderlyAnswersArePossible : Type 0
-OrderlyAnswersArePossible = (s : Layout) (spent : Bool) (f : Buffers) (own : ℕ) (words : List ℕ) (events : List Event) (q : Pair) (step : Step) →
+OrderlyAnswersArePossible = (s : Layout) (spent : Bool) (f : Buffers) (own : ℕ) (words : List ℕ) (events : List Event) (q : Pair)
+    (step : Step) →
     IsLayout s → IsFor s f → IsOrderlyRun s words events → MakesOwn own (fresh s spent, f) words events q →
     step_of q.0 ≡ Some step → IsPossible q (answer_of (words_behind words events) step)

@@ -49,7 +49,8 @@ pub record Orderly (s : Layout) (words : List ℕ) : Type 0 where
 -- the block is one that these words publish: the announcement that a slot refers to, or the list at the list head
 abbrev pub Publishes : Layout → ℕ → List ℕ → List ℕ → Type 0
 Publishes s at block words =
-    ((slot : ℕ) × (named : List ℕ) × (slot < s.slots) × (slot_at s words slot ≡ at) × IsAnnouncement s words at named × (block ≡ announcement_block named))
+    ((slot : ℕ) × (named : List ℕ) × (slot < s.slots) × (slot_at s words slot ≡ at) × IsAnnouncement s words at named
+    × (block ≡ announcement_block named))
     ⊎ ((list : Ranges) × (head_at s words ≡ at) × IsVacatedList s words at list × (block ≡ list_block list))
 
 -- a slot stays as it is, goes from EMPTY to a whole announcement, or from an announcement to VACATED

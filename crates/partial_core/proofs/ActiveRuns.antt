@@ -26,7 +26,8 @@ use Rattle.partial_machine.specs.Calls.{is_begun}
 use Rattle.partial_core.specs.Part.{Part, HasBegun, IsLedTo, core_of, port_of, with_seen}
 use Rattle.partial_core.specs.Held.{holdings, holding_of}
 use Rattle.partial_core.specs.Lawful.{Lawful}
-use Rattle.partial_core.specs.ActiveSet.{State, IsLawful, Move, HasPart, MakesStep, MakesLook, IsRun, events_of, LawfulRunsAreOrderly, IsGetting, OnlyGets, RunsGetSet, moments_in, UpdatesFind, UpdatesFindInOrder, UpdatesKeepLists}
+use Rattle.partial_core.specs.ActiveSet.{State, IsLawful, Move, HasPart, MakesStep, MakesLook, IsRun, events_of, LawfulRunsAreOrderly}
+use Rattle.partial_core.specs.ActiveSet.{IsGetting, OnlyGets, RunsGetSet, moments_in, UpdatesFind, UpdatesFindInOrder, UpdatesKeepLists}
 use Rattle.partial_core.specs.ActiveSet.Move.{Makes, Looks}
 use Rattle.partial_core.proofs.Parts.{all_at, all_changed, holdings_split}
 use Rattle.partial_core.proofs.Steps.{sizes_here, sound_at}
@@ -52,7 +53,8 @@ module _ (z : Layout) (o : Opening) (e : Event) (s u : State) (m : MakesStep z o
 
   step_keeps : (past : List (List ℕ)) → Keeps z past s → Keeps z past u
   step_keeps past keeps =
-      let here : KeepsPublished z past s.words (holdings (m.own.before ++ m.own.part ∷ m.own.after)) = subst (λ (ps : List Part). KeepsPublished z past s.words (holdings ps)) m.own.is keeps in
+      let here : KeepsPublished z past s.words (holdings (m.own.before ++ m.own.part ∷ m.own.after))
+      = subst (λ (ps : List Part). KeepsPublished z past s.words (holdings ps)) m.own.is keeps in
       subst (Keeps z past) (sym m.next) (keeps_on z o s.words m.own.before m.own.part m.own.after s.log m.machine e.step m.leads past here)
 
 module _ (z : Layout) (o : Opening) (number : ℕ) (s u : State) (m : MakesLook number s u) where
@@ -71,13 +73,15 @@ module _ (z : Layout) (o : Opening) (number : ℕ) (s u : State) (m : MakesLook 
       subst (λ (ws : List ℕ). KeepsPublished z past ws (holdings u.parts)) (sym look_words) (subst (λ (hs : List Holding). KeepsPublished z past s.words hs) same keeps)
 
 -- the events of a run are orderly
-events_orderly : (z : Layout) (o : Opening) (moves : List Move) (s t : State) (past : List (List ℕ)) → IsLawful z o s → Keeps z past s → IsRun z o moves s t → AreOrderly z past s.words (events_of moves)
+events_orderly : (z : Layout) (o : Opening) (moves : List Move) (s t : State) (past : List (List ℕ)) → IsLawful z o s → Keeps z past s → IsRun z o moves s t →
+    AreOrderly z past s.words (events_of moves)
 events_orderly z o [] s t past w keeps run = tt
 events_orderly z o (Makes e ∷ moves) s t past w keeps run =
     let u = run.0 in
     let m = run.1 in
     let now : Keeps z (s.words ∷ past) s = keeps_now z o s.words (holdings s.parts) s.log past w.memory keeps in
-    let here : KeepsPublished z (s.words ∷ past) s.words (holdings (m.own.before ++ m.own.part ∷ m.own.after)) = subst (λ (ps : List Part). KeepsPublished z (s.words ∷ past) s.words (holdings ps)) m.own.is now in (
+    let here : KeepsPublished z (s.words ∷ past) s.words (holdings (m.own.before ++ m.own.part ∷ m.own.after))
+    = subst (λ (ps : List Part). KeepsPublished z (s.words ∷ past) s.words (holdings ps)) m.own.is now in (
       step_orderly z o s.words m.own.before m.own.part m.own.after s.log m.machine e.step m.leads (s.words ∷ past) (lawful_at z o s e.port m.own w) m.its m.due here,
       subst (λ (ws : List ℕ). AreOrderly z (s.words ∷ past) ws (events_of moves)) (step_words z o e s u m)
           (events_orderly z o moves u t (s.words ∷ past) (step_lawful z o e s u m) (step_keeps z o e s u m (s.words ∷ past) now) run.2),
@@ -111,9 +115,12 @@ lawful_runs_are_orderly z o moves s t w run =
 abbrev Has : ℕ → CoreState → Part → Type 0
 Has own c x = port_of x ≡ own → core_of x ≡ c
 
+abbrev AllHave : ℕ → CoreState → List Part → Type 0
+AllHave own c parts = AllByRecursion (Has own c) parts
+
 -- a port has one machine
-one_machine : (z : Layout) (o : Opening) (words : List ℕ) (before : List Part) (x : Part) (after : List Part) (log : List Applied) → Lawful z o words (before ++ x ∷ after) log → (own : ℕ) → port_of x ≡ own →
-    AllByRecursion (Has own (core_of x)) (before ++ x ∷ after)
+one_machine : (z : Layout) (o : Opening) (words : List ℕ) (before : List Part) (x : Part) (after : List Part) (log : List Applied) →
+    Lawful z o words (before ++ x ∷ after) log → (own : ℕ) → port_of x ≡ own → AllHave own (core_of x) (before ++ x ∷ after)
 one_machine z o words before x after log w own is =
     let apart = others z o words before x after log w in
     let other : (y : Part) → port_of x ≢ port_of y → Has own (core_of x) y = λ y differs same. absurd (differs (is ∙ sym same)) in
@@ -131,16 +138,17 @@ answer_goes c change old a is =
     subst (λ (v : Stage). (getting (advance_at c v a) ≡ p) × IsAtGetSet (advance_at c v a)) (sym is)
     (by_due (with_getting c p) change old is (λ (d : CoreState). (getting d ≡ p) × IsAtGetSet d) (refl, inl (change, old, is)) (λ v ended next. (refl, inr ended)))
 
-module _ (z : Layout) (o : Opening) (own : ℕ) (e : Event) (s u : State) (m : MakesStep z o e s u) (w : IsLawful z o s) (c : CoreState) (has : AllByRecursion (Has own c) s.parts) where
-  has_here : AllByRecursion (Has own c) (m.own.before ++ m.own.part ∷ m.own.after)
-  has_here = subst (AllByRecursion (Has own c)) m.own.is has
+module _ (z : Layout) (o : Opening) (own : ℕ) (e : Event) (s u : State) (m : MakesStep z o e s u) (w : IsLawful z o s) (c : CoreState) (has : AllHave own c s.parts) where
+  has_here : AllHave own c (m.own.before ++ m.own.part ∷ m.own.after)
+  has_here = subst (AllHave own c) m.own.is has
 
   -- another port's step
-  other_has : e.port ≢ own → AllByRecursion (Has own c) u.parts
+  other_has : e.port ≢ own → AllHave own c u.parts
   other_has other =
       let port : port_of m.leads.y ≡ e.port = m.leads.tells.port ∙ m.own.port in
-      let changed : AllByRecursion (Has own c) (m.own.before ++ m.leads.y ∷ m.own.after) = all_changed (Has own c) (Has own c) (λ y h. h) m.own.before m.own.part m.leads.y m.own.after has_here (λ same. absurd (other (sym port ∙ same))) in
-      subst (λ (v : State). AllByRecursion (Has own c) v.parts) (sym m.next) changed
+      let changed : AllHave own c (m.own.before ++ m.leads.y ∷ m.own.after)
+      = all_changed (Has own c) (Has own c) (λ y h. h) m.own.before m.own.part m.leads.y m.own.after has_here (λ same. absurd (other (sym port ∙ same))) in
+      subst (λ (v : State). AllHave own c v.parts) (sym m.next) changed
 
   -- its own step, which is one of a getSet
   module _ (mine : e.port ≡ own) (at : IsGetting m.machine) where
@@ -162,24 +170,25 @@ module _ (z : Layout) (o : Opening) (own : ℕ) (e : Event) (s u : State) (m : M
         let next : advance c (answer_of s.words e.step) ≡ core_of m.leads.y = ap (λ (d : CoreState). advance d (answer_of s.words e.step)) (sym machine_is) ∙ m.leads.tells.machine.is in
         subst (λ (d : CoreState). (getting d ≡ finding.advance (getting c) (answer_of s.words e.step)) × IsAtGetSet d) next (answer_goes c at.0 at.1 (answer_of s.words e.step) at_stage)
 
-    own_has : AllByRecursion (Has own (core_of m.leads.y)) u.parts
+    own_has : AllHave own (core_of m.leads.y) u.parts
     own_has =
         let w' = m.leads.lawful in
-        subst (λ (v : State). AllByRecursion (Has own (core_of m.leads.y)) v.parts) (sym m.next)
+        subst (λ (v : State). AllHave own (core_of m.leads.y) v.parts) (sym m.next)
         (one_machine z o (words_after s.words e.step) m.own.before m.leads.y m.own.after _ w' own (m.leads.tells.port ∙ m.own.port ∙ mine))
 
-look_has : (own number : ℕ) (s u : State) (m : MakesLook number s u) (c : CoreState) → AllByRecursion (Has own c) s.parts → AllByRecursion (Has own c) u.parts
+look_has : (own number : ℕ) (s u : State) (m : MakesLook number s u) (c : CoreState) → AllHave own c s.parts → AllHave own c u.parts
 look_has own number s u m c has =
-    let here : AllByRecursion (Has own c) (m.own.before ++ m.own.part ∷ m.own.after) = subst (AllByRecursion (Has own c)) m.own.is has in
-    subst (λ (v : State). AllByRecursion (Has own c) v.parts) (sym m.next)
+    let here : AllHave own c (m.own.before ++ m.own.part ∷ m.own.after) = subst (AllHave own c) m.own.is has in
+    subst (λ (v : State). AllHave own c v.parts) (sym m.next)
     (all_changed (Has own c) (Has own c) (λ y h. h) m.own.before m.own.part (with_seen s.log m.own.part) m.own.after here (all_at (Has own c) m.own.before m.own.part m.own.after here))
 
 -- the port's events are its getSet's steps
-makes_own : (z : Layout) (o : Opening) (own : ℕ) (moves : List Move) (s t : State) (run : IsRun z o moves s t) (c : CoreState) → IsLawful z o s → AllByRecursion (Has own c) s.parts → OnlyGets z o own moves s t run → IsAtGetSet c →
-    (last : HasPart own t.parts) → MakesOwn own (getting c) s.words (events_of moves) (getting (core_of last.part)) × IsAtGetSet (core_of last.part)
+makes_own : (z : Layout) (o : Opening) (own : ℕ) (moves : List Move) (s t : State) (run : IsRun z o moves s t) (c : CoreState) →
+    IsLawful z o s → AllHave own c s.parts → OnlyGets z o own moves s t run → IsAtGetSet c → (last : HasPart own t.parts) →
+    MakesOwn own (getting c) s.words (events_of moves) (getting (core_of last.part)) × IsAtGetSet (core_of last.part)
 makes_own z o own [] s t run c w has only at last =
     let there : s.parts ≡ last.before ++ last.part ∷ last.after = sym (ap (λ (v : State). v.parts) run) ∙ last.is in
-    let same : core_of last.part ≡ c = all_at (Has own c) last.before last.part last.after (subst (AllByRecursion (Has own c)) there has) last.port in
+    let same : core_of last.part ≡ c = all_at (Has own c) last.before last.part last.after (subst (AllHave own c) there has) last.port in
     (ap getting same, subst IsAtGetSet (sym same) at)
 makes_own z o own (Makes e ∷ moves) s t run c w has only at last =
     let u = run.0 in
@@ -194,8 +203,10 @@ makes_own z o own (Makes e ∷ moves) s t run c w has only at last =
           let gets = only.0 same.1 in
           let goes = own_goes z o own e s u m w c has same.1 gets in
           let rest = makes_own z o own moves u t run.2 (core_of m.leads.y) (step_lawful z o e s u m) (own_has z o own e s u m w c has same.1 gets) only.1 goes.1 last in
+          let there : MakesOwn own (getting (core_of m.leads.y)) (words_after s.words e.step) (events_of moves) Q
+          = subst (λ (ws : List ℕ). MakesOwn own (getting (core_of m.leads.y)) ws (events_of moves) Q) words rest.0 in
           let moved : MakesOwn own (finding.advance (getting c) a) (words_after s.words e.step) (events_of moves) Q
-          = subst (λ (p : finding.Pair). MakesOwn own p (words_after s.words e.step) (events_of moves) Q) goes.0 (subst (λ (ws : List ℕ). MakesOwn own (getting (core_of m.leads.y)) ws (events_of moves) Q) words rest.0) in
+          = subst (λ (p : finding.Pair). MakesOwn own p (words_after s.words e.step) (events_of moves) Q) goes.0 there in
           let both : Mine = (own_due z o own e s u m w c has same.1 gets, moved) in
           (subst (λ (b : Bool). MatchBool b Mine Other) (sym same.0) both, rest.1)
       | inr other ↦
@@ -222,16 +233,19 @@ module _ (z : Layout) (o : Opening) (own : ℕ) (moves : List Move) (s t : State
   made : MakesOwn own (getting c) s.words (events_of moves) (getting d) × IsAtGetSet d
   made =
       let one = one_machine z o s.words gets.first.before gets.first.part gets.first.after s.log at_first own gets.first.port in
-      makes_own z o own moves s t gets.run c gets.lawful (subst (AllByRecursion (Has own c)) (sym gets.first.is) one) gets.only (inl gets.begins.getting) gets.last
+      makes_own z o own moves s t gets.run c gets.lawful (subst (AllHave own c) (sym gets.first.is) one) gets.only (inl gets.begins.getting) gets.last
+
+  sizes : c.sizes ≡ z
+  sizes = sizes_here z o s.words gets.first.before gets.first.part gets.first.after s.log at_first
 
   begun : getting c ≡ (finding.fresh z (lists_spent c), c.found)
-  begun = ap (λ (g : finding.GetSetState). (g, c.found)) (gets.begins.first ∙ ap (λ (y : Layout). finding.fresh y (lists_spent c)) (sizes_here z o s.words gets.first.before gets.first.part gets.first.after s.log at_first))
+  begun = ap (λ (g : finding.GetSetState). (g, c.found)) (gets.begins.first ∙ ap (λ (y : Layout). finding.fresh y (lists_spent c)) sizes)
 
   for_sizes : IsFor z c.found
   for_sizes =
       let at = gets.begins.getting in
       let sound = sound_at z o s.words gets.first.before gets.first.part gets.first.after s.log at_first (GettingSet at.0 at.1) at.2 in
-      subst (λ (y : Layout). IsFor y c.found) (sound.2 ∙ sizes_here z o s.words gets.first.before gets.first.part gets.first.after s.log at_first) sound.1.sizes
+      subst (λ (y : Layout). IsFor y c.found) (sound.2 ∙ sizes) sound.1.sizes
 
   from_fresh : MakesOwn own (finding.fresh z (lists_spent c), c.found) s.words (events_of moves) (getting d)
   from_fresh = subst (λ (p : finding.Pair). MakesOwn own p s.words (events_of moves) (getting d)) begun made.0

@@ -15,7 +15,7 @@ use Rattle.partial_words.proofs.RecordLemmas.{length-pairs}
 use Rattle.partial_active.specs.Orderly.{Orderly, IsSlotMove, IsSlotOf, IsHeadOf, slot_at}
 use Rattle.partial_state.specs.Views.{Joined, IsHead}
 use Rattle.partial_state.specs.Holdings.Space.{Pool, Lists}
-use Rattle.partial_state.specs.Holdings.{Holding, Own, Space, first_of, unpublished}
+use Rattle.partial_state.specs.Holdings.{Holding, Claimed, Own, Space, first_of, unpublished}
 use Rattle.partial_state.specs.LawfulWords.{LawfulWords, IsOwn, IsTied, IsClaim}
 use Rattle.partial_state.specs.Loads.{IsSlotAnswer}
 use Rattle.partial_state.proofs.LoadLaw.{loads_are_true}
@@ -76,8 +76,7 @@ Touches z words own step =
     ((n : ℕ) × (step ≡ Load n))
     ⊎ (word_of step < slot_word z 0)
     ⊎ ((b : Own) × (v : ℕ) × (own ≡ Some b) × (b.stored < length b.words) × (step ≡ Store (b.at + b.stored) v))
-    ⊎ ((l v : ℕ) × (l < z.slots) × (step ≡ Store (slot_word z l) v)
-    × (((get_or words (slot_word z l) 0 ≡ 0) × (1 < v)) ⊎ ((v ≡ 1) × (1 < get_or words (slot_word z l) 0))))
+    ⊎ ((l v : ℕ) × (l < z.slots) × (step ≡ Store (slot_word z l) v) × (((get_or words (slot_word z l) 0 ≡ 0) × (1 < v)) ⊎ ((v ≡ 1) × (1 < get_or words (slot_word z l) 0))))
 
 -- a word that a step isn't about stays
 elsewhere : (words : List ℕ) (step : Step) (n : ℕ) → n ≢ word_of step → get_or (words_after words step) n 0 ≡ get_or words n 0
@@ -199,8 +198,12 @@ module _ (z : Layout) (o : Opening) (words : List ℕ) (before : List Part) (x :
           let held = holding_in s Joining (joined_since x) in
           let claim : IfSome held.claimed (IsClaim z words (holdings before ++ held ∷ holdings after) log) = all_at (λ (g : Holding). IfSome g.claimed (IsClaim z words (holdings before ++ held ∷ holdings after) log)) (holdings before) held (holdings after) memory.claims in
           let mine : IsClaim z words (holdings before ++ held ∷ holdings after) log (record { slot = slot; joined = None }) = if_some_at (IsClaim z words (holdings before ++ held ∷ holdings after) log) held.claimed (record { slot = slot; joined = None }) (ap slot_claimed is) claim in
-          let far : list_base z ≤ s.join.announcement = own_far z o words (holdings before) held (holdings after) log memory (record { space = Pool; at = s.join.announcement; words = announcement_block s.asked; stored = announcement_size (length s.asked) }) refl in
-          touches_same z words (own_at s Joining) (Store (slot_word s.join.sizes slot) s.join.announcement) step due' (inr (inr (inr (slot, s.join.announcement, below, ap (λ (y : Layout). Store (slot_word y slot) s.join.announcement) join_sizes, inl (mine.holds, omega (arith, far))))))
+          let block : Own = record { space = Pool; at = s.join.announcement; words = announcement_block s.asked; stored = announcement_size (length s.asked) } in
+          let far : list_base z ≤ s.join.announcement = own_far z o words (holdings before) held (holdings after) log memory block refl in
+          let is' : Store (slot_word s.join.sizes slot) s.join.announcement ≡ Store (slot_word z slot) s.join.announcement
+          = ap (λ (y : Layout). Store (slot_word y slot) s.join.announcement) join_sizes in
+          touches_same z words (own_at s Joining) (Store (slot_word s.join.sizes slot) s.join.announcement) step due'
+          (inr (inr (inr (slot, s.join.announcement, below, is', inl (mine.holds, omega (arith, far))))))
       by_stage (JoinedIn slot) is = let bad : None ≡ Some step = sym (ap (λ (j : JoinStage). join_step s.join.sizes s.join.announcement j) is) ∙ due in absurd cc
       by_stage Spent is = let bad : None ≡ Some step = sym (ap (λ (j : JoinStage). join_step s.join.sizes s.join.announcement j) is) ∙ due in absurd cc
 
@@ -234,12 +237,15 @@ module _ (z : Layout) (o : Opening) (words : List ℕ) (before : List Part) (x :
       let held = holding_in s Leaving (joined_since x) in
       let hs = holdings before ++ held ∷ holdings after in
       let announced : Joined = record { at = s.join.announcement; indices = s.asked; since = joined_since x } in
-      let claim : IfSome held.claimed (IsClaim z words hs log) = all_at (λ (g : Holding). IfSome g.claimed (IsClaim z words hs log)) (holdings before) held (holdings after) memory.claims in
-      let mine : IsClaim z words hs log (record { slot = s.leave.slot; joined = Some announced }) = if_some_at (IsClaim z words hs log) held.claimed (record { slot = s.leave.slot; joined = Some announced }) refl claim in
+      let claim : IfSome held.claimed (IsClaim z words hs log)
+      = all_at (λ (g : Holding). IfSome g.claimed (IsClaim z words hs log)) (holdings before) held (holdings after) memory.claims in
+      let taken : Claimed = record { slot = s.leave.slot; joined = Some announced } in
+      let mine : IsClaim z words hs log taken = if_some_at (IsClaim z words hs log) held.claimed taken refl claim in
       let stands = mine.holds in
       let same = stands.0 in
       let from = stands.2.whole.from in
-      touches_same z words None (Store (slot_word z s.leave.slot) 1) step (sym (leave_due z o words before x after log w e) ∙ due) (inr (inr (inr (s.leave.slot, 1, below, refl, inr (refl, omega (arith, same, from))))))
+      touches_same z words None (Store (slot_word z s.leave.slot) 1) step (sym (leave_due z o words before x after log w e) ∙ due)
+      (inr (inr (inr (s.leave.slot, 1, below, refl, inr (refl, omega (arith, same, from))))))
   touches_at (Finished r) step e due = let bad : None ≡ Some step = due in absurd cc
 
   core_moves : (step : Step) → step_of s ≡ Some step → Orderly z (words_after words step) → (l : ℕ) → l < z.slots → IsSlotMove z words (words_after words step) l

@@ -33,20 +33,27 @@ abbrev pub ArePublished : Layout → List ℕ → List Holding → ℕ → ℕ �
 ArePublished z words hs at size = (k : ℕ) → k < size → (list_base z ≤ at + k) × (at + k < total z) × IsPublished z words (unpublished hs) (at + k)
 
 module _ (z : Layout) (o : Opening) (words : List ℕ) (hs : List Holding) (log : List Applied) (w : LawfulWords z o words hs log) where
+  -- an announcement of so many indices is published there, and a list of so many words
+  abbrev AnnouncesSo : ℕ → List ℕ → Type 0
+  AnnouncesSo at named = (indices : List ℕ) × (length indices ≡ length named) × IsAnnounced z words (unpublished hs) at indices
+
+  abbrev ListsSo : ℕ → Ranges → Type 0
+  ListsSo at list = (other : Ranges) × (length (list_block other) ≡ length (list_block list)) × IsPublishedList z words (unpublished hs) at other
+
   -- what the announcement in a slot tells: a published block of the pool
-  announced_in : (l : ℕ) (named : List ℕ) → l < z.slots → IsAnnouncement z words (slot_at z words l) named → (indices : List ℕ) × (length indices ≡ length named) × IsAnnounced z words (unpublished hs) (slot_at z words l) indices
+  announced_in : (l : ℕ) (named : List ℕ) → l < z.slots → IsAnnouncement z words (slot_at z words l) named → AnnouncesSo (slot_at z words l) named
   announced_in l named below there = by_answer (slot_now z o words hs log w l below)
     where
-      by_answer : IsSlotAnswer z words (unpublished hs) l (slot_at z words l) → (indices : List ℕ) × (length indices ≡ length named) × IsAnnounced z words (unpublished hs) (slot_at z words l) indices
+      by_answer : IsSlotAnswer z words (unpublished hs) l (slot_at z words l) → AnnouncesSo (slot_at z words l) named
       by_answer (inl empty) = let from = there.from in absurd (omega (arith, from, empty))
       by_answer (inr (inl vacated)) = let from = there.from in let is = vacated.0 in absurd (omega (arith, from, is))
       by_answer (inr (inr a)) = (a.0, (same_named words (slot_at z words l) a.0 named a.1.whole.stands there.stands).0, a.1)
 
   -- and the list at the list head
-  listed_at : (list : Ranges) → IsVacatedList z words (head_at z words) list → (other : Ranges) × (length (list_block other) ≡ length (list_block list)) × IsPublishedList z words (unpublished hs) (head_at z words) other
+  listed_at : (list : Ranges) → IsVacatedList z words (head_at z words) list → ListsSo (head_at z words) list
   listed_at list there = by_head w.head
     where
-      by_head : IsHead z words (unpublished hs) (head_at z words) → (other : Ranges) × (length (list_block other) ≡ length (list_block list)) × IsPublishedList z words (unpublished hs) (head_at z words) other
+      by_head : IsHead z words (unpublished hs) (head_at z words) → ListsSo (head_at z words) list
       by_head (inl none) = let from = there.from in absurd (omega (arith, from, none))
       by_head (inr a) =
           let mine = (list_reads_back words (head_at z words) list there.stands).count in
@@ -56,7 +63,8 @@ module _ (z : Layout) (o : Opening) (words : List ℕ) (hs : List Holding) (log 
           (a.0, omega (arith, mine, theirs, one, two), a.1)
 
   -- each word of the two is published
-  announced_words : (l : ℕ) (named : List ℕ) → l < z.slots → IsAnnouncement z words (slot_at z words l) named → ArePublished z words hs (slot_at z words l) (length (announcement_block named))
+  announced_words : (l : ℕ) (named : List ℕ) → l < z.slots → IsAnnouncement z words (slot_at z words l) named →
+      ArePublished z words hs (slot_at z words l) (length (announcement_block named))
   announced_words l named below there k lt =
       let a = announced_in l named below there in
       let size = a.1 in
@@ -96,10 +104,12 @@ abbrev pub KeepsPublished : Layout → List (List ℕ) → List ℕ → List Hol
 KeepsPublished z past words hs = (at : ℕ) (block : List ℕ) → AtSome (Publishes z at block) past → ArePublished z words hs at (length block)
 
 -- with what these words publish
-pub keeps_now : (z : Layout) (o : Opening) (words : List ℕ) (hs : List Holding) (log : List Applied) (past : List (List ℕ)) → LawfulWords z o words hs log → KeepsPublished z past words hs → KeepsPublished z (words ∷ past) words hs
+pub keeps_now : (z : Layout) (o : Opening) (words : List ℕ) (hs : List Holding) (log : List Applied) (past : List (List ℕ)) →
+    LawfulWords z o words hs log → KeepsPublished z past words hs → KeepsPublished z (words ∷ past) words hs
 keeps_now z o words hs log past w keeps at block some = elim some [ inl now ↦ published_now z o words hs log w at block now | inr before ↦ keeps at block before ]
 
-module _ (z : Layout) (o : Opening) (words : List ℕ) (before : List Part) (x : Part) (after : List Part) (log : List Applied) (c : CoreState) (step : Step) (leads : LeadsOn z o words before x after log c step) where
+module _ (z : Layout) (o : Opening) (words : List ℕ) (before : List Part) (x : Part) (after : List Part) (log : List Applied) (c : CoreState) (step : Step)
+    (leads : LeadsOn z o words before x after log c step) where
   -- a published block stands yet, and goes on being published
   stands_yet : (at : ℕ) (block : List ℕ) → ArePublished z words (holdings (before ++ x ∷ after)) at (length block) → StandsAt words at block → StandsAt (words_after words step) at block
   stands_yet at block published stands k lt =
@@ -125,4 +135,5 @@ module _ (z : Layout) (o : Opening) (words : List ℕ) (before : List Part) (x :
 pub steps_are_orderly : StepsAreOrderly
 steps_are_orderly z o words before x after log c step w m due =
     let none : KeepsPublished z [] words (holdings (before ++ x ∷ after)) = λ at block some. absurd some in
-    step_orderly z o words before x after log c step (steps_stay_lawful z o words before x after log c step w m due) (words ∷ []) w m due (keeps_now z o words (holdings (before ++ x ∷ after)) log [] w.memory none)
+    let keeps = keeps_now z o words (holdings (before ++ x ∷ after)) log [] w.memory none in
+    step_orderly z o words before x after log c step (steps_stay_lawful z o words before x after log c step w m due) (words ∷ []) w m due keeps
