@@ -13,7 +13,8 @@ use Rattle.partial_core.specs.Lawful.{Lawful}
 
 -- lawful words are orderly
 abbrev pub LawfulIsOrderly : Type 0
-LawfulIsOrderly = (z : Layout) (o : Opening) (words : List ℕ) (parts : List Part) (log : List Applied) → Lawful z o words parts log → Orderly z words
+LawfulIsOrderly = (z : Layout) (o : Opening) (words : List ℕ) (parts : List Part) (log : List Applied) →
+    Lawful z o words parts log → Orderly z words
 
 -- the due step of any port is an orderly event, behind the words that it changes
 abbrev pub StepsAreOrderly : Type 0
