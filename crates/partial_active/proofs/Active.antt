@@ -1,5 +1,5 @@
 -- A getSet that is answered from orderly words finds the active set.
-use Rattle.std.proofs.Common.{ℕ, ◌≡◌, ◌+◌, ◌-◌, ◌*◌, ◌<◌, ◌≤◌, ◌⊎◌, min, Bool, true, false, ◌||◌, ◌&&◌, not, eqb, ltb, Some, None, is_some, MatchBool, List, [], ◌∷◌, ◌++◌, length, take, get_or, slice_index, cond, inl, inr, refl, sym, ap, subst, ◌∙◌, arith}
+use Rattle.std.proofs.Common.{ℕ, ◌≡◌, ◌+◌, ◌-◌, ◌*◌, ◌<◌, ◌≤◌, ◌⊎◌, min, Bool, true, false, ◌||◌, ◌&&◌, not, eqb, ltb, Some, None, is_some, List, [], ◌∷◌, ◌++◌, length, take, get_or, slice_index, cond, inl, inr, refl, sym, ap, subst, ◌∙◌, arith}
 use Rattle.std.proofs.lemmas.Bool.{false≢true, cases_eq, cases_lt, cond_both, or_cases, ltb-false, eqb-true, eqb-false, eq-eqb}
 use Rattle.std.proofs.lemmas.List.{take_more, take_all, get_or-take, length_push}
 use Rattle.std.proofs.lemmas.List.Folds.{list_any-append}
@@ -10,8 +10,7 @@ use Rattle.partial_words.specs.Layout.{Layout, IsLayout, slot_counter, list_head
 use Rattle.partial_words.specs.Record.{StandsAt}
 use Rattle.partial_words.specs.Announcement.{announcement_block, announcement_size}
 use Rattle.partial_words.specs.VacatedList.{list_block}
-use Rattle.partial_words.specs.Step.{answer_of, words_after}
-use Rattle.partial_words.specs.declared.step.Event.{Event}
+use Rattle.partial_words.specs.Step.{answer_of}
 use Rattle.partial_words.proofs.BlockLemmas.{announcement_reads_back, list_reads_back}
 use Rattle.partial_active.specs.declared.get_set.Stage.{Stage}
 use Rattle.partial_active.specs.declared.get_set.Stage.TheVariants.{Head, ListLen, ListLow, ListHigh, Counter, Slot, Len, Index, Claim, Write, Publish, Done}
@@ -19,13 +18,14 @@ use Rattle.partial_active.specs.IndexSet.{has_index, with_index}
 use Rattle.partial_active.specs.Found.{Buffers, IsFor, begins_at}
 use Rattle.partial_active.specs.GetSet.{Pair, fresh, step_at, step_of, advance, advance_at, left_of, after_walk, at_slot, come_to, pass_interval, note_slot, in_stage, next_words}
 use Rattle.partial_active.specs.GetSetAnswers.{EndsBelow, IsListHead, IsListLen, IsSlotWord, is_possible_at, IsWalking, goes_at, IsPossible, GoTogether}
-use Rattle.partial_active.specs.Orderly.{slot_at, head_at, IsAnnouncement, IsVacatedList, IsSlotOf, Orderly, ComesFrom}
-use Rattle.partial_active.specs.Moments.{OnEach, AtSome, IsOrderlyRun, LeadsTo, all_moments, own_moments, MakesOwn}
-use Rattle.partial_active.specs.ActiveSet.{Names, FindsActiveSet}
+use Rattle.partial_active.specs.Orderly.{slot_at, head_at, IsAnnouncement, IsVacatedList, IsSlotOf, Orderly}
+use Rattle.partial_active.specs.Moments.{OnEach, AtSome, words_behind, own_moments}
+use Rattle.partial_active.specs.ActiveSet.{Names, FindsActiveSet, GetSetsFind, GetSetsMakeFewSteps, OrderlyAnswersArePossible}
 use Rattle.partial_active.proofs.Extended.{length_normal, held_extended}
 use Rattle.partial_active.proofs.Walk.{begun}
 use Rattle.partial_active.proofs.Answered.{walk_begins, walk_next, walk_noted, at_with, keeps_head, keeps_at}
 use Rattle.partial_active.proofs.Sizes.{sizes_at}
+use Rattle.partial_active.proofs.Orders.{ComesFrom, IsPairwiseOrderly, LeadsTo, own_leads, moments_of, moments_to_end}
 use Rattle.partial_active.proofs.Known.{Past, some_both, some_gives, KeepsFirst, Common, Listed, CompleteAt, IsHeadList, Walked, IsLoaded, AllComplete, walked_of, common_of, finished_of, knows_at, Knows}
 
 -- what the list has once an index was put into it
@@ -534,7 +534,7 @@ unfoldable pub onto : Past → Past → Past
 onto [] past = past
 onto (w ∷ ws) past = onto ws (w ∷ past)
 
-run : (s : Layout) → IsLayout s → (first : List ℕ) (ms past : Past) (p q : Pair) → IsOrderlyRun s past ms → Reached s first past p → LeadsTo p ms q → Reached s first (onto ms past) q
+run : (s : Layout) → IsLayout s → (first : List ℕ) (ms past : Past) (p q : Pair) → IsPairwiseOrderly s past ms → Reached s first past p → LeadsTo p ms q → Reached s first (onto ms past) q
 unfolding onto
 run s layout first [] past p q orderly reached leads = subst (Reached s first past) (sym leads) reached
 run s layout first (w ∷ ws) past p q orderly reached leads =
@@ -597,7 +597,7 @@ finished_from s first past (Publish at) p e knows = knows
 finished_from s first past Done p e knows = knows
 
 -- a finished getSet has found the active set over the moments of its steps
-pub finds : (s : Layout) → IsLayout s → (spent : Bool) (f : Buffers) → IsFor s f → (ms : Past) (q : Pair) → IsOrderlyRun s [] ms → LeadsTo (fresh s spent, f) ms q → step_of q.0 ≡ None → FindsActiveSet s ms q.1.indices
+pub finds : (s : Layout) → IsLayout s → (spent : Bool) (f : Buffers) → IsFor s f → (ms : Past) (q : Pair) → IsPairwiseOrderly s [] ms → LeadsTo (fresh s spent, f) ms q → step_of q.0 ≡ None → FindsActiveSet s ms q.1.indices
 finds s layout spent f sizes [] q orderly leads done =
     let none : Some (Load (list_head s)) ≡ None = ap (λ (r : Pair). step_of r.0) (sym leads) ∙ done in
     let never : ⊥ = cc in absurd never
@@ -613,32 +613,13 @@ finds s layout spent f sizes (first ∷ ms) q orderly leads done =
       ];
     }
 
--- the port's events lead the machine through the moments before them
-pub own_leads : (own : ℕ) (p q : Pair) (words : List ℕ) (es : List Event) → MakesOwn own p words es q → LeadsTo p (own_moments own words es) q
-own_leads own p q words [] makes = makes
-own_leads own p q words (e ∷ es) makes =
-    let after = words_after words e.step in
-    let rest = own_moments own after es in
-    let by_port : (b : Bool) → MatchBool b ((step_of p.0 ≡ Some e.step) × MakesOwn own (advance p (answer_of words e.step)) after es q) (MakesOwn own p after es q) → LeadsTo p (cond b (words ∷ rest) rest) q = λ b. elim b as (λ b. MatchBool b ((step_of p.0 ≡ Some e.step) × MakesOwn own (advance p (answer_of words e.step)) after es q) (MakesOwn own p after es q) → LeadsTo p (cond b (words ∷ rest) rest) q) [
-      | true ↦ λ h. (e.step, h.0, own_leads own (advance p (answer_of words e.step)) q after es h.1)
-      | false ↦ λ h. own_leads own p q after es h
-    ] in
-    by_port (eqb e.port own) makes
-
--- an orderly run is orderly at the moments of one port
-pub own_orderly : (s : Layout) (own : ℕ) (all past : Past) (words : List ℕ) (es : List Event) → ((w : List ℕ) → OnEach (λ v. ComesFrom s v w) all → OnEach (λ v. ComesFrom s v w) past) → IsOrderlyRun s all (all_moments words es) → IsOrderlyRun s past (own_moments own words es)
-own_orderly s own all past words [] fewer orderly = tt
-own_orderly s own all past words (e ∷ es) fewer orderly = elim (eqb e.port own) as (λ b. IsOrderlyRun s past (cond b (words ∷ own_moments own (words_after words e.step) es) (own_moments own (words_after words e.step) es))) [
-  | true ↦ (orderly.0, fewer words orderly.1, own_orderly s own (words ∷ all) (words ∷ past) (words_after words e.step) es (λ w h. (h.0, fewer w h.1)) orderly.2)
-  | false ↦ own_orderly s own (words ∷ all) past (words_after words e.step) es (λ w h. fewer w h.1) orderly.2
-]
-
-pub finds_by_events : (s : Layout) (spent : Bool) (f : Buffers) (own : ℕ) (words : List ℕ) (events : List Event) (q : Pair) → IsLayout s → IsFor s f → IsOrderlyRun s [] (all_moments words events) → MakesOwn own (fresh s spent, f) words events q → step_of q.0 ≡ None → FindsActiveSet s (own_moments own words events) q.1.indices
+-- the same by the events of a run
+pub finds_by_events : GetSetsFind
 finds_by_events s spent f own words events q layout sizes orderly makes done =
-    finds s layout spent f sizes (own_moments own words events) q (own_orderly s own [] [] words events (λ w h. h) orderly) (own_leads own (fresh s spent, f) q words events makes) done
+    finds s layout spent f sizes (own_moments own words events) q (moments_of s own words events orderly) (own_leads own (fresh s spent, f) q words events makes) done
 
 -- a run up to a moment, and that moment
-pub run_split : (s : Layout) (ms past : Past) (now : List ℕ) → IsOrderlyRun s past (ms ++ now ∷ []) → IsOrderlyRun s past ms × Orderly s now × OnEach (λ v. ComesFrom s v now) (onto ms past)
+pub run_split : (s : Layout) (ms past : Past) (now : List ℕ) → IsPairwiseOrderly s past (ms ++ now ∷ []) → IsPairwiseOrderly s past ms × Orderly s now × OnEach (λ v. ComesFrom s v now) (onto ms past)
 unfolding onto
 run_split s [] past now orderly = (tt, orderly.0, orderly.1)
 run_split s (w ∷ ws) past now orderly =
@@ -646,7 +627,7 @@ run_split s (w ∷ ws) past now orderly =
     ((orderly.0, orderly.1, rest.0), rest.1, rest.2)
 
 -- orderly words give possible answers
-pub possible_next : (s : Layout) (spent : Bool) (f : Buffers) (ms : Past) (now : List ℕ) (q : Pair) (step : Step) → IsLayout s → IsFor s f → IsOrderlyRun s [] (ms ++ now ∷ []) → LeadsTo (fresh s spent, f) ms q → step_of q.0 ≡ Some step → IsPossible q (answer_of now step)
+possible_next : (s : Layout) (spent : Bool) (f : Buffers) (ms : Past) (now : List ℕ) (q : Pair) (step : Step) → IsLayout s → IsFor s f → IsPairwiseOrderly s [] (ms ++ now ∷ []) → LeadsTo (fresh s spent, f) ms q → step_of q.0 ≡ Some step → IsPossible q (answer_of now step)
 possible_next s spent f [] now q step layout sizes orderly leads e =
     let due : step_of (fresh s spent) ≡ Some step = ap (λ (r : Pair). step_of r.0) (sym leads) ∙ e in
     subst (λ r. IsPossible r (answer_of now step)) (sym leads) (head_reached s layout spent f sizes now orderly.0 step due).0
@@ -656,26 +637,31 @@ possible_next s spent f (first ∷ ms) now q step layout sizes orderly leads e =
     let reached = run s layout first ms (first ∷ []) (advance (fresh s spent, f) (answer_of first leads.0)) q split.0 begun.1 leads.2 in
     (step_from s q reached.sizes layout first (onto ms (first ∷ [])) now split.1 split.2 reached.together reached.knows step e).0
 
+pub possible_by_events : OrderlyAnswersArePossible
+possible_by_events s spent f own words events q step layout sizes orderly makes =
+    possible_next s spent f (own_moments own words events) (words_behind words events) q step layout sizes (moments_to_end s own words events orderly)
+    (own_leads own (fresh s spent, f) q words events makes)
+
 -- a run from a fresh machine, wherever it has come to
-pub reached_from : (s : Layout) (spent : Bool) (f : Buffers) (first : List ℕ) (ms : Past) (q : Pair) → IsLayout s → IsFor s f → IsOrderlyRun s [] (first ∷ ms) → LeadsTo (fresh s spent, f) (first ∷ ms) q → Reached s first (onto ms (first ∷ [])) q
+pub reached_from : (s : Layout) (spent : Bool) (f : Buffers) (first : List ℕ) (ms : Past) (q : Pair) → IsLayout s → IsFor s f → IsPairwiseOrderly s [] (first ∷ ms) → LeadsTo (fresh s spent, f) (first ∷ ms) q → Reached s first (onto ms (first ∷ [])) q
 reached_from s spent f first ms q layout sizes orderly leads =
     run s layout first ms (first ∷ []) (advance (fresh s spent, f) (answer_of first leads.0)) q orderly.2 (head_reached s layout spent f sizes first orderly.0 leads.0 leads.1).1 leads.2
 
 -- a run makes no more steps than were left
-run_steps : (s : Layout) → IsLayout s → (first : List ℕ) (ms past : Past) (p q : Pair) → IsOrderlyRun s past ms → Reached s first past p → LeadsTo p ms q → length ms + left_of q.0 ≤ left_of p.0
+run_steps : (s : Layout) → IsLayout s → (first : List ℕ) (ms past : Past) (p q : Pair) → IsPairwiseOrderly s past ms → Reached s first past p → LeadsTo p ms q → length ms + left_of q.0 ≤ left_of p.0
 run_steps s layout first [] past p q orderly reached leads = let same : left_of q.0 ≡ left_of p.0 = ap (λ (r : Pair). left_of r.0) leads in omega arith
 run_steps s layout first (w ∷ ws) past p q orderly reached leads =
     let next = step_from s p reached.sizes layout first past w orderly.0 orderly.1 reached.together reached.knows leads.0 leads.1 in
     let rest = run_steps s layout first ws (w ∷ past) (advance p (answer_of w leads.0)) q orderly.2 next.1 leads.2 in
     omega (arith, next.2)
 
-steps_from_fresh : (s : Layout) (spent : Bool) (f : Buffers) (ms : Past) (q : Pair) → IsLayout s → IsFor s f → IsOrderlyRun s [] ms → LeadsTo (fresh s spent, f) ms q → length ms ≤ s.slots * (s.m + 3) + s.lists + 6
+steps_from_fresh : (s : Layout) (spent : Bool) (f : Buffers) (ms : Past) (q : Pair) → IsLayout s → IsFor s f → IsPairwiseOrderly s [] ms → LeadsTo (fresh s spent, f) ms q → length ms ≤ s.slots * (s.m + 3) + s.lists + 6
 steps_from_fresh s spent f [] q layout sizes orderly leads = omega arith
 steps_from_fresh s spent f (first ∷ ms) q layout sizes orderly leads =
     let begun = head_reached s layout spent f sizes first orderly.0 leads.0 leads.1 in
     let rest = run_steps s layout first ms (first ∷ []) (advance (fresh s spent, f) (answer_of first leads.0)) q orderly.2 begun.1 leads.2 in
     omega (arith, begun.2)
 
-pub steps_by_events : (s : Layout) (spent : Bool) (f : Buffers) (own : ℕ) (words : List ℕ) (events : List Event) (q : Pair) → IsLayout s → IsFor s f → IsOrderlyRun s [] (all_moments words events) → MakesOwn own (fresh s spent, f) words events q → length (own_moments own words events) ≤ s.slots * (s.m + 3) + s.lists + 6
+pub steps_by_events : GetSetsMakeFewSteps
 steps_by_events s spent f own words events q layout sizes orderly makes =
-    steps_from_fresh s spent f (own_moments own words events) q layout sizes (own_orderly s own [] [] words events (λ w h. h) orderly) (own_leads own (fresh s spent, f) q words events makes)
+    steps_from_fresh s spent f (own_moments own words events) q layout sizes (moments_of s own words events orderly) (own_leads own (fresh s spent, f) q words events makes)

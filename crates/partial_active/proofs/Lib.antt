@@ -4,6 +4,7 @@ pub mod Walk
 pub mod Answered
 pub mod Sizes
 pub mod Known
+pub mod Orders
 pub mod Active
 pub mod Moments
 pub mod Lists

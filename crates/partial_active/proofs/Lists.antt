@@ -18,12 +18,13 @@ use Rattle.partial_active.specs.Found.{Buffers, IsFor, begins_at}
 use Rattle.partial_active.specs.GetSet.{Pair, fresh, step_at, step_of, advance, advance_at, after_walk, at_slot, come_to, pass_interval, note_slot, in_stage, next_words}
 use Rattle.partial_active.specs.GetSetAnswers.{EndsBelow, is_possible_at, IsPossible, IsWalking, IsAtSlot, goes_at, GoTogether}
 use Rattle.partial_active.specs.Orderly.{slot_at, head_at, IsVacatedList, Orderly}
-use Rattle.partial_active.specs.Moments.{AtSome, AtSomeStep, IsOrderlyRun, LeadsTo}
-use Rattle.partial_active.specs.VacatedLists.{WasVacated, IsListOf, FindsVacated, ClaimsWords, StoresWord, IsStored, KeepsLists, is_reading}
+use Rattle.partial_active.specs.Moments.{AtSome, AtSomeStep, own_moments}
+use Rattle.partial_active.specs.VacatedLists.{GetSetsKeepLists, WasVacated, IsListOf, FindsVacated, ClaimsWords, StoresWord, IsStored, KeepsLists, is_reading}
 use Rattle.partial_active.proofs.Extended.{held_extended, holds_extended}
 use Rattle.partial_active.proofs.Walk.{interval_behind, walking_on}
 use Rattle.partial_active.proofs.Answered.{walk_begins, walk_next, walk_noted, slot_behind, at_with}
 use Rattle.partial_active.proofs.Known.{Past, Listed, Knows, knows_at}
+use Rattle.partial_active.proofs.Orders.{IsPairwiseOrderly, LeadsTo, own_leads, moments_of}
 use Rattle.partial_active.proofs.Active.{Reached, onto, onto_some, reached_from}
 use Rattle.partial_active.proofs.Moments.{at_later, at_here, at_split, Behind, holds_behind}
 
@@ -410,7 +411,7 @@ lists_begin s spent f first orderly =
     (λ e. (none, refl, refl, elim orderly.head [ inl empty ↦ absurd (eqb-false x 0 e empty) | inr there ↦ there ]))
 
 -- wherever a run has come to
-lists_behind : (s : Layout) (spent : Bool) (f : Buffers) (first : List ℕ) (ms : Past) (q : Pair) → IsLayout s → IsFor s f → IsOrderlyRun s [] (first ∷ ms) →
+lists_behind : (s : Layout) (spent : Bool) (f : Buffers) (first : List ℕ) (ms : Past) (q : Pair) → IsLayout s → IsFor s f → IsPairwiseOrderly s [] (first ∷ ms) →
     LeadsTo (fresh s spent, f) (first ∷ ms) q → ListsOf s (fresh s spent, f) first (first ∷ ms) q
 unfolding Steps
 lists_behind s spent f first ms q layout sizes orderly leads =
@@ -462,7 +463,7 @@ list_read s start first ms (Publish at) q e lists = lists.0.list
 list_read s start first ms Done q e lists = lists.0.list
 
 -- the lists of vacated slots, for each machine that a run has come to
-pub keeps_lists : (s : Layout) (spent : Bool) (f : Buffers) (moments : Past) (q : Pair) → IsLayout s → IsFor s f → IsOrderlyRun s [] moments → LeadsTo (fresh s spent, f) moments q →
+keeps_lists : (s : Layout) (spent : Bool) (f : Buffers) (moments : Past) (q : Pair) → IsLayout s → IsFor s f → IsPairwiseOrderly s [] moments → LeadsTo (fresh s spent, f) moments q →
     KeepsLists s (fresh s spent, f) moments q
 keeps_lists s spent f [] q layout sizes orderly leads =
     let fresh_stage : q.0.stage ≡ Head = ap (λ (r : Pair). r.0.stage) leads in
@@ -508,3 +509,7 @@ keeps_lists s spent f (first ∷ ms) q layout sizes orderly leads =
           (λ e. (refl, refl, refl))
           (λ e. absurd (omega (arith, ltb-false (list_end q.0.sizes) (x + count) e, past_end))));
     }
+
+pub lists_by_events : GetSetsKeepLists
+lists_by_events s spent f own words events q layout sizes orderly makes =
+    keeps_lists s spent f (own_moments own words events) q layout sizes (moments_of s own words events orderly) (own_leads own (fresh s spent, f) q words events makes)

@@ -8,9 +8,10 @@ use Rattle.partial_words.specs.Step.{answer_of}
 use Rattle.partial_active.specs.Found.{Buffers, IsFor}
 use Rattle.partial_active.specs.GetSet.{Pair, fresh, step_of, advance}
 use Rattle.partial_active.specs.GetSetAnswers.{GoTogether, IsPossible}
-use Rattle.partial_active.specs.Orderly.{Orderly, ComesFrom, head_at}
-use Rattle.partial_active.specs.Moments.{OnEach, AtSomeStep, IsOrderlyRun, LeadsTo, answered_from}
+use Rattle.partial_active.specs.Orderly.{Orderly, head_at}
+use Rattle.partial_active.specs.Moments.{OnEach, AtSomeStep, answered_from}
 use Rattle.partial_active.proofs.Known.{Past}
+use Rattle.partial_active.proofs.Orders.{ComesFrom, IsPairwiseOrderly, LeadsTo, run_front}
 use Rattle.partial_active.proofs.Active.{onto, run_split, step_from, reached_from}
 
 -- what held at some step goes on to be so
@@ -40,11 +41,6 @@ leads_push : (p q : Pair) (ms : Past) (now : List ℕ) (step : Step) → LeadsTo
 leads_push p q [] now step leads e = (step, ap (λ (r : Pair). step_of r.0) (sym leads) ∙ e, ap (λ (r : Pair). advance r (answer_of now step)) leads)
 leads_push p q (w ∷ ws) now step leads e = (leads.0, leads.1, leads_push (advance p (answer_of w leads.0)) q ws now step leads.2 e)
 
--- the front of an orderly run is one
-run_front : (s : Layout) (past ms more : Past) → IsOrderlyRun s past (ms ++ more) → IsOrderlyRun s past ms
-run_front s past [] more run = tt
-run_front s past (w ∷ ws) more run = (run.0, run.1, run_front s (w ∷ past) ws more run.2)
-
 -- what holds of the moments put behind holds of them
 onto_back : (P : List ℕ → Type 0) (ms past : Past) → OnEach P (onto ms past) → OnEach P past × OnEach P ms
 unfolding onto
@@ -64,13 +60,13 @@ pub record Behind (s : Layout) (spent : Bool) (f : Buffers) (done : Past) (p : P
 module _ (s : Layout) (layout : IsLayout s) (spent : Bool) (f : Buffers) (sizes : IsFor s f) (first : List ℕ) (Holds : Past → Pair → Type 0)
     (step : (done : Past) (p : Pair) (now : List ℕ) (st : Step) → Behind s spent f (first ∷ done) p now → step_of p.0 ≡ Some st → Holds (first ∷ done) p →
     Holds ((first ∷ done) ++ now ∷ []) (advance p (answer_of now st))) where
-  go : (done rest : Past) (p q : Pair) → IsOrderlyRun s [] ((first ∷ done) ++ rest) → LeadsTo (fresh s spent, f) (first ∷ done) p → LeadsTo p rest q → Holds (first ∷ done) p →
+  go : (done rest : Past) (p q : Pair) → IsPairwiseOrderly s [] ((first ∷ done) ++ rest) → LeadsTo (fresh s spent, f) (first ∷ done) p → LeadsTo p rest q → Holds (first ∷ done) p →
       Holds ((first ∷ done) ++ rest) q
   unfolding onto
   go done [] p q orderly before leads holds = subst (λ (ms : Past). Holds ms q) (sym (append-nil (first ∷ done))) (subst (λ (r : Pair). Holds (first ∷ done) r) (sym leads) holds)
   go done (w ∷ ws) p q orderly before leads holds =
       let joined : ((first ∷ done) ++ w ∷ []) ++ ws ≡ (first ∷ done) ++ w ∷ ws = append_assoc (first ∷ done) (w ∷ []) ws in
-      let whole : IsOrderlyRun s [] (((first ∷ done) ++ w ∷ []) ++ ws) = subst (IsOrderlyRun s []) (sym joined) orderly in
+      let whole : IsPairwiseOrderly s [] (((first ∷ done) ++ w ∷ []) ++ ws) = subst (IsPairwiseOrderly s []) (sym joined) orderly in
       let split = run_split s (first ∷ done) [] w (run_front s [] ((first ∷ done) ++ w ∷ []) ws whole) in
       let reached = reached_from s spent f first done p layout sizes split.0 before in
       let behind : Behind s spent f (first ∷ done) p w = record {
@@ -85,7 +81,7 @@ module _ (s : Layout) (layout : IsLayout s) (spent : Bool) (f : Buffers) (sizes 
       (go (done ++ w ∷ []) ws (advance p (answer_of w leads.0)) q whole (leads_push (fresh s spent, f) p (first ∷ done) w leads.0 before leads.1) leads.2
       (step done p w leads.0 behind leads.1 holds))
 
-  pub holds_behind : (ms : Past) (q : Pair) → Holds (first ∷ []) (advance (fresh s spent, f) (head_at s first)) → IsOrderlyRun s [] (first ∷ ms) →
+  pub holds_behind : (ms : Past) (q : Pair) → Holds (first ∷ []) (advance (fresh s spent, f) (head_at s first)) → IsPairwiseOrderly s [] (first ∷ ms) →
       LeadsTo (fresh s spent, f) (first ∷ ms) q → Holds (first ∷ ms) q
   holds_behind ms q base orderly leads =
       let is : leads.0 ≡ Load (list_head s) = cc in

@@ -26,12 +26,13 @@ use Rattle.partial_active.specs.Found.{Buffers, IsFor, begins_at}
 use Rattle.partial_active.specs.GetSet.{Pair, fresh, step_at, step_of, advance, advance_at, after_walk, at_slot, come_to, pass_interval, note_slot, in_stage, next_words}
 use Rattle.partial_active.specs.GetSetAnswers.{EndsBelow, is_possible_at, IsPossible, IsWalking, IsAtSlot, goes_at}
 use Rattle.partial_active.specs.Orderly.{slot_at, head_at, IsAnnouncement}
-use Rattle.partial_active.specs.Moments.{AtSome, AtSomeStep, IsOrderlyRun, LeadsTo, own_moments}
+use Rattle.partial_active.specs.Moments.{AtSome, AtSomeStep, own_moments}
 use Rattle.partial_active.specs.ActiveSet.{Announcement, FindsAnnouncement, with_all, each_once, AreRising, AreInOrder, GetSetsFindInOrder}
 use Rattle.partial_active.proofs.Walk.{begun}
 use Rattle.partial_active.proofs.Answered.{walk_begins, walk_next, walk_noted, at_with}
 use Rattle.partial_active.proofs.Known.{Past, IsLoaded}
-use Rattle.partial_active.proofs.Active.{same_named, loaded_stands, own_orderly, own_leads}
+use Rattle.partial_active.proofs.Active.{same_named, loaded_stands}
+use Rattle.partial_active.proofs.Orders.{IsPairwiseOrderly, LeadsTo, own_leads, moments_of}
 use Rattle.partial_active.proofs.Moments.{at_later, at_here, at_split, Behind, holds_behind}
 
 -- indices put at the end in two parts
@@ -416,7 +417,7 @@ named_ended s start ms (Publish at) q e w = w
 named_ended s start ms Done q e w = w
 
 -- a finished getSet names the indices in order
-names_in_order : (s : Layout) (spent : Bool) (f : Buffers) (ms : Past) (q : Pair) → IsLayout s → IsFor s f → IsOrderlyRun s [] ms → LeadsTo (fresh s spent, f) ms q → step_of q.0 ≡ None →
+names_in_order : (s : Layout) (spent : Bool) (f : Buffers) (ms : Past) (q : Pair) → IsLayout s → IsFor s f → IsPairwiseOrderly s [] ms → LeadsTo (fresh s spent, f) ms q → step_of q.0 ≡ None →
     AreInOrder s (fresh s spent, f) ms q.1.indices
 unfolding Steps
 names_in_order s spent f [] q layout sizes orderly leads done =
@@ -437,5 +438,5 @@ names_in_order s spent f (first ∷ ms) q layout sizes orderly leads done =
 
 pub names_by_events : GetSetsFindInOrder
 names_by_events s spent f own words events q layout sizes orderly makes done =
-    names_in_order s spent f (own_moments own words events) q layout sizes (own_orderly s own [] [] words events (λ w h. h) orderly)
+    names_in_order s spent f (own_moments own words events) q layout sizes (moments_of s own words events orderly)
     (own_leads own (fresh s spent, f) q words events makes) done

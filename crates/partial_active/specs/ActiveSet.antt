@@ -1,5 +1,5 @@
 -- The active set that a getSet finds over the moments of its steps, and the order in which it names the indices.
-use Rattle.std.specs.Prelude.{ℕ, ◌≡◌, ◌+◌, ◌*◌, ◌<◌, ◌≤◌, ◌↔◌, ◌++◌, Bool, true, nat_eq, Some, None, List, [], ◌∷◌, length, map, slice_index, Contains}
+use Rattle.std.specs.Prelude.{ℕ, ◌≡◌, ◌+◌, ◌*◌, ◌<◌, ◌≤◌, ◌↔◌, Bool, true, nat_eq, Some, None, List, [], ◌∷◌, length, map, slice_index, Contains}
 use Rattle.std.specs.List.{IsDistinct, flat_map}
 use Rattle.partial_words.specs.declared.step.Step.{Step}
 use Rattle.partial_words.specs.declared.step.Event.{Event}
@@ -11,7 +11,7 @@ use Rattle.partial_active.specs.Found.{Buffers, IsFor}
 use Rattle.partial_active.specs.GetSet.{Pair, fresh, step_of}
 use Rattle.partial_active.specs.GetSetAnswers.{IsPossible}
 use Rattle.partial_active.specs.Orderly.{slot_at, IsAnnouncement}
-use Rattle.partial_active.specs.Moments.{OnEach, AtSome, AtSomeStep, IsOrderlyRun, LeadsTo, MakesOwn, all_moments, own_moments}
+use Rattle.partial_active.specs.Moments.{OnEach, AtSome, AtSomeStep, IsOrderlyRun, MakesOwn, words_behind, own_moments}
 
 -- at that moment an announcement that names the index stands in a slot
 pub record Names (s : Layout) (index : ℕ) (words : List ℕ) : Type 0 where
@@ -70,23 +70,24 @@ pub record AreInOrder (s : Layout) (start : Pair) (moments : List (List ℕ)) (i
 -- a getSet finds the active set over the moments of its steps
 abbrev pub GetSetsFind : Type 0
 GetSetsFind = (s : Layout) (spent : Bool) (f : Buffers) (own : ℕ) (words : List ℕ) (events : List Event) (q : Pair) →
-    IsLayout s → IsFor s f → IsOrderlyRun s [] (all_moments words events) → MakesOwn own (fresh s spent, f) words events q →
+    IsLayout s → IsFor s f → IsOrderlyRun s words events → MakesOwn own (fresh s spent, f) words events q →
     step_of q.0 ≡ None → FindsActiveSet s (own_moments own words events) q.1.indices
 
 -- and names the indices in order
 abbrev pub GetSetsFindInOrder : Type 0
 GetSetsFindInOrder = (s : Layout) (spent : Bool) (f : Buffers) (own : ℕ) (words : List ℕ) (events : List Event) (q : Pair) →
-    IsLayout s → IsFor s f → IsOrderlyRun s [] (all_moments words events) → MakesOwn own (fresh s spent, f) words events q →
+    IsLayout s → IsFor s f → IsOrderlyRun s words events → MakesOwn own (fresh s spent, f) words events q →
     step_of q.0 ≡ None → AreInOrder s (fresh s spent, f) (own_moments own words events) q.1.indices
 
 -- it makes few steps
 abbrev pub GetSetsMakeFewSteps : Type 0
 GetSetsMakeFewSteps = (s : Layout) (spent : Bool) (f : Buffers) (own : ℕ) (words : List ℕ) (events : List Event) (q : Pair) →
-    IsLayout s → IsFor s f → IsOrderlyRun s [] (all_moments words events) → MakesOwn own (fresh s spent, f) words events q →
+    IsLayout s → IsFor s f → IsOrderlyRun s words events → MakesOwn own (fresh s spent, f) words events q →
     length (own_moments own words events) ≤ s.slots * (s.m + 3) + s.lists + 6
 
--- orderly words give possible answers
+-- a run of orderly events gives possible answers
 abbrev pub OrderlyAnswersArePossible : Type 0
-OrderlyAnswersArePossible = (s : Layout) (spent : Bool) (f : Buffers) (moments : List (List ℕ)) (now : List ℕ) (q : Pair) (step : Step) →
-    IsLayout s → IsFor s f → IsOrderlyRun s [] (moments ++ now ∷ []) → LeadsTo (fresh s spent, f) moments q →
-    step_of q.0 ≡ Some step → IsPossible q (answer_of now step)
+OrderlyAnswersArePossible = (s : Layout) (spent : Bool) (f : Buffers) (own : ℕ) (words : List ℕ) (events : List Event) (q : Pair)
+    (step : Step) →
+    IsLayout s → IsFor s f → IsOrderlyRun s words events → MakesOwn own (fresh s spent, f) words events q →
+    step_of q.0 ≡ Some step → IsPossible q (answer_of (words_behind words events) step)

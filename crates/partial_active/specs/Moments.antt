@@ -1,12 +1,12 @@
--- The moments of a run of the ports' steps, and a getSet that is answered from them.
-use Rattle.std.specs.Prelude.{ℕ, ◌≡◌, ◌==◌, ◌⊎◌, Some, List, [], ◌∷◌, MatchBool, if◌then◌else◌}
+-- A run of the ports' events, its moments, and a getSet that is answered from them.
+use Rattle.std.specs.Prelude.{ℕ, ◌≡◌, ◌<◌, ◌==◌, ◌⊎◌, Some, List, [], ◌∷◌, MatchBool, if◌then◌else◌}
 use Rattle.std.specs.Option.{option_map_or}
-use Rattle.partial_words.specs.declared.step.Step.{Step}
 use Rattle.partial_words.specs.declared.step.Event.{Event}
 use Rattle.partial_words.specs.Layout.{Layout}
+use Rattle.partial_words.specs.Record.{StandsAt}
 use Rattle.partial_words.specs.Step.{answer_of, words_after}
 use Rattle.partial_active.specs.GetSet.{Pair, step_of, advance}
-use Rattle.partial_active.specs.Orderly.{Orderly, ComesFrom}
+use Rattle.partial_active.specs.Orderly.{Orderly, Publishes, IsSlotMove}
 
 -- what holds at each of the moments, and at some of them
 abbrev pub OnEach : (List ℕ → Type 0) → List (List ℕ) → Type 0
@@ -17,22 +17,28 @@ abbrev pub AtSome : (List ℕ → Type 0) → List (List ℕ) → Type 0
 AtSome P [] = ⊥
 AtSome P (words ∷ more) = P words ⊎ AtSome P more
 
--- the words of each moment are orderly, and come from those of every earlier one
-abbrev pub IsOrderlyRun : Layout → List (List ℕ) → List (List ℕ) → Type 0
-IsOrderlyRun s past [] = Unit {0}
-IsOrderlyRun s past (words ∷ more) =
-    Orderly s words × OnEach (λ earlier. ComesFrom s earlier words) past × IsOrderlyRun s (words ∷ past) more
+-- an event leaves orderly words, moves a slot in no other way, and changes no block that was published at a moment so far
+pub record IsOrderlyEvent (s : Layout) (past : List (List ℕ)) (before after : List ℕ) : Type 0 where
+  pub orderly : Orderly s after
+  pub slots : (slot : ℕ) → slot < s.slots → IsSlotMove s before after slot
+  pub blocks : (at : ℕ) (block : List ℕ) → AtSome (Publishes s at block) past → StandsAt before at block → StandsAt after at block
 
--- the machine's steps, each answered from the words of its moment, lead it from p to q
-abbrev pub LeadsTo : Pair → List (List ℕ) → Pair → Type 0
-LeadsTo p [] q = q ≡ p
-LeadsTo p (words ∷ more) q = (step : Step) × (step_of p.0 ≡ Some step) × LeadsTo (advance p (answer_of words step)) more q
+-- each of the events is orderly, behind these moments
+abbrev pub AreOrderly : Layout → List (List ℕ) → List ℕ → List Event → Type 0
+AreOrderly s past words [] = Unit {0}
+AreOrderly s past words (e ∷ es) =
+    IsOrderlyEvent s (words ∷ past) words (words_after words e.step) × AreOrderly s (words ∷ past) (words_after words e.step) es
 
--- the words before each event, and before each event of the port
-abbrev pub all_moments : List ℕ → List Event → List (List ℕ)
-all_moments words [] = []
-all_moments words (e ∷ es) = words ∷ all_moments (words_after words e.step) es
+-- the words are orderly, and each of the events from them on is so
+abbrev pub IsOrderlyRun : Layout → List ℕ → List Event → Type 0
+IsOrderlyRun s words events = Orderly s words × AreOrderly s [] words events
 
+-- the words behind the events
+abbrev pub words_behind : List ℕ → List Event → List ℕ
+words_behind words [] = words
+words_behind words (e ∷ es) = words_behind (words_after words e.step) es
+
+-- the words before each event of the port
 abbrev pub own_moments : ℕ → List ℕ → List Event → List (List ℕ)
 own_moments own words [] = []
 own_moments own words (e ∷ es) =

@@ -1,4 +1,4 @@
--- Orderly words of an active set, and how the words of a moment come from those of an earlier one.
+-- Orderly words of an active set, the blocks that they publish, and how a slot may move.
 use Rattle.std.specs.Prelude.{ℕ, ◌≡◌, ◌+◌, ◌*◌, ◌<◌, ◌≤◌, ◌⊎◌, List, length, slice_index}
 use Rattle.partial_intervals.specs.Intervals.{Ranges, Holds, IsNormal}
 use Rattle.partial_words.specs.Layout.{Layout, slot_counter, list_head, list_counter, slot_word, list_base, list_end, pool_base, pool_end, greatest_list}
@@ -46,11 +46,16 @@ pub record Orderly (s : Layout) (words : List ℕ) : Type 0 where
   pub lists_from : list_base s ≤ slice_index words (list_counter s)
   pub lists_to : slice_index words (list_counter s) ≤ list_end s + 64 * greatest_list s
 
--- later words come from earlier ones: a slot goes from EMPTY to an announcement and from that to
--- VACATED, and a block that was published never changes
-pub record ComesFrom (s : Layout) (earlier later : List ℕ) : Type 0 where
-  pub slots : (slot : ℕ) → slot < s.slots →
-      (slot_at s later slot ≡ slot_at s earlier slot) ⊎ ((slot_at s earlier slot ≡ 0) ⊎ (slot_at s later slot ≡ 1))
-  pub announcements : (slot : ℕ) (named : List ℕ) → slot < s.slots → IsAnnouncement s earlier (slot_at s earlier slot) named →
-      StandsAt later (slot_at s earlier slot) (announcement_block named)
-  pub lists : (list : Ranges) → IsVacatedList s earlier (head_at s earlier) list → StandsAt later (head_at s earlier) (list_block list)
+-- the block is one that these words publish: the announcement that a slot refers to, or the list at the list head
+abbrev pub Publishes : Layout → ℕ → List ℕ → List ℕ → Type 0
+Publishes s at block words =
+    ((slot : ℕ) × (named : List ℕ) × (slot < s.slots) × (slot_at s words slot ≡ at) × IsAnnouncement s words at named
+    × (block ≡ announcement_block named))
+    ⊎ ((list : Ranges) × (head_at s words ≡ at) × IsVacatedList s words at list × (block ≡ list_block list))
+
+-- a slot stays as it is, goes from EMPTY to a whole announcement, or from an announcement to VACATED
+abbrev pub IsSlotMove : Layout → List ℕ → List ℕ → ℕ → Type 0
+IsSlotMove s before after slot =
+    (slot_at s after slot ≡ slot_at s before slot)
+    ⊎ ((slot_at s before slot ≡ 0) × ((named : List ℕ) × IsAnnouncement s after (slot_at s after slot) named))
+    ⊎ (((named : List ℕ) × IsAnnouncement s before (slot_at s before slot) named) × (slot_at s after slot ≡ 1))

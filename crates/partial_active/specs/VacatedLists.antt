@@ -2,6 +2,7 @@
 use Rattle.std.specs.Prelude.{ℕ, ◌≡◌, ◌+◌, ◌<◌, ◌≤◌, ◌↔◌, ◌⊎◌, Bool, true, false, Some, None, List, [], ◌∷◌, length, slice_index}
 use Rattle.partial_intervals.specs.Intervals.{Ranges, Holds, IsNormal}
 use Rattle.partial_words.specs.declared.step.Step.TheVariants.{Store, Exchange}
+use Rattle.partial_words.specs.declared.step.Event.{Event}
 use Rattle.partial_words.specs.Layout.{Layout, IsLayout, list_head, list_counter, list_base, list_end}
 use Rattle.partial_words.specs.VacatedList.{list_block}
 use Rattle.partial_active.specs.declared.get_set.Stage.{Stage}
@@ -9,7 +10,7 @@ use Rattle.partial_active.specs.declared.get_set.Stage.TheVariants.{Head, ListLe
 use Rattle.partial_active.specs.Found.{Buffers, IsFor}
 use Rattle.partial_active.specs.GetSet.{Pair, fresh, step_of, advance}
 use Rattle.partial_active.specs.Orderly.{slot_at, head_at, IsVacatedList}
-use Rattle.partial_active.specs.Moments.{AtSome, AtSomeStep, IsOrderlyRun, LeadsTo}
+use Rattle.partial_active.specs.Moments.{AtSome, AtSomeStep, IsOrderlyRun, MakesOwn, own_moments}
 
 -- the list was vacated: a normal form within the slots, and each of its slots was VACATED at one of the moments
 pub record WasVacated (s : Layout) (moments : List (List ℕ)) (list : Ranges) : Type 0 where
@@ -85,5 +86,6 @@ pub record KeepsLists (s : Layout) (start : Pair) (moments : List (List ℕ)) (q
 
 -- a getSet keeps the lists, wherever it has come to
 abbrev pub GetSetsKeepLists : Type 0
-GetSetsKeepLists = (s : Layout) (spent : Bool) (f : Buffers) (moments : List (List ℕ)) (q : Pair) →
-    IsLayout s → IsFor s f → IsOrderlyRun s [] moments → LeadsTo (fresh s spent, f) moments q → KeepsLists s (fresh s spent, f) moments q
+GetSetsKeepLists = (s : Layout) (spent : Bool) (f : Buffers) (own : ℕ) (words : List ℕ) (events : List Event) (q : Pair) →
+    IsLayout s → IsFor s f → IsOrderlyRun s words events → MakesOwn own (fresh s spent, f) words events q →
+    KeepsLists s (fresh s spent, f) (own_moments own words events) q

@@ -4,11 +4,13 @@
 ghost use Rattle.partial_active.specs.ActiveSet.{GetSetsFind, GetSetsFindInOrder, GetSetsMakeFewSteps, OrderlyAnswersArePossible};
 ghost use Rattle.partial_active.specs.VacatedLists.{GetSetsKeepLists};
 
-/// What a getSet finds, over all orders of the ports' steps. Let the words before each event be orderly
-/// and come from those before every earlier one, and let the events of one port be the steps of a fresh
-/// getSet, which they finish. Then it names every index of each announcement that stood in a slot from
-/// its first step to its last, and no index but those of announcements that stood in a slot at some
-/// moment of it. It makes at most S (m + 3) + L + 6 steps, for S slots, m components and L list words.
+/// What a getSet finds, over all orders of the ports' steps. Let the words be orderly at first, and let
+/// each event keep them so, take a slot only from EMPTY to a whole announcement and from that to VACATED,
+/// and change no block that a slot or the list head has referred to so far. Let the events of one port be
+/// the steps of a fresh getSet, which they finish. Then it names every index of each announcement that
+/// stood in a slot from its first step to its last, and no index but those of announcements that stood in
+/// a slot at some moment of it. It makes at most S (m + 3) + L + 6 steps, for S slots, m components and L
+/// list words.
 pub fn finds_the_active_set()
     ensures finds { GetSetsFind }
     ensures steps { GetSetsMakeFewSteps }
@@ -21,15 +23,15 @@ pub fn names_indices_in_order()
     ensures { GetSetsFindInOrder }
 {}
 
-/// What a getSet does with the lists of vacated slots, wherever it has come to: it reads the list at the
-/// list head and loads no slot of it; it publishes whole lists alone, of the slots of the list that it read
-/// and of those that it found vacated, on the words that it claimed; a lost exchange of the list head changes
-/// nothing; and list words that run out mark the port and leave it with all that it found.
+/// What a getSet does with the lists of vacated slots in such a run, wherever it has come to: it reads the
+/// list at the list head and loads no slot of it; it publishes whole lists alone, of the slots of the list
+/// that it read and of those that it found vacated, on the words that it claimed; a lost exchange of the
+/// list head changes nothing; and list words that run out mark the port and leave it with all that it found.
 pub fn keeps_vacated_lists()
     ensures { GetSetsKeepLists }
 {}
 
-/// The answers that orderly words give are possible: [`crate::GetSet::answer`] may be called with each of
+/// The answers that such a run gives are possible: [`crate::GetSet::answer`] may be called with each of
 /// them.
 pub fn orderly_answers_are_possible()
     ensures { OrderlyAnswersArePossible }

@@ -72,11 +72,11 @@ done_owns y head Done next e = refl
 
 module _ (u : CoreState) (c : Change) (old : ℕ) (e : u.stage ≡ GettingSet c old) where
   -- the machine with a finished getSet, at the next stage
-  abbrev past : Stage → CoreState
+  abbrev pub past : Stage → CoreState
   past v = record u { embedded = viewing.fresh u.sizes true; stage = v }
 
   -- the machine behind an answer to its getSet
-  by_due : (P : CoreState → Type 0) → P u → ((v : Stage) → finding.step_of u.get_set ≡ None → (v ≡ ClaimingRecord c old) ⊎ (v ≡ Viewing c old) → P (past v)) → P (after_getting u c old)
+  pub by_due : (P : CoreState → Type 0) → P u → ((v : Stage) → finding.step_of u.get_set ≡ None → (v ≡ ClaimingRecord c old) ⊎ (v ≡ Viewing c old) → P (past v)) → P (after_getting u c old)
   by_due P goes ended = by_step (finding.step_of u.get_set) refl
     where
       Case : Option Step → Type 0

@@ -16,5 +16,7 @@ pub mod Added
 pub mod Ports
 pub mod WholeCalls
 pub mod Ordered
+pub mod Published
+pub mod ActiveRuns
 pub mod Laws
 pub mod Machines

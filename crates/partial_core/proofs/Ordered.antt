@@ -1,5 +1,5 @@
--- Lawful words are orderly, and the due step of a port keeps them so.
-use Rattle.std.proofs.Common.{ℕ, ◌≡◌, ◌≢◌, ◌+◌, ◌<◌, ◌≤◌, ◌==◌, ◌⊎◌, ◌++◌, Bool, true, false, cond, Option, Some, None, IfSome, IsSome, MatchBool, List, [], ◌∷◌, length, get_or, inl, inr, refl, sym, ap, subst, ◌∙◌, arith, get_or-set_other, get_or-set_same, length-set}
+-- Lawful words are orderly, and the due step of a port moves a slot only as it may.
+use Rattle.std.proofs.Common.{ℕ, ◌≡◌, ◌≢◌, ◌+◌, ◌<◌, ◌≤◌, ◌==◌, ◌⊎◌, ◌++◌, cond, Option, Some, None, IfSome, IsSome, List, ◌∷◌, length, get_or, inl, inr, refl, sym, ap, subst, ◌∙◌, arith, get_or-set_other, get_or-set_same, length-set}
 use Rattle.std.specs.Prelude.{IsTrue, nat_lt, slice_index}
 use Rattle.std.proofs.lemmas.Bool.{ltb-true}
 use Rattle.std.proofs.lemmas.Bool.Decides.{eqb_tells}
@@ -8,24 +8,19 @@ use Rattle.partial_model.specs.declared.history.Opening.{Opening}
 use Rattle.partial_words.specs.declared.step.Step.{Step}
 use Rattle.partial_words.specs.declared.step.Step.TheVariants.{Load, Store, Exchange, Add}
 use Rattle.partial_words.specs.Layout.{Layout, slot_counter, list_head, pool_counter, list_counter, slot_word, list_base}
-use Rattle.partial_words.specs.Record.{StandsAt}
 use Rattle.partial_words.specs.Step.{word_of, words_after}
-use Rattle.partial_words.specs.Announcement.{announcement_block}
+use Rattle.partial_words.specs.Announcement.{announcement_block, announcement_size}
 use Rattle.partial_words.specs.VacatedList.{list_block}
-use Rattle.partial_words.proofs.BlockLemmas.{list_reads_back}
 use Rattle.partial_words.proofs.RecordLemmas.{length-pairs}
-use Rattle.partial_active.specs.Orderly.{Orderly, ComesFrom, IsAnnouncement, IsVacatedList, IsSlotOf, IsHeadOf, slot_at, head_at}
-use Rattle.partial_state.specs.Views.{IsAnnounced, IsPublishedList, IsHead, IsApartFrom, AreApart}
-use Rattle.partial_intervals.specs.Intervals.{Ranges}
+use Rattle.partial_active.specs.Orderly.{Orderly, IsSlotMove, IsSlotOf, IsHeadOf, slot_at}
+use Rattle.partial_state.specs.Views.{Joined, IsHead}
 use Rattle.partial_state.specs.Holdings.Space.{Pool, Lists}
-use Rattle.partial_state.specs.Holdings.{Holding, Own, Space, first_of, unpublished, block_of}
+use Rattle.partial_state.specs.Holdings.{Holding, Claimed, Own, Space, first_of, unpublished}
 use Rattle.partial_state.specs.LawfulWords.{LawfulWords, IsOwn, IsTied, IsClaim}
 use Rattle.partial_state.specs.Loads.{IsSlotAnswer}
 use Rattle.partial_state.proofs.LoadLaw.{loads_are_true}
-use Rattle.partial_state.proofs.HoldingLemmas.{if_some_at, unpublished_all}
+use Rattle.partial_state.proofs.HoldingLemmas.{if_some_at}
 use Rattle.partial_state.proofs.Quiet.{lists_bound}
-use Rattle.partial_knowledge.proofs.Joined.{same_named}
-use Rattle.partial_model.specs.Notes.{seen_by}
 use Rattle.partial_active.specs.Join.{join_step, fits_join}
 use Rattle.partial_active.specs.declared.join.JoinStage.{JoinStage}
 use Rattle.partial_active.specs.declared.join.JoinStage.TheVariants.{Claiming, Storing, Joined as JoinedIn, Spent}
@@ -36,22 +31,21 @@ use Rattle.partial_active.specs.declared.get_set.Stage.TheVariants.{Head, ListLe
 use Rattle.partial_machine.specs.declared.stage.Stage.{Stage}
 use Rattle.partial_machine.specs.declared.stage.Stage.TheVariants.{Idle, ReadBegun, LoadingValue, UpdateBegun, GettingSet, Viewing, ClaimingRecord, StoringRecord, Exchanging, ScanBegun, StoringAnnouncement, Joining, Scanning, Leaving, Finished}
 use Rattle.partial_machine.specs.Machine.{CoreState, getting, record_size, record_words, step_at, step_of}
-use Rattle.partial_machine.specs.Sound.{is_sound_at, AreComponents}
-use Rattle.partial_core.specs.Part.{HasBegun, IsLedTo, Part, core_of}
+use Rattle.partial_machine.specs.Sound.{is_sound_at}
+use Rattle.partial_core.specs.Part.{HasBegun, IsLedTo, IsMachineOf, Part, core_of}
 use Rattle.partial_core.specs.Lawful.{Lawful}
 use Rattle.partial_core.specs.Held.{holding_of, holdings, joined_since, own_list, own_at, slot_claimed}
-use Rattle.partial_machine.specs.Calls.{is_begun, is_at_rest, begun_like}
 use Rattle.partial_core.proofs.Going.{view_loads}
 use Rattle.partial_core.proofs.Steps.{holding_in, sizes_here, sound_at, memory_here, memory_at}
 use Rattle.partial_core.proofs.StoredFacts.{length_record}
 use Rattle.partial_core.proofs.Leaves.{leave_due}
 use Rattle.partial_core.proofs.AllSteps.{fresh_call, begin_lawful}
 use Rattle.partial_core.proofs.Parts.{all_at}
-use Rattle.partial_core.specs.Orderly.{LawfulIsOrderly, StepsAreOrderly}
+use Rattle.partial_core.specs.Orderly.{LawfulIsOrderly}
 
 module _ (z : Layout) (o : Opening) (words : List ℕ) (hs : List Holding) (log : List Applied) (w : LawfulWords z o words hs log) where
   -- what stands in a slot now
-  slot_now : (l : ℕ) → l < z.slots → IsSlotAnswer z words (unpublished hs) l (get_or words (slot_word z l) 0)
+  pub slot_now : (l : ℕ) → l < z.slots → IsSlotAnswer z words (unpublished hs) l (get_or words (slot_word z l) 0)
   slot_now l below = (loads_are_true z o words hs log (slot_word z l) w (omega (arith, below)) (λ far. absurd (omega (arith, below, far)))).slot l below refl
 
   slot_of : (l a : ℕ) → IsSlotAnswer z words (unpublished hs) l a → IsSlotOf z words a
@@ -76,13 +70,13 @@ pub lawful_is_orderly : LawfulIsOrderly
 lawful_is_orderly z o words parts log w = orderly_words z o words (holdings parts) log w.memory
 
 -- What a step touches: nothing, a word before the slots, the next word of a block of its port's own, or a slot
--- that is EMPTY or becomes VACATED.
+-- that is EMPTY and takes a reference, or that holds one and becomes VACATED.
 abbrev pub Touches : Layout → List ℕ → Option Own → Step → Type 0
 Touches z words own step =
     ((n : ℕ) × (step ≡ Load n))
     ⊎ (word_of step < slot_word z 0)
     ⊎ ((b : Own) × (v : ℕ) × (own ≡ Some b) × (b.stored < length b.words) × (step ≡ Store (b.at + b.stored) v))
-    ⊎ ((l v : ℕ) × (l < z.slots) × (step ≡ Store (slot_word z l) v) × ((get_or words (slot_word z l) 0 ≡ 0) ⊎ (v ≡ 1)))
+    ⊎ ((l v : ℕ) × (l < z.slots) × (step ≡ Store (slot_word z l) v) × (((get_or words (slot_word z l) 0 ≡ 0) × (1 < v)) ⊎ ((v ≡ 1) × (1 < get_or words (slot_word z l) 0))))
 
 -- a word that a step isn't about stays
 elsewhere : (words : List ℕ) (step : Step) (n : ℕ) → n ≢ word_of step → get_or (words_after words step) n 0 ≡ get_or words n 0
@@ -91,99 +85,62 @@ elsewhere words (Store m v) n other = get_or-set_other words m n v 0 other
 elsewhere words (Exchange m old new) n other = get_or-set_other words m n (cond (get_or words m 0 == old) new (get_or words m 0)) 0 other
 elsewhere words (Add m k) n other = get_or-set_other words m n _ 0 other
 
-same_long : (words : List ℕ) (step : Step) → length (words_after words step) ≡ length words
+pub same_long : (words : List ℕ) (step : Step) → length (words_after words step) ≡ length words
 same_long words (Load m) = refl
 same_long words (Store m v) = length-set words m v
 same_long words (Exchange m old new) = length-set words m (cond (get_or words m 0 == old) new (get_or words m 0))
 same_long words (Add m k) = length-set words m _
 
--- a block that the step doesn't touch stands yet
-stands_yet : (words block : List ℕ) (at : ℕ) (step : Step) → ((k : ℕ) → k < length block → at + k ≢ word_of step) → StandsAt words at block → StandsAt (words_after words step) at block
-stands_yet words block at step other stands = λ k lt. let s = stands k lt in let inside = s.0 in let long = same_long words step in (omega (arith, inside, long), elsewhere words step (at + k) (other k lt) ∙ s.1)
+-- a slot that was EMPTY, and one that held a reference, in orderly words
+module _ (z : Layout) (words later : List ℕ) (l : ℕ) (below : l < z.slots) where
+  joins : Orderly z later → slot_at z words l ≡ 0 → 1 < slot_at z later l → IsSlotMove z words later l
+  joins orderly empty far = elim (orderly.slots l below) [
+    | inl none ↦ absurd (omega (arith, far, none))
+    | inr some ↦ elim some [ inl vacated ↦ absurd (omega (arith, far, vacated)) | inr there ↦ inr (inl (empty, there)) ]
+  ]
+
+  leaves : Orderly z words → 1 < slot_at z words l → slot_at z later l ≡ 1 → IsSlotMove z words later l
+  leaves orderly far vacated = elim (orderly.slots l below) [
+    | inl none ↦ absurd (omega (arith, far, none))
+    | inr some ↦ elim some [ inl one ↦ absurd (omega (arith, far, one)) | inr there ↦ inr (inr (there, vacated)) ]
+  ]
 
 module _ (z : Layout) (o : Opening) (words : List ℕ) (before : List Holding) (h : Holding) (after : List Holding) (log : List Applied) (w : LawfulWords z o words (before ++ h ∷ after) log) where
   -- a word of one's own block lies among the list words or the pool's
-  own_far : (b : Own) → h.own ≡ Some b → (list_base z ≤ b.at) × ((at size : ℕ) → IsApartFrom (unpublished (before ++ h ∷ after)) (record { at = at; size = size }) → AreApart (record { at = at; size = size }) (block_of b))
+  own_far : (b : Own) → h.own ≡ Some b → list_base z ≤ b.at
   own_far b is =
       let tied = all_at (IsTied z words) before h after w.tied in
       let own : IsOwn z words b = if_some_at (IsOwn z words) h.own b is tied.own in
-      (far b.space own.above, λ at size apart. if_some_at (λ (c : Own). AreApart (record { at = at; size = size }) (block_of c)) h.own b is (all_at (λ (g : Holding). IfSome g.own (λ c. AreApart (record { at = at; size = size }) (block_of c))) before h after (unpublished_all (AreApart (record { at = at; size = size })) (before ++ h ∷ after) apart)))
+      far b.space own.above
     where
       far : (s : Space) → first_of z s ≤ b.at → list_base z ≤ b.at
       far Pool above = omega (arith, above)
       far Lists above = above
 
-  abbrev hs : List Holding
-  hs = before ++ h ∷ after
-
-  -- what the announcement in a slot tells: a published block of the pool
-  announced_in : (l : ℕ) (named : List ℕ) → l < z.slots → IsAnnouncement z words (slot_at z words l) named → (indices : List ℕ) × (length indices ≡ length named) × IsAnnounced z words (unpublished hs) (slot_at z words l) indices
-  announced_in l named below there = by_answer (slot_now z o words hs log w l below)
-    where
-      by_answer : IsSlotAnswer z words (unpublished hs) l (slot_at z words l) → (indices : List ℕ) × (length indices ≡ length named) × IsAnnounced z words (unpublished hs) (slot_at z words l) indices
-      by_answer (inl empty) = let from = there.from in absurd (omega (arith, from, empty))
-      by_answer (inr (inl vacated)) = let from = there.from in let is = vacated.0 in absurd (omega (arith, from, is))
-      by_answer (inr (inr a)) = (a.0, (same_named words (slot_at z words l) a.0 named a.1.whole.stands there.stands).0, a.1)
-
-  -- and the list at the list head
-  listed_at : (list : Ranges) → IsVacatedList z words (head_at z words) list → (other : Ranges) × (length (list_block other) ≡ length (list_block list)) × IsPublishedList z words (unpublished hs) (head_at z words) other
-  listed_at list there = by_head w.head
-    where
-      by_head : IsHead z words (unpublished hs) (head_at z words) → (other : Ranges) × (length (list_block other) ≡ length (list_block list)) × IsPublishedList z words (unpublished hs) (head_at z words) other
-      by_head (inl none) = let from = there.from in absurd (omega (arith, from, none))
-      by_head (inr a) =
-          let mine = (list_reads_back words (head_at z words) list there.stands).count in
-          let theirs = (list_reads_back words (head_at z words) a.0 a.1.whole.stands).count in
-          let one = length-pairs a.0 in
-          let two = length-pairs list in
-          (a.0, omega (arith, mine, theirs, one, two), a.1)
-
-  -- a word of a published block isn't the one that is stored in the port's own
-  apart_word : (at size k : ℕ) (b : Own) → AreApart (record { at = at; size = size }) (block_of b) → k < size → b.stored < length b.words → at + k ≢ b.at + b.stored
-  apart_word at size k b (inl front) lt less same = omega (arith, front, lt, less, same)
-  apart_word at size k b (inr behind) lt less same = omega (arith, behind, lt, less, same)
-
-  pub comes_from : (step : Step) → Touches z words h.own step → ComesFrom z words (words_after words step)
-  comes_from step (inl load) = subst (λ (s : Step). ComesFrom z words (words_after words s)) (sym load.1) (record { slots = λ l below. inl refl; announcements = λ l named below there. there.stands; lists = λ list there. there.stands })
-  comes_from step (inr (inl low)) = record {
-    slots = λ l below. inl (elsewhere words step (slot_word z l) (λ same. omega (arith, low, same)));
-    announcements = λ l named below there. stands_yet words (announcement_block named) (slot_at z words l) step (λ k lt same. let from = there.from in omega (arith, low, from, same)) there.stands;
-    lists = λ list there. stands_yet words (list_block list) (head_at z words) step (λ k lt same. let from = there.from in omega (arith, low, from, same)) there.stands;
-  }
-  comes_from step (inr (inr (inl own))) =
-      let b = own.0 in
-      let far = own_far b own.2 in
-      let from = far.0 in
-      let less = own.3 in
-      let is : word_of step ≡ b.at + b.stored = ap word_of own.4 in
-      record {
-        slots = λ l below. inl (elsewhere words step (slot_word z l) (λ same. omega (arith, from, is, below, same)));
-        announcements = λ l named below there.
-            let a = announced_in l named below there in
-            let size = a.1 in
-            stands_yet words (announcement_block named) (slot_at z words l) step (λ k lt same. apart_word (slot_at z words l) (1 + length a.0) k b (far.1 (slot_at z words l) (1 + length a.0) a.2.apart) (omega (arith, lt, size)) less (same ∙ is)) there.stands;
-        lists = λ list there.
-            let a = listed_at list there in
-            let size = a.1 in
-            stands_yet words (list_block list) (head_at z words) step (λ k lt same. apart_word (head_at z words) (length (list_block a.0)) k b (far.1 (head_at z words) (length (list_block a.0)) a.2.apart) (omega (arith, lt, size)) less (same ∙ is)) there.stands;
-      }
-  comes_from step (inr (inr (inr slot))) =
+  pub slot_moves : (step : Step) → Orderly z (words_after words step) → Touches z words h.own step → (l : ℕ) → l < z.slots → IsSlotMove z words (words_after words step) l
+  slot_moves step later (inl load) l below = inl (ap (λ (s : Step). slot_at z (words_after words s) l) load.1)
+  slot_moves step later (inr (inl low)) l below = inl (elsewhere words step (slot_word z l) (λ same. omega (arith, low, same)))
+  slot_moves step later (inr (inr (inl own))) l below =
+      let from = own_far own.0 own.2 in
+      let is : word_of step ≡ own.0.at + own.0.stored = ap word_of own.4 in
+      inl (elsewhere words step (slot_word z l) (λ same. omega (arith, from, is, below, same)))
+  slot_moves step later (inr (inr (inr slot))) l below =
       let n = slot.0 in
       let v = slot.1 in
       let inside = slot.2 in
       let is : word_of step ≡ slot_word z n = ap word_of slot.3 in
       let count = w.count in
-      record {
-        slots = λ l below. elim (eqb_tells l n) [
-          | inl same ↦ elim slot.4 [
-            | inl empty ↦ inr (inl (ap (λ m. get_or words (slot_word z m) 0) same.1 ∙ empty))
-            | inr one ↦ inr (inr (ap (λ m. get_or (words_after words step) (slot_word z m) 0) same.1 ∙ ap (λ (s : Step). get_or (words_after words s) (slot_word z n) 0) slot.3 ∙ get_or-set_same words (slot_word z n) v 0 (omega (arith, inside, count)) ∙ one))
-          ]
-          | inr other ↦ let differs = other.1 in inl (elsewhere words step (slot_word z l) (λ same. differs (omega (arith, is, same))))
-        ];
-        announcements = λ l named below there. stands_yet words (announcement_block named) (slot_at z words l) step (λ k lt same. let from = there.from in omega (arith, is, inside, from, same)) there.stands;
-        lists = λ list there. stands_yet words (list_block list) (head_at z words) step (λ k lt same. let from = there.from in omega (arith, is, inside, from, same)) there.stands;
-      }
+      elim (eqb_tells l n) [
+        | inl same ↦
+            let stored : slot_at z (words_after words step) l ≡ v = ap (λ m. get_or (words_after words step) (slot_word z m) 0) same.1
+            ∙ ap (λ (s : Step). get_or (words_after words s) (slot_word z n) 0) slot.3 ∙ get_or-set_same words (slot_word z n) v 0 (omega (arith, inside, count)) in
+            let was : slot_at z words l ≡ get_or words (slot_word z n) 0 = ap (λ m. get_or words (slot_word z m) 0) same.1 in
+            elim slot.4 [
+              | inl join ↦ let far = join.1 in joins z words (words_after words step) l below later (was ∙ join.0) (omega (arith, stored, far))
+              | inr leave ↦ let far = leave.1 in leaves z words (words_after words step) l below (orderly_words z o words (before ++ h ∷ after) log w) (omega (arith, was, far)) (stored ∙ leave.0)
+            ]
+        | inr other ↦ let differs = other.1 in inl (elsewhere words step (slot_word z l) (λ same. differs (omega (arith, is, same))))
+      ]
 
 -- two names of a step that touches something
 touches_same : (z : Layout) (words : List ℕ) (own : Option Own) (a b : Step) → Some a ≡ Some b → Touches z words own a → Touches z words own b
@@ -241,7 +198,12 @@ module _ (z : Layout) (o : Opening) (words : List ℕ) (before : List Part) (x :
           let held = holding_in s Joining (joined_since x) in
           let claim : IfSome held.claimed (IsClaim z words (holdings before ++ held ∷ holdings after) log) = all_at (λ (g : Holding). IfSome g.claimed (IsClaim z words (holdings before ++ held ∷ holdings after) log)) (holdings before) held (holdings after) memory.claims in
           let mine : IsClaim z words (holdings before ++ held ∷ holdings after) log (record { slot = slot; joined = None }) = if_some_at (IsClaim z words (holdings before ++ held ∷ holdings after) log) held.claimed (record { slot = slot; joined = None }) (ap slot_claimed is) claim in
-          touches_same z words (own_at s Joining) (Store (slot_word s.join.sizes slot) s.join.announcement) step due' (inr (inr (inr (slot, s.join.announcement, below, ap (λ (y : Layout). Store (slot_word y slot) s.join.announcement) join_sizes, inl mine.holds))))
+          let block : Own = record { space = Pool; at = s.join.announcement; words = announcement_block s.asked; stored = announcement_size (length s.asked) } in
+          let far : list_base z ≤ s.join.announcement = own_far z o words (holdings before) held (holdings after) log memory block refl in
+          let is' : Store (slot_word s.join.sizes slot) s.join.announcement ≡ Store (slot_word z slot) s.join.announcement
+          = ap (λ (y : Layout). Store (slot_word y slot) s.join.announcement) join_sizes in
+          touches_same z words (own_at s Joining) (Store (slot_word s.join.sizes slot) s.join.announcement) step due'
+          (inr (inr (inr (slot, s.join.announcement, below, is', inl (mine.holds, omega (arith, far))))))
       by_stage (JoinedIn slot) is = let bad : None ≡ Some step = sym (ap (λ (j : JoinStage). join_step s.join.sizes s.join.announcement j) is) ∙ due in absurd cc
       by_stage Spent is = let bad : None ≡ Some step = sym (ap (λ (j : JoinStage). join_step s.join.sizes s.join.announcement j) is) ∙ due in absurd cc
 
@@ -271,15 +233,29 @@ module _ (z : Layout) (o : Opening) (words : List ℕ) (before : List Part) (x :
   touches_at Leaving step e due =
       let sound = sound_at z o words before x after log w Leaving e in
       let below : s.leave.slot < z.slots = of_size (λ (y : Layout). s.leave.slot < y.slots) sound.1 in
-      touches_same z words None (Store (slot_word z s.leave.slot) 1) step (sym (leave_due z o words before x after log w e) ∙ due) (inr (inr (inr (s.leave.slot, 1, below, refl, inr refl))))
+      let memory = memory_at z o words before x after log w Leaving e in
+      let held = holding_in s Leaving (joined_since x) in
+      let hs = holdings before ++ held ∷ holdings after in
+      let announced : Joined = record { at = s.join.announcement; indices = s.asked; since = joined_since x } in
+      let claim : IfSome held.claimed (IsClaim z words hs log)
+      = all_at (λ (g : Holding). IfSome g.claimed (IsClaim z words hs log)) (holdings before) held (holdings after) memory.claims in
+      let taken : Claimed = record { slot = s.leave.slot; joined = Some announced } in
+      let mine : IsClaim z words hs log taken = if_some_at (IsClaim z words hs log) held.claimed taken refl claim in
+      let stands = mine.holds in
+      let same = stands.0 in
+      let from = stands.2.whole.from in
+      touches_same z words None (Store (slot_word z s.leave.slot) 1) step (sym (leave_due z o words before x after log w e) ∙ due)
+      (inr (inr (inr (s.leave.slot, 1, below, refl, inr (refl, omega (arith, same, from))))))
   touches_at (Finished r) step e due = let bad : None ≡ Some step = due in absurd cc
 
-  core_orderly : (step : Step) → step_of s ≡ Some step → ComesFrom z words (words_after words step)
-  core_orderly step due = comes_from z o words (holdings before) (holding_of x) (holdings after) log (memory_here z o words before x after log w) step (touches_at s.stage step refl due)
+  core_moves : (step : Step) → step_of s ≡ Some step → Orderly z (words_after words step) → (l : ℕ) → l < z.slots → IsSlotMove z words (words_after words step) l
+  core_moves step due later = slot_moves z o words (holdings before) (holding_of x) (holdings after) log (memory_here z o words before x after log w) step later (touches_at s.stage step refl due)
 
-pub steps_are_orderly : StepsAreOrderly
-steps_are_orderly z o words before x after log c step w m due = by m
+-- the due step of a port moves a slot only as it may
+pub steps_move_slots : (z : Layout) (o : Opening) (words : List ℕ) (before : List Part) (x : Part) (after : List Part) (log : List Applied) (c : CoreState) (step : Step) →
+    Lawful z o words (before ++ x ∷ after) log → IsMachineOf c x → step_of c ≡ Some step → Orderly z (words_after words step) → (l : ℕ) → l < z.slots → IsSlotMove z words (words_after words step) l
+steps_move_slots z o words before x after log c step w m due later = by m
   where
-    by : HasBegun c x ⊎ IsLedTo c x → ComesFrom z words (words_after words step)
-    by (inl h) = core_orderly z o words before (fresh_call c x) after log (begin_lawful z o words before x after log w c h) step due
-    by (inr l) = core_orderly z o words before x after log w step (ap step_of (sym l.is) ∙ due)
+    by : HasBegun c x ⊎ IsLedTo c x → (l : ℕ) → l < z.slots → IsSlotMove z words (words_after words step) l
+    by (inl h) = core_moves z o words before (fresh_call c x) after log (begin_lawful z o words before x after log w c h) step due later
+    by (inr l) = core_moves z o words before x after log w step (ap step_of (sym l.is) ∙ due) later

@@ -6,3 +6,4 @@ pub mod Steps
 pub mod Ports
 pub mod Calls
 pub mod Orderly
+pub mod ActiveSet

@@ -1,20 +1,24 @@
 -- The words of a lawful state are orderly, as the active set asks, and each step of a port keeps them so.
-use Rattle.std.specs.Prelude.{ℕ, ◌≡◌, List, ◌∷◌, ◌++◌, Some}
+use Rattle.std.specs.Prelude.{ℕ, ◌≡◌, List, [], ◌∷◌, ◌++◌, Some}
 use Rattle.partial_model.specs.declared.history.Applied.{Applied}
 use Rattle.partial_model.specs.declared.history.Opening.{Opening}
 use Rattle.partial_words.specs.declared.step.Step.{Step}
 use Rattle.partial_words.specs.Layout.{Layout}
 use Rattle.partial_words.specs.Step.{words_after}
-use Rattle.partial_active.specs.Orderly.{Orderly, ComesFrom}
+use Rattle.partial_active.specs.Orderly.{Orderly}
+use Rattle.partial_active.specs.Moments.{IsOrderlyEvent}
 use Rattle.partial_machine.specs.Machine.{CoreState, step_of}
 use Rattle.partial_core.specs.Part.{Part, IsMachineOf}
 use Rattle.partial_core.specs.Lawful.{Lawful}
 
 -- lawful words are orderly
 abbrev pub LawfulIsOrderly : Type 0
-LawfulIsOrderly = (z : Layout) (o : Opening) (words : List ℕ) (parts : List Part) (log : List Applied) → Lawful z o words parts log → Orderly z words
+LawfulIsOrderly = (z : Layout) (o : Opening) (words : List ℕ) (parts : List Part) (log : List Applied) →
+    Lawful z o words parts log → Orderly z words
 
--- the due step of any port takes a slot from EMPTY to an announcement and from that to VACATED alone, and changes no published block
+-- the due step of any port is an orderly event, behind the words that it changes
 abbrev pub StepsAreOrderly : Type 0
-StepsAreOrderly = (z : Layout) (o : Opening) (words : List ℕ) (before : List Part) (x : Part) (after : List Part) (log : List Applied) (c : CoreState) (step : Step) →
-    Lawful z o words (before ++ x ∷ after) log → IsMachineOf c x → step_of c ≡ Some step → ComesFrom z words (words_after words step)
+StepsAreOrderly = (z : Layout) (o : Opening) (words : List ℕ) (before : List Part) (x : Part) (after : List Part)
+    (log : List Applied) (c : CoreState) (step : Step) →
+    Lawful z o words (before ++ x ∷ after) log → IsMachineOf c x → step_of c ≡ Some step →
+    IsOrderlyEvent z (words ∷ []) words (words_after words step)

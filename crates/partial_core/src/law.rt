@@ -6,6 +6,7 @@ ghost use Rattle.partial_core.specs.Steps.{StepsStayLawful};
 ghost use Rattle.partial_core.specs.Ports.{LawfulPortsFit, LawfulRecordsAreWithin, LooksStayLawful, LawfulCallsAreBounded, LawfulMachinesAreReady};
 ghost use Rattle.partial_core.specs.Calls.{FirstStepsMakeCalls, FurtherStepsMakeCalls, MadeCallsMakeTheirSteps, CallsBeginBetween, PortsComeBetween};
 ghost use Rattle.partial_core.specs.Orderly.{LawfulIsOrderly, StepsAreOrderly};
+ghost use Rattle.partial_core.specs.ActiveSet.{LawfulRunsAreOrderly, UpdatesFind, UpdatesFindInOrder, UpdatesKeepLists};
 
 /// A memory as it opens is lawful, with nothing applied and no call made.
 pub fn memory_opens_lawful()
@@ -81,8 +82,29 @@ pub fn lawful_words_are_orderly()
     ensures { LawfulIsOrderly }
 {}
 
-/// Each step of a port leads from orderly words to such as come from them: a slot goes from EMPTY to an
-/// announcement and from that to VACATED alone, and no published block changes.
+/// Each step of a port is an orderly event: it keeps the words orderly, takes a slot only from EMPTY to a
+/// whole announcement and from that to VACATED, and changes no block that the words publish.
 pub fn steps_are_orderly()
     ensures { StepsAreOrderly }
+{}
+
+/// A run of steps and looks of any ports from a lawful state is an orderly run, and ends in a lawful state:
+/// a block that a slot or the list head has referred to at any moment so far never changes.
+pub fn lawful_runs_are_orderly()
+    ensures { LawfulRunsAreOrderly }
+{}
+
+/// What the getSet of an update finds, in every run from a lawful state: it names every index of each
+/// announcement that stood in a slot from its first step to its last, and no index but those of announcements
+/// that stood in a slot at some moment of it, each once, in the order of the slots and then of the positions.
+pub fn updates_find_the_active_set()
+    ensures finds { UpdatesFind }
+    ensures order { UpdatesFindInOrder }
+{}
+
+/// What that getSet does with the lists of vacated slots, wherever it has come to: it reads the list at the
+/// list head and loads no slot of it, and publishes whole lists alone, of the slots of the list that it read
+/// and of those that it found vacated.
+pub fn updates_keep_lists()
+    ensures { UpdatesKeepLists }
 {}

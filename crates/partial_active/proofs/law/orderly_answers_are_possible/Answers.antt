@@ -1,5 +1,5 @@
-use Rattle.partial_active.proofs.Active.{possible_next}
+use Rattle.partial_active.proofs.Active.{possible_by_events}
 use Rattle.partial_active.proofs.law.orderly_answers_are_possible.Goals as goal
 
 pub returns : goal.returns
-returns c = possible_next
+returns c = possible_by_events

@@ -1,4 +1,4 @@
-use Rattle.partial_core.proofs.Ordered.{steps_are_orderly}
+use Rattle.partial_core.proofs.Published.{steps_are_orderly}
 use Rattle.partial_core.proofs.law.steps_are_orderly.Goals as goal
 
 pub returns : goal.returns

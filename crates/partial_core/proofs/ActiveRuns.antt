@@ -1,0 +1,277 @@
+-- Runs of lawful states are orderly, and the getSet of an update is one of a port's events in such a run.
+use Rattle.std.proofs.Common.{ℕ, ◌≡◌, ◌≢◌, ◌⊎◌, ◌++◌, Bool, Some, None, MatchBool, List, [], ◌∷◌, inl, inr, refl, sym, ap, subst, ◌∙◌}
+use Rattle.std.specs.List.{AllByRecursion}
+use Rattle.std.proofs.lemmas.Bool.{false≢true}
+use Rattle.std.proofs.lemmas.Bool.Decides.{eqb_tells}
+use Rattle.partial_model.specs.declared.history.Applied.{Applied}
+use Rattle.partial_model.specs.declared.history.Opening.{Opening}
+use Rattle.partial_words.specs.declared.step.Event.{Event}
+use Rattle.partial_words.specs.Layout.{Layout}
+use Rattle.partial_words.specs.Step.{answer_of, words_after}
+use Rattle.partial_active.specs.Found.{IsFor}
+use Rattle.partial_active.specs.GetSet as finding
+use Rattle.partial_active.specs.Moments.{AreOrderly, IsOrderlyRun, words_behind, MakesOwn}
+use Rattle.partial_active.specs.VacatedLists.{KeepsLists}
+use Rattle.partial_active.specs.ActiveSet.{FindsActiveSet, AreInOrder}
+use Rattle.partial_active.proofs.Active.{finds_by_events}
+use Rattle.partial_active.proofs.Named.{names_by_events}
+use Rattle.partial_active.proofs.Lists.{lists_by_events}
+use Rattle.partial_state.specs.Holdings.{Holding}
+use Rattle.partial_state.proofs.ListLemmas.{all_weaker, all_join}
+use Rattle.partial_machine.specs.declared.stage.Change.{Change}
+use Rattle.partial_machine.specs.declared.stage.Stage.{Stage}
+use Rattle.partial_machine.specs.declared.stage.Stage.TheVariants.{GettingSet}
+use Rattle.partial_machine.specs.Machine.{CoreState, step_of, step_at, advance, advance_at, getting, with_getting, lists_spent}
+use Rattle.partial_machine.specs.Calls.{is_begun}
+use Rattle.partial_core.specs.Part.{Part, HasBegun, IsLedTo, core_of, port_of, with_seen}
+use Rattle.partial_core.specs.Held.{holdings, holding_of}
+use Rattle.partial_core.specs.Lawful.{Lawful}
+use Rattle.partial_core.specs.ActiveSet.{State, IsLawful, Move, HasPart, MakesStep, MakesLook, IsRun, events_of, LawfulRunsAreOrderly}
+use Rattle.partial_core.specs.ActiveSet.{IsGetting, OnlyGets, RunsGetSet, moments_in, UpdatesFind, UpdatesFindInOrder, UpdatesKeepLists}
+use Rattle.partial_core.specs.ActiveSet.Move.{Makes, Looks}
+use Rattle.partial_core.proofs.Parts.{all_at, all_changed, holdings_split}
+use Rattle.partial_core.proofs.Steps.{sizes_here, sound_at}
+use Rattle.partial_core.proofs.Ports.{others, looks_stay_lawful}
+use Rattle.partial_core.proofs.Getting.{by_due}
+use Rattle.partial_core.proofs.Ordered.{lawful_is_orderly}
+use Rattle.partial_core.proofs.Published.{KeepsPublished, keeps_now, keeps_on, step_orderly}
+
+-- the state, with the port's part in its place
+lawful_at : (z : Layout) (o : Opening) (s : State) (own : ℕ) (p : HasPart own s.parts) → IsLawful z o s → Lawful z o s.words (p.before ++ p.part ∷ p.after) s.log
+lawful_at z o s own p w = subst (λ (ps : List Part). Lawful z o s.words ps s.log) p.is w
+
+-- what is published behind a state is so yet
+abbrev Keeps : Layout → List (List ℕ) → State → Type 0
+Keeps z past s = KeepsPublished z past s.words (holdings s.parts)
+
+module _ (z : Layout) (o : Opening) (e : Event) (s u : State) (m : MakesStep z o e s u) where
+  step_lawful : IsLawful z o u
+  step_lawful = subst (IsLawful z o) (sym m.next) m.leads.lawful
+
+  step_words : u.words ≡ words_after s.words e.step
+  step_words = ap (λ (v : State). v.words) m.next
+
+  step_keeps : (past : List (List ℕ)) → Keeps z past s → Keeps z past u
+  step_keeps past keeps =
+      let here : KeepsPublished z past s.words (holdings (m.own.before ++ m.own.part ∷ m.own.after))
+      = subst (λ (ps : List Part). KeepsPublished z past s.words (holdings ps)) m.own.is keeps in
+      subst (Keeps z past) (sym m.next) (keeps_on z o s.words m.own.before m.own.part m.own.after s.log m.machine e.step m.leads past here)
+
+module _ (z : Layout) (o : Opening) (number : ℕ) (s u : State) (m : MakesLook number s u) where
+  look_lawful : IsLawful z o s → IsLawful z o u
+  look_lawful w = subst (IsLawful z o) (sym m.next) (looks_stay_lawful z o s.words m.own.before m.own.part m.own.after s.log (lawful_at z o s number m.own w)).lawful
+
+  look_words : u.words ≡ s.words
+  look_words = ap (λ (v : State). v.words) m.next
+
+  look_keeps : (past : List (List ℕ)) → Keeps z past s → Keeps z past u
+  look_keeps past keeps =
+      let parts : u.parts ≡ m.own.before ++ with_seen s.log m.own.part ∷ m.own.after = ap (λ (v : State). v.parts) m.next in
+      let split : holdings (m.own.before ++ with_seen s.log m.own.part ∷ m.own.after) ≡ holdings m.own.before ++ holding_of m.own.part ∷ holdings m.own.after
+      = holdings_split m.own.before (with_seen s.log m.own.part) m.own.after in
+      let same : holdings s.parts ≡ holdings u.parts = ap holdings m.own.is ∙ holdings_split m.own.before m.own.part m.own.after ∙ sym split ∙ sym (ap holdings parts) in
+      subst (λ (ws : List ℕ). KeepsPublished z past ws (holdings u.parts)) (sym look_words) (subst (λ (hs : List Holding). KeepsPublished z past s.words hs) same keeps)
+
+-- the events of a run are orderly
+events_orderly : (z : Layout) (o : Opening) (moves : List Move) (s t : State) (past : List (List ℕ)) → IsLawful z o s → Keeps z past s → IsRun z o moves s t →
+    AreOrderly z past s.words (events_of moves)
+events_orderly z o [] s t past w keeps run = tt
+events_orderly z o (Makes e ∷ moves) s t past w keeps run =
+    let u = run.0 in
+    let m = run.1 in
+    let now : Keeps z (s.words ∷ past) s = keeps_now z o s.words (holdings s.parts) s.log past w.memory keeps in
+    let here : KeepsPublished z (s.words ∷ past) s.words (holdings (m.own.before ++ m.own.part ∷ m.own.after))
+    = subst (λ (ps : List Part). KeepsPublished z (s.words ∷ past) s.words (holdings ps)) m.own.is now in (
+      step_orderly z o s.words m.own.before m.own.part m.own.after s.log m.machine e.step m.leads (s.words ∷ past) (lawful_at z o s e.port m.own w) m.its m.due here,
+      subst (λ (ws : List ℕ). AreOrderly z (s.words ∷ past) ws (events_of moves)) (step_words z o e s u m)
+          (events_orderly z o moves u t (s.words ∷ past) (step_lawful z o e s u m) (step_keeps z o e s u m (s.words ∷ past) now) run.2),
+    )
+events_orderly z o (Looks port ∷ moves) s t past w keeps run =
+    let u = run.0 in
+    let m = run.1 in
+    subst (λ (ws : List ℕ). AreOrderly z past ws (events_of moves)) (look_words z o port s u m)
+    (events_orderly z o moves u t past (look_lawful z o port s u m w) (look_keeps z o port s u m past keeps) run.2)
+
+-- where a run ends
+run_ends : (z : Layout) (o : Opening) (moves : List Move) (s t : State) → IsLawful z o s → IsRun z o moves s t → (t.words ≡ words_behind s.words (events_of moves)) × IsLawful z o t
+run_ends z o [] s t w run = (ap (λ (v : State). v.words) run, subst (IsLawful z o) (sym run) w)
+run_ends z o (Makes e ∷ moves) s t w run =
+    let rest = run_ends z o moves run.0 t (step_lawful z o e s run.0 run.1) run.2 in
+    (rest.0 ∙ ap (λ (ws : List ℕ). words_behind ws (events_of moves)) (step_words z o e s run.0 run.1), rest.1)
+run_ends z o (Looks port ∷ moves) s t w run =
+    let rest = run_ends z o moves run.0 t (look_lawful z o port s run.0 run.1 w) run.2 in
+    (rest.0 ∙ ap (λ (ws : List ℕ). words_behind ws (events_of moves)) (look_words z o port s run.0 run.1), rest.1)
+
+pub lawful_runs_are_orderly : LawfulRunsAreOrderly
+lawful_runs_are_orderly z o moves s t w run =
+    let ends = run_ends z o moves s t w run in
+    record {
+      orderly = (lawful_is_orderly z o s.words s.parts s.log w, events_orderly z o moves s t [] w (λ at block some. absurd some) run);
+      words = ends.0;
+      lawful = ends.1;
+    }
+
+-- each part of the port has this machine
+abbrev Has : ℕ → CoreState → Part → Type 0
+Has own c x = port_of x ≡ own → core_of x ≡ c
+
+abbrev AllHave : ℕ → CoreState → List Part → Type 0
+AllHave own c parts = AllByRecursion (Has own c) parts
+
+-- a port has one machine
+one_machine : (z : Layout) (o : Opening) (words : List ℕ) (before : List Part) (x : Part) (after : List Part) (log : List Applied) →
+    Lawful z o words (before ++ x ∷ after) log → (own : ℕ) → port_of x ≡ own → AllHave own (core_of x) (before ++ x ∷ after)
+one_machine z o words before x after log w own is =
+    let apart = others z o words before x after log w in
+    let other : (y : Part) → port_of x ≢ port_of y → Has own (core_of x) y = λ y differs same. absurd (differs (is ∙ sym same)) in
+    all_join (Has own (core_of x)) before x after (all_weaker (λ (y : Part). port_of x ≢ port_of y) (Has own (core_of x)) other before apart.0) (λ same. refl)
+    (all_weaker (λ (y : Part). port_of x ≢ port_of y) (Has own (core_of x)) other after apart.1)
+
+-- the machine is at a getSet, or its getSet is finished
+abbrev IsAtGetSet : CoreState → Type 0
+IsAtGetSet c = IsGetting c ⊎ (finding.step_of c.get_set ≡ None)
+
+-- an answer to the getSet goes to its machine
+answer_goes : (c : CoreState) (change : Change) (old a : ℕ) → c.stage ≡ GettingSet change old → (getting (advance c a) ≡ finding.advance (getting c) a) × IsAtGetSet (advance c a)
+answer_goes c change old a is =
+    let p : finding.Pair = finding.advance (getting c) a in
+    subst (λ (v : Stage). (getting (advance_at c v a) ≡ p) × IsAtGetSet (advance_at c v a)) (sym is)
+    (by_due (with_getting c p) change old is (λ (d : CoreState). (getting d ≡ p) × IsAtGetSet d) (refl, inl (change, old, is)) (λ v ended next. (refl, inr ended)))
+
+module _ (z : Layout) (o : Opening) (own : ℕ) (e : Event) (s u : State) (m : MakesStep z o e s u) (w : IsLawful z o s) (c : CoreState) (has : AllHave own c s.parts) where
+  has_here : AllHave own c (m.own.before ++ m.own.part ∷ m.own.after)
+  has_here = subst (AllHave own c) m.own.is has
+
+  -- another port's step
+  other_has : e.port ≢ own → AllHave own c u.parts
+  other_has other =
+      let port : port_of m.leads.y ≡ e.port = m.leads.tells.port ∙ m.own.port in
+      let changed : AllHave own c (m.own.before ++ m.leads.y ∷ m.own.after)
+      = all_changed (Has own c) (Has own c) (λ y h. h) m.own.before m.own.part m.leads.y m.own.after has_here (λ same. absurd (other (sym port ∙ same))) in
+      subst (λ (v : State). AllHave own c v.parts) (sym m.next) changed
+
+  -- its own step, which is one of a getSet
+  module _ (mine : e.port ≡ own) (at : IsGetting m.machine) where
+    machine_is : m.machine ≡ c
+    machine_is = by m.its ∙ all_at (Has own c) m.own.before m.own.part m.own.after has_here (m.own.port ∙ mine)
+      where
+        by : HasBegun m.machine m.own.part ⊎ IsLedTo m.machine m.own.part → m.machine ≡ core_of m.own.part
+        by (inl begun) = absurd (false≢true (sym (ap is_begun at.2) ∙ begun.begun))
+        by (inr led) = led.is
+
+    at_stage : c.stage ≡ GettingSet at.0 at.1
+    at_stage = ap (λ (d : CoreState). d.stage) (sym machine_is) ∙ at.2
+
+    own_due : finding.step_of (getting c).0 ≡ Some e.step
+    own_due = sym (ap (step_at c) at_stage) ∙ ap step_of (sym machine_is) ∙ m.due
+
+    own_goes : (getting (core_of m.leads.y) ≡ finding.advance (getting c) (answer_of s.words e.step)) × IsAtGetSet (core_of m.leads.y)
+    own_goes =
+        let next : advance c (answer_of s.words e.step) ≡ core_of m.leads.y = ap (λ (d : CoreState). advance d (answer_of s.words e.step)) (sym machine_is) ∙ m.leads.tells.machine.is in
+        subst (λ (d : CoreState). (getting d ≡ finding.advance (getting c) (answer_of s.words e.step)) × IsAtGetSet d) next (answer_goes c at.0 at.1 (answer_of s.words e.step) at_stage)
+
+    own_has : AllHave own (core_of m.leads.y) u.parts
+    own_has =
+        let w' = m.leads.lawful in
+        subst (λ (v : State). AllHave own (core_of m.leads.y) v.parts) (sym m.next)
+        (one_machine z o (words_after s.words e.step) m.own.before m.leads.y m.own.after _ w' own (m.leads.tells.port ∙ m.own.port ∙ mine))
+
+look_has : (own number : ℕ) (s u : State) (m : MakesLook number s u) (c : CoreState) → AllHave own c s.parts → AllHave own c u.parts
+look_has own number s u m c has =
+    let here : AllHave own c (m.own.before ++ m.own.part ∷ m.own.after) = subst (AllHave own c) m.own.is has in
+    subst (λ (v : State). AllHave own c v.parts) (sym m.next)
+    (all_changed (Has own c) (Has own c) (λ y h. h) m.own.before m.own.part (with_seen s.log m.own.part) m.own.after here (all_at (Has own c) m.own.before m.own.part m.own.after here))
+
+-- the port's events are its getSet's steps
+makes_own : (z : Layout) (o : Opening) (own : ℕ) (moves : List Move) (s t : State) (run : IsRun z o moves s t) (c : CoreState) →
+    IsLawful z o s → AllHave own c s.parts → OnlyGets z o own moves s t run → IsAtGetSet c → (last : HasPart own t.parts) →
+    MakesOwn own (getting c) s.words (events_of moves) (getting (core_of last.part)) × IsAtGetSet (core_of last.part)
+makes_own z o own [] s t run c w has only at last =
+    let there : s.parts ≡ last.before ++ last.part ∷ last.after = sym (ap (λ (v : State). v.parts) run) ∙ last.is in
+    let same : core_of last.part ≡ c = all_at (Has own c) last.before last.part last.after (subst (AllHave own c) there has) last.port in
+    (ap getting same, subst IsAtGetSet (sym same) at)
+makes_own z o own (Makes e ∷ moves) s t run c w has only at last =
+    let u = run.0 in
+    let m = run.1 in
+    let a = answer_of s.words e.step in
+    let Q : finding.Pair = getting (core_of last.part) in
+    let Mine : Type 0 = (finding.step_of (getting c).0 ≡ Some e.step) × MakesOwn own (finding.advance (getting c) a) (words_after s.words e.step) (events_of moves) Q in
+    let Other : Type 0 = MakesOwn own (getting c) (words_after s.words e.step) (events_of moves) Q in
+    let words = step_words z o e s u m in
+    elim (eqb_tells e.port own) [
+      | inl same ↦
+          let gets = only.0 same.1 in
+          let goes = own_goes z o own e s u m w c has same.1 gets in
+          let rest = makes_own z o own moves u t run.2 (core_of m.leads.y) (step_lawful z o e s u m) (own_has z o own e s u m w c has same.1 gets) only.1 goes.1 last in
+          let there : MakesOwn own (getting (core_of m.leads.y)) (words_after s.words e.step) (events_of moves) Q
+          = subst (λ (ws : List ℕ). MakesOwn own (getting (core_of m.leads.y)) ws (events_of moves) Q) words rest.0 in
+          let moved : MakesOwn own (finding.advance (getting c) a) (words_after s.words e.step) (events_of moves) Q
+          = subst (λ (p : finding.Pair). MakesOwn own p (words_after s.words e.step) (events_of moves) Q) goes.0 there in
+          let both : Mine = (own_due z o own e s u m w c has same.1 gets, moved) in
+          (subst (λ (b : Bool). MatchBool b Mine Other) (sym same.0) both, rest.1)
+      | inr other ↦
+          let rest = makes_own z o own moves u t run.2 c (step_lawful z o e s u m) (other_has z o own e s u m w c has other.1) only.1 at last in
+          let moved : Other = subst (λ (ws : List ℕ). MakesOwn own (getting c) ws (events_of moves) Q) words rest.0 in
+          (subst (λ (b : Bool). MatchBool b Mine Other) (sym other.0) moved, rest.1)
+    ]
+makes_own z o own (Looks port ∷ moves) s t run c w has only at last =
+    let u = run.0 in
+    let m = run.1 in
+    let rest = makes_own z o own moves u t run.2 c (look_lawful z o port s u m w) (look_has own port s u m c has) only at last in
+    (subst (λ (ws : List ℕ). MakesOwn own (getting c) ws (events_of moves) (getting (core_of last.part))) (look_words z o port s u m) rest.0, rest.1)
+
+module _ (z : Layout) (o : Opening) (own : ℕ) (moves : List Move) (s t : State) (gets : RunsGetSet z o own moves s t) where
+  abbrev c : CoreState
+  c = core_of gets.first.part
+
+  abbrev d : CoreState
+  d = core_of gets.last.part
+
+  at_first : Lawful z o s.words (gets.first.before ++ gets.first.part ∷ gets.first.after) s.log
+  at_first = lawful_at z o s own gets.first gets.lawful
+
+  made : MakesOwn own (getting c) s.words (events_of moves) (getting d) × IsAtGetSet d
+  made =
+      let one = one_machine z o s.words gets.first.before gets.first.part gets.first.after s.log at_first own gets.first.port in
+      makes_own z o own moves s t gets.run c gets.lawful (subst (AllHave own c) (sym gets.first.is) one) gets.only (inl gets.begins.getting) gets.last
+
+  sizes : c.sizes ≡ z
+  sizes = sizes_here z o s.words gets.first.before gets.first.part gets.first.after s.log at_first
+
+  begun : getting c ≡ (finding.fresh z (lists_spent c), c.found)
+  begun = ap (λ (g : finding.GetSetState). (g, c.found)) (gets.begins.first ∙ ap (λ (y : Layout). finding.fresh y (lists_spent c)) sizes)
+
+  for_sizes : IsFor z c.found
+  for_sizes =
+      let at = gets.begins.getting in
+      let sound = sound_at z o s.words gets.first.before gets.first.part gets.first.after s.log at_first (GettingSet at.0 at.1) at.2 in
+      subst (λ (y : Layout). IsFor y c.found) (sound.2 ∙ sizes) sound.1.sizes
+
+  from_fresh : MakesOwn own (finding.fresh z (lists_spent c), c.found) s.words (events_of moves) (getting d)
+  from_fresh = subst (λ (p : finding.Pair). MakesOwn own p s.words (events_of moves) (getting d)) begun made.0
+
+  done : ¬ IsGetting d → finding.step_of (getting d).0 ≡ None
+  done ended = elim made.1 [ inl getting_yet ↦ absurd (ended getting_yet) | inr none ↦ none ]
+
+  orderly : IsOrderlyRun z s.words (events_of moves)
+  orderly = (lawful_runs_are_orderly z o moves s t gets.lawful gets.run).orderly
+
+  found_here : ¬ IsGetting d → FindsActiveSet z (moments_in own moves s) d.found.indices
+  found_here ended = finds_by_events z (lists_spent c) c.found own s.words (events_of moves) (getting d) gets.lawful.memory.sizes for_sizes orderly from_fresh (done ended)
+
+  in_order_here : ¬ IsGetting d → AreInOrder z (getting c) (moments_in own moves s) d.found.indices
+  in_order_here ended = subst (λ (p : finding.Pair). AreInOrder z p (moments_in own moves s) d.found.indices) (sym begun)
+      (names_by_events z (lists_spent c) c.found own s.words (events_of moves) (getting d) gets.lawful.memory.sizes for_sizes orderly from_fresh (done ended))
+
+  lists_here : KeepsLists z (getting c) (moments_in own moves s) (getting d)
+  lists_here = subst (λ (p : finding.Pair). KeepsLists z p (moments_in own moves s) (getting d)) (sym begun)
+      (lists_by_events z (lists_spent c) c.found own s.words (events_of moves) (getting d) gets.lawful.memory.sizes for_sizes orderly from_fresh)
+
+pub updates_find : UpdatesFind
+updates_find = found_here
+
+pub updates_find_in_order : UpdatesFindInOrder
+updates_find_in_order = in_order_here
+
+pub updates_keep_lists : UpdatesKeepLists
+updates_keep_lists = lists_here
