@@ -12,7 +12,7 @@ use Rattle.partial_model.specs.Notes.{indices_of}
 use Rattle.partial_words.specs.Layout.{Layout, IsLayout}
 use Rattle.partial_machine.specs.declared.stage.Reply.{Reply}
 use Rattle.partial_machine.specs.declared.stage.Stage.TheVariants.{Idle}
-use Rattle.partial_machine.specs.Machine.{CoreState, at_stage, reply_of}
+use Rattle.partial_machine.specs.Machine.{CoreState, at_stage}
 use Rattle.partial_machine.specs.Calls.{IsServed, begin_scan, begun_of, call_of, makes_steps, refusal_of, scan_refusal}
 use Rattle.partial_machine.proofs.Laws.{calls_begin, rests_are_sound}
 use Rattle.partial_core.specs.Part.{core_of, port_of}

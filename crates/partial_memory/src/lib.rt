@@ -3,6 +3,7 @@
 #![tactic(auto)]
 
 mod answers;
+mod closed;
 mod driver;
 mod error;
 mod memory;
@@ -10,7 +11,9 @@ mod port;
 mod rule;
 
 pub use answers::{Scanned, Updated, UpdatedIf};
-pub use error::OpenError;
+pub use closed::Closed;
+pub use error::{CloseError, OpenError};
 pub use memory::Memory;
+pub use partial_words::Link;
 pub use port::Port;
 pub use rule::About;

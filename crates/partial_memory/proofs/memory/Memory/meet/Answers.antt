@@ -1,4 +1,4 @@
-use Rattle.std.proofs.Common.{rules, ◌≡◌, ◌++◌, ap, sym, ◌∙◌, subst, refl, List, [], ◌∷◌}
+use Rattle.std.proofs.Common.{rules, ◌≡◌, ap, sym, ◌∙◌, List, [], ◌∷◌}
 use Rattle.atomic_table.specs.Table.{Me}
 use Rattle.partial_memory.specs.Rule.{Seated, first_of, one_in, others_of}
 use Rattle.partial_memory.specs.Ports.{MemoryView, PortView}

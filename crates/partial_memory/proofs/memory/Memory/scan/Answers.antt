@@ -1,4 +1,4 @@
-use Rattle.std.proofs.Common.{rules, ◌≡◌, ◌≤◌, ap, sym, ◌∙◌, subst, refl, length, inl, inr}
+use Rattle.std.proofs.Common.{rules, ◌≡◌, ◌≤◌, sym, ◌∙◌, subst, length, inr}
 use Rattle.partial_words.specs.Layout.{Layout}
 use Rattle.partial_machine.specs.declared.stage.Reply.TheVariants as reply
 use Rattle.partial_memory.proofs.Resting.{rests, scan_begins}
@@ -63,8 +63,8 @@ returns-clause-ok c =
     let sizes : c.me.inside.core.sizes ≡ c.args.self.now.about.sizes = search rules in
     let few : length c.args.which.now ≤ c.me.inside.core.sizes.m = subst (λ (z : Layout). length c.args.which.now ≤ z.m) (sym sizes) c.requires.lengths.1 in
     elim c.match-finish.branch [
-    | in-Scanned w ↦ ok_ok _ _ _ w.result-is (scan_copied _ _ _ _ _ _ _ _ some c.finish.ensures.ended.idle (w.into-is ∙ w.copy_values.ensures) (scan_ended _ _ _ c.me.invariant _ _ c.finish.ensures.table _ c.me.view_is _ _ _ _ c.finish.ensures.ended _ few some c.in_ok-begin_scan.ensures.ok.0 c.in_ok-begin_scan.ensures.ok.1 (reply.Scanned _ _) w.in-Scanned.is))
-    | in-Refused w ↦ err_ok _ _ _ w.result-is
+      | in-Scanned w ↦ ok_ok _ _ _ w.result-is (scan_copied _ _ _ _ _ _ _ _ some c.finish.ensures.ended.idle (w.into-is ∙ w.copy_values.ensures) (scan_ended _ _ _ c.me.invariant _ _ c.finish.ensures.table _ c.me.view_is _ _ _ _ c.finish.ensures.ended _ few some c.in_ok-begin_scan.ensures.ok.0 c.in_ok-begin_scan.ensures.ok.1 (reply.Scanned _ _) w.in-Scanned.is))
+      | in-Refused w ↦ err_ok _ _ _ w.result-is
     ]
 
 pub returns-clause-err : goal.returns-clause-err
@@ -73,6 +73,6 @@ returns-clause-err c =
     let sizes : c.me.inside.core.sizes ≡ c.args.self.now.about.sizes = search rules in
     let few : length c.args.which.now ≤ c.me.inside.core.sizes.m = subst (λ (z : Layout). length c.args.which.now ≤ z.m) (sym sizes) c.requires.lengths.1 in
     elim c.match-finish.branch [
-    | in-Scanned w ↦ ok_err _ _ _ w.result-is
-    | in-Refused w ↦ err_err _ _ _ w.result-is (inr (scan_ended _ _ _ c.me.invariant _ _ c.finish.ensures.table _ c.me.view_is _ _ _ _ c.finish.ensures.ended _ few some c.in_ok-begin_scan.ensures.ok.0 c.in_ok-begin_scan.ensures.ok.1 (reply.Refused _) w.in-Refused.is), w.into-is)
+      | in-Scanned w ↦ ok_err _ _ _ w.result-is
+      | in-Refused w ↦ err_err _ _ _ w.result-is (inr (scan_ended _ _ _ c.me.invariant _ _ c.finish.ensures.table _ c.me.view_is _ _ _ _ c.finish.ensures.ended _ few some c.in_ok-begin_scan.ensures.ok.0 c.in_ok-begin_scan.ensures.ok.1 (reply.Refused _) w.in-Refused.is), w.into-is)
     ]

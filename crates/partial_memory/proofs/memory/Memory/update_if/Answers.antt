@@ -1,7 +1,6 @@
-use Rattle.std.proofs.Common.{rules, ◌≡◌, ap, sym, ◌∙◌, subst, refl, inl, inr}
+use Rattle.std.proofs.Common.{rules, refl, inr}
 use Rattle.partial_model.specs.declared.call.Call.TheVariants as call
 use Rattle.partial_machine.specs.declared.stage.Reply.TheVariants as reply
-use Rattle.partial_memory.specs.Ports.{PortView, MemoryView}
 use Rattle.partial_memory.proofs.Resting.{call_begins, rests}
 use Rattle.partial_memory.proofs.Replies.{update_if_ended, ok_ok, err_ok, err_err, ok_err}
 use Rattle.partial_memory.proofs.memory.Memory.update_if.Goals as goal
