@@ -114,6 +114,7 @@ impl Memory {
     /// where the call's claim went past the end of the pool, and the port is marked from then on.
     pub fn update(&self, me: &mut Port, component: u32, value: u64) -> Result<Updated, Refused>
         requires { IsOf self.now me.old }
+        ensures same { IsOf self.now me.new }
         ensures ok { IfOk result (λ r. Updates me.old component value r me.new) }
         ensures err { IfErr result (λ cause. IsRefused me.old (call.Update component value) cause me.new) }
     {
@@ -144,6 +145,7 @@ impl Memory {
         value: u64,
     ) -> Result<UpdatedIf, Refused>
         requires { IsOf self.now me.old }
+        ensures same { IsOf self.now me.new }
         ensures ok { IfOk result (λ r. UpdatesIf me.old component expected value r me.new) }
         ensures err { IfErr result (λ cause. IsRefused me.old (call.UpdateIf component expected value) cause me.new) }
     {
@@ -163,6 +165,7 @@ impl Memory {
     /// [`Refused::Component`] for an index that isn't below the number of components: no step was made.
     pub fn read(&self, me: &mut Port, component: u32) -> Result<(u64, u64), Refused>
         requires { IsOf self.now me.old }
+        ensures same { IsOf self.now me.new }
         ensures ok { IfOk result (λ r. Reads me.old component r.0 r.1 me.new) }
         ensures err { IfErr result (λ cause. (refusal me.old (call.Read component) ≡ Some cause) × (me.new ≡ me.old)) }
     {
@@ -190,6 +193,7 @@ impl Memory {
     pub fn scan(&self, me: &mut Port, which: &[u32], into: &mut [u64]) -> Result<Scanned, Refused>
         requires own { IsOf self.now me.old }
         requires lengths { (length into.old ≡ length which.now) × (length which.now ≤ self.now.about.sizes.m) }
+        ensures same { IsOf self.now me.new }
         ensures ok { IfOk result (λ s. Scans me.old which.now into.new s me.new) }
         ensures err { IfErr result (λ cause. IsRefused me.old (call.Scan which.now) cause me.new × (into.new ≡ into.old)) }
     {
@@ -216,7 +220,8 @@ impl Memory {
     /// Lets two ports see all that either has seen, in three atomic steps.
     pub fn meet(&self, first: &mut Port, second: &mut Port)
         requires { IsOf self.now first.old × IsOf self.now second.old }
-        ensures { Meets first.old second.old first.new second.new }
+        ensures same { IsOf self.now first.new × IsOf self.now second.new }
+        ensures met { Meets first.old second.old first.new second.new }
     {
         let words = &self.table.shared;
         let mut seat = take_seat(&mut first.badge);

@@ -1,7 +1,8 @@
 use Rattle.std.proofs.Common.{rules, ◌≡◌, ◌≤◌, sym, ◌∙◌, subst, length, inr}
 use Rattle.partial_words.specs.Layout.{Layout}
 use Rattle.partial_machine.specs.declared.stage.Reply.TheVariants as reply
-use Rattle.partial_memory.proofs.Resting.{rests, scan_begins}
+use Rattle.partial_memory.specs.Rule.{one_in}
+use Rattle.partial_memory.proofs.Resting.{rests, scan_begins, same_memory}
 use Rattle.partial_memory.proofs.Replies.{scan_ended, scan_copied, scan_asked, ok_ok, err_ok, err_err, ok_err}
 use Rattle.partial_memory.proofs.memory.Memory.scan.Goals as goal
 use Rattle.partial_memory.proofs.memory.Memory.scan.Goals.{in-Scanned, in-Refused}
@@ -76,3 +77,6 @@ returns-clause-err c =
       | in-Scanned w ↦ ok_err _ _ _ w.result-is
       | in-Refused w ↦ err_err _ _ _ w.result-is (inr (scan_ended _ _ _ c.me.invariant _ _ c.finish.ensures.table _ c.me.view_is _ _ _ _ c.finish.ensures.ended _ few some c.in_ok-begin_scan.ensures.ok.0 c.in_ok-begin_scan.ensures.ok.1 (reply.Refused _) w.in-Refused.is), w.into-is)
     ]
+
+pub returns-clause-same : goal.returns-clause-same
+returns-clause-same c = same_memory _ _ (one_in c.me.inside.badge.views) (one_in c.finish.new.badge.views) _ _ c.me.view_is c.requires.own c.finish.ensures.table c.finish.ensures.ended.made.about
