@@ -51,6 +51,7 @@ impl Found {
     }
 
     /// The indices found, without repeats, in the order of the slots and then of the positions.
+    #[inline(always)]
     pub fn indices(&self) -> &[u32]
         ensures { result.now ≡ self.now.indices }
     {
@@ -58,6 +59,7 @@ impl Found {
     }
 
     // Empties the buffers, by what was filled.
+    #[inline(always)]
     pub(crate) fn clear(&mut self)
         ensures { self.new ≡ record self.old { indices = []; read = []; next = [] } }
     {
@@ -67,6 +69,7 @@ impl Found {
     }
 
     // Puts an index at the end, where it is not there yet.
+    #[inline(always)]
     pub(crate) fn insert(&mut self, index: u32)
         requires { index < self.old.limit }
         ensures { self.new ≡ record self.old { indices = with_index self.old.indices index } }
@@ -75,6 +78,7 @@ impl Found {
     }
 
     // Takes one more interval into the list that is read.
+    #[inline(always)]
     pub(crate) fn read_interval(&mut self, lo: u32, hi: u32)
         requires room { length self.old.read < self.old.room }
         requires last { GoesOn self.old.read lo hi }
@@ -84,6 +88,7 @@ impl Found {
     }
 
     // Adds the slots from lo to hi to the next list, behind those that it has.
+    #[inline(always)]
     pub(crate) fn note(&mut self, lo: u32, hi: u32)
         requires room { length self.old.next < self.old.room }
         requires last { IsBehind self.old.next lo hi }
@@ -98,6 +103,7 @@ impl Found {
     }
 
     // Whether interval k of the list that was read begins at the slot.
+    #[inline(always)]
     pub(crate) fn begins_at(&self, k: usize, slot: u32) -> bool
         ensures { result ≡ begins_at self.now.read k slot }
     {
@@ -105,6 +111,7 @@ impl Found {
     }
 
     // Interval k of the list that was read.
+    #[inline(always)]
     pub(crate) fn interval(&self, k: usize) -> (u32, u32)
         requires { k < length self.now.read }
         ensures interval { result ≡ slice_index_or self.now.read k (0, 0) }
@@ -114,6 +121,7 @@ impl Found {
     }
 
     // How many intervals the next list has.
+    #[inline(always)]
     pub(crate) fn next_len(&self) -> usize
         ensures count { result ≡ length self.now.next }
         ensures normal { IsNormal self.now.next }
@@ -122,6 +130,7 @@ impl Found {
     }
 
     // Word k of the block of the next list.
+    #[inline(always)]
     pub(crate) fn next_word(&self, k: usize) -> u64
         requires { k < length (list_block self.now.next) }
         ensures { result ≡ slice_index (list_block self.now.next) k }

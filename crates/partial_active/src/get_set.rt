@@ -96,6 +96,7 @@ impl GetSet {
 
     /// A getSet of a port that is marked for the list words, or isn't. It takes no memory: the buffers
     /// that its answers are taken with were made for the same sizes.
+    #[inline(always)]
     pub fn new(sizes: Sizes, lists_spent: bool) -> GetSet
         ensures state { result ≡ fresh sizes lists_spent }
         ensures together { (f : Buffers) → IsFor sizes f → GoTogether (result, f) }
@@ -114,6 +115,7 @@ impl GetSet {
     }
 
     /// The step that is due, or `None` once the getSet is finished.
+    #[inline(always)]
     pub fn step(&self) -> Option<Step>
         ensures { result ≡ step_of self.now }
     {
@@ -141,6 +143,7 @@ impl GetSet {
 
     /// Whether the port is marked for the list words: it was before, or the claim of this getSet went
     /// past their end.
+    #[inline(always)]
     pub fn lists_spent(&self) -> bool
         ensures { result ≡ self.now.lists_spent }
     {
@@ -150,6 +153,7 @@ impl GetSet {
 
     /// Takes the answer of the step that was due, with the buffers of this getSet. The first answer
     /// empties them. Once the getSet is finished they name the indices found.
+    #[inline(always)]
     pub fn answer(&mut self, found: &mut Found, x: u64)
         requires due { IsSome (step_of self.old) }
         requires together { GoTogether (self.old, found.old) }
@@ -182,6 +186,7 @@ impl GetSet {
     }
 
     // The list head was loaded.
+    #[inline(always)]
     fn after_head(&mut self, found: &mut Found, x: u64)
         requires layout { IsLayout self.old.sizes }
         requires head { IsListHead self.old.sizes x }
@@ -197,6 +202,7 @@ impl GetSet {
     }
 
     // The number of intervals was loaded.
+    #[inline(always)]
     fn after_list_len(&mut self, at: u32, x: u64)
         requires layout { IsLayout self.old.sizes }
         requires len { IsListLen self.old.sizes at x }
@@ -213,6 +219,7 @@ impl GetSet {
     }
 
     // The highest slot of an interval was loaded.
+    #[inline(always)]
     fn after_interval(&mut self, found: &mut Found, at: u32, left: u32, lo: u32, x: u32)
         requires layout { IsLayout self.old.sizes }
         requires reading { IsReading (self.old, found.old) left }
@@ -234,6 +241,7 @@ impl GetSet {
     }
 
     // The slot counter was loaded, and the walk begins.
+    #[inline(always)]
     fn after_counter(&mut self, found: &mut Found, x: u64)
         requires list { HasRead self.old.sizes found.old.read }
         requires below { EndsBelow found.old.read x }
@@ -247,6 +255,7 @@ impl GetSet {
     }
 
     // A slot was loaded.
+    #[inline(always)]
     fn after_slot(&mut self, found: &mut Found, slot: u32, x: u64)
         requires layout { IsLayout self.old.sizes }
         requires at_slot { IsAtSlot (self.old, found.old) slot }
@@ -268,6 +277,7 @@ impl GetSet {
     }
 
     // The number of indices of an announcement was loaded.
+    #[inline(always)]
     fn after_len(&mut self, found: &mut Found, slot: u32, at: u32, x: u64)
         requires layout { IsLayout self.old.sizes }
         requires at_slot { IsAtSlot (self.old, found.old) slot }
@@ -287,6 +297,7 @@ impl GetSet {
     }
 
     // An index of an announcement was loaded.
+    #[inline(always)]
     fn after_index(&mut self, found: &mut Found, slot: u32, at: u32, left: u32, x: u32)
         requires layout { IsLayout self.old.sizes }
         requires at_slot { IsAtSlot (self.old, found.old) slot }
@@ -309,6 +320,7 @@ impl GetSet {
     }
 
     // List words were claimed, or the claim was refused.
+    #[inline(always)]
     fn after_claim(&mut self, found: &Found, words: u32, x: u64)
         requires layout { IsLayout self.old.sizes }
         requires next { HasNext (self.old, found.now) words }
@@ -329,6 +341,7 @@ impl GetSet {
     }
 
     // A word of the next list was written.
+    #[inline(always)]
     fn after_write(&mut self, found: &Found, at: u32, k: u32, words: u32)
         requires next { HasNext (self.old, found.now) words }
         requires word { k < words }
@@ -348,6 +361,7 @@ impl GetSet {
     }
 
     // The walk is over: a list is published where a slot was noted and the port isn't marked.
+    #[inline(always)]
     fn after_walk(&mut self, found: &Found)
         requires { EndsBelow found.now.next self.old.sizes.slots }
         ensures { (self.new, found.now) ≡ after_walk (self.old, found.now) }
@@ -362,6 +376,7 @@ impl GetSet {
     }
 
     // The walk stands at a slot that is in no interval of the list read.
+    #[inline(always)]
     fn at_slot(&mut self, found: &Found, slot: u32)
         requires { IsWalking (self.old, found.now) slot }
         ensures { (self.new, found.now) ≡ at_slot (self.old, found.now) slot }
@@ -374,6 +389,7 @@ impl GetSet {
     }
 
     // The walk comes to a slot, and leaves out an interval of the list read that begins there.
+    #[inline(always)]
     fn come_to(&mut self, found: &mut Found, slot: u32)
         requires walking { IsWalking (self.old, found.old) slot }
         requires sizes { IsFor self.old.sizes found.old }

@@ -37,6 +37,7 @@ impl IndexSet {
     }
 
     /// The indices in the order in which they came.
+    #[inline(always)]
     pub fn as_slice(&self) -> &[u32]
         ensures { result.now ≡ self.now.items }
     {
@@ -44,6 +45,7 @@ impl IndexSet {
     }
 
     /// Puts the index at the end, where it is not there yet.
+    #[inline(always)]
     pub fn insert(&mut self, index: u32)
         requires { index < self.old.limit }
         ensures { self.new ≡ record self.old { items = with_index self.old.items index } }
@@ -56,6 +58,7 @@ impl IndexSet {
     }
 
     /// Takes all indices out, one after another.
+    #[inline(always)]
     pub fn clear(&mut self)
         ensures { self.new ≡ record self.old { items = [] } }
     {

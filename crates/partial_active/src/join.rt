@@ -41,6 +41,7 @@ impl Join {
     ghost use Rattle.partial_active.specs.Join.{step_of_join, advance_join, slot_joined, is_spent, join_left};
 
     /// A join with the announcement at that reference, which stands whole in the words.
+    #[inline(always)]
     pub fn new(sizes: Sizes, announcement: u64) -> Join
         ensures { result ≡ record { sizes = sizes; announcement = announcement; stage = JoinStage.Claiming } }
     {
@@ -52,6 +53,7 @@ impl Join {
     }
 
     /// The step that is due, or `None` once the join is finished.
+    #[inline(always)]
     pub fn step(&self) -> Option<Step>
         ensures { result ≡ step_of_join self.now }
     {
@@ -66,6 +68,7 @@ impl Join {
     }
 
     /// Takes the answer of the step that was due.
+    #[inline(always)]
     pub fn answer(&mut self, x: u64)
         requires { IsSome (step_of_join self.old) }
         ensures state { self.new ≡ advance_join self.old x }
@@ -86,6 +89,7 @@ impl Join {
     }
 
     /// The slot, once the join is finished and its claim was not refused.
+    #[inline(always)]
     pub fn joined(&self) -> Option<u32>
         ensures { result ≡ slot_joined self.now.stage }
     {
@@ -96,6 +100,7 @@ impl Join {
     }
 
     /// Whether the claim went past the last slot.
+    #[inline(always)]
     pub fn spent(&self) -> bool
         ensures { result ≡ is_spent self.now.stage }
     {

@@ -28,6 +28,7 @@ impl Leave {
     ghost use Rattle.partial_active.specs.Leave.{step_of_leave, advance_leave};
 
     /// A leave of the slot.
+    #[inline(always)]
     pub fn new(sizes: Sizes, slot: u32) -> Leave
         requires { slot < sizes.slots }
         ensures { result ≡ record { sizes = sizes; slot = slot; left = false } }
@@ -40,6 +41,7 @@ impl Leave {
     }
 
     /// The step that is due, or `None` once the leave is finished.
+    #[inline(always)]
     pub fn step(&self) -> Option<Step>
         ensures { result ≡ step_of_leave self.now }
     {
@@ -51,6 +53,7 @@ impl Leave {
     }
 
     /// Takes the answer of the step that was due, which says nothing.
+    #[inline(always)]
     pub fn answer(&mut self, _x: u64)
         requires { IsSome (step_of_leave self.old) }
         ensures { self.new ≡ advance_leave self.old }

@@ -59,6 +59,7 @@ impl Embedded {
 
     /// An embedded scan that has made no step. One that shares stops at the reference of a view that it
     /// borrows; another one loads the pairs.
+    #[inline(always)]
     pub fn new(sizes: Sizes, shares: bool) -> Embedded
         ensures state { result ≡ fresh sizes shares }
         ensures together { (indices : List ℕ) (rows : RowsState) → ArePositions sizes indices → IsFor sizes rows → GoTogether indices (result, rows) }
@@ -77,6 +78,7 @@ impl Embedded {
     }
 
     /// The step that is due, or `None` once the scan is finished.
+    #[inline(always)]
     pub fn step(&self, rows: &Rows, indices: &[u32]) -> Option<Step>
         requires { GoTogether indices.now (self.now, rows.now) }
         ensures { result ≡ step_of indices.now (self.now, rows.now) }
@@ -95,6 +97,7 @@ impl Embedded {
     }
 
     /// How many collects were begun, the one under way with them.
+    #[inline(always)]
     pub fn collects(&self) -> u32
         ensures { result ≡ self.now.collects }
     {
@@ -103,6 +106,7 @@ impl Embedded {
     }
 
     /// The stamp of the record whose view is borrowed, if one is.
+    #[inline(always)]
     pub fn borrowed(&self) -> Option<u64>
         ensures { result ≡ self.now.borrowed }
     {
@@ -111,6 +115,7 @@ impl Embedded {
     }
 
     /// The reference of the borrowed view: 0 where it is the empty one, or none is borrowed.
+    #[inline(always)]
     pub fn view(&self) -> u64
         ensures { result ≡ self.now.view }
     {
@@ -120,6 +125,7 @@ impl Embedded {
 
     /// Takes the answer of the step that was due, with the buffers and the positions of this scan. Once
     /// the scan is finished, the buffers have the values.
+    #[inline(always)]
     pub fn answer(&mut self, rows: &mut Rows, indices: &[u32], x: u64)
         requires together { GoTogether indices.now (self.old, rows.old) }
         requires possible { IsPossible (self.old, rows.old) x }
@@ -131,6 +137,7 @@ impl Embedded {
     }
 
     // What the answer makes of the machine.
+    #[inline(always)]
     fn take_in(&mut self, rows: &mut Rows, indices: &[u32], x: u64)
         requires together { GoTogether indices.now (self.old, rows.old) }
         requires possible { IsPossible (self.old, rows.old) x }
@@ -166,6 +173,7 @@ impl Embedded {
     }
 
     // The component word of a position was loaded.
+    #[inline(always)]
     fn after_load(&mut self, rows: &mut Rows, indices: &[u32], position: usize, x: u64)
         requires together { GoTogether indices.now (self.old, rows.old) }
         requires stage { self.old.stage ≡ Collect position }
@@ -195,6 +203,7 @@ impl Embedded {
     }
 
     // The reference of the view of the borrowed record was loaded.
+    #[inline(always)]
     fn after_view(&mut self, x: u64)
         ensures { self.new ≡ after_view self.old x }
     {
@@ -244,6 +253,7 @@ impl Embedded {
 }
 
 // The stage with so many pairs left, from that word on.
+#[inline(always)]
 fn pairs_from(at: u64, left: u64) -> Stage
     ensures { result ≡ pairs_from at left }
 {

@@ -42,6 +42,7 @@ impl Rows {
     }
 
     // The latest load of a position.
+    #[inline(always)]
     pub(crate) fn latest(&self, position: usize) -> u64
         requires { position < length self.now.last }
         ensures { result ≡ slice_index self.now.last position }
@@ -50,6 +51,7 @@ impl Rows {
     }
 
     // Whether a position has changed.
+    #[inline(always)]
     pub(crate) fn has_changed(&self, position: usize) -> bool
         requires { position < length self.now.changed }
         ensures { result ≡ slice_index_or self.now.changed position false }
@@ -58,6 +60,7 @@ impl Rows {
     }
 
     // Notes the load of a position, and whether it has changed by now.
+    #[inline(always)]
     pub(crate) fn note(&mut self, position: usize, stamp: u64, changed: bool)
         requires last { position < length self.old.last }
         requires changed { position < length self.old.changed }
@@ -68,6 +71,7 @@ impl Rows {
     }
 
     // Sets the value of a component.
+    #[inline(always)]
     pub(crate) fn set_value(&mut self, component: u32, value: u64)
         requires { component < length self.old.values }
         ensures { self.new ≡ record self.old { values = slice_set self.old.values component value } }
@@ -77,6 +81,7 @@ impl Rows {
 
     /// The value that the finished scan gives the component, where that is one of its positions' or one
     /// of the borrowed view's.
+    #[inline(always)]
     pub fn value(&self, component: u32) -> u64
         requires { component < length self.now.values }
         ensures { result ≡ slice_index self.now.values component }

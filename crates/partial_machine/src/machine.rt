@@ -232,6 +232,7 @@ impl Core {
     }
 
     /// The step that is due, or None where no call is begun or the call is finished.
+    #[inline(always)]
     pub fn step(&self) -> Option<Step>
         ensures { result ≡ step_of self.now }
     {
@@ -271,6 +272,7 @@ impl Core {
     }
 
     // How many words the record of an update has.
+    #[inline(always)]
     fn record_size(&self) -> u64
         ensures { result ≡ record_size self.now }
     {
@@ -283,6 +285,7 @@ impl Core {
     }
 
     // Word k of the record that an update writes at `at`.
+    #[inline(always)]
     fn record_word(&self, change: Change, old: u64, at: u64, k: u64) -> u64
         requires place { IsInPool self.now.sizes at (record_size self.now) }
         requires within { k < record_size self.now }
@@ -298,6 +301,7 @@ impl Core {
     }
 
     // The reference of the view of a record at `at`: a borrowed view is shared and not copied.
+    #[inline(always)]
     fn view_at(&self, at: u64) -> u64
         requires { IsInPool self.now.sizes at (record_size self.now) }
         ensures { result ≡ view_at self.now at }
@@ -310,6 +314,7 @@ impl Core {
     }
 
     // Word k of the pairs of an update that borrows no view, one after the other.
+    #[inline(always)]
     fn pair_word(&self, k: u64) -> u64
         requires { k < 2 * length self.now.found.indices }
         ensures { result ≡ slice_index (flat_map pair_words (map (λ j. (j, slice_index self.now.rows.values j)) self.now.found.indices)) k }
@@ -323,6 +328,7 @@ impl Core {
     }
 
     /// Takes in the answer to the step that is due.
+    #[inline(always)]
     pub fn answer(&mut self, answer: u64)
         requires { IsPossible self.old answer }
         ensures state { self.new ≡ advance self.old answer }
@@ -358,6 +364,7 @@ impl Core {
     }
 
     // An update has loaded its component word: it goes on where that is the stamp that it expects.
+    #[inline(always)]
     fn begun(&mut self, change: Change, x: u64)
         requires stage { self.old.stage ≡ UpdateBegun change }
         requires possible { IsPossibleAt self.old (UpdateBegun change) x }
@@ -375,6 +382,7 @@ impl Core {
 
     // The getSet of an update takes its answer. Once it is finished, an embedded scan of what it found
     // begins, where it found anything.
+    #[inline(always)]
     fn got(&mut self, change: Change, old: u64, x: u64)
         requires stage { self.old.stage ≡ GettingSet change old }
         requires possible { IsPossibleAt self.old (GettingSet change old) x }
@@ -393,6 +401,7 @@ impl Core {
     }
 
     // The embedded scan of an update takes its answer.
+    #[inline(always)]
     fn viewed(&mut self, change: Change, old: u64, x: u64)
         requires stage { self.old.stage ≡ Viewing change old }
         requires possible { IsPossibleAt self.old (Viewing change old) x }
@@ -410,6 +419,7 @@ impl Core {
     }
 
     // An update has claimed the words of its record.
+    #[inline(always)]
     fn record_claimed(&mut self, change: Change, old: u64, at: u64)
         requires stage { self.old.stage ≡ ClaimingRecord change old }
         requires possible { IsPossibleAt self.old (ClaimingRecord change old) at }
@@ -429,6 +439,7 @@ impl Core {
     }
 
     // An update has stored word k of its record.
+    #[inline(always)]
     fn record_stored(&mut self, change: Change, old: u64, at: u64, k: u64)
         requires stage { self.old.stage ≡ StoringRecord change old at k }
         ensures { self.new ≡ advance_at self.old (StoringRecord change old at k) 0 }
@@ -447,6 +458,7 @@ impl Core {
     }
 
     // A scan has claimed the words of its announcement.
+    #[inline(always)]
     fn announcement_claimed(&mut self, at: u64)
         requires stage { self.old.stage ≡ ScanBegun }
         requires possible { IsPossibleAt self.old ScanBegun at }
@@ -471,6 +483,7 @@ impl Core {
     }
 
     // A scan has stored word k of its announcement. Once all are stored, the join begins.
+    #[inline(always)]
     fn announcement_stored(&mut self, at: u64, k: u64)
         requires stage { self.old.stage ≡ StoringAnnouncement at k }
         ensures { self.new ≡ advance_at self.old (StoringAnnouncement at k) 0 }
@@ -485,6 +498,7 @@ impl Core {
 
     // The join of a scan takes its answer. Once the announcement stands in a slot, the embedded scan
     // begins.
+    #[inline(always)]
     fn joined(&mut self, x: u64)
         requires stage { self.old.stage ≡ Joining }
         ensures { self.new ≡ advance_at self.old Joining x }
@@ -503,6 +517,7 @@ impl Core {
     }
 
     // The embedded scan of a scan takes its answer. Once it is finished, the scan leaves.
+    #[inline(always)]
     fn collected(&mut self, x: u64)
         requires stage { self.old.stage ≡ Scanning }
         requires possible { IsPossibleAt self.old Scanning x }
@@ -515,6 +530,7 @@ impl Core {
     }
 
     // The scan has left.
+    #[inline(always)]
     fn left(&mut self, x: u64)
         requires stage { self.old.stage ≡ Leaving }
         ensures { self.new ≡ advance_at self.old Leaving x }
@@ -530,6 +546,7 @@ impl Core {
 
     /// Takes the reply of a finished call, and the machine is idle again. There is none where no call
     /// is begun or a step is due, and then nothing changes.
+    #[inline(always)]
     pub fn take(&mut self) -> Option<Reply>
         ensures reply { result ≡ reply_of self.old }
         ensures state { MatchOption result (self.new ≡ self.old) (λ _. self.new ≡ at_stage self.old Idle) }
@@ -545,6 +562,7 @@ impl Core {
 
     /// Value `k`, counted from 0, of the last scan that was answered, in the order of its positions. It
     /// is there until the next call is begun.
+    #[inline(always)]
     pub fn scanned(&self, k: usize) -> u64
         requires { k < length self.now.asked }
         ensures { result ≡ slice_index (scanned_values self.now) k }
@@ -604,6 +622,7 @@ fn set_asked(asked: &mut Vec<u32>, components: &[u32])
 }
 
 // The reply to an update whose exchange found this record.
+#[inline(always)]
 fn exchanged(change: Change, old: u64, at: u64, found: u64) -> Reply
     ensures { result ≡ (if found == old then reply.Applied at else overtaken change found) }
 {

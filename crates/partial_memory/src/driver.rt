@@ -17,6 +17,7 @@ use std::marker::Brand;
 use std::mem;
 
 /// Takes the seat out of its badge, until it is put back.
+#[inline(always)]
 pub fn take_seat(badge: &mut Badge<View>) -> Place
     requires { IsBadgeOfOne badge.old.views }
     ensures table { result.table_id ≡ badge.old.table_id }
@@ -26,6 +27,7 @@ pub fn take_seat(badge: &mut Badge<View>) -> Place
 }
 
 /// Makes the step that is due, and hands its answer to the machine.
+#[inline(always)]
 pub fn make_step<G: Moment>(words: &Words, seat: &mut Place, core: &mut Core, step: Step)
     requires table { seat.old.table_id ≡ words.now.table_id }
     requires word { word_of step < words.now.table_id.words }
