@@ -1,0 +1,157 @@
+//! Rows in one thread, each worked out by hand.
+
+use super::{opened, pair};
+use crate::{Memory, OpenError, Scanned, Updated, UpdatedIf};
+use partial_model::Refused;
+use partial_words::Sizes;
+use std::test::Fail;
+
+const COLLECTED_TWICE: Scanned = Scanned {
+    collects: 2,
+    borrowed: None,
+};
+
+#[test]
+fn one_thread(rt: HostRuntime) -> Result<(), Fail> {
+    let sizes = Sizes::new(2, 4, 8, 64)?;
+    let (memory, mut first, mut second) = pair(rt.alloc(), sizes, &[10, 20])?;
+    assert_eq!(rt; (first.number(), second.number()), (0, 1));
+    let updated = memory.update(&mut first, 1, 8);
+    assert_eq!(rt; updated, Ok(Updated::Applied { stamp: 24 }));
+    let mut into = [0u64; 2];
+    let scanned = memory.scan(&mut second, &[0, 1], &mut into);
+    assert_eq!(rt; scanned, Ok(COLLECTED_TWICE));
+    assert_eq!(rt; into, [10, 8]);
+    memory.meet(&mut first, &mut second);
+    assert_eq!(rt; memory.read(&mut second, 1), Ok((8, 24)));
+    assert_eq!(rt; memory.read(&mut second, 2), Err(Refused::Component));
+    Ok(())
+}
+
+#[test]
+fn ports_refused(rt: HostRuntime) -> Result<(), Fail> {
+    let sizes = Sizes::new(2, 4, 8, 64)?;
+    for ports in [0, 65] {
+        let refused = Memory::open(rt.alloc(), sizes, &[10, 20], ports).err();
+        assert_eq!(rt; refused, Some(OpenError::Ports), "{ports} ports");
+    }
+    for ports in [1, 64] {
+        let (_, all) = Memory::open(rt.alloc(), sizes, &[10, 20], ports)?;
+        assert_eq!(rt; all.len(), ports as usize);
+    }
+    Ok(())
+}
+
+#[test]
+fn component_refused(rt: HostRuntime) -> Result<(), Fail> {
+    let sizes = Sizes::new(2, 4, 8, 64)?;
+    let (memory, mut first, _) = pair(rt.alloc(), sizes, &[10, 20])?;
+    let absent = Refused::Component;
+    assert_eq!(rt; memory.update(&mut first, 2, 1), Err(absent));
+    assert_eq!(rt; memory.update_if(&mut first, 2, 18, 1), Err(absent));
+    let mut into = [3u64, 4];
+    assert_eq!(rt; memory.scan(&mut first, &[0, 2], &mut into), Err(absent));
+    assert_eq!(rt; into, [3, 4]);
+    assert_eq!(rt;
+        memory.update(&mut first, 0, 7),
+        Ok(Updated::Applied { stamp: 24 })
+    );
+    Ok(())
+}
+
+#[test]
+fn pool_spent(rt: HostRuntime) -> Result<(), Fail> {
+    let sizes = Sizes::new(2, 4, 8, 9)?;
+    let (memory, mut first, mut second) = pair(rt.alloc(), sizes, &[10, 20])?;
+    let updated = memory.update(&mut first, 0, 7);
+    assert_eq!(rt; updated, Ok(Updated::Applied { stamp: 24 }));
+    assert!(rt; !first.pool_spent());
+    for _ in 0..2 {
+        assert_eq!(rt; memory.update(&mut first, 0, 8), Err(Refused::PoolSpent));
+        assert!(rt; first.pool_spent());
+    }
+    assert!(rt; !second.pool_spent());
+    assert_eq!(rt; memory.update(&mut second, 1, 9), Err(Refused::PoolSpent));
+    assert!(rt; second.pool_spent());
+    assert_eq!(rt; memory.read(&mut second, 0), Ok((7, 24)));
+    Ok(())
+}
+
+#[test]
+fn slots_spent(rt: HostRuntime) -> Result<(), Fail> {
+    let sizes = Sizes::new(2, 1, 8, 64)?;
+    let (memory, mut port, _) = pair(rt.alloc(), sizes, &[10, 20])?;
+    let mut into = [3u64];
+    assert_eq!(rt;
+        memory.scan(&mut port, &[0], &mut into),
+        Ok(COLLECTED_TWICE)
+    );
+    assert_eq!(rt; into, [10]);
+    assert!(rt; !port.slots_spent());
+    for _ in 0..2 {
+        let scanned = memory.scan(&mut port, &[1], &mut into);
+        assert_eq!(rt; scanned, Err(Refused::SlotsSpent));
+        assert_eq!(rt; into, [10]);
+        assert!(rt; port.slots_spent());
+    }
+    let updated = memory.update(&mut port, 1, 5);
+    assert_eq!(rt; updated, Ok(Updated::Applied { stamp: 25 }));
+    Ok(())
+}
+
+// Two ports that never meet: each scan and each read shows the update that ended before it began.
+#[test]
+fn never_met(rt: HostRuntime) -> Result<(), Fail> {
+    let sizes = Sizes::new(2, 64, 0, 4096)?;
+    let (memory, mut first, mut second) = pair(rt.alloc(), sizes, &[0, 0])?;
+    for value in 1..=50 {
+        let stamp = 70 + 6 * value;
+        let updated = memory.update(&mut first, 0, value);
+        assert_eq!(rt; updated, Ok(Updated::Applied { stamp }));
+        let mut into = [99u64; 2];
+        let scanned = memory.scan(&mut second, &[0, 1], &mut into);
+        assert_eq!(rt; scanned, Ok(COLLECTED_TWICE));
+        assert_eq!(rt; into, [value, 0]);
+        assert_eq!(rt; memory.read(&mut second, 0), Ok((value, stamp)));
+    }
+    Ok(())
+}
+
+#[test]
+fn conditional(rt: HostRuntime) -> Result<(), Fail> {
+    let sizes = Sizes::new(2, 4, 8, 64)?;
+    let (memory, mut first, mut second) = pair(rt.alloc(), sizes, &[10, 20])?;
+    let applied = memory.update_if(&mut first, 0, 18, 7);
+    assert_eq!(rt; applied, Ok(UpdatedIf::Applied { stamp: 24 }));
+    let changed = memory.update_if(&mut second, 0, 18, 8);
+    assert_eq!(rt; changed, Ok(UpdatedIf::Changed { by: 24 }));
+    let applied = memory.update_if(&mut second, 0, 24, 9);
+    assert_eq!(rt; applied, Ok(UpdatedIf::Applied { stamp: 27 }));
+    assert_eq!(rt; memory.read(&mut first, 0), Ok((9, 27)));
+    Ok(())
+}
+
+#[test]
+fn empty_scan(rt: HostRuntime) -> Result<(), Fail> {
+    let sizes = Sizes::new(2, 1, 8, 9)?;
+    let (memory, mut first, _) = pair(rt.alloc(), sizes, &[10, 20])?;
+    let scanned = memory.scan(&mut first, &[], &mut []);
+    let none = Scanned {
+        collects: 0,
+        borrowed: None,
+    };
+    assert_eq!(rt; scanned, Ok(none));
+    Ok(())
+}
+
+#[test]
+fn repeated_position(rt: HostRuntime) -> Result<(), Fail> {
+    let sizes = Sizes::new(3, 4, 8, 64)?;
+    let (memory, mut ports) = opened(rt.alloc(), sizes, &[10, 20, 30], 1)?;
+    let mut port = ports.pop().ok_or("a port")?;
+    let mut into = [0u64; 3];
+    let scanned = memory.scan(&mut port, &[0, 0, 1], &mut into);
+    assert_eq!(rt; scanned, Ok(COLLECTED_TWICE));
+    assert_eq!(rt; into, [10, 10, 20]);
+    Ok(())
+}
