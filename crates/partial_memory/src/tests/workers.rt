@@ -29,7 +29,7 @@ pub enum Job {
 #[derive(Drop)]
 pub struct Worker {
     pub port: Port,
-    job: Job,
+    pub job: Job,
     times: u64,
     /// The stamps of its applied updates, and of its applied conditional updates.
     pub applied: Vec<u64>,
@@ -196,11 +196,11 @@ pub fn run<R: Threads + Sync>(rt: &R, memory: &Memory, workers: &mut [Worker])
     thread::for_each_mut(rt, workers, 64, &|_, worker| worker.work(memory));
 }
 
-/// Hires the ports for these jobs in turn, each to be done as often as that.
+/// Hires the ports for these jobs in turn, the last port first, each job to be done as often as that.
 pub fn hire(
     alloc: Global,
     memory: &Memory,
-    ports: Vec<Port>,
+    mut ports: Vec<Port>,
     jobs: &[(Job, u64)],
 ) -> Result<Vec<Worker>, AllocError>
     requires own { AllByRecursion (IsOf memory.now) ports.items }
@@ -208,7 +208,10 @@ pub fn hire(
     ensures { IfOk result (λ v. All (λ w. IsOf memory.now w.port) v.items) }
 {
     let mut workers = Vec::with_capacity(alloc, ports.len())?;
-    for port in ports {
+    for _ in 0..ports.len() {
+        let Some(port) = ports.pop() else {
+            break;
+        };
         let (job, times) = jobs[workers.len() % jobs.len()];
         workers.push(Worker::new(alloc, port, job, times))?;
     }
