@@ -119,20 +119,28 @@ fn slots_spent(rt: HostRuntime) -> Result<(), Fail> {
     Ok(())
 }
 
+// One port updates component 0, and another one, which it hasn't met, scans and reads it.
+fn update_then_look(rt: &impl Abort, memory: &Memory, first: &mut Port, second: &mut Port, k: u64)
+    requires { IsOf memory.now first.old × IsOf memory.now second.old × (2 ≤ memory.now.about.sizes.m) }
+    ensures { IsOf memory.now first.new × IsOf memory.now second.new }
+{
+    let stamp = k.saturating_mul(6).saturating_add(70);
+    let updated = memory.update(first, 0, k);
+    assert_eq!(rt; updated, Ok(Updated::Applied { stamp }));
+    let mut into = [99u64; 2];
+    let scanned = memory.scan(second, &[0, 1], &mut into);
+    assert_eq!(rt; scanned, Ok(COLLECTED_TWICE));
+    assert_eq!(rt; into, [k, 0]);
+    assert_eq!(rt; memory.read(second, 0), Ok((k, stamp)));
+}
+
 // Two ports that never meet: each scan and each read shows the update that ended before it began.
 #[test]
 fn never_met(rt: HostRuntime) -> Result<(), Fail> {
     let sizes = Sizes::new(2, 64, 0, 4096)?;
     let (memory, mut first, mut second) = pair(rt.alloc(), sizes, &[0, 0])?;
     for value in 1..=50 {
-        let stamp = 70 + 6 * value;
-        let updated = memory.update(&mut first, 0, value);
-        assert_eq!(rt; updated, Ok(Updated::Applied { stamp }));
-        let mut into = [99u64; 2];
-        let scanned = memory.scan(&mut second, &[0, 1], &mut into);
-        assert_eq!(rt; scanned, Ok(COLLECTED_TWICE));
-        assert_eq!(rt; into, [value, 0]);
-        assert_eq!(rt; memory.read(&mut second, 0), Ok((value, stamp)));
+        update_then_look(&rt, &memory, &mut first, &mut second, value);
     }
     Ok(())
 }

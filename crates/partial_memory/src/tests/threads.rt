@@ -4,7 +4,7 @@ ghost use Rattle.std.specs.Prelude.{◌≡◌, ◌<◌, All, IfOk, length};
 ghost use Rattle.partial_memory.specs.Ports.{IsOf};
 
 use super::opened;
-use super::workers::{Job, Worker, hire, run};
+use super::workers::{Job, Worker, hire, last_of, run};
 use crate::Memory;
 use partial_model::Refused;
 use partial_words::Sizes;
@@ -157,12 +157,11 @@ fn ten_applied_of_forty(rt: HostRuntime) -> Result<(), Fail> {
     for worker in &workers {
         assert!(rt; worker.port.pool_spent());
     }
-    let mut second = workers.pop().ok_or("a second port")?;
-    let (value, _) = memory.read(&mut second.port, 1)?;
-    assert_eq!(rt; value, second.applied.len() as u64);
-    let mut first = workers.pop().ok_or("a first port")?;
-    let (value, _) = memory.read(&mut first.port, 0)?;
-    assert_eq!(rt; value, first.applied.len() as u64);
+    let mut last = workers.pop().ok_or("a worker")?;
+    let (first, _) = memory.read(&mut last.port, 0)?;
+    let (second, _) = memory.read(&mut last.port, 1)?;
+    assert_eq!(rt; second, last.applied.len() as u64);
+    assert_eq!(rt; first.saturating_add(second), 10);
     Ok(())
 }
 
@@ -173,13 +172,15 @@ fn five_scans_of_twenty(rt: HostRuntime) -> Result<(), Fail> {
     judge(&rt, rt.alloc(), &workers)?;
     assert_eq!(rt; refused_in_all(&workers, Refused::SlotsSpent), 15);
     let mut answered = 0usize;
-    for _ in 0..2 {
-        let mut worker = workers.pop().ok_or("a worker")?;
+    for worker in &workers {
         assert!(rt; worker.port.slots_spent());
         answered = answered.saturating_add(worker.scans.len());
-        assert_eq!(rt; memory.read(&mut worker.port, 0), Ok((0, 11)));
     }
     assert_eq!(rt; answered, 5);
+    let mut last = last_of(&memory, &mut workers)?;
+    assert_eq!(rt; memory.read(&mut last.port, 0), Ok((0, 11)));
+    let mut other = last_of(&memory, &mut workers)?;
+    assert_eq!(rt; memory.read(&mut other.port, 0), Ok((0, 11)));
     Ok(())
 }
 
@@ -208,8 +209,8 @@ fn eight_ports(rt: HostRuntime) -> Result<(), Fail> {
     assert!(rt; refused_in_all(&workers, Refused::PoolSpent) > 0);
     assert!(rt; refused_in_all(&workers, Refused::SlotsSpent) > 0);
     let counted = counted_in_all(&workers);
-    let mut last = workers.pop().ok_or("a worker")?;
-    let mut other = workers.pop().ok_or("another")?;
+    let mut last = last_of(&memory, &mut workers)?;
+    let mut other = last_of(&memory, &mut workers)?;
     memory.meet(&mut last.port, &mut other.port);
     let (value, stamp) = memory.read(&mut last.port, 0)?;
     assert_eq!(rt; value, counted as u64);

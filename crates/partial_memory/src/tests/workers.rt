@@ -7,6 +7,7 @@ ghost use Rattle.partial_memory.specs.Ports.{IsOf};
 use crate::{Memory, Port, Scanned, Updated, UpdatedIf};
 use partial_model::Refused;
 use std::alloc::{AllocError, Global};
+use std::test::Fail;
 use std::thread;
 use std::thread::Threads;
 
@@ -216,4 +217,14 @@ pub fn hire(
         workers.push(Worker::new(alloc, port, job, times))?;
     }
     Ok(workers)
+}
+
+/// Takes the last worker.
+pub fn last_of(memory: &Memory, workers: &mut Vec<Worker>) -> Result<Worker, Fail>
+    requires { All (λ w. IsOf memory.now w.port) workers.old.items }
+    ensures rest { All (λ w. IsOf memory.now w.port) workers.new.items }
+    ensures one { IfOk result (λ w. IsOf memory.now w.port) }
+{
+    let _of = memory;
+    Ok(workers.pop().ok_or("a worker")?)
 }
