@@ -1,56 +1,66 @@
 #!/usr/bin/env bash
-# Refuses each growth that a crate's tests ask for in turn. Where the growth with that number is refused,
-# a test doesn't come to it, or it ends with that refusal and with nothing else. The last line is
-# 'N passed, M failed', where one run of a crate's tests counts once.
+# Refuses each growth that a crate's tests ask for in turn. Where the growth with that number is refused, a
+# test doesn't come to it and passes, or it ends with that refusal and with nothing else. It runs the proved
+# tests that `rt ci` or `rt test` left, and proves and builds them where they are missing or a source is newer.
+# With words, it takes the crates with these names alone. The last line is 'N passed, M failed', where one run
+# of a crate's tests counts once.
 set -u
 
 top=$(cd "$(dirname "${BASH_SOURCE[0]}")/.." && pwd) || exit 1
-said=$(mktemp -d) || exit 1
-trap 'rm -rf "$said"' EXIT
-at_once=$(nproc)
+. "$top/fresh.sh" || exit 1
+room=$(mktemp -d) || exit 1
+trap 'rm -rf "$room"' EXIT
+wanted=" $* "
 passed=0
 failed=0
+handed_up=$'^growth refused\nerror: (AllocError|[A-Za-z]+\\(Memory\\))\nthe test failed: its result gives status 1$'
 
-# Runs the tests of a crate with the growth of that number refused.
+# refuse TESTS NAME GROWTH: runs a test with the growth of that number refused, and judges it. Counts in `came`
+# a test that came to that growth.
 refuse() {
-    (cd "$top/crates/$1" && rt try --test --fail-alloc "$2") >"$said/$2" 2>&1
-}
-
-# Judges such a run by the tests whose names fit. Leaves how many of them were refused the growth.
-judge() {
-    local ended handed
-    ended=$(grep -A 1 "^test $3 \.\.\. FAILED\$" "$said/$2")
-    refused=$(grep -c '^test ' <<<"$ended")
-    handed=$(grep -cE '^    error: (AllocError|[A-Za-z]+\(Memory\))$' <<<"$ended")
-    if grep -q '^run=ended ' "$said/$2" && [ "$refused" -eq "$handed" ]; then
-        passed=$((passed + 1))
-    else
-        failed=$((failed + 1))
-        echo "failed: $1 with growth $2 refused"
-        cat "$said/$2"
+    local said status
+    said=$(timeout 60 env LD_PRELOAD="$room/refuse.so" REFUSED_GROWTH="$3" "$1" "$2" 2>&1)
+    status=$?
+    if [ "$status" -eq 0 ] && [ "$said" = $'\ntest result: ok' ]; then
+        return 0
     fi
+    came=$((came + 1))
+    if [ "$status" -eq 101 ] && [[ $said =~ $handed_up ]]; then
+        return 0
+    fi
+    printf 'failed: %s with growth %d refused (status %d)\n%s\n' "$2" "$3" "$status" "$said"
+    return 1
 }
 
-# Refuses the growths of a crate's tests in turn, some at once, until none is refused.
+# refuse_all CRATE NAMES: refuses the growths of the tests whose names fit, until no test comes to one.
 refuse_all() {
-    local from=1 growth
-    refused=1
-    while [ "$refused" -gt 0 ] && [ "$from" -le 128 ]; do
-        for ((growth = from; growth < from + at_once; growth++)); do
-            refuse "$1" "$growth" &
+    local tests=$top/crates/$1/out/$1_tests names name growth came=1 well
+    [ "$wanted" = "  " ] || [[ $wanted == *" $1 "* ]] || return
+    if ! is_fresh "$tests" && ! (cd "$top/crates/$1" && rt test); then
+        failed=$((failed + 1))
+        return
+    fi
+    names=$("$tests" --list | sed -n 's/: test$//p' | grep -xE "$2")
+    for ((growth = 1; came > 0 && growth <= 128; growth++)); do
+        came=0
+        well=1
+        for name in $names; do
+            refuse "$tests" "$name" "$growth" || well=0
         done
-        wait
-        for ((growth = from; growth < from + at_once; growth++)); do
-            judge "$1" "$growth" "$2"
-            # The first growth is one that some test asks for.
-            [ "$growth" -ne 1 ] || [ "$refused" -gt 0 ] || failed=$((failed + 1))
-        done
-        from=$growth
+        # The first growth is one that some test asks for.
+        [ "$growth" -gt 1 ] || [ "$came" -gt 0 ] || well=0
+        passed=$((passed + well))
+        failed=$((failed + 1 - well))
     done
-    # The last of them was refused to no test.
-    [ "$refused" -eq 0 ] || failed=$((failed + 1))
+    # To the last of them no test came.
+    [ "$came" -eq 0 ] || failed=$((failed + 1))
     echo "$1: growths 1 to $((growth - 1)) refused in turn"
 }
+
+if ! "${CC:-cc}" -O2 -shared -fPIC -o "$room/refuse.so" "$top/tests/refuse.c"; then
+    echo "0 passed, 1 failed"
+    exit 1
+fi
 
 refuse_all partial_intervals '.*'
 refuse_all partial_active '.*'

@@ -1,13 +1,15 @@
 #!/usr/bin/env bash
 # Runs the program from outside, and compares what it writes and its status. The last line is
-# 'N passed, M failed'. PARTIAL may name a built program; else it is proved and built here.
+# 'N passed, M failed'. PARTIAL may name a built program; else it is the proved one that `rt ci` or `rt run`
+# left, and is proved and built here where it is missing or a source is newer.
 set -u
 
 top=$(cd "$(dirname "${BASH_SOURCE[0]}")/.." && pwd) || exit 1
+. "$top/fresh.sh" || exit 1
 program=${PARTIAL:-}
 if [ -z "$program" ]; then
     program=$top/crates/partial/out/partial
-    if ! (cd "$top/crates/partial" && rt run -- replay <stdin >/dev/null); then
+    if ! is_fresh "$program" && ! (cd "$top/crates/partial" && rt run -- replay <stdin >/dev/null); then
         echo "0 passed, 1 failed"
         exit 1
     fi
@@ -157,6 +159,42 @@ if [ -w /dev/full ]; then
         echo "failed: full_device"
     fi
 fi
+
+# ./partial from another folder, in a copy of the sources: first with no proved program, then with one.
+copy=$room/copy
+mkdir -p "$copy/elsewhere" "$room/bin"
+tar -C "$top" --exclude=out -cf - crates crates.txt partial fresh.sh | tar -C "$copy" -xf -
+cp "$top/plans/lost_exchange.plan" "$copy/lost.plan"
+built=$program
+program=$copy/partial
+cd "$copy/elsewhere" || exit 1
+
+# paths NAME TEXT: each kind of path, with this text on standard error in front of what the program says.
+paths() {
+    expect "" "" "$2"
+    cp "$top/plans/lost_exchange.expected" "$room/out"
+    case_of "$1: a path from the caller's folder" 0 replay ../lost.plan
+    case_of "$1: a pipe" 0 replay <(cat ../lost.plan)
+    expect "" "" "$2"$'partial: refused 11: read fault\n'
+    case_of "$1: a path from the folder above" 1 replay lost.plan
+    case_of "$1: a folder" 1 replay ..
+}
+
+unproved=$'This run is of the sources, with no proof: no proved program is there.\n'
+expect "" $'lawful\n' "$unproved"
+case_of "unproved: the first run builds" 0 check ../lost.plan
+
+# From here on whatever calls rt fails.
+printf '#!/bin/sh\necho built\nexit 1\n' >"$room/bin/rt"
+chmod +x "$room/bin/rt"
+PATH=$room/bin:$PATH
+paths "unproved, built before" "$unproved"
+touch "$copy/crates/partial_cmd/src/lib.rt"
+expect "" "" "$unproved"$'built\n'
+case_of "unproved: a newer source is built" 2 replay ../lost.plan
+mkdir -p "$copy/crates/partial/out"
+cp "$built" "$copy/crates/partial/out/partial"
+paths proved ""
 
 echo "$passed passed, $failed failed"
 [ "$failed" -eq 0 ]

@@ -164,7 +164,7 @@ lawful_records_are_within z o words parts log w =
       values = values;
       history = w.memory.history;
       agrees = w.memory.agrees;
-      initial = λ j below. omega (arith, below, count, stamps, pool);
+      initial = λ j below. (omega (arith, stamps), omega (arith, below, count, stamps, pool));
       entries = all_weaker (IsEntry z words) (λ (e : Applied). (z.m ≤ e.stamp) × (e.stamp + 2 < length words)) (λ e entry. let above = entry.above in let within = entry.within in (omega (arith, above), omega (arith, within, count))) log w.memory.entries;
     }
 

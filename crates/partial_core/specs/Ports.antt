@@ -33,7 +33,7 @@ pub record RecordsAreWithin (z : Layout) (o : Opening) (words : List ℕ) (log :
   pub values : length o.values ≡ z.m
   pub history : IsHistory o log
   pub agrees : Agrees o words log
-  pub initial : (j : ℕ) → j < z.m → view_word (initial_stamp o j) < length words
+  pub initial : (j : ℕ) → j < z.m → (z.m ≤ initial_stamp o j) × (view_word (initial_stamp o j) < length words)
   pub entries : AllByRecursion (λ e. (z.m ≤ e.stamp) × (view_word e.stamp < length words)) log
 
 -- the records of a lawful state are within its words

@@ -1,5 +1,5 @@
 -- The steps of a call, one after the other.
-use Rattle.std.proofs.Common.{ℕ, ◌≡◌, ◌+◌, ◌<◌, ◌≤◌, ◌++◌, ◌⊎◌, ◌||◌, Bool, true, false, cond, Option, Some, None, List, [], ◌∷◌, length, refl, sym, ap, subst, ◌∙◌, inl, inr, arith}
+use Rattle.std.proofs.Common.{ℕ, ◌≡◌, ◌+◌, ◌<◌, ◌++◌, ◌⊎◌, ◌||◌, true, false, cond, Option, Some, None, List, [], ◌∷◌, length, refl, sym, ap, subst, ◌∙◌, inl, inr, arith}
 use Rattle.std.specs.Prelude.{is_some, not}
 use Rattle.std.proofs.lemmas.Bool.{false≢true}
 use Rattle.std.proofs.lemmas.List.{length_push}
@@ -15,7 +15,6 @@ use Rattle.partial_machine.specs.Behind.{refuses_pool, refuses_slots}
 use Rattle.partial_machine.proofs.Laws.{due_words_are_there}
 use Rattle.partial_core.specs.Part.{Part, Kept, HasBegun, IsMachineOf}
 use Rattle.partial_core.specs.Steps.{Tells}
-use Rattle.partial_core.specs.Calls.{Made}
 use Rattle.partial_core.proofs.Laws.{first_steps_make_calls, further_steps_make_calls}
 use Rattle.partial_memory.specs.declared.rule.About.{About}
 use Rattle.partial_memory.specs.Rule.{Seated, AreByOpened, Told}

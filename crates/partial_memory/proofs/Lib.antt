@@ -8,3 +8,5 @@ mod Reading
 mod Opens
 mod Looks
 mod Meetings
+mod Chains
+mod Closes

@@ -1,10 +1,10 @@
 -- A look at the whole history in a meeting, and the ports of two seats that come together.
-use Rattle.std.proofs.Common.{ℕ, zero, suc, ◌≡◌, ◌<◌, ◌++◌, List, [], ◌∷◌, map, get_or, set, refl, sym, ap, subst, ◌∙◌, arith, append_assoc, append-nil}
+use Rattle.std.proofs.Common.{ℕ, zero, suc, ◌≡◌, ◌<◌, ◌++◌, List, [], ◌∷◌, map, set, refl, sym, ap, subst, ◌∙◌, append_assoc}
 use Rattle.std.specs.List.{AllByRecursion}
 use mathlib.Core.Option.{some, some-injective, some-ne-none}
 use lib.ListN.{get_elem?}
 use lib.Seq.{set-get_or}
-use Rattle.atomic_table.specs.Table.{State, Me, keeps, Allows, Joins}
+use Rattle.atomic_table.specs.Table.{Me, keeps, Allows, Joins}
 use Rattle.partial_model.specs.declared.history.Applied.{Applied}
 use Rattle.partial_model.proofs.AllLemmas.{all_at, all_join, all_before, all_after}
 use Rattle.partial_core.specs.Part.{port_of, with_seen}
@@ -37,15 +37,15 @@ see_all about words log b (x ∷ xs) a all own shuffle lawful opened =
     let f = find b x (xs ++ a) all shuffle in
     let y : Seated = having_met log x in
     let here : Lawful about.sizes about.opening words (parts_of f.before ++ x.part ∷ parts_of f.after) log =
-        subst (λ l. Lawful about.sizes about.opening words l log) (ap parts_of f.is ∙ parts_split f.before x f.after) lawful in
+    subst (λ l. Lawful about.sizes about.opening words l log) (ap parts_of f.is ∙ parts_split f.before x f.after) lawful in
     let look = looks_stay_lawful about.sizes about.opening words (parts_of f.before) x.part (parts_of f.after) log here in
     let fit = lawful_ports_fit about.sizes about.opening words (parts_of all) log lawful in
     let others = entries_opened about all log opened fit.others in
     let before : AllByRecursion P (f.before ++ x ∷ f.after) = subst (AllByRecursion P) f.is opened in
     let behind : AllByRecursion P (f.before ++ y ∷ f.after) = all_join P f.before y f.after (all_before P f.before x f.after before) (all_at P f.before x f.after before) (all_after P f.before x f.after before) in
     let rest = see_all about words log (b ++ y ∷ []) xs a (f.before ++ y ∷ f.after) own.1
-        (subst (λ l. IsShuffle l (f.before ++ y ∷ f.after)) (sym (append_assoc b (y ∷ []) (xs ++ a))) (f.more y))
-        (subst (λ l. Lawful about.sizes about.opening words l log) (sym (parts_split f.before y f.after)) look.lawful) behind in
+    (subst (λ l. IsShuffle l (f.before ++ y ∷ f.after)) (sym (append_assoc b (y ∷ []) (xs ++ a))) (f.more y))
+    (subst (λ l. Lawful about.sizes about.opening words l log) (sym (parts_split f.before y f.after)) look.lawful) behind in
     record {
       all = rest.all;
       shuffle = subst (λ l. IsShuffle l rest.all) (append_assoc b (y ∷ []) (map (having_met log) xs ++ a)) rest.shuffle;

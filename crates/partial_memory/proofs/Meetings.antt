@@ -6,7 +6,7 @@ use Rattle.atomic_table.specs.Seated.{TableId}
 use Rattle.partial_model.specs.declared.history.Applied.{Applied}
 use Rattle.partial_machine.specs.Machine.{CoreState}
 use Rattle.partial_memory.specs.declared.rule.About.{About}
-use Rattle.partial_memory.specs.Rule.{Seated, IsBadgeOfOne, IsIn, first_of, having_met, looks, one_in, others_of}
+use Rattle.partial_memory.specs.Rule.{Seated, IsIn, first_of, having_met, looks, one_in, others_of}
 use Rattle.partial_memory.specs.Ports.{IsResting, Knows, PortView, port_view}
 use Rattle.partial_memory.specs.Calls.{Meets}
 use Rattle.partial_memory.proofs.Looks.{AreOf}

@@ -1,5 +1,5 @@
 -- A memory as it opens, and its ports.
-use Rattle.std.proofs.Common.{ℕ, zero, suc, ◌≡◌, ◌+◌, ◌-◌, ◌<◌, ◌≤◌, ◌++◌, List, [], ◌∷◌, map, refl, sym, ap, subst, ◌∙◌, arith, append-nil, append_assoc}
+use Rattle.std.proofs.Common.{ℕ, zero, suc, ◌≡◌, ◌+◌, ◌-◌, ◌<◌, ◌≤◌, ◌++◌, List, [], ◌∷◌, refl, sym, ap, subst, ◌∙◌, arith, append-nil, append_assoc}
 use Rattle.atomic_table.specs.Table.{Me, opening}
 use Rattle.atomic_table.specs.Seated.{TableId}
 use Rattle.partial_words.specs.Layout.{Layout, IsLayout}

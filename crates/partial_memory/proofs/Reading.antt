@@ -1,21 +1,19 @@
 -- A read in two loads, whose machine is where its port's kept answers lead.
-use Rattle.std.proofs.Common.{ℕ, ◌≡◌, ◌+◌, ◌<◌, ◌≤◌, ◌^◌, Bool, true, false, Some, None, List, [], ◌∷◌, refl, sym, ap, subst, ◌∙◌, inl, inr, cond, arith}
-use Rattle.std.specs.Prelude.{is_some, nat_lt}
+use Rattle.std.proofs.Common.{ℕ, ◌≡◌, ◌+◌, ◌<◌, Some, None, List, [], ◌∷◌, refl, sym, ap, subst, ◌∙◌, inl, inr, cond, arith}
 use Rattle.std.proofs.lemmas.Bool.{lt-ltb}
 use Rattle.atomic_table.specs.Table.{Me, Allows}
 use Rattle.atomic_table.specs.Seated.{TableId}
 use Rattle.partial_model.specs.declared.call.Call.TheVariants as call
 use Rattle.partial_model.specs.declared.call.Refused.TheVariants as refused
-use Rattle.partial_words.specs.declared.step.Step.{Step}
 use Rattle.partial_words.specs.declared.step.Step.TheVariants.{Load}
-use Rattle.partial_words.specs.Layout.{Layout, IsLayout, total}
+use Rattle.partial_words.specs.Layout.{Layout, total}
 use Rattle.partial_words.specs.Record.{value_word}
 use Rattle.partial_machine.specs.declared.stage.Reply.TheVariants as reply
 use Rattle.partial_machine.specs.declared.stage.Stage.TheVariants.{Idle, ReadBegun}
 use Rattle.partial_machine.specs.Machine.{CoreState, advance, at_stage, step_of}
 use Rattle.partial_machine.specs.Calls.{begin_scan, begun_like, begun_of, refusal_of}
 use Rattle.partial_machine.proofs.Laws.{calls_begin, rests_are_sound}
-use Rattle.partial_core.specs.Part.{Part, IsBetween, IsMachineOf, core_of, port_of}
+use Rattle.partial_core.specs.Part.{IsBetween, IsMachineOf, core_of, port_of}
 use Rattle.partial_core.specs.Steps.{Fits}
 use Rattle.partial_core.proofs.Laws.{calls_begin_between, ports_come_between}
 use Rattle.partial_memory.specs.declared.rule.About.{About}
@@ -90,7 +88,7 @@ module _ (views : List (List Seated)) (core : CoreState) (number : ℕ) (w : IsR
           let z : Layout = (one_in views).about.sizes in
           let ended = ports_come_between.1 z (one_in views).about.opening b (one_in views).part (advance (advance b stamp) value) v.part m.made refl in
           let like : core ≡ begun_like (core_of v.part) core =
-              w.between.machine ∙ ap (λ (d : CoreState). begun_like d core) m.made.machine.is in
+          w.between.machine ∙ ap (λ (d : CoreState). begun_like d core) m.made.machine.is in
           let between : IsBetween v.part core = record { rest = ended.rest; machine = like; idle = w.between.idle; asked = w.between.asked } in
           let about = m.about in
           record {

@@ -1,5 +1,5 @@
 -- What a call that has ended leaves of its port, by its reply.
-use Rattle.std.proofs.Common.{ℕ, ◌≡◌, ◌≢◌, ◌+◌, ◌<◌, ◌≤◌, ◌++◌, ◌||◌, Bool, true, false, cond, Option, Some, None, List, [], ◌∷◌, length, map, take, slice_index, refl, sym, ap, subst, ◌∙◌, inr, arith}
+use Rattle.std.proofs.Common.{ℕ, ◌≡◌, ◌≤◌, ◌++◌, ◌||◌, false, cond, Option, Some, None, List, [], ◌∷◌, length, take, slice_index, refl, sym, ap, subst, ◌∙◌, arith}
 use Rattle.std.specs.Prelude.{Result, Ok, Err, IfOk, IfErr}
 use Rattle.std.proofs.lemmas.Bool.{ne_eqb}
 use Rattle.std.proofs.lemmas.List.{length-map}
@@ -20,10 +20,9 @@ use Rattle.partial_machine.specs.declared.stage.Reply.TheVariants as reply
 use Rattle.partial_machine.specs.declared.stage.Stage.TheVariants.{Finished, Idle, ScanBegun}
 use Rattle.partial_machine.specs.Machine.{CoreState, at_stage, reply_of, scanned_values}
 use Rattle.partial_machine.specs.Calls.{answer_for, begin_scan, begun_of, call_of, scan_refusal, update_refusal}
-use Rattle.partial_machine.specs.Bounds.{most_steps}
 use Rattle.partial_machine.specs.Behind.{refuses_pool, refuses_slots}
 use Rattle.partial_machine.specs.Steps.{Run, AreOfScan, pairs_loaded}
-use Rattle.partial_core.specs.Part.{Part, answers_of, core_of, port_of}
+use Rattle.partial_core.specs.Part.{answers_of, core_of, port_of}
 use Rattle.partial_core.specs.Steps.{AreNotesOf, IsNoteOf, IsPlacedAt, IsRefusal}
 use Rattle.partial_core.specs.Calls.{IsRefusedLast}
 use Rattle.partial_core.proofs.Laws.{made_calls_make_their_steps}
@@ -31,7 +30,6 @@ use Rattle.partial_words.specs.Layout.{Layout, IsLayout}
 use Rattle.partial_memory.specs.declared.rule.About.{About}
 use Rattle.partial_memory.specs.declared.answers.Updated.TheVariants as updated
 use Rattle.partial_memory.specs.declared.answers.UpdatedIf.TheVariants as conditional
-use Rattle.partial_memory.specs.declared.answers.Scanned.{Scanned}
 use Rattle.partial_memory.specs.Rule.{Seated, one_in}
 use Rattle.partial_memory.specs.Steps.{CallMade, Ended}
 use Rattle.partial_memory.specs.Ports.{PortView, port_view, IsResting, Knows, Goes, MakesSteps, Answered, RefusedLate, is_pool, is_slots}

@@ -12,7 +12,7 @@ use Rattle.partial_model.specs.Notes.{indices_of}
 use Rattle.partial_words.specs.Layout.{Layout, IsLayout}
 use Rattle.partial_machine.specs.declared.stage.Reply.{Reply}
 use Rattle.partial_machine.specs.declared.stage.Stage.TheVariants.{Idle}
-use Rattle.partial_machine.specs.Machine.{CoreState, at_stage, reply_of}
+use Rattle.partial_machine.specs.Machine.{CoreState, at_stage}
 use Rattle.partial_machine.specs.Calls.{IsServed, begin_scan, begun_of, call_of, makes_steps, refusal_of, scan_refusal}
 use Rattle.partial_machine.proofs.Laws.{calls_begin, rests_are_sound}
 use Rattle.partial_core.specs.Part.{core_of, port_of}
@@ -21,7 +21,7 @@ use Rattle.partial_core.proofs.Laws.{calls_begin_between, ports_come_between}
 use Rattle.partial_memory.specs.declared.rule.About.{About}
 use Rattle.partial_memory.specs.Rule.{Seated, IsBadgeOfOne, AreByOpened, one_in}
 use Rattle.partial_memory.specs.Steps.{Begins, Ended}
-use Rattle.partial_memory.specs.Ports.{IsResting, port_view, refusal}
+use Rattle.partial_memory.specs.Ports.{IsOf, IsResting, MemoryView, PortView, port_view, refusal}
 
 and_true : (b : Bool) → (b && true) ≡ b
 and_true true = refl
@@ -119,3 +119,8 @@ rests views b x r core number one begins e named =
       others = subst (λ (o : About). AreByOpened o y.part.seen) (sym m.about) m.others;
     } in
     subst (λ (s : CoreState). IsResting views s number) (sym e.idle) rest
+
+-- a port stays one of its memory
+pub same_memory : (t t' : TableId) (x y : Seated) (p : PortView) (m : MemoryView) → port_view t x ≡ p → IsOf m p → t' ≡ t → y.about ≡ x.about → IsOf m (port_view t' y)
+same_memory t t' x y p m seen own table about =
+    ap (λ (u : TableId). record { table = u; about = y.about }) table ∙ ap (λ (o : About). record { table = t; about = o }) about ∙ ap (λ (v : PortView). v.memory) seen ∙ own

@@ -2,3 +2,4 @@ pub mod Rule
 pub mod Steps
 pub mod Ports
 pub mod Calls
+pub mod Closing

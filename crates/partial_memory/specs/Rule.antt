@@ -3,7 +3,6 @@ use Rattle.std.specs.Prelude.{ℕ, zero, suc, ◌≡◌, ◌+◌, ◌<◌, List,
 use Rattle.std.specs.List.{AllByRecursion}
 use Rattle.atomic_table.specs.Table.{State, Step, Me}
 use Rattle.partial_model.specs.declared.history.Applied.{Applied}
-use Rattle.partial_words.specs.Layout.{Layout}
 use Rattle.partial_machine.specs.declared.stage.Stage.TheVariants.{ReadBegun}
 use Rattle.partial_machine.specs.Machine.{CoreState}
 use Rattle.partial_machine.specs.Sound.{IsSound}

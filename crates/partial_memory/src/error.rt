@@ -39,3 +39,28 @@ impl From<AllocError> for OpenError {
         OpenError::Memory
     }
 }
+
+/// Why a memory was not closed. Its contents are lost then, and nothing is handed back.
+#[derive(Clone, Copy, Debug, PartialEq, Eq, Error)]
+pub enum CloseError {
+    /// A growth was refused.
+    #[error("out of memory")]
+    Memory,
+}
+
+impl CloseError {
+    /// The number of the refusal: 6.
+    pub fn code(&self) -> u8
+        ensures { result ≡ 6 }
+    {
+        match self {
+            CloseError::Memory => 6,
+        }
+    }
+}
+
+impl From<AllocError> for CloseError {
+    fn from(_error: AllocError) -> CloseError {
+        CloseError::Memory
+    }
+}

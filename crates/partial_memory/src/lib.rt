@@ -3,6 +3,7 @@
 #![tactic(auto)]
 
 mod answers;
+mod closed;
 mod driver;
 mod error;
 mod memory;
@@ -12,7 +13,9 @@ mod rule;
 mod tests;
 
 pub use answers::{Scanned, Updated, UpdatedIf};
-pub use error::OpenError;
+pub use closed::Closed;
+pub use error::{CloseError, OpenError};
 pub use memory::Memory;
+pub use partial_words::Link;
 pub use port::Port;
 pub use rule::About;

@@ -1,6 +1,6 @@
 //! The memory, and the calls of its ports.
 
-ghost use Rattle.std.specs.Prelude.{◌≡◌, ℕ, ◌≤◌, ◌<◌, ◌⊎◌, length, Some, IfOk, IfErr};
+ghost use Rattle.std.specs.Prelude.{◌≡◌, ℕ, ◌≤◌, ◌<◌, ◌⊎◌, ◌∷◌, length, Some, IfOk, IfErr};
 ghost use Rattle.partial_model.specs.declared.call.Call.TheVariants as call;
 ghost use Rattle.partial_words.specs.Layout.{pool_base};
 ghost use Rattle.partial_words.specs.Chain.{AreOpeningWords};
@@ -9,12 +9,15 @@ ghost use Rattle.partial_memory.specs.declared.error.OpenError.TheVariants.{Port
 ghost use Rattle.partial_memory.specs.Rule.{newcomers};
 ghost use Rattle.partial_memory.specs.Ports.{IsOf, IsRefused, new_ports, refusal};
 ghost use Rattle.partial_memory.specs.Calls.{Updates, UpdatesIf, Reads, Scans, Meets};
+ghost use Rattle.partial_memory.specs.Closing.{Closes};
+ghost use Rattle.std.specs.List.{AllByRecursion};
 
 use crate::answers::{Scanned, Updated, UpdatedIf};
+use crate::closed::{Closed, closed_of};
 use crate::driver::{finish, take_seat};
-use crate::error::OpenError;
+use crate::error::{CloseError, OpenError};
 use crate::port::Port;
-use crate::rule::{About, BeginsRead, Deals, Gathers, GoesOn, Lawful, Looks, View};
+use crate::rule::{About, BeginsRead, Deals, Gathers, GoesOn, Lawful, Looks, Place, View};
 use atomic_table::Table;
 use partial_core::{Core, Reply};
 use partial_model::{Opening, Refused, Sequence};
@@ -23,7 +26,7 @@ use std::alloc::{AllocError, Global};
 use std::marker::Model;
 
 /// A memory of components that many threads share. Its ports update, read and scan them; no call waits
-/// for another, and none but `open` takes memory.
+/// for another, and none but `open` and `close` takes memory.
 #[derive(Drop)]
 pub struct Memory {
     sizes: Sizes,
@@ -111,6 +114,7 @@ impl Memory {
     /// where the call's claim went past the end of the pool, and the port is marked from then on.
     pub fn update(&self, me: &mut Port, component: u32, value: u64) -> Result<Updated, Refused>
         requires { IsOf self.now me.old }
+        ensures same { IsOf self.now me.new }
         ensures ok { IfOk result (λ r. Updates me.old component value r me.new) }
         ensures err { IfErr result (λ cause. IsRefused me.old (call.Update component value) cause me.new) }
     {
@@ -141,6 +145,7 @@ impl Memory {
         value: u64,
     ) -> Result<UpdatedIf, Refused>
         requires { IsOf self.now me.old }
+        ensures same { IsOf self.now me.new }
         ensures ok { IfOk result (λ r. UpdatesIf me.old component expected value r me.new) }
         ensures err { IfErr result (λ cause. IsRefused me.old (call.UpdateIf component expected value) cause me.new) }
     {
@@ -160,6 +165,7 @@ impl Memory {
     /// [`Refused::Component`] for an index that isn't below the number of components: no step was made.
     pub fn read(&self, me: &mut Port, component: u32) -> Result<(u64, u64), Refused>
         requires { IsOf self.now me.old }
+        ensures same { IsOf self.now me.new }
         ensures ok { IfOk result (λ r. Reads me.old component r.0 r.1 me.new) }
         ensures err { IfErr result (λ cause. (refusal me.old (call.Read component) ≡ Some cause) × (me.new ≡ me.old)) }
     {
@@ -187,6 +193,7 @@ impl Memory {
     pub fn scan(&self, me: &mut Port, which: &[u32], into: &mut [u64]) -> Result<Scanned, Refused>
         requires own { IsOf self.now me.old }
         requires lengths { (length into.old ≡ length which.now) × (length which.now ≤ self.now.about.sizes.m) }
+        ensures same { IsOf self.now me.new }
         ensures ok { IfOk result (λ s. Scans me.old which.now into.new s me.new) }
         ensures err { IfErr result (λ cause. IsRefused me.old (call.Scan which.now) cause me.new × (into.new ≡ into.old)) }
     {
@@ -213,7 +220,8 @@ impl Memory {
     /// Lets two ports see all that either has seen, in three atomic steps.
     pub fn meet(&self, first: &mut Port, second: &mut Port)
         requires { IsOf self.now first.old × IsOf self.now second.old }
-        ensures { Meets first.old second.old first.new second.new }
+        ensures same { IsOf self.now first.new × IsOf self.now second.new }
+        ensures met { Meets first.old second.old first.new second.new }
     {
         let words = &self.table.shared;
         let mut seat = take_seat(&mut first.badge);
@@ -221,6 +229,30 @@ impl Memory {
         words.load::<Looks>(&mut seat, 0);
         first.badge = words.split_seat::<Deals>(&mut seat).into_badge();
         second.badge = seat.into_badge();
+    }
+
+    /// Closes the memory with this port and these others: the values and the chains of its components
+    /// after one history, which begins with all that each of these ports had seen.
+    ///
+    /// # Errors
+    /// [`CloseError::Memory`] where a growth was refused: the contents are lost, and nothing is handed
+    /// back.
+    pub fn close(self, alloc: Global, port: Port, mut rest: Vec<Port>) -> Result<Closed, CloseError>
+        requires port { IsOf self port }
+        requires rest { AllByRecursion (IsOf self) rest.items }
+        ensures { IfOk result (λ closed. Closes self (port ∷ rest.items) closed) }
+    {
+        let Memory { sizes, table } = self;
+        let mut seat: Place = port.into_seat();
+        while let Some(port) = rest.pop() {
+            table
+                .shared
+                .join_seat::<Gathers>(&mut seat, port.into_seat());
+        }
+        let words = table.close_with(seat);
+        let closed = closed_of(alloc, &words, sizes.m());
+        words.free();
+        Ok(closed?)
     }
 }
 

@@ -1,8 +1,10 @@
 //! What one caller holds of a memory.
 
-ghost use Rattle.std.specs.Prelude.{◌≡◌};
+ghost use Rattle.std.specs.Prelude.{◌≡◌, [], ◌∷◌};
+ghost use Rattle.partial_memory.specs.Rule.{Seated};
+ghost use Rattle.partial_memory.specs.Ports.{port_view};
 
-use crate::rule::View;
+use crate::rule::{Place, View};
 use atomic_table::Badge;
 use partial_core::Core;
 use std::marker::Model;
@@ -51,5 +53,19 @@ impl Port {
         ensures { result ≡ self.now.slots_spent }
     {
         self.core.slots_spent()
+    }
+
+    // The seat of the port, which makes no call any more.
+    pub(crate) fn into_seat(self) -> Place
+        ensures table { result.table_id ≡ self.memory.table }
+        ensures one { (x : Seated) × (result.me ≡ (x ∷ [], [])) × (port_view self.memory.table x ≡ self) }
+    {
+        let Port {
+            badge,
+            core: _,
+            number: _,
+            apart: _,
+        } = self;
+        badge.into_seat()
     }
 }

@@ -6,7 +6,8 @@ use Rattle.partial_model.specs.declared.history.Opening.{Opening}
 use Rattle.partial_model.specs.History.{initial_stamp}
 use Rattle.partial_words.specs.Layout.{Layout, slot_counter, pool_counter, list_counter, slot_word, list_base, pool_base}
 use Rattle.partial_words.specs.Record.{prev_of}
-use Rattle.partial_words.specs.Chain.{Agrees, Link, IsLink, IsChain, chain_of}
+use Rattle.partial_words.specs.declared.record.Link.{Link}
+use Rattle.partial_words.specs.Chain.{Agrees, IsLink, IsChain, chain_of}
 use Rattle.partial_words.proofs.ChainLemmas.{chain_all}
 use Rattle.partial_state.specs.Views.{Block, AreApart}
 use Rattle.partial_state.specs.Holdings.{Own, Holding, Space, counter_of, block_of, block_at, announcements, unpublished, blocks_in, EachTwo}

@@ -1,5 +1,5 @@
 -- Chains of records: what a step elsewhere leaves of them, what one entry more adds, and what they hold.
-use Rattle.std.proofs.Common.{ℕ, zero, suc, ◌≡◌, ◌≢◌, ◌+◌, ◌<◌, ◌==◌, ◌++◌, ◌⊎◌, Bool, true, false, cond, List, [], ◌∷◌, length, take, get_or, set, slice_get, refl, sym, ◌∙◌, ap, subst, inl, inr, Option, Some, None, get_or-set_other, length-set, arith}
+use Rattle.std.proofs.Common.{◌≤◌, ℕ, zero, suc, ◌≡◌, ◌≢◌, ◌+◌, ◌<◌, ◌==◌, ◌++◌, ◌⊎◌, Bool, true, false, cond, List, [], ◌∷◌, length, take, get_or, set, slice_get, refl, sym, ◌∙◌, ap, subst, inl, inr, Option, Some, None, get_or-set_other, length-set, arith}
 use Rattle.std.proofs.lemmas.Bool.{eq-eqb}
 use Rattle.std.proofs.lemmas.List.{take_all}
 use Rattle.std.specs.List.{AllByRecursion}
@@ -9,7 +9,8 @@ use Rattle.partial_model.specs.declared.history.Opening.{Opening}
 use Rattle.partial_model.specs.History.{last_from, initial_stamp, stamp_of, value_of as value_after}
 use Rattle.partial_model.proofs.HistoryLemmas.{stamp_of-push}
 use Rattle.partial_words.specs.Record.{view_word, prev_of, value_of}
-use Rattle.partial_words.specs.Chain.{Link, IsLink, IsChain, links_from, chain_of, Agrees, LieWithin}
+use Rattle.partial_words.specs.declared.record.Link.{Link}
+use Rattle.partial_words.specs.Chain.{IsLink, IsChain, links_from, chain_of, Agrees, LieWithin}
 
 -- the step to another word leaves the record
 pub record IsElsewhere (w : ℕ) (stamp : ℕ) : Type 0 where
@@ -100,6 +101,28 @@ newest_leads o j (x ∷ h) found links w = newest_leads o j h (cond (x.component
 newest_first : (o : Opening) (j : ℕ) (h : List Applied) → (ls : List Link) × (chain_of o j h ≡ newest o j (last_from None j h) ∷ ls)
 unfolding newest
 newest_first o j h = newest_leads o j h None (record { stamp = initial_stamp o j; value = get_or o.values j 0 } ∷ []) ([], refl)
+
+-- it has the stamp and the value of the component
+pub chain_head : (o : Opening) (j : ℕ) (h : List Applied) → (ls : List Link) × (chain_of o j h ≡ record { stamp = stamp_of o h j; value = value_after o h j } ∷ ls)
+unfolding newest
+chain_head o j h = newest_first o j h
+
+-- a chain has no more links than the history has entries, and the initial one
+links_count_step : (found : List Link) (x : Link) (b : Bool) → length (cond b (x ∷ found) found) ≤ length found + 1
+links_count_step found x true = omega arith
+links_count_step found x false = omega arith
+
+links_count : (found : List Link) (j : ℕ) (h : List Applied) → length (links_from found j h) ≤ length found + length h
+unfolding links_from
+links_count found j [] = omega arith
+links_count found j (x ∷ h) =
+    let now : List Link = cond (x.component == j) (record { stamp = x.stamp; value = x.value } ∷ found) found in
+    let one = links_count_step found (record { stamp = x.stamp; value = x.value }) (x.component == j) in
+    let rest = links_count now j h in
+    omega (arith, one, rest)
+
+pub chain_count : (o : Opening) (j : ℕ) (h : List Applied) → length (chain_of o j h) ≤ length h + 1
+chain_count o j h = let count = links_count (record { stamp = initial_stamp o j; value = get_or o.values j 0 } ∷ []) j h in omega (arith, count)
 
 newest_among : (o : Opening) (j : ℕ) (h : List Applied) → Among (newest o j (last_from None j h)) (chain_of o j h)
 unfolding Among

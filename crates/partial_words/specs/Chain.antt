@@ -3,13 +3,9 @@ use Rattle.std.specs.Prelude.{ℕ, ◌≡◌, ◌-◌, ◌/◌, ◌%◌, ◌<◌
 use Rattle.partial_model.specs.declared.history.Applied.{Applied}
 use Rattle.partial_model.specs.declared.history.Opening.{Opening}
 use Rattle.partial_model.specs.History.{initial_stamp, stamp_of}
+use Rattle.partial_words.specs.declared.record.Link.{Link}
 use Rattle.partial_words.specs.Layout.{Layout, IsLayout, pool_base, pool_counter, list_base, list_counter, total, initial_record, first_free}
 use Rattle.partial_words.specs.Record.{view_word, prev_of, value_of}
-
--- a record of a chain: its reference, which is its stamp, and its value
-pub record Link : Type 0 where
-  pub stamp : ℕ
-  pub value : ℕ
 
 -- the record at that reference lies within the words, and is this one
 pub record IsLink (words : List ℕ) (at : ℕ) (l : Link) : Type 0 where

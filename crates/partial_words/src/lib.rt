@@ -11,7 +11,7 @@ pub mod step;
 pub use announcement::{announced, announced_len, announcement_block_word, announcement_size};
 pub use list::{interval, list_block_word, list_len, list_size};
 pub use record::{
-    full_record_size, own_view, plain_record_size, prev_of, record_block_word, value_of,
+    Link, full_record_size, own_view, plain_record_size, prev_of, record_block_word, value_of,
     value_word, view_len, view_of, view_pair, view_size, view_word,
 };
 pub use sizes::{SizeError, Sizes};

@@ -7,6 +7,13 @@ ghost use Rattle.partial_model.specs.declared.history.Opening.{Opening};
 ghost use Rattle.partial_words.specs.Chain.{Agrees, LieWithin};
 ghost use Rattle.partial_words.specs.Record.{pair_words, record_block, view_size, plain_record_size, full_record_size, value_word, view_word, own_view, pair_value_word, StandsAt, ReadsBackRecord, prev_of, value_of, view_of, view_len, view_pair};
 
+/// A record of a component's chain: its reference, which is its stamp, and its value.
+#[derive(Clone, Copy, Debug, PartialEq, Eq)]
+pub struct Link {
+    pub stamp: u64,
+    pub value: u64,
+}
+
 // Which word of a record holds the reference of the record before it, which one its value, which one the reference of
 // its view, and where a view of its own begins.
 const PREV: usize = 0;

@@ -1,8 +1,8 @@
-use Rattle.std.proofs.Common.{rules, ◌≡◌, ap, sym, ◌∙◌, subst, inr, inl, refl}
+use Rattle.std.proofs.Common.{sym, ◌∙◌, subst, inr}
 use Rattle.partial_machine.specs.Machine.{CoreState}
 use Rattle.partial_memory.specs.Rule.{one_of, one_in}
 use Rattle.partial_memory.specs.Steps.{CallMade}
-use Rattle.partial_memory.proofs.Calls.{runs_on, runs_machine, runs_about, runs_within, runs_ended}
+use Rattle.partial_memory.proofs.Calls.{runs_on}
 use Rattle.partial_memory.proofs.driver.finish.Goals as goal
 
 pub loop-step-preserved : goal.loop-step-preserved

@@ -1,4 +1,4 @@
-use Rattle.std.proofs.Common.{rules, ◌≡◌, ◌++◌, ap, sym, ◌∙◌, subst, refl, List, [], ◌∷◌}
+use Rattle.std.proofs.Common.{rules, ◌≡◌, ap, sym, ◌∙◌, List, [], ◌∷◌}
 use Rattle.atomic_table.specs.Table.{Me}
 use Rattle.partial_memory.specs.Rule.{Seated, first_of, one_in, others_of}
 use Rattle.partial_memory.specs.Ports.{MemoryView, PortView}
@@ -37,8 +37,8 @@ invariant_of-second c =
     let view = c.into_badge-2.ensures.2 ∙ ap (λ (m : Me (Unit {0}) (List Seated)). m.0 ∷ []) c.split_seat.ensures.2 ∙ ap (λ (v : List Seated). others_of v ∷ []) told.is in
     rests_met _ _ _ _ told.log c.second.invariant told.second view
 
-pub returns : goal.returns
-returns c =
+pub returns-clause-met : goal.returns-clause-met
+returns-clause-met c =
     let x = one_in c.first.inside.badge.views in
     let y = one_in c.second.inside.badge.views in
     let told = looked x y _ c.load.new.seat.me c.load.result (joined x y _ _ _ c.take_seat-seat.ensures.one c.take_seat.ensures.one c.join_seat.ensures.2) c.load.ensures.2 in

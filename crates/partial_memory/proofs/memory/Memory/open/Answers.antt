@@ -1,4 +1,4 @@
-use Rattle.std.proofs.Common.{rules, [], ◌∷◌, ◌≡◌, ◌+◌, ◌<◌, ◌≤◌, ap, sym, ◌∙◌, subst, List, ℕ, length, arith}
+use Rattle.std.proofs.Common.{rules, [], ◌∷◌, ◌≡◌, ap, sym, ◌∙◌, subst, List, ℕ, length}
 use Rattle.partial_words.specs.Chain.{AreOpeningWords}
 use Rattle.atomic_table.specs.Table.{Me}
 use Rattle.atomic_table.specs.Seated.{TableId}

@@ -1,10 +1,9 @@
-use Rattle.std.proofs.Common.{rules, ◌≡◌, ◌<◌, ap, sym, ◌∙◌, subst, refl, ℕ, Some, arith}
-use Rattle.atomic_table.specs.Seated.{TableId}
+use Rattle.std.proofs.Common.{rules, ◌≡◌, ◌<◌, ap, sym, ◌∙◌, subst, Some, arith}
 use Rattle.partial_words.specs.declared.step.Step.TheVariants.{Load}
 use Rattle.partial_words.specs.Layout.{Layout, total}
 use Rattle.partial_machine.specs.Machine.{step_of}
 use Rattle.partial_memory.specs.declared.rule.About.{About}
-use Rattle.partial_memory.specs.Ports.{PortView, port_view}
+use Rattle.partial_memory.specs.Ports.{port_view}
 use Rattle.partial_memory.specs.Rule.{one_in, one_of}
 use Rattle.partial_memory.specs.Calls.{Reads}
 use Rattle.partial_memory.proofs.Reading.{first_told, begins_asked, goes_on_asked, next_machine, next_within, next_is, read_is, read_rests, badge_of, read_seen}

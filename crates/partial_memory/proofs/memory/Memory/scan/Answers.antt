@@ -1,7 +1,8 @@
-use Rattle.std.proofs.Common.{rules, ◌≡◌, ◌≤◌, ap, sym, ◌∙◌, subst, refl, length, inl, inr}
+use Rattle.std.proofs.Common.{rules, ◌≡◌, ◌≤◌, sym, ◌∙◌, subst, length, inr}
 use Rattle.partial_words.specs.Layout.{Layout}
 use Rattle.partial_machine.specs.declared.stage.Reply.TheVariants as reply
-use Rattle.partial_memory.proofs.Resting.{rests, scan_begins}
+use Rattle.partial_memory.specs.Rule.{one_in}
+use Rattle.partial_memory.proofs.Resting.{rests, scan_begins, same_memory}
 use Rattle.partial_memory.proofs.Replies.{scan_ended, scan_copied, scan_asked, ok_ok, err_ok, err_err, ok_err}
 use Rattle.partial_memory.proofs.memory.Memory.scan.Goals as goal
 use Rattle.partial_memory.proofs.memory.Memory.scan.Goals.{in-Scanned, in-Refused}
@@ -63,8 +64,8 @@ returns-clause-ok c =
     let sizes : c.me.inside.core.sizes ≡ c.args.self.now.about.sizes = search rules in
     let few : length c.args.which.now ≤ c.me.inside.core.sizes.m = subst (λ (z : Layout). length c.args.which.now ≤ z.m) (sym sizes) c.requires.lengths.1 in
     elim c.match-finish.branch [
-    | in-Scanned w ↦ ok_ok _ _ _ w.result-is (scan_copied _ _ _ _ _ _ _ _ some c.finish.ensures.ended.idle (w.into-is ∙ w.copy_values.ensures) (scan_ended _ _ _ c.me.invariant _ _ c.finish.ensures.table _ c.me.view_is _ _ _ _ c.finish.ensures.ended _ few some c.in_ok-begin_scan.ensures.ok.0 c.in_ok-begin_scan.ensures.ok.1 (reply.Scanned _ _) w.in-Scanned.is))
-    | in-Refused w ↦ err_ok _ _ _ w.result-is
+      | in-Scanned w ↦ ok_ok _ _ _ w.result-is (scan_copied _ _ _ _ _ _ _ _ some c.finish.ensures.ended.idle (w.into-is ∙ w.copy_values.ensures) (scan_ended _ _ _ c.me.invariant _ _ c.finish.ensures.table _ c.me.view_is _ _ _ _ c.finish.ensures.ended _ few some c.in_ok-begin_scan.ensures.ok.0 c.in_ok-begin_scan.ensures.ok.1 (reply.Scanned _ _) w.in-Scanned.is))
+      | in-Refused w ↦ err_ok _ _ _ w.result-is
     ]
 
 pub returns-clause-err : goal.returns-clause-err
@@ -73,6 +74,9 @@ returns-clause-err c =
     let sizes : c.me.inside.core.sizes ≡ c.args.self.now.about.sizes = search rules in
     let few : length c.args.which.now ≤ c.me.inside.core.sizes.m = subst (λ (z : Layout). length c.args.which.now ≤ z.m) (sym sizes) c.requires.lengths.1 in
     elim c.match-finish.branch [
-    | in-Scanned w ↦ ok_err _ _ _ w.result-is
-    | in-Refused w ↦ err_err _ _ _ w.result-is (inr (scan_ended _ _ _ c.me.invariant _ _ c.finish.ensures.table _ c.me.view_is _ _ _ _ c.finish.ensures.ended _ few some c.in_ok-begin_scan.ensures.ok.0 c.in_ok-begin_scan.ensures.ok.1 (reply.Refused _) w.in-Refused.is), w.into-is)
+      | in-Scanned w ↦ ok_err _ _ _ w.result-is
+      | in-Refused w ↦ err_err _ _ _ w.result-is (inr (scan_ended _ _ _ c.me.invariant _ _ c.finish.ensures.table _ c.me.view_is _ _ _ _ c.finish.ensures.ended _ few some c.in_ok-begin_scan.ensures.ok.0 c.in_ok-begin_scan.ensures.ok.1 (reply.Refused _) w.in-Refused.is), w.into-is)
     ]
+
+pub returns-clause-same : goal.returns-clause-same
+returns-clause-same c = same_memory _ _ (one_in c.me.inside.badge.views) (one_in c.finish.new.badge.views) _ _ c.me.view_is c.requires.own c.finish.ensures.table c.finish.ensures.ended.made.about

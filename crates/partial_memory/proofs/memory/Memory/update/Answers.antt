@@ -1,8 +1,8 @@
-use Rattle.std.proofs.Common.{rules, ◌≡◌, ap, sym, ◌∙◌, subst, refl, inl, inr}
+use Rattle.std.proofs.Common.{rules, refl, inr}
 use Rattle.partial_model.specs.declared.call.Call.TheVariants as call
 use Rattle.partial_machine.specs.declared.stage.Reply.TheVariants as reply
-use Rattle.partial_memory.specs.Ports.{PortView, MemoryView}
-use Rattle.partial_memory.proofs.Resting.{call_begins, rests}
+use Rattle.partial_memory.specs.Rule.{one_in}
+use Rattle.partial_memory.proofs.Resting.{call_begins, rests, same_memory}
 use Rattle.partial_memory.proofs.Replies.{update_ended, ok_ok, err_ok, err_err, ok_err}
 use Rattle.partial_memory.proofs.memory.Memory.update.Goals as goal
 use Rattle.partial_memory.proofs.memory.Memory.update.Goals.{in-Applied, in-Lost, in-Refused}
@@ -49,3 +49,6 @@ returns-clause-err c =
       | in-Lost w ↦ ok_err _ _ _ w.result-is
       | in-Refused w ↦ err_err _ _ _ w.result-is (inr (told (reply.Refused _) w.in-Refused.is))
     ]
+
+pub returns-clause-same : goal.returns-clause-same
+returns-clause-same c = same_memory _ _ (one_in c.me.inside.badge.views) (one_in c.finish.new.badge.views) _ _ c.me.view_is c.requires c.finish.ensures.table c.finish.ensures.ended.made.about

@@ -1,0 +1,93 @@
+-- A memory that is closed: the ports that were handed in, and the last state.
+use Rattle.std.proofs.Common.{ℕ, ◌≡◌, ◌++◌, List, [], ◌∷◌, length, sym, ap, subst, ◌∙◌, append_assoc, append-nil}
+use Rattle.std.specs.List.{AllByRecursion}
+use Rattle.std.proofs.lemmas.List.{nil_from_length}
+use mathlib.Core.Option.{some}
+use lib.ListN.{get_elem?}
+use Rattle.atomic_table.specs.Table.{State, Me}
+use Rattle.atomic_table.specs.Seated.{TableId}
+use Rattle.partial_model.specs.declared.history.Applied.{Applied}
+use Rattle.partial_model.proofs.AllLemmas.{all_append, all_back, all_front}
+use Rattle.partial_words.specs.Layout.{total}
+use Rattle.partial_core.specs.Ports.{RecordsAreWithin}
+use Rattle.partial_core.proofs.Laws.{lawful_ports_fit, lawful_records_are_within}
+use Rattle.partial_memory.specs.declared.rule.About.{About}
+use Rattle.partial_memory.specs.declared.closed.Closed.{Closed}
+use Rattle.partial_memory.specs.Rule.{Seated, AreByOpened, IsIn, IsKept, IsShuffle, parts_of}
+use Rattle.partial_memory.specs.Ports.{IsOf, MemoryView, PortView, port_view}
+use Rattle.partial_memory.specs.Closing.{AreChains, AreValues, Closes, IsPortOf}
+use Rattle.partial_memory.proofs.Looks.{AreOf, see_all}
+use Rattle.partial_memory.proofs.Steps.{entries_opened}
+use Rattle.partial_memory.proofs.Views.{around}
+
+-- what a history tells of a port is what the port knows of it
+port_in : (t : TableId) (log : List Applied) (x : Seated) → IsIn log x → IsPortOf log (port_view t x)
+port_in t log x w = record { seen = w.seen; legal = w.fits.legal; once = w.fits.once }
+
+-- the ports taken in so far, of all that were handed in, are those of the seat
+abbrev pub Taken : PortView → List PortView → List PortView → List Seated → Type 0
+Taken port all rest v = (taken : List PortView) × (all ≡ rest ++ taken) × ((log : List Applied) → AllByRecursion (IsIn log) v → IsPortOf log port × AllByRecursion (IsPortOf log) taken)
+
+pub taken_none : {S : Type 0} (me : Me S (List Seated)) (t : TableId) (x : Seated) (port : PortView) (all : List PortView) → me ≡ (x ∷ [], []) → port_view t x ≡ port → Taken port all all me.0
+taken_none {S} me t x port all is seen = ([], sym (append-nil all), λ log w. (subst (IsPortOf log) seen (port_in t log x (subst (AllByRecursion (IsIn log)) (ap (λ (m : Me S (List Seated)). m.0) is) w).0), tt))
+
+pub taken_more : {S : Type 0} (me : Me S (List Seated)) (t : TableId) (x : Seated) (port p : PortView) (all rest less : List PortView) (v w : List Seated) → Taken port all rest v → rest ≡ less ++ p ∷ [] → me ≡ (x ∷ [], []) → port_view t x ≡ p → w ≡ v ++ me.0 → Taken port all less w
+taken_more {S} me t x port p all rest less v w had pop is seen join = (
+  p ∷ had.0,
+  had.1 ∙ ap (λ l. l ++ had.0) pop ∙ append_assoc less (p ∷ []) had.0,
+  λ log looked.
+      let both : AllByRecursion (IsIn log) (v ++ me.0) = subst (AllByRecursion (IsIn log)) join looked in
+      let one = subst (AllByRecursion (IsIn log)) (ap (λ (m : Me S (List Seated)). m.0) is) (all_back (IsIn log) v me.0 both) in
+      let g = had.2 log (all_front (IsIn log) v me.0 both) in
+      (g.0, (subst (IsPortOf log) seen (port_in t log x one.0), g.1)),
+)
+
+-- the ports of a seat belong to one memory
+pub own_one : {S : Type 0} (me : Me S (List Seated)) (t : TableId) (x : Seated) (p : PortView) (about : About) → me ≡ (x ∷ [], []) → port_view t x ≡ p → p.memory.about ≡ about → AreOf about me.0
+own_one {S} me t x p about is seen own = subst (λ (m : Me S (List Seated)). AreOf about m.0) (sym is) (ap (λ (q : PortView). q.memory.about) seen ∙ own, tt)
+
+pub own_more : (v w both : List Seated) (about : About) → AreOf about v → AreOf about w → both ≡ v ++ w → AreOf about both
+own_more v w both about a b is = subst (AreOf about) (sym is) (all_append (λ (x : Seated). x.about ≡ about) v w a b)
+
+pub of_last : (m : MemoryView) (rest less : List PortView) (p : PortView) → AllByRecursion (IsOf m) rest → rest ≡ less ++ p ∷ [] → AllByRecursion (IsOf m) less × IsOf m p
+of_last m rest less p w is =
+    let v : AllByRecursion (IsOf m) (less ++ p ∷ []) = subst (AllByRecursion (IsOf m)) is w in
+    let last = all_back (IsOf m) less (p ∷ []) v in
+    (all_front (IsOf m) less (p ∷ []) v, last.0)
+
+-- the last state: its words have the records of one history, which all ports of the seat have seen
+pub record Ends (about : About) (words : List ℕ) (v : List Seated) : Type 0 where
+  pub log : List Applied
+  pub records : RecordsAreWithin about.sizes about.opening words log
+  pub others : AreByOpened about log
+  pub each : AllByRecursion (IsIn log) v
+  pub count : length words ≡ total about.sizes
+
+pub ends : {S : Type 0} (about : About) (v : List Seated) (id : ℕ) (words : List ℕ) (s : State S (List Seated)) → IsKept about s → get_elem? s.views id ≡ some v → s.words ≡ words → AreOf about v → Ends about words v
+ends about v id words s kept at same own =
+    let r = around s.views id v at in
+    let seen = see_all about s.words kept.log r.before v r.behind kept.all own (subst (λ l. IsShuffle l kept.all) r.now kept.shuffle) kept.lawful kept.opened in
+    let fit = lawful_ports_fit about.sizes about.opening s.words (parts_of kept.all) kept.log kept.lawful in
+    let within = lawful_records_are_within about.sizes about.opening s.words (parts_of kept.all) kept.log kept.lawful in
+    record {
+      log = kept.log;
+      records = subst (λ (l : List ℕ). RecordsAreWithin about.sizes about.opening l kept.log) same within;
+      others = entries_opened about kept.all kept.log kept.opened fit.others;
+      each = seen.each;
+      count = ap length (sym same) ∙ kept.lawful.memory.count;
+    }
+
+pub closes : (m : MemoryView) (port : PortView) (all rest : List PortView) (v : List Seated) (words : List ℕ) (closed : Closed) (n : ℕ) → (e : Ends m.about words v) → Taken port all rest v → length rest ≡ 0 → n ≡ m.about.sizes.m →
+    AreValues m.about.opening e.log n closed.values.items × AreChains m.about.opening e.log n closed.chains.items → Closes m (port ∷ all) closed
+closes m port all rest v words closed n e had empty count shown =
+    let taken : all ≡ had.0 = had.1 ∙ ap (λ l. l ++ had.0) (nil_from_length rest empty) in
+    let told = had.2 e.log e.each in
+    let sizes : n ≡ length m.about.opening.values = count ∙ sym e.records.values in
+    record {
+      log = e.log;
+      history = e.records.history;
+      others = e.others;
+      each = (told.0, subst (AllByRecursion (IsPortOf e.log)) (sym taken) told.1);
+      values = subst (λ k. AreValues m.about.opening e.log k closed.values.items) sizes shown.0;
+      chains = subst (λ k. AreChains m.about.opening e.log k closed.chains.items) sizes shown.1;
+    }

@@ -1,0 +1,58 @@
+//! What a memory held when it was closed.
+
+ghost use Rattle.std.specs.Prelude.{◌≡◌, ℕ, ◌+◌, ◌<◌, ◌≤◌, ◌^◌, List, length, IfOk};
+ghost use Rattle.std.specs.Slots.{slots_len, slots_items, IsFull};
+ghost use Rattle.partial_model.specs.declared.history.Applied.{Applied};
+ghost use Rattle.partial_model.specs.declared.history.Opening.{Opening};
+ghost use Rattle.partial_words.specs.declared.record.Link.{Link};
+ghost use Rattle.partial_words.specs.Layout.{Layout};
+ghost use Rattle.partial_core.specs.Ports.{RecordsAreWithin};
+ghost use Rattle.partial_memory.specs.Closing.{IsWhole, AreValues, AreChains};
+
+use partial_words::{Link, value_word};
+use std::alloc::{AllocError, Global};
+
+/// What a memory held when it was closed: it holds no more than its values and the records that are
+/// behind them.
+#[derive(Debug, Drop)]
+pub struct Closed {
+    /// The value of each component.
+    pub values: Vec<u64>,
+    /// The records of each component, the newest first; the last one is its initial record.
+    pub chains: Vec<Vec<Link>>,
+}
+
+/// The words of a table that no thread shares any more.
+pub type ClosedWords = atomic_table::Closed<(), Global>;
+
+// The records of a component, from the newest one on, each found by the word of the one before it.
+fn chain(alloc: Global, words: &ClosedWords, newest: u64) -> Result<Vec<Link>, AllocError>
+    requires full { IsFull words.now.words × (slots_len words.now.words ≡ length (slots_items words.now.words)) × (slots_len words.now.words < 2 ^ 32) }
+    requires chain { (links : List Link) × IsWhole (slots_items words.now.words) newest links × (length links ≤ slots_len words.now.words + 1) }
+    ensures { IfOk result (λ v. (links : List Link) → IsWhole (slots_items words.now.words) newest links → v.items ≡ links) }
+{
+    let mut links = Vec::new(alloc);
+    let mut at = newest;
+    while at != 0 {
+        let value = words.word(value_word(at) as usize);
+        links.push(Link { stamp: at, value })?;
+        at = words.word(at as usize);
+    }
+    Ok(links)
+}
+
+/// The values and the chains of the components.
+pub fn closed_of(alloc: Global, words: &ClosedWords, m: u32) -> Result<Closed, AllocError>
+    requires full { IsFull words.now.words × (slots_len words.now.words ≡ length (slots_items words.now.words)) × (slots_len words.now.words < 2 ^ 32) }
+    requires records { (z : Layout) × (o : Opening) × (log : List Applied) × RecordsAreWithin z o (slots_items words.now.words) log × (z.m ≡ m) }
+    ensures { IfOk result (λ c. (z : Layout) (o : Opening) (log : List Applied) → RecordsAreWithin z o (slots_items words.now.words) log → z.m ≡ m → AreValues o log m c.values.items × AreChains o log m c.chains.items) }
+{
+    let mut values = Vec::with_capacity(alloc, m as usize)?;
+    let mut chains = Vec::with_capacity(alloc, m as usize)?;
+    for j in 0..m {
+        let links = chain(alloc, words, words.word(j as usize))?;
+        values.push_reserved(links[0].value);
+        chains.push_reserved(links);
+    }
+    Ok(Closed { values, chains })
+}
