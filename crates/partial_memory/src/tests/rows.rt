@@ -4,9 +4,10 @@ ghost use Rattle.std.specs.Prelude.{◌≤◌};
 ghost use Rattle.partial_memory.specs.Ports.{IsOf};
 
 use super::{opened, pair};
-use crate::{Memory, OpenError, Port, Scanned, Updated, UpdatedIf};
+use crate::{Closed, Memory, OpenError, Port, Scanned, Updated, UpdatedIf};
 use partial_model::Refused;
-use partial_words::Sizes;
+use partial_words::{Link, Sizes};
+use std::alloc::Global;
 use std::process::Abort;
 use std::test::Fail;
 
@@ -15,10 +16,11 @@ const COLLECTED_TWICE: Scanned = Scanned {
     borrowed: None,
 };
 
-#[test]
-fn one_thread(rt: HostRuntime) -> Result<(), Fail> {
+// Each call, and then the memory is closed with the first port, and with the second one where it is
+// handed in.
+fn one_thread(rt: &impl Abort, alloc: Global, both: bool) -> Result<Closed, Fail> {
     let sizes = Sizes::new(2, 4, 8, 64)?;
-    let (memory, mut first, mut second) = pair(rt.alloc(), sizes, &[10, 20])?;
+    let (memory, mut first, mut second) = pair(alloc, sizes, &[10, 20])?;
     assert_eq!(rt; (first.number(), second.number()), (0, 1));
     let updated = memory.update(&mut first, 1, 8);
     assert_eq!(rt; updated, Ok(Updated::Applied { stamp: 24 }));
@@ -29,6 +31,44 @@ fn one_thread(rt: HostRuntime) -> Result<(), Fail> {
     memory.meet(&mut first, &mut second);
     assert_eq!(rt; memory.read(&mut second, 1), Ok((8, 24)));
     assert_eq!(rt; memory.read(&mut second, 2), Err(Refused::Component));
+    let mut rest = Vec::new(alloc);
+    if both {
+        rest.push(second)?;
+    }
+    Ok(memory.close(alloc, first, rest)?)
+}
+
+fn assert_closed(rt: &impl Abort, closed: &Closed) {
+    assert_eq!(rt; closed.values.as_slice(), [10, 8].as_slice());
+    let links = |at: usize| closed.chains.get(at).map(|chain| chain.as_slice());
+    let opening = Link {
+        stamp: 18,
+        value: 10,
+    };
+    let newest = Link {
+        stamp: 24,
+        value: 8,
+    };
+    let oldest = Link {
+        stamp: 21,
+        value: 20,
+    };
+    assert_eq!(rt; links(0), Some([opening].as_slice()));
+    assert_eq!(rt; links(1), Some([newest, oldest].as_slice()));
+    assert_eq!(rt; closed.chains.len(), 2);
+}
+
+#[test]
+fn one_thread_with_both_ports(rt: HostRuntime) -> Result<(), Fail> {
+    let closed = one_thread(&rt, rt.alloc(), true)?;
+    assert_closed(&rt, &closed);
+    Ok(())
+}
+
+#[test]
+fn one_thread_without_the_second_port(rt: HostRuntime) -> Result<(), Fail> {
+    let closed = one_thread(&rt, rt.alloc(), false)?;
+    assert_closed(&rt, &closed);
     Ok(())
 }
 

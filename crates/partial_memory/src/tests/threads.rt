@@ -18,7 +18,7 @@ const FIRST: Job = Job::Update { component: 0 };
 const SECOND: Job = Job::Update { component: 1 };
 
 /// Opens a memory of two zeros and lets its ports do these jobs in turn, each as often as that.
-fn worked<R: Threads + Sync>(
+pub fn worked<R: Threads + Sync>(
     rt: &R,
     alloc: Global,
     sizes: Sizes,
