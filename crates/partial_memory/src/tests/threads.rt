@@ -239,15 +239,19 @@ fn sixty_four_ports(rt: HostRuntime) -> Result<(), Fail> {
 #[test]
 fn scans_borrow_views(rt: HostRuntime) -> Result<(), Fail> {
     let sizes = Sizes::new(2, 1024, 0, 100_000)?;
+    let count = (Job::Count, 200);
     let jobs = [
-        (FIRST, 400),
-        (SECOND, 400),
         (Job::ScanTwo, 200),
-        (Job::ScanTwo, 200),
+        count,
+        count,
+        count,
+        count,
+        count,
+        count,
     ];
     let mut borrowed = 0;
-    for _ in 0..500 {
-        let (_, workers) = worked(&rt, rt.alloc(), sizes, 4, &jobs)?;
+    for _ in 0..100 {
+        let (_, workers) = worked(&rt, rt.alloc(), sizes, 7, &jobs)?;
         judge(&rt, rt.alloc(), &workers)?;
         borrowed = borrowed_in_all(&workers);
         if borrowed > 0 {
