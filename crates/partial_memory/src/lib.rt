@@ -9,6 +9,8 @@ mod error;
 mod memory;
 mod port;
 mod rule;
+#[cfg(test)]
+mod tests;
 
 pub use answers::{Scanned, Updated, UpdatedIf};
 pub use closed::Closed;

@@ -1,0 +1,37 @@
+//! Growths that are refused, one after another: the script that runs these tests says which.
+
+use super::opened;
+use crate::{CloseError, Memory, OpenError};
+use partial_words::Sizes;
+use std::alloc::AllocError;
+use std::test::Fail;
+
+// Where a growth is refused nothing is opened, and the test ends with that refusal.
+#[test]
+fn a_refused_growth_opens_nothing(rt: HostRuntime) -> Result<(), Fail> {
+    let sizes = Sizes::new(2, 1, 1, 9)?;
+    match Memory::open(rt.alloc(), sizes, &[10, 20], 2) {
+        Ok((_, ports)) => assert_eq!(rt; ports.len(), 2),
+        Err(error) => {
+            assert_eq!(rt; error, OpenError::Memory);
+            Err(AllocError)?;
+        }
+    }
+    Ok(())
+}
+
+// Where a growth is refused nothing is handed back, and the test ends with that refusal.
+#[test]
+fn a_refused_growth_hands_nothing_back(rt: HostRuntime) -> Result<(), Fail> {
+    let sizes = Sizes::new(2, 1, 1, 9)?;
+    let (memory, mut ports) = opened(rt.alloc(), sizes, &[10, 20], 1)?;
+    let port = ports.pop().ok_or("a port")?;
+    match memory.close(rt.alloc(), port, ports) {
+        Ok(closed) => assert_eq!(rt; closed.values.as_slice(), [10, 20].as_slice()),
+        Err(error) => {
+            assert_eq!(rt; error, CloseError::Memory);
+            Err(AllocError)?;
+        }
+    }
+    Ok(())
+}
