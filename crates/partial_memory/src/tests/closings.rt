@@ -5,7 +5,7 @@ ghost use Rattle.std.specs.Prelude.{◌≡◌, All};
 ghost use Rattle.partial_memory.specs.Ports.{IsOf};
 
 use super::threads::worked;
-use super::workers::{Job, Worker};
+use super::workers::{Job, Worker, last_of};
 use crate::{Closed, Memory};
 use partial_words::{Link, Sizes};
 use std::alloc::Global;
@@ -39,13 +39,18 @@ impl Told {
     }
 }
 
-/// Closes the memory with all its ports.
-fn closed(alloc: Global, memory: Memory, workers: Vec<Worker>) -> Result<(Closed, Vec<Told>), Fail>
+/// Closes the memory with all its ports. What its workers had applied comes back, the last worker's first.
+fn closed(
+    alloc: Global,
+    memory: Memory,
+    mut workers: Vec<Worker>,
+) -> Result<(Closed, Vec<Told>), Fail>
     requires { All (λ w. IsOf memory w.port) workers.items }
 {
     let mut ports = Vec::with_capacity(alloc, workers.len())?;
     let mut told = Vec::with_capacity(alloc, workers.len())?;
-    for worker in workers {
+    for _ in 0..workers.len() {
+        let worker = last_of(&memory, &mut workers)?;
         let Worker {
             port,
             job,
@@ -60,7 +65,9 @@ fn closed(alloc: Global, memory: Memory, workers: Vec<Worker>) -> Result<(Closed
             counted,
         })?;
     }
-    let first = ports.pop().ok_or("a port")?;
+    let Some(first) = ports.pop() else {
+        return Err(Fail::from("a port"));
+    };
     let closed = memory.close(alloc, first, ports)?;
     Ok((closed, told))
 }
@@ -137,7 +144,7 @@ fn ten_applied_of_forty(rt: HostRuntime) -> Result<(), Fail> {
     let (closed, told) = closed(rt.alloc(), memory, workers)?;
     judge(&rt, &closed, &told);
     let mut sum = 0u64;
-    for (worker, value) in told.iter().zip(closed.values.iter()) {
+    for (worker, value) in told.iter().rev().zip(closed.values.iter()) {
         assert_eq!(rt; worker.applied.len() as u64, *value);
         sum = sum.saturating_add(*value);
     }

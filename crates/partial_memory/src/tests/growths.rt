@@ -10,13 +10,12 @@ use std::test::Fail;
 #[test]
 fn a_refused_growth_opens_nothing(rt: HostRuntime) -> Result<(), Fail> {
     let sizes = Sizes::new(2, 1, 1, 9)?;
-    match Memory::open(rt.alloc(), sizes, &[10, 20], 2) {
-        Ok((_, ports)) => assert_eq!(rt; ports.len(), 2),
-        Err(error) => {
-            assert_eq!(rt; error, OpenError::Memory);
-            Err(AllocError)?;
-        }
+    let opened = Memory::open(rt.alloc(), sizes, &[10, 20], 2);
+    if let Err(error) = &opened {
+        assert_eq!(rt; *error, OpenError::Memory);
     }
+    let (_memory, ports) = opened.map_err(|_| AllocError)?;
+    assert_eq!(rt; ports.len(), 2);
     Ok(())
 }
 
@@ -24,9 +23,11 @@ fn a_refused_growth_opens_nothing(rt: HostRuntime) -> Result<(), Fail> {
 #[test]
 fn a_refused_growth_hands_nothing_back(rt: HostRuntime) -> Result<(), Fail> {
     let sizes = Sizes::new(2, 1, 1, 9)?;
-    let (memory, mut ports) = opened(rt.alloc(), sizes, &[10, 20], 1)?;
+    let Ok((memory, mut ports)) = opened(rt.alloc(), sizes, &[10, 20], 1) else {
+        return Err(Fail::from(AllocError));
+    };
     let port = ports.pop().ok_or("a port")?;
-    match memory.close(rt.alloc(), port, ports) {
+    match memory.close(rt.alloc(), port, Vec::new(rt.alloc())) {
         Ok(closed) => assert_eq!(rt; closed.values.as_slice(), [10, 20].as_slice()),
         Err(error) => {
             assert_eq!(rt; error, CloseError::Memory);

@@ -233,31 +233,3 @@ fn sixty_four_ports(rt: HostRuntime) -> Result<(), Fail> {
     assert_eq!(rt; value, counted as u64);
     Ok(())
 }
-
-// Scanners that are overtaken twice by the same component borrow a view. That comes of the order of
-// the steps alone, so the run is repeated until it shows.
-#[test]
-fn scans_borrow_views(rt: HostRuntime) -> Result<(), Fail> {
-    let sizes = Sizes::new(2, 1024, 0, 100_000)?;
-    let count = (Job::Count, 200);
-    let jobs = [
-        (Job::ScanTwo, 200),
-        count,
-        count,
-        count,
-        count,
-        count,
-        count,
-    ];
-    let mut borrowed = 0;
-    for _ in 0..100 {
-        let (_, workers) = worked(&rt, rt.alloc(), sizes, 7, &jobs)?;
-        judge(&rt, rt.alloc(), &workers)?;
-        borrowed = borrowed_in_all(&workers);
-        if borrowed > 0 {
-            break;
-        }
-    }
-    assert!(rt; borrowed > 0, "no scan borrowed a view");
-    Ok(())
-}
