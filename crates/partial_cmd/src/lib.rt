@@ -3,10 +3,13 @@
 
 mod command;
 mod fault;
+mod gate;
 mod law;
 #[cfg(test)]
 mod tests;
+mod worker;
 
 pub use command::{Verb, Verdict, execute};
 pub use fault::Fault;
+pub use gate::{Gate, NoGate};
 pub use law::plans_have_one_answer;

@@ -1,0 +1,64 @@
+-- What is known of the calls of one port: those that it has noted, and those between them that were refused or asked for nothing.
+use Rattle.std.specs.Prelude.{ℕ, ◌≡◌, ◌++◌, ◌<◌, ◌≤◌, ◌^◌, ◌⊎◌, List, [], ◌∷◌, length, map, Some, None}
+use Rattle.std.specs.List.{AllByRecursion}
+use Rattle.std.specs.Vec.{vec_capacity}
+use Rattle.partial_model.specs.declared.call.Call.{Call}
+use Rattle.partial_model.specs.declared.call.Call.TheVariants as call
+use Rattle.partial_model.specs.declared.call.Answer.{Answer}
+use Rattle.partial_model.specs.declared.call.Answer.TheVariants as answer
+use Rattle.partial_model.specs.declared.call.Note.TheVariants as note
+use Rattle.partial_model.specs.declared.call.Refused.{Refused}
+use Rattle.partial_model.specs.Notes.{Noted, MayBeRefused, seen_after, seen_by}
+use Rattle.partial_memory.specs.Ports.{PortView}
+use Rattle.partial_cmd.specs.declared.worker.Job.{Job}
+use Rattle.partial_cmd.specs.declared.worker.Worker.{Worker}
+
+-- the call was refused for a cause for which it may be
+abbrev pub WasRefused : ℕ → Noted → Type 0
+WasRefused m n = (cause : Refused) × (n.answer ≡ answer.Refused cause) × (n.note ≡ None) × MayBeRefused m n.call cause
+
+-- a scan of no position, which saw nothing more than the calls before it
+abbrev pub WasEmpty : ℕ → Noted → Type 0
+WasEmpty seen n = (n.call ≡ call.Scan []) × (n.answer ≡ answer.Scanned [] 0 None) × (n.note ≡ Some (note.Saw seen))
+
+-- a port doesn't note the call
+abbrev pub IsUnnoted : ℕ → ℕ → Noted → Type 0
+IsUnnoted m seen n = WasRefused m n ⊎ WasEmpty seen n
+
+-- the second list has the notes of the first in their order, and between them those of calls that the port doesn't note
+abbrev pub Fills : ℕ → ℕ → List Noted → List Noted → Type 0
+Fills m seen kept [] = kept ≡ []
+Fills m seen kept (n ∷ ns) =
+    (IsUnnoted m seen n × Fills m (seen_after seen n.note) kept ns)
+    ⊎ ((rest : List Noted) × (kept ≡ n ∷ rest) × Fills m (seen_after seen n.note) rest ns)
+
+-- a call was made: the port has noted it, or it is one that no port notes
+pub record IsMade (m : ℕ) (p : PortView) (c : Call) (a : Answer) (q : PortView) : Type 0 where
+  pub noted : Noted
+  pub call : noted.call ≡ c
+  pub answer : noted.answer ≡ a
+  pub notes : (q.notes ≡ p.notes ++ noted ∷ []) ⊎ (IsUnnoted m (seen_by 0 p.notes) noted × (q.notes ≡ p.notes))
+
+-- these calls were made and had these answers, and the port has noted no others
+pub record AreMade (m : ℕ) (made : List Call) (given : List Answer) (q : PortView) : Type 0 where
+  pub all : List Noted
+  pub calls : map (λ n. n.call) all ≡ made
+  pub answers : map (λ n. n.answer) all ≡ given
+  pub fills : Fills m 0 q.notes all
+
+-- the values of a scan have room
+abbrev pub HasRoom : ℕ → Call → List ℕ → Type 0
+HasRoom m (call.Scan js) room = (length room ≡ length js) × (length js ≤ m)
+HasRoom m _ room = Unit {0}
+
+-- the calls of a worker
+abbrev pub calls_of : List Job → List Call
+calls_of jobs = map (λ j. j.call.now) jobs
+
+-- a worker whose port has made no call, with room for its answers and their values
+pub record IsReady (m : ℕ) (w : Worker) : Type 0 where
+  pub fresh : w.port.notes ≡ []
+  pub rooms : AllByRecursion (λ j. HasRoom m j.call.now j.room.items) w.jobs.items
+  pub empty : w.answers.items ≡ []
+  pub room : length w.jobs.items ≤ vec_capacity w.answers
+  pub few : length w.jobs.items < 2 ^ 32
