@@ -7,3 +7,4 @@ pub mod DeviceView
 pub mod Seen
 pub mod SeenParts
 pub mod OutcomeText
+pub mod ReportText

@@ -40,15 +40,36 @@ abbrev pub told_place : Option Note → ℕ
 told_place None = 0
 told_place (Some note) = place_of note
 
+-- an answer, up to its place or prefix
+abbrev pub answer_front : Answer → List ℕ
+answer_front (answer.Applied t) = codes " applied" ++ number_field t
+answer_front (answer.Lost t) = codes " lost" ++ number_field t
+answer_front (answer.Scanned vs c b) = codes " scanned" ++ flat_map number_field vs
+answer_front (answer.Read v t) = codes " read" ++ number_field v ++ number_field t
+answer_front (answer.Refused r) = codes " refused" ++ number_field (refusal_of r)
+answer_front (answer.Changed t) = codes " changed" ++ number_field t
+
+-- the place or the prefix of an answer, and nothing for a refusal
+abbrev pub place_field : Answer → ℕ → List ℕ
+place_field (answer.Applied t) k = codes " place" ++ number_field k
+place_field (answer.Lost t) k = codes " place" ++ number_field k
+place_field (answer.Scanned vs c b) k = codes " prefix" ++ number_field k
+place_field (answer.Read v t) k = codes " prefix" ++ number_field k
+place_field (answer.Refused r) k = []
+place_field (answer.Changed t) k = codes " prefix" ++ number_field k
+
+-- what a scan tells behind its prefix; the other answers tell nothing more
+abbrev pub answer_back : Answer → List ℕ
+answer_back (answer.Scanned vs c b) = codes " collects" ++ number_field c ++ codes " borrowed" ++ optional_field b
+answer_back (answer.Applied t) = []
+answer_back (answer.Lost t) = []
+answer_back (answer.Read v t) = []
+answer_back (answer.Refused r) = []
+answer_back (answer.Changed t) = []
+
 -- an answer with its place or prefix
 abbrev pub answer_text : Answer → ℕ → List ℕ
-answer_text (answer.Applied t) k = codes " applied" ++ number_field t ++ codes " place" ++ number_field k
-answer_text (answer.Lost t) k = codes " lost" ++ number_field t ++ codes " place" ++ number_field k
-answer_text (answer.Scanned vs c b) k =
-    codes " scanned" ++ flat_map number_field vs ++ codes " prefix" ++ number_field k ++ codes " collects" ++ number_field c ++ codes " borrowed" ++ optional_field b
-answer_text (answer.Read v t) k = codes " read" ++ number_field v ++ number_field t ++ codes " prefix" ++ number_field k
-answer_text (answer.Refused r) k = codes " refused" ++ number_field (refusal_of r)
-answer_text (answer.Changed t) k = codes " changed" ++ number_field t ++ codes " prefix" ++ number_field k
+answer_text a k = answer_front a ++ place_field a k ++ answer_back a
 
 abbrev pub finish_text : Option Finish → List ℕ
 finish_text None = codes " unfinished"

@@ -1,4 +1,4 @@
-//! The plan text and the outcome text: each is read or written exactly.
+//! The texts of plans, outcomes and reports: each is read or written exactly.
 #![tactic(auto)]
 
 mod calls;
@@ -13,6 +13,8 @@ mod outcome_text;
 mod pieces;
 mod plan;
 mod reading;
+mod report;
+mod report_text;
 mod turns;
 mod writing;
 
@@ -21,7 +23,8 @@ pub use fault::{Cause, OutcomeError, PlanError};
 pub use law::texts_tell_plans;
 pub use outcome::Outcome;
 pub use plan::Plan;
-pub use writing::{write_outcome, write_text};
+pub use report::RunReport;
+pub use writing::{write_outcome, write_report, write_text};
 
 #[cfg(test)]
 mod tests;

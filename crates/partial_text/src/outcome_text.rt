@@ -3,7 +3,7 @@
 ghost use Rattle.std.specs.Prelude.{◌≡◌, ◌++◌, ◌∷◌, [], List, ℕ, decimal, codes, OnOk, IfOk};
 ghost use Rattle.std.specs.List.{flat_map};
 ghost use Rattle.partial_text.specs.PlanText.{number_field};
-ghost use Rattle.partial_text.specs.OutcomeText.{entry_line, entry_lines, optional_field, refusal_of, told_place, answer_text, finish_text, ended_of, call_line, values_of, values_line, total_line, outcome_text};
+ghost use Rattle.partial_text.specs.OutcomeText.{entry_line, entry_lines, optional_field, refusal_of, told_place, answer_front, place_field, answer_back, answer_text, finish_text, ended_of, call_line, values_of, values_line, total_line, outcome_text};
 
 use crate::outcome::Outcome;
 use itoa::Buffer;
@@ -11,7 +11,7 @@ use partial_model::{Answer, Applied, Called, Finish, Note, Opening, Refused};
 use std::alloc::{AllocError, Global};
 
 /// Writes a space and the number.
-fn push_number(text: &mut Vec<u8>, number: u64) -> Result<(), AllocError>
+pub(crate) fn push_number(text: &mut Vec<u8>, number: u64) -> Result<(), AllocError>
     ensures { OnOk result (text.new.items ≡ text.old.items ++ number_field number) }
 {
     text.push(b' ')?;
@@ -77,26 +77,6 @@ fn place(note: Option<Note>) -> usize
     }
 }
 
-fn push_scanned(
-    text: &mut Vec<u8>,
-    values: &[u64],
-    collects: u32,
-    borrowed: Option<u64>,
-    prefix: usize,
-) -> Result<(), AllocError>
-    ensures { OnOk result (text.new.items
-        ≡ text.old.items ++ answer_text (Answer.Scanned values.now collects borrowed) prefix) }
-{
-    text.extend_from_slice(b" scanned")?;
-    push_numbers(text, values)?;
-    text.extend_from_slice(b" prefix")?;
-    push_number(text, prefix as u64)?;
-    text.extend_from_slice(b" collects")?;
-    push_number(text, u64::from(collects))?;
-    text.extend_from_slice(b" borrowed")?;
-    push_optional(text, borrowed)
-}
-
 /// Writes the word, and the number behind a space.
 fn push_field(text: &mut Vec<u8>, word: &[u8], number: u64) -> Result<(), AllocError>
     ensures { OnOk result (text.new.items ≡ text.old.items ++ word.now ++ number_field number) }
@@ -105,34 +85,60 @@ fn push_field(text: &mut Vec<u8>, word: &[u8], number: u64) -> Result<(), AllocE
     push_number(text, number)
 }
 
+/// Writes an answer up to its place or prefix.
+pub(crate) fn push_answer_front(text: &mut Vec<u8>, answer: &Answer) -> Result<(), AllocError>
+    ensures { OnOk result (text.new.items ≡ text.old.items ++ answer_front answer.now) }
+{
+    match answer {
+        Answer::Applied { stamp } => push_field(text, b" applied", *stamp),
+        Answer::Lost { by } => push_field(text, b" lost", *by),
+        Answer::Scanned { values, .. } => {
+            text.extend_from_slice(b" scanned")?;
+            push_numbers(text, values.as_slice())
+        }
+        Answer::Read { value, stamp } => {
+            push_field(text, b" read", *value)?;
+            push_number(text, *stamp)
+        }
+        Answer::Refused { cause } => push_field(text, b" refused", u64::from(refusal_code(*cause))),
+        Answer::Changed { by } => push_field(text, b" changed", *by),
+    }
+}
+
+/// Writes the place or the prefix of an answer.
+fn push_place(text: &mut Vec<u8>, answer: &Answer, place: usize) -> Result<(), AllocError>
+    ensures { OnOk result (text.new.items ≡ text.old.items ++ place_field answer.now place) }
+{
+    match answer {
+        Answer::Applied { .. } | Answer::Lost { .. } => push_field(text, b" place", place as u64),
+        Answer::Refused { .. } => Ok(()),
+        _ => push_field(text, b" prefix", place as u64),
+    }
+}
+
+/// Writes what a scan tells behind its prefix, and of other answers nothing.
+pub(crate) fn push_answer_back(text: &mut Vec<u8>, answer: &Answer) -> Result<(), AllocError>
+    ensures { OnOk result (text.new.items ≡ text.old.items ++ answer_back answer.now) }
+{
+    if let Answer::Scanned {
+        collects,
+        borrowed,
+        ..
+    } = answer
+    {
+        push_field(text, b" collects", u64::from(*collects))?;
+        text.extend_from_slice(b" borrowed")?;
+        push_optional(text, *borrowed)?;
+    }
+    Ok(())
+}
+
 fn push_answer(text: &mut Vec<u8>, answer: &Answer, place: usize) -> Result<(), AllocError>
     ensures { OnOk result (text.new.items ≡ text.old.items ++ answer_text answer.now place) }
 {
-    match answer {
-        Answer::Applied { stamp } => {
-            push_field(text, b" applied", *stamp)?;
-            push_field(text, b" place", place as u64)
-        }
-        Answer::Lost { by } => {
-            push_field(text, b" lost", *by)?;
-            push_field(text, b" place", place as u64)
-        }
-        Answer::Scanned {
-            values,
-            collects,
-            borrowed,
-        } => push_scanned(text, values.as_slice(), *collects, *borrowed, place),
-        Answer::Read { value, stamp } => {
-            push_field(text, b" read", *value)?;
-            push_number(text, *stamp)?;
-            push_field(text, b" prefix", place as u64)
-        }
-        Answer::Refused { cause } => push_field(text, b" refused", u64::from(refusal_code(*cause))),
-        Answer::Changed { by } => {
-            push_field(text, b" changed", *by)?;
-            push_field(text, b" prefix", place as u64)
-        }
-    }
+    push_answer_front(text, answer)?;
+    push_place(text, answer, place)?;
+    push_answer_back(text, answer)
 }
 
 fn push_finish(text: &mut Vec<u8>, finish: &Option<Finish>) -> Result<(), AllocError>
@@ -203,7 +209,7 @@ fn final_values(
 }
 
 /// Writes the line of the values.
-fn push_values(text: &mut Vec<u8>, values: &[u64]) -> Result<(), AllocError>
+pub(crate) fn push_values(text: &mut Vec<u8>, values: &[u64]) -> Result<(), AllocError>
     ensures { OnOk result (text.new.items ≡ text.old.items ++ values_line values.now) }
 {
     text.extend_from_slice(b"values")?;

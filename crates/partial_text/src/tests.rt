@@ -1,5 +1,6 @@
 mod growths;
 mod plans;
 mod readers;
+mod reports;
 mod scans;
 mod writers;

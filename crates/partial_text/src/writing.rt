@@ -1,13 +1,16 @@
-//! Writing an outcome.
+//! Writing an outcome or a report.
 
 ghost use Rattle.std.specs.Prelude.{◌≡◌, ◌≤◌, ◌↔◌, ℕ, ◌++◌, true, false, length, take, OnOk, OnErr, IfOk, IsErrOf};
 ghost use Rattle.partial_text.specs.OutcomeText.{outcome_text};
+ghost use Rattle.partial_text.specs.ReportText.{report_text};
 ghost use Rattle.std.specs.Io.KnownBytes.{Appends};
 
 use crate::device::Device;
 use crate::fault::OutcomeError;
 use crate::outcome::Outcome;
 use crate::outcome_text::text_of;
+use crate::report::RunReport;
+use crate::report_text::push_report;
 use std::alloc::Global;
 use std::io::Write;
 
@@ -59,5 +62,31 @@ pub fn write_outcome<W: Write>(
     ensures memory { IsErrOf result OutcomeError.Memory → writer.new ≡ writer.old }
 {
     let text = text_of(alloc, outcome)?;
+    write_text(&text, writer)
+}
+
+/// Writes the text of a report: the answers of each port's calls, and the values of the components at the
+/// end.
+///
+/// # Errors
+///
+/// `Memory` where a growth was refused: nothing is written then. `Write` where a write fails or takes
+/// 0 bytes: a part of the text from its front is then written.
+pub fn write_report<W: Write>(
+    alloc: Global,
+    report: &RunReport,
+    writer: &mut Device<W>,
+) -> Result<(), OutcomeError>
+    requires { writer.old.failed ≡ false }
+    ensures ok { OnOk result (Appends (W.contents writer.old.inner) (W.contents writer.new.inner)
+        (report_text report.now.answers.items report.now.values.items)) }
+    ensures part { OnErr result ((n : ℕ)
+        × Appends (W.contents writer.old.inner) (W.contents writer.new.inner)
+        (take n (report_text report.now.answers.items report.now.values.items))) }
+    ensures fault { IsErrOf result OutcomeError.Write ↔ (writer.new.failed ≡ true) }
+    ensures memory { IsErrOf result OutcomeError.Memory → writer.new ≡ writer.old }
+{
+    let mut text = Vec::new(alloc);
+    push_report(&mut text, report)?;
     write_text(&text, writer)
 }

@@ -1,11 +1,13 @@
 //! Growths that are refused, one after another: who runs these tests says which.
 
 use super::plans::read;
+use super::reports::each_answer;
 use super::writers::borrowed_scan;
-use crate::{Device, OutcomeError, PlanError, write_outcome};
+use crate::{Device, OutcomeError, PlanError, write_outcome, write_report};
 use std::alloc::AllocError;
 use std::io;
 use std::io::Write;
+use std::process::Abort;
 use std::test::Fail;
 
 // Where a growth is refused there is no plan, and the test ends with that refusal. Where the test
@@ -41,12 +43,13 @@ impl Write for Counter {
     }
 }
 
-// Where a growth is refused nothing is written, and the test ends with that refusal.
-#[test]
-fn a_refused_growth_writes_nothing(rt: HostRuntime) -> Result<(), Fail> {
-    let outcome = borrowed_scan(rt.alloc())?;
-    let mut device = Device::new(Counter { taken: 0 });
-    let given = write_outcome(rt.alloc(), &outcome, &mut device);
+/// Judges what the writer has taken: all of a text, or nothing where a growth was refused, which then
+/// is handed up.
+fn judge(
+    rt: &impl Abort,
+    given: Result<(), OutcomeError>,
+    device: Device<Counter>,
+) -> Result<(), Fail> {
     assert!(rt; !device.failed());
     let taken = device.into_inner().taken;
     match given {
@@ -58,4 +61,22 @@ fn a_refused_growth_writes_nothing(rt: HostRuntime) -> Result<(), Fail> {
         }
     }
     Ok(())
+}
+
+// Where a growth is refused nothing is written, and the test ends with that refusal.
+#[test]
+fn a_refused_growth_writes_nothing(rt: HostRuntime) -> Result<(), Fail> {
+    let outcome = borrowed_scan(rt.alloc())?;
+    let mut device = Device::new(Counter { taken: 0 });
+    let given = write_outcome(rt.alloc(), &outcome, &mut device);
+    judge(&rt, given, device)
+}
+
+// The same for a report.
+#[test]
+fn a_refused_growth_reports_nothing(rt: HostRuntime) -> Result<(), Fail> {
+    let report = each_answer(rt.alloc())?;
+    let mut device = Device::new(Counter { taken: 0 });
+    let given = write_report(rt.alloc(), &report, &mut device);
+    judge(&rt, given, device)
 }

@@ -9,11 +9,11 @@ use std::test::Fail;
 
 /// Takes at most so many bytes a write, and when it is full fails or takes none.
 #[derive(Drop)]
-struct Sink {
-    taken: Vec<u8>,
-    step: usize,
-    room: usize,
-    takes_none: bool,
+pub(super) struct Sink {
+    pub(super) taken: Vec<u8>,
+    pub(super) step: usize,
+    pub(super) room: usize,
+    pub(super) takes_none: bool,
 }
 
 impl Write for Sink {
