@@ -1,2 +1,4 @@
+pub mod Hires
 pub mod Made
 pub mod OneAnswer
+pub mod Pairs

@@ -1,2 +1,3 @@
 pub mod Execution
+pub mod Reports
 pub mod Work

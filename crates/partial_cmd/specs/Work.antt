@@ -1,7 +1,8 @@
 -- What is known of the calls of one port: those that it has noted, and those between them that were refused or asked for nothing.
-use Rattle.std.specs.Prelude.{ℕ, ◌≡◌, ◌++◌, ◌<◌, ◌≤◌, ◌^◌, ◌⊎◌, List, [], ◌∷◌, length, map, Some, None}
+use Rattle.std.specs.Prelude.{ℕ, ◌≡◌, ◌+◌, ◌++◌, ◌<◌, ◌≤◌, ◌^◌, ◌⊎◌, List, [], ◌∷◌, length, map, Some, None}
 use Rattle.std.specs.List.{AllByRecursion}
 use Rattle.std.specs.Vec.{vec_capacity}
+use Rattle.std.specs.declared.thread.PromisedHandle.{PromisedHandle}
 use Rattle.partial_model.specs.declared.call.Call.{Call}
 use Rattle.partial_model.specs.declared.call.Call.TheVariants as call
 use Rattle.partial_model.specs.declared.call.Answer.{Answer}
@@ -9,9 +10,14 @@ use Rattle.partial_model.specs.declared.call.Answer.TheVariants as answer
 use Rattle.partial_model.specs.declared.call.Note.TheVariants as note
 use Rattle.partial_model.specs.declared.call.Refused.{Refused}
 use Rattle.partial_model.specs.Notes.{Noted, MayBeRefused, seen_after, seen_by}
-use Rattle.partial_memory.specs.Ports.{PortView}
+use Rattle.partial_text.specs.PlanText.{IsCall}
+use Rattle.partial_memory.specs.Ports.{IsOf, MemoryView, PortView}
 use Rattle.partial_cmd.specs.declared.worker.Job.{Job}
+use Rattle.partial_cmd.specs.declared.worker.Worked.{Worked}
 use Rattle.partial_cmd.specs.declared.worker.Worker.{Worker}
+use Rattle.partial_cmd.specs.declared.workers.Works.{Works}
+use Rattle.partial_cmd.specs.declared.workers.Results.{Results}
+use Rattle.partial_cmd.specs.Reports.{AreEach}
 
 -- the call was refused for a cause for which it may be
 abbrev pub WasRefused : ℕ → Noted → Type 0
@@ -55,6 +61,10 @@ HasRoom m _ room = Unit {0}
 abbrev pub calls_of : List Job → List Call
 calls_of jobs = map (λ j. j.call.now) jobs
 
+-- each call that a plan may have has its room
+abbrev pub HaveRooms : List Job → Type 0
+HaveRooms jobs = (m : ℕ) → AllByRecursion (IsCall m) (calls_of jobs) → AllByRecursion (λ j. HasRoom m j.call.now j.room.items) jobs
+
 -- a worker whose port has made no call, with room for its answers and their values
 pub record IsReady (m : ℕ) (w : Worker) : Type 0 where
   pub fresh : w.port.notes ≡ []
@@ -62,3 +72,37 @@ pub record IsReady (m : ℕ) (w : Worker) : Type 0 where
   pub empty : w.answers.items ≡ []
   pub room : length w.jobs.items ≤ vec_capacity w.answers
   pub few : length w.jobs.items < 2 ^ 32
+
+-- a port that has made no call, and the calls of the plan for it
+pub record IsNew (m : MemoryView) (port : ℕ) (calls : List Call) (p : PortView) : Type 0 where
+  pub own : IsOf m p
+  pub number : p.number ≡ port
+  pub fresh : p.notes ≡ []
+  pub lawful : AllByRecursion (IsCall m.about.sizes.m) calls
+  pub few : length calls < 2 ^ 32
+
+-- the worker of the port with this number, for these calls
+pub record IsHired (m : MemoryView) (port : ℕ) (calls : List Call) (w : Worker) : Type 0 where
+  pub own : IsOf m w.port
+  pub number : w.port.number ≡ port
+  pub ready : IsReady m.about.sizes.m w
+  pub jobs : calls_of w.jobs.items ≡ calls
+
+-- a thread was started for the calls of the port with this number
+pub record IsStarted (m : MemoryView) (port : ℕ) (called : List Call) (h : PromisedHandle Worked Works) : Type 0 where
+  pub memory : h.promise.memory.value ≡ m
+  pub number : h.promise.port ≡ port
+  pub calls : h.promise.calls.value ≡ called
+
+-- the port with this number has made these calls
+pub record IsDone (m : MemoryView) (port : ℕ) (calls : List Call) (w : Worked) : Type 0 where
+  pub own : IsOf m w.port
+  pub number : w.port.number ≡ port
+  pub made : AreMade m.about.sizes.m calls w.answers.items w.port
+
+-- the ports, and the answers of their calls, of threads that have ended
+pub record HaveCome (m : MemoryView) (plan : List (List Call)) (r : Results) : Type 0 where
+  pub done : List Worked
+  pub each : AreEach (IsDone m) 0 plan done
+  pub ports : map (λ w. w.port) done ≡ r.ports.items
+  pub answers : map (λ w. w.answers) done ≡ r.answers.items

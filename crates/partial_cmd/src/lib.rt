@@ -8,8 +8,10 @@ mod law;
 #[cfg(test)]
 mod tests;
 mod worker;
+mod workers;
 
 pub use command::{Verb, Verdict, execute};
 pub use fault::Fault;
 pub use gate::{Gate, NoGate};
 pub use law::plans_have_one_answer;
+pub use workers::{RunError, run_workers};

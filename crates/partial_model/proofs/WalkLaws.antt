@@ -18,7 +18,7 @@ use Rattle.partial_model.proofs.PortLaws.{CallIsLegal, Decides-call_is_legal}
 
 -- ---- what a legal call has seen
 
-true_within : (o : Opening) (h : List Applied) (p : ℕ) (c : Call) (a : Answer) (n : Note) → IsTrueOf o h p c a n → shown_by n ≤ length h
+pub true_within : (o : Opening) (h : List Applied) (p : ℕ) (c : Call) (a : Answer) (n : Note) → IsTrueOf o h p c a n → shown_by n ≤ length h
 true_within o h p (call.Update j v) (answer.Applied s) (note.Wrote k) w = let below : k < length h = slice_get_within h k (record { port = p; component = j; value = v; stamp = s }) w in omega arith
 true_within o h p (call.Update j v) (answer.Lost by) (note.Lost k) w = let below : k < length h = slice_get_within h k w.0 w.1 in omega arith
 true_within o h p (call.Scan js) (answer.Scanned vs c b) (note.Saw n) w = w.within
