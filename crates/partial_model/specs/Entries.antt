@@ -30,7 +30,8 @@ applied_by p (n ∷ ns) = entry_of p n.note n.call n.answer ++ applied_by p ns
 
 -- where a port's notes are legal and its entries are those that they claim, the entries are the updates that the notes say were applied
 abbrev pub EntriesAreNoted : Type 0
-EntriesAreNoted = (o : Opening) (h : List Applied) (p : ℕ) (ns : List Noted) → LegalNotes o h p 0 ns → EachOnce h p ns → entries_by p h ≡ applied_by p ns
+EntriesAreNoted =
+    (o : Opening) (h : List Applied) (p : ℕ) (ns : List Noted) → LegalNotes o h p 0 ns → EachOnce h p ns → entries_by p h ≡ applied_by p ns
 
 -- each entry for component j leaves its value or raises it
 abbrev pub OnlyRises : Opening → List Applied → ℕ → Type 0
@@ -38,4 +39,5 @@ OnlyRises o h j = (k : ℕ) (e : Applied) → slice_get h k ≡ Some e → e.com
 
 -- the value of a component that only rises never falls
 abbrev pub RisingNeverFalls : Type 0
-RisingNeverFalls = (o : Opening) (h : List Applied) (j m n : ℕ) → OnlyRises o h j → m ≤ n → n ≤ length h → value_of o (take m h) j ≤ value_of o (take n h) j
+RisingNeverFalls =
+    (o : Opening) (h : List Applied) (j m n : ℕ) → OnlyRises o h j → m ≤ n → n ≤ length h → value_of o (take m h) j ≤ value_of o (take n h) j
