@@ -10,3 +10,5 @@ mod Looks
 mod Meetings
 mod Chains
 mod Closes
+mod AllPorts
+pub mod Laws

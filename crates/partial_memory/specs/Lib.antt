@@ -3,3 +3,4 @@ pub mod Steps
 pub mod Ports
 pub mod Calls
 pub mod Closing
+pub mod AllPorts

@@ -1,5 +1,5 @@
 -- Memories and ports as callers see them, and what a call leaves of its port.
-use Rattle.std.specs.Prelude.{ℕ, ◌≡◌, ◌+◌, ◌≤◌, ◌⊎◌, Bool, true, false, ◌||◌, List, [], ◌∷◌, ◌++◌, length, take, map, nat_lt, Option, Some, None, if◌then◌else◌}
+use Rattle.std.specs.Prelude.{ℕ, ◌≡◌, ◌+◌, ◌<◌, ◌≤◌, ◌⊎◌, Bool, true, false, ◌||◌, List, [], ◌∷◌, ◌++◌, length, take, map, nat_lt, Option, Some, None, if◌then◌else◌}
 use Rattle.std.specs.List.{list_all}
 use Rattle.atomic_table.specs.Seated.{TableId}
 use Rattle.partial_model.specs.declared.history.Applied.{Applied}
@@ -158,6 +158,11 @@ pub record RefusedLate (p q : PortView) (c : Call) (cause : Refused) : Type 0 wh
 -- a call that was refused: before any step, and then nothing has changed, or behind some
 abbrev pub IsRefused : PortView → Call → Refused → PortView → Type 0
 IsRefused p c cause q = ((refusal p c ≡ Some cause) × (q ≡ p)) ⊎ RefusedLate p q c cause
+
+-- why a memory may not open with so many ports: Ports where there are not 1 to 64, and Memory only where there are
+abbrev pub MayNotOpen : ℕ → OpenError → Type 0
+MayNotOpen ports Ports = (ports ≡ 0) ⊎ (64 < ports)
+MayNotOpen ports Memory = (1 ≤ ports) × (ports ≤ 64)
 
 -- the numbers of the refusals
 abbrev pub open_code : OpenError → ℕ

@@ -1,13 +1,12 @@
 //! The memory, and the calls of its ports.
 
-ghost use Rattle.std.specs.Prelude.{◌≡◌, ℕ, ◌≤◌, ◌<◌, ◌⊎◌, ◌∷◌, length, Some, IfOk, IfErr};
+ghost use Rattle.std.specs.Prelude.{◌≡◌, ℕ, ◌≤◌, ◌∷◌, length, Some, IfOk, IfErr};
 ghost use Rattle.partial_model.specs.declared.call.Call.TheVariants as call;
 ghost use Rattle.partial_words.specs.Layout.{pool_base};
 ghost use Rattle.partial_words.specs.Chain.{AreOpeningWords};
 ghost use Rattle.partial_machine.specs.Machine.{scanned_values};
-ghost use Rattle.partial_memory.specs.declared.error.OpenError.TheVariants.{Ports};
 ghost use Rattle.partial_memory.specs.Rule.{newcomers};
-ghost use Rattle.partial_memory.specs.Ports.{IsOf, IsRefused, new_ports, refusal};
+ghost use Rattle.partial_memory.specs.Ports.{IsOf, IsRefused, MayNotOpen, new_ports, refusal};
 ghost use Rattle.partial_memory.specs.Calls.{Updates, UpdatesIf, Reads, Scans, Meets};
 ghost use Rattle.partial_memory.specs.Closing.{Closes};
 ghost use Rattle.std.specs.List.{AllByRecursion};
@@ -61,8 +60,8 @@ impl Memory {
     /// Opens a memory whose components hold these values, and its ports, numbered from 0 in their order.
     ///
     /// # Errors
-    /// [`OpenError::Ports`] where there are not 1 to 64 ports, and then [`OpenError::Memory`] where a
-    /// growth was refused. Nothing was made then.
+    /// [`OpenError::Ports`] exactly where there are not 1 to 64 ports, and otherwise
+    /// [`OpenError::Memory`] where a growth was refused. Nothing was made then.
     pub fn open(
         alloc: Global,
         sizes: Sizes,
@@ -73,7 +72,7 @@ impl Memory {
         ensures about { IfOk result (λ r. (r.0.about.sizes ≡ sizes) × (r.0.about.opening.values ≡ initial.now) × (r.0.about.opening.first ≡ pool_base sizes) × (r.0.about.ports ≡ ports)) }
         ensures ports { IfOk result (λ r. r.1.items ≡ new_ports r.0.table (newcomers r.0.about 0 ports)) }
         ensures many { IfOk result (λ r. (1 ≤ ports) × (ports ≤ 64)) }
-        ensures refused { IfErr result (λ e. e ≡ Ports → (ports ≡ 0) ⊎ (64 < ports)) }
+        ensures refused { IfErr result (λ e. MayNotOpen ports e) }
     {
         if ports == 0 || ports > 64 {
             return Err(OpenError::Ports);

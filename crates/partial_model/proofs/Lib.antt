@@ -8,3 +8,5 @@ pub mod PortLaws
 pub mod StampLaws
 pub mod WalkLaws
 pub mod WorkedRows
+pub mod Entries
+pub mod Values

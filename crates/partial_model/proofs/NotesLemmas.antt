@@ -12,6 +12,7 @@ use Rattle.partial_model.specs.declared.call.Note.{Note}
 use Rattle.partial_model.specs.declared.call.Note.TheVariants as note
 use Rattle.partial_model.specs.History.{HaveDistinctStamps, value_of, stamp_of}
 use Rattle.partial_model.specs.Notes.{Noted, IsEntryFor, IsTrueOf, IsLegal, LegalNotes, seen_after, seen_by, place_of}
+pub use Rattle.partial_model.proofs.AllLemmas.{all_append as AllByRecursion-append, all_weaker as AllByRecursion-weaker}
 use Rattle.partial_model.proofs.HistoryLemmas.{place_below}
 use Rattle.partial_model.specs.Outcome.{wrote, places_by, places_written}
 
@@ -97,14 +98,6 @@ places_written-append (m ∷ ms) ns = ap (λ (l : List ℕ). wrote m.note ++ l) 
 pub AllByRecursion-push : {A : Type 0} (P : A → Type 0) (xs : List A) (x : A) → AllByRecursion P xs → P x → AllByRecursion P (xs ++ x ∷ [])
 AllByRecursion-push P [] x w p = (p, tt)
 AllByRecursion-push P (y ∷ ys) x w p = (w.0, AllByRecursion-push P ys x w.1 p)
-
-pub AllByRecursion-append : {A : Type 0} (P : A → Type 0) (xs ys : List A) → AllByRecursion P xs → AllByRecursion P ys → AllByRecursion P (xs ++ ys)
-AllByRecursion-append P [] ys v w = w
-AllByRecursion-append P (x ∷ xs) ys v w = (v.0, AllByRecursion-append P xs ys v.1 w)
-
-pub AllByRecursion-weaker : {A : Type 0} (P Q : A → Type 0) → ((x : A) → P x → Q x) → (xs : List A) → AllByRecursion P xs → AllByRecursion Q xs
-AllByRecursion-weaker P Q f [] w = w
-AllByRecursion-weaker P Q f (x ∷ xs) w = (f x w.0, AllByRecursion-weaker P Q f xs w.1)
 
 pub AllByRecursion-get : {A : Type 0} (P : A → Type 0) (xs : List A) (k : ℕ) (x : A) → AllByRecursion P xs → slice_get xs k ≡ Some x → P x
 AllByRecursion-get P [] k x w s = let bad : None ≡ Some x = s in cc

@@ -3,3 +3,4 @@ pub mod History
 pub mod Stamps
 pub mod Notes
 pub mod Outcome
+pub mod Entries

@@ -1,5 +1,6 @@
 //! Laws about histories. The functions have no code: their contracts hold of the definitions.
 
+ghost use Rattle.partial_model.specs.Entries.{EntriesAreNoted, RisingNeverFalls};
 ghost use Rattle.partial_model.specs.Stamps.{StampsNeverReturn, EqualCollectsStandTogether};
 
 /// A stamp never returns: a component that has one stamp at two lengths of a history has that stamp,
@@ -12,4 +13,15 @@ pub fn stamps_never_return()
 /// each length of the history between the end of the first and the start of the second.
 pub fn equal_collects_stand_together()
     ensures { EqualCollectsStandTogether }
+{}
+
+/// Where a port's notes are legal in a history and its entries there are those that they claim, its
+/// entries are the updates that the notes say were applied, in order.
+pub fn entries_are_noted()
+    ensures { EntriesAreNoted }
+{}
+
+/// Where each entry for a component leaves its value or raises it, the value never falls.
+pub fn rising_never_falls()
+    ensures { RisingNeverFalls }
 {}

@@ -12,7 +12,9 @@ pub mod sequence;
 pub use call::{Answer, Call, Called, Finish, Note, Refused};
 pub use checker::check_outcome;
 pub use history::{Applied, Opening, stamp_at, value_at};
-pub use law::{equal_collects_stand_together, stamps_never_return};
+pub use law::{
+    entries_are_noted, equal_collects_stand_together, rising_never_falls, stamps_never_return,
+};
 pub use sequence::Sequence;
 
 #[cfg(test)]

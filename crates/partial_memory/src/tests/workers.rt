@@ -1,6 +1,6 @@
-//! Ports at work, each in a thread of its own, and what their calls came to.
+//! Workers with ports, each in a thread of its own, and what their calls came to.
 
-ghost use Rattle.std.specs.Prelude.{◌≡◌, ◌<◌, ◌≤◌, length, All, IfOk};
+ghost use Rattle.std.specs.Prelude.{◌≡◌, ◌<◌, ◌≤◌, length, All, IfOk, IfSome};
 ghost use Rattle.std.specs.List.{AllByRecursion};
 ghost use Rattle.partial_memory.specs.Ports.{IsOf};
 
@@ -24,14 +24,14 @@ pub enum Job {
     ScanTwo,
     /// Counts with component 0, sets component 1, and scans both.
     Mix,
+    /// The same by two ports in turn, which meet after each turn.
+    Meet,
 }
 
-/// A port that does its job some times, and what its calls came to.
+/// What the calls of a worker came to.
 #[derive(Drop)]
-pub struct Worker {
-    pub port: Port,
-    pub job: Job,
-    times: u64,
+pub struct Told {
+    job: Job,
     /// The stamps of its applied updates, and of its applied conditional updates.
     pub applied: Vec<u64>,
     pub counted: Vec<u64>,
@@ -40,20 +40,19 @@ pub struct Worker {
     pub refused: Vec<Refused>,
     pub scans: Vec<Scanned>,
     /// The values of components 0 and 1 that it saw last, and whether one ever fell that only rises.
-    pub last: [u64; 2],
+    last: [u64; 2],
     pub fell: bool,
+    /// Whether its port is marked for the pool and for the slots in the end.
+    pub pool_spent: bool,
+    pub slots_spent: bool,
     /// Whether there was memory for all of this.
     pub ended: Result<(), AllocError>,
 }
 
-impl Worker {
-    pub fn new(alloc: Global, port: Port, job: Job, times: u64) -> Worker
-        ensures { result.port ≡ port }
-    {
-        Worker {
-            port,
+impl Told {
+    fn new(alloc: Global, job: Job) -> Told {
+        Told {
             job,
-            times,
             applied: Vec::new(alloc),
             counted: Vec::new(alloc),
             named: Vec::new(alloc),
@@ -61,7 +60,22 @@ impl Worker {
             scans: Vec::new(alloc),
             last: [0; 2],
             fell: false,
+            pool_spent: false,
+            slots_spent: false,
             ended: Ok(()),
+        }
+    }
+
+    /// The stamps of what it applied to a component.
+    pub fn to_component(&self, component: u32) -> &[u64] {
+        let own = match self.job {
+            Job::Update { component } => component,
+            _ => 1,
+        };
+        if own == component {
+            self.applied.as_slice()
+        } else {
+            self.counted.as_slice()
         }
     }
 
@@ -70,29 +84,25 @@ impl Worker {
         self.refused.iter().filter(|given| **given == cause).count()
     }
 
-    /// How many of its scans borrowed a view.
-    pub fn borrowed(&self) -> usize {
-        self.scans
-            .iter()
-            .filter(|scanned| scanned.borrowed.is_some())
-            .count()
-    }
-
-    // Keeps the values that it has just seen.
-    fn see(&mut self, values: [u64; 2])
-        ensures { self.new.port ≡ self.old.port }
-    {
+    // Keeps the values that were just seen.
+    fn see(&mut self, values: [u64; 2]) {
         if values[0] < self.last[0] || values[1] < self.last[1] {
             self.fell = true;
         }
         self.last = values;
     }
 
-    fn update(&mut self, memory: &Memory, component: u32, value: u64) -> Result<(), AllocError>
-        requires { IsOf memory.now self.old.port }
-        ensures { IsOf memory.now self.new.port }
+    fn update(
+        &mut self,
+        memory: &Memory,
+        port: &mut Port,
+        component: u32,
+        value: u64,
+    ) -> Result<(), AllocError>
+        requires { IsOf memory.now port.old }
+        ensures { IsOf memory.now port.new }
     {
-        match memory.update(&mut self.port, component, value) {
+        match memory.update(port, component, value) {
             Ok(Updated::Applied { stamp }) => self.applied.push(stamp)?,
             Ok(Updated::Lost { by }) => self.named.push(by)?,
             Err(cause) => self.refused.push(cause)?,
@@ -100,24 +110,30 @@ impl Worker {
         Ok(())
     }
 
-    fn count(&mut self, memory: &Memory) -> Result<(), AllocError>
-        requires { IsOf memory.now self.old.port }
-        ensures { IsOf memory.now self.new.port }
+    fn count(&mut self, memory: &Memory, port: &mut Port) -> Result<(), AllocError>
+        requires { IsOf memory.now port.old }
+        ensures { IsOf memory.now port.new }
     {
-        match memory.read(&mut self.port, 0) {
+        match memory.read(port, 0) {
             Ok((value, stamp)) => {
                 self.see([value, self.last[1]]);
-                self.count_from(memory, stamp, value.saturating_add(1))
+                self.count_from(memory, port, stamp, value.saturating_add(1))
             }
             Err(cause) => Ok(self.refused.push(cause)?),
         }
     }
 
-    fn count_from(&mut self, memory: &Memory, stamp: u64, next: u64) -> Result<(), AllocError>
-        requires { IsOf memory.now self.old.port }
-        ensures { IsOf memory.now self.new.port }
+    fn count_from(
+        &mut self,
+        memory: &Memory,
+        port: &mut Port,
+        stamp: u64,
+        next: u64,
+    ) -> Result<(), AllocError>
+        requires { IsOf memory.now port.old }
+        ensures { IsOf memory.now port.new }
     {
-        match memory.update_if(&mut self.port, 0, stamp, next) {
+        match memory.update_if(port, 0, stamp, next) {
             Ok(UpdatedIf::Applied { stamp }) => self.counted.push(stamp)?,
             Ok(UpdatedIf::Changed { by }) => self.named.push(by)?,
             Err(cause) => self.refused.push(cause)?,
@@ -125,12 +141,12 @@ impl Worker {
         Ok(())
     }
 
-    fn scan_one(&mut self, memory: &Memory) -> Result<(), AllocError>
-        requires { IsOf memory.now self.old.port × (2 ≤ memory.now.about.sizes.m) }
-        ensures { IsOf memory.now self.new.port }
+    fn scan_one(&mut self, memory: &Memory, port: &mut Port) -> Result<(), AllocError>
+        requires { IsOf memory.now port.old × (2 ≤ memory.now.about.sizes.m) }
+        ensures { IsOf memory.now port.new }
     {
         let mut into = [self.last[0]];
-        match memory.scan(&mut self.port, &[0], &mut into) {
+        match memory.scan(port, &[0], &mut into) {
             Ok(scanned) => self.scans.push(scanned)?,
             Err(cause) => self.refused.push(cause)?,
         }
@@ -139,12 +155,12 @@ impl Worker {
     }
 
     // Scans both components. Values of the second one count where it only rises.
-    fn scan_two(&mut self, memory: &Memory, rises: bool) -> Result<(), AllocError>
-        requires { IsOf memory.now self.old.port × (2 ≤ memory.now.about.sizes.m) }
-        ensures { IsOf memory.now self.new.port }
+    fn scan_two(&mut self, memory: &Memory, port: &mut Port, rises: bool) -> Result<(), AllocError>
+        requires { IsOf memory.now port.old × (2 ≤ memory.now.about.sizes.m) }
+        ensures { IsOf memory.now port.new }
     {
         let mut into = self.last;
-        match memory.scan(&mut self.port, &[0, 1], &mut into) {
+        match memory.scan(port, &[0, 1], &mut into) {
             Ok(scanned) => self.scans.push(scanned)?,
             Err(cause) => self.refused.push(cause)?,
         }
@@ -153,46 +169,87 @@ impl Worker {
         Ok(())
     }
 
-    fn mix(&mut self, memory: &Memory, value: u64) -> Result<(), AllocError>
-        requires { IsOf memory.now self.old.port × (2 ≤ memory.now.about.sizes.m) }
-        ensures { IsOf memory.now self.new.port }
+    fn mix(&mut self, memory: &Memory, port: &mut Port, value: u64) -> Result<(), AllocError>
+        requires { IsOf memory.now port.old × (2 ≤ memory.now.about.sizes.m) }
+        ensures { IsOf memory.now port.new }
     {
-        self.count(memory)?;
-        self.update(memory, 1, value)?;
-        self.scan_two(memory, false)
+        self.count(memory, port)?;
+        self.update(memory, port, 1, value)?;
+        self.scan_two(memory, port, false)
     }
 
-    fn once(&mut self, memory: &Memory, value: u64) -> Result<(), AllocError>
-        requires { IsOf memory.now self.old.port × (2 ≤ memory.now.about.sizes.m) }
-        ensures { IsOf memory.now self.new.port }
+    fn once(&mut self, memory: &Memory, port: &mut Port, value: u64) -> Result<(), AllocError>
+        requires { IsOf memory.now port.old × (2 ≤ memory.now.about.sizes.m) }
+        ensures { IsOf memory.now port.new }
     {
         match self.job {
-            Job::Update { component } => self.update(memory, component, value),
-            Job::Count => self.count(memory),
-            Job::ScanOne => self.scan_one(memory),
-            Job::ScanTwo => self.scan_two(memory, true),
-            Job::Mix => self.mix(memory, value),
+            Job::Update { component } => self.update(memory, port, component, value),
+            Job::Count => self.count(memory, port),
+            Job::ScanOne => self.scan_one(memory, port),
+            Job::ScanTwo => self.scan_two(memory, port, true),
+            Job::Mix | Job::Meet => self.mix(memory, port, value),
         }
+    }
+}
+
+/// A port, or two of them, and a job that is done some times.
+#[derive(Drop)]
+pub struct Worker {
+    pub port: Port,
+    pub other: Option<Port>,
+    times: u64,
+    pub told: Told,
+}
+
+impl Worker {
+    fn new(alloc: Global, port: Port, other: Option<Port>, job: Job, times: u64) -> Worker
+        ensures { (result.port ≡ port) × (result.other ≡ other) }
+    {
+        Worker {
+            port,
+            other,
+            times,
+            told: Told::new(alloc, job),
+        }
+    }
+
+    // Does the job once. With two ports they meet then, and the other one does it too: it sees no less
+    // than the first one has seen.
+    fn turn(&mut self, memory: &Memory, value: u64) -> Result<(), AllocError>
+        requires own { IsOf memory.now self.old.port × IfSome self.old.other (IsOf memory.now) }
+        requires wide { 2 ≤ memory.now.about.sizes.m }
+        ensures { IsOf memory.now self.new.port × IfSome self.new.other (IsOf memory.now) }
+    {
+        self.told.once(memory, &mut self.port, value)?;
+        if let Some(other) = &mut self.other {
+            memory.meet(&mut self.port, other);
+            self.told.once(memory, other, value)?;
+            memory.meet(other, &mut self.port);
+        }
+        Ok(())
     }
 
     fn work(&mut self, memory: &Memory)
-        requires { IsOf memory.now self.old.port × (2 ≤ memory.now.about.sizes.m) }
-        ensures { IsOf memory.now self.new.port }
+        requires own { IsOf memory.now self.old.port × IfSome self.old.other (IsOf memory.now) }
+        requires wide { 2 ≤ memory.now.about.sizes.m }
+        ensures { IsOf memory.now self.new.port × IfSome self.new.other (IsOf memory.now) }
     {
         for value in 1..=self.times {
-            self.ended = self.once(memory, value);
-            if self.ended.is_err() {
+            self.told.ended = self.turn(memory, value);
+            if self.told.ended.is_err() {
                 break;
             }
         }
+        self.told.pool_spent = self.port.pool_spent();
+        self.told.slots_spent = self.port.slots_spent();
     }
 }
 
 /// Lets the workers work, each in a thread of its own.
 pub fn run<R: Threads + Sync>(rt: &R, memory: &Memory, workers: &mut [Worker])
-    requires all { All (λ w. IsOf memory.now w.port) workers.old }
+    requires all { All (λ w. IsOf memory.now w.port × IfSome w.other (IsOf memory.now)) workers.old }
     requires wide { 2 ≤ memory.now.about.sizes.m }
-    ensures { All (λ w. IsOf memory.now w.port) workers.new }
+    ensures { All (λ w. IsOf memory.now w.port × IfSome w.other (IsOf memory.now)) workers.new }
 {
     thread::for_each_mut(rt, workers, 64, &|_, worker| worker.work(memory));
 }
@@ -206,7 +263,7 @@ pub fn hire(
 ) -> Result<Vec<Worker>, AllocError>
     requires own { AllByRecursion (IsOf memory.now) ports.items }
     requires some { 0 < length jobs.now }
-    ensures { IfOk result (λ v. All (λ w. IsOf memory.now w.port) v.items) }
+    ensures { IfOk result (λ v. All (λ w. IsOf memory.now w.port × IfSome w.other (IsOf memory.now)) v.items) }
 {
     let mut workers = Vec::with_capacity(alloc, ports.len())?;
     for _ in 0..ports.len() {
@@ -214,17 +271,11 @@ pub fn hire(
             break;
         };
         let (job, times) = jobs[workers.len() % jobs.len()];
-        workers.push(Worker::new(alloc, port, job, times))?;
+        let other = match job {
+            Job::Meet => ports.pop(),
+            _ => None,
+        };
+        workers.push(Worker::new(alloc, port, other, job, times))?;
     }
     Ok(workers)
-}
-
-/// Takes the last worker.
-pub fn last_of(memory: &Memory, workers: &mut Vec<Worker>) -> Result<Worker, Fail>
-    requires { All (λ w. IsOf memory.now w.port) workers.old.items }
-    ensures rest { All (λ w. IsOf memory.now w.port) workers.new.items }
-    ensures one { IfOk result (λ w. IsOf memory.now w.port) }
-{
-    let _of = memory;
-    Ok(workers.pop().ok_or("a worker")?)
 }

@@ -1,20 +1,35 @@
-use Rattle.std.proofs.Common.{rules, ◌≡◌, List, [], ◌∷◌, ◌++◌, sym, subst}
+use Rattle.std.proofs.Common.{rules, ◌≡◌, List, [], ◌∷◌, ◌++◌, sym, subst, Option, Some, None, IfSome, Vec, Global}
 use Rattle.std.specs.List.{All, AllByRecursion}
-use Rattle.std.proofs.lemmas.List.Elements.{All-append, All-cons, All-nil}
-use Rattle.partial_model.proofs.AllLemmas.{all_at, all_before}
+use Rattle.std.specs.Option.{option_to_list}
+use Rattle.std.proofs.lemmas.List.Elements.{All-push}
+use Rattle.partial_model.proofs.AllLemmas.{all_front, all_back}
+use Rattle.partial_memory.specs.declared.port.Port.{Port}
 use Rattle.partial_memory.specs.declared.tests.workers.Worker.{Worker}
 use Rattle.partial_memory.specs.Ports.{PortView, IsOf}
 use Rattle.partial_memory.proofs.tests.workers.hire.Goals as goal
+use Rattle.partial_memory.proofs.tests.workers.hire.Goals.{in-Meet, in_default-job}
+
+-- what holds of all elements holds of the last one, which is taken, and of those that are left
+popped : {A : Type 0} (P : A → Type 0) (xs ys : List A) (r : Option A) → AllByRecursion P xs → xs ≡ ys ++ option_to_list r → AllByRecursion P ys × IfSome r P
+popped P xs ys None all is = (all_front P ys [] (subst (AllByRecursion P) is all), tt)
+popped P xs ys (Some x) all is = let v = subst (AllByRecursion P) is all in (all_front P ys (x ∷ []) v, (all_back P ys (x ∷ []) v).0)
 
 pub loop-preserved : goal.loop-preserved
 loop-preserved c =
-    let taken : c.loop.ports.items ≡ c.pop.new.self.items ++ c.in-Some.port ∷ [] = search rules in
-    let own : AllByRecursion (IsOf c.args.memory.now) (c.pop.new.self.items ++ c.in-Some.port ∷ []) = subst (AllByRecursion (IsOf c.args.memory.now)) taken c.loop.invariant.ports in
-    let one : IsOf c.args.memory.now c.in-Some.port = all_at (IsOf c.args.memory.now) _ _ [] own in
-    let hired : IsOf c.args.memory.now c.new.result.port = subst (IsOf c.args.memory.now) (sym c.new.ensures) one in
+    let O : PortView → Type 0 = IsOf c.args.memory.now in
+    let P : Worker → Type 0 = λ w. O w.port × IfSome w.other O in
+    let first = popped O _ _ _ c.loop.invariant.ports c.pop.ensures.items in
+    let one : O c.in-Some.port = subst (λ r. IfSome r O) c.in-Some.is first.1 in
+    let left : AllByRecursion O c.match-job.ports.items × IfSome c.match-job.other O =
+    elim c.match-job.branch [
+      | in-Meet w ↦
+          let second = popped O _ _ _ first.0 w.pop-other.ensures.items in
+          (subst (λ (v : Vec Port Global). AllByRecursion O v.items) (sym w.ports-is) second.0, subst (λ r. IfSome r O) (sym w.other-is) second.1)
+      | in_default-job w ↦ (subst (λ (v : Vec Port Global). AllByRecursion O v.items) (sym w.ports-is) first.0, subst (λ r. IfSome r O) (sym w.other-is) tt)
+    ] in
+    let hired : P c.new.result = (subst O (sym c.new.ensures.0) one, subst (λ r. IfSome r O) (sym c.new.ensures.1) left.1) in
     let put : c.push.new.self.items ≡ c.loop.workers.items ++ c.new.result ∷ [] = search rules in
-    let P : Worker → Type 0 = λ w. IsOf c.args.memory.now w.port in
     record {
-      ports = all_before (IsOf c.args.memory.now) _ _ [] own;
-      workers = subst (All P) (sym put) (All-append P c.loop.workers.items (c.new.result ∷ []) c.loop.invariant.workers (All-cons P c.new.result [] hired (All-nil P)));
+      ports = left.0;
+      workers = subst (All P) (sym put) (All-push P c.loop.workers.items c.new.result c.loop.invariant.workers hired);
     }
