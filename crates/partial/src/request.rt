@@ -13,14 +13,16 @@ pub struct Request<'a> {
     pub plan: Option<&'a str>,
 }
 
-/// The words that the program takes: `replay [PLAN]` and `check [PLAN]`.
+/// The words that the program takes: `replay [PLAN]`, `check [PLAN]` and `run [PLAN]`.
 fn command<'a>(alloc: Global) -> Result<Command<'a>, Error> {
     let replay = Command::new(alloc, "replay").arg(Arg::new(alloc, "plan"))?;
     let check = Command::new(alloc, "check").arg(Arg::new(alloc, "plan"))?;
+    let run = Command::new(alloc, "run").arg(Arg::new(alloc, "plan"))?;
     let partial = Command::new(alloc, "partial")
         .subcommand_required(true)
         .subcommand(replay)?
-        .subcommand(check)?;
+        .subcommand(check)?
+        .subcommand(run)?;
     Ok(partial)
 }
 
@@ -31,15 +33,14 @@ fn command<'a>(alloc: Global) -> Result<Command<'a>, Error> {
 /// `Usage` where they aren't words that the program takes, or ask for help.
 pub fn request_of(alloc: Global, words: &[String]) -> Result<Request<'_>, Stop> {
     let matches = command(alloc)?.try_get_matches_from(words)?;
-    match matches.subcommand() {
-        Some(("replay", found)) => Ok(Request {
-            verb: Verb::Replay,
-            plan: found.get_str("plan"),
-        }),
-        Some(("check", found)) => Ok(Request {
-            verb: Verb::Check,
-            plan: found.get_str("plan"),
-        }),
-        _ => Err(Stop::Usage),
-    }
+    let (verb, found) = match matches.subcommand() {
+        Some(("replay", found)) => (Verb::Replay, found),
+        Some(("check", found)) => (Verb::Check, found),
+        Some(("run", found)) => (Verb::Run, found),
+        _ => return Err(Stop::Usage),
+    };
+    Ok(Request {
+        verb,
+        plan: found.get_str("plan"),
+    })
 }

@@ -1,14 +1,13 @@
 -- Workers for the ports of a plan, and what their threads come to.
-use Rattle.std.proofs.Common.{ℕ, zero, suc, ◌≡◌, ◌+◌, ◌<◌, ◌≤◌, ◌^◌, ◌++◌, List, [], ◌∷◌, length, map, take, get_or, refl, sym, ap, subst, ◌∙◌, arith}
+use Rattle.std.proofs.Common.{ℕ, suc, ◌≡◌, ◌+◌, ◌<◌, ◌≤◌, ◌++◌, List, [], ◌∷◌, length, take, get_or, sym, ap, subst, ◌∙◌, arith}
 use Rattle.std.specs.List.{AllByRecursion}
 use Rattle.std.specs.Vec.{vec_capacity}
 use Rattle.std.proofs.Math.Seq.{take-suc}
 use Rattle.std.proofs.lemmas.List.{get_or_default, length-map, map-append}
 use Rattle.partial_model.specs.declared.call.Call.{Call}
-use Rattle.partial_model.specs.declared.call.Answer.{Answer}
 use Rattle.partial_model.proofs.AllLemmas.{all_append, all_back, all_front}
 use Rattle.partial_text.specs.PlanText.{IsCall}
-use Rattle.partial_memory.specs.Ports.{IsOf, MemoryView, PortView}
+use Rattle.partial_memory.specs.Ports.{MemoryView, PortView}
 use Rattle.partial_cmd.specs.declared.worker.Job.{Job}
 use Rattle.partial_cmd.specs.declared.worker.Worked.{Worked}
 use Rattle.partial_cmd.specs.declared.worker.Worker.{Worker}
@@ -16,7 +15,7 @@ use Rattle.partial_cmd.specs.declared.workers.Results.{Results}
 use Rattle.partial_cmd.specs.Reports.{AreEach}
 use Rattle.std.specs.declared.thread.PromisedHandle.{PromisedHandle}
 use Rattle.partial_cmd.specs.declared.workers.Works.{Works}
-use Rattle.partial_cmd.specs.Work.{AreMade, HasRoom, HaveCome, HaveRooms, IsDone, IsHired, IsNew, IsReady, IsStarted, calls_of}
+use Rattle.partial_cmd.specs.Work.{HasRoom, HaveCome, HaveRooms, IsDone, IsHired, IsNew, IsStarted, calls_of}
 use Rattle.partial_cmd.proofs.Pairs.{each_at, each_length, each_push}
 
 -- one call more of a port

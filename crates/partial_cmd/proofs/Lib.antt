@@ -1,4 +1,6 @@
+pub mod Asked
 pub mod Hires
 pub mod Made
 pub mod OneAnswer
 pub mod Pairs
+pub mod Reported

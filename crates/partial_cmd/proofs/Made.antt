@@ -1,12 +1,10 @@
 -- The calls of a port, one after the other: what is known of those that it doesn't note.
-use Rattle.std.proofs.Common.{ℕ, ◌≡◌, ◌+◌, ◌<◌, ◌≤◌, ◌++◌, ◌⊎◌, Bool, true, false, cond, Option, Some, None, List, [], ◌∷◌, length, map, take, drop, refl, sym, ap, subst, ◌∙◌, inl, inr, arith}
+use Rattle.std.proofs.Common.{ℕ, ◌≡◌, ◌<◌, ◌++◌, ◌⊎◌, Bool, true, false, cond, Some, None, List, [], ◌∷◌, length, take, drop, refl, sym, ap, subst, ◌∙◌, inl, inr, arith}
 use Rattle.std.specs.Prelude.{nat_lt}
-use Rattle.std.specs.List.{AllByRecursion, list_all}
+use Rattle.std.specs.List.{list_all}
 use Rattle.std.proofs.lemmas.Bool.{false≢true}
 use Rattle.std.proofs.Math.Seq.{take-append_seam}
 use Rattle.std.proofs.lemmas.List.{map-append, append-nil}
-use Rattle.partial_model.specs.declared.history.Applied.{Applied}
-use Rattle.partial_model.specs.declared.history.Opening.{Opening}
 use Rattle.partial_model.specs.declared.call.Call.{Call}
 use Rattle.partial_model.specs.declared.call.Call.TheVariants as call
 use Rattle.partial_model.specs.declared.call.Answer.{Answer}
@@ -15,15 +13,12 @@ use Rattle.partial_model.specs.declared.call.Note.{Note}
 use Rattle.partial_model.specs.declared.call.Note.TheVariants as note
 use Rattle.partial_model.specs.declared.call.Refused.{Refused}
 use Rattle.partial_model.specs.declared.call.Refused.TheVariants as refused
-use Rattle.partial_model.specs.Notes.{Noted, LegalNotes, IsLegal, IsTrueOf, MayBeRefused, NamesComponents, indices_of, place_of, shown_by, seen_after, seen_by}
-use Rattle.partial_model.specs.Outcome.{places_written, wrote}
+use Rattle.partial_model.specs.Notes.{Noted, MayBeRefused, NamesComponents, indices_of, seen_after, seen_by}
 use Rattle.partial_model.proofs.Decisions.{Decides-list_all, Decides-nat_lt}
-use Rattle.partial_model.proofs.NotesLemmas.{seen_by-push}
 use Rattle.partial_memory.specs.declared.answers.Scanned.{Scanned}
-use Rattle.partial_memory.specs.declared.answers.Updated.{Updated}
-use Rattle.partial_memory.specs.Ports.{IsOf, MemoryView, PortView, Answered, IsRefused, RefusedLate, refusal, marks_refusal}
+use Rattle.partial_memory.specs.Ports.{IsOf, MemoryView, PortView, Answered, IsRefused, marks_refusal}
 use Rattle.partial_memory.specs.Calls.{Scans}
-use Rattle.partial_cmd.specs.Work.{AreMade, Fills, IsMade, IsUnnoted, WasRefused, WasEmpty}
+use Rattle.partial_cmd.specs.Work.{AreMade, Fills, IsMade, IsUnnoted}
 
 -- the causes of a mark
 pool_alone : (b : Bool) (cause : Refused) → cond b (Some refused.PoolSpent) None ≡ Some cause → cause ≡ refused.PoolSpent
@@ -42,7 +37,7 @@ marks_may p m (call.Scan []) cause names e = cc
 marks_may p m (call.Scan (j ∷ js)) cause names e = elim (pool_or_slots p.pool_spent p.slots_spent cause e) [
   | inl is ↦ subst (MayBeRefused m (call.Scan (j ∷ js))) (sym is) (names, omega arith)
   | inr is ↦ subst (MayBeRefused m (call.Scan (j ∷ js))) (sym is) (names, omega arith)
-  ]
+]
 marks_may p m (call.Read j) cause names e = cc
 
 refused_may : (p : PortView) (c : Call) (cause : Refused) (b : Bool) → list_all (λ j. nat_lt j p.memory.about.sizes.m) (indices_of c) ≡ b → cond b (marks_refusal p c) (Some refused.Component) ≡ Some cause → MayBeRefused p.memory.about.sizes.m c cause
@@ -90,7 +85,7 @@ made_scan m p q [] vs s w =
 made_scan m p q (j ∷ js) vs s w = made_answered m p q (call.Scan (j ∷ js)) (answer.Scanned vs s.collects s.borrowed) (note.Saw w.n) w.answered
 
 -- calls that a port doesn't note leave unchanged what it has seen
-unnoted_seen : (m seen : ℕ) (n : Noted) → IsUnnoted m seen n → seen_after seen n.note ≡ seen
+pub unnoted_seen : (m seen : ℕ) (n : Noted) → IsUnnoted m seen n → seen_after seen n.note ≡ seen
 unnoted_seen m seen n (inl w) = ap (seen_after seen) w.2
 unnoted_seen m seen n (inr w) = ap (seen_after seen) w.2
 

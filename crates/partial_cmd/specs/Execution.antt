@@ -1,5 +1,5 @@
 -- What a command answers, and what it writes.
-use Rattle.std.specs.Prelude.{ℕ, ◌≡◌, List, [], ◌∷◌, ◌++◌, take, codes, Option, Some, None, IfSome, Result, Ok, Err}
+use Rattle.std.specs.Prelude.{ℕ, ◌≡◌, ◌≢◌, List, [], ◌∷◌, ◌++◌, take, codes, Option, Some, None, IfSome, Result, Ok, Err}
 use Rattle.std.specs.Io.KnownBytes.{Appends}
 use Rattle.partial_text.specs.declared.fault.Cause.{Cause}
 use Rattle.partial_text.specs.declared.fault.PlanError.{PlanError}
@@ -9,7 +9,10 @@ use Rattle.partial_text.specs.Fault as text
 use Rattle.partial_text.specs.declared.outcome.Outcome.{Outcome}
 use Rattle.partial_text.specs.PlanText.{PlanView, IsPlan, plan_text}
 use Rattle.partial_text.specs.OutcomeText.{outcome_text}
+use Rattle.partial_text.specs.ReportText.{report_text}
+use Rattle.partial_text.specs.declared.report.RunReport.{RunReport}
 use Rattle.partial_replay.specs.Replayed.{IsReplayOf}
+use Rattle.partial_cmd.specs.Reports.{IsReportOf}
 use Rattle.partial_cmd.specs.declared.fault.Fault.{Fault}
 use Rattle.partial_cmd.specs.declared.fault.Fault.TheVariants as fault
 use Rattle.partial_cmd.specs.declared.command.Verb.{Verb}
@@ -21,6 +24,7 @@ use Rattle.partial_cmd.specs.declared.command.Verdict.TheVariants as verdict
 abbrev pub code_of : Fault → ℕ
 code_of (fault.Plan e) = text.code_of e
 code_of (fault.Replay e) = 6
+code_of (fault.Run e) = 6
 code_of (fault.Outcome e) = text.outcome_code_of e
 
 -- the line and the cause of a refused line
@@ -41,32 +45,37 @@ abbrev pub IsRead : Result PlanView PlanError → Type 0
 IsRead judged = (p : PlanView) × (judged ≡ Ok p)
 
 -- The plan was refused with the fault that judging its text gives, unless memory ran out, and it was
--- replayed only where judging gives a plan.
+-- replayed or run only where judging gives a plan.
 abbrev pub IsJudged : Result Verdict Fault → Result PlanView PlanError → Type 0
 IsJudged (Ok v) judged = IsRead judged
 IsJudged (Err (fault.Plan e)) judged = text.Fails e judged
 IsJudged (Err (fault.Replay e)) judged = IsRead judged
+IsJudged (Err (fault.Run e)) judged = IsRead judged
 IsJudged (Err (fault.Outcome e)) judged = IsRead judged
 
 -- how a command ends that isn't refused: every replay is lawful
 abbrev pub verdict_of : Verb → Verdict
 verdict_of verb.Replay = verdict.Done
 verdict_of verb.Check = verdict.Lawful
+verdict_of verb.Run = verdict.Done
 
--- the one text that a command writes of an outcome
-abbrev pub text_of : Verb → Outcome → List ℕ
-text_of verb.Replay outcome = outcome_text outcome.opening outcome.history.items outcome.calls.items outcome.steps
-text_of verb.Check outcome = codes "lawful" ++ 10 ∷ []
-
--- the text is that of the plan, and the outcome is one of its replay
-pub record IsReplayed (text : Option (List ℕ)) (p : PlanView) (outcome : Outcome) : Type 0 where
+-- the text is that of the plan
+pub record IsTextOf (text : Option (List ℕ)) (p : PlanView) : Type 0 where
   pub plan : IsPlan p
   pub read : IfSome text (λ bytes. bytes ≡ plan_text p)
-  pub replayed : IsReplayOf p outcome
 
--- that is what the verb asks to be written of the plan with this text: of an outcome of its replay
+-- What a verb asks to be written of a plan: of an outcome of its replay its text or that it is lawful, and of a run its report.
+abbrev pub Answers : Verb → PlanView → List ℕ → Type 0
+Answers verb.Replay p answer =
+    (outcome : Outcome) × IsReplayOf p outcome
+    × (answer ≡ outcome_text outcome.opening outcome.history.items outcome.calls.items outcome.steps)
+Answers verb.Check p answer = (outcome : Outcome) × IsReplayOf p outcome × (answer ≡ codes "lawful" ++ 10 ∷ [])
+Answers verb.Run p answer =
+    (report : RunReport) × IsReportOf p report × (answer ≡ report_text report.answers.items report.values.items)
+
+-- the same of the plan with this text
 abbrev pub IsAnswer : Verb → Option (List ℕ) → List ℕ → Type 0
-IsAnswer verb text answer = (p : PlanView) × (outcome : Outcome) × IsReplayed text p outcome × (answer ≡ text_of verb outcome)
+IsAnswer verb text answer = (p : PlanView) × IsTextOf text p × Answers verb p answer
 
 -- it was written
 abbrev pub WritesOutcome : Verb → Option (List ℕ) → Option (List ℕ) → Option (List ℕ) → Type 0
@@ -76,6 +85,11 @@ WritesOutcome verb text before after = (answer : List ℕ) × IsAnswer verb text
 abbrev pub WritesPart : Verb → Option (List ℕ) → Option (List ℕ) → Option (List ℕ) → Type 0
 WritesPart verb text before after = (answer : List ℕ) × (n : ℕ) × IsAnswer verb text answer × Appends before after (take n answer)
 
--- what a verb asks to be written is a function of the bytes of the plan's text
+-- what a replay or a check writes is a function of the bytes of the plan's text
 abbrev pub PlansHaveOneAnswer : Type 0
-PlansHaveOneAnswer = (verb : Verb) (bytes a b : List ℕ) → IsAnswer verb (Some bytes) a → IsAnswer verb (Some bytes) b → a ≡ b
+PlansHaveOneAnswer = (v : Verb) (bytes a b : List ℕ) → v ≢ verb.Run → IsAnswer v (Some bytes) a → IsAnswer v (Some bytes) b → a ≡ b
+
+-- the fault isn't one of reading a plan
+abbrev pub IsBehindReading : Fault → Type 0
+IsBehindReading (fault.Plan e) = ⊥
+IsBehindReading _ = Unit {0}

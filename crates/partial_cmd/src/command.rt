@@ -1,17 +1,20 @@
 //! A command, from the text of a plan to the text of what came of it.
 
-ghost use Rattle.std.specs.Prelude.{ℕ, ◌≡◌, ◌↔◌, ◌≢◌, true, false, take, OnOk, OnErr, IfOk, IfErr, IfSome, IsErrOf};
+ghost use Rattle.std.specs.Prelude.{ℕ, ◌≡◌, ◌↔◌, ◌≢◌, List, true, false, take, OnOk, IfOk, IfErr, IfSome, IsErrOf};
 ghost use Rattle.std.specs.Io.KnownBytes.{Appends};
-ghost use Rattle.partial_model.specs.Outcome.{LegalOutcome};
 ghost use Rattle.partial_text.specs.Judging.{judged};
-ghost use Rattle.partial_cmd.specs.Execution.{reader_fault, writer_fault, text_of, verdict_of, IsJudged, WritesOutcome, WritesPart};
+ghost use Rattle.partial_cmd.specs.Execution.{Answers, IsBehindReading, IsJudged, WritesOutcome, WritesPart, reader_fault, verdict_of, writer_fault};
 
 use crate::fault::Fault;
+use crate::gate::NoGate;
+use crate::workers::run_workers;
 use partial_model::check_outcome;
-use partial_replay::{Device, Outcome, OutcomeError, Plan, replay, write_outcome};
-use partial_text::write_text;
+use partial_replay::{Device, Plan, replay, write_outcome};
+use partial_text::{write_report, write_text};
 use std::alloc::Global;
 use std::io::{Read, Write};
+use std::sync::Wait;
+use std::thread::Threads;
 
 /// What is to be done with a plan.
 #[derive(Clone, Copy, Debug, PartialEq, Eq)]
@@ -20,6 +23,8 @@ pub enum Verb {
     Replay,
     /// Replay it, and write whether the outcome is lawful.
     Check,
+    /// Run its ports side by side, each in a thread of its own, and write the report.
+    Run,
 }
 
 /// How a command ended.
@@ -34,14 +39,16 @@ pub enum Verdict {
 }
 
 /// Reads a plan, does with it what the verb says, and writes what came of it: the outcome of its replay,
-/// or the line `lawful` or `unlawful` by the slow check of that outcome.
+/// the line `lawful` or `unlawful` by the slow check of that outcome, or the report of a run, in which the
+/// plan's turns play no part.
 ///
 /// # Errors
 ///
 /// The first fault of the plan's text, where it isn't the text of a plan; code 6 where a growth was
-/// refused; code 11 where the reader failed, and code 12 where the writer failed or took 0 bytes.
+/// refused or a worker couldn't be started, and then no thread is left running; code 11 where the reader failed, and code 12 where the writer failed or took 0 bytes.
 /// Nothing is written but after code 12, and then a part of the text from its front.
-pub fn execute<R: Read, W: Write>(
+pub fn execute<H: Threads + Wait + Sync, R: Read, W: Write>(
+    rt: &H,
     alloc: Global,
     verb: Verb,
     plan: &mut Device<R>,
@@ -54,10 +61,11 @@ pub fn execute<R: Read, W: Write>(
     // Which fault of the plan it is, and that a plan without a fault isn't refused.
     ensures plan { plan.new.failed ≡ false → IfSome (R.remaining plan.old.inner)
         (λ bytes. IsJudged result (judged bytes)) }
-    // A replay is done, and a check finds the outcome lawful, whatever the plan.
+    // A replay and a run are done, and a check finds the outcome lawful, whatever the plan.
     ensures verdict { IfOk result (λ verdict. verdict ≡ verdict_of verb) }
-    // Exactly the text that the verb asks for is written, of a legal outcome of the plan's calls, made in
-    // the plan's turns: `plans_have_one_answer` says that this is one text for each text of a plan.
+    // Exactly the text that the verb asks for is written: of a legal outcome of the plan's calls, made in the
+    // plan's turns (`plans_have_one_answer` says that this is one text for each text of a plan), or of a
+    // report whose answers are right in one history.
     ensures written { OnOk result (WritesOutcome verb (R.remaining plan.old.inner)
         (W.contents out.old.inner) (W.contents out.new.inner)) }
     // Nothing is written but after a fault of the writer, and then a part of such a text.
@@ -66,32 +74,35 @@ pub fn execute<R: Read, W: Write>(
         → WritesPart verb (R.remaining plan.old.inner) (W.contents out.old.inner) (W.contents out.new.inner) }
 {
     let plan = Plan::read(alloc, plan)?;
-    let outcome = replay(alloc, &plan)?;
-    Ok(write_answer(alloc, verb, &outcome, out)?)
+    write_answer(rt, alloc, verb, &plan, out)
 }
 
-// Writes what the verb asks for of a replay's outcome. Every such outcome is legal, so none is unlawful.
-fn write_answer<W: Write>(
+// Writes what the verb asks for of a plan. Every outcome of a replay is legal, so none is unlawful.
+fn write_answer<H: Threads + Wait + Sync, W: Write>(
+    rt: &H,
     alloc: Global,
     verb: Verb,
-    outcome: &Outcome,
+    plan: &Plan,
     out: &mut Device<W>,
-) -> Result<Verdict, OutcomeError>
+) -> Result<Verdict, Fault>
     requires out { out.old.failed ≡ false }
-    requires legal { LegalOutcome outcome.now.opening outcome.now.history.items outcome.now.calls.items }
     ensures verdict { IfOk result (λ verdict. verdict ≡ verdict_of verb) }
-    ensures ok { OnOk result (Appends (W.contents out.old.inner) (W.contents out.new.inner) (text_of verb outcome.now)) }
-    ensures part { OnErr result ((n : ℕ)
-        × Appends (W.contents out.old.inner) (W.contents out.new.inner) (take n (text_of verb outcome.now))) }
-    ensures fault { IsErrOf result OutcomeError.Write ↔ (out.new.failed ≡ true) }
-    ensures memory { IsErrOf result OutcomeError.Memory → out.new ≡ out.old }
+    ensures ok { OnOk result ((answer : List ℕ) × Answers verb plan.now answer
+        × Appends (W.contents out.old.inner) (W.contents out.new.inner) answer) }
+    ensures part { IsErrOf result writer_fault → (answer : List ℕ) × (n : ℕ) × Answers verb plan.now answer
+        × Appends (W.contents out.old.inner) (W.contents out.new.inner) (take n answer) }
+    ensures fault { IsErrOf result writer_fault ↔ (out.new.failed ≡ true) }
+    ensures unwritten { IfErr result (λ fault. fault ≢ writer_fault → out.new ≡ out.old) }
+    ensures behind { IfErr result IsBehindReading }
 {
     match verb {
         Verb::Replay => {
-            write_outcome(alloc, outcome, out)?;
+            let outcome = replay(alloc, plan)?;
+            write_outcome(alloc, &outcome, out)?;
             Ok(Verdict::Done)
         }
         Verb::Check => {
+            let outcome = replay(alloc, plan)?;
             if check_outcome(&outcome.opening, &outcome.history, &outcome.calls) {
                 write_text(b"lawful\n", out)?;
                 Ok(Verdict::Lawful)
@@ -99,6 +110,11 @@ fn write_answer<W: Write>(
                 write_text(b"unlawful\n", out)?;
                 Ok(Verdict::Unlawful)
             }
+        }
+        Verb::Run => {
+            let report = run_workers(rt, alloc, plan, &NoGate)?;
+            write_report(alloc, &report, out)?;
+            Ok(Verdict::Done)
         }
     }
 }

@@ -2,6 +2,7 @@
 
 ghost use Rattle.std.specs.Prelude.{◌≡◌};
 
+use crate::workers::RunError;
 use partial_replay::{Cause, OutcomeError, PlanError, ReplayError};
 use thiserror::Error;
 
@@ -14,7 +15,10 @@ pub enum Fault {
     /// The plan wasn't replayed.
     #[error("{0}")]
     Replay(ReplayError),
-    /// The outcome wasn't written whole.
+    /// The plan wasn't run.
+    #[error("{0}")]
+    Run(RunError),
+    /// The outcome or the report wasn't written whole.
     #[error("{0}")]
     Outcome(OutcomeError),
 }
@@ -30,6 +34,7 @@ impl Fault {
         match self {
             Fault::Plan(error) => error.code(),
             Fault::Replay(error) => error.code(),
+            Fault::Run(error) => error.code(),
             Fault::Outcome(error) => error.code(),
         }
     }
@@ -64,6 +69,17 @@ impl From<ReplayError> for Fault {
 
     fn from(error: ReplayError) -> Fault {
         Fault::Replay(error)
+    }
+}
+
+impl From<RunError> for Fault {
+    ghost use Rattle.std.specs.Prelude.{◌≡◌};
+    ghost use Rattle.partial_cmd.specs.declared.fault.Fault.TheVariants.{Run};
+
+    ghost from_gives = { λ cause e. e ≡ Run cause };
+
+    fn from(error: RunError) -> Fault {
+        Fault::Run(error)
     }
 }
 

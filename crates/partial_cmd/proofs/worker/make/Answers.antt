@@ -1,5 +1,4 @@
 use Rattle.std.proofs.Common.{rules, ◌≡◌, ◌∙◌, length, inl}
-use Rattle.partial_model.specs.declared.call.Call.{Call}
 use Rattle.partial_model.specs.declared.call.Call.TheVariants as call
 use Rattle.partial_cmd.proofs.Made.{refused_at, scanned_at, written_whole}
 use Rattle.partial_cmd.proofs.worker.make.Goals as goal

@@ -1,13 +1,10 @@
-use Rattle.std.proofs.Common.{rules, ◌≡◌, ◌+◌, ◌<◌, ◌≤◌, ◌++◌, ℕ, List, [], ◌∷◌, length, map, take, get_or, sym, ap, subst, ◌∙◌, arith}
+use Rattle.std.proofs.Common.{rules, ◌+◌, ◌++◌, [], ◌∷◌, length, sym, ap, subst, ◌∙◌, arith}
 use Rattle.std.proofs.lemmas.Iterator.Adapters.{YieldsList-from_vec}
 use Rattle.std.proofs.lemmas.Iterator.Consumers.{YieldsList-turn, YieldsList-end}
 use Rattle.std.proofs.lemmas.List.{length_push, take_all}
-use Rattle.partial_model.specs.declared.call.Call.{Call}
-use Rattle.partial_memory.specs.Ports.{MemoryView}
-use Rattle.partial_cmd.specs.Reports.{AreEach}
-use Rattle.partial_cmd.specs.Work.{HaveCome, IsDone, IsStarted}
+use Rattle.partial_cmd.specs.Work.{HaveCome, IsStarted}
 use Rattle.partial_cmd.proofs.Hires.{come_more, done_as_started}
-use Rattle.partial_cmd.proofs.Pairs.{each_length, each_some}
+use Rattle.partial_cmd.proofs.Pairs.{each_length}
 use Rattle.partial_cmd.proofs.workers.join.Goals as goal
 
 pub loop-handle-preserved : goal.loop-handle-preserved
@@ -18,8 +15,8 @@ loop-handle-preserved g c =
     let more = length_push c.loop-handle.yielded c.in-Some.handle in
     record {
       come = λ m plan started.
-        let done = done_as_started m n plan all c.in-Some.handle c.join-port.result started turn.0 turn.1 c.join-port.ensures in
-        come_more m n (length (c.loop-handle.yielded ++ c.in-Some.handle ∷ [])) plan c.loop-handle.results _ done.0 c.join-port.result (c.loop-handle.invariant.come m plan started) (omega (arith, turn.0, each_length (IsStarted m) 0 plan all started)) done.1 done.2 more c.push_reserved.ensures.items c.push_reserved-in-loop-handle.ensures.items;
+          let done = done_as_started m n plan all c.in-Some.handle c.join-port.result started turn.0 turn.1 c.join-port.ensures in
+          come_more m n (length (c.loop-handle.yielded ++ c.in-Some.handle ∷ [])) plan c.loop-handle.results _ done.0 c.join-port.result (c.loop-handle.invariant.come m plan started) (omega (arith, turn.0, each_length (IsStarted m) 0 plan all started)) done.1 done.2 more c.push_reserved.ensures.items c.push_reserved-in-loop-handle.ensures.items;
       ports = ap length c.push_reserved.ensures.items ∙ length_push c.loop-handle.results.ports.items c.join-port.result.port ∙ ap (λ k. k + 1) c.loop-handle.invariant.ports ∙ sym more;
       answers = ap length c.push_reserved-in-loop-handle.ensures.items ∙ length_push c.loop-handle.results.answers.items c.join-port.result.answers ∙ ap (λ k. k + 1) c.loop-handle.invariant.answers ∙ sym more;
       ports_room = search rules;

@@ -1,4 +1,4 @@
-use Rattle.std.proofs.Common.{ℕ, ◌≡◌, ◌≤◌, List, length, take}
+use Rattle.std.proofs.Common.{◌≡◌, ◌≤◌, List, length, take}
 use Rattle.std.specs.Vec.{vec_capacity}
 use Rattle.partial_model.specs.declared.call.Call.{Call}
 use Rattle.partial_memory.specs.Ports.{MemoryView}

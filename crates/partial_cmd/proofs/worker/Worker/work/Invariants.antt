@@ -1,4 +1,4 @@
-use Rattle.std.proofs.Common.{◌≡◌, ◌≤◌, length, map}
+use Rattle.std.proofs.Common.{◌≡◌, ◌≤◌, length}
 use Rattle.std.specs.Vec.{vec_capacity}
 use Rattle.partial_memory.specs.Ports.{IsOf}
 use Rattle.partial_cmd.specs.Work.{AreMade, calls_of}
