@@ -7,8 +7,12 @@ history and the places of the calls in it), and the search for such a history. W
 judged by `is_lawful` before anything is called lawful.
 
 The status is 0 for a lawful report, 1 for an unlawful one, with a line saying why, and 2 where the plan
-or the report can't be read.
+or the report can't be read. Hundreds of calls take a second or so where the values of a component tell its
+updates apart. Where they don't, large scans by many ports may take very long: then it is the search through
+the orders of the updates that decides.
 """
+import itertools
+import random
 import re
 import sys
 from typing import NamedTuple, Optional
@@ -406,14 +410,17 @@ class Nodes:
         if not left:
             raise Clash
         news, state.sources[sight] = left != state.sources[sight], left
-        if left & (left - 1):
-            return news
-        source = bit_of(left)
-        news |= state.put(source, node)
-        for w in bits(others & state.before[node] & ~state.before[source] & ~left):
-            news |= state.put(w, source)
-        for w in bits(others & state.behind[source] & ~state.behind[node]):
+        early = late = -1
+        for w in bits(left):
+            early &= state.before[w] | 1 << w
+            late &= state.behind[w]
+        for w in bits(early & ~state.before[node]):
+            news |= state.put(w, node)
+        for w in bits(late & others & ~state.behind[node]):
             news |= state.put(node, w)
+        if left & (left - 1) == 0:
+            for w in bits(others & state.before[node] & ~state.before[bit_of(left)] & ~left):
+                news |= state.put(w, bit_of(left))
         return news
 
     def settle(self, state):
@@ -428,8 +435,8 @@ class Nodes:
 class Row:
     """A row of the nodes, each taken as soon as it may come, without ever taking one back."""
 
-    def __init__(self, nodes, state):
-        self.nodes, self.state = nodes, state
+    def __init__(self, nodes, state, chance):
+        self.nodes, self.state, self.chance = nodes, state, chance
         self.order, self.done = [], 0
         self.last = dict.fromkeys(nodes.writers, 0)
         self.sights_of, self.sights_on = {}, {}
@@ -438,11 +445,15 @@ class Row:
             self.sights_on.setdefault(component, []).append(sight)
         self.fill()
 
+    def is_seen(self, sight):
+        """Whether the last node that wrote the component may be the source."""
+        return self.state.sources[sight] >> self.last.get(self.nodes.sights[sight][1], 0) & 1
+
     def blocking(self, node):
         """A sight that the node would spoil as the next one: one of its own that sees another source
         than the last one, or one whose last source it would overwrite. None where there is none."""
         for sight in self.sights_of.get(node, []):
-            if not self.state.sources[sight] >> self.last.get(self.nodes.sights[sight][1], 0) & 1:
+            if not self.is_seen(sight):
                 return sight
         if node not in self.nodes.entry:
             return None
@@ -459,22 +470,48 @@ class Row:
             self.last[self.nodes.entry[node].component] = node
 
     def fill(self):
-        """Takes nodes while one may come: those that only see first."""
+        """Takes nodes while one may come."""
         self.take(0)
         waiting = sorted(range(1, self.nodes.end + 1), key=lambda node: node in self.nodes.entry)
         while waiting:
-            self.blocked = []
-            for node in waiting:
-                if self.state.before[node] & ~self.done:
-                    continue
-                sight = self.blocking(node)
-                if sight is None:
-                    break
-                self.blocked.append((node, sight))
-            else:
+            node = self.choose(waiting)
+            if node is None:
                 return
             self.take(node)
             waiting.remove(node)
+
+    def choose(self, waiting):
+        """The node that comes next: one that only sees where one may come, else the update that is wanted
+        most, and None where no node may come. `waiting` has the updates last."""
+        self.blocked, free = [], []
+        for node in waiting:
+            if self.state.before[node] & ~self.done:
+                continue
+            sight = self.blocking(node)
+            if sight is not None:
+                self.blocked.append((node, sight))
+            elif node not in self.nodes.entry:
+                return node
+            else:
+                free.append(node)
+        return self.best(free) if free else None
+
+    def best(self, updates):
+        """The update that the calls which wait for something to see want most, where one that lacks little
+        counts for more. An update that would spoil what such a call may see is wanted less."""
+        wanted = {update: self.chance.random() / 100 for update in updates}
+        for seer, _ in self.blocked:
+            if seer in self.nodes.entry:
+                continue
+            sights = self.sights_of[seer]
+            lacking = [sight for sight in sights if not self.is_seen(sight)]
+            for sight in sights:
+                component, share = self.nodes.sights[sight][1], 1 / len(lacking) ** 2
+                for update in updates:
+                    if self.nodes.entry[update].component == component:
+                        hit = self.state.sources[sight] >> update & 1
+                        wanted[update] += share * (hit if sight in lacking else hit - 1)
+        return max(updates, key=wanted.get)
 
     def is_whole(self):
         return len(self.order) == self.nodes.end + 1
@@ -517,21 +554,35 @@ def find(plan, report):
 
 
 def search(nodes):
-    """The order of the nodes in a row that keeps everything."""
+    """The order of the nodes in a row that keeps everything. It is searched over and over, each time by
+    other chances and twice as long, until one is found or the search has come to its end."""
+    for turn in itertools.count():
+        order = search_for(nodes, 8 << turn, random.Random(turn))
+        if order is not None:
+            return order
+
+
+def search_for(nodes, tries, chance):
+    """Such an order, and None where so many tries weren't enough."""
     try:
         states = [nodes.opening_state()]
     except Clash:
         raise Unlawful('the calls of the ports can stand in no order') from None
-    while states:
+    while states and tries > 0:
         state = states.pop()
+        tries -= 1
         try:
             nodes.settle(state)
         except Clash:
             continue
-        row = Row(nodes, state)
+        row = Row(nodes, state, chance)
         if row.is_whole():
             return row.order
-        states += reversed(list(row.branches()))
+        branches = list(row.branches())
+        chance.shuffle(branches)
+        states += branches
+    if states:
+        return None
     raise Unlawful('no history explains all answers')
 
 
