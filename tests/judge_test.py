@@ -206,30 +206,38 @@ def may_refuse(m, call, cause):
     return cause == 9 and call.kind != 'read' and call.components != ()
 
 
+def are_places(plan, history, states, port, calls, answers, places):
+    """Whether the answers of a port are right at these places, each behind all that the port had seen."""
+    seen = 0
+    for call, answer, place in zip(calls, answers, places):
+        if place is None:
+            seen = seen if answer.kind == 'refused' and may_refuse(len(plan.initial), call, answer.cause) else None
+        elif max(call.components, default=0) >= len(plan.initial) or place < seen:
+            seen = None
+        else:
+            seen = seen_behind(plan, history, states, port, call, answer, place)
+        if seen is None:
+            return False
+    return True
+
+
 def port_has_places(plan, history, states, port, calls, answers):
     rows = [[None] if answer.kind == 'refused' else range(len(history) + 1) for answer in answers]
-    for places in itertools.product(*rows):
-        seen = 0
-        for call, answer, place in zip(calls, answers, places):
-            if place is None:
-                seen = seen if may_refuse(len(plan.initial), call, answer.cause) else None
-            elif max(call.components, default=0) >= len(plan.initial) or place < seen:
-                seen = None
-            else:
-                seen = seen_behind(plan, history, states, port, call, answer, place)
-            if seen is None:
-                break
-        else:
-            return True
-    return False
+    return any(are_places(plan, history, states, port, calls, answers, places) for places in itertools.product(*rows))
 
 
-def explains(plan, report, history):
+def states_of(plan, history):
+    """The value and the stamp of each component after each number of entries."""
     states = [[(value, plan.first + 3 * j) for j, value in enumerate(plan.initial)]]
     for entry in history:
         state = list(states[-1])
         state[entry.component] = (entry.value, entry.stamp)
         states.append(state)
+    return states
+
+
+def explains(plan, report, history):
+    states = states_of(plan, history)
     if tuple(value for value, _ in states[-1]) != report.values:
         return False
     return all(port_has_places(plan, history, states, port, calls, report.answers.get(port, []))
@@ -379,6 +387,43 @@ def tiny(rng, runs):
     yield f'{agree}', agree[True] > runs // 10 and agree[False] > runs // 10
 
 
+def definition(rng, runs):
+    """With one place or two entries changed, `is_lawful` is what the rules say of those places."""
+    agree = {True: 0, False: 0}
+    for _ in range(runs):
+        run = Run(rng, rng.randint(1, 2), rng.randint(1, 3), rng.randint(1, 4), rng.choice([2, 1000]))
+        history, places = judge.find(run.plan, run.report)
+        at = [(port, n) for port, row in enumerate(places) for n in range(len(row))]
+        if len(history) > 1 and rng.random() < 0.3:
+            k = rng.randrange(len(history) - 1)
+            history[k:k + 2] = history[k + 1], history[k]
+        else:
+            port, n = rng.choice(at)
+            places[port][n] = rng.choice([None] + list(range(len(history) + 1)))
+        states, right = states_of(run.plan, history), True
+        for port, calls in enumerate(run.plan.ports):
+            right &= are_places(run.plan, history, states, port, calls, run.answers[port], places[port])
+        right &= tuple(value for value, _ in states[-1]) == run.report.values
+        if judge.is_lawful(run.plan, run.report, history, places) != right:
+            yield f'{run.plan} {run.report} {history} {places} is lawful: {right}', False
+        agree[right] += 1
+    yield f'{agree}', min(agree.values()) > runs // 10
+
+
+def least_wanted(rng, runs):
+    """The search takes any update in place of the one that is wanted most, so that it often has to go back:
+    the same as `tiny`, and middling reports that are lawful."""
+    best = judge.Row.best
+    judge.Row.best = lambda row, updates: rng.choice(updates)
+    yield from tiny(rng, runs)
+    right = 0
+    for _ in range(runs // 50):
+        run = Run(rng, 4, rng.randint(8, 24), 4, rng.choice([2, 2, 10**9]))
+        right += verdict(run.plan, run.report)
+    yield f'{right} of {runs // 50} are lawful', right == runs // 50
+    judge.Row.best = best
+
+
 def large(rng, shapes):
     """Large lawful reports are lawful, and few mutated ones; each is judged in seconds."""
     refused, longest = dict.fromkeys(MUTATIONS, 0), 0
@@ -409,7 +454,8 @@ def main():
     shapes = [(m, ports, calls, 10**9 if ports == 64 else values) for m in (1, 2, 4, 16) for values in (2, 5, 10**9)
               for ports, calls in [(1, 40), (2, 30), (4, 20), (8, 10), (16, 8), (64, 3), (64, 6)]]
     passed = failed = 0
-    for name, right in itertools.chain(by_hand(), statuses(), outcomes(), tiny(rng, 10000), large(rng, shapes)):
+    rows = by_hand(), statuses(), outcomes(), definition(rng, 5000), tiny(rng, 10000), least_wanted(rng, 10000), large(rng, shapes)
+    for name, right in itertools.chain(*rows):
         passed, failed = passed + right, failed + (not right)
         if not right:
             print(f'failed: {name}')
