@@ -75,7 +75,7 @@ fn failing_reader(rt: HostRuntime) -> Result<(), Fail> {
             fails: true,
         });
         let mut writer = Device::new(Vec::new(rt.alloc()));
-        let given = execute(rt.alloc(), Verb::Replay, &mut reader, &mut writer);
+        let given = execute(&rt, rt.alloc(), Verb::Replay, &mut reader, &mut writer);
         let fault = given.err().ok_or("a refusal")?;
         assert_eq!(rt; fault.code(), 11, "after {count} bytes");
         assert_eq!(rt; fault.at(), None);
@@ -92,7 +92,7 @@ fn one_byte_a_read(rt: HostRuntime) -> Result<(), Fail> {
             fails: false,
         });
         let mut writer = Device::new(Vec::new(rt.alloc()));
-        execute(rt.alloc(), Verb::Replay, &mut reader, &mut writer)?;
+        execute(&rt, rt.alloc(), Verb::Replay, &mut reader, &mut writer)?;
         assert_eq!(rt; writer.into_inner().as_slice(), expected, "{name}");
     }
     Ok(())
@@ -106,7 +106,7 @@ fn failing_writer_of_a_verdict(rt: HostRuntime) -> Result<(), Fail> {
     for room in 0..line.len() {
         let mut writer = filled_to(rt.alloc(), room, false);
         let mut reader = Device::new(plan);
-        let given = execute(rt.alloc(), Verb::Check, &mut reader, &mut writer);
+        let given = execute(&rt, rt.alloc(), Verb::Check, &mut reader, &mut writer);
         let fault = given.err().ok_or("a refusal")?;
         assert_eq!(rt; fault.code(), 12, "after {room} bytes");
         let taken = writer.into_inner().taken;
@@ -122,7 +122,7 @@ fn failing_writer(rt: HostRuntime) -> Result<(), Fail> {
             for room in 0..expected.len() {
                 let mut reader = Device::new(plan);
                 let mut writer = filled_to(rt.alloc(), room, takes_none);
-                let given = execute(rt.alloc(), Verb::Replay, &mut reader, &mut writer);
+                let given = execute(&rt, rt.alloc(), Verb::Replay, &mut reader, &mut writer);
                 let fault = given.err().ok_or("a refusal")?;
                 assert_eq!(rt; fault.code(), 12, "{name} after {room} bytes");
                 let taken = writer.into_inner().taken;

@@ -1,12 +1,15 @@
 //! Growths that are refused, one after another: the script that runs these tests says which.
 
 use super::rows::BORROWED_VIEW;
+use super::runs::SLOTS_SPENT;
 use crate::{Fault, Verb, execute};
 use partial_replay::Device;
 use std::alloc::Global;
 use std::io;
 use std::io::Write;
+use std::sync::Wait;
 use std::test::Fail;
+use std::thread::Threads;
 
 /// Takes what it expects and asks for no memory. `left` is what is still to come.
 #[derive(Drop)]
@@ -31,9 +34,15 @@ impl Write for Expecting<'_> {
 }
 
 /// How much of the text that is expected of a command is not written, and why.
-fn unwritten(alloc: Global, verb: Verb, plan: &[u8], expected: &[u8]) -> (usize, Option<Fault>) {
+fn unwritten<R: Threads + Wait + Sync>(
+    rt: &R,
+    alloc: Global,
+    verb: Verb,
+    plan: &[u8],
+    expected: &[u8],
+) -> (usize, Option<Fault>) {
     let mut writer = Device::new(Expecting { left: expected });
-    let given = execute(alloc, verb, &mut Device::new(plan), &mut writer);
+    let given = execute(rt, alloc, verb, &mut Device::new(plan), &mut writer);
     (writer.into_inner().left.len(), given.err())
 }
 
@@ -42,7 +51,7 @@ fn unwritten(alloc: Global, verb: Verb, plan: &[u8], expected: &[u8]) -> (usize,
 #[test]
 fn a_refused_growth_writes_nothing(rt: HostRuntime) -> Result<(), Fail> {
     let (_, plan, expected) = BORROWED_VIEW;
-    let (left, fault) = unwritten(rt.alloc(), Verb::Replay, plan, expected);
+    let (left, fault) = unwritten(&rt, rt.alloc(), Verb::Replay, plan, expected);
     match fault {
         None => assert_eq!(rt; left, 0),
         Some(fault) => {
@@ -59,13 +68,29 @@ fn a_refused_growth_writes_nothing(rt: HostRuntime) -> Result<(), Fail> {
 fn a_refused_growth_gives_no_verdict(rt: HostRuntime) -> Result<(), Fail> {
     let (_, plan, _) = BORROWED_VIEW;
     let line = b"lawful\n";
-    let (left, fault) = unwritten(rt.alloc(), Verb::Check, plan, line);
+    let (left, fault) = unwritten(&rt, rt.alloc(), Verb::Check, plan, line);
     match fault {
         None => assert_eq!(rt; left, 0),
         Some(fault) => {
             assert_eq!(rt; fault.code(), 6);
             assert_eq!(rt; fault.at(), None);
             assert_eq!(rt; left, line.len());
+            Err(fault)?;
+        }
+    }
+    Ok(())
+}
+
+#[test]
+fn a_refused_growth_reports_no_run(rt: HostRuntime) -> Result<(), Fail> {
+    let (_, plan, expected) = SLOTS_SPENT;
+    let (left, fault) = unwritten(&rt, rt.alloc(), Verb::Run, plan, expected);
+    match fault {
+        None => assert_eq!(rt; left, 0),
+        Some(fault) => {
+            assert_eq!(rt; fault.code(), 6);
+            assert_eq!(rt; fault.at(), None);
+            assert_eq!(rt; left, expected.len());
             Err(fault)?;
         }
     }

@@ -8,7 +8,7 @@ use std::test::Fail;
 #[test]
 fn worked_rows(rt: HostRuntime) -> Result<(), Fail> {
     for (name, plan, expected) in ROWS {
-        let (verdict, written) = executed(rt.alloc(), Verb::Replay, plan)?;
+        let (verdict, written) = executed(&rt, rt.alloc(), Verb::Replay, plan)?;
         assert_eq!(rt; verdict, Verdict::Done, "{name}");
         assert_eq!(rt; written.as_slice(), expected, "{name}");
     }
@@ -18,7 +18,7 @@ fn worked_rows(rt: HostRuntime) -> Result<(), Fail> {
 #[test]
 fn worked_rows_are_lawful(rt: HostRuntime) -> Result<(), Fail> {
     for (name, plan, _) in ROWS {
-        let (verdict, written) = executed(rt.alloc(), Verb::Check, plan)?;
+        let (verdict, written) = executed(&rt, rt.alloc(), Verb::Check, plan)?;
         assert_eq!(rt; verdict, Verdict::Lawful, "{name}");
         assert_eq!(rt; written.as_slice(), b"lawful\n".as_slice(), "{name}");
     }
@@ -36,7 +36,7 @@ fn many_turns(rt: HostRuntime) -> Result<(), Fail> {
         plan.extend_from_slice(b" 0*4294967295")?;
     }
     plan.push(b'\n')?;
-    let written = outcome_of(rt.alloc(), &plan)?;
+    let written = outcome_of(&rt, rt.alloc(), &plan)?;
     let expected = b"call 0 0 read 10 18 prefix 0 steps 2 span 0 0\nvalues 10 20\ntotal 2\n";
     assert_eq!(rt; written.as_slice(), expected.as_slice());
     Ok(())
@@ -58,7 +58,7 @@ call 0 0 applied 24 place 0 steps 8 span 0 1
         let mut expected = Vec::from_slice(rt.alloc(), update)?;
         expected.extend_from_slice(listed)?;
         expected.extend_from_slice(b"values 7 20\ntotal 8\n")?;
-        let written = outcome_of(rt.alloc(), &plan)?;
+        let written = outcome_of(&rt, rt.alloc(), &plan)?;
         assert_eq!(rt; written.as_slice(), expected.as_slice(), "{steps:?}");
     }
     Ok(())
@@ -80,7 +80,7 @@ fn most_components(rt: HostRuntime) -> Result<(), Fail> {
         expected.extend_from_slice(b" 0")?;
     }
     expected.extend_from_slice(b"\ntotal 6\n")?;
-    let written = outcome_of(rt.alloc(), &plan)?;
+    let written = outcome_of(&rt, rt.alloc(), &plan)?;
     assert!(rt; written.as_slice() == expected.as_slice());
     Ok(())
 }

@@ -41,7 +41,7 @@ fn sizes_out_of_range(rt: HostRuntime) -> Result<(), Fail> {
     ];
     for (line, code) in rows {
         let plan = changed(rt.alloc(), 1, line)?;
-        let fault = outcome_of(rt.alloc(), &plan).err().ok_or("a refusal")?;
+        let fault = outcome_of(&rt, rt.alloc(), &plan).err().ok_or("a refusal")?;
         assert_eq!(rt; fault.code(), code, "{line:?}");
         assert_eq!(rt; fault.at(), None, "{line:?}");
     }
@@ -73,7 +73,7 @@ fn lines_refused(rt: HostRuntime) -> Result<(), Fail> {
     ];
     for (number, line, cause) in rows {
         let plan = changed(rt.alloc(), number, line)?;
-        let fault = outcome_of(rt.alloc(), &plan).err().ok_or("a refusal")?;
+        let fault = outcome_of(&rt, rt.alloc(), &plan).err().ok_or("a refusal")?;
         assert_eq!(rt; fault.code(), 10, "{line:?}");
         assert_eq!(rt; fault.at(), Some((number, cause)), "{line:?}");
     }
@@ -92,7 +92,7 @@ fn ends_and_extras(rt: HostRuntime) -> Result<(), Fail> {
         (&longer, 5, Cause::Extra),
     ];
     for (text, line, cause) in rows {
-        let fault = outcome_of(rt.alloc(), text).err().ok_or("a refusal")?;
+        let fault = outcome_of(&rt, rt.alloc(), text).err().ok_or("a refusal")?;
         assert_eq!(rt; fault.code(), 10);
         assert_eq!(rt; fault.at(), Some((line, cause)));
     }
@@ -107,7 +107,7 @@ fn ports_out_of_range(rt: HostRuntime) -> Result<(), Fail> {
     }
     let rows: [&[u8]; 2] = [&many, b"sizes 2 4 8 64\ninitial 10 20\nsteps rest\n"];
     for text in rows {
-        let fault = outcome_of(rt.alloc(), text).err().ok_or("a refusal")?;
+        let fault = outcome_of(&rt, rt.alloc(), text).err().ok_or("a refusal")?;
         assert_eq!(rt; fault.code(), 5);
         assert_eq!(rt; fault.at(), None);
     }
@@ -165,7 +165,7 @@ fn plan_refusals(rt: HostRuntime) -> Result<(), Fail> {
         ),
     ];
     for (plan, line, cause) in rows {
-        let fault = outcome_of(rt.alloc(), plan).err().ok_or("a refusal")?;
+        let fault = outcome_of(&rt, rt.alloc(), plan).err().ok_or("a refusal")?;
         assert_eq!(rt; fault.code(), 10, "{plan:?}");
         assert_eq!(rt; fault.at(), Some((line, cause)), "{plan:?}");
     }
@@ -183,7 +183,7 @@ fn fronts_of_a_plan(rt: HostRuntime) -> Result<(), Fail> {
             29..=42 => 3,
             _ => 4,
         };
-        let fault = outcome_of(rt.alloc(), &plan[..length])
+        let fault = outcome_of(&rt, rt.alloc(), &plan[..length])
             .err()
             .ok_or("a refusal")?;
         assert_eq!(rt; fault.code(), 10, "{length} bytes");
@@ -206,7 +206,7 @@ fn many_components(rt: HostRuntime) -> Result<(), Fail> {
         }
         plan.extend_from_slice(b"\nport\nsteps\n")?;
         expected.extend_from_slice(b"\ntotal 0\n")?;
-        let written = outcome_of(rt.alloc(), &plan)?;
+        let written = outcome_of(&rt, rt.alloc(), &plan)?;
         assert!(rt; written.as_slice() == expected.as_slice());
     }
     Ok(())
