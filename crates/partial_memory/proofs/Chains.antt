@@ -1,9 +1,9 @@
 -- The chains of a closed memory, read from its words.
-use Rattle.std.proofs.Common.{ℕ, zero, suc, ◌≡◌, ◌+◌, ◌≢◌, ◌<◌, ◌≤◌, ◌++◌, ◌⊎◌, ◌||◌, Bool, true, false, List, [], ◌∷◌, length, map, get_or, refl, sym, ap, subst, ◌∙◌, inl, inr, arith, append_assoc, append-nil, length-append}
+use Rattle.std.proofs.Common.{ℕ, zero, suc, ◌≡◌, ◌+◌, ◌≢◌, ◌<◌, ◌≤◌, ◌++◌, ◌⊎◌, Bool, true, false, List, [], ◌∷◌, length, map, get_or, refl, sym, ap, subst, ◌∙◌, inl, inr, arith, append_assoc, append-nil, length-append}
 use Rattle.std.specs.List.{AllByRecursion, IsDistinct, list_any}
 use Rattle.std.specs.declared.alloc.Global.{Global}
 use Rattle.std.specs.declared.vec.Vec.{Vec}
-use Rattle.std.proofs.lemmas.Bool.{eqb-true, false≢true, ltb-false, ltb-true, ne_eqb}
+use Rattle.std.proofs.lemmas.Bool.{eqb-true, false≢true, ltb-false, ltb-true, ne_eqb, or_cases}
 use Rattle.std.specs.Prelude.{nat_lt}
 use Rattle.std.proofs.lemmas.List.{get_or_append_left, get_or_push, length-map, length_push}
 use Rattle.std.proofs.lemmas.Map.Keys.{IsDistinct-cons}
@@ -104,18 +104,15 @@ stamps_distinct : (log : List Applied) → HaveDistinctStamps log → IsDistinct
 unfolding stamps_of IsDistinct
 stamps_distinct [] w = tt
 stamps_distinct (e ∷ log) w =
-    IsDistinct-cons eqb e.stamp (stamps_of log) (all_map (λ y. eqb e.stamp y ≡ false) (λ f. f.stamp) log (all_weaker (λ (f : Applied). e.stamp ≢ f.stamp) (λ (f : Applied). eqb e.stamp f.stamp ≡ false) (λ f apart. ne_eqb e.stamp f.stamp apart) log w.0)) (stamps_distinct log w.1)
-
-either_true : (a b : Bool) → (a || b) ≡ true → (a ≡ true) ⊎ (b ≡ true)
-either_true true b e = inl refl
-either_true false b e = inr e
+    let other = all_weaker (λ (f : Applied). e.stamp ≢ f.stamp) (λ (f : Applied). eqb e.stamp f.stamp ≡ false) (λ f apart. ne_eqb e.stamp f.stamp apart) log w.0 in
+    IsDistinct-cons eqb e.stamp (stamps_of log) (all_map (λ y. eqb e.stamp y ≡ false) (λ f. f.stamp) log other) (stamps_distinct log w.1)
 
 stamps_below : (n : ℕ) (log : List Applied) → AllByRecursion (λ e. e.stamp < n) log → (q : ℕ) → list_any (eqb q) (stamps_of log) ≡ true → q < n
 unfolding stamps_of
 stamps_below n [] w q e = absurd (false≢true e)
 stamps_below n (x ∷ log) w q e =
     let below = w.0 in
-    elim (either_true (eqb q x.stamp) (list_any (eqb q) (stamps_of log)) e) [
+    elim (or_cases (eqb q x.stamp) (list_any (eqb q) (stamps_of log)) e) [
       | inl here ↦ let same = eqb-true q x.stamp here in omega (arith, below, same)
       | inr there ↦ stamps_below n log w.1 q there
     ]

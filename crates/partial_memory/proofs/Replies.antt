@@ -4,8 +4,6 @@ use Rattle.std.specs.Prelude.{Result, Ok, Err, IfOk, IfErr}
 use Rattle.std.proofs.lemmas.Bool.{ne_eqb}
 use Rattle.std.proofs.lemmas.List.{length-map}
 use Rattle.atomic_table.specs.Seated.{TableId}
-use Rattle.partial_model.specs.declared.history.Applied.{Applied}
-use Rattle.partial_model.specs.declared.history.Opening.{Opening}
 use Rattle.partial_model.specs.declared.call.Call.{Call}
 use Rattle.partial_model.specs.declared.call.Call.TheVariants as call
 use Rattle.partial_model.specs.declared.call.Answer.TheVariants as answer
@@ -14,7 +12,8 @@ use Rattle.partial_model.specs.declared.call.Note.TheVariants as note
 use Rattle.partial_model.specs.declared.call.Refused.{Refused}
 use Rattle.partial_model.specs.declared.call.Refused.TheVariants as refused
 use Rattle.partial_model.specs.History.{value_of}
-use Rattle.partial_model.specs.Notes.{Noted, Fits as NoteFits, IsLegal, IsTrueOf, LegalNotes, MayBeRefused, seen_by, seen_after}
+use Rattle.partial_model.proofs.NotesLemmas.{LegalNotes-last}
+use Rattle.partial_model.specs.Notes.{Noted, Fits as NoteFits, IsTrueOf, LegalNotes, MayBeRefused}
 use Rattle.partial_machine.specs.declared.stage.Reply.{Reply}
 use Rattle.partial_machine.specs.declared.stage.Reply.TheVariants as reply
 use Rattle.partial_machine.specs.declared.stage.Stage.TheVariants.{Finished, Idle, ScanBegun}
@@ -35,11 +34,6 @@ use Rattle.partial_memory.specs.Steps.{CallMade, Ended}
 use Rattle.partial_memory.specs.Ports.{PortView, port_view, IsResting, Knows, Goes, MakesSteps, Answered, RefusedLate, is_pool, is_slots}
 use Rattle.partial_memory.specs.Calls.{Updates, UpdatesIf, Reads, Scans, ScansSome}
 use Rattle.partial_memory.proofs.Resting.{CallBegins, call_begins, scan_begins}
-
--- the last of a port's notes
-legal_last : (o : Opening) (h : List Applied) (p seen : ℕ) (ns : List Noted) (n : Noted) → LegalNotes o h p seen (ns ++ n ∷ []) → IsLegal o h p (seen_by seen ns) n
-legal_last o h p seen [] n w = w.0
-legal_last o h p seen (x ∷ ns) n w = legal_last o h p (seen_after seen x.note) ns n w.1
 
 -- a call that was answered: its note fits, is true of what is seen now, and has its place there
 pub record IsAnswered (p q : PortView) (c : Call) (machine : CoreState) (r : Reply) : Type 0 where
@@ -137,7 +131,7 @@ module _ (t : TableId) (b : CoreState) (x : Seated) (c : CoreState) (y : Seated)
       n.is ∙ ap (λ (d : Call). record { call = d; answer = answer_for (core_of y.part) r; note = Some n.note } ∷ []) one
       ∙ ap (λ (s : CoreState). record { call = call; answer = answer_for s r; note = Some n.note } ∷ []) (sym m.made.machine.is) in
       let notes : y.part.notes ≡ x.part.notes ++ noted ∷ [] = m.made.notes ∙ ap (λ l. x.part.notes ++ l) new in
-      let legal = legal_last q.memory.about.opening q.seen q.number 0 x.part.notes noted (subst (LegalNotes q.memory.about.opening q.seen q.number 0) notes knows_here.legal) in
+      let legal = LegalNotes-last q.memory.about.opening q.seen q.number 0 x.part.notes noted (subst (LegalNotes q.memory.about.opening q.seen q.number 0) notes knows_here.legal) in
       let first = m.made.first in
       let behind = n.behind in
       record {

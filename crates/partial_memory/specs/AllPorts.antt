@@ -28,7 +28,8 @@ pub record AreAllPorts (m : MemoryView) (ports : List PortView) : Type 0 where
 -- the ports with which a memory opens are all
 abbrev pub OpenedPortsAreAll : Type 0
 OpenedPortsAreAll =
-    (table : TableId) (about : About) → AreAllPorts (record { table = table; about = about }) (new_ports table (newcomers about 0 about.ports))
+    (table : TableId) (about : About)
+    → AreAllPorts (record { table = table; about = about }) (new_ports table (newcomers about 0 about.ports))
 
 -- The port of number p in a history: what it had seen is a beginning of it, its notes are legal there, each with its place, and its
 -- entries are those that its notes claim, each once: the updates that the notes say were applied, in order.

@@ -12,7 +12,7 @@ chain-requires-clause-chain c =
     let test = c.loop-j-test.true in
     let sizes = r.4 in
     let whole = whole_chain r.0 r.1 words r.2 r.3 c.loop-j.j (omega (arith, test, sizes)) in
-    let same = c.requires.full.1 in
+    let same = c.requires.count in
     let bound = whole.1 in
     (chain_of r.1 c.loop-j.j r.2, subst (λ k. IsWhole words k (chain_of r.1 c.loop-j.j r.2)) (elem_or words c.loop-j.j _ c.word.ensures) whole.0, omega (arith, same, bound))
 
