@@ -184,24 +184,28 @@ ScanTold p which machine (reply.Refused cause) q = RefusedLate p q (call.Scan wh
 ScanTold p which machine _ q = ⊥
 
 module _ (p q : PortView) (c : CoreState) where
-  wrote_note : (j v s : ℕ) (n : Note) → Answered p q (call.Update j v) (answer.Applied s) n → NoteFits (length q.memory.about.opening.values) (call.Update j v) (answer.Applied s) (Some n) → IsPlacedAt (reply.Applied s) n (length q.seen) →
+  wrote_note : (j v s : ℕ) (n : Note) → Answered p q (call.Update j v) (answer.Applied s) n → NoteFits (length q.memory.about.opening.values) (call.Update j v) (answer.Applied s) (Some n) →
+      IsPlacedAt (reply.Applied s) n (length q.seen) →
       Updates p j v (updated.Applied s) q
   wrote_note j v s (note.Wrote k) a f e = (k, a, e)
   wrote_note j v s (note.Saw k) a f e = absurd f
   wrote_note j v s (note.Lost k) a f e = absurd f
 
-  lost_note : (j v s : ℕ) (n : Note) → Answered p q (call.Update j v) (answer.Lost s) n → NoteFits (length q.memory.about.opening.values) (call.Update j v) (answer.Lost s) (Some n) → Updates p j v (updated.Lost s) q
+  lost_note : (j v s : ℕ) (n : Note) → Answered p q (call.Update j v) (answer.Lost s) n → NoteFits (length q.memory.about.opening.values) (call.Update j v) (answer.Lost s) (Some n) →
+      Updates p j v (updated.Lost s) q
   lost_note j v s (note.Lost k) a f = (k, a)
   lost_note j v s (note.Saw k) a f = absurd f
   lost_note j v s (note.Wrote k) a f = absurd f
 
-  wrote_if_note : (j x v s : ℕ) (n : Note) → Answered p q (call.UpdateIf j x v) (answer.Applied s) n → NoteFits (length q.memory.about.opening.values) (call.UpdateIf j x v) (answer.Applied s) (Some n) → IsPlacedAt (reply.Applied s) n (length q.seen) →
+  wrote_if_note : (j x v s : ℕ) (n : Note) → Answered p q (call.UpdateIf j x v) (answer.Applied s) n →
+      NoteFits (length q.memory.about.opening.values) (call.UpdateIf j x v) (answer.Applied s) (Some n) → IsPlacedAt (reply.Applied s) n (length q.seen) →
       UpdatesIf p j x v (conditional.Applied s) q
   wrote_if_note j x v s (note.Wrote k) a f e = (k, a, e)
   wrote_if_note j x v s (note.Saw k) a f e = absurd f
   wrote_if_note j x v s (note.Lost k) a f e = absurd f
 
-  changed_note : (j x v s : ℕ) (n : Note) → Answered p q (call.UpdateIf j x v) (answer.Changed s) n → NoteFits (length q.memory.about.opening.values) (call.UpdateIf j x v) (answer.Changed s) (Some n) → UpdatesIf p j x v (conditional.Changed s) q
+  changed_note : (j x v s : ℕ) (n : Note) → Answered p q (call.UpdateIf j x v) (answer.Changed s) n →
+      NoteFits (length q.memory.about.opening.values) (call.UpdateIf j x v) (answer.Changed s) (Some n) → UpdatesIf p j x v (conditional.Changed s) q
   changed_note j x v s (note.Saw n) a f = (n, a)
   changed_note j x v s (note.Wrote n) a f = absurd f
   changed_note j x v s (note.Lost n) a f = absurd f
@@ -217,7 +221,8 @@ module _ (t : TableId) (b : CoreState) (x : Seated) (c : CoreState) (y : Seated)
 
   pub update_told : (j v : ℕ) → CallBegins t x b (call.Update j v) → (r : Reply) → reply_of c ≡ Some r → UpdateTold (port_view t x) j v r (port_view t y)
   update_told j v w (reply.Applied s) is =
-      let a = answered_with t b x c y m (call.Update j v) w (reply.Applied s) is refl refl (noted_by (reply.Applied s) is) in wrote_note (port_view t x) (port_view t y) c j v s a.note a.answered a.fits a.placed
+      let a = answered_with t b x c y m (call.Update j v) w (reply.Applied s) is refl refl (noted_by (reply.Applied s) is) in
+      wrote_note (port_view t x) (port_view t y) c j v s a.note a.answered a.fits a.placed
   update_told j v w (reply.Lost s) is =
       let a = answered_with t b x c y m (call.Update j v) w (reply.Lost s) is refl refl (noted_by (reply.Lost s) is) in lost_note (port_view t x) (port_view t y) c j v s a.note a.answered a.fits
   update_told j v w (reply.Refused cause) is = refused_with t b x c y m (call.Update j v) w cause is
@@ -227,9 +232,11 @@ module _ (t : TableId) (b : CoreState) (x : Seated) (c : CoreState) (y : Seated)
 
   pub update_if_told : (j e v : ℕ) → CallBegins t x b (call.UpdateIf j e v) → (r : Reply) → reply_of c ≡ Some r → UpdateIfTold (port_view t x) j e v r (port_view t y)
   update_if_told j e v w (reply.Applied s) is =
-      let a = answered_with t b x c y m (call.UpdateIf j e v) w (reply.Applied s) is refl refl (noted_by (reply.Applied s) is) in wrote_if_note (port_view t x) (port_view t y) c j e v s a.note a.answered a.fits a.placed
+      let a = answered_with t b x c y m (call.UpdateIf j e v) w (reply.Applied s) is refl refl (noted_by (reply.Applied s) is) in
+      wrote_if_note (port_view t x) (port_view t y) c j e v s a.note a.answered a.fits a.placed
   update_if_told j e v w (reply.Changed s) is =
-      let a = answered_with t b x c y m (call.UpdateIf j e v) w (reply.Changed s) is refl refl (noted_by (reply.Changed s) is) in changed_note (port_view t x) (port_view t y) c j e v s a.note a.answered a.fits
+      let a = answered_with t b x c y m (call.UpdateIf j e v) w (reply.Changed s) is refl refl (noted_by (reply.Changed s) is) in
+      changed_note (port_view t x) (port_view t y) c j e v s a.note a.answered a.fits
   update_if_told j e v w (reply.Refused cause) is = refused_with t b x c y m (call.UpdateIf j e v) w cause is
   update_if_told j e v w (reply.Read u s) is = let a = answered_with t b x c y m (call.UpdateIf j e v) w (reply.Read u s) is refl refl (noted_by (reply.Read u s) is) in absurd a.fits
   update_if_told j e v w (reply.Scanned k s) is = let a = answered_with t b x c y m (call.UpdateIf j e v) w (reply.Scanned k s) is refl refl (noted_by (reply.Scanned k s) is) in absurd a.fits
@@ -246,8 +253,11 @@ module _ (t : TableId) (b : CoreState) (x : Seated) (c : CoreState) (y : Seated)
   read_told j w (reply.Scanned k s) is = let a = answered_with t b x c y m (call.Read j) w (reply.Scanned k s) is refl refl (noted_by (reply.Scanned k s) is) in absurd a.fits
   read_told j w (reply.Changed s) is = let a = answered_with t b x c y m (call.Read j) w (reply.Changed s) is refl refl (noted_by (reply.Changed s) is) in absurd a.fits
 
-  saw_note : (which : List ℕ) → CallBegins t x b (call.Scan which) → b.stage ≡ ScanBegun → b.asked ≡ which → (k : ℕ) (s : Option ℕ) (n : Note) → reply_of c ≡ Some (reply.Scanned k s) → NoteFits (length y.about.opening.values) (call.Scan which) (answer.Scanned (scanned_values c) k s) (Some n)
-      → IsTrueOf y.about.opening y.part.seen (port_of y.part) (call.Scan which) (answer.Scanned (scanned_values c) k s) n → Answered (port_view t x) (port_view t y) (call.Scan which) (answer.Scanned (scanned_values c) k s) n → ScanTold (port_view t x) which c (reply.Scanned k s) (port_view t y)
+  saw_note : (which : List ℕ) → CallBegins t x b (call.Scan which) → b.stage ≡ ScanBegun → b.asked ≡ which → (k : ℕ) (s : Option ℕ) (n : Note) → reply_of c ≡ Some (reply.Scanned k s) →
+      NoteFits (length y.about.opening.values) (call.Scan which) (answer.Scanned (scanned_values c) k s) (Some n)
+      → IsTrueOf y.about.opening y.part.seen (port_of y.part) (call.Scan which) (answer.Scanned (scanned_values c) k s) n
+      → Answered (port_view t x) (port_view t y) (call.Scan which) (answer.Scanned (scanned_values c) k s) n
+      → ScanTold (port_view t x) which c (reply.Scanned k s) (port_view t y)
   saw_note which w stage asked k s (note.Saw n) is f holds a =
       let z : Layout = x.about.sizes in
       let layout : IsLayout z = subst IsLayout w.begins.sizes w.begins.layout in
@@ -288,20 +298,23 @@ module _ (views : List (List Seated)) (core : CoreState) (number : ℕ) (w : IsR
   update_if_ended j x v none is s told = seen_as (λ a z. UpdateIfTold a j x v s z)
       (update_if_told t b (one_in views) e.machine y e.made j x v (call_begins views core number w t b (call.UpdateIf j x v) tt none refl is) s (e.replies ∙ ap Some told))
 
-  pub scan_ended : (which : List ℕ) → length which ≤ core.sizes.m → (length which ≡ 0 → ⊥) → scan_refusal core which ≡ None → b ≡ begin_scan core which → (s : Reply) → r ≡ s → ScanTold p which e.machine s (port_view t' y)
+  pub scan_ended : (which : List ℕ) → length which ≤ core.sizes.m → (length which ≡ 0 → ⊥) → scan_refusal core which ≡ None → b ≡ begin_scan core which → (s : Reply) → r ≡ s →
+      ScanTold p which e.machine s (port_view t' y)
   scan_ended which served some none is s told =
       let begins = scan_begins views core number w t b which served some none is in
       let stage : b.stage ≡ ScanBegun = ap (λ (d : CoreState). d.stage) is ∙ ap (λ f. cond f (Finished (reply.Scanned 0 None)) ScanBegun) (ne_eqb (length which) 0 some) in
       seen_as (λ a z. ScanTold a which e.machine s z) (scan_told t b (one_in views) e.machine y e.made which begins stage (ap (λ (d : CoreState). d.asked) is) s (e.replies ∙ ap Some told))
 
 -- the values that a scan copied are those of the machine whose reply was taken
-pub scan_copied : (p q : PortView) (which into : List ℕ) (machine taken : CoreState) (k : ℕ) (s : Option ℕ) → (length which ≡ 0 → ⊥) → taken ≡ at_stage machine Idle → into ≡ scanned_values taken → ScanAnswered p which machine k s q →
+pub scan_copied : (p q : PortView) (which into : List ℕ) (machine taken : CoreState) (k : ℕ) (s : Option ℕ) → (length which ≡ 0 → ⊥) → taken ≡ at_stage machine Idle →
+    into ≡ scanned_values taken → ScanAnswered p which machine k s q →
     Scans p which into (record { collects = k; borrowed = s }) q
 scan_copied p q [] into machine taken k s some idle is w = absurd (some refl)
 scan_copied p q (j ∷ js) into machine taken k s some idle is w =
     subst (λ (l : List ℕ). ScansSome p (j ∷ js) l (record { collects = k; borrowed = s }) q) (sym (is ∙ ap scanned_values idle)) w.made
 
-pub scan_asked : (p q : PortView) (which : List ℕ) (machine taken : CoreState) (k : ℕ) (s : Option ℕ) → taken ≡ at_stage machine Idle → ScanAnswered p which machine k s q → length taken.asked ≡ length which
+pub scan_asked : (p q : PortView) (which : List ℕ) (machine taken : CoreState) (k : ℕ) (s : Option ℕ) → taken ≡ at_stage machine Idle → ScanAnswered p which machine k s q →
+    length taken.asked ≡ length which
 scan_asked p q which machine taken k s idle w = ap (λ (d : CoreState). length d.asked) idle ∙ w.asked
 
 -- a scan of no position

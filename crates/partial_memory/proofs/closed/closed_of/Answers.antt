@@ -46,7 +46,8 @@ loop-j-preserved c =
           let had = c.loop-j.invariant.tells z o log r is in
           let whole = whole_chain z o words log r c.loop-j.j (omega (arith, test, is)) in
           let links = c.in_ok-links.ensures (chain_of o c.loop-j.j log) (subst (λ k. IsWhole words k (chain_of o c.loop-j.j log)) (elem_or words c.loop-j.j _ c.word.ensures) whole.0) in
-          (values_more o log c.loop-j.j _ _ _ had.0 c.push_reserved.ensures.items (first_value o log c.loop-j.j _ _ links c.index.ensures), chains_more o log c.loop-j.j _ _ _ had.1 c.push_reserved-in-loop-j.ensures.items links);
+          let first = first_value o log c.loop-j.j _ _ links c.index.ensures in
+          (values_more o log c.loop-j.j _ _ _ had.0 c.push_reserved.ensures.items first, chains_more o log c.loop-j.j _ _ _ had.1 c.push_reserved-in-loop-j.ensures.items links);
       room = search rules;
       space = search rules;
     }
