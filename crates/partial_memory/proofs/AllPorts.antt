@@ -29,7 +29,11 @@ new_numbers t about k zero = tt
 new_numbers t about k (suc n) = (refl, new_numbers t about (k + 1) n)
 
 pub opened_ports_are_all : OpenedPortsAreAll
-opened_ports_are_all t about = record { own = new_own t about 0 about.ports; count = new_count t about 0 about.ports; numbers = new_numbers t about 0 about.ports }
+opened_ports_are_all m n is = record {
+  own = new_own m.table m.about 0 n;
+  count = new_count m.table m.about 0 n ∙ sym is;
+  numbers = new_numbers m.table m.about 0 n;
+}
 
 number_at : (k : ℕ) (ports : List PortView) (i : ℕ) (p : PortView) → AreNumberedFrom k ports → slice_get ports i ≡ Some p → p.number ≡ k + i
 number_at k [] i p w s = let bad : None ≡ Some p = s in cc

@@ -1,9 +1,9 @@
 -- The chains of a closed memory, read from its words.
-use Rattle.std.proofs.Common.{ℕ, zero, suc, ◌≡◌, ◌+◌, ◌≢◌, ◌<◌, ◌≤◌, ◌++◌, ◌⊎◌, ◌||◌, Bool, true, false, List, [], ◌∷◌, length, map, get_or, refl, sym, ap, subst, ◌∙◌, inl, inr, arith, append_assoc, append-nil, length-append}
+use Rattle.std.proofs.Common.{ℕ, zero, suc, ◌≡◌, ◌+◌, ◌≢◌, ◌<◌, ◌≤◌, ◌++◌, ◌⊎◌, Bool, true, false, List, [], ◌∷◌, length, map, get_or, refl, sym, ap, subst, ◌∙◌, inl, inr, arith, append_assoc, append-nil, length-append}
 use Rattle.std.specs.List.{AllByRecursion, IsDistinct, list_any}
 use Rattle.std.specs.declared.alloc.Global.{Global}
 use Rattle.std.specs.declared.vec.Vec.{Vec}
-use Rattle.std.proofs.lemmas.Bool.{eqb-true, false≢true, ltb-false, ltb-true, ne_eqb}
+use Rattle.std.proofs.lemmas.Bool.{eqb-true, false≢true, ltb-false, ltb-true, ne_eqb, or_cases}
 use Rattle.std.specs.Prelude.{nat_lt}
 use Rattle.std.proofs.lemmas.List.{get_or_append_left, get_or_push, length-map, length_push}
 use Rattle.std.proofs.lemmas.Map.Keys.{IsDistinct-cons}
@@ -64,7 +64,8 @@ Walked words newest found at = (links : List Link) → IsWhole words newest link
 pub walked_none : (words : List ℕ) (newest : ℕ) (found : List Link) → found ≡ [] → Walked words newest found newest
 walked_none words newest found none links w = (links, ap (λ l. l ++ links) (sym none), inr w)
 
-pub walked_more : (words : List ℕ) (newest : ℕ) (found : List Link) (at : ℕ) (l : Link) → Walked words newest found at → (at ≡ 0 → ⊥) → l.stamp ≡ at → l.value ≡ value_of words at → Walked words newest (found ++ l ∷ []) (prev_of words at)
+pub walked_more : (words : List ℕ) (newest : ℕ) (found : List Link) (at : ℕ) (l : Link) → Walked words newest found at → (at ≡ 0 → ⊥) → l.stamp ≡ at → l.value ≡ value_of words at →
+    Walked words newest (found ++ l ∷ []) (prev_of words at)
 walked_more words newest found at l walked busy stamp value links w =
     let had = walked links w in
     elim had.2 [
@@ -84,7 +85,8 @@ walked_all words newest found at walked none links w =
     ]
 
 -- where something is left, its first record stands in the words, and the chain is longer than what was found
-pub walked_within : (words : List ℕ) (newest : ℕ) (found : List Link) (at : ℕ) (links : List Link) → Walked words newest found at → (at ≡ 0 → ⊥) → IsWhole words newest links → (view_word at < length words) × (length found < length links)
+pub walked_within : (words : List ℕ) (newest : ℕ) (found : List Link) (at : ℕ) (links : List Link) → Walked words newest found at → (at ≡ 0 → ⊥) → IsWhole words newest links →
+    (view_word at < length words) × (length found < length links)
 walked_within words newest found at links walked busy w =
     let had = walked links w in
     elim had.2 [
@@ -104,18 +106,15 @@ stamps_distinct : (log : List Applied) → HaveDistinctStamps log → IsDistinct
 unfolding stamps_of IsDistinct
 stamps_distinct [] w = tt
 stamps_distinct (e ∷ log) w =
-    IsDistinct-cons eqb e.stamp (stamps_of log) (all_map (λ y. eqb e.stamp y ≡ false) (λ f. f.stamp) log (all_weaker (λ (f : Applied). e.stamp ≢ f.stamp) (λ (f : Applied). eqb e.stamp f.stamp ≡ false) (λ f apart. ne_eqb e.stamp f.stamp apart) log w.0)) (stamps_distinct log w.1)
-
-either_true : (a b : Bool) → (a || b) ≡ true → (a ≡ true) ⊎ (b ≡ true)
-either_true true b e = inl refl
-either_true false b e = inr e
+    let other = all_weaker (λ (f : Applied). e.stamp ≢ f.stamp) (λ (f : Applied). eqb e.stamp f.stamp ≡ false) (λ f apart. ne_eqb e.stamp f.stamp apart) log w.0 in
+    IsDistinct-cons eqb e.stamp (stamps_of log) (all_map (λ y. eqb e.stamp y ≡ false) (λ f. f.stamp) log other) (stamps_distinct log w.1)
 
 stamps_below : (n : ℕ) (log : List Applied) → AllByRecursion (λ e. e.stamp < n) log → (q : ℕ) → list_any (eqb q) (stamps_of log) ≡ true → q < n
 unfolding stamps_of
 stamps_below n [] w q e = absurd (false≢true e)
 stamps_below n (x ∷ log) w q e =
     let below = w.0 in
-    elim (either_true (eqb q x.stamp) (list_any (eqb q) (stamps_of log)) e) [
+    elim (or_cases (eqb q x.stamp) (list_any (eqb q) (stamps_of log)) e) [
       | inl here ↦ let same = eqb-true q x.stamp here in omega (arith, below, same)
       | inr there ↦ stamps_below n log w.1 q there
     ]
@@ -130,7 +129,8 @@ entries_few z o words log r =
     omega (arith, few, same)
 
 -- the chain of a component is whole, and has no more links than there are words, and one
-pub whole_chain : (z : Layout) (o : Opening) (words : List ℕ) (log : List Applied) → RecordsAreWithin z o words log → (j : ℕ) → j < z.m → IsWhole words (get_or words j 0) (chain_of o j log) × (length (chain_of o j log) ≤ length words + 1)
+pub whole_chain : (z : Layout) (o : Opening) (words : List ℕ) (log : List Applied) → RecordsAreWithin z o words log → (j : ℕ) → j < z.m →
+    IsWhole words (get_or words j 0) (chain_of o j log) × (length (chain_of o j log) ≤ length words + 1)
 whole_chain z o words log r j below =
     let values = r.values in
     let m = r.sizes.components in
@@ -143,7 +143,8 @@ whole_chain z o words log r j below =
     (record { chain = agrees.1; stands = chain_all (λ n. 0 < n) o j log low (omega (arith, first.0, m.0)) }, omega (arith, count, few))
 
 -- one component more
-pub values_more : (o : Opening) (log : List Applied) (j : ℕ) (values more : List ℕ) (v : ℕ) → AreValues o log j values → more ≡ values ++ v ∷ [] → v ≡ value_after o log j → AreValues o log (j + 1) more
+pub values_more : (o : Opening) (log : List Applied) (j : ℕ) (values more : List ℕ) (v : ℕ) → AreValues o log j values → more ≡ values ++ v ∷ [] → v ≡ value_after o log j →
+    AreValues o log (j + 1) more
 values_more o log j values more v w is value = record {
   count = let count = w.count in let one = length_push values v in let long = ap length is in omega (arith, count, one, long);
   each = λ k below. subst (λ (l : List ℕ). get_or l k 0 ≡ value_after o log k) (sym is) (values_at k below (nat_lt k j) refl);
@@ -159,11 +160,13 @@ values_more o log j values more v w is value = record {
         let same : k ≡ j = omega (arith, below, more) in
         get_or_push values v 0 k (w.count ∙ sym same) ∙ value ∙ ap (value_after o log) (sym same)
 
-chains_from : (o : Opening) (log : List Applied) (j : ℕ) (chains : List (Vec Link Global)) (c : Vec Link Global) → AreChainsFrom o log j chains → c.items ≡ chain_of o (j + length chains) log → AreChainsFrom o log j (chains ++ c ∷ [])
+chains_from : (o : Opening) (log : List Applied) (j : ℕ) (chains : List (Vec Link Global)) (c : Vec Link Global) → AreChainsFrom o log j chains → c.items ≡ chain_of o (j + length chains) log →
+    AreChainsFrom o log j (chains ++ c ∷ [])
 chains_from o log j [] c w is = (subst (λ k. c.items ≡ chain_of o k log) (omega arith) is, tt)
 chains_from o log j (d ∷ ds) c w is = (w.0, chains_from o log (suc j) ds c w.1 (subst (λ k. c.items ≡ chain_of o k log) (omega arith) is))
 
-pub chains_more : (o : Opening) (log : List Applied) (j : ℕ) (chains more : List (Vec Link Global)) (c : Vec Link Global) → AreChains o log j chains → more ≡ chains ++ c ∷ [] → c.items ≡ chain_of o j log → AreChains o log (j + 1) more
+pub chains_more : (o : Opening) (log : List Applied) (j : ℕ) (chains more : List (Vec Link Global)) (c : Vec Link Global) → AreChains o log j chains → more ≡ chains ++ c ∷ [] →
+    c.items ≡ chain_of o j log → AreChains o log (j + 1) more
 chains_more o log j chains more c w is chain =
     let count = w.count in
     record {

@@ -29,9 +29,12 @@ abbrev pub Taken : PortView → List PortView → List PortView → List Seated 
 Taken port all rest v = (taken : List PortView) × (all ≡ rest ++ taken) × ((log : List Applied) → AllByRecursion (IsIn log) v → IsPortOf log port × AllByRecursion (IsPortOf log) taken)
 
 pub taken_none : {S : Type 0} (me : Me S (List Seated)) (t : TableId) (x : Seated) (port : PortView) (all : List PortView) → me ≡ (x ∷ [], []) → port_view t x ≡ port → Taken port all all me.0
-taken_none {S} me t x port all is seen = ([], sym (append-nil all), λ log w. (subst (IsPortOf log) seen (port_in t log x (subst (AllByRecursion (IsIn log)) (ap (λ (m : Me S (List Seated)). m.0) is) w).0), tt))
+taken_none {S} me t x port all is seen =
+    let one = ap (λ (m : Me S (List Seated)). m.0) is in
+    ([], sym (append-nil all), λ log w. (subst (IsPortOf log) seen (port_in t log x (subst (AllByRecursion (IsIn log)) one w).0), tt))
 
-pub taken_more : {S : Type 0} (me : Me S (List Seated)) (t : TableId) (x : Seated) (port p : PortView) (all rest less : List PortView) (v w : List Seated) → Taken port all rest v → rest ≡ less ++ p ∷ [] → me ≡ (x ∷ [], []) → port_view t x ≡ p → w ≡ v ++ me.0 → Taken port all less w
+pub taken_more : {S : Type 0} (me : Me S (List Seated)) (t : TableId) (x : Seated) (port p : PortView) (all rest less : List PortView) (v w : List Seated) → Taken port all rest v →
+    rest ≡ less ++ p ∷ [] → me ≡ (x ∷ [], []) → port_view t x ≡ p → w ≡ v ++ me.0 → Taken port all less w
 taken_more {S} me t x port p all rest less v w had pop is seen join = (
   p ∷ had.0,
   had.1 ∙ ap (λ l. l ++ had.0) pop ∙ append_assoc less (p ∷ []) had.0,
@@ -63,7 +66,8 @@ pub record Ends (about : About) (words : List ℕ) (v : List Seated) : Type 0 wh
   pub each : AllByRecursion (IsIn log) v
   pub count : length words ≡ total about.sizes
 
-pub ends : {S : Type 0} (about : About) (v : List Seated) (id : ℕ) (words : List ℕ) (s : State S (List Seated)) → IsKept about s → get_elem? s.views id ≡ some v → s.words ≡ words → AreOf about v → Ends about words v
+pub ends : {S : Type 0} (about : About) (v : List Seated) (id : ℕ) (words : List ℕ) (s : State S (List Seated)) → IsKept about s → get_elem? s.views id ≡ some v → s.words ≡ words →
+    AreOf about v → Ends about words v
 ends about v id words s kept at same own =
     let r = around s.views id v at in
     let seen = see_all about s.words kept.log r.before v r.behind kept.all own (subst (λ l. IsShuffle l kept.all) r.now kept.shuffle) kept.lawful kept.opened in
@@ -77,7 +81,8 @@ ends about v id words s kept at same own =
       count = ap length (sym same) ∙ kept.lawful.memory.count;
     }
 
-pub closes : (m : MemoryView) (port : PortView) (all rest : List PortView) (v : List Seated) (words : List ℕ) (closed : Closed) (n : ℕ) → (e : Ends m.about words v) → Taken port all rest v → length rest ≡ 0 → n ≡ m.about.sizes.m →
+pub closes : (m : MemoryView) (port : PortView) (all rest : List PortView) (v : List Seated) (words : List ℕ) (closed : Closed) (n : ℕ) → (e : Ends m.about words v) → Taken port all rest v →
+    length rest ≡ 0 → n ≡ m.about.sizes.m →
     AreValues m.about.opening e.log n closed.values.items × AreChains m.about.opening e.log n closed.chains.items → Closes m (port ∷ all) closed
 closes m port all rest v words closed n e had empty count shown =
     let taken : all ≡ had.0 = had.1 ∙ ap (λ l. l ++ had.0) (nil_from_length rest empty) in

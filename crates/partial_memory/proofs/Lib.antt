@@ -11,4 +11,5 @@ mod Meetings
 mod Chains
 mod Closes
 mod AllPorts
+mod Noting
 pub mod Laws

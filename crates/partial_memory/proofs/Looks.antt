@@ -29,7 +29,8 @@ pub record SeenAll (about : About) (words : List ℕ) (log : List Applied) (b v 
   pub opened : AreOpened about.ports all
   pub each : AllByRecursion (IsIn log) v
 
-pub see_all : (about : About) (words : List ℕ) (log : List Applied) (b v a all : List Seated) → AreOf about v → IsShuffle (b ++ (v ++ a)) all → Lawful about.sizes about.opening words (parts_of all) log →
+pub see_all : (about : About) (words : List ℕ) (log : List Applied) (b v a all : List Seated) → AreOf about v → IsShuffle (b ++ (v ++ a)) all →
+    Lawful about.sizes about.opening words (parts_of all) log →
     AreOpened about.ports all → SeenAll about words log b v a
 see_all about words log b [] a all own shuffle lawful opened = record { all = all; shuffle = shuffle; lawful = lawful; opened = opened; each = tt }
 see_all about words log b (x ∷ xs) a all own shuffle lawful opened =
@@ -42,7 +43,8 @@ see_all about words log b (x ∷ xs) a all own shuffle lawful opened =
     let fit = lawful_ports_fit about.sizes about.opening words (parts_of all) log lawful in
     let others = entries_opened about all log opened fit.others in
     let before : AllByRecursion P (f.before ++ x ∷ f.after) = subst (AllByRecursion P) f.is opened in
-    let behind : AllByRecursion P (f.before ++ y ∷ f.after) = all_join P f.before y f.after (all_before P f.before x f.after before) (all_at P f.before x f.after before) (all_after P f.before x f.after before) in
+    let behind : AllByRecursion P (f.before ++ y ∷ f.after) =
+    all_join P f.before y f.after (all_before P f.before x f.after before) (all_at P f.before x f.after before) (all_after P f.before x f.after before) in
     let rest = see_all about words log (b ++ y ∷ []) xs a (f.before ++ y ∷ f.after) own.1
     (subst (λ l. IsShuffle l (f.before ++ y ∷ f.after)) (sym (append_assoc b (y ∷ []) (xs ++ a))) (f.more y))
     (subst (λ l. Lawful about.sizes about.opening words l log) (sym (parts_split f.before y f.after)) look.lawful) behind in
@@ -89,7 +91,8 @@ record Apart (views after : List (List Seated)) (x : Seated) : Type 0 where
   less : b ++ a ≡ d ++ e
   then : flatten after ≡ d ++ x ∷ e
 
-apart : (views : List (List Seated)) (id other : ℕ) (v : List Seated) (x : Seated) → get_elem? views id ≡ some v → (other ≡ id → ⊥) → get_elem? (set views id (v ++ x ∷ [])) other ≡ some (x ∷ []) → Apart views (set (set views id (v ++ x ∷ [])) other []) x
+apart : (views : List (List Seated)) (id other : ℕ) (v : List Seated) (x : Seated) → get_elem? views id ≡ some v → (other ≡ id → ⊥) →
+    get_elem? (set views id (v ++ x ∷ [])) other ≡ some (x ∷ []) → Apart views (set (set views id (v ++ x ∷ [])) other []) x
 apart [] id other v x e ne g = absurd (some-ne-none v (sym e))
 apart (u ∷ us) zero zero v x e ne g = absurd (ne refl)
 apart (u ∷ us) zero (suc other) v x e ne g =
@@ -132,4 +135,5 @@ apart (u ∷ us) (suc id) (suc other) v x e ne g =
 pub gathers : {S : Type 0} (about : About) (id : ℕ) (v : List Seated) (other : ℕ) (w : List Seated) (x : Seated) → w ≡ x ∷ [] → Joins {S = S} (IsKept about) id v other w (v ++ w) []
 gathers {S} about id v other w x one = subst (λ u. Joins {S = S} (IsKept about) id v other u (v ++ u) []) (sym one) (λ s kept at ne there.
     let r = apart s.views id other v x at ne there in
-    reordered about s (set (set s.views id (v ++ x ∷ [])) other []) kept (subst (λ l. IsShuffle l kept.all) (sym r.then) (put_elsewhere r.b x r.a r.d r.e kept.all r.less (subst (λ l. IsShuffle l kept.all) r.now kept.shuffle))))
+    let put = put_elsewhere r.b x r.a r.d r.e kept.all r.less (subst (λ l. IsShuffle l kept.all) r.now kept.shuffle) in
+    reordered about s (set (set s.views id (v ++ x ∷ [])) other []) kept (subst (λ l. IsShuffle l kept.all) (sym r.then) put))

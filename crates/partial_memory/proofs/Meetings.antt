@@ -16,7 +16,8 @@ knows_met : (t : TableId) (log : List Applied) (x : Seated) → IsIn log x → K
 knows_met t log x w = record { history = w.fits.history; legal = w.fits.legal; shown = w.fits.shown; once = w.fits.once; others = w.others }
 
 -- it is between calls yet
-pub rests_met : (views after : List (List Seated)) (core : CoreState) (number : ℕ) (log : List Applied) → IsResting views core number → IsIn log (one_in views) → after ≡ (having_met log (one_in views) ∷ []) ∷ [] → IsResting after core number
+pub rests_met : (views after : List (List Seated)) (core : CoreState) (number : ℕ) (log : List Applied) → IsResting views core number → IsIn log (one_in views) →
+    after ≡ (having_met log (one_in views) ∷ []) ∷ [] → IsResting after core number
 rests_met views after core number log w fit is =
     let y = having_met log (one_in views) in
     let rest : IsResting ((y ∷ []) ∷ []) core number = record {
@@ -47,7 +48,8 @@ looked x y me me' n is w =
 pub both_of : (about : About) (x y : Seated) (v : List Seated) → v ≡ x ∷ y ∷ [] → x.about ≡ about → y.about ≡ about → AreOf about v
 both_of about x y v is own own' = subst (AreOf about) (sym is) (own, (own', tt))
 
-pub meets : (t t' u u' : TableId) (x y : Seated) (v : List Seated) (views views' : List (List Seated)) (p q : PortView) → Looked x y v → port_view t x ≡ p → port_view t' y ≡ q → u ≡ t → u' ≡ t' → views ≡ first_of v ∷ [] → views' ≡ others_of v ∷ [] →
+pub meets : (t t' u u' : TableId) (x y : Seated) (v : List Seated) (views views' : List (List Seated)) (p q : PortView) → Looked x y v → port_view t x ≡ p → port_view t' y ≡ q → u ≡ t → u' ≡ t' →
+    views ≡ first_of v ∷ [] → views' ≡ others_of v ∷ [] →
     Meets p q (port_view u (one_in views)) (port_view u' (one_in views'))
 meets t t' u u' x y v views views' p q w seen seen' same same' is is' =
     let one : one_in views ≡ having_met w.log x = ap one_in (is ∙ ap (λ (l : List Seated). first_of l ∷ []) w.is) in

@@ -55,7 +55,9 @@ module _ (about : About) (i n : ℕ) (inside : i < n) (v : List Seated) (left : 
   rests_new views core z layout is idle sizes =
       let e : views ≡ (newcomer about i ∷ []) ∷ [] = is ∙ ap (λ (w : List Seated). w ∷ []) newcomer_next in
       let rest = newcomer_rests about i (subst IsLayout (sym sizes) layout) in
-      subst (λ (w : List (List Seated)). IsResting w core i) (sym e) (subst (λ (s : CoreState). IsResting ((newcomer about i ∷ []) ∷ []) s i) (sym (idle ∙ ap (λ (y : Layout). fresh y i) (sym sizes))) rest)
+      let core_is = idle ∙ ap (λ (y : Layout). fresh y i) (sym sizes) in
+      let here = subst (λ (s : CoreState). IsResting ((newcomer about i ∷ []) ∷ []) s i) (sym core_is) rest in
+      subst (λ (w : List (List Seated)). IsResting w core i) (sym e) here
 
   pub deals_next : {S : Type 0} (me : Me S (List Seated)) (at : List (ℕ × S)) → me ≡ (others_of v, at) → at ≡ [] → (me.0 ≡ newcomers about (i + 1) (n - (i + 1))) × (me.1 ≡ [])
   deals_next {S} me at is none = (ap (λ (m : Me S (List Seated)). m.0) is ∙ ap others_of (left ∙ next_new about i n inside), ap (λ (m : Me S (List Seated)). m.1) is ∙ none)

@@ -103,11 +103,13 @@ module _ (views : List (List Seated)) (core : CoreState) (number : ℕ) (w : IsR
           }
 
 -- what a load told a seat, of the one port for which it stands
-pub first_told : {S : Type 0} (x : Seated) (me : Me S (List Seated)) (w j a : ℕ) (y : Seated) → me ≡ (x ∷ [], []) → w ≡ j → Told (reading (one_of me.0).part w) (one_of me.0) a y → Told (reading x.part j) x a y
+pub first_told : {S : Type 0} (x : Seated) (me : Me S (List Seated)) (w j a : ℕ) (y : Seated) → me ≡ (x ∷ [], []) → w ≡ j → Told (reading (one_of me.0).part w) (one_of me.0) a y →
+    Told (reading x.part j) x a y
 first_told {S} x me w j a y is word told = subst (λ k. Told (reading x.part k) x a y) word (subst (λ (m : Me S (List Seated)). Told (reading (one_of m.0).part w) (one_of m.0) a y) is told)
 
 -- the loads of a read are allowed
-pub begins_asked : {S : Type 0} (about : About) (slots id : ℕ) (me : Me S (List Seated)) (views : List (List Seated)) (core : CoreState) (number : ℕ) → IsResting views core number → TableId → (j : ℕ) → j < core.sizes.m →
+pub begins_asked : {S : Type 0} (about : About) (slots id : ℕ) (me : Me S (List Seated)) (views : List (List Seated)) (core : CoreState) (number : ℕ) → IsResting views core number → TableId →
+    (j : ℕ) → j < core.sizes.m →
     me ≡ (one_in views ∷ [], []) → (one_in views).about ≡ about → Allows (IsKept about) slots id me j (λ n. n) (makes (reading (one_of me.0).part j) me)
 begins_asked {S} about slots id me views core number w t j below is own =
     let from = read_begins views core number w t j below in
@@ -116,7 +118,8 @@ begins_asked {S} about slots id me views core number w t j below is own =
     let allowed = step_asked about slots (j + 1) id seat (reading x.part j) (reading x.part j) (Load j) (Load j) (omega arith) (refl, refl) own refl (inl from.begins.begun, refl) refl in
     subst (λ (m : Me S (List Seated)). Allows (IsKept about) slots id m j (λ n. n) (makes (reading (one_of m.0).part j) m)) (sym is) allowed.1
 
-pub goes_on_asked : {S : Type 0} (about : About) (slots id : ℕ) (me : Me S (List Seated)) (j : ℕ) → IsOne me → (one_of me.0).about ≡ about → IsMachineOf (core_of (one_of me.0).part) (one_of me.0).part →
+pub goes_on_asked : {S : Type 0} (about : About) (slots id : ℕ) (me : Me S (List Seated)) (j : ℕ) → IsOne me → (one_of me.0).about ≡ about →
+    IsMachineOf (core_of (one_of me.0).part) (one_of me.0).part →
     step_of (core_of (one_of me.0).part) ≡ Some (Load j) → Allows (IsKept about) slots id me j (λ n. n) (makes (core_of (one_of me.0).part) me)
 goes_on_asked {S} about slots id me j one own machine due =
     let c = core_of (one_of me.0).part in

@@ -4,8 +4,6 @@ use Rattle.std.specs.Prelude.{Result, Ok, Err, IfOk, IfErr}
 use Rattle.std.proofs.lemmas.Bool.{ne_eqb}
 use Rattle.std.proofs.lemmas.List.{length-map}
 use Rattle.atomic_table.specs.Seated.{TableId}
-use Rattle.partial_model.specs.declared.history.Applied.{Applied}
-use Rattle.partial_model.specs.declared.history.Opening.{Opening}
 use Rattle.partial_model.specs.declared.call.Call.{Call}
 use Rattle.partial_model.specs.declared.call.Call.TheVariants as call
 use Rattle.partial_model.specs.declared.call.Answer.TheVariants as answer
@@ -14,7 +12,8 @@ use Rattle.partial_model.specs.declared.call.Note.TheVariants as note
 use Rattle.partial_model.specs.declared.call.Refused.{Refused}
 use Rattle.partial_model.specs.declared.call.Refused.TheVariants as refused
 use Rattle.partial_model.specs.History.{value_of}
-use Rattle.partial_model.specs.Notes.{Noted, Fits as NoteFits, IsLegal, IsTrueOf, LegalNotes, MayBeRefused, seen_by, seen_after}
+use Rattle.partial_model.proofs.NotesLemmas.{LegalNotes-last}
+use Rattle.partial_model.specs.Notes.{Noted, Fits as NoteFits, IsTrueOf, LegalNotes, MayBeRefused}
 use Rattle.partial_machine.specs.declared.stage.Reply.{Reply}
 use Rattle.partial_machine.specs.declared.stage.Reply.TheVariants as reply
 use Rattle.partial_machine.specs.declared.stage.Stage.TheVariants.{Finished, Idle, ScanBegun}
@@ -35,11 +34,6 @@ use Rattle.partial_memory.specs.Steps.{CallMade, Ended}
 use Rattle.partial_memory.specs.Ports.{PortView, port_view, IsResting, Knows, Goes, MakesSteps, Answered, RefusedLate, is_pool, is_slots}
 use Rattle.partial_memory.specs.Calls.{Updates, UpdatesIf, Reads, Scans, ScansSome}
 use Rattle.partial_memory.proofs.Resting.{CallBegins, call_begins, scan_begins}
-
--- the last of a port's notes
-legal_last : (o : Opening) (h : List Applied) (p seen : ℕ) (ns : List Noted) (n : Noted) → LegalNotes o h p seen (ns ++ n ∷ []) → IsLegal o h p (seen_by seen ns) n
-legal_last o h p seen [] n w = w.0
-legal_last o h p seen (x ∷ ns) n w = legal_last o h p (seen_after seen x.note) ns n w.1
 
 -- a call that was answered: its note fits, is true of what is seen now, and has its place there
 pub record IsAnswered (p q : PortView) (c : Call) (machine : CoreState) (r : Reply) : Type 0 where
@@ -137,7 +131,7 @@ module _ (t : TableId) (b : CoreState) (x : Seated) (c : CoreState) (y : Seated)
       n.is ∙ ap (λ (d : Call). record { call = d; answer = answer_for (core_of y.part) r; note = Some n.note } ∷ []) one
       ∙ ap (λ (s : CoreState). record { call = call; answer = answer_for s r; note = Some n.note } ∷ []) (sym m.made.machine.is) in
       let notes : y.part.notes ≡ x.part.notes ++ noted ∷ [] = m.made.notes ∙ ap (λ l. x.part.notes ++ l) new in
-      let legal = legal_last q.memory.about.opening q.seen q.number 0 x.part.notes noted (subst (LegalNotes q.memory.about.opening q.seen q.number 0) notes knows_here.legal) in
+      let legal = LegalNotes-last q.memory.about.opening q.seen q.number 0 x.part.notes noted (subst (LegalNotes q.memory.about.opening q.seen q.number 0) notes knows_here.legal) in
       let first = m.made.first in
       let behind = n.behind in
       record {
@@ -190,24 +184,28 @@ ScanTold p which machine (reply.Refused cause) q = RefusedLate p q (call.Scan wh
 ScanTold p which machine _ q = ⊥
 
 module _ (p q : PortView) (c : CoreState) where
-  wrote_note : (j v s : ℕ) (n : Note) → Answered p q (call.Update j v) (answer.Applied s) n → NoteFits (length q.memory.about.opening.values) (call.Update j v) (answer.Applied s) (Some n) → IsPlacedAt (reply.Applied s) n (length q.seen) →
+  wrote_note : (j v s : ℕ) (n : Note) → Answered p q (call.Update j v) (answer.Applied s) n → NoteFits (length q.memory.about.opening.values) (call.Update j v) (answer.Applied s) (Some n) →
+      IsPlacedAt (reply.Applied s) n (length q.seen) →
       Updates p j v (updated.Applied s) q
   wrote_note j v s (note.Wrote k) a f e = (k, a, e)
   wrote_note j v s (note.Saw k) a f e = absurd f
   wrote_note j v s (note.Lost k) a f e = absurd f
 
-  lost_note : (j v s : ℕ) (n : Note) → Answered p q (call.Update j v) (answer.Lost s) n → NoteFits (length q.memory.about.opening.values) (call.Update j v) (answer.Lost s) (Some n) → Updates p j v (updated.Lost s) q
+  lost_note : (j v s : ℕ) (n : Note) → Answered p q (call.Update j v) (answer.Lost s) n → NoteFits (length q.memory.about.opening.values) (call.Update j v) (answer.Lost s) (Some n) →
+      Updates p j v (updated.Lost s) q
   lost_note j v s (note.Lost k) a f = (k, a)
   lost_note j v s (note.Saw k) a f = absurd f
   lost_note j v s (note.Wrote k) a f = absurd f
 
-  wrote_if_note : (j x v s : ℕ) (n : Note) → Answered p q (call.UpdateIf j x v) (answer.Applied s) n → NoteFits (length q.memory.about.opening.values) (call.UpdateIf j x v) (answer.Applied s) (Some n) → IsPlacedAt (reply.Applied s) n (length q.seen) →
+  wrote_if_note : (j x v s : ℕ) (n : Note) → Answered p q (call.UpdateIf j x v) (answer.Applied s) n →
+      NoteFits (length q.memory.about.opening.values) (call.UpdateIf j x v) (answer.Applied s) (Some n) → IsPlacedAt (reply.Applied s) n (length q.seen) →
       UpdatesIf p j x v (conditional.Applied s) q
   wrote_if_note j x v s (note.Wrote k) a f e = (k, a, e)
   wrote_if_note j x v s (note.Saw k) a f e = absurd f
   wrote_if_note j x v s (note.Lost k) a f e = absurd f
 
-  changed_note : (j x v s : ℕ) (n : Note) → Answered p q (call.UpdateIf j x v) (answer.Changed s) n → NoteFits (length q.memory.about.opening.values) (call.UpdateIf j x v) (answer.Changed s) (Some n) → UpdatesIf p j x v (conditional.Changed s) q
+  changed_note : (j x v s : ℕ) (n : Note) → Answered p q (call.UpdateIf j x v) (answer.Changed s) n →
+      NoteFits (length q.memory.about.opening.values) (call.UpdateIf j x v) (answer.Changed s) (Some n) → UpdatesIf p j x v (conditional.Changed s) q
   changed_note j x v s (note.Saw n) a f = (n, a)
   changed_note j x v s (note.Wrote n) a f = absurd f
   changed_note j x v s (note.Lost n) a f = absurd f
@@ -223,7 +221,8 @@ module _ (t : TableId) (b : CoreState) (x : Seated) (c : CoreState) (y : Seated)
 
   pub update_told : (j v : ℕ) → CallBegins t x b (call.Update j v) → (r : Reply) → reply_of c ≡ Some r → UpdateTold (port_view t x) j v r (port_view t y)
   update_told j v w (reply.Applied s) is =
-      let a = answered_with t b x c y m (call.Update j v) w (reply.Applied s) is refl refl (noted_by (reply.Applied s) is) in wrote_note (port_view t x) (port_view t y) c j v s a.note a.answered a.fits a.placed
+      let a = answered_with t b x c y m (call.Update j v) w (reply.Applied s) is refl refl (noted_by (reply.Applied s) is) in
+      wrote_note (port_view t x) (port_view t y) c j v s a.note a.answered a.fits a.placed
   update_told j v w (reply.Lost s) is =
       let a = answered_with t b x c y m (call.Update j v) w (reply.Lost s) is refl refl (noted_by (reply.Lost s) is) in lost_note (port_view t x) (port_view t y) c j v s a.note a.answered a.fits
   update_told j v w (reply.Refused cause) is = refused_with t b x c y m (call.Update j v) w cause is
@@ -233,9 +232,11 @@ module _ (t : TableId) (b : CoreState) (x : Seated) (c : CoreState) (y : Seated)
 
   pub update_if_told : (j e v : ℕ) → CallBegins t x b (call.UpdateIf j e v) → (r : Reply) → reply_of c ≡ Some r → UpdateIfTold (port_view t x) j e v r (port_view t y)
   update_if_told j e v w (reply.Applied s) is =
-      let a = answered_with t b x c y m (call.UpdateIf j e v) w (reply.Applied s) is refl refl (noted_by (reply.Applied s) is) in wrote_if_note (port_view t x) (port_view t y) c j e v s a.note a.answered a.fits a.placed
+      let a = answered_with t b x c y m (call.UpdateIf j e v) w (reply.Applied s) is refl refl (noted_by (reply.Applied s) is) in
+      wrote_if_note (port_view t x) (port_view t y) c j e v s a.note a.answered a.fits a.placed
   update_if_told j e v w (reply.Changed s) is =
-      let a = answered_with t b x c y m (call.UpdateIf j e v) w (reply.Changed s) is refl refl (noted_by (reply.Changed s) is) in changed_note (port_view t x) (port_view t y) c j e v s a.note a.answered a.fits
+      let a = answered_with t b x c y m (call.UpdateIf j e v) w (reply.Changed s) is refl refl (noted_by (reply.Changed s) is) in
+      changed_note (port_view t x) (port_view t y) c j e v s a.note a.answered a.fits
   update_if_told j e v w (reply.Refused cause) is = refused_with t b x c y m (call.UpdateIf j e v) w cause is
   update_if_told j e v w (reply.Read u s) is = let a = answered_with t b x c y m (call.UpdateIf j e v) w (reply.Read u s) is refl refl (noted_by (reply.Read u s) is) in absurd a.fits
   update_if_told j e v w (reply.Scanned k s) is = let a = answered_with t b x c y m (call.UpdateIf j e v) w (reply.Scanned k s) is refl refl (noted_by (reply.Scanned k s) is) in absurd a.fits
@@ -252,8 +253,11 @@ module _ (t : TableId) (b : CoreState) (x : Seated) (c : CoreState) (y : Seated)
   read_told j w (reply.Scanned k s) is = let a = answered_with t b x c y m (call.Read j) w (reply.Scanned k s) is refl refl (noted_by (reply.Scanned k s) is) in absurd a.fits
   read_told j w (reply.Changed s) is = let a = answered_with t b x c y m (call.Read j) w (reply.Changed s) is refl refl (noted_by (reply.Changed s) is) in absurd a.fits
 
-  saw_note : (which : List ℕ) → CallBegins t x b (call.Scan which) → b.stage ≡ ScanBegun → b.asked ≡ which → (k : ℕ) (s : Option ℕ) (n : Note) → reply_of c ≡ Some (reply.Scanned k s) → NoteFits (length y.about.opening.values) (call.Scan which) (answer.Scanned (scanned_values c) k s) (Some n)
-      → IsTrueOf y.about.opening y.part.seen (port_of y.part) (call.Scan which) (answer.Scanned (scanned_values c) k s) n → Answered (port_view t x) (port_view t y) (call.Scan which) (answer.Scanned (scanned_values c) k s) n → ScanTold (port_view t x) which c (reply.Scanned k s) (port_view t y)
+  saw_note : (which : List ℕ) → CallBegins t x b (call.Scan which) → b.stage ≡ ScanBegun → b.asked ≡ which → (k : ℕ) (s : Option ℕ) (n : Note) → reply_of c ≡ Some (reply.Scanned k s) →
+      NoteFits (length y.about.opening.values) (call.Scan which) (answer.Scanned (scanned_values c) k s) (Some n)
+      → IsTrueOf y.about.opening y.part.seen (port_of y.part) (call.Scan which) (answer.Scanned (scanned_values c) k s) n
+      → Answered (port_view t x) (port_view t y) (call.Scan which) (answer.Scanned (scanned_values c) k s) n
+      → ScanTold (port_view t x) which c (reply.Scanned k s) (port_view t y)
   saw_note which w stage asked k s (note.Saw n) is f holds a =
       let z : Layout = x.about.sizes in
       let layout : IsLayout z = subst IsLayout w.begins.sizes w.begins.layout in
@@ -294,20 +298,23 @@ module _ (views : List (List Seated)) (core : CoreState) (number : ℕ) (w : IsR
   update_if_ended j x v none is s told = seen_as (λ a z. UpdateIfTold a j x v s z)
       (update_if_told t b (one_in views) e.machine y e.made j x v (call_begins views core number w t b (call.UpdateIf j x v) tt none refl is) s (e.replies ∙ ap Some told))
 
-  pub scan_ended : (which : List ℕ) → length which ≤ core.sizes.m → (length which ≡ 0 → ⊥) → scan_refusal core which ≡ None → b ≡ begin_scan core which → (s : Reply) → r ≡ s → ScanTold p which e.machine s (port_view t' y)
+  pub scan_ended : (which : List ℕ) → length which ≤ core.sizes.m → (length which ≡ 0 → ⊥) → scan_refusal core which ≡ None → b ≡ begin_scan core which → (s : Reply) → r ≡ s →
+      ScanTold p which e.machine s (port_view t' y)
   scan_ended which served some none is s told =
       let begins = scan_begins views core number w t b which served some none is in
       let stage : b.stage ≡ ScanBegun = ap (λ (d : CoreState). d.stage) is ∙ ap (λ f. cond f (Finished (reply.Scanned 0 None)) ScanBegun) (ne_eqb (length which) 0 some) in
       seen_as (λ a z. ScanTold a which e.machine s z) (scan_told t b (one_in views) e.machine y e.made which begins stage (ap (λ (d : CoreState). d.asked) is) s (e.replies ∙ ap Some told))
 
 -- the values that a scan copied are those of the machine whose reply was taken
-pub scan_copied : (p q : PortView) (which into : List ℕ) (machine taken : CoreState) (k : ℕ) (s : Option ℕ) → (length which ≡ 0 → ⊥) → taken ≡ at_stage machine Idle → into ≡ scanned_values taken → ScanAnswered p which machine k s q →
+pub scan_copied : (p q : PortView) (which into : List ℕ) (machine taken : CoreState) (k : ℕ) (s : Option ℕ) → (length which ≡ 0 → ⊥) → taken ≡ at_stage machine Idle →
+    into ≡ scanned_values taken → ScanAnswered p which machine k s q →
     Scans p which into (record { collects = k; borrowed = s }) q
 scan_copied p q [] into machine taken k s some idle is w = absurd (some refl)
 scan_copied p q (j ∷ js) into machine taken k s some idle is w =
     subst (λ (l : List ℕ). ScansSome p (j ∷ js) l (record { collects = k; borrowed = s }) q) (sym (is ∙ ap scanned_values idle)) w.made
 
-pub scan_asked : (p q : PortView) (which : List ℕ) (machine taken : CoreState) (k : ℕ) (s : Option ℕ) → taken ≡ at_stage machine Idle → ScanAnswered p which machine k s q → length taken.asked ≡ length which
+pub scan_asked : (p q : PortView) (which : List ℕ) (machine taken : CoreState) (k : ℕ) (s : Option ℕ) → taken ≡ at_stage machine Idle → ScanAnswered p which machine k s q →
+    length taken.asked ≡ length which
 scan_asked p q which machine taken k s idle w = ap (λ (d : CoreState). length d.asked) idle ∙ w.asked
 
 -- a scan of no position

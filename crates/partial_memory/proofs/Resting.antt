@@ -95,7 +95,8 @@ some_positions : (which : List ℕ) → (length which ≡ 0 → ⊥) → makes_s
 some_positions [] some = absurd (some refl)
 some_positions (j ∷ js) some = refl
 
-pub scan_begins : (views : List (List Seated)) (core : CoreState) (number : ℕ) → IsResting views core number → (t : TableId) (b : CoreState) (which : List ℕ) → length which ≤ core.sizes.m → (length which ≡ 0 → ⊥) →
+pub scan_begins : (views : List (List Seated)) (core : CoreState) (number : ℕ) → IsResting views core number → (t : TableId) (b : CoreState) (which : List ℕ) → length which ≤ core.sizes.m →
+    (length which ≡ 0 → ⊥) →
     scan_refusal core which ≡ None → b ≡ begin_scan core which → CallBegins t (one_in views) b (call.Scan which)
 scan_begins views core number w t b which served some none is = call_begins views core number w t b (call.Scan which) served none (some_positions which some) is
 

@@ -34,7 +34,8 @@ flatten-snoc [] v = refl
 flatten-snoc (u ∷ us) v = ap (λ l. u ++ l) (flatten-snoc us v) ∙ sym (append_assoc u (flatten us) (v ++ []))
 
 -- a state with the parts in another order
-pub reordered : {S : Type 0} (about : About) (s : State S (List Seated)) (views : List (List Seated)) → (kept : IsKept about s) → IsShuffle (flatten views) kept.all → IsKept about (record { words = s.words; homes = s.homes; views = views })
+pub reordered : {S : Type 0} (about : About) (s : State S (List Seated)) (views : List (List Seated)) → (kept : IsKept about s) → IsShuffle (flatten views) kept.all →
+    IsKept about (record { words = s.words; homes = s.homes; views = views })
 reordered about s views kept shuffle = record { log = kept.log; all = kept.all; shuffle = shuffle; lawful = kept.lawful; opened = kept.opened }
 
 -- the first part may have a seat of its own
@@ -47,4 +48,6 @@ deals about id (x ∷ xs) s kept at =
     let r = around s.views id (x ∷ xs) at in
     let less : r.before ++ (xs ++ r.behind) ≡ (r.before ++ (xs ++ r.behind)) ++ [] = sym (append-nil (r.before ++ (xs ++ r.behind))) in
     let then : flatten (set s.views id xs ++ (x ∷ []) ∷ []) ≡ (r.before ++ (xs ++ r.behind)) ++ x ∷ [] = flatten-snoc (set s.views id xs) (x ∷ []) ∙ ap (λ l. l ++ x ∷ []) (r.then xs) in
-    reordered about s (set s.views id xs ++ (x ∷ []) ∷ []) kept (subst (λ l. IsShuffle l kept.all) (sym then) (put_elsewhere r.before x (xs ++ r.behind) (r.before ++ (xs ++ r.behind)) [] kept.all less (subst (λ l. IsShuffle l kept.all) r.now kept.shuffle)))
+    let now = subst (λ l. IsShuffle l kept.all) r.now kept.shuffle in
+    let put = put_elsewhere r.before x (xs ++ r.behind) (r.before ++ (xs ++ r.behind)) [] kept.all less now in
+    reordered about s (set s.views id xs ++ (x ∷ []) ∷ []) kept (subst (λ l. IsShuffle l kept.all) (sym then) put)

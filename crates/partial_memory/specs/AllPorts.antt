@@ -1,14 +1,12 @@
 -- What a memory that is closed with all its ports tells: one history, of which each entry is in the notes of exactly one port.
 use Rattle.std.specs.Prelude.{ℕ, ◌≡◌, ◌+◌, ◌<◌, ⊤, List, [], ◌∷◌, length, take, Contains, slice_get, Some}
 use Rattle.std.specs.List.{AllByRecursion}
-use Rattle.atomic_table.specs.Seated.{TableId}
 use Rattle.partial_model.specs.declared.history.Applied.{Applied}
 use Rattle.partial_model.specs.declared.history.Opening.{Opening}
 use Rattle.partial_model.specs.History.{IsHistory}
 use Rattle.partial_model.specs.Notes.{LegalNotes}
 use Rattle.partial_model.specs.Outcome.{EachOnce, places_written}
 use Rattle.partial_model.specs.Entries.{entries_by, applied_by}
-use Rattle.partial_memory.specs.declared.rule.About.{About}
 use Rattle.partial_memory.specs.declared.closed.Closed.{Closed}
 use Rattle.partial_memory.specs.Rule.{newcomers}
 use Rattle.partial_memory.specs.Ports.{IsOf, MemoryView, PortView, new_ports}
@@ -25,10 +23,10 @@ pub record AreAllPorts (m : MemoryView) (ports : List PortView) : Type 0 where
   pub count : length ports ≡ m.about.ports
   pub numbers : AreNumberedFrom 0 ports
 
--- the ports with which a memory opens are all
+-- the ports with which a memory opens, as `open` gives them, are all
 abbrev pub OpenedPortsAreAll : Type 0
 OpenedPortsAreAll =
-    (table : TableId) (about : About) → AreAllPorts (record { table = table; about = about }) (new_ports table (newcomers about 0 about.ports))
+    (m : MemoryView) (ports : ℕ) → m.about.ports ≡ ports → AreAllPorts m (new_ports m.table (newcomers m.about 0 ports))
 
 -- The port of number p in a history: what it had seen is a beginning of it, its notes are legal there, each with its place, and its
 -- entries are those that its notes claim, each once: the updates that the notes say were applied, in order.

@@ -1,5 +1,5 @@
 -- What a memory that is closed gives, and what its history tells of the ports that were handed in.
-use Rattle.std.specs.Prelude.{ℕ, ◌≡◌, ◌<◌, suc, List, [], ◌∷◌, length, take, slice_index}
+use Rattle.std.specs.Prelude.{ℕ, ◌≡◌, ◌+◌, ◌<◌, ◌≤◌, suc, List, [], ◌∷◌, length, take, slice_index}
 use Rattle.std.specs.List.{AllByRecursion}
 use Rattle.std.specs.declared.alloc.Global.{Global}
 use Rattle.std.specs.declared.vec.Vec.{Vec}
@@ -10,6 +10,8 @@ use Rattle.partial_model.specs.Notes.{LegalNotes}
 use Rattle.partial_model.specs.Outcome.{EachOnce}
 use Rattle.partial_words.specs.declared.record.Link.{Link}
 use Rattle.partial_words.specs.Chain.{IsChain, chain_of}
+use Rattle.partial_words.specs.Layout.{Layout}
+use Rattle.partial_core.specs.Ports.{RecordsAreWithin}
 use Rattle.partial_memory.specs.declared.closed.Closed.{Closed}
 use Rattle.partial_memory.specs.Rule.{AreByOpened}
 use Rattle.partial_memory.specs.Ports.{MemoryView, PortView}
@@ -33,6 +35,24 @@ AreChainsFrom o log j (c ∷ cs) = (c.items ≡ chain_of o j log) × AreChainsFr
 pub record AreChains (o : Opening) (log : List Applied) (m : ℕ) (chains : List (Vec Link Global)) : Type 0 where
   pub count : length chains ≡ m
   pub each : AreChainsFrom o log 0 chains
+
+-- the words have a whole chain from that word on, of at most n + 1 links
+abbrev pub HaveChain : List ℕ → ℕ → ℕ → Type 0
+HaveChain words at n = (links : List Link) × IsWhole words at links × (length links ≤ n + 1)
+
+-- these are the links of the whole chain from that word on
+abbrev pub AreLinks : List ℕ → ℕ → List Link → Type 0
+AreLinks words at found = (links : List Link) → IsWhole words at links → found ≡ links
+
+-- the words have the records of a history of m components
+abbrev pub HaveRecords : List ℕ → ℕ → Type 0
+HaveRecords words m = (z : Layout) × (o : Opening) × (log : List Applied) × RecordsAreWithin z o words log × (z.m ≡ m)
+
+-- these are the values and the chains after each history of which the words have the records
+abbrev pub Holds : List ℕ → ℕ → Closed → Type 0
+Holds words m c =
+    (z : Layout) (o : Opening) (log : List Applied)
+    → RecordsAreWithin z o words log → z.m ≡ m → AreValues o log m c.values.items × AreChains o log m c.chains.items
 
 -- what the history tells of a port that was handed in: it begins with all that the port had seen, the port's notes are legal in it, and
 -- the port's entries are those that its notes wrote, in their order

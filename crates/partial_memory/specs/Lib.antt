@@ -4,3 +4,4 @@ pub mod Ports
 pub mod Calls
 pub mod Closing
 pub mod AllPorts
+pub mod Noting

@@ -113,7 +113,8 @@ pub record MakesSteps (p q : PortView) (c : Call) (r : Reply) (machine : CoreSta
 abbrev pub marks_refusal : PortView → Call → Option Refused
 marks_refusal p (call.Update j v) = if p.pool_spent then Some refused.PoolSpent else None
 marks_refusal p (call.UpdateIf j s v) = if p.pool_spent then Some refused.PoolSpent else None
-marks_refusal p (call.Scan (j ∷ js)) = if p.pool_spent then Some refused.PoolSpent else (if p.slots_spent then Some refused.SlotsSpent else None)
+marks_refusal p (call.Scan (j ∷ js)) =
+    if p.pool_spent then Some refused.PoolSpent else (if p.slots_spent then Some refused.SlotsSpent else None)
 marks_refusal p _ = None
 
 -- why a call is refused before any step: an index that isn't below the number of components comes first, then the marks

@@ -53,7 +53,8 @@ newcomers about port (suc n) = newcomer about port ∷ newcomers about (port + 1
 
 -- what stands for a port where a view has none
 abbrev pub nobody : Seated
-nobody = newcomer (record { sizes = record { m = 1; slots = 1; lists = 0; pool = 3 }; opening = record { values = []; first = 0 }; ports = 0 }) 0
+nobody =
+    newcomer (record { sizes = record { m = 1; slots = 1; lists = 0; pool = 3 }; opening = record { values = []; first = 0 }; ports = 0 }) 0
 
 -- the first port of a view, and of the first view
 abbrev pub one_of : List Seated → Seated

@@ -1,13 +1,8 @@
 //! What a memory held when it was closed.
 
-ghost use Rattle.std.specs.Prelude.{◌≡◌, ℕ, ◌+◌, ◌<◌, ◌≤◌, ◌^◌, List, length, IfOk};
+ghost use Rattle.std.specs.Prelude.{◌≡◌, ◌<◌, ◌^◌, length, IfOk};
 ghost use Rattle.std.specs.Slots.{slots_len, slots_items, IsFull};
-ghost use Rattle.partial_model.specs.declared.history.Applied.{Applied};
-ghost use Rattle.partial_model.specs.declared.history.Opening.{Opening};
-ghost use Rattle.partial_words.specs.declared.record.Link.{Link};
-ghost use Rattle.partial_words.specs.Layout.{Layout};
-ghost use Rattle.partial_core.specs.Ports.{RecordsAreWithin};
-ghost use Rattle.partial_memory.specs.Closing.{IsWhole, AreValues, AreChains};
+ghost use Rattle.partial_memory.specs.Closing.{AreLinks, HaveChain, HaveRecords, Holds};
 
 use partial_words::{Link, value_word};
 use std::alloc::{AllocError, Global};
@@ -27,9 +22,10 @@ pub type ClosedWords = atomic_table::Closed<(), Global>;
 
 // The records of a component, from the newest one on, each found by the word of the one before it.
 fn chain(alloc: Global, words: &ClosedWords, newest: u64) -> Result<Vec<Link>, AllocError>
-    requires full { IsFull words.now.words × (slots_len words.now.words ≡ length (slots_items words.now.words)) × (slots_len words.now.words < 2 ^ 32) }
-    requires chain { (links : List Link) × IsWhole (slots_items words.now.words) newest links × (length links ≤ slots_len words.now.words + 1) }
-    ensures { IfOk result (λ v. (links : List Link) → IsWhole (slots_items words.now.words) newest links → v.items ≡ links) }
+    requires full { IsFull words.now.words × (slots_len words.now.words < 2 ^ 32) }
+    requires count { slots_len words.now.words ≡ length (slots_items words.now.words) }
+    requires chain { HaveChain (slots_items words.now.words) newest (slots_len words.now.words) }
+    ensures { IfOk result (λ v. AreLinks (slots_items words.now.words) newest v.items) }
 {
     let mut links = Vec::new(alloc);
     let mut at = newest;
@@ -43,9 +39,10 @@ fn chain(alloc: Global, words: &ClosedWords, newest: u64) -> Result<Vec<Link>, A
 
 /// The values and the chains of the components.
 pub fn closed_of(alloc: Global, words: &ClosedWords, m: u32) -> Result<Closed, AllocError>
-    requires full { IsFull words.now.words × (slots_len words.now.words ≡ length (slots_items words.now.words)) × (slots_len words.now.words < 2 ^ 32) }
-    requires records { (z : Layout) × (o : Opening) × (log : List Applied) × RecordsAreWithin z o (slots_items words.now.words) log × (z.m ≡ m) }
-    ensures { IfOk result (λ c. (z : Layout) (o : Opening) (log : List Applied) → RecordsAreWithin z o (slots_items words.now.words) log → z.m ≡ m → AreValues o log m c.values.items × AreChains o log m c.chains.items) }
+    requires full { IsFull words.now.words × (slots_len words.now.words < 2 ^ 32) }
+    requires count { slots_len words.now.words ≡ length (slots_items words.now.words) }
+    requires records { HaveRecords (slots_items words.now.words) m }
+    ensures { IfOk result (λ c. Holds (slots_items words.now.words) m c) }
 {
     let mut values = Vec::with_capacity(alloc, m as usize)?;
     let mut chains = Vec::with_capacity(alloc, m as usize)?;

@@ -1,13 +1,13 @@
 //! The steps of a call: each one that is due is one atomic step of the port's seat.
 
-ghost use Rattle.std.specs.Prelude.{◌≡◌, ◌<◌, ℕ, Some, [], ◌∷◌};
+ghost use Rattle.std.specs.Prelude.{◌≡◌, ◌<◌, Some, [], ◌∷◌};
 ghost use Rattle.partial_words.specs.Layout.{total};
 ghost use Rattle.partial_words.specs.Step.{word_of};
 ghost use Rattle.partial_machine.specs.Machine.{advance, step_of};
 ghost use Rattle.partial_machine.specs.Bounds.{steps_left};
 ghost use Rattle.partial_core.specs.Part.{IsMachineOf};
 ghost use Rattle.partial_memory.specs.Rule.{IsOne, IsBadgeOfOne, Told, one_of, one_in};
-ghost use Rattle.partial_memory.specs.Steps.{Begins, Ended};
+ghost use Rattle.partial_memory.specs.Steps.{Advances, Begins, Ended};
 
 use crate::rule::{Makes, Moment, Place, Stores, View, Words};
 use atomic_table::Badge;
@@ -37,7 +37,7 @@ pub fn make_step<G: Moment>(words: &Words, seat: &mut Place, core: &mut Core, st
     requires due { IsMachineOf core.old (one_of seat.old.me.0).part × (step_of core.old ≡ Some step) }
     ensures table { seat.new.table_id ≡ seat.old.table_id }
     ensures one { IsOne seat.new.me }
-    ensures told { (a : ℕ) × (core.new ≡ advance core.old a) × Told core.old (one_of seat.old.me.0) a (one_of seat.new.me.0) }
+    ensures told { Advances core.old (one_of seat.old.me.0) core.new (one_of seat.new.me.0) }
     ensures falls { steps_left core.new < steps_left core.old }
 {
     let answer = match step {
@@ -56,7 +56,8 @@ pub fn make_step<G: Moment>(words: &Words, seat: &mut Place, core: &mut Core, st
 
 /// Makes the steps of the call that the machine has begun, and takes its reply.
 pub fn finish(words: &Words, badge: &mut Badge<View>, core: &mut Core) -> Reply
-    requires table { (badge.old.table_id ≡ words.now.table_id) × (words.now.table_id.words ≡ total words.now.key.sizes) }
+    requires table { badge.old.table_id ≡ words.now.table_id }
+    requires words { words.now.table_id.words ≡ total words.now.key.sizes }
     requires one { IsBadgeOfOne badge.old.views }
     requires own { (one_in badge.old.views).about ≡ words.now.key }
     requires begins { Begins core.old (one_in badge.old.views) }

@@ -69,7 +69,9 @@ impl Memory {
         ports: u32,
     ) -> Result<(Memory, Vec<Port>), OpenError>
         requires { length initial.now ≡ sizes.m }
-        ensures about { IfOk result (λ r. (r.0.about.sizes ≡ sizes) × (r.0.about.opening.values ≡ initial.now) × (r.0.about.opening.first ≡ pool_base sizes) × (r.0.about.ports ≡ ports)) }
+        ensures about { IfOk result (λ r. (r.0.about.sizes ≡ sizes) × (r.0.about.ports ≡ ports)) }
+        ensures values { IfOk result (λ r. r.0.about.opening.values ≡ initial.now) }
+        ensures first { IfOk result (λ r. r.0.about.opening.first ≡ pool_base sizes) }
         ensures ports { IfOk result (λ r. r.1.items ≡ new_ports r.0.table (newcomers r.0.about 0 ports)) }
         ensures many { IfOk result (λ r. (1 ≤ ports) × (ports ≤ 64)) }
         ensures refused { IfErr result (λ e. MayNotOpen ports e) }
@@ -121,9 +123,7 @@ impl Memory {
             Reply::Applied { stamp } => Ok(Updated::Applied { stamp }),
             Reply::Lost { by } => Ok(Updated::Lost { by }),
             Reply::Refused(cause) => Err(cause),
-            Reply::Scanned { .. } => unreachable!(),
-            Reply::Read { .. } => unreachable!(),
-            Reply::Changed { .. } => unreachable!(),
+            Reply::Scanned { .. } | Reply::Read { .. } | Reply::Changed { .. } => unreachable!(),
         }
     }
 
@@ -152,9 +152,7 @@ impl Memory {
             Reply::Applied { stamp } => Ok(UpdatedIf::Applied { stamp }),
             Reply::Changed { by } => Ok(UpdatedIf::Changed { by }),
             Reply::Refused(cause) => Err(cause),
-            Reply::Scanned { .. } => unreachable!(),
-            Reply::Read { .. } => unreachable!(),
-            Reply::Lost { .. } => unreachable!(),
+            Reply::Scanned { .. } | Reply::Read { .. } | Reply::Lost { .. } => unreachable!(),
         }
     }
     /// Reads component `component`: its value and its stamp at a moment of the call, in two atomic steps.
@@ -193,7 +191,8 @@ impl Memory {
         requires lengths { (length into.old ≡ length which.now) × (length which.now ≤ self.now.about.sizes.m) }
         ensures same { IsOf self.now me.new }
         ensures ok { IfOk result (λ s. Scans me.old which.now into.new s me.new) }
-        ensures err { IfErr result (λ cause. IsRefused me.old (call.Scan which.now) cause me.new × (into.new ≡ into.old)) }
+        ensures err { IfErr result (λ cause. IsRefused me.old (call.Scan which.now) cause me.new) }
+        ensures unchanged { IfErr result (λ cause. into.new ≡ into.old) }
     {
         if which.is_empty() {
             return Ok(Scanned {
@@ -208,10 +207,8 @@ impl Memory {
                 Ok(Scanned { collects, borrowed })
             }
             Reply::Refused(cause) => Err(cause),
-            Reply::Applied { .. } => unreachable!(),
-            Reply::Lost { .. } => unreachable!(),
-            Reply::Read { .. } => unreachable!(),
-            Reply::Changed { .. } => unreachable!(),
+            Reply::Applied { .. } | Reply::Lost { .. } => unreachable!(),
+            Reply::Read { .. } | Reply::Changed { .. } => unreachable!(),
         }
     }
 

@@ -75,6 +75,11 @@ pub LegalNotes-push : (o : Opening) (h : List Applied) (p seen : ℕ) (ns : List
 LegalNotes-push o h p seen [] n w legal = (legal, tt)
 LegalNotes-push o h p seen (x ∷ ns) n w legal = (w.0, LegalNotes-push o h p (seen_after seen x.note) ns n w.1 legal)
 
+-- the last of a port's notes
+pub LegalNotes-last : (o : Opening) (h : List Applied) (p seen : ℕ) (ns : List Noted) (n : Noted) → LegalNotes o h p seen (ns ++ n ∷ []) → IsLegal o h p (seen_by seen ns) n
+LegalNotes-last o h p seen [] n w = w.0
+LegalNotes-last o h p seen (x ∷ ns) n w = LegalNotes-last o h p (seen_after seen x.note) ns n w.1
+
 places_step : (p k : ℕ) (x : Applied) (all rest last : List ℕ) (b : Bool) → all ≡ rest ++ last → cond b (k ∷ all) all ≡ cond b (k ∷ rest) rest ++ last
 places_step p k x all rest last true e = ap (λ (l : List ℕ). k ∷ l) e
 places_step p k x all rest last false e = e

@@ -10,21 +10,21 @@ loop-at-init c = record { walked = walked_none _ _ _ c.new-links.ensures.items }
 pub value_word-requires : goal.value_word-requires
 value_word-requires c =
     let within = (walked_within _ _ _ _ _ c.loop-at.invariant.walked c.loop-at-test.true c.requires.chain.1).0 in
-    let same = c.requires.full.1 in
-    let small = c.requires.full.2 in
+    let same = c.requires.count in
+    let small = c.requires.full.1 in
     omega (arith, within, same, small)
 
 pub word-value-requires : goal.word-value-requires
 word-value-requires c =
     let within = (walked_within _ _ _ _ _ c.loop-at.invariant.walked c.loop-at-test.true c.requires.chain.1).0 in
-    let same = c.requires.full.1 in
+    let same = c.requires.count in
     let is = c.value_word.ensures in
     (omega (arith, within, same, is), c.requires.full.0)
 
 pub word-at-requires : goal.word-at-requires
 word-at-requires c =
     let within = (walked_within _ _ _ _ _ c.loop-at.invariant.walked c.loop-at-test.true c.requires.chain.1).0 in
-    let same = c.requires.full.1 in
+    let same = c.requires.count in
     (omega (arith, within, same), c.requires.full.0)
 
 pub loop-at-preserved : goal.loop-at-preserved

@@ -12,7 +12,7 @@ chain-requires-clause-chain c =
     let test = c.loop-j-test.true in
     let sizes = r.4 in
     let whole = whole_chain r.0 r.1 words r.2 r.3 c.loop-j.j (omega (arith, test, sizes)) in
-    let same = c.requires.full.1 in
+    let same = c.requires.count in
     let bound = whole.1 in
     (chain_of r.1 c.loop-j.j r.2, subst (λ k. IsWhole words k (chain_of r.1 c.loop-j.j r.2)) (elem_or words c.loop-j.j _ c.word.ensures) whole.0, omega (arith, same, bound))
 
@@ -46,7 +46,8 @@ loop-j-preserved c =
           let had = c.loop-j.invariant.tells z o log r is in
           let whole = whole_chain z o words log r c.loop-j.j (omega (arith, test, is)) in
           let links = c.in_ok-links.ensures (chain_of o c.loop-j.j log) (subst (λ k. IsWhole words k (chain_of o c.loop-j.j log)) (elem_or words c.loop-j.j _ c.word.ensures) whole.0) in
-          (values_more o log c.loop-j.j _ _ _ had.0 c.push_reserved.ensures.items (first_value o log c.loop-j.j _ _ links c.index.ensures), chains_more o log c.loop-j.j _ _ _ had.1 c.push_reserved-in-loop-j.ensures.items links);
+          let first = first_value o log c.loop-j.j _ _ links c.index.ensures in
+          (values_more o log c.loop-j.j _ _ _ had.0 c.push_reserved.ensures.items first, chains_more o log c.loop-j.j _ _ _ had.1 c.push_reserved-in-loop-j.ensures.items links);
       room = search rules;
       space = search rules;
     }

@@ -14,4 +14,4 @@ both (Ok x) P Q R f p q = f x p q
 both (Err e) P Q R f p q = tt
 
 pub returns : goal.returns
-returns c = both c.open.result _ _ _ (λ r a p. (a.0, subst (AllByRecursion (IsOf r.0)) (sym p) ((opened_ports_are_all r.0.table r.0.about).own))) c.open.ensures.about c.open.ensures.ports
+returns c = both c.open.result _ _ _ (λ r a p. (a.0, subst (AllByRecursion (IsOf r.0)) (sym p) ((opened_ports_are_all r.0 c.args.ports a.1).own))) c.open.ensures.about c.open.ensures.ports

@@ -55,7 +55,8 @@ closed_of-closed-requires c =
     let long = e.count in
     let m = c.m.ensures.value in
     record {
-      full = (c.close_with-words.ensures.values.0, omega (arith, count, words, long), omega (arith, count, words, a.1, b.1, l, p.1));
+      full = (c.close_with-words.ensures.values.0, omega (arith, count, words, a.1, b.1, l, p.1));
+      count = omega (arith, count, words, long);
       records = (c.self.inside.table.shared.key.sizes, c.self.inside.table.shared.key.opening, e.log, e.records, search rules);
     }
 

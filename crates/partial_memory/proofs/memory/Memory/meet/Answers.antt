@@ -16,7 +16,8 @@ pub load-requires : goal.load-requires
 load-requires c =
     let own : (one_in c.first.inside.badge.views).about ≡ c.self.inside.table.shared.key = search rules in
     let own' : (one_in c.second.inside.badge.views).about ≡ c.self.inside.table.shared.key = search rules in
-    (search rules, search rules, looks_on _ _ _ _ (both_of _ (one_in c.first.inside.badge.views) (one_in c.second.inside.badge.views) _ (joined _ _ _ _ _ c.take_seat-seat.ensures.one c.take_seat.ensures.one c.join_seat.ensures.2) own own'))
+    let both = joined _ _ _ _ _ c.take_seat-seat.ensures.one c.take_seat.ensures.one c.join_seat.ensures.2 in
+    (search rules, search rules, looks_on _ _ _ _ (both_of _ (one_in c.first.inside.badge.views) (one_in c.second.inside.badge.views) _ both own own'))
 
 pub split_seat-requires : goal.split_seat-requires
 split_seat-requires c = (search rules, search rules, deals _ _ _)
@@ -47,6 +48,7 @@ returns-clause-met c =
     let seat = c.load.ensures.0 ∙ c.join_seat.ensures.0 ∙ c.take_seat-seat.ensures.table in
     let same : c.into_badge.result.table_id ≡ c.first.inside.badge.table_id = c.into_badge.ensures.0 ∙ c.split_seat.ensures.3 ∙ seat in
     let memory : c.args.first.now.memory ≡ c.args.second.now.memory = c.requires.0 ∙ sym c.requires.1 in
-    let tables : c.first.inside.badge.table_id ≡ c.second.inside.badge.table_id = ap (λ (p : PortView). p.memory.table) c.first.view_is ∙ ap (λ (m : MemoryView). m.table) memory ∙ ap (λ (p : PortView). p.memory.table) (sym c.second.view_is) in
+    let tables : c.first.inside.badge.table_id ≡ c.second.inside.badge.table_id =
+    ap (λ (p : PortView). p.memory.table) c.first.view_is ∙ ap (λ (m : MemoryView). m.table) memory ∙ ap (λ (p : PortView). p.memory.table) (sym c.second.view_is) in
     let same' : c.into_badge-2.result.table_id ≡ c.second.inside.badge.table_id = c.into_badge-2.ensures.0 ∙ c.split_seat.ensures.0 ∙ seat ∙ tables in
     meets _ _ _ _ x y c.load.new.seat.me.0 _ _ _ _ told c.first.view_is c.second.view_is same same' first second

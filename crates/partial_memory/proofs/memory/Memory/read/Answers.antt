@@ -18,7 +18,8 @@ load-stamp-requires c =
     let word = c.component_word-word.ensures in
     let words = c.self.invariant.1 in
     let here : c.args.component < total c.self.inside.table.shared.key.sizes = subst (λ (z : Layout). c.args.component < total z) c.self.invariant.0 (omega (arith, inside)) in
-    (search rules, omega (arith, word, words, here), begins_asked _ _ _ _ _ _ _ c.me.invariant c.me.inside.badge.table_id _ (subst (λ k. k < c.me.inside.core.sizes.m) (sym word) below) c.take_seat-seat.ensures.one own)
+    let there = subst (λ k. k < c.me.inside.core.sizes.m) (sym word) below in
+    (search rules, omega (arith, word, words, here), begins_asked _ _ _ _ _ _ _ c.me.invariant c.me.inside.badge.table_id _ there c.take_seat-seat.ensures.one own)
 
 pub load-value-requires : goal.load-value-requires
 load-value-requires c =
@@ -29,8 +30,12 @@ load-value-requires c =
     let below : c.args.component < c.me.inside.core.sizes.m = subst (λ (z : Layout). c.args.component < z.m) (sym sizes) inside in
     let first = first_told _ _ _ _ _ _ c.take_seat-seat.ensures.one c.component_word-word.ensures c.load-stamp.ensures.2.1 in
     let words = c.self.invariant.1 in
-    let within = subst (λ (z : Layout). c.value_word.result < total z) (ap (λ (a : About). a.sizes) own) (subst (λ k. k < total (one_in c.me.inside.badge.views).about.sizes) (sym c.value_word.ensures) (next_within _ _ _ c.me.invariant t _ below _ _ first)) in
-    (search rules, omega (arith, words, within), goes_on_asked _ _ _ _ _ c.load-stamp.ensures.2.0 (first.about ∙ own) (next_machine _ _ _ c.me.invariant t _ below _ _ first) (ap step_of (next_is _ _ _ c.me.invariant t _ below _ _ first) ∙ ap (λ w. Some (Load w)) (sym c.value_word.ensures)))
+    let next = next_within _ _ _ c.me.invariant t _ below _ _ first in
+    let there = subst (λ k. k < total (one_in c.me.inside.badge.views).about.sizes) (sym c.value_word.ensures) next in
+    let within = subst (λ (z : Layout). c.value_word.result < total z) (ap (λ (a : About). a.sizes) own) there in
+    let machine = next_machine _ _ _ c.me.invariant t _ below _ _ first in
+    let due = ap step_of (next_is _ _ _ c.me.invariant t _ below _ _ first) ∙ ap (λ w. Some (Load w)) (sym c.value_word.ensures) in
+    (search rules, omega (arith, words, within), goes_on_asked _ _ _ _ _ c.load-stamp.ensures.2.0 (first.about ∙ own) machine due)
 
 pub returns-clause-ok : goal.returns-clause-ok
 returns-clause-ok c =
@@ -40,7 +45,8 @@ returns-clause-ok c =
     let inside : c.args.component < c.self.inside.sizes.m = search rules in
     let below : c.args.component < c.me.inside.core.sizes.m = subst (λ (z : Layout). c.args.component < z.m) (sym sizes) inside in
     let first = first_told _ _ _ _ _ _ c.take_seat-seat.ensures.one c.component_word-word.ensures c.load-stamp.ensures.2.1 in
-    let read : Reads (port_view t (one_in c.me.inside.badge.views)) c.args.component c.load-value.result c.load-stamp.result (port_view t (one_of c.load-value.new.seat.me.0)) = read_is _ _ _ c.me.invariant t _ below _ _ first _ _ c.load-value.ensures.2.1 in
+    let read : Reads (port_view t (one_in c.me.inside.badge.views)) c.args.component c.load-value.result c.load-stamp.result (port_view t (one_of c.load-value.new.seat.me.0)) =
+    read_is _ _ _ c.me.invariant t _ below _ _ first _ _ c.load-value.ensures.2.1 in
     let table : c.into_badge.result.table_id ≡ t = c.into_badge.ensures.0 ∙ c.load-value.ensures.0 ∙ c.load-stamp.ensures.0 ∙ c.take_seat-seat.ensures.table in
     read_seen _ _ (one_in c.me.inside.badge.views) _ _ _ _ _ _ c.me.view_is table c.into_badge.ensures.2 read
 

@@ -1,4 +1,4 @@
-use Rattle.std.proofs.Common.{rules, ◌≡◌, ◌≤◌, sym, ◌∙◌, subst, length, inr}
+use Rattle.std.proofs.Common.{rules, ◌≡◌, ◌≤◌, sym, ◌∙◌, subst, length, inl, inr}
 use Rattle.partial_words.specs.Layout.{Layout}
 use Rattle.partial_machine.specs.declared.stage.Reply.TheVariants as reply
 use Rattle.partial_memory.specs.Rule.{one_in}
@@ -13,7 +13,7 @@ finish-requires c =
     let sizes : c.me.inside.core.sizes ≡ c.args.self.now.about.sizes = search rules in
     let few : length c.args.which.now ≤ c.me.inside.core.sizes.m = subst (λ (z : Layout). length c.args.which.now ≤ z.m) (sym sizes) c.requires.lengths.1 in
     let begins = scan_begins _ _ _ c.me.invariant c.me.inside.badge.table_id _ _ few some c.in_ok-begin_scan.ensures.ok.0 c.in_ok-begin_scan.ensures.ok.1 in
-    record { table = search rules; one = c.me.invariant.one; own = search rules; begins = begins.begins }
+    record { table = search rules; words = search rules; one = c.me.invariant.one; own = search rules; begins = begins.begins }
 
 pub invariant_of-me-2 : goal.invariant_of-me-2
 invariant_of-me-2 c =
@@ -28,43 +28,38 @@ copy_values-requires c =
     let some : length c.args.which.now ≡ 0 → ⊥ = search rules in
     let sizes : c.me.inside.core.sizes ≡ c.args.self.now.about.sizes = search rules in
     let few : length c.args.which.now ≤ c.me.inside.core.sizes.m = subst (λ (z : Layout). length c.args.which.now ≤ z.m) (sym sizes) c.requires.lengths.1 in
-    c.requires.lengths.0 ∙ sym (scan_asked _ _ _ _ _ _ _ c.finish.ensures.ended.idle (scan_ended _ _ _ c.me.invariant _ _ c.finish.ensures.table _ c.me.view_is _ _ _ _ c.finish.ensures.ended _ few some c.in_ok-begin_scan.ensures.ok.0 c.in_ok-begin_scan.ensures.ok.1 (reply.Scanned _ _) c.in-Scanned.is))
+    let ok = c.in_ok-begin_scan.ensures.ok in
+    let told = scan_ended _ _ _ c.me.invariant _ _ c.finish.ensures.table _ c.me.view_is _ _ _ _ c.finish.ensures.ended _ few some ok.0 ok.1 in
+    c.requires.lengths.0 ∙ sym (scan_asked _ _ _ _ _ _ _ c.finish.ensures.ended.idle (told (reply.Scanned _ _) c.in-Scanned.is))
 
 pub unreachable-requires : goal.unreachable-requires
 unreachable-requires c =
     let some : length c.args.which.now ≡ 0 → ⊥ = search rules in
     let sizes : c.me.inside.core.sizes ≡ c.args.self.now.about.sizes = search rules in
     let few : length c.args.which.now ≤ c.me.inside.core.sizes.m = subst (λ (z : Layout). length c.args.which.now ≤ z.m) (sym sizes) c.requires.lengths.1 in
-    scan_ended _ _ _ c.me.invariant _ _ c.finish.ensures.table _ c.me.view_is _ _ _ _ c.finish.ensures.ended _ few some c.in_ok-begin_scan.ensures.ok.0 c.in_ok-begin_scan.ensures.ok.1 (reply.Applied _) c.in-Applied.is
-
-pub unreachable-requires-in-Lost : goal.unreachable-requires-in-Lost
-unreachable-requires-in-Lost c =
-    let some : length c.args.which.now ≡ 0 → ⊥ = search rules in
-    let sizes : c.me.inside.core.sizes ≡ c.args.self.now.about.sizes = search rules in
-    let few : length c.args.which.now ≤ c.me.inside.core.sizes.m = subst (λ (z : Layout). length c.args.which.now ≤ z.m) (sym sizes) c.requires.lengths.1 in
-    scan_ended _ _ _ c.me.invariant _ _ c.finish.ensures.table _ c.me.view_is _ _ _ _ c.finish.ensures.ended _ few some c.in_ok-begin_scan.ensures.ok.0 c.in_ok-begin_scan.ensures.ok.1 (reply.Lost _) c.in-Lost.is
+    let ok = c.in_ok-begin_scan.ensures.ok in
+    let told = scan_ended _ _ _ c.me.invariant _ _ c.finish.ensures.table _ c.me.view_is _ _ _ _ c.finish.ensures.ended _ few some ok.0 ok.1 in
+    elim c.in-Applied.is [ inl w ↦ told (reply.Applied _) w.1 | inr w ↦ told (reply.Lost _) w.1 ]
 
 pub unreachable-requires-in-Read : goal.unreachable-requires-in-Read
 unreachable-requires-in-Read c =
     let some : length c.args.which.now ≡ 0 → ⊥ = search rules in
     let sizes : c.me.inside.core.sizes ≡ c.args.self.now.about.sizes = search rules in
     let few : length c.args.which.now ≤ c.me.inside.core.sizes.m = subst (λ (z : Layout). length c.args.which.now ≤ z.m) (sym sizes) c.requires.lengths.1 in
-    scan_ended _ _ _ c.me.invariant _ _ c.finish.ensures.table _ c.me.view_is _ _ _ _ c.finish.ensures.ended _ few some c.in_ok-begin_scan.ensures.ok.0 c.in_ok-begin_scan.ensures.ok.1 (reply.Read _ _) c.in-Read.is
-
-pub unreachable-requires-in-Changed : goal.unreachable-requires-in-Changed
-unreachable-requires-in-Changed c =
-    let some : length c.args.which.now ≡ 0 → ⊥ = search rules in
-    let sizes : c.me.inside.core.sizes ≡ c.args.self.now.about.sizes = search rules in
-    let few : length c.args.which.now ≤ c.me.inside.core.sizes.m = subst (λ (z : Layout). length c.args.which.now ≤ z.m) (sym sizes) c.requires.lengths.1 in
-    scan_ended _ _ _ c.me.invariant _ _ c.finish.ensures.table _ c.me.view_is _ _ _ _ c.finish.ensures.ended _ few some c.in_ok-begin_scan.ensures.ok.0 c.in_ok-begin_scan.ensures.ok.1 (reply.Changed _) c.in-Changed.is
+    let ok = c.in_ok-begin_scan.ensures.ok in
+    let told = scan_ended _ _ _ c.me.invariant _ _ c.finish.ensures.table _ c.me.view_is _ _ _ _ c.finish.ensures.ended _ few some ok.0 ok.1 in
+    elim c.in-Read.is [ inl w ↦ told (reply.Read _ _) w.2 | inr w ↦ told (reply.Changed _) w.1 ]
 
 pub returns-clause-ok : goal.returns-clause-ok
 returns-clause-ok c =
     let some : length c.args.which.now ≡ 0 → ⊥ = search rules in
     let sizes : c.me.inside.core.sizes ≡ c.args.self.now.about.sizes = search rules in
     let few : length c.args.which.now ≤ c.me.inside.core.sizes.m = subst (λ (z : Layout). length c.args.which.now ≤ z.m) (sym sizes) c.requires.lengths.1 in
+    let ok = c.in_ok-begin_scan.ensures.ok in
+    let told = scan_ended _ _ _ c.me.invariant _ _ c.finish.ensures.table _ c.me.view_is _ _ _ _ c.finish.ensures.ended _ few some ok.0 ok.1 in
+    let idle = c.finish.ensures.ended.idle in
     elim c.match-finish.branch [
-      | in-Scanned w ↦ ok_ok _ _ _ w.result-is (scan_copied _ _ _ _ _ _ _ _ some c.finish.ensures.ended.idle (w.into-is ∙ w.copy_values.ensures) (scan_ended _ _ _ c.me.invariant _ _ c.finish.ensures.table _ c.me.view_is _ _ _ _ c.finish.ensures.ended _ few some c.in_ok-begin_scan.ensures.ok.0 c.in_ok-begin_scan.ensures.ok.1 (reply.Scanned _ _) w.in-Scanned.is))
+      | in-Scanned w ↦ ok_ok _ _ _ w.result-is (scan_copied _ _ _ _ _ _ _ _ some idle (w.into-is ∙ w.copy_values.ensures) (told (reply.Scanned _ _) w.in-Scanned.is))
       | in-Refused w ↦ err_ok _ _ _ w.result-is
     ]
 
@@ -73,9 +68,18 @@ returns-clause-err c =
     let some : length c.args.which.now ≡ 0 → ⊥ = search rules in
     let sizes : c.me.inside.core.sizes ≡ c.args.self.now.about.sizes = search rules in
     let few : length c.args.which.now ≤ c.me.inside.core.sizes.m = subst (λ (z : Layout). length c.args.which.now ≤ z.m) (sym sizes) c.requires.lengths.1 in
+    let ok = c.in_ok-begin_scan.ensures.ok in
+    let told = scan_ended _ _ _ c.me.invariant _ _ c.finish.ensures.table _ c.me.view_is _ _ _ _ c.finish.ensures.ended _ few some ok.0 ok.1 in
     elim c.match-finish.branch [
       | in-Scanned w ↦ ok_err _ _ _ w.result-is
-      | in-Refused w ↦ err_err _ _ _ w.result-is (inr (scan_ended _ _ _ c.me.invariant _ _ c.finish.ensures.table _ c.me.view_is _ _ _ _ c.finish.ensures.ended _ few some c.in_ok-begin_scan.ensures.ok.0 c.in_ok-begin_scan.ensures.ok.1 (reply.Refused _) w.in-Refused.is), w.into-is)
+      | in-Refused w ↦ err_err _ _ _ w.result-is (inr (told (reply.Refused _) w.in-Refused.is))
+    ]
+
+pub returns-clause-unchanged : goal.returns-clause-unchanged
+returns-clause-unchanged c =
+    elim c.match-finish.branch [
+      | in-Scanned w ↦ ok_err _ _ _ w.result-is
+      | in-Refused w ↦ err_err _ _ _ w.result-is w.into-is
     ]
 
 pub returns-clause-same : goal.returns-clause-same

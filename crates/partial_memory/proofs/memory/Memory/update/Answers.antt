@@ -1,4 +1,4 @@
-use Rattle.std.proofs.Common.{rules, refl, inr}
+use Rattle.std.proofs.Common.{rules, refl, inl, inr}
 use Rattle.partial_model.specs.declared.call.Call.TheVariants as call
 use Rattle.partial_machine.specs.declared.stage.Reply.TheVariants as reply
 use Rattle.partial_memory.specs.Rule.{one_in}
@@ -9,32 +9,26 @@ use Rattle.partial_memory.proofs.memory.Memory.update.Goals.{in-Applied, in-Lost
 
 pub finish-requires : goal.finish-requires
 finish-requires c =
-    let begins = call_begins _ _ _ c.me.invariant c.me.inside.badge.table_id _ (call.Update c.args.component c.args.value) tt c.in_ok-begin_update.ensures.ok.0 refl c.in_ok-begin_update.ensures.ok.1 in
-    record { table = search rules; one = c.me.invariant.one; own = search rules; begins = begins.begins }
+    let ok = c.in_ok-begin_update.ensures.ok in
+    let begins = call_begins _ _ _ c.me.invariant c.me.inside.badge.table_id _ (call.Update c.args.component c.args.value) tt ok.0 refl ok.1 in
+    record { table = search rules; words = search rules; one = c.me.invariant.one; own = search rules; begins = begins.begins }
 
 pub invariant_of-me-2 : goal.invariant_of-me-2
 invariant_of-me-2 c =
-    let begins = call_begins _ _ _ c.me.invariant c.me.inside.badge.table_id _ (call.Update c.args.component c.args.value) tt c.in_ok-begin_update.ensures.ok.0 refl c.in_ok-begin_update.ensures.ok.1 in
+    let ok = c.in_ok-begin_update.ensures.ok in
+    let begins = call_begins _ _ _ c.me.invariant c.me.inside.badge.table_id _ (call.Update c.args.component c.args.value) tt ok.0 refl ok.1 in
     rests _ _ _ _ _ _ c.finish.ensures.one begins.begins c.finish.ensures.ended c.me.invariant.number
 
 pub unreachable-requires : goal.unreachable-requires
 unreachable-requires c =
-    let told = update_ended _ _ _ c.me.invariant _ _ c.finish.ensures.table _ c.me.view_is _ _ _ _ c.finish.ensures.ended c.args.component c.args.value c.in_ok-begin_update.ensures.ok.0 c.in_ok-begin_update.ensures.ok.1 in
-    told (reply.Scanned _ _) c.in-Scanned.is
-
-pub unreachable-requires-in-Read : goal.unreachable-requires-in-Read
-unreachable-requires-in-Read c =
-    let told = update_ended _ _ _ c.me.invariant _ _ c.finish.ensures.table _ c.me.view_is _ _ _ _ c.finish.ensures.ended c.args.component c.args.value c.in_ok-begin_update.ensures.ok.0 c.in_ok-begin_update.ensures.ok.1 in
-    told (reply.Read _ _) c.in-Read.is
-
-pub unreachable-requires-in-Changed : goal.unreachable-requires-in-Changed
-unreachable-requires-in-Changed c =
-    let told = update_ended _ _ _ c.me.invariant _ _ c.finish.ensures.table _ c.me.view_is _ _ _ _ c.finish.ensures.ended c.args.component c.args.value c.in_ok-begin_update.ensures.ok.0 c.in_ok-begin_update.ensures.ok.1 in
-    told (reply.Changed _) c.in-Changed.is
+    let ok = c.in_ok-begin_update.ensures.ok in
+    let told = update_ended _ _ _ c.me.invariant _ _ c.finish.ensures.table _ c.me.view_is _ _ _ _ c.finish.ensures.ended c.args.component c.args.value ok.0 ok.1 in
+    elim c.in-Scanned.is [ inl w ↦ told (reply.Scanned _ _) w.2 | inr w ↦ elim w [ inl v ↦ told (reply.Read _ _) v.2 | inr v ↦ told (reply.Changed _) v.1 ] ]
 
 pub returns-clause-ok : goal.returns-clause-ok
 returns-clause-ok c =
-    let told = update_ended _ _ _ c.me.invariant _ _ c.finish.ensures.table _ c.me.view_is _ _ _ _ c.finish.ensures.ended c.args.component c.args.value c.in_ok-begin_update.ensures.ok.0 c.in_ok-begin_update.ensures.ok.1 in
+    let ok = c.in_ok-begin_update.ensures.ok in
+    let told = update_ended _ _ _ c.me.invariant _ _ c.finish.ensures.table _ c.me.view_is _ _ _ _ c.finish.ensures.ended c.args.component c.args.value ok.0 ok.1 in
     elim c.match-finish.branch [
       | in-Applied w ↦ ok_ok _ _ _ w.result-is (told (reply.Applied _) w.in-Applied.is)
       | in-Lost w ↦ ok_ok _ _ _ w.result-is (told (reply.Lost _) w.in-Lost.is)
@@ -43,7 +37,8 @@ returns-clause-ok c =
 
 pub returns-clause-err : goal.returns-clause-err
 returns-clause-err c =
-    let told = update_ended _ _ _ c.me.invariant _ _ c.finish.ensures.table _ c.me.view_is _ _ _ _ c.finish.ensures.ended c.args.component c.args.value c.in_ok-begin_update.ensures.ok.0 c.in_ok-begin_update.ensures.ok.1 in
+    let ok = c.in_ok-begin_update.ensures.ok in
+    let told = update_ended _ _ _ c.me.invariant _ _ c.finish.ensures.table _ c.me.view_is _ _ _ _ c.finish.ensures.ended c.args.component c.args.value ok.0 ok.1 in
     elim c.match-finish.branch [
       | in-Applied w ↦ ok_err _ _ _ w.result-is
       | in-Lost w ↦ ok_err _ _ _ w.result-is
