@@ -61,6 +61,55 @@ for plan in "$top"/plans/*.plan; do
     case_of "$name checked" 0 check "$plan"
 done
 
+# Every plan, run: its report is judged. Where a plan has one port, and all of its calls end in the replay,
+# there is one report: the answers of the replay without their places.
+one_report=0
+for plan in "$top"/plans/*.plan; do
+    name=$(basename "$plan" .plan)
+    if "$program" run "$plan" >"$room/report" 2>"$room/given-err" && [ ! -s "$room/given-err" ] &&
+        "$top/tests/judge.py" "$plan" <"$room/report"; then
+        passed=$((passed + 1))
+    else
+        failed=$((failed + 1))
+        echo "failed: the report of $name"
+        cat "$room/report" "$room/given-err"
+    fi
+    calls=$(sed -n 's/^port //p' "$plan" | tr ';' '\n' | grep -c .)
+    [ "$(grep -c '^port' "$plan")" -eq 1 ] && [ "$(grep -c '^call ' "$top/plans/$name.expected")" -eq "$calls" ] || continue
+    grep -q ' unfinished ' "$top/plans/$name.expected" && continue
+    one_report=$((one_report + 1))
+    expect "" "" ""
+    sed '/^applied /d; /^total /d; s/ place [0-9]*//; s/ prefix [0-9]*//; s/ steps [0-9]* span .*//' "$top/plans/$name.expected" >"$room/out"
+    case_of "$name run" 0 run "$plan"
+done
+if [ "$one_report" -lt 5 ]; then
+    failed=$((failed + 1))
+    echo "failed: only $one_report plans with one report"
+fi
+
+# Random plans of 2 to 64 ports, each run many times on all cores.
+said=$("$top/tests/runs.py" "$program")
+echo "$said"
+if [[ $said =~ ([0-9]+)\ passed,\ ([0-9]+)\ failed$ ]]; then
+    passed=$((passed + BASH_REMATCH[1]))
+    failed=$((failed + BASH_REMATCH[2]))
+else
+    failed=$((failed + 1))
+fi
+
+# 64 ports where there is no room for 64 threads: nothing is written, once the started ones have ended.
+{
+    printf 'sizes 2 64 64 4096\ninitial 10 20\n'
+    printf 'port read 0; update 1 %d\n' {1..64}
+    printf 'steps\n'
+} >"$room/threads.plan"
+expect "" "" $'partial: refused 6: out of memory\n'
+if (failed=0 && ulimit -v 100000 && case_of too_many_threads 1 run "$room/threads.plan" && [ "$failed" -eq 0 ]); then
+    passed=$((passed + 1))
+else
+    failed=$((failed + 1))
+fi
+
 # The rows of the tests of partial_cmd stand in plans/ with the same texts, each of them.
 rows=$(sed 's/^ *b"/b"/' "$top/crates/partial_cmd/src/tests/rows.rt")
 whole() {
@@ -112,6 +161,16 @@ case_of check_refuses_a_plan 1 check
 expect "" "" $'partial: refused 11: read fault\n'
 case_of check_of_missing_file 1 check "$room/missing"
 
+# So does a run, which doesn't use the turns.
+expect "$head"$'port update 0 7; read 0\nsteps\n' $'call 0 0 applied 24\ncall 0 1 read 7 24\nvalues 7 20\n' ""
+case_of run_from_standard_input 0 run
+expect "$head"$'port read 2; scan\nsteps 0*1\n' $'call 0 0 refused 7\ncall 0 1 scanned collects 0 borrowed -\nvalues 10 20\n' ""
+case_of run_uses_no_turns 0 run
+expect "$head" "" $'partial: refused 10: line 3: end\n'
+case_of run_refuses_a_plan 1 run
+expect "" "" $'partial: refused 11: read fault\n'
+case_of run_of_missing_file 1 run "$room/missing"
+
 # A plan that is longer than a plan may be: 4,194,305 bytes.
 expect "" "" $'partial: refused 10: line 0: size\n'
 head -c 4194305 /dev/zero >"$room/in"
@@ -146,19 +205,30 @@ case_of unknown_option 2 replay --fast
 case_of help 2 --help
 case_of help_of_replay 2 replay --help
 case_of too_many_words_to_check 2 check one two
+case_of too_many_words_to_run 2 run one two
+case_of help_of_run 2 run --help
 case_of help_as_word 2 help
 
 # A writer that fails.
-if [ -w /dev/full ]; then
-    printf '%s' "$head$tail" >"$room/in"
-    "$program" replay <"$room/in" >/dev/full 2>"$room/given-err"
-    if [ $? -eq 1 ] && [ "$(cat "$room/given-err")" = "partial: refused 12: write fault" ]; then
+# write_fault NAME STATUS: the program must have come to this status, with the line of a write fault.
+write_fault() {
+    if [ "$2" -eq 1 ] && [ "$(cat "$room/given-err")" = "partial: refused 12: write fault" ]; then
         passed=$((passed + 1))
     else
         failed=$((failed + 1))
-        echo "failed: full_device"
+        echo "failed: $1 (status $2)"
     fi
-fi
+}
+printf '%s' "$head$tail" >"$room/in"
+for verb in replay run; do
+    if [ -w /dev/full ]; then
+        "$program" "$verb" <"$room/in" >/dev/full 2>"$room/given-err"
+        write_fault "full_device of $verb" "$?"
+    fi
+    # Nobody reads the pipe any more when the program writes.
+    { sleep 0.3; "$program" "$verb" <"$room/in" 2>"$room/given-err"; echo "$?" >"$room/status"; } | true
+    write_fault "closed_pipe of $verb" "$(cat "$room/status")"
+done
 
 # ./partial from another folder, in a copy of the sources: first with no proved program, then with one.
 copy=$room/copy
