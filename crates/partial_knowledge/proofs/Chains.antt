@@ -3,6 +3,7 @@ use Rattle.std.proofs.Common.{ℕ, zero, suc, ◌≡◌, ◌≢◌, ◌+◌, ◌
 use Rattle.std.specs.List.{AllByRecursion}
 use Rattle.std.specs.Option.{option_map_or}
 use Rattle.std.proofs.lemmas.Bool.{cases_lt, eq-eqb}
+use Rattle.partial_model.proofs.AllLemmas.{all_back}
 use Rattle.partial_model.specs.declared.history.Applied.{Applied}
 use Rattle.partial_model.specs.declared.history.Opening.{Opening}
 use Rattle.partial_model.specs.History.{IsHistory, initial_stamp, stamp_of, last_entry}
@@ -101,11 +102,6 @@ begun_within o log low n stamp history begun (inr entry) =
 -- where an entry for its component stands before it, an entry's record was begun since that one
 pub begun_since : (o : Opening) (words : List ℕ) (log : List Applied) (low k : ℕ) (e : Applied) → Agrees o words log → e.component < length o.values → slice_get log k ≡ Some e → HasEntry log low k e.component → IsBegunSince log low (prev_of words e.stamp)
 begun_since o words log low k e agrees below stands has = subst (IsBegunSince log low) (sym (prev_before_entry o words log k e agrees below stands)) (entry_since o log e.component low k has)
-
--- what holds of two lists holds of the second
-pub all_back : {A : Type 0} (P : A → Type 0) (xs ys : List A) → AllByRecursion P (xs ++ ys) → AllByRecursion P ys
-all_back P [] ys w = w
-all_back P (x ∷ xs) ys w = all_back P xs ys w.1
 
 -- the blocks of the entries are apart from those behind them
 entry_blocks : (f : Applied → Block) (log : List Applied) (rest : List Block) → EachTwo AreApart (map f log ++ rest) → AllByRecursion (λ e. AllByRecursion (AreApart (f e)) rest) log

@@ -37,7 +37,8 @@ noted_update_if (conditional.Changed by) = answer.Changed by
 -- an answered call is noted once, with its answer; a refused one, a scan of no position and a meeting note nothing
 pub record CallsNoteOnce : Type 0 where
   pub update : (p q : PortView) (j v : ℕ) (r : Updated) → Updates p j v r q → NotesCall p (call.Update j v) (noted_update r) q
-  pub update_if : (p q : PortView) (j x v : ℕ) (r : UpdatedIf) → UpdatesIf p j x v r q → NotesCall p (call.UpdateIf j x v) (noted_update_if r) q
+  pub update_if : (p q : PortView) (j x v : ℕ) (r : UpdatedIf) → UpdatesIf p j x v r q
+      → NotesCall p (call.UpdateIf j x v) (noted_update_if r) q
   pub read : (p q : PortView) (j value stamp : ℕ) → Reads p j value stamp q → NotesCall p (call.Read j) (answer.Read value stamp) q
   pub scan : (p q : PortView) (j : ℕ) (js values : List ℕ) (s : Scanned) → Scans p (j ∷ js) values s q
       → NotesCall p (call.Scan (j ∷ js)) (answer.Scanned values s.collects s.borrowed) q

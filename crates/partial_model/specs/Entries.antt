@@ -40,4 +40,5 @@ OnlyRises o h j = (k : ℕ) (e : Applied) → slice_get h k ≡ Some e → e.com
 -- the value of a component that only rises never falls
 abbrev pub RisingNeverFalls : Type 0
 RisingNeverFalls =
-    (o : Opening) (h : List Applied) (j m n : ℕ) → OnlyRises o h j → m ≤ n → n ≤ length h → value_of o (take m h) j ≤ value_of o (take n h) j
+    (o : Opening) (h : List Applied) (j m n : ℕ) → OnlyRises o h j → m ≤ n → n ≤ length h
+    → value_of o (take m h) j ≤ value_of o (take n h) j
