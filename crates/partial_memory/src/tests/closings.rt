@@ -54,13 +54,16 @@ fn has_in_order(chain: &[Link], stamps: &[u64]) -> bool {
 }
 
 /// The chain of a component has what the workers applied, each update once and in its caller's order,
-/// behind the initial record. Its first link has the component's value.
+/// behind the initial record. Its first link has the component's value, which each worker's port has read
+/// with its stamp once all had ended.
 pub fn judge_chains(rt: &impl Abort, closed: &Closed, all: &[Told]) {
     assert_eq!(rt; closed.values.len(), 2);
     assert_eq!(rt; closed.chains.len(), 2);
     for (component, chain) in (0u32..).zip(closed.chains.iter()) {
         let mut applied = 0usize;
         for told in all {
+            let newest = chain.first().map(|link| (link.value, link.stamp));
+            assert_eq!(rt; told.seen.get(component as usize), Some(&newest));
             let stamps = told.to_component(component);
             assert!(rt;
                 has_in_order(chain.as_slice(), stamps),

@@ -4,7 +4,7 @@ ghost use Rattle.std.specs.Prelude.{◌≡◌, ◌<◌, length};
 
 use super::closings::{closed, judge_chains};
 use super::opened;
-use super::workers::{Job, Told, hire, run};
+use super::workers::{Job, Told, hire, look, run};
 use crate::Closed;
 use partial_model::Refused;
 use partial_words::Sizes;
@@ -32,6 +32,7 @@ fn worked<R: Threads + Sync + Abort>(
     let (memory, ports) = opened(alloc, sizes, &[0, 0], ports)?;
     let mut workers = hire(alloc, &memory, ports, jobs)?;
     run(rt, &memory, workers.as_mut_slice());
+    look(rt, &memory, workers.as_mut_slice());
     let (closed, all) = closed(alloc, memory, workers)?;
     judge(rt, alloc, &all)?;
     judge_chains(rt, &closed, &all);

@@ -45,6 +45,8 @@ pub struct Told {
     /// Whether its port is marked for the pool and for the slots in the end.
     pub pool_spent: bool,
     pub slots_spent: bool,
+    /// What its port reads of components 0 and 1 once all workers have ended: values and stamps.
+    pub seen: [Option<(u64, u64)>; 2],
     /// Whether there was memory for all of this.
     pub ended: Result<(), AllocError>,
 }
@@ -62,6 +64,7 @@ impl Told {
             fell: false,
             pool_spent: false,
             slots_spent: false,
+            seen: [None, None],
             ended: Ok(()),
         }
     }
@@ -243,6 +246,23 @@ impl Worker {
         self.told.pool_spent = self.port.pool_spent();
         self.told.slots_spent = self.port.slots_spent();
     }
+
+    fn look(&mut self, memory: &Memory)
+        requires { IsOf memory.now self.old.port × IfSome self.old.other (IsOf memory.now) }
+        ensures { IsOf memory.now self.new.port × IfSome self.new.other (IsOf memory.now) }
+    {
+        let first = memory.read(&mut self.port, 0).ok();
+        let second = memory.read(&mut self.port, 1).ok();
+        self.told.seen = [first, second];
+    }
+}
+
+/// Lets the port of each worker read both components.
+pub fn look<R: Threads + Sync>(rt: &R, memory: &Memory, workers: &mut [Worker])
+    requires { All (λ w. IsOf memory.now w.port × IfSome w.other (IsOf memory.now)) workers.old }
+    ensures { All (λ w. IsOf memory.now w.port × IfSome w.other (IsOf memory.now)) workers.new }
+{
+    thread::for_each_mut(rt, workers, 1, &|_, worker| worker.look(memory));
 }
 
 /// Lets the workers work, each in a thread of its own.

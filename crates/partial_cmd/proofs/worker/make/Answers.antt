@@ -15,7 +15,7 @@ returns-in-Ok-clause-made c =
 pub returns-in-Scan-clause-made : goal.returns-in-Scan-clause-made
 returns-in-Scan-clause-made c =
     let same : c.args.call.now ≡ call.Scan c.as_slice.result.now = search rules in
-    refused_at _ _ _ _ _ _ c.requires.own same c.in-Err-scan.ensures.err.0
+    refused_at _ _ _ _ _ _ c.requires.own same c.in-Err-scan.ensures.err
 
 pub returns-in-Read-clause-made : goal.returns-in-Read-clause-made
 returns-in-Read-clause-made c = refused_at _ _ _ _ _ _ c.requires.own c.in-Read.is (inl c.in-Err-read.ensures.err)

@@ -26,4 +26,4 @@ close-requires-clause-rest g c =
 pub returns : goal.returns
 returns g c =
     let made = c.in_ok-memory.ensures in
-    report_of c.in_ok-memory.memory c.args.plan.now c.in_ok-ports.field-0 c.pop.new.self.items c.in-Some.last c.in_ok-closed.closed (opening_is _ _ _ (made.about.1 ∙ c.initial.ensures.value) (made.about.2 ∙ ap pool_base c.sizes.ensures.value)) (search rules) (made.about.0 ∙ c.sizes.ensures.value) c.ports-count.ensures.lawful c.in_ok-ports.ensures.1 (search rules) c.in_ok-closed.ensures
+    report_of c.in_ok-memory.memory c.args.plan.now c.in_ok-ports.field-0 c.pop.new.self.items c.in-Some.last c.in_ok-closed.closed (opening_is _ _ _ (made.values ∙ c.initial.ensures.value) (made.first ∙ ap pool_base c.sizes.ensures.value)) (search rules) (made.about.0 ∙ c.sizes.ensures.value) c.ports-count.ensures.lawful c.in_ok-ports.ensures.1 (search rules) c.in_ok-closed.ensures

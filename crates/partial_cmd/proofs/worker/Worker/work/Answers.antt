@@ -20,7 +20,7 @@ loop-job-preserved g c =
       finite = tt;
       own = search rules;
       number = search rules;
-      made = subst (λ (l : List Answer). AreMade m (calls_of (c.loop-job.yielded ++ job ∷ [])) l q) (sym c.push_reserved.ensures.items) told;
+      made = subst (λ (l : List Answer). AreMade m (calls_of (c.loop-job.yielded ++ job ∷ [])) l q) (sym {A = List Answer} c.push_reserved.ensures.items) told;
       count = ap length c.push_reserved.ensures.items ∙ length_push c.loop-job.answers.items c.make-answer.result ∙ ap (λ k. k + 1) c.loop-job.invariant.count ∙ sym (length_push c.loop-job.yielded job);
       room = search rules;
     }
