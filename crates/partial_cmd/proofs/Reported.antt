@@ -18,6 +18,7 @@ use Rattle.partial_model.proofs.AllLemmas.{all_append, all_back, all_front}
 use Rattle.partial_model.proofs.WalkLaws.{true_within}
 use Rattle.partial_words.specs.Layout.{Layout}
 use Rattle.partial_text.specs.PlanText.{IsCall, IsPlan, PlanView}
+use Rattle.partial_text.specs.declared.report.RunReport.{RunReport}
 use Rattle.partial_replay.proofs.Plans.{are_plans}
 use Rattle.partial_memory.specs.Ports.{IsOf, MemoryView, PortView, new_ports}
 use Rattle.partial_memory.specs.Rule.{newcomers}
@@ -25,7 +26,7 @@ use Rattle.partial_memory.specs.Closing.{AreValues, Closes, IsPortOf}
 use Rattle.partial_memory.specs.declared.closed.Closed.{Closed}
 use Rattle.partial_cmd.specs.declared.worker.Worked.{Worked}
 use Rattle.partial_cmd.specs.declared.workers.Results.{Results}
-use Rattle.partial_cmd.specs.Reports.{AreAnswered, AreEach, IsReportOf, opening_of}
+use Rattle.partial_cmd.specs.Reports.{AreAnswered, AreEach, IsReportFrom, IsReportOf, opening_of}
 use Rattle.partial_cmd.specs.Work.{Fills, HaveCome, IsDone, IsNew, IsUnnoted, WasEmpty, WasRefused}
 use Rattle.partial_cmd.proofs.Made.{unnoted_seen}
 use Rattle.partial_cmd.proofs.Pairs.{each_length}
@@ -110,21 +111,25 @@ last_own m plan r rest last w is =
     let one = all_back (IsOf m) rest (last ∷ []) all in
     (all_front (IsOf m) rest (last ∷ []) all, one.0)
 
-pub report_of : (m : MemoryView) (p : PlanView) (r : Results) (rest : List PortView) (last : PortView) (closed : Closed) → m.about.opening ≡ opening_of p → m.about.ports ≡ length p.ports → m.about.sizes ≡ p.sizes → IsPlan p → HaveCome m p.ports r → r.ports.items ≡ rest ++ last ∷ [] → Closes m (last ∷ rest) closed → IsReportOf p (record { answers = r.answers; values = closed.values })
-report_of m p r rest last closed opening ports sizes lawful come is w =
-    let o = opening_of p in
+pub reported : (m : MemoryView) (p : PlanView) (r : Results) (rest : List PortView) (last : PortView) (closed : Closed) → length m.about.opening.values ≡ p.sizes.m → m.about.ports ≡ length p.ports → m.about.sizes ≡ p.sizes → HaveCome m p.ports r → r.ports.items ≡ rest ++ last ∷ [] → Closes m (last ∷ rest) closed → IsReportFrom m.about.opening p (record { answers = r.answers; values = closed.values })
+reported m p r rest last closed values ports sizes come is w =
+    let o = m.about.opening in
     let all : AllByRecursion (IsPortOf w.log) (rest ++ last ∷ []) = all_append (IsPortOf w.log) rest (last ∷ []) w.each.1 (w.each.0, tt) in
     let told : AllByRecursion (IsPortOf w.log) (map (λ (v : Worked). v.port) come.done) = subst (AllByRecursion (IsPortOf w.log)) (sym (come.ports ∙ is)) all in
-    let many : m.about.sizes.m ≡ length o.values = ap (λ (z : Layout). z.m) sizes ∙ sym lawful.initial in
+    let many : m.about.sizes.m ≡ length o.values = ap (λ (z : Layout). z.m) sizes ∙ sym values in
     record {
       log = w.log;
-      history = subst (λ (x : Opening). IsHistory x w.log) opening w.history;
-      ports = subst (AreEach (AreAnswered o w.log) 0 p.ports) come.answers (each_answered m o w.log 0 p.ports come.done opening many come.each told);
+      history = w.history;
+      ports = subst (AreEach (AreAnswered o w.log) 0 p.ports) come.answers (each_answered m o w.log 0 p.ports come.done refl many come.each told);
       others = subst (λ n. AllByRecursion (λ (e : Applied). e.port < n) w.log) ports w.others;
-      values = subst (λ (x : Opening). AreValues x w.log (length x.values) closed.values.items) opening w.values;
+      values = w.values;
     }
 
 -- ---- the ports of a memory that was opened for a plan
+
+-- a report over the opening's values is one over the same by another name
+pub reported_of : (o : Opening) (p : PlanView) (report : RunReport) → o ≡ opening_of p → IsReportFrom o p report → IsReportOf p report
+reported_of o p report is w = subst (λ (x : Opening). IsReportFrom x p report) is w
 
 pub opening_is : (o : Opening) (values : List ℕ) (first : ℕ) → o.values ≡ values → o.first ≡ first → o ≡ record { values = values; first = first }
 opening_is o values first a b = ap (λ (l : List ℕ). record { values = l; first = o.first }) a ∙ ap (λ n. record { values = values; first = n }) b

@@ -24,6 +24,7 @@ use Rattle.partial_cmd.specs.declared.command.Verdict.TheVariants as verdict
 abbrev pub code_of : Fault → ℕ
 code_of (fault.Plan e) = text.code_of e
 code_of (fault.Replay e) = 6
+code_of fault.TooSmall = 13
 code_of (fault.Run e) = 6
 code_of (fault.Outcome e) = text.outcome_code_of e
 
@@ -50,6 +51,7 @@ abbrev pub IsJudged : Result Verdict Fault → Result PlanView PlanError → Typ
 IsJudged (Ok v) judged = IsRead judged
 IsJudged (Err (fault.Plan e)) judged = text.Fails e judged
 IsJudged (Err (fault.Replay e)) judged = IsRead judged
+IsJudged (Err fault.TooSmall) judged = ⊥
 IsJudged (Err (fault.Run e)) judged = IsRead judged
 IsJudged (Err (fault.Outcome e)) judged = IsRead judged
 
@@ -89,7 +91,8 @@ WritesPart verb text before after = (answer : List ℕ) × (n : ℕ) × IsAnswer
 abbrev pub PlansHaveOneAnswer : Type 0
 PlansHaveOneAnswer = (v : Verb) (bytes a b : List ℕ) → v ≢ verb.Run → IsAnswer v (Some bytes) a → IsAnswer v (Some bytes) b → a ≡ b
 
--- the fault isn't one of reading a plan
+-- the fault isn't one of the plans
 abbrev pub IsBehindReading : Fault → Type 0
 IsBehindReading (fault.Plan e) = ⊥
+IsBehindReading fault.TooSmall = ⊥
 IsBehindReading _ = Unit {0}

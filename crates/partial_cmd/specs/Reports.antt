@@ -35,11 +35,15 @@ pub record AreAnswered (o : Opening) (log : List Applied) (port : ℕ) (called :
   pub once : EachOnce log port notes
 
 -- The report has one list for each port of the plan, with one answer for each of its calls, in order. There is one history over the
--- plan's initial values, of distinct stamps and with entries by the plan's ports alone, in which all of them are right, and whose values
--- are the report's.
-pub record IsReportOf (p : PlanView) (report : RunReport) : Type 0 where
+-- opening's values, of distinct stamps and with entries by the plan's ports alone, in which all of them are right, and whose values are
+-- the report's.
+pub record IsReportFrom (o : Opening) (p : PlanView) (report : RunReport) : Type 0 where
   pub log : List Applied
-  pub history : IsHistory (opening_of p) log
-  pub ports : AreEach (AreAnswered (opening_of p) log) 0 p.ports report.answers.items
+  pub history : IsHistory o log
+  pub ports : AreEach (AreAnswered o log) 0 p.ports report.answers.items
   pub others : AllByRecursion (λ e. e.port < length p.ports) log
-  pub values : AreValues (opening_of p) log (length p.initial) report.values.items
+  pub values : AreValues o log (length o.values) report.values.items
+
+-- the same over the plan's initial values
+abbrev pub IsReportOf : PlanView → RunReport → Type 0
+IsReportOf p report = IsReportFrom (opening_of p) p report

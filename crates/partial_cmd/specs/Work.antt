@@ -10,12 +10,15 @@ use Rattle.partial_model.specs.declared.call.Answer.TheVariants as answer
 use Rattle.partial_model.specs.declared.call.Note.TheVariants as note
 use Rattle.partial_model.specs.declared.call.Refused.{Refused}
 use Rattle.partial_model.specs.Notes.{Noted, MayBeRefused, seen_after, seen_by}
-use Rattle.partial_text.specs.PlanText.{IsCall}
-use Rattle.partial_memory.specs.Ports.{IsOf, MemoryView, PortView}
+use Rattle.partial_text.specs.PlanText.{IsCall, PlanView}
+use Rattle.partial_text.specs.declared.report.RunReport.{RunReport}
+use Rattle.partial_memory.specs.Ports.{IsOf, MemoryView, PortView, new_ports}
+use Rattle.partial_memory.specs.Rule.{newcomers}
 use Rattle.partial_cmd.specs.declared.worker.Job.{Job}
 use Rattle.partial_cmd.specs.declared.worker.Worked.{Worked}
 use Rattle.partial_cmd.specs.declared.worker.Worker.{Worker}
 use Rattle.partial_cmd.specs.declared.workers.Works.{Works}
+use Rattle.partial_cmd.specs.declared.workers.Ran.{Ran}
 use Rattle.partial_cmd.specs.declared.workers.Results.{Results}
 use Rattle.partial_cmd.specs.Reports.{AreEach}
 
@@ -106,3 +109,14 @@ pub record HaveCome (m : MemoryView) (plan : List (List Call)) (r : Results) : T
   pub each : AreEach (IsDone m) 0 plan done
   pub ports : map (λ w. w.port) done ≡ r.ports.items
   pub answers : map (λ w. w.answers) done ≡ r.answers.items
+
+-- the memory was opened for the plan: with its sizes, and with these ports, one for each of the plan's
+pub record IsOpenedFor (m : MemoryView) (p : PlanView) (fresh : List PortView) : Type 0 where
+  pub sizes : m.about.sizes ≡ p.sizes
+  pub values : length m.about.opening.values ≡ p.sizes.m
+  pub count : m.about.ports ≡ length p.ports
+  pub ports : fresh ≡ new_ports m.table (newcomers m.about 0 (length p.ports))
+
+-- the report of the workers
+abbrev pub report_of : Ran → RunReport
+report_of ran = record { answers = ran.answers; values = ran.closed.values }

@@ -45,8 +45,9 @@ pub enum Verdict {
 /// # Errors
 ///
 /// The first fault of the plan's text, where it isn't the text of a plan; code 6 where a growth was
-/// refused or a worker couldn't be started, and then no thread is left running; code 11 where the reader failed, and code 12 where the writer failed or took 0 bytes.
-/// Nothing is written but after code 12, and then a part of the text from its front.
+/// refused or a worker couldn't be started, and then no thread is left running; code 11 where the reader
+/// failed, and code 12 where the writer failed or took 0 bytes. Nothing is written but after code 12, and
+/// then a part of the text from its front.
 pub fn execute<H: Threads + Wait + Sync, R: Read, W: Write>(
     rt: &H,
     alloc: Global,

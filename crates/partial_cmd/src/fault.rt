@@ -15,6 +15,9 @@ pub enum Fault {
     /// The plan wasn't replayed.
     #[error("{0}")]
     Replay(ReplayError),
+    /// The second plan has fewer components than the first one.
+    #[error("fewer components than before")]
+    TooSmall,
     /// The plan wasn't run.
     #[error("{0}")]
     Run(RunError),
@@ -27,13 +30,14 @@ impl Fault {
     ghost use Rattle.partial_cmd.specs.Execution.{code_of, line_of};
 
     /// The number of the refusal: 1 to 4 for the sizes, 5 for the ports, 6 for memory, 10 for a line of
-    /// the plan, 11 for the reader, 12 for the writer.
+    /// the plan, 11 for the reader, 12 for the writer, 13 for fewer components in a second plan.
     pub fn code(&self) -> u8
         ensures { result ≡ code_of self.now }
     {
         match self {
             Fault::Plan(error) => error.code(),
             Fault::Replay(error) => error.code(),
+            Fault::TooSmall => 13,
             Fault::Run(error) => error.code(),
             Fault::Outcome(error) => error.code(),
         }

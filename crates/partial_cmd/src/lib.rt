@@ -14,4 +14,5 @@ pub use command::{Verb, Verdict, execute};
 pub use fault::Fault;
 pub use gate::{Gate, NoGate};
 pub use law::plans_have_one_answer;
+pub use partial_text::RunReport;
 pub use workers::{RunError, run_workers};

@@ -5,12 +5,12 @@ ghost use Rattle.std.specs.Vec.{vec_capacity};
 ghost use Rattle.partial_model.specs.declared.call.Call.{Call as CallType};
 ghost use Rattle.partial_text.specs.PlanText.{IsCall};
 ghost use Rattle.partial_memory.specs.Ports.{IsOf, MemoryView};
-ghost use Rattle.partial_cmd.specs.Reports.{AreEach, IsReportOf};
-ghost use Rattle.partial_cmd.specs.Work.{HasRoom, HaveCome, HaveRooms, IsDone, IsHired, IsNew, IsReady, IsStarted, calls_of};
+ghost use Rattle.partial_cmd.specs.Reports.{AreEach, IsReportFrom, IsReportOf};
+ghost use Rattle.partial_cmd.specs.Work.{HasRoom, HaveCome, HaveRooms, IsDone, IsHired, IsNew, IsOpenedFor, IsReady, IsStarted, calls_of, report_of};
 
 use crate::gate::Gate;
 use crate::worker::{Job, Worked, Worker};
-use partial_memory::{CloseError, Memory, OpenError, Port};
+use partial_memory::{CloseError, Closed, Memory, OpenError, Port};
 use partial_model::{Answer, Call, Sequence};
 use partial_text::{Plan, RunReport};
 use std::alloc::{AllocError, Global};
@@ -176,6 +176,71 @@ fn join<R: Threads>(
     results
 }
 
+/// What the workers of a plan came to, and the memory that they left.
+#[derive(Drop)]
+pub struct Ran {
+    answers: Vec<Vec<Answer>>,
+    pub closed: Closed,
+}
+
+impl Ran {
+    ghost use Rattle.partial_cmd.specs.Work.{report_of};
+
+    /// The report of the workers.
+    pub fn into_report(self) -> RunReport
+        ensures { result ≡ report_of self }
+    {
+        let Ran { answers, closed } = self;
+        RunReport {
+            answers,
+            values: closed.values,
+        }
+    }
+}
+
+/// Gives each port's calls of a plan to a worker, joins all workers, and closes the memory, which was opened
+/// for the plan's sizes and number of ports.
+pub fn run_on<R: Threads + Wait + Sync, G: Gate>(
+    rt: &R,
+    alloc: Global,
+    memory: Memory,
+    ports: Vec<Port>,
+    plan: &Plan,
+    gate: &G,
+) -> Result<Ran, RunError>
+    requires opened { IsOpenedFor memory plan.now ports.items }
+    ensures { IfOk result (λ ran. IsReportFrom memory.about.opening plan.now (report_of ran)) }
+{
+    let count = plan.ports().len();
+    let workers = hire(alloc, &memory, plan, ports)?;
+    let started = Vec::with_capacity(alloc, count)?;
+    let results = Results {
+        ports: Vec::with_capacity(alloc, count)?,
+        answers: Vec::with_capacity(alloc, count)?,
+    };
+    let lent = &memory;
+    let Results { mut ports, answers } = thread::scope(
+        thread::scope_env(),
+        rt,
+        |scope| -> Result<Results, AllocError>
+            requires hired { AreEach (IsHired lent.now) 0 plan.now.ports workers.items }
+            requires started { (started.items ≡ []) × (length plan.now.ports ≤ vec_capacity started) }
+            requires empty { (results.ports.items ≡ []) × (results.answers.items ≡ []) }
+            requires ports { length plan.now.ports ≤ vec_capacity results.ports }
+            requires answers { length plan.now.ports ≤ vec_capacity results.answers }
+            ensures { IfOk result (HaveCome lent.entry.now plan.entry.now.ports) }
+        {
+            let started = start(scope, lent, plan, gate, workers, started)?;
+            Ok(join(rt, started, results))
+        },
+    )?;
+    let Some(last) = ports.pop() else {
+        unreachable!();
+    };
+    let closed = memory.close(alloc, last, ports)?;
+    Ok(Ran { answers, closed })
+}
+
 /// Runs the calls of a plan: it opens a memory with the plan's sizes and initial values, gives each port's
 /// calls to a worker, joins all workers, and closes the memory. Each worker is a thread of its own and makes
 /// its calls in order; before and after each call it passes the gate. The plan's turns play no part.
@@ -194,35 +259,7 @@ pub fn run_workers<R: Threads + Wait + Sync, G: Gate>(
 ) -> Result<RunReport, RunError>
     ensures { IfOk result (IsReportOf plan.now) }
 {
-    let count = plan.ports().len();
-    let (memory, ports) = Memory::open(alloc, plan.sizes(), plan.initial(), count as u32)?;
-    let workers = hire(alloc, &memory, plan, ports)?;
-    let started = Vec::with_capacity(alloc, count)?;
-    let results = Results {
-        ports: Vec::with_capacity(alloc, count)?,
-        answers: Vec::with_capacity(alloc, count)?,
-    };
-    let lent = &memory;
-    let Results { mut ports, answers } = thread::scope(
-        thread::scope_env(),
-        rt,
-        |scope| -> Result<Results, AllocError>
-            requires hired { AreEach (IsHired lent.now) 0 plan.now.ports workers.items }
-            requires started { (started.items ≡ []) × (length plan.now.ports ≤ vec_capacity started) }
-            requires empty { (results.ports.items ≡ []) × (results.answers.items ≡ []) }
-            requires room { (length plan.now.ports ≤ vec_capacity results.ports) × (length plan.now.ports ≤ vec_capacity results.answers) }
-            ensures { IfOk result (HaveCome lent.entry.now plan.entry.now.ports) }
-        {
-            let started = start(scope, lent, plan, gate, workers, started)?;
-            Ok(join(rt, started, results))
-        },
-    )?;
-    let Some(last) = ports.pop() else {
-        unreachable!();
-    };
-    let closed = memory.close(alloc, last, ports)?;
-    Ok(RunReport {
-        answers,
-        values: closed.values,
-    })
+    let count = plan.ports().len() as u32;
+    let (memory, ports) = Memory::open(alloc, plan.sizes(), plan.initial(), count)?;
+    Ok(run_on(rt, alloc, memory, ports, plan, gate)?.into_report())
 }
