@@ -11,13 +11,17 @@ pub struct Request<'a> {
     pub verb: Verb,
     /// The path of the plan. Without one the plan comes from standard input.
     pub plan: Option<&'a str>,
+    /// The path of the plan whose run goes on where that of the first one ends.
+    pub next: Option<&'a str>,
 }
 
-/// The words that the program takes: `replay [PLAN]`, `check [PLAN]` and `run [PLAN]`.
+/// The words that the program takes: `replay [PLAN]`, `check [PLAN]` and `run [PLAN] [NEXT]`.
 fn command<'a>(alloc: Global) -> Result<Command<'a>, Error> {
     let replay = Command::new(alloc, "replay").arg(Arg::new(alloc, "plan"))?;
     let check = Command::new(alloc, "check").arg(Arg::new(alloc, "plan"))?;
-    let run = Command::new(alloc, "run").arg(Arg::new(alloc, "plan"))?;
+    let run = Command::new(alloc, "run")
+        .arg(Arg::new(alloc, "plan"))?
+        .arg(Arg::new(alloc, "next"))?;
     let partial = Command::new(alloc, "partial")
         .subcommand_required(true)
         .subcommand(replay)?
@@ -33,14 +37,15 @@ fn command<'a>(alloc: Global) -> Result<Command<'a>, Error> {
 /// `Usage` where they aren't words that the program takes, or ask for help.
 pub fn request_of(alloc: Global, words: &[String]) -> Result<Request<'_>, Stop> {
     let matches = command(alloc)?.try_get_matches_from(words)?;
-    let (verb, found) = match matches.subcommand() {
-        Some(("replay", found)) => (Verb::Replay, found),
-        Some(("check", found)) => (Verb::Check, found),
-        Some(("run", found)) => (Verb::Run, found),
+    let (verb, found, next) = match matches.subcommand() {
+        Some(("replay", found)) => (Verb::Replay, found, None),
+        Some(("check", found)) => (Verb::Check, found, None),
+        Some(("run", found)) => (Verb::Run, found, found.get_str("next")),
         _ => return Err(Stop::Usage),
     };
     Ok(Request {
         verb,
         plan: found.get_str("plan"),
+        next,
     })
 }
