@@ -24,7 +24,7 @@ pub use law::texts_tell_plans;
 pub use outcome::Outcome;
 pub use plan::Plan;
 pub use report::RunReport;
-pub use writing::{write_outcome, write_report, write_text};
+pub use writing::{write_outcome, write_report, write_reports, write_text};
 
 #[cfg(test)]
 mod tests;

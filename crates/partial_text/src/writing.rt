@@ -1,4 +1,4 @@
-//! Writing an outcome or a report.
+//! Writing an outcome, a report, or two reports.
 
 ghost use Rattle.std.specs.Prelude.{◌≡◌, ◌≤◌, ◌↔◌, ℕ, ◌++◌, true, false, length, take, OnOk, OnErr, IfOk, IsErrOf};
 ghost use Rattle.partial_text.specs.OutcomeText.{outcome_text};
@@ -88,5 +88,34 @@ pub fn write_report<W: Write>(
 {
     let mut text = Vec::new(alloc);
     push_report(&mut text, report)?;
+    write_text(&text, writer)
+}
+
+/// Writes the text of both reports, that of the first one and behind it that of the second one.
+///
+/// # Errors
+///
+/// `Memory` where a growth was refused: nothing is written then, not even of the first report. `Write`
+/// where a write fails or takes 0 bytes: a part of the text of both from its front is then written.
+pub fn write_reports<W: Write>(
+    alloc: Global,
+    first: &RunReport,
+    second: &RunReport,
+    writer: &mut Device<W>,
+) -> Result<(), OutcomeError>
+    requires { writer.old.failed ≡ false }
+    ensures ok { OnOk result (Appends (W.contents writer.old.inner) (W.contents writer.new.inner)
+        (report_text first.now.answers.items first.now.values.items
+        ++ report_text second.now.answers.items second.now.values.items)) }
+    ensures part { OnErr result ((n : ℕ)
+        × Appends (W.contents writer.old.inner) (W.contents writer.new.inner)
+        (take n (report_text first.now.answers.items first.now.values.items
+        ++ report_text second.now.answers.items second.now.values.items))) }
+    ensures fault { IsErrOf result OutcomeError.Write ↔ (writer.new.failed ≡ true) }
+    ensures memory { IsErrOf result OutcomeError.Memory → writer.new ≡ writer.old }
+{
+    let mut text = Vec::new(alloc);
+    push_report(&mut text, first)?;
+    push_report(&mut text, second)?;
     write_text(&text, writer)
 }

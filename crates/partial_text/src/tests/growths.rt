@@ -3,7 +3,7 @@
 use super::plans::read;
 use super::reports::each_answer;
 use super::writers::borrowed_scan;
-use crate::{Device, OutcomeError, PlanError, write_outcome, write_report};
+use crate::{Device, OutcomeError, PlanError, write_outcome, write_report, write_reports};
 use std::alloc::AllocError;
 use std::io;
 use std::io::Write;
@@ -78,5 +78,14 @@ fn a_refused_growth_reports_nothing(rt: HostRuntime) -> Result<(), Fail> {
     let report = each_answer(rt.alloc())?;
     let mut device = Device::new(Counter { taken: 0 });
     let given = write_report(rt.alloc(), &report, &mut device);
+    judge(&rt, given, device)
+}
+
+// The same for two reports: where the text of the second has no room, the first isn't written either.
+#[test]
+fn a_refused_growth_reports_neither(rt: HostRuntime) -> Result<(), Fail> {
+    let report = each_answer(rt.alloc())?;
+    let mut device = Device::new(Counter { taken: 0 });
+    let given = write_reports(rt.alloc(), &report, &report, &mut device);
     judge(&rt, given, device)
 }

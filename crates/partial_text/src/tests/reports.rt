@@ -1,12 +1,16 @@
-//! The text of a report, and writers that stop within it.
+//! The text of a report or of two, and writers that stop within it.
 
 use super::writers::Sink;
-use crate::{Device, OutcomeError, RunReport, write_report};
+use crate::{Device, OutcomeError, RunReport, write_report, write_reports};
 use partial_model::{Answer, Refused, Sequence};
 use std::alloc::{AllocError, Global};
 use std::test::Fail;
 
 const ROW: &[u8] = b"call 0 0 applied 24\ncall 0 1 read 7 24\nvalues 7 20\n";
+
+/// The text of one report and, behind it, that of another.
+const ROWS: &[u8] =
+    b"call 0 0 applied 24\ncall 0 1 read 7 24\nvalues 7 20\ncall 0 0 changed 24\ncall 1 0 applied 27\nvalues 7 9\n";
 
 fn write_then_read(alloc: Global) -> Result<RunReport, AllocError> {
     let seen = Answer::Read {
@@ -16,6 +20,16 @@ fn write_then_read(alloc: Global) -> Result<RunReport, AllocError> {
     Ok(RunReport {
         answers: vec![in alloc; vec![in alloc; Answer::Applied { stamp: 24 }, seen]?]?,
         values: vec![in alloc; 7, 20]?,
+    })
+}
+
+/// A report of two ports that came behind the other one's.
+fn changed_then_applied(alloc: Global) -> Result<RunReport, AllocError> {
+    let first = vec![in alloc; Answer::Changed { by: 24 }]?;
+    let last = vec![in alloc; Answer::Applied { stamp: 27 }]?;
+    Ok(RunReport {
+        answers: vec![in alloc; first, last]?,
+        values: vec![in alloc; 7, 9]?,
     })
 }
 
@@ -129,5 +143,39 @@ fn each_stop_of_a_report(rt: HostRuntime) -> Result<(), Fail> {
         }
     }
     assert_eq!(rt; OutcomeError::Write.code(), 12);
+    Ok(())
+}
+
+#[test]
+fn two_reports_are_written(rt: HostRuntime) -> Result<(), Fail> {
+    let first = write_then_read(rt.alloc())?;
+    let second = changed_then_applied(rt.alloc())?;
+    let mut device = Device::new(Vec::new(rt.alloc()));
+    write_reports(rt.alloc(), &first, &second, &mut device)?;
+    assert!(rt; !device.failed());
+    let text = device.into_inner();
+    assert_eq!(rt; text.as_slice(), ROWS);
+    Ok(())
+}
+
+#[test]
+fn each_stop_of_two_reports(rt: HostRuntime) -> Result<(), Fail> {
+    let first = write_then_read(rt.alloc())?;
+    let second = changed_then_applied(rt.alloc())?;
+    for room in [0, 10, ROW.len(), ROW.len() + 10, ROWS.len() - 1] {
+        for (step, takes_none) in [(1, false), (7, true), (1000, false)] {
+            let mut device = Device::new(Sink {
+                taken: Vec::new(rt.alloc()),
+                step,
+                room,
+                takes_none,
+            });
+            let given = write_reports(rt.alloc(), &first, &second, &mut device);
+            assert_eq!(rt; given, Err(OutcomeError::Write), "room {room}");
+            assert!(rt; device.failed());
+            let sink = device.into_inner();
+            assert_eq!(rt; sink.taken.as_slice(), &ROWS[..room]);
+        }
+    }
     Ok(())
 }
