@@ -171,6 +171,21 @@ case_of run_refuses_a_plan 1 run
 expect "" "" $'partial: refused 11: read fault\n'
 case_of run_of_missing_file 1 run "$room/missing"
 
+# A run that goes on in a second plan, whose initial values and turns aren't used.
+printf '%s' "$head"$'port update 0 7; read 0\nsteps\n' >"$room/first.plan"
+printf '%s' $'sizes 3 4 8 64\ninitial 0 0 0\nport read 0; read 2\nsteps rest\n' >"$room/second.plan"
+printf '%s' $'sizes 1 4 8 64\ninitial 0\nport\nsteps\n' >"$room/small.plan"
+expect "" $'call 0 0 applied 24\ncall 0 1 read 7 24\nvalues 7 20\ncall 0 0 read 7 19\ncall 0 1 read 0 25\nvalues 7 20 0\n' ""
+case_of run_goes_on 0 run "$room/first.plan" "$room/second.plan"
+expect "" "" $'partial: refused 13: fewer components than before\n'
+case_of run_with_fewer_components 1 run "$room/first.plan" "$room/small.plan"
+expect "" "" $'partial: refused 11: read fault\n'
+case_of run_with_missing_next_file 1 run "$room/first.plan" "$room/missing"
+case_of run_of_missing_file_with_next 1 run "$room/missing" "$room/second.plan"
+expect "" "" $'partial: refused 10: line 0: size\n'
+head -c 4194305 /dev/zero >"$room/long.plan"
+case_of run_with_too_long_next_plan 1 run "$room/first.plan" "$room/long.plan"
+
 # A plan that is longer than a plan may be: 4,194,305 bytes.
 expect "" "" $'partial: refused 10: line 0: size\n'
 head -c 4194305 /dev/zero >"$room/in"
@@ -205,7 +220,7 @@ case_of unknown_option 2 replay --fast
 case_of help 2 --help
 case_of help_of_replay 2 replay --help
 case_of too_many_words_to_check 2 check one two
-case_of too_many_words_to_run 2 run one two
+case_of too_many_words_to_run 2 run one two three
 case_of help_of_run 2 run --help
 case_of help_as_word 2 help
 

@@ -11,7 +11,6 @@ use Rattle.partial_model.specs.declared.call.Answer.{Answer}
 use Rattle.partial_model.specs.declared.call.Answer.TheVariants as answer
 use Rattle.partial_model.specs.declared.call.Note.{Note}
 use Rattle.partial_model.specs.declared.call.Note.TheVariants as note
-use Rattle.partial_model.specs.History.{IsHistory}
 use Rattle.partial_model.specs.Notes.{Noted, LegalNotes, IsLegal, IsTrueOf, place_of, seen_after}
 use Rattle.partial_model.specs.Outcome.{EachOnce, places_written, wrote}
 use Rattle.partial_model.proofs.AllLemmas.{all_append, all_back, all_front}
@@ -22,7 +21,7 @@ use Rattle.partial_text.specs.declared.report.RunReport.{RunReport}
 use Rattle.partial_replay.proofs.Plans.{are_plans}
 use Rattle.partial_memory.specs.Ports.{IsOf, MemoryView, PortView, new_ports}
 use Rattle.partial_memory.specs.Rule.{newcomers}
-use Rattle.partial_memory.specs.Closing.{AreValues, Closes, IsPortOf}
+use Rattle.partial_memory.specs.Closing.{Closes, IsPortOf}
 use Rattle.partial_memory.specs.declared.closed.Closed.{Closed}
 use Rattle.partial_cmd.specs.declared.worker.Worked.{Worked}
 use Rattle.partial_cmd.specs.declared.workers.Results.{Results}

@@ -1,3 +1,4 @@
 pub mod Execution
+pub mod Next
 pub mod Reports
 pub mod Work

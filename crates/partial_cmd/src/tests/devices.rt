@@ -12,9 +12,16 @@ use std::test::Fail;
 
 /// Gives one byte a read, and fails or ends where none is left.
 #[derive(Drop)]
-struct Bytewise<'a> {
+pub(super) struct Bytewise<'a> {
     text: &'a [u8],
     fails: bool,
+}
+
+impl<'a> Bytewise<'a> {
+    /// Fails where none is left.
+    pub(super) fn failing(text: &'a [u8]) -> Bytewise<'a> {
+        Bytewise { text, fails: true }
+    }
 }
 
 impl Read for Bytewise<'_> {

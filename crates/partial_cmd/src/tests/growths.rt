@@ -1,8 +1,8 @@
 //! Growths that are refused, one after another: the script that runs these tests says which.
 
 use super::rows::BORROWED_VIEW;
-use super::runs::SLOTS_SPENT;
-use crate::{Fault, Verb, execute};
+use super::runs::{NEXT, SLOTS_SPENT};
+use crate::{Fault, Verb, execute, execute_next};
 use partial_replay::Device;
 use std::alloc::Global;
 use std::io;
@@ -86,6 +86,26 @@ fn a_refused_growth_reports_no_run(rt: HostRuntime) -> Result<(), Fail> {
     let (_, plan, expected) = SLOTS_SPENT;
     let (left, fault) = unwritten(&rt, rt.alloc(), Verb::Run, plan, expected);
     match fault {
+        None => assert_eq!(rt; left, 0),
+        Some(fault) => {
+            assert_eq!(rt; fault.code(), 6);
+            assert_eq!(rt; fault.at(), None);
+            assert_eq!(rt; left, expected.len());
+            Err(fault)?;
+        }
+    }
+    Ok(())
+}
+
+#[test]
+fn a_refused_growth_reports_no_two_runs(rt: HostRuntime) -> Result<(), Fail> {
+    let (plan, next, expected) = NEXT;
+    let mut writer = Device::new(Expecting { left: expected });
+    let mut plan = Device::new(plan);
+    let mut next = Device::new(next);
+    let given = execute_next(&rt, rt.alloc(), &mut plan, &mut next, &mut writer);
+    let left = writer.into_inner().left.len();
+    match given.err() {
         None => assert_eq!(rt; left, 0),
         Some(fault) => {
             assert_eq!(rt; fault.code(), 6);

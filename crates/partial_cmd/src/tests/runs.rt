@@ -1,13 +1,16 @@
 //! Plans that are run: ports side by side, each in a thread of its own.
 
+use super::devices::Bytewise;
 use super::executed;
 use super::rows::Row;
-use crate::{Fault, Gate, NoGate, Verb, Verdict, execute, run_workers};
+use crate::{Fault, Gate, NoGate, Verb, Verdict, execute, execute_next, run_workers};
 use partial_model::Answer;
 use partial_replay::{Device, Plan};
+use std::alloc::Global;
+use std::sync::Wait;
 use std::sync::atomic::{AtomicU64, Ordering};
 use std::test::Fail;
-use std::thread;
+use std::thread::Threads;
 
 pub(super) const SLOTS_SPENT: Row = (
     "slots_spent",
@@ -209,5 +212,124 @@ fn gates_in_order(rt: HostRuntime) -> Result<(), Fail> {
     run_workers(&rt, rt.alloc(), &plan, &gate)?;
     assert_eq!(rt; gate.passed.load(Ordering::SeqCst), 8);
     assert_eq!(rt; gate.out_of_turn.load(Ordering::SeqCst), 0);
+    Ok(())
+}
+
+/// A first plan, a second one, and the texts of both reports.
+pub(super) const NEXT: (&[u8], &[u8], &[u8]) = (
+    b"sizes 2 4 8 64
+initial 10 20
+port update 0 7; read 0
+steps rest
+",
+    b"sizes 3 4 8 64
+initial 0 0 0
+port read 0; read 2
+steps rest
+",
+    b"call 0 0 applied 24
+call 0 1 read 7 24
+values 7 20
+call 0 0 read 7 19
+call 0 1 read 0 25
+values 7 20 0
+",
+);
+
+/// What both plans write, where they aren't refused.
+fn executed_both<R: Threads + Wait + Sync>(
+    rt: &R,
+    alloc: Global,
+    plan: &[u8],
+    next: &[u8],
+) -> Result<Vec<u8>, Fault> {
+    let mut writer = Device::new(Vec::new(alloc));
+    let mut plan = Device::new(plan);
+    let mut next = Device::new(next);
+    execute_next(rt, alloc, &mut plan, &mut next, &mut writer)?;
+    Ok(writer.into_inner())
+}
+
+// The second run reads what the first one left, and 0 in the added component.
+#[test]
+fn a_run_goes_on(rt: HostRuntime) -> Result<(), Fail> {
+    let (plan, next, expected) = NEXT;
+    let written = executed_both(&rt, rt.alloc(), plan, next)?;
+    assert_eq!(rt; written.as_slice(), expected);
+    Ok(())
+}
+
+// A stamp of the first run has no meaning in the second one.
+#[test]
+fn stamps_start_anew(rt: HostRuntime) -> Result<(), Fail> {
+    let (plan, _, _) = NEXT;
+    let next = b"sizes 2 4 8 64\ninitial 0 0\nport updateif 0 24 9; read 0\nport\nsteps\n";
+    let expected = b"call 0 0 applied 24
+call 0 1 read 7 24
+values 7 20
+call 0 0 changed 18
+call 0 1 read 7 18
+values 7 20
+";
+    let written = executed_both(&rt, rt.alloc(), plan, next)?;
+    assert_eq!(rt; written.as_slice(), expected.as_slice());
+    Ok(())
+}
+
+// The first plan's refusal comes first, then the second's, then that of too few components.
+#[test]
+fn refusals_of_two_plans(rt: HostRuntime) -> Result<(), Fail> {
+    let (plan, next, _) = NEXT;
+    let small = b"sizes 1 4 8 64\ninitial 0\nport\nsteps\n";
+    let none = b"sizes 1 4 8 64\ninitial 0\nsteps\n";
+    let cases: [(&[u8], &[u8], u8); 5] = [
+        (plan, small, 13),
+        (plan, none, 5),
+        (plan, b"", 10),
+        (none, b"", 5),
+        (b"sizes 0 4 8 64\n", next, 1),
+    ];
+    for (first, second, code) in cases {
+        let given = executed_both(&rt, rt.alloc(), first, second);
+        let fault = given.err().ok_or("a refusal")?;
+        assert_eq!(rt; fault.code(), code);
+    }
+    Ok(())
+}
+
+// Where the first plan's reader fails the second plan isn't read, and nothing is written.
+#[test]
+fn readers_of_two_plans(rt: HostRuntime) -> Result<(), Fail> {
+    let (plan, next, _) = NEXT;
+    for count in [0usize, 20, 40] {
+        let mut first = Device::new(Bytewise::failing(&plan[..count]));
+        let mut second = Device::new(next);
+        let mut writer = Device::new(Vec::new(rt.alloc()));
+        let given = execute_next(&rt, rt.alloc(), &mut first, &mut second, &mut writer);
+        assert_eq!(rt; given.err().map(|fault| fault.code()), Some(11));
+        assert_eq!(rt; second.into_inner(), next);
+        assert!(rt; writer.into_inner().is_empty());
+        let mut first = Device::new(plan);
+        let mut second = Device::new(Bytewise::failing(&next[..count]));
+        let mut writer = Device::new(Vec::new(rt.alloc()));
+        let given = execute_next(&rt, rt.alloc(), &mut first, &mut second, &mut writer);
+        assert_eq!(rt; given.err().map(|fault| fault.code()), Some(11));
+        assert!(rt; writer.into_inner().is_empty());
+    }
+    Ok(())
+}
+
+#[test]
+fn two_reports_to_a_failing_writer(rt: HostRuntime) -> Result<(), Fail> {
+    let (plan, next, expected) = NEXT;
+    for room in 0..expected.len() {
+        let mut taken = [0u8; 128];
+        let mut writer = Device::new(&mut taken[..room]);
+        let mut first = Device::new(plan);
+        let mut second = Device::new(next);
+        let given = execute_next(&rt, rt.alloc(), &mut first, &mut second, &mut writer);
+        assert_eq!(rt; given.err().map(|fault| fault.code()), Some(12));
+        assert_eq!(rt; &taken[..room], &expected[..room]);
+    }
     Ok(())
 }

@@ -1,0 +1,80 @@
+//! Two runs, of which the second goes on where the first ended.
+
+ghost use Rattle.std.specs.Prelude.{◌≡◌, ◌↔◌, ◌≢◌, ◌⊎◌, true, false, IfOk, IfErr, IfSome, IsErrOf, OnOk};
+ghost use Rattle.partial_text.specs.Judging.{judged};
+ghost use Rattle.partial_cmd.specs.declared.command.Verdict.TheVariants.{Done};
+ghost use Rattle.partial_cmd.specs.Execution.{reader_fault, writer_fault};
+ghost use Rattle.partial_cmd.specs.Next.{AreJudged, AreReports, WritesReports, WritesReportsPart};
+
+use crate::command::Verdict;
+use crate::fault::Fault;
+use crate::gate::NoGate;
+use crate::workers::{RunError, run_on};
+use partial_memory::Memory;
+use partial_replay::{Device, Plan};
+use partial_text::{RunReport, write_reports};
+use std::alloc::Global;
+use std::io::{Read, Write};
+use std::sync::Wait;
+use std::thread::Threads;
+
+/// Reads two plans, runs the first one, opens its closed memory again with the second one's sizes and ports,
+/// runs the second one there, and writes both reports, the first one first. The second plan's initial values
+/// aren't used, nor are the turns of either.
+///
+/// # Errors
+///
+/// As those of [`execute`](crate::execute), of the first plan and then of the second, which isn't read where
+/// the first is refused; and code 13 where the second plan has fewer components than the first, before any
+/// worker starts. Nothing is written but after code 12, and then a part of the text from its front.
+pub fn execute_next<H: Threads + Wait + Sync, R: Read, N: Read, W: Write>(
+    rt: &H,
+    alloc: Global,
+    plan: &mut Device<R>,
+    next: &mut Device<N>,
+    out: &mut Device<W>,
+) -> Result<Verdict, Fault>
+    requires plan { plan.old.failed ≡ false }
+    requires next { next.old.failed ≡ false }
+    requires out { out.old.failed ≡ false }
+    ensures read_fault { IsErrOf result reader_fault ↔ ((plan.new.failed ≡ true) ⊎ (next.new.failed ≡ true)) }
+    ensures write_fault { IsErrOf result writer_fault ↔ (out.new.failed ≡ true) }
+    // Where the first plan's reader fails the second plan isn't read.
+    ensures unread { plan.new.failed ≡ true → next.new ≡ next.old }
+    ensures plans { plan.new.failed ≡ false → next.new.failed ≡ false
+        → IfSome (R.remaining plan.old.inner) (λ first. IfSome (N.remaining next.old.inner)
+        (λ second. AreJudged result (judged first) (judged second))) }
+    ensures verdict { IfOk result (λ verdict. verdict ≡ Done) }
+    ensures written { OnOk result (WritesReports (R.remaining plan.old.inner) (N.remaining next.old.inner)
+        (W.contents out.old.inner) (W.contents out.new.inner)) }
+    ensures unwritten { IfErr result (λ fault. fault ≢ writer_fault → out.new ≡ out.old) }
+    ensures part { IsErrOf result writer_fault → WritesReportsPart (R.remaining plan.old.inner)
+        (N.remaining next.old.inner) (W.contents out.old.inner) (W.contents out.new.inner) }
+{
+    let plan = Plan::read(alloc, plan)?;
+    let next = Plan::read(alloc, next)?;
+    if next.sizes().m() < plan.sizes().m() {
+        return Err(Fault::TooSmall);
+    }
+    let (first, second) = run_both(rt, alloc, &plan, &next)?;
+    write_reports(alloc, &first, &second, out)?;
+    Ok(Verdict::Done)
+}
+
+// Runs a plan, and then the next one on the memory that it leaves.
+fn run_both<H: Threads + Wait + Sync>(
+    rt: &H,
+    alloc: Global,
+    plan: &Plan,
+    next: &Plan,
+) -> Result<(RunReport, RunReport), RunError>
+    ensures { IfOk result (λ reports. AreReports plan.now next.now reports.0 reports.1) }
+{
+    let count = plan.ports().len() as u32;
+    let (memory, ports) = Memory::open(alloc, plan.sizes(), plan.initial(), count)?;
+    let first = run_on(rt, alloc, memory, ports, plan, &NoGate)?;
+    let count = next.ports().len() as u32;
+    let (memory, ports) = Memory::reopen(alloc, &first.closed, next.sizes(), count)?;
+    let second = run_on(rt, alloc, memory, ports, next, &NoGate)?;
+    Ok((first.into_report(), second.into_report()))
+}
