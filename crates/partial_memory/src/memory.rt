@@ -118,7 +118,7 @@ impl Memory {
     /// and its ports are numbered from 0 in their order. Stamps start anew: one of the closed memory has no
     /// meaning in this one.
     ///
-    /// The closed memory stays as it is, and can be opened again once more.
+    /// The closed memory stays as it is, and can be opened so again.
     ///
     /// # Errors
     /// [`OpenError::Ports`] exactly where there are not 1 to 64 ports; otherwise [`OpenError::TooSmall`]
