@@ -12,4 +12,5 @@ mod Chains
 mod Closes
 mod AllPorts
 mod Noting
+mod Reopening
 pub mod Laws

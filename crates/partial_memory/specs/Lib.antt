@@ -5,3 +5,4 @@ pub mod Calls
 pub mod Closing
 pub mod AllPorts
 pub mod Noting
+pub mod Reopening

@@ -11,6 +11,9 @@ pub enum OpenError {
     /// There are 1 to 64 ports.
     #[error("ports out of range")]
     Ports,
+    /// A memory that is opened again has at least as many components as before.
+    #[error("fewer components than before")]
+    TooSmall,
     /// A growth was refused.
     #[error("out of memory")]
     Memory,
@@ -19,12 +22,13 @@ pub enum OpenError {
 impl OpenError {
     ghost use Rattle.partial_memory.specs.Ports.{open_code};
 
-    /// The number of the refusal: 5 or 6.
+    /// The number of the refusal: 5, 13 or 6.
     pub fn code(&self) -> u8
         ensures { result ≡ open_code self.now }
     {
         match self {
             OpenError::Ports => 5,
+            OpenError::TooSmall => 13,
             OpenError::Memory => 6,
         }
     }

@@ -1,9 +1,10 @@
-//! Laws about the ports of a memory: what a call notes, and what a memory tells that is closed with all its
-//! ports. The functions have no code: their contracts hold of the definitions by which those of the calls
-//! are stated.
+//! Laws about the ports of a memory: what a call notes, what a memory tells that is closed with all its
+//! ports, and how one goes on that opens with the values of a closed one. The functions have no code: their
+//! contracts hold of the definitions by which those of the calls are stated.
 
 ghost use Rattle.partial_memory.specs.AllPorts.{ClosedWithAllPorts, OpenedPortsAreAll};
 ghost use Rattle.partial_memory.specs.Noting.{CallsNoteOnce};
+ghost use Rattle.partial_memory.specs.Reopening.{ClosedMemoriesContinue};
 
 /// The ports with which a memory opens are all of its ports, in the order of their numbers.
 pub fn opened_ports_are_all()
@@ -21,4 +22,11 @@ pub fn closed_with_all_ports()
 /// note nothing. The port's memory and its number stay.
 pub fn calls_note_once()
     ensures { CallsNoteOnce }
+{}
+
+/// A memory that opens with the values of a closed one, and zeros behind them, goes on where its history
+/// ended: after each history of its own a component has the value that it has after both histories, one
+/// behind the other, over the first opening, in which an added component is 0.
+pub fn closed_memories_continue()
+    ensures { ClosedMemoriesContinue }
 {}

@@ -16,7 +16,9 @@ mod tests;
 pub use answers::{Scanned, Updated, UpdatedIf};
 pub use closed::Closed;
 pub use error::{CloseError, OpenError};
-pub use law::{calls_note_once, closed_with_all_ports, opened_ports_are_all};
+pub use law::{
+    calls_note_once, closed_memories_continue, closed_with_all_ports, opened_ports_are_all,
+};
 pub use memory::Memory;
 pub use partial_words::Link;
 pub use port::Port;

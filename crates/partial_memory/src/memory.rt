@@ -1,14 +1,16 @@
 //! The memory, and the calls of its ports.
 
-ghost use Rattle.std.specs.Prelude.{◌≡◌, ℕ, ◌≤◌, ◌∷◌, length, Some, IfOk, IfErr};
+ghost use Rattle.std.specs.Prelude.{◌≡◌, ℕ, ◌<◌, ◌≤◌, ◌⊎◌, ◌∷◌, length, Some, IfOk, IfErr};
 ghost use Rattle.partial_model.specs.declared.call.Call.TheVariants as call;
 ghost use Rattle.partial_words.specs.Layout.{pool_base};
 ghost use Rattle.partial_words.specs.Chain.{AreOpeningWords};
 ghost use Rattle.partial_machine.specs.Machine.{scanned_values};
+ghost use Rattle.partial_memory.specs.declared.error.OpenError.TheVariants.{Ports};
 ghost use Rattle.partial_memory.specs.Rule.{newcomers};
 ghost use Rattle.partial_memory.specs.Ports.{IsOf, IsRefused, MayNotOpen, new_ports, refusal};
 ghost use Rattle.partial_memory.specs.Calls.{Updates, UpdatesIf, Reads, Scans, Meets};
 ghost use Rattle.partial_memory.specs.Closing.{Closes};
+ghost use Rattle.partial_memory.specs.Reopening.{ContinuesAll, MayNotReopen, extended};
 ghost use Rattle.std.specs.List.{AllByRecursion};
 
 use crate::answers::{Scanned, Updated, UpdatedIf};
@@ -56,6 +58,17 @@ fn opening_words(alloc: Global, sizes: Sizes, initial: &[u64]) -> Result<Vec<u64
     Ok(words)
 }
 
+// A memory has 1 to 64 ports.
+fn count_ports(ports: u32) -> Result<(), OpenError>
+    ensures ok { IfOk result (λ _. (1 ≤ ports) × (ports ≤ 64)) }
+    ensures err { IfErr result (λ e. (e ≡ Ports) × ((ports ≡ 0) ⊎ (64 < ports))) }
+{
+    if ports == 0 || ports > 64 {
+        return Err(OpenError::Ports);
+    }
+    Ok(())
+}
+
 impl Memory {
     /// Opens a memory whose components hold these values, and its ports, numbered from 0 in their order.
     ///
@@ -76,9 +89,7 @@ impl Memory {
         ensures many { IfOk result (λ r. (1 ≤ ports) × (ports ≤ 64)) }
         ensures refused { IfErr result (λ e. MayNotOpen ports e) }
     {
-        if ports == 0 || ports > 64 {
-            return Err(OpenError::Ports);
-        }
+        count_ports(ports)?;
         let about = About {
             sizes,
             opening: Opening {
@@ -101,6 +112,41 @@ impl Memory {
             });
         }
         Ok((Memory { sizes, table }, all))
+    }
+
+    /// Opens a memory that goes on with the values of a closed one. Components that it has more begin at 0,
+    /// and its ports are numbered from 0 in their order. Stamps start anew: one of the closed memory has no
+    /// meaning in this one.
+    ///
+    /// The closed memory stays as it is, and can be opened so again.
+    ///
+    /// # Errors
+    /// [`OpenError::Ports`] exactly where there are not 1 to 64 ports; otherwise [`OpenError::TooSmall`]
+    /// exactly where the closed memory has more components than `sizes`; otherwise
+    /// [`OpenError::Memory`] where a growth was refused. Nothing was made then.
+    pub fn reopen(
+        alloc: Global,
+        closed: &Closed,
+        sizes: Sizes,
+        ports: u32,
+    ) -> Result<(Memory, Vec<Port>), OpenError>
+        ensures about { IfOk result (λ r. (r.0.about.sizes ≡ sizes) × (r.0.about.ports ≡ ports)) }
+        ensures values { IfOk result (λ r. r.0.about.opening.values ≡ extended sizes.m closed.now.values.items) }
+        ensures first { IfOk result (λ r. r.0.about.opening.first ≡ pool_base sizes) }
+        ensures ports { IfOk result (λ r. r.1.items ≡ new_ports r.0.table (newcomers r.0.about 0 ports)) }
+        ensures many { IfOk result (λ r. (1 ≤ ports) × (ports ≤ 64)) }
+        ensures fits { IfOk result (λ r. length closed.now.values.items ≤ sizes.m) }
+        ensures continues { IfOk result (λ r. ContinuesAll closed.now.values.items r.0.about.opening) }
+        ensures refused { IfErr result (λ e. MayNotReopen ports (length closed.now.values.items) sizes.m e) }
+    {
+        count_ports(ports)?;
+        if closed.values.len() > sizes.m() as usize {
+            return Err(OpenError::TooSmall);
+        }
+        let mut initial = Vec::with_capacity(alloc, sizes.m() as usize)?;
+        initial.extend_from_slice(&closed.values)?;
+        initial.resize(sizes.m() as usize, 0)?;
+        Memory::open(alloc, sizes, &initial, ports)
     }
 
     /// Sets component `component` to `value`, in no more atomic steps than an update may make.

@@ -2,6 +2,7 @@
 
 mod closings;
 mod growths;
+mod reopenings;
 mod rows;
 mod threads;
 mod workers;

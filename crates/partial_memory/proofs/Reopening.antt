@@ -1,0 +1,82 @@
+-- A memory that opens with the values of a closed one goes on where its history ended.
+use Rattle.std.proofs.Common.{ℕ, zero, suc, ◌≡◌, ◌+◌, ◌-◌, ◌<◌, ◌≤◌, ◌==◌, ◌++◌, Bool, true, false, cond, List, [], ◌∷◌, length, get_or}
+use Rattle.std.proofs.Common.{replicate, take, slice_index, refl, sym, ◌∙◌, ap, inl, inr, Option, Some, None, arith}
+use Rattle.std.specs.List.{AllByRecursion}
+use Rattle.std.specs.Option.{option_map_or}
+use Rattle.std.proofs.lemmas.Bool.{ne_eqb, cases_lt}
+use Rattle.std.proofs.lemmas.List.{get_or_past, take_all}
+use Rattle.partial_model.specs.declared.history.Applied.{Applied}
+use Rattle.partial_model.specs.declared.history.Opening.{Opening}
+use Rattle.partial_model.specs.History.{IsHistory, last_from, last_entry, value_of}
+use Rattle.partial_memory.specs.Closing.{AreValues}
+use Rattle.partial_memory.specs.Reopening.{ClosedMemoriesContinue, extended, with_zeros}
+
+-- values to which zeros were added
+pub grown_is_extended : (m n : ℕ) (all old values : List ℕ) → all ≡ take m old ++ replicate (m - n) 0 → old ≡ values → n ≡ length values → length values ≤ m → all ≡ extended m values
+grown_is_extended m n all old values grown same count fits =
+    grown ∙ ap (λ (l : List ℕ). take m l ++ replicate (m - n) 0) same ∙ ap (λ (l : List ℕ). l ++ replicate (m - n) 0) (take_all m values fits) ∙ ap (λ (k : ℕ). values ++ replicate (m - k) 0) count
+
+-- the value of the entry found, or the one given
+abbrev value_in : Option Applied → ℕ → ℕ
+value_in found d = option_map_or (λ (x : Applied). x.value) found d
+
+pick_in : (b : Bool) (e : Applied) (found : Option Applied) (d : ℕ) → value_in (cond b (Some e) found) d ≡ value_in (cond b (Some e) None) (value_in found d)
+pick_in true e found d = refl
+pick_in false e found d = refl
+
+-- an entry found before counts where the history has none for the component
+found_before : (found : Option Applied) (j : ℕ) (h : List Applied) (d : ℕ) → value_in (last_from found j h) d ≡ value_in (last_entry j h) (value_in found d)
+unfolding last_from
+found_before found j [] d = refl
+found_before found j (e ∷ h) d =
+    found_before (cond (e.component == j) (Some e) found) j h d
+    ∙ ap (value_in (last_entry j h)) (pick_in (e.component == j) e found d)
+    ∙ sym (found_before (cond (e.component == j) (Some e) None) j h (value_in found d))
+
+both_histories : (found : Option Applied) (j : ℕ) (log h : List Applied) → last_from found j (log ++ h) ≡ last_from (last_from found j log) j h
+unfolding last_from
+both_histories found j [] h = refl
+both_histories found j (e ∷ log) h = both_histories (cond (e.component == j) (Some e) found) j log h
+
+-- the value after both histories is that after the second one, over the value after the first
+value_behind_both : (o : Opening) (log h : List Applied) (j : ℕ) → value_of o (log ++ h) j ≡ value_in (last_entry j h) (value_of o log j)
+value_behind_both o log h j =
+    ap (λ (found : Option Applied). value_in found (slice_index o.values j)) (both_histories None j log h) ∙ found_before (last_entry j log) j h (slice_index o.values j)
+
+-- no entry for a component that isn't there
+none_there : (m j : ℕ) (log : List Applied) → m ≤ j → AllByRecursion (λ (e : Applied). e.component < m) log → last_entry j log ≡ None
+unfolding last_from
+none_there m j [] past all = refl
+none_there m j (e ∷ log) past all =
+    let other : e.component ≡ j → ⊥ = λ same. absurd (omega (arith, past, all.0, same)) in
+    ap (λ (b : Bool). last_from (cond b (Some e) None) j log) (ne_eqb e.component j other) ∙ none_there m j log past all.1
+
+-- zeros behind a list change no element of it that is asked for, since one that isn't there counts as 0
+zeros : (k j : ℕ) → ◌≡◌ {A = ℕ} (get_or (replicate k 0) j 0) 0
+zeros zero j = refl
+zeros (suc k) zero = refl
+zeros (suc k) (suc j) = zeros k j
+
+zeros_behind : (values : List ℕ) (k j : ℕ) → get_or (values ++ replicate k 0) j 0 ≡ get_or values j 0
+zeros_behind [] k j = zeros k j
+zeros_behind (v ∷ values) k zero = refl
+zeros_behind (v ∷ values) k (suc j) = zeros_behind values k j
+
+-- the value of each component when the memory was closed
+closed_value : (values : List ℕ) (o : Opening) (log : List Applied) → IsHistory o log → AreValues o log (length o.values) values → (j : ℕ) → slice_index values j ≡ value_of o log j
+closed_value values o log history are j =
+    elim (cases_lt j (length o.values)) [
+      | inl there ↦ are.each j there
+      | inr past ↦
+          let none = ap (λ (found : Option Applied). value_in found (slice_index o.values j)) (none_there (length o.values) j log past history.components) in
+          let short : length values ≤ j = rw are.count past in
+          get_or_past values j 0 short ∙ sym (get_or_past o.values j 0 past) ∙ sym none
+    ]
+
+pub closed_memories_continue : ClosedMemoriesContinue
+closed_memories_continue values m second opened o log history are h j there =
+    let zeros_here = zeros_behind o.values (length second.values - length o.values) j in
+    let begin : slice_index second.values j ≡ value_of (with_zeros (length second.values) o) log j =
+    ap (λ (l : List ℕ). slice_index l j) opened ∙ zeros_behind values (m - length values) j ∙ closed_value values o log history are j
+    ∙ ap (λ (d : ℕ). value_in (last_entry j log) d) (sym zeros_here) in
+    ap (λ (d : ℕ). value_in (last_entry j h) d) begin ∙ sym (value_behind_both (with_zeros (length second.values) o) log h j)
