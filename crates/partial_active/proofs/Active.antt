@@ -50,7 +50,8 @@ with_index_new xs x = cond_both (has_index xs x) xs (xs ++ x ∷ []) (λ ys. has
     (λ e. list_any-append (λ i. eqb i x) xs (x ∷ []) ∙ ap (λ b. b || (eqb x x || false)) e ∙ ap (λ b. b || false) (eq-eqb x x refl))
 
 -- two announcements at one word name the same indices
-pub same_named : (words : List ℕ) (at : ℕ) (a b : List ℕ) → StandsAt words at (announcement_block a) → StandsAt words at (announcement_block b) → (length a ≡ length b) × ((k : ℕ) → k < length a → slice_index b k ≡ slice_index a k)
+pub same_named : (words : List ℕ) (at : ℕ) (a b : List ℕ) → StandsAt words at (announcement_block a) → StandsAt words at (announcement_block b) → (length a ≡ length b) ×
+    ((k : ℕ) → k < length a → slice_index b k ≡ slice_index a k)
 same_named words at a b stands_a stands_b =
     let ra = announcement_reads_back words at a stands_a in
     let rb = announcement_reads_back words at b stands_b in
@@ -125,7 +126,8 @@ module _ (s : Layout) (layout : IsLayout s) (first : List ℕ) (past : Past) whe
   knows_after_walk p slot over common walked =
       let all : AllComplete s first past p.1.indices = λ l named within there each k lt. elim (cases_lt l slot) [
         | inl below ↦ walked.complete l below named within there each k lt
-        | inr above ↦ never_named p.1.indices l 0 (omega arith) (some_both (λ w. (i : ℕ) → p.0.end ≤ i → i < s.slots → slot_at s w i ≡ 0) (λ w. slot_at s w l ≡ slot_at s first l) (λ w. slot_at s w l ≡ 0) past (λ w empty same. empty l (omega arith) within) walked.ended each) named within there each k lt
+        | inr above ↦ never_named p.1.indices l 0 (omega arith) (some_both (λ w. (i : ℕ) → p.0.end ≤ i → i < s.slots → slot_at s w i ≡ 0) (λ w. slot_at s w l ≡ slot_at s first l)
+            (λ w. slot_at s w l ≡ 0) past (λ w empty same. empty l (omega arith) within) walked.ended each) named within there each k lt
       ] in
       cond_both (p.0.noted && not p.0.lists_spent) (Claim (next_words p.1)) Done (λ stage. Knows s first past (record p.0 { stage = stage }, p.1)) (λ e. (common, all)) (λ e. (common, all))
 
@@ -277,13 +279,15 @@ module _ (p : Pair) (layout : IsLayout p.0.sizes) (first : List ℕ) (past : Pas
       let normal = list_normal p.0.sizes layout first past now orderly comes from list k.was in
       let high : slice_index now at ≡ highest list i = ap (slice_index now) knows.1.3 ∙ high_word from list k.was i lt in
       let longer : length (p.1.read ++ (lo, highest list i) ∷ []) ≡ i + 1 = length_push p.1.read (lo, highest list i) in
-      let so_far : p.1.read ++ (lo, highest list i) ∷ [] ≡ take (i + 1) list = ap (λ n. p.1.read ++ (n, highest list i) ∷ []) knows.1.4 ∙ ap (λ (l : Ranges). l ++ get_or list i (0, 0) ∷ []) k.read_is ∙ sym (take_more list i (0, 0) lt) in
+      let so_far : p.1.read ++ (lo, highest list i) ∷ [] ≡ take (i + 1) list = ap (λ n. p.1.read ++ (n, highest list i) ∷ []) knows.1.4 ∙ ap (λ (l : Ranges). l ++ get_or list i (0, 0) ∷ []) k.read_is
+      ∙ sym (take_more list i (0, 0) lt) in
       rw high (
         (
           omega (arith, knows.1.4, normal.closed i lt),
           list_within p.0.sizes layout first past now orderly comes from list k.was (highest list i) (i, lt, normal.closed i lt, omega arith),
         ),
-        cond_both (eqb left 1) Counter (ListLow (at + 1) (left - 1)) (λ stage. Knows p.0.sizes first (now ∷ past) (record p.0 { stage = stage }, record p.1 { read = p.1.read ++ (lo, highest list i) ∷ [] }))
+        cond_both (eqb left 1) Counter (ListLow (at + 1) (left - 1)) (λ stage. Knows p.0.sizes first (now ∷ past)
+            (record p.0 { stage = stage }, record p.1 { read = p.1.read ++ (lo, highest list i) ∷ [] }))
             (λ e.
             let whole : p.1.read ++ (lo, highest list i) ∷ [] ≡ list = so_far ∙ take_all (i + 1) list (omega (arith, k.count, eqb-true left 1 e)) in
             (more knows.0, λ x holds. inr (list_listed p.0.sizes layout first past now orderly comes from list k.was x (subst (λ l. Holds l x) whole holds))))
@@ -311,7 +315,12 @@ module _ (p : Pair) (layout : IsLayout p.0.sizes) (first : List ℕ) (past : Pas
       let within = goes.0.within k lt in
       elim (cases_lt (highest p.1.read k) x) [
         | inl less ↦ less
-        | inr above ↦ absurd (omega (arith, orderly.unclaimed (highest p.1.read k) above within, stays_vacated p.0.sizes layout first past now (highest p.1.read k) within comes (knows.1 (highest p.1.read k) holds)))
+        | inr above ↦ absurd (omega (
+          arith,
+          orderly.unclaimed (highest p.1.read k) above within,
+          stays_vacated p.0.sizes layout first past now (highest p.1.read k) within comes
+              (knows.1 (highest p.1.read k) holds),
+        ))
       ] in
       let q : Pair = (record p.0 { end = min x p.0.sizes.slots; passed = 0 }, p.1) in (
         below,
@@ -341,9 +350,11 @@ module _ (p : Pair) (layout : IsLayout p.0.sizes) (first : List ℕ) (past : Pas
       } in (
         slot_word_possible p.0.sizes layout first past now orderly comes a is,
         cond_both (eqb a 0) (come_to p (slot + 1)) (cond (eqb a 1) (come_to (note_slot p slot) (slot + 1)) (in_stage p (Len slot a))) (λ q. Knows p.0.sizes first (now ∷ past) q)
-            (λ e. knows_come_to p.0.sizes layout first (now ∷ past) p (slot + 1) (walk_next p slot goes) (more knows.0) (walked_next p.0.sizes layout first (now ∷ past) p slot walked (done (omega (arith, eqb-true a 0 e)))))
+            (λ e. knows_come_to p.0.sizes layout first (now ∷ past) p (slot + 1) (walk_next p slot goes) (more knows.0)
+            (walked_next p.0.sizes layout first (now ∷ past) p slot walked (done (omega (arith, eqb-true a 0 e)))))
             (λ not_empty. cond_both (eqb a 1) (come_to (note_slot p slot) (slot + 1)) (in_stage p (Len slot a)) (λ q. Knows p.0.sizes first (now ∷ past) q)
-            (λ e. knows_come_to p.0.sizes layout first (now ∷ past) (note_slot p slot) (slot + 1) (walk_noted p slot layout goes) (noted (eqb-true a 1 e)) (walked_next p.0.sizes layout first (now ∷ past) p slot walked (done (omega (arith, eqb-true a 1 e)))))
+            (λ e. knows_come_to p.0.sizes layout first (now ∷ past) (note_slot p slot) (slot + 1) (walk_noted p slot layout goes) (noted (eqb-true a 1 e))
+            (walked_next p.0.sizes layout first (now ∷ past) p slot walked (done (omega (arith, eqb-true a 1 e)))))
             (λ not_vacated. elim is [
               | inl empty ↦ absurd (eqb-false a 0 not_empty empty)
               | inr some ↦ elim some [
@@ -354,11 +365,14 @@ module _ (p : Pair) (layout : IsLayout p.0.sizes) (first : List ℕ) (past : Pas
       )
 
   -- the announcement in the slot is whole, and it is the one that stood there at the first moment if one did
-  loaded_facts : (slot at : ℕ) (named : List ℕ) → AtSome (IsLoaded p.0.sizes slot at named) past → (pool_base p.0.sizes ≤ at) × (at + announcement_size (length named) ≤ pool_end p.0.sizes) × (length named ≤ p.0.sizes.m) × ((k : ℕ) → k < length named → slice_index named k < p.0.sizes.m)
-  loaded_facts slot at named was = some_gives (IsLoaded p.0.sizes slot at named) ((pool_base p.0.sizes ≤ at) × (at + announcement_size (length named) ≤ pool_end p.0.sizes) × (length named ≤ p.0.sizes.m) × ((k : ℕ) → k < length named → slice_index named k < p.0.sizes.m)) past
+  loaded_facts : (slot at : ℕ) (named : List ℕ) → AtSome (IsLoaded p.0.sizes slot at named) past → (pool_base p.0.sizes ≤ at) × (at + announcement_size (length named) ≤ pool_end p.0.sizes) ×
+      (length named ≤ p.0.sizes.m) × ((k : ℕ) → k < length named → slice_index named k < p.0.sizes.m)
+  loaded_facts slot at named was = some_gives (IsLoaded p.0.sizes slot at named) ((pool_base p.0.sizes ≤ at) × (at + announcement_size (length named) ≤ pool_end p.0.sizes) ×
+      (length named ≤ p.0.sizes.m) × ((k : ℕ) → k < length named → slice_index named k < p.0.sizes.m)) past
       (λ w h. (h.1.from, h.1.to, h.1.count, h.1.each)) was
 
-  done_at : (slot at : ℕ) (named : List ℕ) (indices : List ℕ) → common_of p.0.sizes first past p → AtSome (IsLoaded p.0.sizes slot at named) past → ((k : ℕ) → k < length named → has_index indices (slice_index named k) ≡ true) → CompleteAt p.0.sizes first (now ∷ past) indices slot
+  done_at : (slot at : ℕ) (named : List ℕ) (indices : List ℕ) → common_of p.0.sizes first past p → AtSome (IsLoaded p.0.sizes slot at named) past →
+      ((k : ℕ) → k < length named → has_index indices (slice_index named k) ≡ true) → CompleteAt p.0.sizes first (now ∷ past) indices slot
   done_at slot at named indices common was found first_named within there each k lt =
       let Both : List ℕ → Type 0 = λ w. IsLoaded p.0.sizes slot at named w × (slot_at p.0.sizes w slot ≡ slot_at p.0.sizes first slot) in
       let AllThree : List ℕ → Type 0 = λ w. Both w × KeepsFirst p.0.sizes first w in
@@ -481,7 +495,8 @@ module _ (p : Pair) (layout : IsLayout p.0.sizes) (first : List ℕ) (past : Pas
   step_claim words knows =
       let x = slice_index now (list_counter p.0.sizes) in (
         (orderly.lists_from, orderly.lists_to),
-        cond_both (ltb (list_end p.0.sizes) (x + words)) (record p.0 { lists_spent = true; stage = Done }, p.1) (in_stage p (Write x 0 words (length p.1.next))) (λ q. Knows p.0.sizes first (now ∷ past) q)
+        cond_both (ltb (list_end p.0.sizes) (x + words)) (record p.0 { lists_spent = true; stage = Done }, p.1) (in_stage p (Write x 0 words (length p.1.next)))
+            (λ q. Knows p.0.sizes first (now ∷ past) q)
             (λ e. finished_more knows)
             (λ e. finished_more knows),
       )
@@ -499,7 +514,8 @@ module _ (p : Pair) (layout : IsLayout p.0.sizes) (first : List ℕ) (past : Pas
   answered : (C : ℕ → Type 0) (a b : Step) → Some a ≡ Some b → C (answer_of now a) → C (answer_of now b)
   answered C a b e h = let same : a ≡ b = cc in subst (λ step. C (answer_of now step)) same h
 
-  pub step_known : (stage : Stage) (step : Step) → step_at p.0.sizes p.0.head stage ≡ Some step → goes_at stage p → knows_at p.0.sizes first past stage p → is_possible_at stage p (answer_of now step) × Knows p.0.sizes first (now ∷ past) (advance_at stage p (answer_of now step))
+  pub step_known : (stage : Stage) (step : Step) → step_at p.0.sizes p.0.head stage ≡ Some step → goes_at stage p → knows_at p.0.sizes first past stage p →
+      is_possible_at stage p (answer_of now step) × Knows p.0.sizes first (now ∷ past) (advance_at stage p (answer_of now step))
   unfolding Steps
   step_known Head step e goes knows = absurd knows
   step_known (ListLen at) step e goes knows = answered (Steps (ListLen at)) (Load at) step e (step_list_len at goes knows)
@@ -521,8 +537,12 @@ pub record Reached (s : Layout) (first : List ℕ) (past : Past) (q : Pair) : Ty
   pub knows : Knows s first past q
 
 -- one step more
-pub step_from : (s : Layout) (p : Pair) → p.0.sizes ≡ s → IsLayout s → (first : List ℕ) (past : Past) (now : List ℕ) → Orderly s now → OnEach (λ v. ComesFrom s v now) past → GoTogether p → Knows s first past p → (step : Step) → step_of p.0 ≡ Some step → IsPossible p (answer_of now step) × Reached s first (now ∷ past) (advance p (answer_of now step)) × (left_of (advance p (answer_of now step)).0 < left_of p.0)
-step_from s p same = subst (λ t. IsLayout t → (first : List ℕ) (past : Past) (now : List ℕ) → Orderly t now → OnEach (λ v. ComesFrom t v now) past → GoTogether p → Knows t first past p → (step : Step) → step_of p.0 ≡ Some step → IsPossible p (answer_of now step) × Reached t first (now ∷ past) (advance p (answer_of now step)) × (left_of (advance p (answer_of now step)).0 < left_of p.0)) same
+pub step_from : (s : Layout) (p : Pair) → p.0.sizes ≡ s → IsLayout s → (first : List ℕ) (past : Past) (now : List ℕ) → Orderly s now → OnEach (λ v. ComesFrom s v now) past → GoTogether p →
+    Knows s first past p → (step : Step) → step_of p.0 ≡ Some step → IsPossible p (answer_of now step) × Reached s first (now ∷ past) (advance p (answer_of now step)) ×
+    (left_of (advance p (answer_of now step)).0 < left_of p.0)
+step_from s p same = subst (λ t. IsLayout t → (first : List ℕ) (past : Past) (now : List ℕ) → Orderly t now → OnEach (λ v. ComesFrom t v now) past → GoTogether p → Knows t first past p →
+    (step : Step) → step_of p.0 ≡ Some step → IsPossible p (answer_of now step) × Reached t first (now ∷ past) (advance p (answer_of now step)) ×
+    (left_of (advance p (answer_of now step)).0 < left_of p.0)) same
     (λ layout first past now orderly comes together knows step e.
     let x = answer_of now step in
     let known = step_known p layout first past now orderly comes p.0.stage step e together.stage knows in
@@ -555,7 +575,9 @@ onto_some P (w ∷ ws) past some = elim (onto_some P ws (w ∷ past) some) [
 ]
 
 -- the first step: it empties the buffers
-pub head_reached : (s : Layout) → IsLayout s → (spent : Bool) (f : Buffers) → IsFor s f → (first : List ℕ) → Orderly s first → (step : Step) → step_of (fresh s spent) ≡ Some step → IsPossible (fresh s spent, f) (answer_of first step) × Reached s first (first ∷ []) (advance (fresh s spent, f) (answer_of first step)) × (left_of (advance (fresh s spent, f) (answer_of first step)).0 < left_of (fresh s spent))
+pub head_reached : (s : Layout) → IsLayout s → (spent : Bool) (f : Buffers) → IsFor s f → (first : List ℕ) → Orderly s first → (step : Step) → step_of (fresh s spent) ≡ Some step →
+    IsPossible (fresh s spent, f) (answer_of first step) × Reached s first (first ∷ []) (advance (fresh s spent, f) (answer_of first step)) ×
+    (left_of (advance (fresh s spent, f) (answer_of first step)).0 < left_of (fresh s spent))
 head_reached s layout spent f sizes first orderly step e =
     let p : Pair = (fresh s spent, f) in
     let x = head_at s first in
@@ -570,7 +592,8 @@ head_reached s layout spent f sizes first orderly step e =
       sound = λ j has. absurd (false≢true has);
       vacated = λ x holds. absurd (omega (arith, holds.1));
     } in
-    let knows : Knows s first (first ∷ []) (advance p x) = cond_both (eqb x 0) Counter (ListLen x) (λ stage. Knows s first (first ∷ []) (record p.0 { head = x; stage = stage }, record p.1 { indices = []; read = []; next = [] }))
+    let knows : Knows s first (first ∷ []) (advance p x) = cond_both (eqb x 0) Counter (ListLen x)
+    (λ stage. Knows s first (first ∷ []) (record p.0 { head = x; stage = stage }, record p.1 { indices = []; read = []; next = [] }))
     (λ none. (common, λ y holds. absurd (omega (arith, holds.1))))
     (λ some. elim orderly.head [
       | inl none ↦ absurd (eqb-false x 0 some none)
@@ -597,7 +620,8 @@ finished_from s first past (Publish at) p e knows = knows
 finished_from s first past Done p e knows = knows
 
 -- a finished getSet has found the active set over the moments of its steps
-pub finds : (s : Layout) → IsLayout s → (spent : Bool) (f : Buffers) → IsFor s f → (ms : Past) (q : Pair) → IsPairwiseOrderly s [] ms → LeadsTo (fresh s spent, f) ms q → step_of q.0 ≡ None → FindsActiveSet s ms q.1.indices
+pub finds : (s : Layout) → IsLayout s → (spent : Bool) (f : Buffers) → IsFor s f → (ms : Past) (q : Pair) → IsPairwiseOrderly s [] ms → LeadsTo (fresh s spent, f) ms q → step_of q.0 ≡ None →
+    FindsActiveSet s ms q.1.indices
 finds s layout spent f sizes [] q orderly leads done =
     let none : Some (Load (list_head s)) ≡ None = ap (λ (r : Pair). step_of r.0) (sym leads) ∙ done in
     let never : ⊥ = cc in absurd never
@@ -627,7 +651,8 @@ run_split s (w ∷ ws) past now orderly =
     ((orderly.0, orderly.1, rest.0), rest.1, rest.2)
 
 -- orderly words give possible answers
-possible_next : (s : Layout) (spent : Bool) (f : Buffers) (ms : Past) (now : List ℕ) (q : Pair) (step : Step) → IsLayout s → IsFor s f → IsPairwiseOrderly s [] (ms ++ now ∷ []) → LeadsTo (fresh s spent, f) ms q → step_of q.0 ≡ Some step → IsPossible q (answer_of now step)
+possible_next : (s : Layout) (spent : Bool) (f : Buffers) (ms : Past) (now : List ℕ) (q : Pair) (step : Step) → IsLayout s → IsFor s f → IsPairwiseOrderly s [] (ms ++ now ∷ []) →
+    LeadsTo (fresh s spent, f) ms q → step_of q.0 ≡ Some step → IsPossible q (answer_of now step)
 possible_next s spent f [] now q step layout sizes orderly leads e =
     let due : step_of (fresh s spent) ≡ Some step = ap (λ (r : Pair). step_of r.0) (sym leads) ∙ e in
     subst (λ r. IsPossible r (answer_of now step)) (sym leads) (head_reached s layout spent f sizes now orderly.0 step due).0
@@ -643,7 +668,8 @@ possible_by_events s spent f own words events q step layout sizes orderly makes 
     (own_leads own (fresh s spent, f) q words events makes)
 
 -- a run from a fresh machine, wherever it has come to
-pub reached_from : (s : Layout) (spent : Bool) (f : Buffers) (first : List ℕ) (ms : Past) (q : Pair) → IsLayout s → IsFor s f → IsPairwiseOrderly s [] (first ∷ ms) → LeadsTo (fresh s spent, f) (first ∷ ms) q → Reached s first (onto ms (first ∷ [])) q
+pub reached_from : (s : Layout) (spent : Bool) (f : Buffers) (first : List ℕ) (ms : Past) (q : Pair) → IsLayout s → IsFor s f → IsPairwiseOrderly s [] (first ∷ ms) →
+    LeadsTo (fresh s spent, f) (first ∷ ms) q → Reached s first (onto ms (first ∷ [])) q
 reached_from s spent f first ms q layout sizes orderly leads =
     run s layout first ms (first ∷ []) (advance (fresh s spent, f) (answer_of first leads.0)) q orderly.2 (head_reached s layout spent f sizes first orderly.0 leads.0 leads.1).1 leads.2
 
@@ -655,7 +681,8 @@ run_steps s layout first (w ∷ ws) past p q orderly reached leads =
     let rest = run_steps s layout first ws (w ∷ past) (advance p (answer_of w leads.0)) q orderly.2 next.1 leads.2 in
     omega (arith, next.2)
 
-steps_from_fresh : (s : Layout) (spent : Bool) (f : Buffers) (ms : Past) (q : Pair) → IsLayout s → IsFor s f → IsPairwiseOrderly s [] ms → LeadsTo (fresh s spent, f) ms q → length ms ≤ s.slots * (s.m + 3) + s.lists + 6
+steps_from_fresh : (s : Layout) (spent : Bool) (f : Buffers) (ms : Past) (q : Pair) → IsLayout s → IsFor s f → IsPairwiseOrderly s [] ms → LeadsTo (fresh s spent, f) ms q →
+    length ms ≤ s.slots * (s.m + 3) + s.lists + 6
 steps_from_fresh s spent f [] q layout sizes orderly leads = omega arith
 steps_from_fresh s spent f (first ∷ ms) q layout sizes orderly leads =
     let begun = head_reached s layout spent f sizes first orderly.0 leads.0 leads.1 in

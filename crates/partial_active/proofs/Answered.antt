@@ -159,7 +159,8 @@ module _ (p : Pair) (layout : IsLayout p.0.sizes) (sizes : IsFor p.0.sizes p.1) 
         within = below_push p.1.read lo x p.0.sizes.slots goes.0.list.within possible.1;
       } in
       let longer = length_push p.1.read (lo, x) in
-      cond_both (eqb left 1) Counter (ListLow (at + 1) (left - 1)) (λ stage. Keeps (record p.0 { stage = stage }, record p.1 { read = p.1.read ++ (lo, x) ∷ [] }) (left_at p.0.sizes (ListHigh at left lo)))
+      cond_both (eqb left 1) Counter (ListLow (at + 1) (left - 1)) (λ stage. Keeps (record p.0 { stage = stage }, record p.1 { read = p.1.read ++ (lo, x) ∷ [] })
+      (left_at p.0.sizes (ListHigh at left lo)))
       (λ e. record {
         together = record { sizes = record { limit = sizes.limit; room = sizes.room }; stage = (list, goes.0.next) };
         fewer = omega (arith, eqb-true left 1 e);
@@ -227,15 +228,25 @@ module _ (p : Pair) (layout : IsLayout p.0.sizes) (sizes : IsFor p.0.sizes p.1) 
       })
 
   pub keeps_claim : (words x : ℕ) → goes_at (Claim words) p → IsListClaim p.0.sizes x → Keeps (advance_at (Claim words) p x) (left_at p.0.sizes (Claim words))
-  keeps_claim words x goes possible = cond_both (ltb (list_end p.0.sizes) (x + words)) (record p.0 { lists_spent = true; stage = Done }, p.1) (in_stage p (Write x 0 words (length p.1.next))) (λ q. Keeps q (left_at p.0.sizes (Claim words)))
+  keeps_claim words x goes possible = cond_both (ltb (list_end p.0.sizes) (x + words)) (record p.0 { lists_spent = true; stage = Done }, p.1) (in_stage p (Write x 0 words (length p.1.next)))
+      (λ q. Keeps q (left_at p.0.sizes (Claim words)))
       (λ e. record { together = record { sizes = record { limit = sizes.limit; room = sizes.room }; stage = tt }; fewer = omega arith })
       (λ e. record {
-        together = record { sizes = sizes; stage = (record { next = goes.next; within = goes.within; count = goes.count }, omega (arith, goes.count), ltb-false (list_end p.0.sizes) (x + words) e, refl) };
+        together = record {
+          sizes = sizes;
+          stage = (
+            record { next = goes.next; within = goes.within; count = goes.count },
+            omega (arith, goes.count),
+            ltb-false (list_end p.0.sizes) (x + words) e,
+            refl,
+          );
+        };
         fewer = omega arith;
       })
 
   pub keeps_write : (at k words word x : ℕ) → goes_at (Write at k words word) p → Keeps (advance_at (Write at k words word) p x) (left_at p.0.sizes (Write at k words word))
-  keeps_write at k words word x goes = cond_both (eqb (k + 1) words) (Publish at) (Write at (k + 1) words (slice_index (list_block p.1.next) (k + 1))) (λ stage. Keeps (in_stage p stage) (left_at p.0.sizes (Write at k words word)))
+  keeps_write at k words word x goes = cond_both (eqb (k + 1) words) (Publish at) (Write at (k + 1) words (slice_index (list_block p.1.next) (k + 1)))
+      (λ stage. Keeps (in_stage p stage) (left_at p.0.sizes (Write at k words word)))
       (λ e. record { together = record { sizes = sizes; stage = (goes.0.next, goes.0.within) }; fewer = omega (arith, goes.1) })
       (λ e. record {
         together = record { sizes = sizes; stage = (record { next = goes.0.next; within = goes.0.within; count = goes.0.count }, omega (arith, goes.1, eqb-false (k + 1) words e), goes.2, refl) };
@@ -274,7 +285,15 @@ module _ (p : Pair) (layout : IsLayout p.0.sizes) (sizes : IsFor p.0.sizes p.1) 
       (λ e.
       let more : 1 < left = omega (arith, eqb-false left 1 e, goes.1) in
       record {
-        together = record { sizes = q_sizes; stage = (at_in_stage q layout q_sizes slot (Index slot (at + 1) (left - 1)) here, omega (arith, more), omega (arith, goes.2), omega (arith, goes.3, more)) };
+        together = record {
+          sizes = q_sizes;
+          stage = (
+            at_in_stage q layout q_sizes slot (Index slot (at + 1) (left - 1)) here,
+            omega (arith, more),
+            omega (arith, goes.2),
+            omega (arith, goes.3, more),
+          );
+        };
         fewer = omega (arith, more);
       })
 
@@ -298,7 +317,8 @@ module _ (p : Pair) (layout : IsLayout p.0.sizes) (sizes : IsFor p.0.sizes p.1) 
       }))
 
 -- a due step with a possible answer keeps the machine and its buffers together, and leaves fewer steps
-pub keeps_at : (stage : Stage) (p : Pair) (x : ℕ) → IsLayout p.0.sizes → IsFor p.0.sizes p.1 → IsSome (step_at p.0.sizes p.0.head stage) → goes_at stage p → is_possible_at stage p x → Keeps (advance_at stage p x) (left_at p.0.sizes stage)
+pub keeps_at : (stage : Stage) (p : Pair) (x : ℕ) → IsLayout p.0.sizes → IsFor p.0.sizes p.1 → IsSome (step_at p.0.sizes p.0.head stage) → goes_at stage p → is_possible_at stage p x →
+    Keeps (advance_at stage p x) (left_at p.0.sizes stage)
 keeps_at Head p x layout sizes due goes possible = keeps_head p layout sizes x possible
 keeps_at (ListLen at) p x layout sizes due goes possible = keeps_list_len p layout sizes at x goes possible
 keeps_at (ListLow at left) p x layout sizes due goes possible = keeps_list_low p layout sizes at left x goes possible

@@ -102,13 +102,18 @@ module _ (list : Ranges) (lo hi : ℕ) (normal : IsNormal list) (behind : IsBehi
       let last : last_place list < length list = omega (arith, t.0) in
       elim (cases_eq k (last_place list)) [
         | inl here ↦ rw here (omega (arith, highest_here list (last_place list) (lowest list (last_place list), hi) last))
-        | inr other ↦ omega (arith, highest_other list (last_place list) (lowest list (last_place list), hi) last k other, below k (omega (arith, length-set list (last_place list) (lowest list (last_place list), hi))))
+        | inr other ↦ omega (
+          arith,
+          highest_other list (last_place list) (lowest list (last_place list), hi) last k other,
+          below k (omega (arith, length-set list (last_place list) (lowest list (last_place list), hi))),
+        )
       ])
       (λ e. below_push list lo hi n below last_below)
 
 -- it holds what the list held, and the new numbers
 pub held_extended : (list : Ranges) (lo hi : ℕ) → IsNormal list → (x : ℕ) → Holds (extended list lo hi) x → Holds list x ⊎ ((lo ≤ x) × (x ≤ hi))
-held_extended list lo hi normal x = cond_both (touches list lo) (set list (last_place list) (lowest list (last_place list), hi)) (list ++ (lo, hi) ∷ []) (λ l. Holds l x → Holds list x ⊎ ((lo ≤ x) × (x ≤ hi)))
+held_extended list lo hi normal x = cond_both (touches list lo) (set list (last_place list) (lowest list (last_place list), hi)) (list ++ (lo, hi) ∷ [])
+    (λ l. Holds l x → Holds list x ⊎ ((lo ≤ x) × (x ≤ hi)))
     (λ e h.
     let t = touching list lo hi e in
     let last : last_place list < length list = omega (arith, t.0) in
@@ -121,7 +126,12 @@ held_extended list lo hi normal x = cond_both (touches list lo) (set list (last_
             | inl below ↦ inl (last_place list, last, from, omega (arith, t.1))
             | inr above ↦ inr (above, to)
           ]
-      | inr other ↦ inl (h.0, omega (arith, same), omega (arith, lowest_other list (last_place list) (lowest list (last_place list), hi) last h.0 other), omega (arith, highest_other list (last_place list) (lowest list (last_place list), hi) last h.0 other))
+      | inr other ↦ inl (
+        h.0,
+        omega (arith, same),
+        omega (arith, lowest_other list (last_place list) (lowest list (last_place list), hi) last h.0 other),
+        omega (arith, highest_other list (last_place list) (lowest list (last_place list), hi) last h.0 other),
+      )
     ])
     (λ e h. elim (cases_lt h.0 (length list)) [
       | inl before ↦ inl (h.0, before, omega (arith, low_before list lo hi h.0 before), omega (arith, high_before list lo hi h.0 before))
@@ -130,7 +140,8 @@ held_extended list lo hi normal x = cond_both (touches list lo) (set list (last_
 
 -- and it holds what the list held and the new numbers
 pub holds_extended : (list : Ranges) (lo hi : ℕ) → IsNormal list → IsBehind list lo hi → (x : ℕ) → Holds list x ⊎ ((lo ≤ x) × (x ≤ hi)) → Holds (extended list lo hi) x
-holds_extended list lo hi normal behind x = cond_both (touches list lo) (set list (last_place list) (lowest list (last_place list), hi)) (list ++ (lo, hi) ∷ []) (λ l. Holds list x ⊎ ((lo ≤ x) × (x ≤ hi)) → Holds l x)
+holds_extended list lo hi normal behind x = cond_both (touches list lo) (set list (last_place list) (lowest list (last_place list), hi)) (list ++ (lo, hi) ∷ [])
+    (λ l. Holds list x ⊎ ((lo ≤ x) × (x ≤ hi)) → Holds l x)
     (λ e.
     let t = touching list lo hi e in
     let last : last_place list < length list = omega (arith, t.0) in
@@ -144,7 +155,12 @@ holds_extended list lo hi normal behind x = cond_both (touches list lo) (set lis
             let to : x ≤ highest list (last_place list) = rw here at held.3 in
             let closed = behind.closed in
             (last_place list, omega (arith, same, last), omega (arith, low, from), omega (arith, high, to, t.1, closed))
-        | inr other ↦ (held.0, omega (arith, same, held.1), omega (arith, lowest_other list (last_place list) (lowest list (last_place list), hi) last held.0 other, held.2), omega (arith, highest_other list (last_place list) (lowest list (last_place list), hi) last held.0 other, held.3))
+        | inr other ↦ (
+          held.0,
+          omega (arith, same, held.1),
+          omega (arith, lowest_other list (last_place list) (lowest list (last_place list), hi) last held.0 other, held.2),
+          omega (arith, highest_other list (last_place list) (lowest list (last_place list), hi) last held.0 other, held.3),
+        )
       ]
       | inr new ↦
           let from : lowest list (last_place list) ≤ x = omega (arith, new.0, t.1, normal.closed (last_place list) last) in

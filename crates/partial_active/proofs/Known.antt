@@ -42,7 +42,8 @@ pub record Common (s : Layout) (first : List ℕ) (past : Past) (indices : List 
 
 -- the announcement that stood in the slot at all moments is found
 abbrev pub CompleteAt : Layout → List ℕ → Past → List ℕ → ℕ → Type 0
-CompleteAt s first past indices slot = (named : List ℕ) → slot < s.slots → IsAnnouncement s first (slot_at s first slot) named → OnEach (λ w. slot_at s w slot ≡ slot_at s first slot) past → (k : ℕ) → k < length named → has_index indices (slice_index named k) ≡ true
+CompleteAt s first past indices slot = (named : List ℕ) → slot < s.slots → IsAnnouncement s first (slot_at s first slot) named → OnEach (λ w. slot_at s w slot ≡ slot_at s first slot) past → (k : ℕ) →
+    k < length named → has_index indices (slice_index named k) ≡ true
 
 -- the list at the list head at that moment
 abbrev pub IsHeadList : Layout → ℕ → Ranges → List ℕ → Type 0
@@ -89,7 +90,8 @@ abbrev pub knows_at : Layout → List ℕ → Past → Stage → Pair → Type 0
 knows_at s first past Head p = ⊥
 knows_at s first past (ListLen at) p = common_of s first past p × ((list : Ranges) × AtSome (IsHeadList s at list) past)
 knows_at s first past (ListLow at left) p = common_of s first past p × ((from : ℕ) × (list : Ranges) × KnowsList s past from list p.1.read left × (at ≡ from + 1 + 2 * length p.1.read))
-knows_at s first past (ListHigh at left lo) p = common_of s first past p × ((from : ℕ) × (list : Ranges) × KnowsList s past from list p.1.read left × (at ≡ from + 2 + 2 * length p.1.read) × (lo ≡ lowest list (length p.1.read)))
+knows_at s first past (ListHigh at left lo) p = common_of s first past p × ((from : ℕ) × (list : Ranges) × KnowsList s past from list p.1.read left × (at ≡ from + 2 + 2 * length p.1.read) ×
+    (lo ≡ lowest list (length p.1.read)))
 knows_at s first past Counter p = common_of s first past p × Listed s past p.1.read
 knows_at s first past (Slot slot) p = common_of s first past p × walked_of s first past p slot
 knows_at s first past (Len slot at) p = common_of s first past p × walked_of s first past p slot × ((named : List ℕ) × AtSome (IsLoaded s slot at named) past)

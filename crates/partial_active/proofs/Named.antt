@@ -41,7 +41,7 @@ with_all-append xs [] zs = refl
 with_all-append xs (y ∷ ys) zs = with_all-append (with_index xs y) ys zs
 
 -- none is there twice
-same_test : (l : List ℕ) (x : ℕ) → list_any (eqb x) l ≡ has_index l x
+pub same_test : (l : List ℕ) (x : ℕ) → list_any (eqb x) l ≡ has_index l x
 same_test [] x = refl
 same_test (y ∷ l) x = ap (λ b. b || list_any (eqb x) l) (nat_eq_equiv.symm x y) ∙ ap (λ b. eqb y x || b) (same_test l x)
 

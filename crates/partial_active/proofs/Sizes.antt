@@ -25,10 +25,14 @@ sizes_at (ListHigh at left lo) p x = refl
 sizes_at Counter p x = sizes_come_to (record p.0 { end = min x p.0.sizes.slots; passed = 0 }, p.1) 0
 sizes_at (Slot slot) p x = cond_both (eqb x 0) (come_to p (slot + 1)) (cond (eqb x 1) (come_to (note_slot p slot) (slot + 1)) (in_stage p (Len slot x))) (λ (q : Pair). q.0.sizes ≡ p.0.sizes)
     (λ e. sizes_come_to p (slot + 1))
-    (λ not_empty. cond_both (eqb x 1) (come_to (note_slot p slot) (slot + 1)) (in_stage p (Len slot x)) (λ (q : Pair). q.0.sizes ≡ p.0.sizes) (λ e. sizes_come_to (note_slot p slot) (slot + 1)) (λ e. refl))
+    (λ not_empty. cond_both (eqb x 1) (come_to (note_slot p slot) (slot + 1)) (in_stage p (Len slot x)) (λ (q : Pair). q.0.sizes ≡ p.0.sizes)
+    (λ e. sizes_come_to (note_slot p slot) (slot + 1)) (λ e. refl))
 sizes_at (Len slot at) p x = cond_both (eqb x 0) (come_to p (slot + 1)) (in_stage p (Index slot (at + 1) x)) (λ (q : Pair). q.0.sizes ≡ p.0.sizes) (λ e. sizes_come_to p (slot + 1)) (λ e. refl)
-sizes_at (Index slot at left) p x = cond_both (eqb left 1) (come_to (p.0, record p.1 { indices = with_index p.1.indices x }) (slot + 1)) (in_stage (p.0, record p.1 { indices = with_index p.1.indices x }) (Index slot (at + 1) (left - 1))) (λ (q : Pair). q.0.sizes ≡ p.0.sizes) (λ e. sizes_come_to (p.0, record p.1 { indices = with_index p.1.indices x }) (slot + 1)) (λ e. refl)
-sizes_at (Claim words) p x = cond_both (ltb (list_end p.0.sizes) (x + words)) (record p.0 { lists_spent = true; stage = Done }, p.1) (in_stage p (Write x 0 words (length p.1.next))) (λ (q : Pair). q.0.sizes ≡ p.0.sizes) (λ e. refl) (λ e. refl)
+sizes_at (Index slot at left) p x = cond_both (eqb left 1) (come_to (p.0, record p.1 { indices = with_index p.1.indices x }) (slot + 1))
+    (in_stage (p.0, record p.1 { indices = with_index p.1.indices x }) (Index slot (at + 1) (left - 1))) (λ (q : Pair). q.0.sizes ≡ p.0.sizes)
+    (λ e. sizes_come_to (p.0, record p.1 { indices = with_index p.1.indices x }) (slot + 1)) (λ e. refl)
+sizes_at (Claim words) p x = cond_both (ltb (list_end p.0.sizes) (x + words)) (record p.0 { lists_spent = true; stage = Done }, p.1) (in_stage p (Write x 0 words (length p.1.next)))
+    (λ (q : Pair). q.0.sizes ≡ p.0.sizes) (λ e. refl) (λ e. refl)
 sizes_at (Write at k words word) p x = refl
 sizes_at (Publish at) p x = refl
 sizes_at Done p x = refl

@@ -51,7 +51,8 @@ module _ (p : Pair) (slot : ℕ) (walking : IsWalking p slot) where
         end_within = walking.end_within;
         list_before_end = walking.list_before_end;
         next = normal-extended p.1.next (lowest p.1.read p.0.passed) (highest p.1.read p.0.passed) walking.next behind;
-        next_below = below-extended p.1.next (lowest p.1.read p.0.passed) (highest p.1.read p.0.passed) walking.next behind (highest p.1.read p.0.passed + 1) (λ k lt. omega (arith, walking.next_below k lt, b.1, closed)) (omega arith);
+        next_below = below-extended p.1.next (lowest p.1.read p.0.passed) (highest p.1.read p.0.passed) walking.next behind (highest p.1.read p.0.passed + 1)
+            (λ k lt. omega (arith, walking.next_below k lt, b.1, closed)) (omega arith);
         slot_within = omega (arith, walking.list.within p.0.passed b.0);
         passed = omega (arith, b.0);
         before = λ k lt. elim (cases_eq k p.0.passed) [
@@ -120,8 +121,14 @@ come_to_goes p slot walking sizes = cond_both (begins_at p.1.read p.0.passed slo
     (λ e. at_slot_goes p slot walking sizes (outside_here p slot walking e))
 
 pub come_to_left : (p : Pair) (slot : ℕ) → IsWalking p slot → left_of (come_to p slot).0 ≤ walk_left p.0.sizes slot
-come_to_left p slot walking = cond_both (begins_at p.1.read p.0.passed slot) (at_slot (pass_interval p) (highest p.1.read p.0.passed + 1)) (at_slot p slot) (λ (q : Pair). left_of q.0 ≤ walk_left p.0.sizes slot)
+come_to_left p slot walking = cond_both (begins_at p.1.read p.0.passed slot) (at_slot (pass_interval p) (highest p.1.read p.0.passed + 1)) (at_slot p slot)
+    (λ (q : Pair). left_of q.0 ≤ walk_left p.0.sizes slot)
     (λ e.
     let b = begun p slot walking e in
-    omega (arith, at_slot_left (pass_interval p) (highest p.1.read p.0.passed + 1) (walking_on p slot walking e), walk_left_mono p.0.sizes slot (highest p.1.read p.0.passed + 1) (omega (arith, b.1, walking.list.normal.closed p.0.passed b.0))))
+    omega (
+      arith,
+      at_slot_left (pass_interval p) (highest p.1.read p.0.passed + 1) (walking_on p slot walking e),
+      walk_left_mono p.0.sizes slot (highest p.1.read p.0.passed + 1)
+          (omega (arith, b.1, walking.list.normal.closed p.0.passed b.0)),
+    ))
     (λ e. at_slot_left p slot walking)

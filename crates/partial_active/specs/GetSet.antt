@@ -49,7 +49,7 @@ Pair = GetSetState × Buffers
 abbrev pub next_words : Buffers → ℕ
 next_words f = list_size (length f.next)
 
--- the step that is due
+-- the step that is due at a stage
 abbrev pub step_at : Layout → ℕ → Stage → Option Step
 step_at s head Head = Some (Load (list_head s))
 step_at s head (ListLen at) = Some (Load at)
@@ -64,6 +64,7 @@ step_at s head (Write at k words word) = Some (Store (at + k) word)
 step_at s head (Publish at) = Some (Exchange (list_head s) head at)
 step_at s head Done = None
 
+-- the step that is due
 abbrev pub step_of : GetSetState → Option Step
 step_of g = step_at g.sizes g.head g.stage
 
@@ -151,6 +152,7 @@ advance_at (Write at k words word) p x = after_write p at k words
 advance_at (Publish at) p x = in_stage p Done
 advance_at Done p x = p
 
+-- what the answer x makes of a getSet and of what it has found
 abbrev pub advance : Pair → ℕ → Pair
 advance p x = advance_at p.0.stage p x
 
@@ -166,7 +168,7 @@ publish_left s = greatest_list s + 2
 abbrev pub walk_left : Layout → ℕ → ℕ
 walk_left s slot = (s.slots - slot) * (s.m + 2) + publish_left s
 
--- the steps that are left at most
+-- how many steps are left at most at a stage
 abbrev pub left_at : Layout → Stage → ℕ
 left_at s Head = most_steps s
 left_at s (ListLen at) = list_end s - at + 1 + walk_left s 0
@@ -181,5 +183,6 @@ left_at s (Write at k words word) = words - k + 1
 left_at s (Publish at) = 1
 left_at s Done = 0
 
+-- how many steps are left at most
 abbrev pub left_of : GetSetState → ℕ
 left_of g = left_at g.sizes g.stage

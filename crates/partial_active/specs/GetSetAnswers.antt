@@ -37,7 +37,7 @@ IsAnnouncedLen s at x = (at + announcement_size x ≤ pool_end s) × (x ≤ s.m)
 abbrev pub IsListClaim : Layout → ℕ → Type 0
 IsListClaim s x = (list_base s ≤ x) × (x ≤ list_end s + 64 * greatest_list s)
 
--- the number may answer the step that is due
+-- an answer that orderly words may give to the due step at a stage
 abbrev pub is_possible_at : Stage → Pair → ℕ → Type 0
 is_possible_at Head p x = IsListHead p.0.sizes x
 is_possible_at (ListLen at) p x = IsListLen p.0.sizes at x
@@ -52,6 +52,7 @@ is_possible_at (Write at k words word) p x = Unit {0}
 is_possible_at (Publish at) p x = Unit {0}
 is_possible_at Done p x = Unit {0}
 
+-- an answer that orderly words may give to the due step
 abbrev pub IsPossible : Pair → ℕ → Type 0
 IsPossible p x = is_possible_at p.0.stage p x
 

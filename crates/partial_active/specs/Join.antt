@@ -19,13 +19,14 @@ fits_join s (Storing slot) = nat_lt slot s.slots
 fits_join s (Joined slot) = true
 fits_join s Spent = true
 
--- the step that is due
+-- the step that is due at a stage
 abbrev pub join_step : Layout → ℕ → JoinStage → Option Step
 join_step s announcement Claiming = Some (Add (slot_counter s) 1)
 join_step s announcement (Storing slot) = Some (Store (slot_word s slot) announcement)
 join_step s announcement (Joined slot) = None
 join_step s announcement Spent = None
 
+-- the step that is due
 abbrev pub step_of_join : JoinState → Option Step
 step_of_join j = join_step j.sizes j.announcement j.stage
 
@@ -36,6 +37,7 @@ join_after s (Storing slot) x = Joined slot
 join_after s (Joined slot) x = Joined slot
 join_after s Spent x = Spent
 
+-- what the answer x makes of a join
 abbrev pub advance_join : JoinState → ℕ → JoinState
 advance_join j x = record j { stage = join_after j.sizes j.stage x }
 

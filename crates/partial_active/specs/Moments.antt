@@ -8,11 +8,12 @@ use Rattle.partial_words.specs.Step.{answer_of, words_after}
 use Rattle.partial_active.specs.GetSet.{Pair, step_of, advance}
 use Rattle.partial_active.specs.Orderly.{Orderly, Publishes, IsSlotMove}
 
--- what holds at each of the moments, and at some of them
+-- the property holds of the words at each of the moments
 abbrev pub OnEach : (List ℕ → Type 0) → List (List ℕ) → Type 0
 OnEach P [] = Unit {0}
 OnEach P (words ∷ more) = P words × OnEach P more
 
+-- the property holds of the words at some of the moments
 abbrev pub AtSome : (List ℕ → Type 0) → List (List ℕ) → Type 0
 AtSome P [] = ⊥
 AtSome P (words ∷ more) = P words ⊎ AtSome P more

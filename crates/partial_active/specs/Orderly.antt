@@ -6,10 +6,11 @@ use Rattle.partial_words.specs.Record.{StandsAt}
 use Rattle.partial_words.specs.Announcement.{announcement_block, announcement_size}
 use Rattle.partial_words.specs.VacatedList.{list_block, list_size}
 
--- the word in a slot, and the list head
+-- what a slot holds
 abbrev pub slot_at : Layout → List ℕ → ℕ → ℕ
 slot_at s words slot = slice_index words (slot_word s slot)
 
+-- what the list head holds: 0, or the place of the published list
 abbrev pub head_at : Layout → List ℕ → ℕ
 head_at s words = slice_index words (list_head s)
 

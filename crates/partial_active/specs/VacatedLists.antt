@@ -30,11 +30,12 @@ is_reading _ = false
 abbrev pub IsListOf : Layout → List ℕ → Ranges → Type 0
 IsListOf s words list = ((head_at s words ≡ 0) × (list ≡ [])) ⊎ IsVacatedList s words (head_at s words) list
 
--- the list head at the first of the moments, and the list at it
+-- what the list head holds at the first of the moments
 abbrev pub first_head : Layout → List (List ℕ) → ℕ
 first_head s [] = 0
 first_head s (first ∷ more) = head_at s first
 
+-- the list at the list head at the first of the moments
 abbrev pub IsFirstList : Layout → List (List ℕ) → Ranges → Type 0
 IsFirstList s [] list = ⊥
 IsFirstList s (first ∷ more) list = IsListOf s first list

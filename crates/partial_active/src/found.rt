@@ -28,7 +28,13 @@ impl Model for Found {
 
     ghost Value = { Buffers };
 
-    ghost view = { λ f. record { limit = f.indices.limit; room = f.read.capacity; indices = f.indices.items; read = f.read.list; next = f.next.list } };
+    ghost view = { λ f. record {
+      limit = f.indices.limit;
+      room = f.read.capacity;
+      indices = f.indices.items;
+      read = f.read.list;
+      next = f.next.list;
+    } };
 
     ghost invariant = { λ f. f.next.capacity ≡ f.read.capacity };
 }

@@ -84,7 +84,15 @@ impl Model for GetSet {
 
     ghost Value = { GetSetState };
 
-    ghost view = { λ g. record { sizes = g.sizes; lists_spent = g.lists_spent; head = g.head; end = g.end; passed = g.passed; noted = g.noted; stage = g.stage } };
+    ghost view = { λ g. record {
+      sizes = g.sizes;
+      lists_spent = g.lists_spent;
+      head = g.head;
+      end = g.end;
+      passed = g.passed;
+      noted = g.noted;
+      stage = g.stage;
+    } };
 
     ghost invariant = { λ g. IsLayout g.sizes × IsTrue (fits_stage g.sizes g.stage) };
 }

@@ -32,7 +32,7 @@ use Rattle.partial_core.specs.ActiveSet.Move.{Makes, Looks}
 use Rattle.partial_core.proofs.Parts.{all_at, all_changed, holdings_split}
 use Rattle.partial_core.proofs.Steps.{sizes_here, sound_at}
 use Rattle.partial_core.proofs.Ports.{others, looks_stay_lawful}
-use Rattle.partial_core.proofs.Getting.{by_due}
+use Rattle.partial_core.proofs.GetSetSteps.{by_due}
 use Rattle.partial_core.proofs.Ordered.{lawful_is_orderly}
 use Rattle.partial_core.proofs.Published.{KeepsPublished, keeps_now, keeps_on, step_orderly}
 

@@ -21,7 +21,7 @@ use Rattle.partial_machine.specs.declared.stage.Stage.TheVariants.{Idle, ReadBeg
 use Rattle.partial_machine.specs.Machine.{CoreState, step_at}
 use Rattle.partial_machine.specs.Sound.{is_sound_at}
 use Rattle.partial_core.specs.Steps.{added_by, PublishesWithin}
-use Rattle.partial_core.proofs.Going.{view_loads}
+use Rattle.partial_core.proofs.MidCalls.{view_loads}
 
 -- a won exchange of a component adds one
 abbrev pub added_at : ℕ → Stage → ℕ → List Applied
@@ -52,7 +52,8 @@ adds_quiet z port t words (Load w) quiet none = record { entries = sym (none (ge
 adds_quiet z port t words (Store w v) quiet none = record { entries = sym (none 0); within = tt }
 adds_quiet z port t words (Add w v) quiet none = record { entries = sym (none (get_or words w 0)); within = tt }
 adds_quiet z port t words (Exchange w old new) quiet none = record {
-  entries = ap (λ (c : Bool). cond c (cond (get_or words w 0 == old) (record { port = port; component = w; value = value_of words new; stamp = new } ∷ []) []) []) (not_below w z.m quiet) ∙ sym (none (get_or words w 0));
+  entries = ap (λ (c : Bool). cond c (cond (get_or words w 0 == old) (record { port = port; component = w; value = value_of words new; stamp = new } ∷ []) []) [])
+      (not_below w z.m quiet) ∙ sym (none (get_or words w 0));
   within = λ below. absurd (omega (arith, quiet, below));
 }
 
@@ -95,18 +96,22 @@ exchange_adds : (z : Layout) (port : ℕ) (words : List ℕ) (c : Change) (old a
 exchange_adds z port words c old at x =
     let found = get_or words c.component 0 in
     record {
-      entries = ap (λ (b : Bool). cond b (cond (found == old) (record { port = port; component = c.component; value = value_of words at; stamp = at } ∷ []) []) []) (is_below c.component z.m x.component)
+      entries = ap (λ (b : Bool). cond b (cond (found == old) (record { port = port; component = c.component; value = value_of words at; stamp = at } ∷ []) []) [])
+          (is_below c.component z.m x.component)
           ∙ ap (λ v. cond (found == old) (record { port = port; component = c.component; value = v; stamp = at } ∷ []) []) x.value;
       within = λ _. x.within;
     }
 
-pub step_adds : (z : Layout) (port : ℕ) (s : CoreState) (words : List ℕ) (t : Stage) (step : Step) → s.sizes ≡ z → is_sound_at s t → step_at s t ≡ Some step → ((c : Change) (old at : ℕ) → t ≡ Exchanging c old at → IsExchange z words c at) → StepAdds z port t words step
+pub step_adds : (z : Layout) (port : ℕ) (s : CoreState) (words : List ℕ) (t : Stage) (step : Step) → s.sizes ≡ z → is_sound_at s t → step_at s t ≡ Some step →
+    ((c : Change) (old at : ℕ) → t ≡ Exchanging c old at → IsExchange z words c at) → StepAdds z port t words step
 step_adds z port s words Idle step sizes sound e f = absurd cc
 step_adds z port s words (ReadBegun j) step sizes sound e f = adds_quiet z port (ReadBegun j) words step (subst (IsQuiet z) (some_same e) tt) (λ a. refl)
 step_adds z port s words (LoadingValue stamp) step sizes sound e f = adds_quiet z port (LoadingValue stamp) words step (subst (IsQuiet z) (some_same e) tt) (λ a. refl)
 step_adds z port s words (UpdateBegun c) step sizes sound e f = adds_quiet z port (UpdateBegun c) words step (subst (IsQuiet z) (some_same e) tt) (λ a. refl)
-step_adds z port s words (GettingSet c old) step sizes sound e f = adds_quiet z port (GettingSet c old) words step (subst (λ (y : Layout). IsQuiet y step) (sound.2 ∙ sizes) (getting_at s.get_set.sizes s.get_set.head s.get_set.stage step e)) (λ a. refl)
-step_adds z port s words (Viewing c old) step sizes sound e f = adds_quiet z port (Viewing c old) words step (viewing_at z s.embedded.sizes s.found.indices s.rows.last s.embedded.stage step e) (λ a. refl)
+step_adds z port s words (GettingSet c old) step sizes sound e f = adds_quiet z port (GettingSet c old) words step
+    (subst (λ (y : Layout). IsQuiet y step) (sound.2 ∙ sizes) (getting_at s.get_set.sizes s.get_set.head s.get_set.stage step e)) (λ a. refl)
+step_adds z port s words (Viewing c old) step sizes sound e f = adds_quiet z port (Viewing c old) words step
+    (viewing_at z s.embedded.sizes s.found.indices s.rows.last s.embedded.stage step e) (λ a. refl)
 step_adds z port s words (ClaimingRecord c old) step sizes sound e f = adds_quiet z port (ClaimingRecord c old) words step (subst (IsQuiet z) (some_same e) tt) (λ a. refl)
 step_adds z port s words (StoringRecord c old at k) step sizes sound e f = adds_quiet z port (StoringRecord c old at k) words step (subst (IsQuiet z) (some_same e) tt) (λ a. refl)
 step_adds z port s words (Exchanging c old at) step sizes sound e f = subst (StepAdds z port (Exchanging c old at) words) (some_same e) (exchange_adds z port words c old at (f c old at refl))

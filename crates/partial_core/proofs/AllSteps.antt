@@ -40,7 +40,7 @@ use Rattle.partial_core.proofs.Parts.{changed, gone, gone_core, all_at, holdings
 use Rattle.partial_core.proofs.Ports.{fits_here}
 use Rattle.partial_core.proofs.Steps.{LeadsAt, holding_in, known_here, sizes_here, sound_here, sound_at, port_here, memory_here, memory_at}
 use Rattle.partial_core.proofs.Reading.{read_begun, value_loaded, update_begun, viewing_leads, scanning_leads}
-use Rattle.partial_core.proofs.Getting.{getting_leads}
+use Rattle.partial_core.proofs.GetSetSteps.{getting_leads}
 use Rattle.partial_core.proofs.Claims.{record_claimed, announcement_claimed, announcement_stored}
 use Rattle.partial_core.proofs.Joins.{same_step, joining_leads}
 use Rattle.partial_core.proofs.Leaves.{leave_due, leaves}
@@ -56,10 +56,12 @@ abbrev pub fresh_call : CoreState → Part → Part
 fresh_call c x = record { seen = x.seen; notes = x.notes; begun = c; kept = []; since = length x.seen; past = length x.notes }
 
 pub started_fresh : (c : CoreState) (x : Part) → is_begun c.stage ≡ true → fresh_call c x ≡ started c x
-started_fresh c x begun = ap (λ (b : Bool). record { seen = x.seen; notes = x.notes; begun = cond b c x.begun; kept = cond b [] x.kept; since = cond b (length x.seen) x.since; past = cond b (length x.notes) x.past }) (sym begun)
+started_fresh c x begun = ap (λ (b : Bool). record { seen = x.seen; notes = x.notes; begun = cond b c x.begun; kept = cond b [] x.kept; since = cond b (length x.seen) x.since;
+    past = cond b (length x.notes) x.past }) (sym begun)
 
 pub started_same : (c : CoreState) (x : Part) → is_begun c.stage ≡ false → x ≡ started c x
-started_same c x begun = ap (λ (b : Bool). record { seen = x.seen; notes = x.notes; begun = cond b c x.begun; kept = cond b [] x.kept; since = cond b (length x.seen) x.since; past = cond b (length x.notes) x.past }) (sym begun)
+started_same c x begun = ap (λ (b : Bool). record { seen = x.seen; notes = x.notes; begun = cond b c x.begun; kept = cond b [] x.kept; since = cond b (length x.seen) x.since;
+    past = cond b (length x.notes) x.past }) (sym begun)
 
 -- what a machine holds that has no call under way, or one that has made no step
 abbrev bare : CoreState → Holding
@@ -116,18 +118,23 @@ module _ (z : Layout) (o : Opening) (words : List ℕ) (before : List Part) (x :
         };
         begun = unmoved c.stage h.begun;
         since = omega arith;
-        earlier = let shown = k.shown in let whole : seen_by 0 (take (length x.notes) x.notes) ≡ seen_by 0 x.notes = ap (seen_by 0) (take_all (length x.notes) x.notes (omega arith)) in omega (arith, shown, whole);
+        earlier = let shown = k.shown in let whole : seen_by 0 (take (length x.notes) x.notes) ≡ seen_by 0 x.notes =
+            ap (seen_by 0) (take_all (length x.notes) x.notes (omega arith)) in omega (arith, shown, whole);
         past = omega arith;
         one = omega arith;
         going = λ _. refl;
         kept = tt;
       } in
       let memory = memory_here z o words before x after log w in
-      let keeps : Keeps z o (record { words = words; holdings = holdings before ++ holding_of x ∷ holdings after; log = log }) (record { words = words; holdings = holdings before ++ holding_of y ∷ holdings after; log = log ++ [] }) =
-      subst (λ (h : Holding). Keeps z o (record { words = words; holdings = holdings before ++ holding_of x ∷ holdings after; log = log }) (record { words = words; holdings = holdings before ++ h ∷ holdings after; log = log ++ [] })) (sym holds)
-      (subst (λ (l : List Applied). Keeps z o (record { words = words; holdings = holdings before ++ holding_of x ∷ holdings after; log = log }) (record { words = words; holdings = holdings before ++ holding_of x ∷ holdings after; log = l })) (sym nil) (record { lawful = memory; loads = λ n k l. l })) in
+      let keeps : Keeps z o (record { words = words; holdings = holdings before ++ holding_of x ∷ holdings after; log = log })
+          (record { words = words; holdings = holdings before ++ holding_of y ∷ holdings after; log = log ++ [] }) =
+      subst (λ (h : Holding). Keeps z o (record { words = words; holdings = holdings before ++ holding_of x ∷ holdings after; log = log })
+          (record { words = words; holdings = holdings before ++ h ∷ holdings after; log = log ++ [] })) (sym holds)
+      (subst (λ (l : List Applied). Keeps z o (record { words = words; holdings = holdings before ++ holding_of x ∷ holdings after; log = log })
+          (record { words = words; holdings = holdings before ++ holding_of x ∷ holdings after; log = l })) (sym nil) (record { lawful = memory; loads = λ n k l. l })) in
       subst (λ (l : List Applied). Lawful z o words (before ++ y ∷ after) l) nil
-      (changed z o words words before x y after log [] w keeps (λ p. ap (λ (l : List Applied). places_by p 0 l) nil ∙ w.once p ∙ sym (once_same p before x y after port refl)) (subst (λ (l : List Applied). IsKnown z o words (holdings (before ++ y ∷ after)) l y) (sym nil) known))
+      (changed z o words words before x y after log [] w keeps (λ p. ap (λ (l : List Applied). places_by p 0 l) nil ∙ w.once p ∙ sym (once_same p before x y after port refl))
+          (subst (λ (l : List Applied). IsKnown z o words (holdings (before ++ y ∷ after)) l y) (sym nil) known))
 
   -- the step that is due at a stage
   leads_stage : (s : Stage) (step : Step) → (core_of x).stage ≡ s → step_at (core_of x) s ≡ Some step → LeadsAt z o words before x after log (core_of x) s step
@@ -137,14 +144,22 @@ module _ (z : Layout) (o : Opening) (words : List ℕ) (before : List Part) (x :
   leads_stage (UpdateBegun c) step e due = subst (LeadsAt z o words before x after log (core_of x) (UpdateBegun c)) (same_step due) (update_begun z o words before x after log w c e)
   leads_stage (GettingSet c old) step e due = getting_leads z o words before x after log w c old step e due
   leads_stage (Viewing c old) step e due = viewing_leads z o words before x after log w c old step e due
-  leads_stage (ClaimingRecord c old) step e due = subst (LeadsAt z o words before x after log (core_of x) (ClaimingRecord c old)) (same_step (ap (λ (y : Layout). Some (Add (pool_counter y) (record_size (core_of x)))) (sym (sizes_here z o words before x after log w)) ∙ due)) (record_claimed z o words before x after log w c old e)
-  leads_stage (StoringRecord c old at k) step e due = subst (LeadsAt z o words before x after log (core_of x) (StoringRecord c old at k)) (same_step due) (record_stored z o words before x after log w c old at k e)
-  leads_stage (Exchanging c old at) step e due = subst (LeadsAt z o words before x after log (core_of x) (Exchanging c old at)) (same_step due) (record_exchanged z o words before x after log w c old at e)
-  leads_stage ScanBegun step e due = subst (LeadsAt z o words before x after log (core_of x) ScanBegun) (same_step (ap (λ (y : Layout). Some (Add (pool_counter y) (announcement_size (length (core_of x).asked)))) (sym (sizes_here z o words before x after log w)) ∙ due)) (announcement_claimed z o words before x after log w e)
-  leads_stage (StoringAnnouncement at k) step e due = subst (LeadsAt z o words before x after log (core_of x) (StoringAnnouncement at k)) (same_step due) (announcement_stored z o words before x after log w at k e)
+  leads_stage (ClaimingRecord c old) step e due = subst (LeadsAt z o words before x after log (core_of x) (ClaimingRecord c old))
+      (same_step (ap (λ (y : Layout). Some (Add (pool_counter y) (record_size (core_of x)))) (sym (sizes_here z o words before x after log w)) ∙ due))
+      (record_claimed z o words before x after log w c old e)
+  leads_stage (StoringRecord c old at k) step e due = subst (LeadsAt z o words before x after log (core_of x) (StoringRecord c old at k)) (same_step due)
+      (record_stored z o words before x after log w c old at k e)
+  leads_stage (Exchanging c old at) step e due = subst (LeadsAt z o words before x after log (core_of x) (Exchanging c old at)) (same_step due)
+      (record_exchanged z o words before x after log w c old at e)
+  leads_stage ScanBegun step e due = subst (LeadsAt z o words before x after log (core_of x) ScanBegun)
+      (same_step (ap (λ (y : Layout). Some (Add (pool_counter y) (announcement_size (length (core_of x).asked)))) (sym (sizes_here z o words before x after log w)) ∙ due))
+      (announcement_claimed z o words before x after log w e)
+  leads_stage (StoringAnnouncement at k) step e due = subst (LeadsAt z o words before x after log (core_of x) (StoringAnnouncement at k)) (same_step due)
+      (announcement_stored z o words before x after log w at k e)
   leads_stage Joining step e due = joining_leads z o words before x after log w e step due
   leads_stage Scanning step e due = scanning_leads z o words before x after log w step e due
-  leads_stage Leaving step e due = subst (LeadsAt z o words before x after log (core_of x) Leaving) (same_step (sym (leave_due z o words before x after log w e) ∙ due)) (leaves z o words before x after log w e)
+  leads_stage Leaving step e due = subst (LeadsAt z o words before x after log (core_of x) Leaving) (same_step (sym (leave_due z o words before x after log w e) ∙ due))
+      (leaves z o words before x after log w e)
   leads_stage (Finished r) step e due = absurd cc
 
   -- the step of the part's own machine
@@ -152,7 +167,9 @@ module _ (z : Layout) (o : Opening) (words : List ℕ) (before : List Part) (x :
   leads_core step due = leads_stage (core_of x).stage step refl due
 
 -- the step of a part with its call begun, told of the part as it was before
-module _ (z : Layout) (o : Opening) (words : List ℕ) (before : List Part) (x : Part) (after : List Part) (log : List Applied) (c : CoreState) (step : Step) (w : Lawful z o words (before ++ started c x ∷ after) log) (mine : c ≡ core_of (started c x)) (holds : holding_of (started c x) ≡ holding_of x) (port : port_of (started c x) ≡ port_of x) (due : step_of c ≡ Some step) where
+module _ (z : Layout) (o : Opening) (words : List ℕ) (before : List Part) (x : Part) (after : List Part) (log : List Applied) (c : CoreState) (step : Step)
+    (w : Lawful z o words (before ++ started c x ∷ after) log) (mine : c ≡ core_of (started c x)) (holds : holding_of (started c x) ≡ holding_of x) (port : port_of (started c x) ≡ port_of x)
+    (due : step_of c ≡ Some step) where
   abbrev v : Part
   v = started c x
 
@@ -196,7 +213,8 @@ module _ (z : Layout) (o : Opening) (words : List ℕ) (before : List Part) (x :
   grown : log ++ added_at (core_of (started c x)).port (core_of (started c x)).stage (answer_of words step) ≡ log ++ added_by z (port_of x) words step
   grown = ap (λ (l : List Applied). log ++ l) (ap (λ n. added_at n (core_of (started c x)).stage (answer_of words step)) number ∙ sym adds.entries)
 
-  then_lawful : Lawful z o (words_after words step) (before ++ gone (started c x) (log ++ added_by z (port_of x) words step) (answer_of words step) leads.new ∷ after) (log ++ added_by z (port_of x) words step)
+  then_lawful : Lawful z o (words_after words step) (before ++ gone (started c x) (log ++ added_by z (port_of x) words step) (answer_of words step) leads.new ∷ after)
+      (log ++ added_by z (port_of x) words step)
   then_lawful = subst (λ (l : List Applied). Lawful z o (words_after words step) (before ++ gone (started c x) l (answer_of words step) leads.new ∷ after) l) grown leads.lawful
 
   then_behind : IsBehind c (answer_of words step)
@@ -207,12 +225,15 @@ module _ (z : Layout) (o : Opening) (words : List ℕ) (before : List Part) (x :
 
   -- a published word stays
   then_keeps : (n : ℕ) → list_base z ≤ n → n < total z → IsPublished z words (unpublished (holdings (before ++ x ∷ after))) n →
-      (get_or (words_after words step) n 0 ≡ get_or words n 0) × IsPublished z (words_after words step) (unpublished (holdings (before ++ gone (started c x) (log ++ added_by z (port_of x) words step) (answer_of words step) leads.new ∷ after))) n
+      (get_or (words_after words step) n 0 ≡ get_or words n 0) × IsPublished z (words_after words step)
+          (unpublished (holdings (before ++ gone (started c x) (log ++ added_by z (port_of x) words step) (answer_of words step) leads.new ∷ after))) n
   then_keeps n low high published =
-      let same : holdings (before ++ x ∷ after) ≡ holdings (before ++ started c x ∷ after) = holdings_split before x after ∙ ap (λ (h : Holding). holdings before ++ h ∷ holdings after) (sym holds) ∙ sym (holdings_split before (started c x) after) in
+      let same : holdings (before ++ x ∷ after) ≡ holdings (before ++ started c x ∷ after) = holdings_split before x after ∙ ap (λ (h : Holding). holdings before ++ h ∷ holdings after)
+          (sym holds) ∙ sym (holdings_split before (started c x) after) in
       let here : IsPublished z words (unpublished (holdings (before ++ started c x ∷ after))) n = subst (λ (hs : List Holding). IsPublished z words (unpublished hs) n) same published in
       let loaded = leads.loads n (record { answer = get_or words n 0; at = length log }) (loads_are_true z o words (holdings (before ++ started c x ∷ after)) log n w.memory high (λ _. here)) in
-      let block = (subst (λ (l : List Applied). IsLoaded z o (words_after words step) (holdings (before ++ gone (started c x) l (answer_of words step) leads.new ∷ after)) l n (record { answer = get_or words n 0; at = length log })) grown loaded).block low in
+      let block = (subst (λ (l : List Applied). IsLoaded z o (words_after words step) (holdings (before ++ gone (started c x) l (answer_of words step) leads.new ∷ after)) l n
+          (record { answer = get_or words n 0; at = length log })) grown loaded).block low in
       (sym block.0, block.1)
 
   pub leads_on : LeadsOn z o words before x after log c step
@@ -220,7 +241,8 @@ module _ (z : Layout) (o : Opening) (words : List ℕ) (before : List Part) (x :
       let l = leads in
       let k = known_here z o words before (started c x) after log w in
       let y = gone (started c x) (log ++ added_by z (port_of x) words step) (answer_of words step) l.new in
-      let core : core_of y ≡ advance c (answer_of words step) = gone_core (started c x) (log ++ added_by z (port_of x) words step) (answer_of words step) l.new ∙ ap (λ (d : CoreState). advance d (answer_of words step)) (sym mine) in
+      let core : core_of y ≡ advance c (answer_of words step) = gone_core (started c x) (log ++ added_by z (port_of x) words step)
+          (answer_of words step) l.new ∙ ap (λ (d : CoreState). advance d (answer_of words step)) (sym mine) in
       let behind = then_behind in
       let lawful = then_lawful in
       record {

@@ -19,7 +19,7 @@ use Rattle.partial_core.specs.Held.{joins_at, joined_from}
 use Rattle.partial_core.specs.Known.{IsTrueYet, AreKept}
 use Rattle.partial_core.specs.Part.{has_no_step}
 use Rattle.partial_machine.specs.Sound.{is_sound_at}
-use Rattle.partial_core.proofs.Going.{Knows, on_at}
+use Rattle.partial_core.proofs.MidCalls.{Knows, on_at}
 
 -- how long the history was at the last of the answers
 pub last_at : ℕ → List Kept → ℕ
@@ -42,7 +42,8 @@ pub record IsLed (z : Layout) (s t : CoreState) : Type 0 where
   pub port : t.port ≡ s.port
   pub asked : t.asked ≡ s.asked
 
-pub led : (z : Layout) (o : Opening) (words : List ℕ) (hs : List Holding) (log : List Applied) (low : ℕ) (s : CoreState) (ks : List Kept) → IsLayout z → s.sizes ≡ z → IsSound s → AreKept z o words hs log low s ks → IsLed z s (led_by s ks)
+pub led : (z : Layout) (o : Opening) (words : List ℕ) (hs : List Holding) (log : List Applied) (low : ℕ) (s : CoreState) (ks : List Kept) → IsLayout z → s.sizes ≡ z → IsSound s →
+    AreKept z o words hs log low s ks → IsLed z s (led_by s ks)
 led z o words hs log low s [] layout sizes sound w = record { sound = sound; sizes = sizes; port = refl; asked = refl }
 led z o words hs log low s (k ∷ ks) layout sizes sound w =
     let one : Keeps s (advance s k.answer) = kept s k.answer (subst IsLayout (sym sizes) layout) sound w.0.possible in
@@ -54,13 +55,16 @@ module _ (z : Layout) (o : Opening) (words : List ℕ) (hs : List Holding) (log 
   layout = w.sizes
 
   -- behind the first answer
-  first_on : (since : ℕ) (s : CoreState) (k : Kept) (t : Stage) → s ≡ begun → s.sizes ≡ z → s.stage ≡ t → has_no_step t ≡ true → is_sound_at s t → IsPossibleAt s t k.answer → IsTrueYet z o words hs log (step_at s t) k → Knows z o words hs log begun k.at since k.at (advance_at s t k.answer)
+  first_on : (since : ℕ) (s : CoreState) (k : Kept) (t : Stage) → s ≡ begun → s.sizes ≡ z → s.stage ≡ t → has_no_step t ≡ true → is_sound_at s t → IsPossibleAt s t k.answer →
+      IsTrueYet z o words hs log (step_at s t) k → Knows z o words hs log begun k.at since k.at (advance_at s t k.answer)
   first_on since s k Idle is sizes e none may possible yet = absurd possible
   first_on since s k (ReadBegun j) is sizes e none may possible yet = (j, ap (λ (c : CoreState). c.stage) (sym is) ∙ e, yet.component (subst (λ (y : Layout). j < y.m) sizes may))
-  first_on since s k (UpdateBegun c) is sizes e none may possible yet = cond_both (expects c k.answer) (begin_getting s c k.answer) (at_stage s (Finished (reply.Changed k.answer))) (λ (t : CoreState). Knows z o words hs log begun k.at since k.at t)
+  first_on since s k (UpdateBegun c) is sizes e none may possible yet = cond_both (expects c k.answer) (begin_getting s c k.answer) (at_stage s (Finished (reply.Changed k.answer)))
+      (λ (t : CoreState). Knows z o words hs log begun k.at since k.at t)
       (λ expected. (record { called = ap (λ (d : CoreState). d.stage) (sym is) ∙ e; expected = expected; stamp = yet.component (subst (λ (y : Layout). c.component < y.m) sizes may.0) }, tt))
       (λ other. tt)
-  first_on since s k ScanBegun is sizes e none may possible yet = cond_both (fits_pool s.sizes (1 + length s.asked) k.answer) (at_stage s (StoringAnnouncement k.answer 0)) (pool_refused s) (λ (t : CoreState). Knows z o words hs log begun k.at since k.at t)
+  first_on since s k ScanBegun is sizes e none may possible yet = cond_both (fits_pool s.sizes (1 + length s.asked) k.answer) (at_stage s (StoringAnnouncement k.answer 0)) (pool_refused s)
+      (λ (t : CoreState). Knows z o words hs log begun k.at since k.at t)
       (λ fits. record { called = ap (λ (d : CoreState). d.stage) (sym is) ∙ e; asked = ap (λ (d : CoreState). d.asked) is })
       (λ refused. tt)
   first_on since s k _ is sizes e none may possible yet = absurd (false≢true none)
@@ -71,7 +75,8 @@ module _ (z : Layout) (o : Opening) (words : List ℕ) (hs : List Holding) (log 
     pub inside : high ≤ length log
     pub knows : Knows z o words hs log begun first since high s
 
-  led_on : (first since high : ℕ) (s : CoreState) (ks : List Kept) → s.sizes ≡ z → IsSound s → HasGone first since high s → AreKept z o words hs log high s ks → HasGone first (joined_from since s ks) (last_at high ks) (led_by s ks)
+  led_on : (first since high : ℕ) (s : CoreState) (ks : List Kept) → s.sizes ≡ z → IsSound s → HasGone first since high s → AreKept z o words hs log high s ks → HasGone first (joined_from since s ks)
+      (last_at high ks) (led_by s ks)
   unfolding last_at
   led_on first since high s [] sizes sound g kept_all = g
   led_on first since high s (k ∷ ks) sizes sound g kept_all =
@@ -86,7 +91,8 @@ module _ (z : Layout) (o : Opening) (words : List ℕ) (hs : List Holding) (log 
       led_on first (cond (joins_at s s.stage) k.at since) k.at (advance s k.answer) ks (one.sizes ∙ sizes) one.sound next kept_all.1
 
   -- a call that has made a step
-  pub called_on : (low : ℕ) (k : Kept) (ks : List Kept) → begun.sizes ≡ z → IsSound begun → has_no_step begun.stage ≡ true → AreKept z o words hs log low begun (k ∷ ks) → HasGone k.at (joined_from 0 begun (k ∷ ks)) (last_at low (k ∷ ks)) (led_by begun (k ∷ ks))
+  pub called_on : (low : ℕ) (k : Kept) (ks : List Kept) → begun.sizes ≡ z → IsSound begun → has_no_step begun.stage ≡ true → AreKept z o words hs log low begun (k ∷ ks) →
+      HasGone k.at (joined_from 0 begun (k ∷ ks)) (last_at low (k ∷ ks)) (led_by begun (k ∷ ks))
   unfolding last_at
   called_on low k ks sizes sound may kept_all =
       let one : Keeps begun (advance begun k.answer) = kept begun k.answer (subst IsLayout (sym sizes) layout) sound kept_all.0.possible in

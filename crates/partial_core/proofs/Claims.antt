@@ -26,7 +26,7 @@ use Rattle.partial_state.specs.LawfulWords.{LawfulWords}
 use Rattle.partial_state.specs.Effects.{IsKept}
 use Rattle.partial_state.proofs.MarkLaws.{pool_refusals_are_kept}
 use Rattle.partial_state.proofs.BlockLaws.{claims_are_kept, stores_are_kept}
-use Rattle.partial_state.proofs.Quiet.{pool_bound}
+use Rattle.partial_state.proofs.NoNewEntry.{pool_bound}
 use Rattle.partial_machine.specs.Sound.{is_sound_at}
 use Rattle.partial_core.specs.Part.{Part, core_of}
 use Rattle.partial_core.specs.Lawful.{Lawful}
@@ -35,6 +35,7 @@ use Rattle.partial_machine.specs.Calls.{call_at, update_call}
 use Rattle.partial_core.proofs.Leaves.{names_all}
 use Rattle.partial_core.proofs.Steps.{LeadsAt, holding_in, known_here, sizes_here, sound_here, sound_at, memory_at, going, quiet}
 use Rattle.partial_core.proofs.Reading.{begun_here}
+use Rattle.partial_core.proofs.StoredFacts.{length_record}
 
 -- how many words a record has, by its pairs
 length_block : (prev value view : ℕ) (pairs : List (ℕ × ℕ)) → length (record_block prev value view pairs) ≡ cond (length pairs == 0) 3 (4 + 2 * length pairs)
@@ -44,21 +45,6 @@ length_block prev value view (p ∷ pairs) = length-record_block prev value view
 length_of_map : (f : ℕ → ℕ × ℕ) (js : List ℕ) → length (map f js) ≡ length js
 length_of_map f [] = refl
 length_of_map f (j ∷ js) = ap suc (length_of_map f js)
-
-pub length_record : (s : CoreState) (c : Change) (old at : ℕ) → length (record_words s c old at) ≡ record_size s
-length_record s c old at = by_borrowed s.embedded.borrowed refl
-  where
-    pairs : Option ℕ → List (ℕ × ℕ)
-    pairs f = option_map_or (λ _. []) f (map (λ j. (j, slice_index s.rows.values j)) s.found.indices)
-
-    size : Option ℕ → ℕ
-    size f = option_map_or (λ _. 3) f (cond (length s.found.indices == 0) 3 (4 + 2 * length s.found.indices))
-
-    by_borrowed : (f : Option ℕ) → s.embedded.borrowed ≡ f → length (record_block old c.value (view_at s at) (pairs s.embedded.borrowed)) ≡ size s.embedded.borrowed
-    by_borrowed None is =
-        subst (λ (f : Option ℕ). length (record_block old c.value (view_at s at) (pairs f)) ≡ size f) (sym is)
-        (length_block old c.value (view_at s at) (map (λ j. (j, slice_index s.rows.values j)) s.found.indices) ∙ ap (λ n. cond (n == 0) 3 (4 + 2 * n)) (length_of_map (λ j. (j, slice_index s.rows.values j)) s.found.indices))
-    by_borrowed (Some stamp) is = subst (λ (f : Option ℕ). length (record_block old c.value (view_at s at) (pairs f)) ≡ size f) (sym is) refl
 
 module _ (z : Layout) (o : Opening) (words : List ℕ) (before : List Part) (x : Part) (after : List Part) (log : List Applied) (w : Lawful z o words (before ++ x ∷ after) log) where
   abbrev s : CoreState
@@ -73,22 +59,27 @@ module _ (z : Layout) (o : Opening) (words : List ℕ) (before : List Part) (x :
       subst (λ (y : Layout). IsPoolCount y a) (sym (sizes_here z o words before x after log w)) (omega (arith, low), pool_bound z o words (holdings (before ++ x ∷ after)) log w.memory)
 
   -- what the part holds, with its stage named
-  kept_here : (t : Stage) → s.stage ≡ t → (words' : List ℕ) (h : Holding) → IsKept z o words (holdings before) (holding_in s t (joined_since x)) (holdings after) log words' h log → IsKept z o words (holdings before) (holding_of x) (holdings after) log words' h log
+  kept_here : (t : Stage) → s.stage ≡ t → (words' : List ℕ) (h : Holding) → IsKept z o words (holdings before) (holding_in s t (joined_since x)) (holdings after) log words' h log →
+      IsKept z o words (holdings before) (holding_of x) (holdings after) log words' h log
   kept_here t e words' h k = subst (λ (u : Stage). IsKept z o words (holdings before) (holding_in s u (joined_since x)) (holdings after) log words' h log) (sym e) k
 
   counter_inside : pool_counter z < length words
   counter_inside = let count = w.memory.count in let some = w.memory.sizes.slots.0 in omega (arith, count, some)
 
   -- within the pool: the claimed words are the port's own
-  claim_keeps : (h : Holding) (size : ℕ) (block : List ℕ) → LawfulWords z o words (holdings before ++ h ∷ holdings after) log → h.own ≡ None → h.due ≡ None → length block ≡ size → fits_pool s.sizes size a ≡ true → IsKept z o words (holdings before) h (holdings after) log (words_after words (Add (pool_counter z) size)) (record h { own = Some (record { space = Pool; at = a; words = block; stored = 0 }) }) log
+  claim_keeps : (h : Holding) (size : ℕ) (block : List ℕ) → LawfulWords z o words (holdings before ++ h ∷ holdings after) log → h.own ≡ None → h.due ≡ None → length block ≡ size →
+      fits_pool s.sizes size a ≡ true → IsKept z o words (holdings before) h (holdings after) log (words_after words (Add (pool_counter z) size))
+      (record h { own = Some (record { space = Pool; at = a; words = block; stored = 0 }) }) log
   claim_keeps h size block memory free none counts fits =
       let room = ltb-true (a + size) (pool_end s.sizes + 1) fits in
       let end : pool_end s.sizes ≡ pool_end z = ap pool_end (sizes_here z o words before x after log w) in
-      subst (λ n. IsKept z o words (holdings before) h (holdings after) log (words_after words (Add (pool_counter z) n)) (record h { own = Some (record { space = Pool; at = a; words = block; stored = 0 }) }) log) counts
+      subst (λ n. IsKept z o words (holdings before) h (holdings after) log (words_after words (Add (pool_counter z) n))
+          (record h { own = Some (record { space = Pool; at = a; words = block; stored = 0 }) }) log) counts
       (claims_are_kept z o words (holdings before) h (holdings after) log Pool block memory free none (omega (arith, room, end, counts)))
 
   -- past its end: the port is marked
-  refusal_keeps : (h : Holding) (size : ℕ) → LawfulWords z o words (holdings before ++ h ∷ holdings after) log → h.pool_spent ≡ false → size ≤ 4 + 2 * z.m → fits_pool s.sizes size a ≡ false → IsKept z o words (holdings before) h (holdings after) log (words_after words (Add (pool_counter z) size)) (record h { pool_spent = true }) log
+  refusal_keeps : (h : Holding) (size : ℕ) → LawfulWords z o words (holdings before ++ h ∷ holdings after) log → h.pool_spent ≡ false → size ≤ 4 + 2 * z.m → fits_pool s.sizes size a ≡ false →
+      IsKept z o words (holdings before) h (holdings after) log (words_after words (Add (pool_counter z) size)) (record h { pool_spent = true }) log
   refusal_keeps h size memory unmarked few over =
       let past = ltb-false (a + size) (pool_end s.sizes + 1) over in
       let end : pool_end s.sizes ≡ pool_end z = ap pool_end (sizes_here z o words before x after log w) in
@@ -106,20 +97,26 @@ module _ (z : Layout) (o : Opening) (words : List ℕ) (before : List Part) (x :
 
       either : (b : Bool) → fits_pool s.sizes (record_size s) a ≡ b → LeadsAt z o words before x after log s (ClaimingRecord c old) (Add (pool_counter z) (record_size s))
       either true fits =
-          let keeps = kept_here (ClaimingRecord c old) e (words_after words (Add (pool_counter z) (record_size s))) (holding_at (at_stage s (StoringRecord c old a 0)) (joined_since x)) (claim_keeps (holding_in s (ClaimingRecord c old) (joined_since x)) (record_size s) (record_words s c old a) (memory_at z o words before x after log w (ClaimingRecord c old) e) refl refl (length_record s c old a) fits) in
-          quiet z o words before x after log w (ClaimingRecord c old) (Add (pool_counter z) (record_size s)) (at_stage s (StoringRecord c old a 0)) (holding_at (at_stage s (StoringRecord c old a 0)) (joined_since x)) e due (ap (λ (b : Bool). cond b (at_stage s (StoringRecord c old a 0)) (pool_refused s)) fits) refl counter_inside pool_possible refl keeps (λ ks is. tt) refl refl
+          let keeps = kept_here (ClaimingRecord c old) e (words_after words (Add (pool_counter z) (record_size s))) (holding_at (at_stage s (StoringRecord c old a 0)) (joined_since x))
+              (claim_keeps (holding_in s (ClaimingRecord c old) (joined_since x)) (record_size s) (record_words s c old a) (memory_at z o words before x after log w (ClaimingRecord c old) e) refl
+              refl (length_record s c old a) fits) in
+          quiet z o words before x after log w (ClaimingRecord c old) (Add (pool_counter z) (record_size s)) (at_stage s (StoringRecord c old a 0))
+              (holding_at (at_stage s (StoringRecord c old a 0)) (joined_since x)) e due (ap (λ (b : Bool). cond b (at_stage s (StoringRecord c old a 0)) (pool_refused s)) fits) refl counter_inside
+              pool_possible refl keeps (λ ks is. tt) refl refl
       either false over =
           let sound = sound_at z o words before x after log w (ClaimingRecord c old) e in
           let all = sound_here z o words before x after log w in
           let sizes = sizes_here z o words before x after log w in
           let few : record_size s ≤ 4 + 2 * z.m = subst (λ (y : Layout). record_size s ≤ 4 + 2 * y.m) sizes (size_few s all.indices.few).1 in
-          let keeps = kept_here (ClaimingRecord c old) e (words_after words (Add (pool_counter z) (record_size s))) (holding_at (pool_refused s) (joined_since x)) (refusal_keeps (holding_in s (ClaimingRecord c old) (joined_since x)) (record_size s) (memory_at z o words before x after log w (ClaimingRecord c old) e) sound.2 few over) in
+          let keeps = kept_here (ClaimingRecord c old) e (words_after words (Add (pool_counter z) (record_size s))) (holding_at (pool_refused s) (joined_since x))
+              (refusal_keeps (holding_in s (ClaimingRecord c old) (joined_since x)) (record_size s) (memory_at z o words before x after log w (ClaimingRecord c old) e) sound.2 few over) in
           let g = going z o words before x after log w (ClaimingRecord c old) e refl refl in
           let known = g.knows in
           let called = known.0.called in
           let k = known_here z o words before x after log w in
           let below : c.component < x.begun.sizes.m = (subst (is_sound_at x.begun) called k.sound.stage).0 in
-          quiet z o words before x after log w (ClaimingRecord c old) (Add (pool_counter z) (record_size s)) (pool_refused s) (holding_at (pool_refused s) (joined_since x)) e due (ap (λ (b : Bool). cond b (at_stage s (StoringRecord c old a 0)) (pool_refused s)) over) refl counter_inside pool_possible refl keeps (λ ks is. tt) refl
+          quiet z o words before x after log w (ClaimingRecord c old) (Add (pool_counter z) (record_size s)) (pool_refused s) (holding_at (pool_refused s) (joined_since x)) e due
+              (ap (λ (b : Bool). cond b (at_stage s (StoringRecord c old a 0)) (pool_refused s)) over) refl counter_inside pool_possible refl keeps (λ ks is. tt) refl
           (record { none = refl; call = update_call c.component c.expected c.value; made = ap (call_at x.begun) called; may = may_refuse c.expected below })
         where
           may_refuse : (f : Option ℕ) → c.component < x.begun.sizes.m → MayBeRefused x.begun.sizes.m (update_call c.component f c.value) refused.PoolSpent
@@ -136,24 +133,30 @@ module _ (z : Layout) (o : Opening) (words : List ℕ) (before : List Part) (x :
       either : (b : Bool) → fits_pool s.sizes (1 + length s.asked) a ≡ b → LeadsAt z o words before x after log s ScanBegun (Add (pool_counter z) (1 + length s.asked))
       either true fits =
           let t = at_stage s (StoringAnnouncement a 0) in
-          let keeps = kept_here ScanBegun e (words_after words (Add (pool_counter z) (1 + length s.asked))) (holding_at t (joined_since x)) (claim_keeps (holding_in s ScanBegun (joined_since x)) (1 + length s.asked) (announcement_block s.asked) (memory_at z o words before x after log w ScanBegun e) refl refl (omega arith) fits) in
-          quiet z o words before x after log w ScanBegun (Add (pool_counter z) (1 + length s.asked)) t (holding_at t (joined_since x)) e due (ap (λ (b : Bool). cond b (at_stage s (StoringAnnouncement a 0)) (pool_refused s)) fits) refl counter_inside pool_possible refl keeps (λ ks is. tt) refl refl
+          let keeps = kept_here ScanBegun e (words_after words (Add (pool_counter z) (1 + length s.asked))) (holding_at t (joined_since x))
+              (claim_keeps (holding_in s ScanBegun (joined_since x)) (1 + length s.asked) (announcement_block s.asked) (memory_at z o words before x after log w ScanBegun e) refl
+              refl (omega arith) fits) in
+          quiet z o words before x after log w ScanBegun (Add (pool_counter z) (1 + length s.asked)) t (holding_at t (joined_since x)) e due
+              (ap (λ (b : Bool). cond b (at_stage s (StoringAnnouncement a 0)) (pool_refused s)) fits) refl counter_inside pool_possible refl keeps (λ ks is. tt) refl refl
       either false over =
           let t = pool_refused s in
           let sound = sound_at z o words before x after log w ScanBegun e in
           let all = sound_here z o words before x after log w in
           let sizes = sizes_here z o words before x after log w in
           let few : length s.asked ≤ z.m = subst (λ (y : Layout). length s.asked ≤ y.m) sizes all.asked.few in
-          let keeps = kept_here ScanBegun e (words_after words (Add (pool_counter z) (1 + length s.asked))) (holding_at t (joined_since x)) (refusal_keeps (holding_in s ScanBegun (joined_since x)) (1 + length s.asked) (memory_at z o words before x after log w ScanBegun e) sound.1 (omega (arith, few)) over) in
+          let keeps = kept_here ScanBegun e (words_after words (Add (pool_counter z) (1 + length s.asked))) (holding_at t (joined_since x))
+              (refusal_keeps (holding_in s ScanBegun (joined_since x)) (1 + length s.asked) (memory_at z o words before x after log w ScanBegun e) sound.1 (omega (arith, few)) over) in
           let begun = begun_here z o words before x after log w ScanBegun e refl in
           let called : x.begun.stage ≡ ScanBegun = ap (λ (d : CoreState). d.stage) (sym begun) ∙ e in
           let k = known_here z o words before x after log w in
           let may = subst (is_sound_at x.begun) called k.sound.stage in
-          quiet z o words before x after log w ScanBegun (Add (pool_counter z) (1 + length s.asked)) t (holding_at t (joined_since x)) e due (ap (λ (b : Bool). cond b (at_stage s (StoringAnnouncement a 0)) (pool_refused s)) over) refl counter_inside pool_possible refl keeps (λ ks is. tt) refl
+          quiet z o words before x after log w ScanBegun (Add (pool_counter z) (1 + length s.asked)) t (holding_at t (joined_since x)) e due
+              (ap (λ (b : Bool). cond b (at_stage s (StoringAnnouncement a 0)) (pool_refused s)) over) refl counter_inside pool_possible refl keeps (λ ks is. tt) refl
           (record { none = refl; call = call.Scan x.begun.asked; made = ap (call_at x.begun) called; may = (names_all x.begun.sizes.m x.begun.asked k.sound.asked.each, may.0) })
 
   -- a word of the announcement is stored
-  pub announcement_stored : (at k : ℕ) → s.stage ≡ StoringAnnouncement at k → LeadsAt z o words before x after log s (StoringAnnouncement at k) (Store (at + k) (slice_index (announcement_block s.asked) k))
+  pub announcement_stored : (at k : ℕ) → s.stage ≡ StoringAnnouncement at k → LeadsAt z o words before x after log s (StoringAnnouncement at k)
+      (Store (at + k) (slice_index (announcement_block s.asked) k))
   announcement_stored at k e = either (k == length s.asked) refl
     where
       own : Own
@@ -169,20 +172,30 @@ module _ (z : Layout) (o : Opening) (words : List ℕ) (before : List Part) (x :
           let last = place.1 in
           omega (arith, last, less, end, count)
 
-      stores : IsKept z o words (holdings before) (holding_in s (StoringAnnouncement at k) (joined_since x)) (holdings after) log (words_after words (Store (at + k) (slice_index (announcement_block s.asked) k))) (record (holding_in s (StoringAnnouncement at k) (joined_since x)) { own = Some (record { space = Pool; at = at; words = announcement_block s.asked; stored = k + 1 }) }) log
+      stores : IsKept z o words (holdings before) (holding_in s (StoringAnnouncement at k) (joined_since x)) (holdings after) log
+          (words_after words (Store (at + k) (slice_index (announcement_block s.asked) k)))
+          (record (holding_in s (StoringAnnouncement at k) (joined_since x)) { own = Some (record { space = Pool; at = at; words = announcement_block s.asked; stored = k + 1 }) }) log
       stores =
           let sound = sound_at z o words before x after log w (StoringAnnouncement at k) e in
           let less = sound.3 in
-          stores_are_kept z o words (holdings before) (holding_in s (StoringAnnouncement at k) (joined_since x)) (holdings after) log (record { space = Pool; at = at; words = announcement_block s.asked; stored = k }) (memory_at z o words before x after log w (StoringAnnouncement at k) e) refl refl (omega (arith, less))
+          stores_are_kept z o words (holdings before) (holding_in s (StoringAnnouncement at k) (joined_since x)) (holdings after) log
+              (record { space = Pool; at = at; words = announcement_block s.asked; stored = k }) (memory_at z o words before x after log w (StoringAnnouncement at k) e) refl refl (omega (arith, less))
 
-      kept_stores : IsKept z o words (holdings before) (holding_of x) (holdings after) log (words_after words (Store (at + k) (slice_index (announcement_block s.asked) k))) (record (holding_in s (StoringAnnouncement at k) (joined_since x)) { own = Some (record { space = Pool; at = at; words = announcement_block s.asked; stored = k + 1 }) }) log
-      kept_stores = kept_here (StoringAnnouncement at k) e (words_after words (Store (at + k) (slice_index (announcement_block s.asked) k))) (record (holding_in s (StoringAnnouncement at k) (joined_since x)) { own = Some (record { space = Pool; at = at; words = announcement_block s.asked; stored = k + 1 }) }) stores
+      kept_stores : IsKept z o words (holdings before) (holding_of x) (holdings after) log (words_after words (Store (at + k) (slice_index (announcement_block s.asked) k)))
+          (record (holding_in s (StoringAnnouncement at k) (joined_since x)) { own = Some (record { space = Pool; at = at; words = announcement_block s.asked; stored = k + 1 }) }) log
+      kept_stores = kept_here (StoringAnnouncement at k) e (words_after words (Store (at + k) (slice_index (announcement_block s.asked) k)))
+          (record (holding_in s (StoringAnnouncement at k) (joined_since x)) { own = Some (record { space = Pool; at = at; words = announcement_block s.asked; stored = k + 1 }) }) stores
 
       either : (b : Bool) → (k == length s.asked) ≡ b → LeadsAt z o words before x after log s (StoringAnnouncement at k) (Store (at + k) (slice_index (announcement_block s.asked) k))
       either true last =
           let all : 1 + length s.asked ≡ k + 1 = let is = eqb-true k (length s.asked) last in omega (arith, is) in
-          quiet z o words before x after log w (StoringAnnouncement at k) (Store (at + k) (slice_index (announcement_block s.asked) k)) (begin_joining s at) (record (holding_in s (StoringAnnouncement at k) (joined_since x)) { own = Some (record { space = Pool; at = at; words = announcement_block s.asked; stored = k + 1 }) }) e refl (ap (λ (b : Bool). cond b (begin_joining s at) (at_stage s (StoringAnnouncement at (k + 1)))) last) refl inside refl
-          (ap (λ n. record (holding_in s (StoringAnnouncement at k) (joined_since x)) { own = Some (record { space = Pool; at = at; words = announcement_block s.asked; stored = n }) }) all) kept_stores (λ ks is. tt) refl refl
+          quiet z o words before x after log w (StoringAnnouncement at k) (Store (at + k) (slice_index (announcement_block s.asked) k)) (begin_joining s at)
+              (record (holding_in s (StoringAnnouncement at k) (joined_since x)) { own = Some (record { space = Pool; at = at; words = announcement_block s.asked; stored = k + 1 }) }) e refl
+              (ap (λ (b : Bool). cond b (begin_joining s at) (at_stage s (StoringAnnouncement at (k + 1)))) last) refl inside refl
+          (ap (λ n. record (holding_in s (StoringAnnouncement at k) (joined_since x)) { own = Some (record { space = Pool; at = at; words = announcement_block s.asked; stored = n }) }) all)
+              kept_stores (λ ks is. tt) refl refl
       either false more =
-          quiet z o words before x after log w (StoringAnnouncement at k) (Store (at + k) (slice_index (announcement_block s.asked) k)) (at_stage s (StoringAnnouncement at (k + 1))) (record (holding_in s (StoringAnnouncement at k) (joined_since x)) { own = Some (record { space = Pool; at = at; words = announcement_block s.asked; stored = k + 1 }) }) e refl (ap (λ (b : Bool). cond b (begin_joining s at) (at_stage s (StoringAnnouncement at (k + 1)))) more) refl inside refl
+          quiet z o words before x after log w (StoringAnnouncement at k) (Store (at + k) (slice_index (announcement_block s.asked) k)) (at_stage s (StoringAnnouncement at (k + 1)))
+              (record (holding_in s (StoringAnnouncement at k) (joined_since x)) { own = Some (record { space = Pool; at = at; words = announcement_block s.asked; stored = k + 1 }) }) e refl
+              (ap (λ (b : Bool). cond b (begin_joining s at) (at_stage s (StoringAnnouncement at (k + 1)))) more) refl inside refl
           refl kept_stores (λ ks is. tt) refl refl

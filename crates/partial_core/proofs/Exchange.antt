@@ -39,14 +39,15 @@ use Rattle.partial_core.specs.Known.{IsKnown, notes_by, IsTrueYet}
 use Rattle.partial_core.specs.Held.{holding_of, holdings, joined_since}
 use Rattle.partial_machine.specs.Calls.{is_at_rest, call_at, update_call}
 use Rattle.partial_core.specs.Steps.{AreNotesOf}
-use Rattle.partial_core.proofs.Going.{KnowsOld}
+use Rattle.partial_core.proofs.MidCalls.{KnowsOld}
 use Rattle.partial_core.proofs.Calls.{led}
 use Rattle.partial_core.proofs.Parts.{known_grows, known_end, gone, changed, holdings_split, once_own, once_other}
 use Rattle.partial_core.proofs.Steps.{LeadsAt, holding_in, known_here, sizes_here, sound_at, port_here, seen_here, memory_here, memory_at, holding_gone, going, ends}
 use Rattle.partial_core.proofs.Ports.{others}
 use Rattle.partial_core.proofs.Reading.{stamp_now, stamp_then, component_record}
 
-module _ (z : Layout) (o : Opening) (words : List ℕ) (before : List Part) (x : Part) (after : List Part) (log : List Applied) (w : Lawful z o words (before ++ x ∷ after) log) (c : Change) (old at : ℕ) (e : (core_of x).stage ≡ Exchanging c old at) where
+module _ (z : Layout) (o : Opening) (words : List ℕ) (before : List Part) (x : Part) (after : List Part) (log : List Applied) (w : Lawful z o words (before ++ x ∷ after) log) (c : Change)
+    (old at : ℕ) (e : (core_of x).stage ≡ Exchanging c old at) where
   abbrev s : CoreState
   s = core_of x
 
@@ -82,7 +83,8 @@ module _ (z : Layout) (o : Opening) (words : List ℕ) (before : List Part) (x :
   inside = let count = w.memory.count in let b = below in omega (arith, count, b)
 
   -- what the part holds, with its stage named
-  kept_here : (words' : List ℕ) (h : Holding) (log' : List Applied) → IsKept z o words (holdings before) held (holdings after) log words' h log' → IsKept z o words (holdings before) (holding_of x) (holdings after) log words' h log'
+  kept_here : (words' : List ℕ) (h : Holding) (log' : List Applied) → IsKept z o words (holdings before) held (holdings after) log words' h log' → IsKept z o words (holdings before) (holding_of x)
+      (holdings after) log words' h log'
   kept_here words' h log' k = subst (λ (u : Stage). IsKept z o words (holdings before) (holding_in s u (joined_since x)) (holdings after) log words' h log') (sym e) k
 
   abbrev step : Step
@@ -99,7 +101,8 @@ module _ (z : Layout) (o : Opening) (words : List ℕ) (before : List Part) (x :
   dropped = record held { own = None; due = None }
 
   lost_keeps : (found == old) ≡ false → IsKept z o words (holdings before) (holding_of x) (holdings after) log (words_after words step) dropped log
-  lost_keeps lost = subst (λ (ws : List ℕ). IsKept z o words (holdings before) (holding_of x) (holdings after) log ws dropped log) (sym (words_stay lost)) (kept_here words dropped log (drops_are_kept z o words (holdings before) held (holdings after) log (memory_at z o words before x after log w (Exchanging c old at) e)))
+  lost_keeps lost = subst (λ (ws : List ℕ). IsKept z o words (holdings before) (holding_of x) (holdings after) log ws dropped log) (sym (words_stay lost))
+      (kept_here words dropped log (drops_are_kept z o words (holdings before) held (holdings after) log (memory_at z o words before x after log w (Exchanging c old at) e)))
 
   nothing_added : (found == old) ≡ false → added_at s.port (Exchanging c old at) found ≡ []
   nothing_added lost = ap (λ b. cond {A = List Applied} b (record { port = s.port; component = c.component; value = c.value; stamp = at } ∷ []) []) lost
@@ -112,11 +115,13 @@ module _ (z : Layout) (o : Opening) (words : List ℕ) (before : List Part) (x :
       let over = overtaken_at o log c.component (first_at x.kept) (λ same. eqb-false found old lost (now ∙ same ∙ sym known.stamp)) in
       let n : Noted = record { call = call.Update c.component c.value; answer = answer.Lost found; note = Some (note.Lost over.place) } in
       let reply_is : overtaken c found ≡ reply.Lost found = ap (λ (f : Option ℕ). option_map_or (λ _. reply.Changed found) f (reply.Lost found)) is in
-      let leads : advance_at s (Exchanging c old at) found ≡ at_stage s (Finished (reply.Lost found)) = ap (λ (b : Bool). at_stage s (Finished (cond b (reply.Applied at) (overtaken c found)))) lost ∙ ap (λ (r : Reply). at_stage s (Finished r)) reply_is in
+      let leads : advance_at s (Exchanging c old at) found ≡ at_stage s (Finished (reply.Lost found)) = ap (λ (b : Bool). at_stage s (Finished (cond b (reply.Applied at) (overtaken c found)))) lost ∙
+          ap (λ (r : Reply). at_stage s (Finished r)) reply_is in
       let within = place_below log over.place over.entry over.stands in
       let low = g.low in
       let behind = over.behind in
-      ends z o words before x after log w (Exchanging c old at) step (at_stage s (Finished (reply.Lost found))) dropped e refl leads (nothing_added lost) inside possible refl (lost_keeps lost) (λ ks is. tt)
+      ends z o words before x after log w (Exchanging c old at) step (at_stage s (Finished (reply.Lost found))) dropped e refl leads (nothing_added lost) inside possible refl
+          (lost_keeps lost) (λ ks is. tt)
       n refl (below_values, ((over.entry, over.stands, over.component, over.stamp ∙ sym now), omega (arith, low, behind))) (omega (arith, within)) refl
       (record {
         call = call.Update c.component c.value;
@@ -131,11 +136,13 @@ module _ (z : Layout) (o : Opening) (words : List ℕ) (before : List Part) (x :
       let g = going z o words before x after log w (Exchanging c old at) e refl refl in
       let n : Noted = record { call = call.UpdateIf c.component t c.value; answer = answer.Changed found; note = Some (note.Saw (length log)) } in
       let reply_is : overtaken c found ≡ reply.Changed found = ap (λ (f : Option ℕ). option_map_or (λ _. reply.Changed found) f (reply.Lost found)) is in
-      let leads : advance_at s (Exchanging c old at) found ≡ at_stage s (Finished (reply.Changed found)) = ap (λ (b : Bool). at_stage s (Finished (cond b (reply.Applied at) (overtaken c found)))) lost ∙ ap (λ (r : Reply). at_stage s (Finished r)) reply_is in
+      let leads : advance_at s (Exchanging c old at) found ≡ at_stage s (Finished (reply.Changed found)) = ap (λ (b : Bool). at_stage s (Finished (cond b (reply.Applied at) (overtaken c found))))
+          lost ∙ ap (λ (r : Reply). at_stage s (Finished r)) reply_is in
       let other : found ≢ t = λ same. eqb-false found old lost (same ∙ expected_old t is) in
       let order = g.order in
       let last = g.inside in
-      ends z o words before x after log w (Exchanging c old at) step (at_stage s (Finished (reply.Changed found))) dropped e refl leads (nothing_added lost) inside possible refl (lost_keeps lost) (λ ks is. tt)
+      ends z o words before x after log w (Exchanging c old at) step (at_stage s (Finished (reply.Changed found))) dropped e refl leads (nothing_added lost) inside possible refl
+          (lost_keeps lost) (λ ks is. tt)
       n refl (below_values, ((omega arith, sym (stamp_then z o words before x after log w c.component below), other), seen_here z o words before x after log w)) (omega arith) refl
       (record {
         call = call.UpdateIf c.component t c.value;
@@ -166,23 +173,31 @@ module _ (z : Layout) (o : Opening) (words : List ℕ) (before : List Part) (x :
       either : (b : Bool) → (s.port == p) ≡ b → places_by p 0 won_log ≡ places_written (notes_by p (before ++ y ∷ after))
       either true h =
           let is : port_of x ≡ p = sym mine ∙ eqb-true s.port p h in
-          let own_x : places_written (notes_by p (before ++ x ∷ after)) ≡ places_written x.notes = ap (λ n. places_written (notes_by n (before ++ x ∷ after))) (sym is) ∙ once_own before x after (others z o words before x after log w).0 (others z o words before x after log w).1 in
-          let own_y : places_written (notes_by p (before ++ y ∷ after)) ≡ places_written y.notes = ap (λ n. places_written (notes_by n (before ++ y ∷ after))) (sym (port ∙ is)) ∙ once_own before y after (all_weaker (λ (v : Part). port_of x ≢ port_of v) (λ (v : Part). port_of y ≢ port_of v) away before (others z o words before x after log w).0) (all_weaker (λ (v : Part). port_of x ≢ port_of v) (λ (v : Part). port_of y ≢ port_of v) away after (others z o words before x after log w).1) in
-          places_by-push p 0 log entry ∙ ap (λ (b : Bool). places_by p 0 log ++ cond b ((0 + length log) ∷ []) []) h ∙ ap (λ n. places_by p 0 log ++ n ∷ []) (omega arith) ∙ ap (λ (l : List ℕ). l ++ length log ∷ []) (w.once p ∙ own_x) ∙ sym more ∙ sym own_y
+          let own_x : places_written (notes_by p (before ++ x ∷ after)) ≡ places_written x.notes = ap (λ n. places_written (notes_by n (before ++ x ∷ after))) (sym is) ∙ once_own before x after
+              (others z o words before x after log w).0 (others z o words before x after log w).1 in
+          let own_y : places_written (notes_by p (before ++ y ∷ after)) ≡ places_written y.notes = ap (λ n. places_written (notes_by n (before ++ y ∷ after))) (sym (port ∙ is)) ∙ once_own before y
+              after (all_weaker (λ (v : Part). port_of x ≢ port_of v) (λ (v : Part). port_of y ≢ port_of v) away before (others z o words before x after log w).0)
+              (all_weaker (λ (v : Part). port_of x ≢ port_of v) (λ (v : Part). port_of y ≢ port_of v) away after (others z o words before x after log w).1) in
+          places_by-push p 0 log entry ∙ ap (λ (b : Bool). places_by p 0 log ++ cond b ((0 + length log) ∷ []) []) h ∙ ap (λ n. places_by p 0 log ++ n ∷ [])
+              (omega arith) ∙ ap (λ (l : List ℕ). l ++ length log ∷ []) (w.once p ∙ own_x) ∙ sym more ∙ sym own_y
       either false h =
-          places_by-push p 0 log entry ∙ ap (λ (b : Bool). places_by p 0 log ++ cond b ((0 + length log) ∷ []) []) h ∙ append-nil (places_by p 0 log) ∙ w.once p ∙ sym (once_other p before x y after port (λ same. eqb-false s.port p h (mine ∙ same)))
+          places_by-push p 0 log entry ∙ ap (λ (b : Bool). places_by p 0 log ++ cond b ((0 + length log) ∷ []) []) h ∙ append-nil
+              (places_by p 0 log) ∙ w.once p ∙ sym (once_other p before x y after port (λ same. eqb-false s.port p h (mine ∙ same)))
 
-  won_legal : (f : Option ℕ) → c.expected ≡ f → found ≡ old → IsLegal o won_log (port_of x) (seen_by 0 x.notes) (record { call = update_call c.component f c.value; answer = answer.Applied at; note = Some (note.Wrote (length log)) })
+  won_legal : (f : Option ℕ) → c.expected ≡ f → found ≡ old → IsLegal o won_log (port_of x) (seen_by 0 x.notes)
+      (record { call = update_call c.component f c.value; answer = answer.Applied at; note = Some (note.Wrote (length log)) })
   won_legal f is won = legal f is
     where
       stands : slice_get won_log (length log) ≡ Some (record { port = port_of x; component = c.component; value = c.value; stamp = at })
       stands = slice_get_last log entry ∙ ap (λ n. Some (record { port = n; component = c.component; value = c.value; stamp = at })) (port_here z o words before x after log w)
 
-      legal : (f : Option ℕ) → c.expected ≡ f → IsLegal o won_log (port_of x) (seen_by 0 x.notes) (record { call = update_call c.component f c.value; answer = answer.Applied at; note = Some (note.Wrote (length log)) })
+      legal : (f : Option ℕ) → c.expected ≡ f → IsLegal o won_log (port_of x) (seen_by 0 x.notes)
+          (record { call = update_call c.component f c.value; answer = answer.Applied at; note = Some (note.Wrote (length log)) })
       legal None is = (below_values, (stands, seen_here z o words before x after log w))
       legal (Some t) is =
           let front : take (length log) won_log ≡ log = take_at log (entry ∷ []) (length log) refl in
-          let stamp : stamp_of o (take (length log) won_log) c.component ≡ t = ap (λ (l : List Applied). stamp_of o l c.component) front ∙ sym (stamp_now z o words before x after log w c.component below) ∙ won ∙ sym (expected_old t is) in
+          let stamp : stamp_of o (take (length log) won_log) c.component ≡ t =
+              ap (λ (l : List Applied). stamp_of o l c.component) front ∙ sym (stamp_now z o words before x after log w c.component below) ∙ won ∙ sym (expected_old t is) in
           (below_values, ((stands, stamp), seen_here z o words before x after log w))
 
   abbrev won_note : Noted
@@ -197,16 +212,22 @@ module _ (z : Layout) (o : Opening) (words : List ℕ) (before : List Part) (x :
       let added : added_at s.port (Exchanging c old at) found ≡ entry ∷ [] = ap (λ b. cond {A = List Applied} b (entry ∷ []) []) same in
       let words' = words_after words step in
       let holds : holding_of y ≡ dropped = holding_gone z o words before x after log w (Exchanging c old at) t won_log found (won_note ∷ []) e leads in
-      let keeps : IsKept z o words (holdings before) (holding_of x) (holdings after) log words' (holding_of y) won_log = subst (λ (h : Holding). IsKept z o words (holdings before) (holding_of x) (holdings after) log words' h won_log) (sym holds) (kept_here words' dropped won_log (wins_are_kept z o words (holdings before) held (holdings after) log due (memory_at z o words before x after log w (Exchanging c old at) e) refl is)) in
+      let keeps : IsKept z o words (holdings before) (holding_of x) (holdings after) log words' (holding_of y) won_log =
+          subst (λ (h : Holding). IsKept z o words (holdings before) (holding_of x) (holdings after) log words' h won_log) (sym holds)
+          (kept_here words' dropped won_log (wins_are_kept z o words (holdings before) held (holdings after) log due (memory_at z o words before x after log w (Exchanging c old at) e) refl is)) in
       let split = holdings_split before y after in
       let here : IsKnown z o words' (holdings (before ++ y ∷ after)) won_log x = known_grows z o words words' hs (holdings (before ++ y ∷ after)) log (entry ∷ [])
-      (λ n k l. subst (λ (ks : List Holding). IsLoaded z o words' ks won_log n k) (sym split) (keeps.loads n k (subst (λ (ks : List Holding). IsLoaded z o words ks log n k) (holdings_split before x after) l))) x (known_here z o words before x after log w) in
+      (λ n k l. subst (λ (ks : List Holding). IsLoaded z o words' ks won_log n k) (sym split)
+          (keeps.loads n k (subst (λ (ks : List Holding). IsLoaded z o words ks log n k) (holdings_split before x after) l))) x (known_here z o words before x after log w) in
       let longer : length won_log ≡ length log + 1 = length_push log entry in
       let pushed = seen_by-push 0 x.notes won_note in
       let due_step : step_of s ≡ Some step = ap (λ (u : Stage). step_at s u) e in
       let possible_here : IsPossible s found = subst (λ (u : Stage). IsPossibleAt s u found) (sym e) possible in
-      let known : IsKnown z o words' (holdings (before ++ y ∷ after)) won_log y = known_end z o words' (holdings (before ++ y ∷ after)) won_log x found won_note here (ap is_at_rest e) possible_here (subst (λ (f : Option Step). IsTrueYet z o words' (holdings (before ++ y ∷ after)) won_log f (record { answer = found; at = length won_log })) (sym due_step) tt) (won_legal c.expected refl is) (omega (arith, pushed, longer)) (ap (λ (u : Stage). is_at_rest (advance_at s u found).stage) e ∙ ap (λ (d : CoreState). is_at_rest d.stage) leads) in
-      let lawful : Lawful z o words' (before ++ y ∷ after) won_log = changed z o words words' before x y after log (entry ∷ []) w keeps (λ p. won_once p y refl (places_written-append x.notes (won_note ∷ []))) known in
+      let known : IsKnown z o words' (holdings (before ++ y ∷ after)) won_log y = known_end z o words' (holdings (before ++ y ∷ after)) won_log x found won_note here (ap is_at_rest e) possible_here
+          (subst (λ (f : Option Step). IsTrueYet z o words' (holdings (before ++ y ∷ after)) won_log f (record { answer = found; at = length won_log })) (sym due_step) tt)
+          (won_legal c.expected refl is) (omega (arith, pushed, longer)) (ap (λ (u : Stage). is_at_rest (advance_at s u found).stage) e ∙ ap (λ (d : CoreState). is_at_rest d.stage) leads) in
+      let lawful : Lawful z o words' (before ++ y ∷ after) won_log = changed z o words words' before x y after log (entry ∷ []) w keeps
+          (λ p. won_once p y refl (places_written-append x.notes (won_note ∷ []))) known in
       let g = going z o words before x after log w (Exchanging c old at) e refl refl in
       let order = g.order in
       let last = g.inside in
@@ -214,7 +235,8 @@ module _ (z : Layout) (o : Opening) (words : List ℕ) (before : List Part) (x :
         answers = record { within = inside; gives = refl };
         possible = possible;
         new = won_note ∷ [];
-        noted = subst (λ (b : Bool). AreNotesOf (gone x (log ++ cond b (entry ∷ []) []) found (won_note ∷ [])) (Some (cond b (reply.Applied at) (overtaken c found))) (won_note ∷ [])) (sym same) (record {
+        noted = subst (λ (b : Bool). AreNotesOf (gone x (log ++ cond b (entry ∷ []) []) found (won_note ∷ [])) (Some (cond b (reply.Applied at) (overtaken c found)))
+            (won_note ∷ [])) (sym same) (record {
           call = update_call c.component c.expected c.value;
           note = note.Wrote (length log);
           is = refl;
@@ -225,7 +247,8 @@ module _ (z : Layout) (o : Opening) (words : List ℕ) (before : List Part) (x :
         });
         lawful = subst (λ (es : List Applied). Lawful z o words' (before ++ gone x (log ++ es) found (won_note ∷ []) ∷ after) (log ++ es)) (sym added) lawful;
         loads = λ n k l. subst (λ (es : List Applied). IsLoaded z o words' (holdings (before ++ gone x (log ++ es) found (won_note ∷ []) ∷ after)) (log ++ es) n k) (sym added)
-            (subst (λ (ks : List Holding). IsLoaded z o words' ks won_log n k) (sym split) (keeps.loads n k (subst (λ (ks : List Holding). IsLoaded z o words ks log n k) (holdings_split before x after) l)));
+            (subst (λ (ks : List Holding). IsLoaded z o words' ks won_log n k) (sym split)
+                (keeps.loads n k (subst (λ (ks : List Holding). IsLoaded z o words ks log n k) (holdings_split before x after) l)));
       }
 
   pub record_exchanged : LeadsAt z o words before x after log s (Exchanging c old at) step

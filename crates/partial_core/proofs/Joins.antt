@@ -23,7 +23,7 @@ use Rattle.partial_state.specs.LawfulWords.{LawfulWords}
 use Rattle.partial_state.specs.Effects.{State, Keeps, IsKept}
 use Rattle.partial_state.proofs.MarkLaws.{drops_are_kept, slot_refusals_are_kept}
 use Rattle.partial_state.proofs.SlotLaws.{slot_claims_are_kept, joins_are_kept}
-use Rattle.partial_state.proofs.Quiet.{slots_bound}
+use Rattle.partial_state.proofs.NoNewEntry.{slots_bound}
 use Rattle.partial_core.specs.Part.{Part, core_of}
 use Rattle.partial_core.specs.Lawful.{Lawful}
 use Rattle.partial_core.specs.Held.{holding_of, holding_at, holdings, joined_since, is_storing, joins_at}
@@ -45,7 +45,8 @@ same_step {a} {b} e = cc
 scan_refused : (s : CoreState) → IsSound s → is_sound_at s ScanBegun → MayBeRefused s.sizes.m (call.Scan s.asked) refused.SlotsSpent
 scan_refused s sound may = (names_all s.sizes.m s.asked sound.asked.each, may.0)
 
-module _ (z : Layout) (o : Opening) (words : List ℕ) (before : List Part) (x : Part) (after : List Part) (log : List Applied) (w : Lawful z o words (before ++ x ∷ after) log) (e : (core_of x).stage ≡ Joining) where
+module _ (z : Layout) (o : Opening) (words : List ℕ) (before : List Part) (x : Part) (after : List Part) (log : List Applied) (w : Lawful z o words (before ++ x ∷ after) log)
+    (e : (core_of x).stage ≡ Joining) where
   abbrev s : CoreState
   s = core_of x
 
@@ -54,7 +55,8 @@ module _ (z : Layout) (o : Opening) (words : List ℕ) (before : List Part) (x :
   join_sizes = (sound_at z o words before x after log w Joining e).2 ∙ sizes_here z o words before x after log w
 
   -- what the part holds, with its stage named
-  kept_here : (words' : List ℕ) (h : Holding) (log' : List Applied) → IsKept z o words (holdings before) (holding_in s Joining (joined_since x)) (holdings after) log words' h log' → IsKept z o words (holdings before) (holding_of x) (holdings after) log words' h log'
+  kept_here : (words' : List ℕ) (h : Holding) (log' : List Applied) → IsKept z o words (holdings before) (holding_in s Joining (joined_since x)) (holdings after) log words' h log' →
+      IsKept z o words (holdings before) (holding_of x) (holdings after) log words' h log'
   kept_here words' h log' k = subst (λ (u : Stage). IsKept z o words (holdings before) (holding_in s u (joined_since x)) (holdings after) log words' h log') (sym e) k
 
   -- what the join at a stage holds
@@ -66,7 +68,8 @@ module _ (z : Layout) (o : Opening) (words : List ℕ) (before : List Part) (x :
     due : step_at s Joining ≡ Some (Add (slot_counter z) 1)
     due = ap (λ (i : JoinStage). join_step s.join.sizes s.join.announcement i) at ∙ ap (λ (y : Layout). Some (Add (slot_counter y) 1)) join_sizes
 
-    leads : (b : Bool) → nat_lt (get_or words (slot_counter z) 0) s.join.sizes.slots ≡ b → advance_at s Joining (get_or words (slot_counter z) 0) ≡ (let j = cond b (Storing (get_or words (slot_counter z) 0)) Spent in after_joining (record s { join = record s.join { stage = j } }) j)
+    leads : (b : Bool) → nat_lt (get_or words (slot_counter z) 0) s.join.sizes.slots ≡ b →
+        advance_at s Joining (get_or words (slot_counter z) 0) ≡ (let j = cond b (Storing (get_or words (slot_counter z) 0)) Spent in after_joining (record s { join = record s.join { stage = j } }) j)
     leads b is = ap (λ (i : JoinStage). let j = join_after s.join.sizes i (get_or words (slot_counter z) 0) in after_joining (record s { join = record s.join { stage = j } }) j) at
         ∙ ap (λ (c : Bool). let j = cond c (Storing (get_or words (slot_counter z) 0)) Spent in after_joining (record s { join = record s.join { stage = j } }) j) is
 
@@ -74,7 +77,8 @@ module _ (z : Layout) (o : Opening) (words : List ℕ) (before : List Part) (x :
     not_storing = ap is_storing at
 
     possible : get_or words (slot_counter z) 0 ≤ s.sizes.slots + 64
-    possible = subst (λ (y : Layout). get_or words (slot_counter z) 0 ≤ y.slots + 64) (sym (sizes_here z o words before x after log w)) (slots_bound z o words (holdings (before ++ x ∷ after)) log w.memory)
+    possible = subst (λ (y : Layout). get_or words (slot_counter z) 0 ≤ y.slots + 64) (sym (sizes_here z o words before x after log w))
+        (slots_bound z o words (holdings (before ++ x ∷ after)) log w.memory)
 
     inside : slot_counter z < length words
     inside = let count = w.memory.count in omega (arith, count)
@@ -90,8 +94,10 @@ module _ (z : Layout) (o : Opening) (words : List ℕ) (before : List Part) (x :
         let below : n < z.slots = subst (λ (y : Layout). n < y.slots) join_sizes (ltb-true n s.join.sizes.slots room) in
         let memory = subst (λ (h : Holding). LawfulWords z o words (holdings before ++ h ∷ holdings after) log) (ap held at) (memory_at z o words before x after log w Joining e) in
         let keeps = slot_claims_are_kept z o words (holdings before) (held Claiming) (holdings after) log memory refl below in
-        let keeps_x = kept_here (words_after words (Add (slot_counter z) 1)) (held (Storing n)) log (subst (λ (h : Holding). IsKept z o words (holdings before) h (holdings after) log (words_after words (Add (slot_counter z) 1)) (held (Storing n)) log) (sym (ap held at)) keeps) in
-        quiet z o words before x after log w Joining (Add (slot_counter z) 1) t (held (Storing n)) e due (leads true room) refl inside possible (since_same t ∙ ap (λ (u : Stage). holding_in t u (joined_since x)) e) keeps_x (λ ks is. tt) refl
+        let keeps_x = kept_here (words_after words (Add (slot_counter z) 1)) (held (Storing n)) log
+            (subst (λ (h : Holding). IsKept z o words (holdings before) h (holdings after) log (words_after words (Add (slot_counter z) 1)) (held (Storing n)) log) (sym (ap held at)) keeps) in
+        quiet z o words before x after log w Joining (Add (slot_counter z) 1) t (held (Storing n)) e due (leads true room) refl inside possible
+            (since_same t ∙ ap (λ (u : Stage). holding_in t u (joined_since x)) e) keeps_x (λ ks is. tt) refl
         (subst (λ (u : Stage). AreNotesOf (gone x log n []) (reply_at u) []) (sym e) refl)
 
     -- all slots were claimed before
@@ -106,7 +112,10 @@ module _ (z : Layout) (o : Opening) (words : List ℕ) (before : List Part) (x :
         let dropped : Holding = record marked { own = None; due = None } in
         let marks = slot_refusals_are_kept z o words (holdings before) (held Claiming) (holdings after) log memory (sound_at z o words before x after log w Joining e).1 above in
         let drops = drops_are_kept z o words' (holdings before) marked (holdings after) log marks.lawful in
-        let keeps : IsKept z o words (holdings before) (held Claiming) (holdings after) log words' dropped log = keeps_then z o (record { words = words; holdings = holdings before ++ held Claiming ∷ holdings after; log = log }) (record { words = words'; holdings = holdings before ++ marked ∷ holdings after; log = log }) (record { words = words'; holdings = holdings before ++ dropped ∷ holdings after; log = log }) marks drops in
+        let keeps : IsKept z o words (holdings before) (held Claiming) (holdings after) log words' dropped log =
+            keeps_then z o (record { words = words; holdings = holdings before ++ held Claiming ∷ holdings after; log = log })
+            (record { words = words'; holdings = holdings before ++ marked ∷ holdings after; log = log })
+            (record { words = words'; holdings = holdings before ++ dropped ∷ holdings after; log = log }) marks drops in
         let keeps_x = kept_here words' dropped log (subst (λ (h : Holding). IsKept z o words (holdings before) h (holdings after) log words' dropped log) (sym (ap held at)) keeps) in
         let g = going z o words before x after log w Joining e refl refl in
         let known = g.knows in
@@ -134,11 +143,15 @@ module _ (z : Layout) (o : Opening) (words : List ℕ) (before : List Part) (x :
       let sizes = sizes_here z o words before x after log w in
       let few : length s.asked ≤ z.m = subst (λ (y : Layout). length s.asked ≤ y.m) sizes all.asked.few in
       let words' = words_after words (Store (slot_word z slot) s.join.announcement) in
-      let keeps = joins_are_kept z o words (holdings before) (held (Storing slot)) (holdings after) log slot s.join.announcement s.asked memory refl refl refl few (λ i lt. subst (λ (y : Layout). get_or s.asked i 0 < y.m) sizes (all.asked.each i lt)) in
-      let keeps_x = kept_here words' (holding_at t (length log)) log (subst (λ (h : Holding). IsKept z o words (holdings before) h (holdings after) log words' (holding_at t (length log)) log) (sym (ap held at)) keeps) in
+      let keeps = joins_are_kept z o words (holdings before) (held (Storing slot)) (holdings after) log slot s.join.announcement s.asked memory refl refl refl few
+          (λ i lt. subst (λ (y : Layout). get_or s.asked i 0 < y.m) sizes (all.asked.each i lt)) in
+      let keeps_x = kept_here words' (holding_at t (length log)) log (subst (λ (h : Holding). IsKept z o words (holdings before) h (holdings after) log words' (holding_at t (length log)) log)
+          (sym (ap held at)) keeps) in
       let count = w.memory.count in
-      let due : step_at s Joining ≡ Some (Store (slot_word z slot) s.join.announcement) = ap (λ (i : JoinStage). join_step s.join.sizes s.join.announcement i) at ∙ ap (λ (y : Layout). Some (Store (slot_word y slot) s.join.announcement)) join_sizes in
-      quiet z o words before x after log w Joining (Store (slot_word z slot) s.join.announcement) t (holding_at t (length log)) e due (ap (λ (i : JoinStage). let j = join_after s.join.sizes i 0 in after_joining (record s { join = record s.join { stage = j } }) j) at) refl (omega (arith, below, count)) (omega arith)
+      let due : step_at s Joining ≡ Some (Store (slot_word z slot) s.join.announcement) = ap (λ (i : JoinStage). join_step s.join.sizes s.join.announcement i) at ∙
+          ap (λ (y : Layout). Some (Store (slot_word y slot) s.join.announcement)) join_sizes in
+      quiet z o words before x after log w Joining (Store (slot_word z slot) s.join.announcement) t (holding_at t (length log)) e due
+          (ap (λ (i : JoinStage). let j = join_after s.join.sizes i 0 in after_joining (record s { join = record s.join { stage = j } }) j) at) refl (omega (arith, below, count)) (omega arith)
       (ap (λ (b : Bool). holding_at t (cond b (length log) (joined_since x))) (ap is_storing at)) keeps_x (λ ks is. tt) refl refl
 
   -- a join that isn't finished
@@ -146,7 +159,11 @@ module _ (z : Layout) (o : Opening) (words : List ℕ) (before : List Part) (x :
   joining_leads step due = by_stage s.join.stage refl
     where
       by_stage : (i : JoinStage) → s.join.stage ≡ i → LeadsAt z o words before x after log s Joining step
-      by_stage Claiming at = let is : Add (slot_counter z) 1 ≡ step = same_step (sym (ap (λ (i : JoinStage). join_step s.join.sizes s.join.announcement i) at ∙ ap (λ (y : Layout). Some (Add (slot_counter y) 1)) join_sizes) ∙ due) in subst (LeadsAt z o words before x after log s Joining) is (slot_claimed at)
-      by_stage (Storing slot) at = let is : Store (slot_word z slot) s.join.announcement ≡ step = same_step (sym (ap (λ (i : JoinStage). join_step s.join.sizes s.join.announcement i) at ∙ ap (λ (y : Layout). Some (Store (slot_word y slot) s.join.announcement)) join_sizes) ∙ due) in subst (LeadsAt z o words before x after log s Joining) is (announcement_joined slot at)
+      by_stage Claiming at = let is : Add (slot_counter z) 1 ≡ step = same_step
+          (sym (ap (λ (i : JoinStage). join_step s.join.sizes s.join.announcement i) at ∙ ap (λ (y : Layout). Some (Add (slot_counter y) 1)) join_sizes) ∙ due) in
+          subst (LeadsAt z o words before x after log s Joining) is (slot_claimed at)
+      by_stage (Storing slot) at = let is : Store (slot_word z slot) s.join.announcement ≡ step =
+          same_step (sym (ap (λ (i : JoinStage). join_step s.join.sizes s.join.announcement i) at ∙ ap (λ (y : Layout). Some (Store (slot_word y slot) s.join.announcement)) join_sizes) ∙ due) in
+          subst (LeadsAt z o words before x after log s Joining) is (announcement_joined slot at)
       by_stage (JoinedIn slot) at = let bad : None ≡ Some step = sym (ap (λ (i : JoinStage). join_step s.join.sizes s.join.announcement i) at) ∙ due in absurd cc
       by_stage Spent at = let bad : None ≡ Some step = sym (ap (λ (i : JoinStage). join_step s.join.sizes s.join.announcement i) at) ∙ due in absurd cc

@@ -10,7 +10,6 @@ use Rattle.partial_model.specs.declared.call.Note.TheVariants as note
 use Rattle.partial_model.specs.History.{value_of}
 use Rattle.partial_model.specs.Notes.{Noted, NamesComponents, SawTogether, AreCollects, IsEntryFor}
 use Rattle.partial_model.proofs.HistoryLemmas.{place_below}
-use Rattle.partial_model.proofs.StampsStay.{found}
 use Rattle.partial_words.specs.declared.step.Step.TheVariants.{Store}
 use Rattle.partial_words.specs.Layout.{Layout, slot_word}
 use Rattle.partial_words.specs.Record.{view_of}
@@ -24,15 +23,17 @@ use Rattle.partial_state.specs.Effects.{IsKept}
 use Rattle.partial_state.proofs.SlotLaws.{leaves_are_kept}
 use Rattle.partial_words.specs.Step.{words_after}
 use Rattle.partial_knowledge.specs.Scans as scans
-use Rattle.partial_knowledge.proofs.Scans.{there, got}
+use Rattle.partial_knowledge.proofs.Scans.{got}
 use Rattle.partial_machine.specs.Sound.{is_sound_at}
 use Rattle.partial_core.specs.Part.{Part, core_of}
 use Rattle.partial_core.specs.Lawful.{Lawful}
 use Rattle.partial_core.specs.Held.{holding_of, holdings, joined_since}
 use Rattle.partial_machine.specs.Calls.{call_at}
-use Rattle.partial_core.proofs.Going.{is_finished}
+use Rattle.partial_core.proofs.MidCalls.{is_finished}
 use Rattle.partial_core.proofs.Parts.{gone, gone_core, all_at, holdings_split}
 use Rattle.partial_core.proofs.Steps.{LeadsAt, holding_in, known_here, sizes_here, sound_here, sound_at, memory_at, going, ends}
+use Rattle.partial_model.proofs.Values.{element_at}
+use Rattle.partial_model.proofs.NotesLemmas.{AllByRecursion-get}
 
 -- each of the indices names a component
 pub names_all : (m : ℕ) (js : List ℕ) → ((k : ℕ) → k < length js → slice_index js k < m) → AllByRecursion (λ j. j < m) js
@@ -44,7 +45,7 @@ pub same_map : (f g : ℕ → ℕ) (js : List ℕ) → ((i : ℕ) → i < length
 same_map f g [] h = refl
 same_map f g (j ∷ js) h = ap (λ v. v ∷ map f js) (h 0 (omega arith)) ∙ ap (λ vs. g j ∷ vs) (same_map f g js (λ i lt. h (suc i) (omega (arith, lt))))
 
--- a component that a view names has a pair there
+-- a component that a view names has a pair element_at
 pair_of : (pairs : List (ℕ × ℕ)) (k j : ℕ) → k < length (map (λ (q : ℕ × ℕ). q.0) pairs) → slice_index_or (map (λ (q : ℕ × ℕ). q.0) pairs) k j ≡ j → (v : ℕ) × (slice_get pairs k ≡ Some (j, v))
 pair_of [] k j lt is = absurd (omega (arith, lt))
 pair_of (p ∷ pairs) zero j lt is = (p.1, ap (λ c. Some (c, p.1)) is)
@@ -57,7 +58,8 @@ named_at P (j ∷ js) w zero lt = w.0
 named_at P (j ∷ js) w (suc i) lt = named_at P js w.1 i (omega (arith, lt))
 
 -- the pairs of one view at two tellings
-same_length : (z : Layout) (words : List ℕ) (hs : List Holding) (stamp : ℕ) (a b : List (ℕ × ℕ)) → HasPairs z words (unpublished hs) stamp a → HasPairs z words (unpublished hs) stamp b → (k c v : ℕ) → slice_get a k ≡ Some (c, v) → (u : ℕ) × (slice_get b k ≡ Some (c, u))
+same_length : (z : Layout) (words : List ℕ) (hs : List Holding) (stamp : ℕ) (a b : List (ℕ × ℕ)) → HasPairs z words (unpublished hs) stamp a → HasPairs z words (unpublished hs) stamp b →
+    (k c v : ℕ) → slice_get a k ≡ Some (c, v) → (u : ℕ) × (slice_get b k ≡ Some (c, u))
 same_length z words hs stamp a b (inl none) other k c v s = let bad : None ≡ Some (c, v) = ap (λ (l : List (ℕ × ℕ)). slice_get l k) (sym none.1) ∙ s in absurd cc
 same_length z words hs stamp a b (inr view) (inl none) k c v s = let above = view.above in let is = none.0 in absurd (omega (arith, above, is))
 same_length z words hs stamp a b (inr view) (inr other) k c v s =
@@ -71,7 +73,7 @@ same_length z words hs stamp a b (inr view) (inr other) k c v s =
     let in_b = rb.each k (0, 0) inside in
     let same : slice_index_or a k (0, 0) ≡ slice_index_or b k (0, 0) = sym in_a ∙ in_b in
     let at_a : slice_index_or a k (0, 0) ≡ (c, v) = got a k (c, v) (0, 0) s in
-    let at_b = there b k inside in
+    let at_b = element_at b k inside in
     let is : at_b.0 ≡ (c, v) = sym (got b k at_b.0 (0, 0) at_b.1) ∙ sym same ∙ at_a in
     (v, at_b.1 ∙ ap (λ (q : ℕ × ℕ). Some q) is)
 
@@ -80,7 +82,8 @@ are_collects : (r c : ℕ) (b : Option ℕ) → 0 < r → 2 ≤ c → c ≤ r + 
 are_collects zero c b some two few three = absurd (omega (arith, some))
 are_collects (suc r) c b some two few three = (two, omega (arith, few), three)
 
-module _ (z : Layout) (o : Opening) (words : List ℕ) (before : List Part) (x : Part) (after : List Part) (log : List Applied) (w : Lawful z o words (before ++ x ∷ after) log) (e : (core_of x).stage ≡ Leaving) where
+module _ (z : Layout) (o : Opening) (words : List ℕ) (before : List Part) (x : Part) (after : List Part) (log : List Applied) (w : Lawful z o words (before ++ x ∷ after) log)
+    (e : (core_of x).stage ≡ Leaving) where
   abbrev hs : List Holding
   hs = holdings (before ++ x ∷ after)
 
@@ -96,11 +99,15 @@ module _ (z : Layout) (o : Opening) (words : List ℕ) (before : List Part) (x :
   -- the indices that the third record's view names, of this port's own announcement
   names_own : (stamp : ℕ) → scans.IsThird words log s.asked (joined_since x) (scanning s) stamp → Names z words (unpublished hs) stamp s.asked
   names_own stamp third =
-      let covers = found (λ (d : Applied). CoversAll z words hs log d.stamp) log third.place third.entry w.memory.covering third.stands in
-      let split : AllByRecursion (λ (h : Holding). IfJoined h (λ l j. Covers z words (unpublished hs) log third.entry.stamp j)) (holdings before ++ holding_of x ∷ holdings after) = subst (λ (ks : List Holding). AllByRecursion (λ (h : Holding). IfJoined h (λ l j. Covers z words (unpublished hs) log third.entry.stamp j)) ks) (holdings_split before x after) covers in
-      let own : IfJoined (holding_of x) (λ l j. Covers z words (unpublished hs) log third.entry.stamp j) = all_at (λ (h : Holding). IfJoined h (λ l j. Covers z words (unpublished hs) log third.entry.stamp j)) (holdings before) (holding_of x) (holdings after) split in
-      let here : IfJoined (holding_in s Leaving (joined_since x)) (λ l j. Covers z words (unpublished hs) log third.entry.stamp j) = subst (λ t. IfJoined (holding_in s t (joined_since x)) (λ l j. Covers z words (unpublished hs) log third.entry.stamp j)) e own in
-      let at : Covers z words (unpublished hs) log stamp (record { at = s.join.announcement; indices = s.asked; since = joined_since x }) = subst (λ n. Covers z words (unpublished hs) log n (record { at = s.join.announcement; indices = s.asked; since = joined_since x })) third.is here in
+      let covers = AllByRecursion-get (λ (d : Applied). CoversAll z words hs log d.stamp) log third.place third.entry w.memory.covering third.stands in
+      let split : AllByRecursion (λ (h : Holding). IfJoined h (λ l j. Covers z words (unpublished hs) log third.entry.stamp j)) (holdings before ++ holding_of x ∷ holdings after) =
+          subst (λ (ks : List Holding). AllByRecursion (λ (h : Holding). IfJoined h (λ l j. Covers z words (unpublished hs) log third.entry.stamp j)) ks) (holdings_split before x after) covers in
+      let own : IfJoined (holding_of x) (λ l j. Covers z words (unpublished hs) log third.entry.stamp j) =
+          all_at (λ (h : Holding). IfJoined h (λ l j. Covers z words (unpublished hs) log third.entry.stamp j)) (holdings before) (holding_of x) (holdings after) split in
+      let here : IfJoined (holding_in s Leaving (joined_since x)) (λ l j. Covers z words (unpublished hs) log third.entry.stamp j) =
+          subst (λ t. IfJoined (holding_in s t (joined_since x)) (λ l j. Covers z words (unpublished hs) log third.entry.stamp j)) e own in
+      let at : Covers z words (unpublished hs) log stamp (record { at = s.join.announcement; indices = s.asked; since = joined_since x }) =
+          subst (λ n. Covers z words (unpublished hs) log n (record { at = s.join.announcement; indices = s.asked; since = joined_since x })) third.is here in
       at third.begun
 
   -- nothing was borrowed: two collects agreed
@@ -124,7 +131,8 @@ module _ (z : Layout) (o : Opening) (words : List ℕ) (before : List Part) (x :
       no_some (Some a) is some = let bad : Some a ≡ None = is in cc
 
   -- a view was borrowed: its pairs are the values after one prefix, and it names what the scan asks for
-  saw_borrowed : (stamp : ℕ) (known : is_finished z o words hs log s.asked (joined_since x) (scanning s)) → 0 < length s.asked → s.embedded.collects ≤ length s.asked + 2 → s.embedded.shares ≡ false → s.embedded.borrowed ≡ Some stamp → Saw
+  saw_borrowed : (stamp : ℕ) (known : is_finished z o words hs log s.asked (joined_since x) (scanning s)) → 0 < length s.asked → s.embedded.collects ≤ length s.asked + 2 → s.embedded.shares ≡ false →
+      s.embedded.borrowed ≡ Some stamp → Saw
   saw_borrowed stamp known some few shares is =
       let l = known.2 stamp is shares in
       let third = l.1 in
@@ -146,7 +154,9 @@ module _ (z : Layout) (o : Opening) (words : List ℕ) (before : List Part) (x :
               let mine = same_length z words hs l.0 named.0 l.3 named.1 loaded.shown at.0 (slice_index s.asked i) pair.0 pair.1 in
               loaded.loaded at.0 (let below = place_below l.3 at.0 (slice_index s.asked i, mine.0) mine.1 in omega (arith, all, below)) (slice_index s.asked i) mine.0 mine.1);
           collects = are_collects (length s.asked) s.embedded.collects s.embedded.borrowed some (omega (arith, three)) few (λ _. three);
-          borrowed = subst (λ (f : Option ℕ). IfSome f (λ t. (k j : ℕ) × (loaded.prefix ≤ k) × Contains s.asked j × IsEntryFor log k j t)) stamp_is (third.place, slice_index s.asked third.position, to, (third.position, third.within, in_list s.asked third.position third.within), (third.entry, third.stands, third.component, third.is));
+          borrowed = subst (λ (f : Option ℕ). IfSome f (λ t. (k j : ℕ) × (loaded.prefix ≤ k) × Contains s.asked j × IsEntryFor log k j t)) stamp_is
+              (third.place, slice_index s.asked third.position, to, (third.position, third.within, in_list s.asked third.position third.within),
+              (third.entry, third.stands, third.component, third.is));
         };
       }
     where
@@ -164,7 +174,8 @@ module _ (z : Layout) (o : Opening) (words : List ℕ) (before : List Part) (x :
       let some : 0 < length s.asked = let same : length s.asked ≡ length x.begun.asked = ap length known.0.asked in let first = begun.0 in omega (arith, same, first) in
       by_borrowed s.embedded.borrowed refl known.5 some known.4 known.3
     where
-      by_borrowed : (f : Option ℕ) → s.embedded.borrowed ≡ f → is_finished z o words hs log s.asked (joined_since x) (scanning s) → 0 < length s.asked → s.embedded.collects ≤ length s.asked + 2 → s.embedded.shares ≡ false → Saw
+      by_borrowed : (f : Option ℕ) → s.embedded.borrowed ≡ f → is_finished z o words hs log s.asked (joined_since x) (scanning s) → 0 < length s.asked → s.embedded.collects ≤ length s.asked + 2 →
+          s.embedded.shares ≡ false → Saw
       by_borrowed None is known some few shares = saw_own known some few is
       by_borrowed (Some stamp) is known some few shares = saw_borrowed stamp known some few shares is
 
@@ -187,8 +198,11 @@ module _ (z : Layout) (o : Opening) (words : List ℕ) (before : List Part) (x :
       let slot : s.leave.slot < z.slots = subst (λ (y : Layout). s.leave.slot < y.slots) sizes sound.1 in
       let t : CoreState = record s { leave = record s.leave { left = true }; stage = Finished (scanned_reply s) } in
       let held = holding_in s Leaving (joined_since x) in
-      let keeps = leaves_are_kept z o words (holdings before) held (holdings after) log s.leave.slot (record { at = s.join.announcement; indices = s.asked; since = joined_since x }) (memory_at z o words before x after log w Leaving e) refl in
-      let keeps_x : IsKept z o words (holdings before) (holding_of x) (holdings after) log (words_after words (Store (slot_word z s.leave.slot) 1)) (record held { claimed = None }) log = subst (λ u. IsKept z o words (holdings before) (holding_in s u (joined_since x)) (holdings after) log (words_after words (Store (slot_word z s.leave.slot) 1)) (record held { claimed = None }) log) (sym e) keeps in
+      let keeps = leaves_are_kept z o words (holdings before) held (holdings after) log s.leave.slot (record { at = s.join.announcement; indices = s.asked; since = joined_since x })
+          (memory_at z o words before x after log w Leaving e) refl in
+      let keeps_x : IsKept z o words (holdings before) (holding_of x) (holdings after) log (words_after words (Store (slot_word z s.leave.slot) 1)) (record held { claimed = None }) log =
+          subst (λ u. IsKept z o words (holdings before) (holding_in s u (joined_since x)) (holdings after) log (words_after words (Store (slot_word z s.leave.slot) 1))
+          (record held { claimed = None }) log) (sym e) keeps in
       let n : Noted = record { call = call.Scan s.asked; answer = answer.Scanned (scanned_values s) s.embedded.collects s.embedded.borrowed; note = Some (note.Saw seen.prefix) } in
       let each = sound_here z o words before x after log w in
       let m_is = ap (λ (y : Layout). y.m) sizes in
@@ -199,12 +213,14 @@ module _ (z : Layout) (o : Opening) (words : List ℕ) (before : List Part) (x :
       let from = seen.from in
       let inside = seen.together.within in
       let count = w.memory.count in
-      ends z o words before x after log w Leaving (Store (slot_word z s.leave.slot) 1) t (record held { claimed = None }) e leave_due refl refl (omega (arith, slot, count)) refl refl keeps_x (λ ks is. tt)
+      ends z o words before x after log w Leaving (Store (slot_word z s.leave.slot) 1) t (record held { claimed = None }) e leave_due refl refl
+          (omega (arith, slot, count)) refl refl keeps_x (λ ks is. tt)
       n refl (names, (seen.together, omega (arith, low, first, from))) inside refl
       (record {
         call = call.Scan s.asked;
         note = note.Saw seen.prefix;
-        is = ap (λ (c : CoreState). record { call = call.Scan s.asked; answer = answer.Scanned (scanned_values c) s.embedded.collects s.embedded.borrowed; note = Some (note.Saw seen.prefix) } ∷ []) (sym (core_is n));
+        is = ap (λ (c : CoreState). record { call = call.Scan s.asked; answer = answer.Scanned (scanned_values c) s.embedded.collects s.embedded.borrowed; note = Some (note.Saw seen.prefix) }
+            ∷ []) (sym (core_is n));
         made = ap (call_at x.begun) known.0.called ∙ ap (λ js. Some (call.Scan js)) (sym known.0.asked);
         behind = let more = g.more (record { answer = 0; at = length log }) in omega (arith, more, first, from);
         within = inside;

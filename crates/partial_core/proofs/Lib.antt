@@ -1,9 +1,9 @@
-pub mod Going
+pub mod MidCalls
 pub mod Calls
 pub mod Parts
 pub mod Steps
 pub mod Reading
-pub mod Getting
+pub mod GetSetSteps
 pub mod Leaves
 pub mod Joins
 pub mod Claims

@@ -18,7 +18,8 @@ use Rattle.partial_core.specs.Lawful.{OpensLawful}
 -- a port that has made no call holds nothing
 hold_nothing : (z : Layout) (p n : ℕ) → holdings (fresh_parts z p n) ≡ idle_holdings p n
 hold_nothing z p zero = refl
-hold_nothing z p (suc n) = ap (λ (hs : List Holding). record { port = p; claimed = None; own = None; due = None; pool_spent = false; slots_spent = false; lists_spent = false } ∷ hs) (hold_nothing z (p + 1) n)
+hold_nothing z p (suc n) = ap (λ (hs : List Holding). record { port = p; claimed = None; own = None; due = None; pool_spent = false; slots_spent = false; lists_spent = false } ∷ hs)
+    (hold_nothing z (p + 1) n)
 
 fresh_known : (z : Layout) (o : Opening) (words : List ℕ) (hs : List Holding) (p n : ℕ) → p + n ≤ 64 → AllByRecursion (IsKnown z o words hs []) (fresh_parts z p n)
 fresh_known z o words hs p zero few = tt

@@ -20,7 +20,7 @@ use Rattle.partial_state.specs.LawfulWords.{LawfulWords, IsOwn, IsTied, IsClaim}
 use Rattle.partial_state.specs.Loads.{IsSlotAnswer}
 use Rattle.partial_state.proofs.LoadLaw.{loads_are_true}
 use Rattle.partial_state.proofs.HoldingLemmas.{if_some_at}
-use Rattle.partial_state.proofs.Quiet.{lists_bound}
+use Rattle.partial_state.proofs.NoNewEntry.{lists_bound}
 use Rattle.partial_active.specs.Join.{join_step, fits_join}
 use Rattle.partial_active.specs.declared.join.JoinStage.{JoinStage}
 use Rattle.partial_active.specs.declared.join.JoinStage.TheVariants.{Claiming, Storing, Joined as JoinedIn, Spent}
@@ -35,7 +35,7 @@ use Rattle.partial_machine.specs.Sound.{is_sound_at}
 use Rattle.partial_core.specs.Part.{HasBegun, IsLedTo, IsMachineOf, Part, core_of}
 use Rattle.partial_core.specs.Lawful.{Lawful}
 use Rattle.partial_core.specs.Held.{holding_of, holdings, joined_since, own_list, own_at, slot_claimed}
-use Rattle.partial_core.proofs.Going.{view_loads}
+use Rattle.partial_core.proofs.MidCalls.{view_loads}
 use Rattle.partial_core.proofs.Steps.{holding_in, sizes_here, sound_at, memory_here, memory_at}
 use Rattle.partial_core.proofs.StoredFacts.{length_record}
 use Rattle.partial_core.proofs.Leaves.{leave_due}
@@ -147,7 +147,8 @@ touches_same : (z : Layout) (words : List ℕ) (own : Option Own) (a b : Step) �
 touches_same z words own a b e w = let is : a ≡ b = cc in subst (Touches z words own) is w
 
 -- what a getSet's step touches
-set_touches : (z y : Layout) (words : List ℕ) (head : ℕ) (st : SetStage) (p : finding.Pair) (step : Step) → y ≡ z → goes_at st p → finding.step_at y head st ≡ Some step → Touches z words (own_list p.1.next st) step
+set_touches : (z y : Layout) (words : List ℕ) (head : ℕ) (st : SetStage) (p : finding.Pair) (step : Step) → y ≡ z → goes_at st p → finding.step_at y head st ≡ Some step →
+    Touches z words (own_list p.1.next st) step
 set_touches z y words head Head p step e goes due = touches_same z words None (Load (list_head y)) step due (inl (list_head y, refl))
 set_touches z y words head (ListLen at) p step e goes due = touches_same z words None (Load at) step due (inl (at, refl))
 set_touches z y words head (ListLow at left) p step e goes due = touches_same z words None (Load at) step due (inl (at, refl))
@@ -162,8 +163,10 @@ set_touches z y words head (Write at k count word) p step e goes due =
     let size = length-pairs p.1.next in
     let total_is = goes.0.count in
     let less = goes.1 in
-    touches_same z words next (Store (at + k) word) step due (inr (inr (inl (record { space = Lists; at = at; words = list_block p.1.next; stored = k }, word, refl, omega (arith, size, total_is, less), refl))))
-set_touches z y words head (Publish at) p step e goes due = touches_same z words (own_list p.1.next (Publish at)) (Exchange (list_head y) head at) step due (inr (inl (let m = ap (λ (l : Layout). l.m) e in omega (arith, m))))
+    touches_same z words next (Store (at + k) word) step due (inr (inr
+        (inl (record { space = Lists; at = at; words = list_block p.1.next; stored = k }, word, refl, omega (arith, size, total_is, less), refl))))
+set_touches z y words head (Publish at) p step e goes due = touches_same z words (own_list p.1.next (Publish at)) (Exchange (list_head y) head at) step due
+    (inr (inl (let m = ap (λ (l : Layout). l.m) e in omega (arith, m))))
 set_touches z y words head SetDone p step e goes due = let bad : None ≡ Some step = due in absurd cc
 
 module _ (z : Layout) (o : Opening) (words : List ℕ) (before : List Part) (x : Part) (after : List Part) (log : List Applied) (w : Lawful z o words (before ++ x ∷ after) log) where
@@ -196,8 +199,10 @@ module _ (z : Layout) (o : Opening) (words : List ℕ) (before : List Part) (x :
           let below : slot < z.slots = subst (λ (y : Layout). slot < y.slots) join_sizes (ltb-true slot s.join.sizes.slots fits) in
           let memory = memory_at z o words before x after log w Joining e in
           let held = holding_in s Joining (joined_since x) in
-          let claim : IfSome held.claimed (IsClaim z words (holdings before ++ held ∷ holdings after) log) = all_at (λ (g : Holding). IfSome g.claimed (IsClaim z words (holdings before ++ held ∷ holdings after) log)) (holdings before) held (holdings after) memory.claims in
-          let mine : IsClaim z words (holdings before ++ held ∷ holdings after) log (record { slot = slot; joined = None }) = if_some_at (IsClaim z words (holdings before ++ held ∷ holdings after) log) held.claimed (record { slot = slot; joined = None }) (ap slot_claimed is) claim in
+          let claim : IfSome held.claimed (IsClaim z words (holdings before ++ held ∷ holdings after) log) =
+              all_at (λ (g : Holding). IfSome g.claimed (IsClaim z words (holdings before ++ held ∷ holdings after) log)) (holdings before) held (holdings after) memory.claims in
+          let mine : IsClaim z words (holdings before ++ held ∷ holdings after) log (record { slot = slot; joined = None }) =
+              if_some_at (IsClaim z words (holdings before ++ held ∷ holdings after) log) held.claimed (record { slot = slot; joined = None }) (ap slot_claimed is) claim in
           let block : Own = record { space = Pool; at = s.join.announcement; words = announcement_block s.asked; stored = announcement_size (length s.asked) } in
           let far : list_base z ≤ s.join.announcement = own_far z o words (holdings before) held (holdings after) log memory block refl in
           let is' : Store (slot_word s.join.sizes slot) s.join.announcement ≡ Store (slot_word z slot) s.join.announcement
@@ -212,14 +217,18 @@ module _ (z : Layout) (o : Opening) (words : List ℕ) (before : List Part) (x :
   touches_at (ReadBegun j) step e due = touches_same z words None (Load j) step due (inl (j, refl))
   touches_at (LoadingValue stamp) step e due = touches_same z words None (Load (stamp + 1)) step due (inl (stamp + 1, refl))
   touches_at (UpdateBegun c) step e due = touches_same z words None (Load c.component) step due (inl (c.component, refl))
-  touches_at (GettingSet c old) step e due = let sound = sound_at z o words before x after log w (GettingSet c old) e in set_touches z s.get_set.sizes words s.get_set.head s.get_set.stage (getting s) step (sound.2 ∙ sizes) sound.1.stage due
-  touches_at (Viewing c old) step e due = let load = view_loads s.embedded.sizes s.found.indices s.rows.last s.embedded.stage (subst (λ (f : Option Step). IsSome f) (sym due) refl) in touches_same z words None (Load load.0) step (sym load.1 ∙ due) (inl (load.0, refl))
-  touches_at (ClaimingRecord c old) step e due = touches_same z words None (Add (pool_counter s.sizes) (record_size s)) step due (inr (inl (let m = ap (λ (l : Layout). l.m) sizes in omega (arith, m))))
+  touches_at (GettingSet c old) step e due = let sound = sound_at z o words before x after log w (GettingSet c old) e in set_touches z s.get_set.sizes words s.get_set.head s.get_set.stage
+      (getting s) step (sound.2 ∙ sizes) sound.1.stage due
+  touches_at (Viewing c old) step e due = let load = view_loads s.embedded.sizes s.found.indices s.rows.last s.embedded.stage (subst (λ (f : Option Step). IsSome f) (sym due) refl) in touches_same z
+      words None (Load load.0) step (sym load.1 ∙ due) (inl (load.0, refl))
+  touches_at (ClaimingRecord c old) step e due = touches_same z words None (Add (pool_counter s.sizes) (record_size s)) step due
+      (inr (inl (let m = ap (λ (l : Layout). l.m) sizes in omega (arith, m))))
   touches_at (StoringRecord c old at k) step e due =
       let sound = sound_at z o words before x after log w (StoringRecord c old at k) e in
       let less = sound.2 in
       let size = length_record s c old at in
-      touches_same z words (own_at s (StoringRecord c old at k)) (Store (at + k) (slice_index (record_words s c old at) k)) step due (inr (inr (inl (record { space = Pool; at = at; words = record_words s c old at; stored = k }, slice_index (record_words s c old at) k, refl, omega (arith, size, less), refl))))
+      touches_same z words (own_at s (StoringRecord c old at k)) (Store (at + k) (slice_index (record_words s c old at) k)) step due
+          (inr (inr (inl (record { space = Pool; at = at; words = record_words s c old at; stored = k }, slice_index (record_words s c old at) k, refl, omega (arith, size, less), refl))))
   touches_at (Exchanging c old at) step e due =
       let below : c.component < z.m = of_size (λ (y : Layout). c.component < y.m) (sound_at z o words before x after log w (Exchanging c old at) e).0.0 in
       touches_same z words (own_at s (Exchanging c old at)) (Exchange c.component old at) step due (inr (inl (omega (arith, below))))
@@ -227,9 +236,11 @@ module _ (z : Layout) (o : Opening) (words : List ℕ) (before : List Part) (x :
   touches_at (StoringAnnouncement at k) step e due =
       let sound = sound_at z o words before x after log w (StoringAnnouncement at k) e in
       let less = sound.3 in
-      touches_same z words (own_at s (StoringAnnouncement at k)) (Store (at + k) (slice_index (announcement_block s.asked) k)) step due (inr (inr (inl (record { space = Pool; at = at; words = announcement_block s.asked; stored = k }, slice_index (announcement_block s.asked) k, refl, omega (arith, less), refl))))
+      touches_same z words (own_at s (StoringAnnouncement at k)) (Store (at + k) (slice_index (announcement_block s.asked) k)) step due
+          (inr (inr (inl (record { space = Pool; at = at; words = announcement_block s.asked; stored = k }, slice_index (announcement_block s.asked) k, refl, omega (arith, less), refl))))
   touches_at Joining step e due = join_touches step s.join.stage e refl due
-  touches_at Scanning step e due = let load = view_loads s.embedded.sizes s.asked s.rows.last s.embedded.stage (subst (λ (f : Option Step). IsSome f) (sym due) refl) in touches_same z words None (Load load.0) step (sym load.1 ∙ due) (inl (load.0, refl))
+  touches_at Scanning step e due = let load = view_loads s.embedded.sizes s.asked s.rows.last s.embedded.stage (subst (λ (f : Option Step). IsSome f) (sym due) refl) in touches_same z words None
+      (Load load.0) step (sym load.1 ∙ due) (inl (load.0, refl))
   touches_at Leaving step e due =
       let sound = sound_at z o words before x after log w Leaving e in
       let below : s.leave.slot < z.slots = of_size (λ (y : Layout). s.leave.slot < y.slots) sound.1 in

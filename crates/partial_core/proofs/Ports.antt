@@ -49,8 +49,10 @@ module _ (z : Layout) (o : Opening) (words : List ℕ) (before : List Part) (x :
   others =
       let memory = memory_here z o words before x after log w in
       let turn : (a b : Holding) → HaveOtherPorts a b → HaveOtherPorts b a = λ a b other same. other (sym same) in (
-        other_ports before (all_unmap (HaveOtherPorts (holding_of x)) holding_of before (two_before HaveOtherPorts turn (holdings before) (holding_of x) (holdings after) memory.ports)) (all_before (IsKnown z o words hs log) before x after w.known),
-        other_ports after (all_unmap (HaveOtherPorts (holding_of x)) holding_of after (two_after HaveOtherPorts turn (holdings before) (holding_of x) (holdings after) memory.ports)) (all_after (IsKnown z o words hs log) before x after w.known),
+        other_ports before (all_unmap (HaveOtherPorts (holding_of x)) holding_of before (two_before HaveOtherPorts turn (holdings before) (holding_of x) (holdings after) memory.ports))
+            (all_before (IsKnown z o words hs log) before x after w.known),
+        other_ports after (all_unmap (HaveOtherPorts (holding_of x)) holding_of after (two_after HaveOtherPorts turn (holdings before) (holding_of x) (holdings after) memory.ports))
+            (all_after (IsKnown z o words hs log) before x after w.known),
       )
 
   pub fits_here : Fits o log x
@@ -69,7 +71,8 @@ module _ (z : Layout) (o : Opening) (words : List ℕ) (before : List Part) (x :
 -- each part in its place
 each_fits : (z : Layout) (o : Opening) (words : List ℕ) (before xs : List Part) (log : List Applied) → Lawful z o words (before ++ xs) log → AllByRecursion (Fits o log) xs
 each_fits z o words before [] log w = tt
-each_fits z o words before (x ∷ xs) log w = (fits_here z o words before x xs log w, each_fits z o words (before ++ x ∷ []) xs log (subst (λ (l : List Part). Lawful z o words l log) (sym (append_assoc before (x ∷ []) xs)) w))
+each_fits z o words before (x ∷ xs) log w = (fits_here z o words before x xs log w, each_fits z o words (before ++ x ∷ []) xs log
+    (subst (λ (l : List Part). Lawful z o words l log) (sym (append_assoc before (x ∷ []) xs)) w))
 
 -- a port is that of a part, or no part has its notes
 is_part : (p : ℕ) (xs : List Part) → Contains (map port_of xs) p ⊎ (notes_by p xs ≡ [])
@@ -107,7 +110,8 @@ entries_by P k (e ∷ log) each = (first (each e.port), entries_by P (k + 1) log
 pub lawful_ports_fit : LawfulPortsFit
 lawful_ports_fit z o words parts log w = record {
   each = each_fits z o words [] parts log w;
-  sizes = all_weaker (IsKnown z o words (holdings parts) log) (λ x. (core_of x).sizes ≡ z) (λ x k. (led z o words (holdings parts) log x.since x.begun x.kept w.memory.sizes k.sizes k.sound k.kept).sizes) parts w.known;
+  sizes = all_weaker (IsKnown z o words (holdings parts) log) (λ x. (core_of x).sizes ≡ z)
+      (λ x k. (led z o words (holdings parts) log x.since x.begun x.kept w.memory.sizes k.sizes k.sound k.kept).sizes) parts w.known;
   others = entries_by (Contains (map port_of parts)) 0 log (λ p. either p (is_part p parts));
 }
   where
@@ -165,11 +169,13 @@ lawful_records_are_within z o words parts log w =
       history = w.memory.history;
       agrees = w.memory.agrees;
       initial = λ j below. (omega (arith, stamps), omega (arith, below, count, stamps, pool));
-      entries = all_weaker (IsEntry z words) (λ (e : Applied). (z.m ≤ e.stamp) × (e.stamp + 2 < length words)) (λ e entry. let above = entry.above in let within = entry.within in (omega (arith, above), omega (arith, within, count))) log w.memory.entries;
+      entries = all_weaker (IsEntry z words) (λ (e : Applied). (z.m ≤ e.stamp) × (e.stamp + 2 < length words))
+          (λ e entry. let above = entry.above in let within = entry.within in (omega (arith, above), omega (arith, within, count))) log w.memory.entries;
     }
 
 -- the answers that are kept lead to the part's machine
-pub kept_run : (z : Layout) (o : Opening) (words : List ℕ) (hs : List Holding) (log : List Applied) (low : ℕ) (s : CoreState) (ks : List Kept) → AreKept z o words hs log low s ks → Run s (answers_of ks) (led_by s ks)
+pub kept_run : (z : Layout) (o : Opening) (words : List ℕ) (hs : List Holding) (log : List Applied) (low : ℕ) (s : CoreState) (ks : List Kept) → AreKept z o words hs log low s ks →
+    Run s (answers_of ks) (led_by s ks)
 kept_run z o words hs log low s [] w = refl
 kept_run z o words hs log low s (k ∷ ks) w = (w.0.possible, kept_run z o words hs log k.at (advance s k.answer) ks w.1)
 

@@ -18,7 +18,6 @@ use Rattle.partial_state.specs.Holdings.{Holding, unpublished}
 use Rattle.partial_state.specs.LawfulWords.{LawfulWords}
 use Rattle.partial_state.specs.Loads.{IsSlotAnswer, IsPublished}
 use Rattle.partial_state.proofs.Frames.{announcement_claimed, list_claimed, block_published}
-use Rattle.partial_knowledge.proofs.Joined.{same_named}
 use Rattle.partial_machine.specs.Machine.{CoreState, step_of}
 use Rattle.partial_core.specs.Part.{Part, IsMachineOf}
 use Rattle.partial_core.specs.Held.{holdings}
@@ -27,6 +26,7 @@ use Rattle.partial_core.specs.Steps.{LeadsOn}
 use Rattle.partial_core.specs.Orderly.{StepsAreOrderly}
 use Rattle.partial_core.proofs.AllSteps.{steps_stay_lawful}
 use Rattle.partial_core.proofs.Ordered.{slot_now, lawful_is_orderly, same_long, steps_move_slots}
+use Rattle.partial_active.proofs.Active.{same_named}
 
 -- so many words from that one on are published for ever
 abbrev pub ArePublished : Layout → List ℕ → List Holding → ℕ → ℕ → Type 0

@@ -33,14 +33,10 @@ use Rattle.partial_core.specs.Lawful.{Lawful}
 use Rattle.partial_core.specs.Held.{holding_at, holdings, joined_since}
 use Rattle.partial_machine.specs.Calls.{is_begun, call_at, update_call}
 use Rattle.partial_core.specs.Steps.{AreNotesOf}
-use Rattle.partial_core.proofs.Going.{view_leads, view_loads}
+use Rattle.partial_core.proofs.MidCalls.{view_leads, view_loads}
 use Rattle.partial_core.proofs.Parts.{gone}
 use Rattle.partial_core.proofs.Steps.{LeadsAt, holding_in, known_here, sizes_here, sound_at, seen_here, going, load_quiet, load_ends, starting}
-
--- what holds of both holds of the one that an option picks
-pub option_either : {A : Type 0} (f : Option A) (s t : CoreState) (P : CoreState → Type 0) → P s → P t → P (option_map_or (λ _. s) f t)
-option_either None s t P p q = q
-option_either (Some a) s t P p q = p
+use Rattle.partial_machine.proofs.Behind.{either}
 
 module _ (z : Layout) (o : Opening) (words : List ℕ) (before : List Part) (x : Part) (after : List Part) (log : List Applied) (w : Lawful z o words (before ++ x ∷ after) log) where
   -- what all ports hold
@@ -57,7 +53,8 @@ module _ (z : Layout) (o : Opening) (words : List ℕ) (before : List Part) (x :
   pub component_record : (j : ℕ) → j < z.m → IsRecord z (get_or words j 0)
   component_record j below =
       let values = w.memory.values in
-      let s = standing z o words hs log w.memory (length log) (get_or words j 0) (subst (IsWithin o log (length log)) (sym (stamp_then j below)) (stamp_within o log (length log) j (omega (arith, values, below)))) in
+      let s = standing z o words hs log w.memory (length log) (get_or words j 0)
+          (subst (IsWithin o log (length log)) (sym (stamp_then j below)) (stamp_within o log (length log) j (omega (arith, values, below)))) in
       (s.above, s.within)
 
   component_readable : (j : ℕ) → j < z.m → IsReadable z words hs j
@@ -80,7 +77,8 @@ module _ (z : Layout) (o : Opening) (words : List ℕ) (before : List Part) (x :
   pub read_begun : (j : ℕ) → (core_of x).stage ≡ ReadBegun j → LeadsAt z o words before x after log (core_of x) (ReadBegun j) (Load j)
   read_begun j e =
       let below : j < z.m = of_sizes (λ y. j < y.m) (sound_at z o words before x after log w (ReadBegun j) e) in
-      load_quiet z o words before x after log w (ReadBegun j) j (at_stage (core_of x) (LoadingValue (get_or words j 0))) e refl refl refl (component_readable j below) (at_sizes (λ y. IsRecord y (get_or words j 0)) (component_record j below)) refl refl refl
+      load_quiet z o words before x after log w (ReadBegun j) j (at_stage (core_of x) (LoadingValue (get_or words j 0))) e refl refl refl (component_readable j below)
+          (at_sizes (λ y. IsRecord y (get_or words j 0)) (component_record j below)) refl refl refl
 
   -- the value behind the stamp that a read has loaded
   pub value_loaded : (stamp : ℕ) → (core_of x).stage ≡ LoadingValue stamp → LeadsAt z o words before x after log (core_of x) (LoadingValue stamp) (Load (stamp + 1))
@@ -98,9 +96,11 @@ module _ (z : Layout) (o : Opening) (words : List ℕ) (before : List Part) (x :
       let n : Noted = record { call = call.Read j; answer = answer.Read a stamp; note = Some (note.Saw first) } in
       let s = standing z o words hs log w.memory first stamp (subst (IsWithin o log first) (sym known.2) (stamp_within o log first j below)) in
       let value : a ≡ value_of o (take first log) j = ap (λ m. get_or words (m + 1) 0) known.2 ∙ value_behind_stamp o words log j first w.memory.agrees below in
-      load_ends z o words before x after log w (LoadingValue stamp) (stamp + 1) (at_stage (core_of x) (Finished (reply.Read a stamp))) e refl refl refl (standing_word z o words hs log w.memory stamp 1 (omega arith) s) tt refl
+      load_ends z o words before x after log w (LoadingValue stamp) (stamp + 1) (at_stage (core_of x) (Finished (reply.Read a stamp))) e refl refl refl
+          (standing_word z o words hs log w.memory stamp 1 (omega arith) s) tt refl
       n refl (below, ((omega (arith, order, inside), value, known.2), g.low)) (omega (arith, order, inside)) refl
-      (record { call = call.Read j; note = note.Saw first; is = refl; made = ap (call_at x.begun) known.1; behind = let more = g.more (record { answer = a; at = length log }) in omega (arith, more); within = omega (arith, order, inside); placed = omega (arith, order, inside) })
+      (record { call = call.Read j; note = note.Saw first; is = refl; made = ap (call_at x.begun) known.1; behind = let more = g.more (record { answer = a; at = length log }) in omega (arith, more);
+          within = omega (arith, order, inside); placed = omega (arith, order, inside) })
 
   -- a call that has made no step keeps no answer, and its machine is the one that has begun it
   pub none_kept : (t : Stage) → (core_of x).stage ≡ t → is_begun t ≡ true → x.kept ≡ []
@@ -110,7 +110,8 @@ module _ (z : Layout) (o : Opening) (words : List ℕ) (before : List Part) (x :
   begun_here t e begun = ap (led_by x.begun) (none_kept t e begun)
 
   -- the component has another stamp than the update expects
-  stamp_changed : (c : Change) (found : Option ℕ) → c.expected ≡ found → (core_of x).stage ≡ UpdateBegun c → expects c (get_or words c.component 0) ≡ false → LeadsAt z o words before x after log (core_of x) (UpdateBegun c) (Load c.component)
+  stamp_changed : (c : Change) (found : Option ℕ) → c.expected ≡ found → (core_of x).stage ≡ UpdateBegun c → expects c (get_or words c.component 0) ≡ false → LeadsAt z o words before x after log
+      (core_of x) (UpdateBegun c) (Load c.component)
   stamp_changed c None is e other = absurd (false≢true (sym other ∙ ap (λ (f : Option ℕ). option_map_or (λ m. m == get_or words c.component 0) f true) is))
   stamp_changed c (Some expected) is e other =
       let a = get_or words c.component 0 in
@@ -120,7 +121,8 @@ module _ (z : Layout) (o : Opening) (words : List ℕ) (before : List Part) (x :
       let differs : a ≢ expected = λ same. eqb-false expected a (ap (λ (f : Option ℕ). option_map_or (λ m. m == a) f true) (sym is) ∙ other) (sym same) in
       let begun = begun_here (UpdateBegun c) e refl in
       let kept = none_kept (UpdateBegun c) e refl in
-      load_ends z o words before x after log w (UpdateBegun c) c.component (at_stage (core_of x) (Finished (reply.Changed a))) e refl (ap (λ b. cond b (begin_getting (core_of x) c a) (at_stage (core_of x) (Finished (reply.Changed a)))) other) refl
+      load_ends z o words before x after log w (UpdateBegun c) c.component (at_stage (core_of x) (Finished (reply.Changed a))) e refl
+          (ap (λ b. cond b (begin_getting (core_of x) c a) (at_stage (core_of x) (Finished (reply.Changed a)))) other) refl
       (component_readable c.component below) (at_sizes (λ y. IsRecord y a) (component_record c.component below)) refl
       n refl (omega (arith, below, values), ((omega arith, sym (stamp_then c.component below), differs), seen_here z o words before x after log w)) (omega arith) refl
       (record {
@@ -128,7 +130,8 @@ module _ (z : Layout) (o : Opening) (words : List ℕ) (before : List Part) (x :
         note = note.Saw (length log);
         is = refl;
         made = ap (call_at x.begun) (sym (ap (λ (d : CoreState). d.stage) begun) ∙ e) ∙ ap (λ (f : Option ℕ). Some (update_call c.component f c.value)) is;
-        behind = let first : first_at (x.kept ++ record { answer = a; at = length log } ∷ []) ≡ length log = ap (λ (l : List Kept). first_at (l ++ record { answer = a; at = length log } ∷ [])) kept in omega (arith, first);
+        behind = let first : first_at (x.kept ++ record { answer = a; at = length log } ∷ []) ≡ length log = ap (λ (l : List Kept). first_at (l ++ record { answer = a; at = length log } ∷ [])) kept
+            in omega (arith, first);
         within = omega arith;
         placed = omega arith;
       })
@@ -141,12 +144,15 @@ module _ (z : Layout) (o : Opening) (words : List ℕ) (before : List Part) (x :
       by_expected true is =
           let a = get_or words c.component 0 in
           let below : c.component < z.m = of_sizes (λ y. c.component < y.m) (sound_at z o words before x after log w (UpdateBegun c) e).0 in
-          load_quiet z o words before x after log w (UpdateBegun c) c.component (begin_getting (core_of x) c a) e refl (ap (λ b. cond b (begin_getting (core_of x) c a) (at_stage (core_of x) (Finished (reply.Changed a)))) is) refl
+          load_quiet z o words before x after log w (UpdateBegun c) c.component (begin_getting (core_of x) c a) e refl
+              (ap (λ b. cond b (begin_getting (core_of x) c a) (at_stage (core_of x) (Finished (reply.Changed a)))) is) refl
           (component_readable c.component below) (at_sizes (λ y. IsRecord y a) (component_record c.component below)) refl refl refl
       by_expected false is = stamp_changed c c.expected refl e is
 
   -- what an embedded scan is to load may be loaded, and what it answers is possible
-  view_now : (indices : List ℕ) (low high : ℕ) (step : Step) → (core_of x).embedded.sizes ≡ (core_of x).sizes → viewing.GoTogether indices (scanning (core_of x)) → low ≤ high → high ≤ length log → scans.Knows z o words hs log indices low high (scanning (core_of x)) → viewing.step_of indices (scanning (core_of x)) ≡ Some step → (n : ℕ) × (step ≡ Load n) × IsReadable z words hs n × viewing.IsPossible (scanning (core_of x)) (get_or words n 0)
+  view_now : (indices : List ℕ) (low high : ℕ) (step : Step) → (core_of x).embedded.sizes ≡ (core_of x).sizes → viewing.GoTogether indices (scanning (core_of x)) → low ≤ high → high ≤ length log →
+      scans.Knows z o words hs log indices low high (scanning (core_of x)) → viewing.step_of indices (scanning (core_of x)) ≡ Some step → (n : ℕ) × (step ≡ Load n) × IsReadable z words hs n ×
+      viewing.IsPossible (scanning (core_of x)) (get_or words n 0)
   view_now indices low high step same together order inside knows due =
       let s = core_of x in
       let load = view_loads s.embedded.sizes indices s.rows.last s.embedded.stage (subst (λ (f : Option Step). IsSome f) (sym due) refl) in
@@ -156,7 +162,8 @@ module _ (z : Layout) (o : Opening) (words : List ℕ) (before : List Part) (x :
       (load.0, is, readable, leads.possible load.0 load.1 (loads_are_true z o words hs log load.0 w.memory readable.0 readable.1))
 
   -- an embedded scan of the indices found
-  pub viewing_leads : (c : Change) (old : ℕ) (step : Step) → (core_of x).stage ≡ Viewing c old → step_at (core_of x) (Viewing c old) ≡ Some step → LeadsAt z o words before x after log (core_of x) (Viewing c old) step
+  pub viewing_leads : (c : Change) (old : ℕ) (step : Step) → (core_of x).stage ≡ Viewing c old → step_at (core_of x) (Viewing c old) ≡ Some step → LeadsAt z o words before x after log
+      (core_of x) (Viewing c old) step
   viewing_leads c old step e due =
       let s = core_of x in
       let g = going z o words before x after log w (Viewing c old) e refl refl in
@@ -167,9 +174,11 @@ module _ (z : Layout) (o : Opening) (words : List ℕ) (before : List Part) (x :
       let next = viewing.step_of s.found.indices (scanning t) in
       subst (λ (f : Step). LeadsAt z o words before x after log s (Viewing c old) f) (sym now.1)
       (load_quiet z o words before x after log w (Viewing c old) n (after_scanning t s.found.indices (ClaimingRecord c old)) e (due ∙ ap (λ (f : Step). Some f) now.1) refl refl now.2 now.3
-      (option_either next t (at_stage t (ClaimingRecord c old)) (λ u. holding_at u (joined_since x) ≡ holding_in s (Viewing c old) (joined_since x)) (ap (λ (u : Stage). holding_in t u (joined_since x)) e) refl)
+      (either next t (at_stage t (ClaimingRecord c old)) (λ u. holding_at u (joined_since x) ≡ holding_in s (Viewing c old) (joined_since x))
+          (ap (λ (u : Stage). holding_in t u (joined_since x)) e) refl)
       refl
-      (option_either next t (at_stage t (ClaimingRecord c old)) (λ u. AreNotesOf (gone x log (get_or words n 0) []) (reply_of u) []) (subst (λ (u : Stage). AreNotesOf (gone x log (get_or words n 0) []) (reply_at u) []) (sym e) refl) refl))
+      (either next t (at_stage t (ClaimingRecord c old)) (λ u. AreNotesOf (gone x log (get_or words n 0) []) (reply_of u) [])
+          (subst (λ (u : Stage). AreNotesOf (gone x log (get_or words n 0) []) (reply_at u) []) (sym e) refl) refl))
 
   -- an embedded scan of a scan's positions
   pub scanning_leads : (step : Step) → (core_of x).stage ≡ Scanning → step_at (core_of x) Scanning ≡ Some step → LeadsAt z o words before x after log (core_of x) Scanning step
@@ -183,6 +192,7 @@ module _ (z : Layout) (o : Opening) (words : List ℕ) (before : List Part) (x :
       let next = viewing.step_of s.asked (scanning t) in
       subst (λ (f : Step). LeadsAt z o words before x after log s Scanning f) (sym now.1)
       (load_quiet z o words before x after log w Scanning n (after_scanning t s.asked Leaving) e (due ∙ ap (λ (f : Step). Some f) now.1) refl refl now.2 now.3
-      (option_either next t (at_stage t Leaving) (λ u. holding_at u (joined_since x) ≡ holding_in s Scanning (joined_since x)) (ap (λ (u : Stage). holding_in t u (joined_since x)) e) refl)
+      (either next t (at_stage t Leaving) (λ u. holding_at u (joined_since x) ≡ holding_in s Scanning (joined_since x)) (ap (λ (u : Stage). holding_in t u (joined_since x)) e) refl)
       refl
-      (option_either next t (at_stage t Leaving) (λ u. AreNotesOf (gone x log (get_or words n 0) []) (reply_of u) []) (subst (λ (u : Stage). AreNotesOf (gone x log (get_or words n 0) []) (reply_at u) []) (sym e) refl) refl))
+      (either next t (at_stage t Leaving) (λ u. AreNotesOf (gone x log (get_or words n 0) []) (reply_of u) [])
+          (subst (λ (u : Stage). AreNotesOf (gone x log (get_or words n 0) []) (reply_at u) []) (sym e) refl) refl))

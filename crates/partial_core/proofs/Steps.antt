@@ -30,7 +30,7 @@ use Rattle.partial_machine.specs.Calls.{is_begun, is_at_rest}
 use Rattle.partial_core.specs.Known.{IsTrueYet, IsKnown, AreKept}
 use Rattle.partial_core.specs.Steps.{AreNotesOf}
 use Rattle.partial_core.specs.Part.{has_no_step}
-use Rattle.partial_core.proofs.Going.{knows_at, Knows}
+use Rattle.partial_core.proofs.MidCalls.{knows_at, Knows}
 use Rattle.partial_core.proofs.Calls.{led, IsLed, called_on, last_at, joined_push}
 use Rattle.partial_core.proofs.Parts.{seen_within, known_grows, gone, gone_core, known_on, known_end, holdings_split, all_at, changed, once_same}
 
@@ -40,8 +40,10 @@ pub record LeadsAt (z : Layout) (o : Opening) (words : List ℕ) (before : List 
   pub possible : IsPossibleAt d s (answer_of words step)
   pub new : List Noted
   pub noted : AreNotesOf (gone x (log ++ added_at d.port s (answer_of words step)) (answer_of words step) new) (reply_of (advance_at d s (answer_of words step))) new
-  pub lawful : Lawful z o (words_after words step) (before ++ gone x (log ++ added_at d.port s (answer_of words step)) (answer_of words step) new ∷ after) (log ++ added_at d.port s (answer_of words step))
-  pub loads : (n : ℕ) (k : Kept) → IsLoaded z o words (holdings (before ++ x ∷ after)) log n k → IsLoaded z o (words_after words step) (holdings (before ++ gone x (log ++ added_at d.port s (answer_of words step)) (answer_of words step) new ∷ after)) (log ++ added_at d.port s (answer_of words step)) n k
+  pub lawful : Lawful z o (words_after words step) (before ++ gone x (log ++ added_at d.port s (answer_of words step)) (answer_of words step) new ∷ after)
+      (log ++ added_at d.port s (answer_of words step))
+  pub loads : (n : ℕ) (k : Kept) → IsLoaded z o words (holdings (before ++ x ∷ after)) log n k → IsLoaded z o (words_after words step)
+      (holdings (before ++ gone x (log ++ added_at d.port s (answer_of words step)) (answer_of words step) new ∷ after)) (log ++ added_at d.port s (answer_of words step)) n k
 
 -- a machine with a due step isn't at rest
 pub busy : (s : CoreState) (t : Stage) (step : Step) → step_at s t ≡ Some step → is_at_rest t ≡ false
@@ -99,14 +101,20 @@ module _ (z : Layout) (o : Opening) (words : List ℕ) (before : List Part) (x :
   memory_at s e = subst (λ (t : Stage). LawfulWords z o words (holdings before ++ holding_in (core_of x) t (joined_since x) ∷ holdings after) log) e memory_here
 
   -- what the part holds behind one answer more
-  pub holding_gone : (s : Stage) (t : CoreState) (l : List Applied) (a : ℕ) (new : List Noted) → (core_of x).stage ≡ s → advance_at (core_of x) s a ≡ t → holding_of (gone x l a new) ≡ holding_at t (cond (joins_at (core_of x) s) (length l) (joined_since x))
+  pub holding_gone : (s : Stage) (t : CoreState) (l : List Applied) (a : ℕ) (new : List Noted) → (core_of x).stage ≡ s → advance_at (core_of x) s a ≡ t → holding_of (gone x l a new) ≡ holding_at t
+      (cond (joins_at (core_of x) s) (length l) (joined_since x))
   holding_gone s t l a new e leads =
       let core = gone_core x l a new ∙ ap (λ (u : Stage). advance_at (core_of x) u a) e ∙ leads in
       let since = joined_push 0 x.begun x.kept (record { answer = a; at = length l }) ∙ ap (λ (u : Stage). cond (joins_at (core_of x) u) (length l) (joined_since x)) e in
       ap (λ (c : CoreState). holding_at c (joined_since (gone x l a new))) core ∙ ap (λ (n : ℕ). holding_at t n) since
 
   -- a step that adds no entry leads to a state in which the part holds h'
-  module _ (s : Stage) (step : Step) (t : CoreState) (h' : Holding) (e : (core_of x).stage ≡ s) (due : step_at (core_of x) s ≡ Some step) (leads : advance_at (core_of x) s (answer_of words step) ≡ t) (added : added_at (core_of x).port s (answer_of words step) ≡ []) (within : word_of step < length words) (possible : IsPossibleAt (core_of x) s (answer_of words step)) (holds : holding_at t (cond (joins_at (core_of x) s) (length log) (joined_since x)) ≡ h') (keeps : IsKeptBy z o words (holdings before) (holding_of x) (holdings after) log (words_after words step) h' log) (yet : (hs : List Holding) → hs ≡ holdings before ++ h' ∷ holdings after → IsTrueYet z o (words_after words step) hs log (Some step) (record { answer = answer_of words step; at = length log })) where
+  module _ (s : Stage) (step : Step) (t : CoreState) (h' : Holding) (e : (core_of x).stage ≡ s) (due : step_at (core_of x) s ≡ Some step) (leads : advance_at (core_of x) s (answer_of words step) ≡ t)
+      (added : added_at (core_of x).port s (answer_of words step) ≡ []) (within : word_of step < length words) (possible : IsPossibleAt (core_of x) s (answer_of words step))
+      (holds : holding_at t (cond (joins_at (core_of x) s) (length log) (joined_since x)) ≡ h')
+      (keeps : IsKeptBy z o words (holdings before) (holding_of x) (holdings after) log (words_after words step) h' log)
+      (yet : (hs : List Holding) → hs ≡ holdings before ++ h' ∷ holdings after → IsTrueYet z o (words_after words step) hs log (Some step)
+      (record { answer = answer_of words step; at = length log })) where
     a : ℕ
     a = answer_of words step
 
@@ -120,57 +128,80 @@ module _ (z : Layout) (o : Opening) (words : List ℕ) (before : List Part) (x :
     holding_then new = holding_gone s t log (answer_of words step) new e leads ∙ holds
 
     -- the state behind the step, with what is noted
-    lawful_then : (new : List Noted) → places_written new ≡ [] → ((hs : List Holding) → IsKnown z o (words_after words step) hs log x → IsTrueYet z o (words_after words step) hs log (step_of (core_of x)) (record { answer = answer_of words step; at = length log }) → IsKnown z o (words_after words step) hs log (gone x log (answer_of words step) new)) → Lawful z o (words_after words step) (before ++ gone x log (answer_of words step) new ∷ after) log
+    lawful_then : (new : List Noted) → places_written new ≡ [] → ((hs : List Holding) → IsKnown z o (words_after words step) hs log x → IsTrueYet z o (words_after words step) hs log
+        (step_of (core_of x)) (record { answer = answer_of words step; at = length log }) → IsKnown z o (words_after words step) hs log (gone x log (answer_of words step) new)) →
+        Lawful z o (words_after words step) (before ++ gone x log (answer_of words step) new ∷ after) log
     lawful_then new written known =
         let y = gone x log (answer_of words step) new in
         let split = holdings_split before y after ∙ ap (λ (h : Holding). holdings before ++ h ∷ holdings after) (holding_then new) in
         let nil = append-nil log in
         let grown = known_grows z o words (words_after words step) all_hold (holdings (before ++ y ∷ after)) log []
-        (λ n k l. subst (λ (hs : List Holding). IsLoaded z o (words_after words step) hs (log ++ []) n k) (sym split) (subst (λ (m : List Applied). IsLoaded z o (words_after words step) (holdings before ++ h' ∷ holdings after) m n k) (sym nil) (keeps.loads n k (subst (λ (hs : List Holding). IsLoaded z o words hs log n k) (holdings_split before x after) l)))) x known_here in
-        let here : IsKnown z o (words_after words step) (holdings (before ++ y ∷ after)) log x = subst (λ (m : List Applied). IsKnown z o (words_after words step) (holdings (before ++ y ∷ after)) m x) nil grown in
-        let true_now : IsTrueYet z o (words_after words step) (holdings (before ++ y ∷ after)) log (step_of (core_of x)) (record { answer = answer_of words step; at = length log }) = subst (λ (f : Option Step). IsTrueYet z o (words_after words step) (holdings (before ++ y ∷ after)) log f (record { answer = answer_of words step; at = length log })) (sym due_here) (yet (holdings (before ++ y ∷ after)) split) in
-        let keeps_nil : Keeps z o (record { words = words; holdings = holdings before ++ holding_of x ∷ holdings after; log = log }) (record { words = words_after words step; holdings = holdings before ++ holding_of y ∷ holdings after; log = log ++ [] }) =
-        subst (λ (h : Holding). Keeps z o (record { words = words; holdings = holdings before ++ holding_of x ∷ holdings after; log = log }) (record { words = words_after words step; holdings = holdings before ++ h ∷ holdings after; log = log ++ [] })) (sym (holding_then new))
-        (subst (λ (m : List Applied). Keeps z o (record { words = words; holdings = holdings before ++ holding_of x ∷ holdings after; log = log }) (record { words = words_after words step; holdings = holdings before ++ h' ∷ holdings after; log = m })) (sym nil) keeps) in
+        (λ n k l. subst (λ (hs : List Holding). IsLoaded z o (words_after words step) hs (log ++ []) n k) (sym split)
+            (subst (λ (m : List Applied). IsLoaded z o (words_after words step) (holdings before ++ h' ∷ holdings after) m n k) (sym nil)
+            (keeps.loads n k (subst (λ (hs : List Holding). IsLoaded z o words hs log n k) (holdings_split before x after) l)))) x known_here in
+        let here : IsKnown z o (words_after words step) (holdings (before ++ y ∷ after)) log x =
+            subst (λ (m : List Applied). IsKnown z o (words_after words step) (holdings (before ++ y ∷ after)) m x) nil grown in
+        let true_now : IsTrueYet z o (words_after words step) (holdings (before ++ y ∷ after)) log (step_of (core_of x)) (record { answer = answer_of words step; at = length log }) =
+            subst (λ (f : Option Step). IsTrueYet z o (words_after words step) (holdings (before ++ y ∷ after)) log f (record { answer = answer_of words step; at = length log })) (sym due_here)
+            (yet (holdings (before ++ y ∷ after)) split) in
+        let keeps_nil : Keeps z o (record { words = words; holdings = holdings before ++ holding_of x ∷ holdings after; log = log })
+            (record { words = words_after words step; holdings = holdings before ++ holding_of y ∷ holdings after; log = log ++ [] }) =
+        subst (λ (h : Holding). Keeps z o (record { words = words; holdings = holdings before ++ holding_of x ∷ holdings after; log = log })
+            (record { words = words_after words step; holdings = holdings before ++ h ∷ holdings after; log = log ++ [] })) (sym (holding_then new))
+        (subst (λ (m : List Applied). Keeps z o (record { words = words; holdings = holdings before ++ holding_of x ∷ holdings after; log = log })
+            (record { words = words_after words step; holdings = holdings before ++ h' ∷ holdings after; log = m })) (sym nil) keeps) in
         subst (λ (m : List Applied). Lawful z o (words_after words step) (before ++ y ∷ after) m) nil
         (changed z o words (words_after words step) before x y after log [] w keeps_nil
         (λ p. ap (λ (m : List Applied). places_by p 0 m) nil ∙ w.once p ∙ sym (once_same p before x y after refl (written_same x.notes new written)))
         (subst (λ (m : List Applied). IsKnown z o (words_after words step) (holdings (before ++ y ∷ after)) m y) (sym nil) (known (holdings (before ++ y ∷ after)) here true_now)))
 
     -- what was loaded goes on being true
-    loads_then : (new : List Noted) (n : ℕ) (k : Kept) → IsLoaded z o words all_hold log n k → IsLoaded z o (words_after words step) (holdings (before ++ gone x log (answer_of words step) new ∷ after)) log n k
+    loads_then : (new : List Noted) (n : ℕ) (k : Kept) → IsLoaded z o words all_hold log n k → IsLoaded z o (words_after words step)
+        (holdings (before ++ gone x log (answer_of words step) new ∷ after)) log n k
     loads_then new n k l =
         let split = holdings_split before (gone x log (answer_of words step) new) after ∙ ap (λ (h : Holding). holdings before ++ h ∷ holdings after) (holding_then new) in
-        subst (λ (hs : List Holding). IsLoaded z o (words_after words step) hs log n k) (sym split) (keeps.loads n k (subst (λ (hs : List Holding). IsLoaded z o words hs log n k) (holdings_split before x after) l))
+        subst (λ (hs : List Holding). IsLoaded z o (words_after words step) hs log n k) (sym split)
+            (keeps.loads n k (subst (λ (hs : List Holding). IsLoaded z o words hs log n k) (holdings_split before x after) l))
 
-    made : (new : List Noted) → Lawful z o (words_after words step) (before ++ gone x log (answer_of words step) new ∷ after) log → AreNotesOf (gone x log (answer_of words step) new) (reply_of t) new → LeadsAt z o words before x after log (core_of x) s step
+    made : (new : List Noted) → Lawful z o (words_after words step) (before ++ gone x log (answer_of words step) new ∷ after) log → AreNotesOf (gone x log (answer_of words step) new)
+        (reply_of t) new → LeadsAt z o words before x after log (core_of x) s step
     made new lawful noted =
         let nothing : log ++ added_at (core_of x).port s (answer_of words step) ≡ log = ap (λ (es : List Applied). log ++ es) added ∙ append-nil log in
         record {
           answers = record { within = within; gives = refl };
           possible = possible;
           new = new;
-          noted = subst (λ (m : List Applied). AreNotesOf (gone x m (answer_of words step) new) (reply_of (advance_at (core_of x) s (answer_of words step))) new) (sym nothing) (subst (λ (c : CoreState). AreNotesOf (gone x log (answer_of words step) new) (reply_of c) new) (sym leads) noted);
+          noted = subst (λ (m : List Applied). AreNotesOf (gone x m (answer_of words step) new) (reply_of (advance_at (core_of x) s (answer_of words step))) new) (sym nothing)
+              (subst (λ (c : CoreState). AreNotesOf (gone x log (answer_of words step) new) (reply_of c) new) (sym leads) noted);
           lawful = subst (λ (m : List Applied). Lawful z o (words_after words step) (before ++ gone x m (answer_of words step) new ∷ after) m) (sym nothing) lawful;
-          loads = λ n k l. subst (λ (m : List Applied). IsLoaded z o (words_after words step) (holdings (before ++ gone x m (answer_of words step) new ∷ after)) m n k) (sym nothing) (loads_then new n k l);
+          loads = λ n k l. subst (λ (m : List Applied). IsLoaded z o (words_after words step) (holdings (before ++ gone x m (answer_of words step) new ∷ after)) m n k) (sym nothing)
+              (loads_then new n k l);
         }
 
     -- nothing is noted: the call goes on, or it is refused
     pub quiet : is_at_rest s ≡ false → AreNotesOf (gone x log (answer_of words step) []) (reply_of t) [] → LeadsAt z o words before x after log (core_of x) s step
-    quiet going noted = made [] (lawful_then [] refl (λ hs here true_now. known_on z o (words_after words step) hs log x (answer_of words step) here (ap is_at_rest e ∙ going) possible_here true_now)) noted
+    quiet going noted = made [] (lawful_then [] refl (λ hs here true_now. known_on z o (words_after words step) hs log x (answer_of words step) here
+        (ap is_at_rest e ∙ going) possible_here true_now)) noted
 
     -- the call ends with a note that claims no entry
-    pub ends : (n : Noted) → places_written (n ∷ []) ≡ [] → IsLegal o log (port_of x) (seen_by 0 x.notes) n → seen_after (seen_by 0 x.notes) n.note ≤ length log → is_at_rest t.stage ≡ true → AreNotesOf (gone x log (answer_of words step) (n ∷ [])) (reply_of t) (n ∷ []) → LeadsAt z o words before x after log (core_of x) s step
+    pub ends : (n : Noted) → places_written (n ∷ []) ≡ [] → IsLegal o log (port_of x) (seen_by 0 x.notes) n → seen_after (seen_by 0 x.notes) n.note ≤ length log → is_at_rest t.stage ≡ true →
+        AreNotesOf (gone x log (answer_of words step) (n ∷ [])) (reply_of t) (n ∷ []) → LeadsAt z o words before x after log (core_of x) s step
     ends n written legal shown rest noted =
         let pushed = seen_by-push 0 x.notes n in
-        made (n ∷ []) (lawful_then (n ∷ []) written (λ hs here true_now. known_end z o (words_after words step) hs log x (answer_of words step) n here (ap is_at_rest e ∙ busy (core_of x) s step due) possible_here true_now legal (omega (arith, pushed, shown)) (ap (λ (u : Stage). is_at_rest (advance_at (core_of x) u (answer_of words step)).stage) e ∙ ap (λ (c : CoreState). is_at_rest c.stage) leads ∙ rest))) noted
+        made (n ∷ []) (lawful_then (n ∷ []) written (λ hs here true_now. known_end z o (words_after words step) hs log x (answer_of words step) n here (ap is_at_rest e ∙ busy (core_of x) s step due)
+            possible_here true_now legal (omega (arith, pushed, shown))
+            (ap (λ (u : Stage). is_at_rest (advance_at (core_of x) u (answer_of words step)).stage) e ∙ ap (λ (c : CoreState). is_at_rest c.stage) leads ∙ rest))) noted
 
   -- a load changes no word, and what the port holds stays
-  module _ (s : Stage) (n : ℕ) (t : CoreState) (e : (core_of x).stage ≡ s) (due : step_at (core_of x) s ≡ Some (Load n)) (leads : advance_at (core_of x) s (get_or words n 0) ≡ t) (added : added_at (core_of x).port s (get_or words n 0) ≡ []) (readable : IsReadable z words all_hold n) (possible : IsPossibleAt (core_of x) s (get_or words n 0)) (holds : holding_at t (cond (joins_at (core_of x) s) (length log) (joined_since x)) ≡ holding_in (core_of x) s (joined_since x)) where
+  module _ (s : Stage) (n : ℕ) (t : CoreState) (e : (core_of x).stage ≡ s) (due : step_at (core_of x) s ≡ Some (Load n)) (leads : advance_at (core_of x) s (get_or words n 0) ≡ t)
+      (added : added_at (core_of x).port s (get_or words n 0) ≡ []) (readable : IsReadable z words all_hold n) (possible : IsPossibleAt (core_of x) s (get_or words n 0))
+      (holds : holding_at t (cond (joins_at (core_of x) s) (length log) (joined_since x)) ≡ holding_in (core_of x) s (joined_since x)) where
     load_keeps : IsKeptBy z o words (holdings before) (holding_of x) (holdings after) log words (holding_in (core_of x) s (joined_since x)) log
-    load_keeps = subst (λ (u : Stage). IsKeptBy z o words (holdings before) (holding_of x) (holdings after) log words (holding_in (core_of x) u (joined_since x)) log) e (record { lawful = memory_here; loads = λ m k l. l })
+    load_keeps = subst (λ (u : Stage). IsKeptBy z o words (holdings before) (holding_of x) (holdings after) log words (holding_in (core_of x) u (joined_since x)) log) e
+        (record { lawful = memory_here; loads = λ m k l. l })
 
-    load_yet : (hs : List Holding) → hs ≡ holdings before ++ holding_in (core_of x) s (joined_since x) ∷ holdings after → IsLoaded z o words hs log n (record { answer = get_or words n 0; at = length log })
+    load_yet : (hs : List Holding) → hs ≡ holdings before ++ holding_in (core_of x) s (joined_since x) ∷ holdings after →
+        IsLoaded z o words hs log n (record { answer = get_or words n 0; at = length log })
     load_yet hs is =
         let same : all_hold ≡ hs = holdings_split before x after ∙ ap (λ (u : Stage). holdings before ++ holding_in (core_of x) u (joined_since x) ∷ holdings after) e ∙ sym is in
         subst (λ (ks : List Holding). IsLoaded z o words ks log n (record { answer = get_or words n 0; at = length log })) same (loads_are_true z o words all_hold log n w.memory readable.0 readable.1)
@@ -181,8 +212,10 @@ module _ (z : Layout) (o : Opening) (words : List ℕ) (before : List Part) (x :
     pub load_quiet : is_at_rest s ≡ false → AreNotesOf (gone x log (get_or words n 0) []) (reply_of t) [] → LeadsAt z o words before x after log (core_of x) s (Load n)
     load_quiet going noted = quiet s (Load n) t (holding_in (core_of x) s (joined_since x)) e due leads added load_within possible holds load_keeps load_yet going noted
 
-    pub load_ends : (note : Noted) → places_written (note ∷ []) ≡ [] → IsLegal o log (port_of x) (seen_by 0 x.notes) note → seen_after (seen_by 0 x.notes) note.note ≤ length log → is_at_rest t.stage ≡ true → AreNotesOf (gone x log (get_or words n 0) (note ∷ [])) (reply_of t) (note ∷ []) → LeadsAt z o words before x after log (core_of x) s (Load n)
-    load_ends note written legal shown rest noted = ends s (Load n) t (holding_in (core_of x) s (joined_since x)) e due leads added load_within possible holds load_keeps load_yet note written legal shown rest noted
+    pub load_ends : (note : Noted) → places_written (note ∷ []) ≡ [] → IsLegal o log (port_of x) (seen_by 0 x.notes) note → seen_after (seen_by 0 x.notes) note.note ≤ length log →
+        is_at_rest t.stage ≡ true → AreNotesOf (gone x log (get_or words n 0) (note ∷ [])) (reply_of t) (note ∷ []) → LeadsAt z o words before x after log (core_of x) s (Load n)
+    load_ends note written legal shown rest noted = ends s (Load n) t (holding_in (core_of x) s (joined_since x)) e due leads added load_within possible holds load_keeps load_yet note
+        written legal shown rest noted
 
 -- a machine that has made no step is begun or idle
 no_begin : (s : CoreState) (t : Stage) → has_no_step t ≡ true → is_begun t ≡ false → is_at_rest t ≡ false → ⊥
@@ -202,10 +235,12 @@ pub record IsGoing (z : Layout) (o : Opening) (words : List ℕ) (hs : List Hold
   pub more : (k : Kept) → first_at (x.kept ++ k ∷ []) ≡ first_at x.kept
   pub knows : knows_at z o words hs log x.begun (first_at x.kept) (joined_since x) high (core_of x) s
 
-going_from : (z : Layout) (o : Opening) (words : List ℕ) (hs : List Holding) (log : List Applied) (x : Part) (ks : List Kept) (s : Stage) → x.kept ≡ ks → LawfulWords z o words hs log → IsKnown z o words hs log x → (core_of x).stage ≡ s → is_begun s ≡ false → is_at_rest s ≡ false → IsGoing z o words hs log x s
+going_from : (z : Layout) (o : Opening) (words : List ℕ) (hs : List Holding) (log : List Applied) (x : Part) (ks : List Kept) (s : Stage) → x.kept ≡ ks → LawfulWords z o words hs log →
+    IsKnown z o words hs log x → (core_of x).stage ≡ s → is_begun s ≡ false → is_at_rest s ≡ false → IsGoing z o words hs log x s
 going_from z o words hs log x [] s is w k e begun rest =
     let same : core_of x ≡ x.begun = ap (led_by x.begun) is in
-    absurd (no_begin x.begun x.begun.stage k.begun (ap (λ (c : CoreState). is_begun c.stage) (sym same) ∙ ap is_begun e ∙ begun) (ap (λ (c : CoreState). is_at_rest c.stage) (sym same) ∙ ap is_at_rest e ∙ rest))
+    absurd (no_begin x.begun x.begun.stage k.begun (ap (λ (c : CoreState). is_begun c.stage) (sym same) ∙ ap is_begun e ∙ begun)
+        (ap (λ (c : CoreState). is_at_rest c.stage) (sym same) ∙ ap is_at_rest e ∙ rest))
 going_from z o words hs log x (f ∷ ks) s is w k e begun rest =
     let kept : AreKept z o words hs log x.since x.begun (f ∷ ks) = subst (AreKept z o words hs log x.since x.begun) is k.kept in
     let first : first_at x.kept ≡ f.at = ap first_at is in
@@ -215,7 +250,8 @@ going_from z o words hs log x (f ∷ ks) s is w k e begun rest =
     let past = k.going (ap is_at_rest e ∙ rest) in
     let earlier : seen_by 0 x.notes ≤ x.since = subst (λ (ns : List Noted). seen_by 0 ns ≤ x.since) (take_all x.past x.notes (omega (arith, past))) k.earlier in
     let knows : Knows z o words hs log x.begun f.at (joined_from 0 x.begun (f ∷ ks)) (last_at x.since (f ∷ ks)) (led_by x.begun (f ∷ ks)) = gone_on.knows in
-    let knows_x : Knows z o words hs log x.begun f.at (joined_since x) (last_at x.since (f ∷ ks)) (core_of x) = subst (λ (l : List Kept). Knows z o words hs log x.begun f.at (joined_from 0 x.begun l) (last_at x.since (f ∷ ks)) (led_by x.begun l)) (sym is) knows in
+    let knows_x : Knows z o words hs log x.begun f.at (joined_since x) (last_at x.since (f ∷ ks)) (core_of x) =
+        subst (λ (l : List Kept). Knows z o words hs log x.begun f.at (joined_from 0 x.begun l) (last_at x.since (f ∷ ks)) (led_by x.begun l)) (sym is) knows in
     record {
       high = last_at x.since (f ∷ ks);
       order = omega (arith, first, order);
@@ -223,7 +259,8 @@ going_from z o words hs log x (f ∷ ks) s is w k e begun rest =
       behind = omega (arith, first, behind);
       low = omega (arith, first, behind, earlier);
       more = λ n. ap (λ (l : List Kept). first_at (l ++ n ∷ [])) is ∙ sym first;
-      knows = subst (λ (n : ℕ). knows_at z o words hs log x.begun n (joined_since x) (last_at x.since (f ∷ ks)) (core_of x) s) (sym first) (subst (λ (t : Stage). knows_at z o words hs log x.begun f.at (joined_since x) (last_at x.since (f ∷ ks)) (core_of x) t) e knows_x);
+      knows = subst (λ (n : ℕ). knows_at z o words hs log x.begun n (joined_since x) (last_at x.since (f ∷ ks)) (core_of x) s) (sym first)
+          (subst (λ (t : Stage). knows_at z o words hs log x.begun f.at (joined_since x) (last_at x.since (f ∷ ks)) (core_of x) t) e knows_x);
     }
 
 module _ (z : Layout) (o : Opening) (words : List ℕ) (before : List Part) (x : Part) (after : List Part) (log : List Applied) (w : Lawful z o words (before ++ x ∷ after) log) where
@@ -231,7 +268,8 @@ module _ (z : Layout) (o : Opening) (words : List ℕ) (before : List Part) (x :
   going s e begun rest = going_from z o words (holdings (before ++ x ∷ after)) log x x.kept s refl w.memory (known_here z o words before x after log w) e begun rest
 
 -- a machine behind its first answer isn't begun
-not_begun : (z : Layout) (o : Opening) (words : List ℕ) (hs : List Holding) (log : List Applied) (begun : CoreState) (first since high : ℕ) (s : CoreState) (t : Stage) → knows_at z o words hs log begun first since high s t → is_begun t ≡ false
+not_begun : (z : Layout) (o : Opening) (words : List ℕ) (hs : List Holding) (log : List Applied) (begun : CoreState) (first since high : ℕ) (s : CoreState) (t : Stage) →
+    knows_at z o words hs log begun first since high s t → is_begun t ≡ false
 not_begun z o words hs log begun first since high s Idle w = refl
 not_begun z o words hs log begun first since high s (ReadBegun j) w = absurd w
 not_begun z o words hs log begun first since high s (LoadingValue stamp) w = refl
@@ -248,14 +286,17 @@ not_begun z o words hs log begun first since high s Scanning w = refl
 not_begun z o words hs log begun first since high s Leaving w = refl
 not_begun z o words hs log begun first since high s (Finished r) w = refl
 
-starting_from : (z : Layout) (o : Opening) (words : List ℕ) (hs : List Holding) (log : List Applied) (x : Part) (ks : List Kept) → x.kept ≡ ks → LawfulWords z o words hs log → IsKnown z o words hs log x → is_begun (core_of x).stage ≡ true → x.kept ≡ []
+starting_from : (z : Layout) (o : Opening) (words : List ℕ) (hs : List Holding) (log : List Applied) (x : Part) (ks : List Kept) → x.kept ≡ ks → LawfulWords z o words hs log →
+    IsKnown z o words hs log x → is_begun (core_of x).stage ≡ true → x.kept ≡ []
 starting_from z o words hs log x [] is w k begun = is
 starting_from z o words hs log x (f ∷ ks) is w k begun =
     let kept : AreKept z o words hs log x.since x.begun (f ∷ ks) = subst (AreKept z o words hs log x.since x.begun) is k.kept in
     let gone_on = called_on z o words hs log w x.begun x.since f ks k.sizes k.sound k.begun kept in
-    let no : is_begun (led_by x.begun (f ∷ ks)).stage ≡ false = not_begun z o words hs log x.begun f.at (joined_from 0 x.begun (f ∷ ks)) (last_at x.since (f ∷ ks)) (led_by x.begun (f ∷ ks)) (led_by x.begun (f ∷ ks)).stage gone_on.knows in
+    let no : is_begun (led_by x.begun (f ∷ ks)).stage ≡ false = not_begun z o words hs log x.begun f.at (joined_from 0 x.begun (f ∷ ks)) (last_at x.since (f ∷ ks)) (led_by x.begun (f ∷ ks))
+        (led_by x.begun (f ∷ ks)).stage gone_on.knows in
     absurd (false≢true (sym no ∙ ap (λ (l : List Kept). is_begun (led_by x.begun l).stage) (sym is) ∙ begun))
 
 -- a port whose call has made no step keeps no answer
-pub starting : (z : Layout) (o : Opening) (words : List ℕ) (hs : List Holding) (log : List Applied) (x : Part) → LawfulWords z o words hs log → IsKnown z o words hs log x → is_begun (core_of x).stage ≡ true → x.kept ≡ []
+pub starting : (z : Layout) (o : Opening) (words : List ℕ) (hs : List Holding) (log : List Applied) (x : Part) → LawfulWords z o words hs log → IsKnown z o words hs log x →
+    is_begun (core_of x).stage ≡ true → x.kept ≡ []
 starting z o words hs log x w k begun = starting_from z o words hs log x x.kept refl w k begun

@@ -4,7 +4,6 @@ use Rattle.std.specs.List.{AllByRecursion}
 use Rattle.std.proofs.lemmas.Bool.{eqb-true}
 use Rattle.partial_model.specs.declared.history.Applied.{Applied}
 use Rattle.partial_model.specs.declared.history.Opening.{Opening}
-use Rattle.partial_model.proofs.StampsStay.{found}
 use Rattle.partial_words.specs.declared.step.Step.{Step}
 use Rattle.partial_words.specs.declared.step.Step.TheVariants.{Store}
 use Rattle.partial_words.specs.Layout.{Layout, pool_end}
@@ -25,28 +24,32 @@ use Rattle.partial_state.proofs.MarkLaws.{dues_are_kept}
 use Rattle.partial_state.proofs.LoadLaw.{loads_are_true}
 use Rattle.partial_state.proofs.Claimed.{entry_published}
 use Rattle.partial_state.proofs.HoldingLemmas.{if_all, three_words}
-use Rattle.partial_state.proofs.ListLemmas.{all_of, all_before, all_after, all_append}
+use Rattle.partial_state.proofs.ListLemmas.{all_before, all_after, all_append}
 use Rattle.partial_knowledge.specs.Sets as sets
 use Rattle.partial_knowledge.specs.Scans.{IsThird}
 use Rattle.partial_core.specs.Part.{Part, core_of, first_at}
 use Rattle.partial_core.specs.Lawful.{Lawful}
 use Rattle.partial_core.specs.Held.{holding_of, holdings, joined_since}
-use Rattle.partial_core.proofs.Going.{IsViewed}
+use Rattle.partial_core.proofs.MidCalls.{IsViewed}
 use Rattle.partial_core.proofs.Parts.{holdings_split}
 use Rattle.partial_core.proofs.Steps.{LeadsAt, holding_in, sizes_here, sound_here, sound_at, memory_at, going, quiet}
 use Rattle.partial_core.proofs.Joins.{keeps_then}
 use Rattle.partial_core.proofs.StoredFacts.{HasViewed, length_record, record_due}
+use Rattle.partial_model.proofs.NotesLemmas.{AllByRecursion-get}
+use Rattle.partial_model.proofs.StampsStay.{all_where}
 
--- the announcement of each port that had joined was found
+-- the announcement of each port that had joined was AllByRecursion-get
 finds_all : (hs : List Holding) (low : ℕ) (indices : List ℕ) → sets.FindsJoined hs low indices → AllByRecursion (λ v. IfJoined v (λ l j. j.since < low → sets.HasAll indices j)) hs
 finds_all hs low indices finds =
-    all_of (λ (v : Holding). IfJoined v (λ l j. j.since < low → sets.HasAll indices j)) hs (λ i v is.
+    all_where (λ (v : Holding). IfJoined v (λ l j. j.since < low → sets.HasAll indices j)) hs (λ i v is.
     if_all (λ (c : Claimed). IfSome c.joined (λ j. j.since < low → sets.HasAll indices j)) v.claimed (λ c claimed.
     if_all (λ (j : Joined). j.since < low → sets.HasAll indices j) c.joined (λ j joined.
     finds c.slot j (i, v, is, claimed ∙ ap (λ (f : Option Joined). Some (record { slot = c.slot; joined = f })) joined))))
 
 -- what an update has viewed, in words in which the entries' records are the same
-viewed_then : (z : Layout) (o : Opening) (words words' : List ℕ) (hs : List Holding) (log : List Applied) (first : ℕ) (s : CoreState) → first ≤ length log → ((q : ℕ) (d : Applied) (n : ℕ) → slice_get log q ≡ Some d → n < 3 → get_or words' (d.stamp + n) 0 ≡ get_or words (d.stamp + n) 0) → IsViewed z o words hs log first s → HasViewed o words' log first s
+viewed_then : (z : Layout) (o : Opening) (words words' : List ℕ) (hs : List Holding) (log : List Applied) (first : ℕ) (s : CoreState) → first ≤ length log →
+    ((q : ℕ) (d : Applied) (n : ℕ) → slice_get log q ≡ Some d → n < 3 → get_or words' (d.stamp + n) 0 ≡ get_or words (d.stamp + n) 0) → IsViewed z o words hs log first s →
+    HasViewed o words' log first s
 viewed_then z o words words' hs log first s inside same viewed = elim viewed.1 [
   | inl nothing ↦ record {
     own = λ none. (first, record { from = omega arith; to = inside; values = λ i lt. let empty = nothing.0 in absurd (omega (arith, lt, empty)) });
@@ -57,7 +60,8 @@ viewed_then z o words words' hs log first s inside same viewed = elim viewed.1 [
     borrowed = λ stamp some.
         let known = finished.1 stamp some in
         let third : IsThird words log s.found.indices first (scanning s) stamp = known.0 in
-        let at : (n : ℕ) → n < 3 → get_or words' (stamp + n) 0 ≡ get_or words (stamp + n) 0 = λ n lt. subst (λ t. get_or words' (t + n) 0 ≡ get_or words (t + n) 0) third.is (same third.place third.entry n third.stands lt) in
+        let at : (n : ℕ) → n < 3 → get_or words' (stamp + n) 0 ≡ get_or words (stamp + n) 0 = λ n lt. subst (λ t. get_or words' (t + n) 0 ≡ get_or words (t + n) 0) third.is
+            (same third.place third.entry n third.stands lt) in
         let prev : get_or words' stamp 0 ≡ get_or words stamp 0 = ap (λ n. get_or words' n 0) (omega arith) ∙ at 0 (omega arith) ∙ ap (λ n. get_or words n 0) (omega arith) in
         let now : IsThird words' log s.found.indices first (scanning s) stamp = record {
           borrowed = third.borrowed;
@@ -75,7 +79,8 @@ viewed_then z o words words' hs log first s inside same viewed = elim viewed.1 [
   }
 ]
 
-module _ (z : Layout) (o : Opening) (words : List ℕ) (before : List Part) (x : Part) (after : List Part) (log : List Applied) (w : Lawful z o words (before ++ x ∷ after) log) (c : Change) (old at k : ℕ) (e : (core_of x).stage ≡ StoringRecord c old at k) where
+module _ (z : Layout) (o : Opening) (words : List ℕ) (before : List Part) (x : Part) (after : List Part) (log : List Applied) (w : Lawful z o words (before ++ x ∷ after) log) (c : Change)
+    (old at k : ℕ) (e : (core_of x).stage ≡ StoringRecord c old at k) where
   abbrev s : CoreState
   s = core_of x
 
@@ -116,7 +121,9 @@ module _ (z : Layout) (o : Opening) (words : List ℕ) (before : List Part) (x :
   word_stored : (k + 1 == record_size s) ≡ false → LeadsAt z o words before x after log s (StoringRecord c old at k) step
   word_stored more =
       let t : CoreState = at_stage s (StoringRecord c old at (k + 1)) in
-      quiet z o words before x after log w (StoringRecord c old at k) step t (record held { own = Some (block (k + 1)) }) e refl (ap (λ (b : Bool). at_stage s (cond b (Exchanging c old at) (StoringRecord c old at (k + 1)))) more) refl inside refl refl (kept_here (record held { own = Some (block (k + 1)) }) stored) (λ ks is. tt) refl refl
+      quiet z o words before x after log w (StoringRecord c old at k) step t (record held { own = Some (block (k + 1)) }) e refl
+          (ap (λ (b : Bool). at_stage s (cond b (Exchanging c old at) (StoringRecord c old at (k + 1)))) more) refl inside refl refl (kept_here (record held { own = Some (block (k + 1)) }) stored)
+          (λ ks is. tt) refl refl
 
   -- all that is held before the store
   abbrev hs : List Holding
@@ -128,10 +135,11 @@ module _ (z : Layout) (o : Opening) (words : List ℕ) (before : List Part) (x :
       let memory = memory_at z o words before x after log w (StoringRecord c old at k) e in
       let size = three_words words d.stamp in
       let published : IsPublished z words (unpublished hs) (d.stamp + n) = entry_published z o words hs log memory q d n is (omega (arith, few, size)) in
-      let entry = found (IsEntry z words) log q d memory.entries is in
+      let entry = AllByRecursion-get (IsEntry z words) log q d memory.entries is in
       let above = entry.above in
       let within = entry.within in
-      let then' = stored.loads (d.stamp + n) (record { answer = get_or words (d.stamp + n) 0; at = length log }) (loads_are_true z o words hs log (d.stamp + n) memory (omega (arith, within, few)) (λ far. published)) in
+      let then' = stored.loads (d.stamp + n) (record { answer = get_or words (d.stamp + n) 0; at = length log })
+          (loads_are_true z o words hs log (d.stamp + n) memory (omega (arith, within, few)) (λ far. published)) in
       sym (then'.block (omega (arith, above))).0
 
   -- the last word is stored: the exchange is due
@@ -143,12 +151,15 @@ module _ (z : Layout) (o : Opening) (words : List ℕ) (before : List Part) (x :
     whole = block (length (record_words s c old at))
 
     all_stored : IsKept z o words (holdings before) held (holdings after) log words' (record held { own = Some whole }) log
-    all_stored = subst (λ n. IsKept z o words (holdings before) held (holdings after) log words' (record held { own = Some (block n) }) log) (eqb-true (k + 1) (record_size s) last ∙ sym (length_record s c old at)) stored
+    all_stored = subst (λ n. IsKept z o words (holdings before) held (holdings after) log words' (record held { own = Some (block n) }) log)
+        (eqb-true (k + 1) (record_size s) last ∙ sym (length_record s c old at)) stored
 
-    others_found : (first : ℕ) → sets.FindsJoined (holdings (before ++ x ∷ after)) first s.found.indices → AllByRecursion (λ v. IfJoined v (λ l j. j.since < first → sets.HasAll s.found.indices j)) (holdings before ++ holdings after)
+    others_found : (first : ℕ) → sets.FindsJoined (holdings (before ++ x ∷ after)) first s.found.indices → AllByRecursion (λ v. IfJoined v (λ l j. j.since < first → sets.HasAll s.found.indices j))
+        (holdings before ++ holdings after)
     others_found first finds =
         let P : Holding → Type 0 = λ v. IfJoined v (λ l j. j.since < first → sets.HasAll s.found.indices j) in
-        let all : AllByRecursion P (holdings before ++ holding_of x ∷ holdings after) = subst (AllByRecursion P) (holdings_split before x after) (finds_all (holdings (before ++ x ∷ after)) first s.found.indices finds) in
+        let all : AllByRecursion P (holdings before ++ holding_of x ∷ holdings after) = subst (AllByRecursion P) (holdings_split before x after)
+            (finds_all (holdings (before ++ x ∷ after)) first s.found.indices finds) in
         all_append P (holdings before) (holdings after) (all_before P (holdings before) (holding_of x) (holdings after) all) (all_after P (holdings before) (holding_of x) (holdings after) all)
 
     comes_due : IsKept z o words (holdings before) held (holdings after) log words' (record held { own = Some whole; due = Some due }) log
@@ -165,14 +176,17 @@ module _ (z : Layout) (o : Opening) (words : List ℕ) (before : List Part) (x :
         let indices : AreComponents z s.found.indices = subst (λ (y : Layout). AreComponents y s.found.indices) sizes sound_part.indices in
         let viewed : HasViewed o words' log first s = viewed_then z o words words' (holdings (before ++ x ∷ after)) log first s inside entry_stays known.1 in
         let dues = dues_are_kept z o words' (holdings before) (record held { own = Some whole }) (holdings after) log due all_stored.lawful
-        (record_due z o words' (holdings before) (record held { own = Some whole }) (holdings after) log all_stored.lawful s c old at refl first inside below known.0.stamp (others_found first known.1.0) refl viewed indices sound_part.distinct) in
-        keeps_then z o (record { words = words; holdings = hs; log = log }) (record { words = words'; holdings = holdings before ++ record held { own = Some whole } ∷ holdings after; log = log }) (record { words = words'; holdings = holdings before ++ record held { own = Some whole; due = Some due } ∷ holdings after; log = log }) all_stored dues
+        (record_due z o words' (holdings before) (record held { own = Some whole }) (holdings after) log all_stored.lawful s c old at refl first inside below known.0.stamp
+            (others_found first known.1.0) refl viewed indices sound_part.distinct) in
+        keeps_then z o (record { words = words; holdings = hs; log = log }) (record { words = words'; holdings = holdings before ++ record held { own = Some whole } ∷ holdings after; log = log })
+            (record { words = words'; holdings = holdings before ++ record held { own = Some whole; due = Some due } ∷ holdings after; log = log }) all_stored dues
 
     last_stored : LeadsAt z o words before x after log s (StoringRecord c old at k) step
     last_stored =
         let t : CoreState = at_stage s (Exchanging c old at) in
         let h' : Holding = record held { own = Some whole; due = Some due } in
-        quiet z o words before x after log w (StoringRecord c old at k) step t h' e refl (ap (λ (b : Bool). at_stage s (cond b (Exchanging c old at) (StoringRecord c old at (k + 1)))) last) refl inside refl refl (kept_here h' comes_due) (λ ks is. tt) refl refl
+        quiet z o words before x after log w (StoringRecord c old at k) step t h' e refl (ap (λ (b : Bool). at_stage s (cond b (Exchanging c old at) (StoringRecord c old at (k + 1)))) last) refl
+            inside refl refl (kept_here h' comes_due) (λ ks is. tt) refl refl
 
   -- a word of the record is stored
   pub record_stored : LeadsAt z o words before x after log s (StoringRecord c old at k) step

@@ -9,7 +9,6 @@ use Rattle.partial_model.specs.declared.history.Applied.{Applied}
 use Rattle.partial_model.specs.declared.history.Opening.{Opening}
 use Rattle.partial_model.specs.History.{stamp_of, value_of}
 use Rattle.partial_model.proofs.HistoryLemmas.{place_below}
-use Rattle.partial_model.proofs.StampsStay.{found}
 use Rattle.partial_words.specs.Layout.{Layout}
 use Rattle.partial_words.specs.Record.{record_block, view_block, StandsAt, ReadsBackRecord, prev_of, view_of}
 use Rattle.partial_words.proofs.RecordLemmas.{length-record_block, reads_back}
@@ -31,8 +30,10 @@ use Rattle.partial_state.proofs.WinLaw.{own_in_pool}
 use Rattle.partial_knowledge.specs.Sets.{HasAll}
 use Rattle.partial_knowledge.specs.Scans.{HasValues, IsThird}
 use Rattle.partial_knowledge.proofs.Chains.{stamp_within, begun_within}
+use Rattle.partial_model.proofs.NotesLemmas.{AllByRecursion-get}
 
-length_by : (f : Option ℕ) (js : List ℕ) (value : ℕ → ℕ) (old v view : ℕ) → length (record_block old v view (option_map_or (λ _. []) f (map (λ j. (j, value j)) js))) ≡ option_map_or (λ _. 3) f (cond (length js == 0) 3 (4 + 2 * length js))
+length_by : (f : Option ℕ) (js : List ℕ) (value : ℕ → ℕ) (old v view : ℕ) → length (record_block old v view (option_map_or (λ _. []) f (map (λ j. (j, value j)) js))) ≡ option_map_or (λ _. 3) f
+    (cond (length js == 0) 3 (4 + 2 * length js))
 length_by (Some n) js value old v view = refl
 length_by None [] value old v view = refl
 length_by None (j ∷ js) value old v view = length-record_block old v view (j, value j) (map (λ j. (j, value j)) js) ∙ ap (λ n. 4 + 2 * n) (length-map (j ∷ js) (λ j. (j, value j)))
@@ -100,7 +101,10 @@ pub record HasViewed (o : Opening) (words : List ℕ) (log : List Applied) (firs
   pub own : s.embedded.borrowed ≡ None → (n : ℕ) × HasValues o log s.found.indices first (length log) s.rows n (length s.found.indices)
   pub borrowed : (stamp : ℕ) → s.embedded.borrowed ≡ Some stamp → IsThird words log s.found.indices first (scanning s) stamp × (s.embedded.view ≡ view_of words stamp)
 
-module _ (z : Layout) (o : Opening) (words : List ℕ) (before : List Holding) (h : Holding) (after : List Holding) (log : List Applied) (w : LawfulWords z o words (before ++ h ∷ after) log) (s : CoreState) (c : Change) (old at : ℕ) (own : h.own ≡ Some (record { space = Pool; at = at; words = record_words s c old at; stored = length (record_words s c old at) })) (first : ℕ) (inside : first ≤ length log) (below : c.component < z.m) (loaded : old ≡ stamp_of o (take first log) c.component) (finds : AllByRecursion (λ v. IfJoined v (λ l j. j.since < first → HasAll s.found.indices j)) (before ++ after)) where
+module _ (z : Layout) (o : Opening) (words : List ℕ) (before : List Holding) (h : Holding) (after : List Holding) (log : List Applied) (w : LawfulWords z o words (before ++ h ∷ after) log)
+    (s : CoreState) (c : Change) (old at : ℕ) (own : h.own ≡ Some (record { space = Pool; at = at; words = record_words s c old at; stored = length (record_words s c old at) })) (first : ℕ)
+    (inside : first ≤ length log) (below : c.component < z.m) (loaded : old ≡ stamp_of o (take first log) c.component)
+    (finds : AllByRecursion (λ v. IfJoined v (λ l j. j.since < first → HasAll s.found.indices j)) (before ++ after)) where
   abbrev hs : List Holding
   hs = before ++ h ∷ after
 
@@ -115,7 +119,9 @@ module _ (z : Layout) (o : Opening) (words : List ℕ) (before : List Holding) (
   gone = record h { own = None }
 
   others_are : others_of h.port hs ≡ before ++ after
-  others_are = others_gone h.port before h after (eq-eqb h.port h.port refl) ∙ ap (λ (l : List Holding). l ++ others_of h.port after) (others_all h before (two_before HaveOtherPorts ports_turn before h after w.ports)) ∙ ap (λ (l : List Holding). before ++ l) (others_all h after (two_after HaveOtherPorts ports_turn before h after w.ports))
+  others_are = others_gone h.port before h after (eq-eqb h.port h.port refl) ∙ ap (λ (l : List Holding). l ++ others_of h.port after)
+      (others_all h before (two_before HaveOtherPorts ports_turn before h after w.ports)) ∙ ap (λ (l : List Holding). before ++ l)
+      (others_all h after (two_after HaveOtherPorts ports_turn before h after w.ports))
 
   is_own : IsOwn z words block
   is_own = let tied = all_at (IsTied z words) before h after w.tied in if_some_at (IsOwn z words) h.own block own tied.own
@@ -137,7 +143,8 @@ module _ (z : Layout) (o : Opening) (words : List ℕ) (before : List Holding) (
   apart_less b apart =
       let all : AllByRecursion (AreApart b) (unpublished before ++ (block_of block ∷ unpublished after)) = subst (AllByRecursion (AreApart b)) (unpublished_is before h after (Some block) own) apart in
       let back = all_back (AreApart b) (unpublished before) (block_of block ∷ unpublished after) all in
-      (subst (AllByRecursion (AreApart b)) (sym split_us) (all_append (AreApart b) (unpublished before) (unpublished after) (all_front (AreApart b) (unpublished before) (block_of block ∷ unpublished after) all) back.1), back.0)
+      (subst (AllByRecursion (AreApart b)) (sym split_us) (all_append (AreApart b) (unpublished before) (unpublished after)
+          (all_front (AreApart b) (unpublished before) (block_of block ∷ unpublished after) all) back.1), back.0)
 
   frame : Frame z words words (unpublished hs) us
   frame = record { count = refl; pool = omega arith; lists = omega arith; slots = omega arith; same = λ n far p. refl; apart = λ b claimed apart. (apart_less b apart).0; vacated = λ l room one. one }
@@ -176,7 +183,8 @@ module _ (z : Layout) (o : Opening) (words : List ℕ) (before : List Holding) (
   })
 
   -- nothing is borrowed: the view is the record's own, with the values after one prefix
-  module _ (none : s.embedded.borrowed ≡ None) (n : ℕ) (values : HasValues o log s.found.indices first (length log) s.rows n (length s.found.indices)) (few : length s.found.indices ≤ z.m) (each : (i : ℕ) → i < length s.found.indices → get_or s.found.indices i 0 < z.m) (distinct : IsDistinct nat_eq s.found.indices) where
+  module _ (none : s.embedded.borrowed ≡ None) (n : ℕ) (values : HasValues o log s.found.indices first (length log) s.rows n (length s.found.indices)) (few : length s.found.indices ≤ z.m)
+      (each : (i : ℕ) → i < length s.found.indices → get_or s.found.indices i 0 < z.m) (distinct : IsDistinct nat_eq s.found.indices) where
     abbrev pairs : List (ℕ × ℕ)
     pairs = map (λ j. (j, get_or s.rows.values j 0)) s.found.indices
 
@@ -226,19 +234,24 @@ module _ (z : Layout) (o : Opening) (words : List ℕ) (before : List Holding) (
     shown = shown_by (length s.found.indices == 0) refl
 
     names_found : (j : Joined) → HasAll s.found.indices j → Names z words us at j.indices
-    names_found j all = (pairs, shown, each_index (λ i. Contains (map (λ (q : ℕ × ℕ). q.0) pairs) i) j.indices (λ k lt. subst (λ (l : List ℕ). Contains l (get_or j.indices k 0)) (sym (firsts (λ i. get_or s.rows.values i 0) s.found.indices)) (has_contains s.found.indices (get_or j.indices k 0) (all k lt))))
+    names_found j all = (pairs, shown, each_index (λ i. Contains (map (λ (q : ℕ × ℕ). q.0) pairs) i) j.indices
+        (λ k lt. subst (λ (l : List ℕ). Contains l (get_or j.indices k 0)) (sym (firsts (λ i. get_or s.rows.values i 0) s.found.indices))
+        (has_contains s.found.indices (get_or j.indices k 0) (all k lt))))
 
     size_by : (b : Bool) → (length s.found.indices == 0) ≡ b → length (record_words s c old at) ≡ (block_at words at).size
     size_by true e =
         let empty = no_pairs (λ j. get_or s.rows.values j 0) s.found.indices (eqb-true (length s.found.indices) 0 e) in
         let view = view_is true e in
-        length_is ∙ ap (λ (ps : List (ℕ × ℕ)). length (record_block old c.value (view_at s at) ps)) empty ∙ sym (ap (λ (t : Bool). cond t (4 + 2 * get_or words (at + 3) 0) 3) (ne_eqb (view_of words at) (at + 3) (λ same. omega (arith, view, same))))
+        length_is ∙ ap (λ (ps : List (ℕ × ℕ)). length (record_block old c.value (view_at s at) ps)) empty ∙
+            sym (ap (λ (t : Bool). cond t (4 + 2 * get_or words (at + 3) 0) 3) (ne_eqb (view_of words at) (at + 3) (λ same. omega (arith, view, same))))
     size_by false e =
         let v = own_view e in
         let len : get_or words (at + 3) 0 ≡ length pairs = ap (λ i. get_or words i 0) (omega arith) ∙ (v.stands 0 (omega arith)).1 in
         let count = count_is in
         let not_none = eqb-false (length s.found.indices) 0 e in
-        let record_is : length (record_words s c old at) ≡ 4 + 2 * length pairs = length_record s c old at ∙ ap (λ (f : Option ℕ). option_map_or (λ _. 3) f (cond (length s.found.indices == 0) 3 (4 + 2 * length s.found.indices))) none ∙ ap (λ (t : Bool). cond t 3 (4 + 2 * length s.found.indices)) e ∙ ap (λ k. 4 + 2 * k) (sym count) in
+        let record_is : length (record_words s c old at) ≡ 4 + 2 * length pairs =
+            length_record s c old at ∙ ap (λ (f : Option ℕ). option_map_or (λ _. 3) f (cond (length s.found.indices == 0) 3 (4 + 2 * length s.found.indices))) none ∙
+            ap (λ (t : Bool). cond t 3 (4 + 2 * length s.found.indices)) e ∙ ap (λ k. 4 + 2 * k) (sym count) in
         record_is ∙ ap (λ k. 4 + 2 * k) (sym len) ∙ sym (ap (λ (t : Bool). cond t (4 + 2 * get_or words (at + 3) 0) 3) (eq-eqb (view_of words at) (at + 3) (view_is false e)))
 
     shows_own : Shows
@@ -251,9 +264,12 @@ module _ (z : Layout) (o : Opening) (words : List ℕ) (before : List Holding) (
         prefix = n;
         contains = prev_within n values.from;
         without = values.to;
-        values = all_map (λ (q : ℕ × ℕ). q.1 ≡ value_of o (take n log) q.0) (λ j. (j, get_or s.rows.values j 0)) s.found.indices (each_index (λ j. get_or s.rows.values j 0 ≡ value_of o (take n log) j) s.found.indices values.values);
+        values = all_map (λ (q : ℕ × ℕ). q.1 ≡ value_of o (take n log) q.0) (λ j. (j, get_or s.rows.values j 0)) s.found.indices
+            (each_index (λ j. get_or s.rows.values j 0 ≡ value_of o (take n log) j) s.found.indices values.values);
       };
-      covers = all_weaker (λ (v : Holding). IfJoined v (λ l j. j.since < first → HasAll s.found.indices j)) (λ v. IfJoined v (λ l j. Covers z words us log at j)) (λ v k. joined_weaker v (λ l j. j.since < first → HasAll s.found.indices j) (λ l j. Covers z words us log at j) (λ l j all begun. names_found j (all (joined_below j.since begun))) k) (before ++ after) finds;
+      covers = all_weaker (λ (v : Holding). IfJoined v (λ l j. j.since < first → HasAll s.found.indices j)) (λ v. IfJoined v (λ l j. Covers z words us log at j))
+          (λ v k. joined_weaker v (λ l j. j.since < first → HasAll s.found.indices j) (λ l j. Covers z words us log at j) (λ l j all begun. names_found j (all (joined_below j.since begun))) k)
+          (before ++ after) finds;
     }
 
   -- the view of a third record is borrowed: it is fresh and covering as that record's is
@@ -265,7 +281,8 @@ module _ (z : Layout) (o : Opening) (words : List ℕ) (before : List Holding) (
     three_long = ap (λ (ps : List (ℕ × ℕ)). length (record_block old c.value (view_at s at) ps)) bare
 
     view_same : view_of words at ≡ view_of words third.entry.stamp
-    view_same = let r = reads in r.view ∙ ap (λ (f : Option ℕ). option_map_or (λ _. s.embedded.view) f (cond (length s.found.indices == 0) 0 (at + 3))) some ∙ shared ∙ ap (view_of words) (sym third.is)
+    view_same = let r = reads in r.view ∙ ap (λ (f : Option ℕ). option_map_or (λ _. s.embedded.view) f (cond (length s.found.indices == 0) 0 (at + 3))) some ∙ shared ∙
+        ap (view_of words) (sym third.is)
 
     theirs : HasFreshView z o words (unpublished hs) log third.place third.entry.stamp
     theirs = w.fresh third.place third.entry third.stands
@@ -303,7 +320,7 @@ module _ (z : Layout) (o : Opening) (words : List ℕ) (before : List Holding) (
         let within = place_below log third.place third.entry third.stands in
         let without = fresh.without in
         let from : first < fresh.prefix = begun_within o log first fresh.prefix (prev_of words third.entry.stamp) w.history (third_since first (omega arith)) fresh.contains in
-        let covering = found (λ (d : Applied). CoversAll z words hs log d.stamp) log third.place third.entry w.covering third.stands in
+        let covering = AllByRecursion-get (λ (d : Applied). CoversAll z words hs log d.stamp) log third.place third.entry w.covering third.stands in
         let P : Holding → Type 0 = λ v. IfJoined v (λ l j. Covers z words (unpublished hs) log third.entry.stamp j) in
         let others : AllByRecursion P (before ++ after) = all_append P before after (all_before P before h after covering) (all_after P before h after covering) in
         record {
@@ -317,14 +334,16 @@ module _ (z : Layout) (o : Opening) (words : List ℕ) (before : List Holding) (
             without = omega (arith, within, without);
             values = fresh.values;
           };
-          covers = all_weaker P (λ v. IfJoined v (λ l j. Covers z words us log at j)) (λ v k. joined_weaker v (λ l j. Covers z words (unpublished hs) log third.entry.stamp j) (λ l j. Covers z words us log at j) (λ l j covers begun.
+          covers = all_weaker P (λ v. IfJoined v (λ l j. Covers z words us log at j))
+              (λ v k. joined_weaker v (λ l j. Covers z words (unpublished hs) log third.entry.stamp j) (λ l j. Covers z words us log at j) (λ l j covers begun.
               let since = joined_below j.since begun in
               let names = covers (third_since j.since (omega (arith, since))) in
               (names.0, shown_here names.0 names.1, names.2)) k) (before ++ after) others;
         }
 
   -- the record's exchange may be due
-  pub record_due : joined_in h.claimed ≡ None → HasViewed o words log first s → AreComponents z s.found.indices → IsDistinct nat_eq s.found.indices → IsDue z o words h (others_of h.port hs) log (record { component = c.component; old = old; value = c.value; at = at })
+  pub record_due : joined_in h.claimed ≡ None → HasViewed o words log first s → AreComponents z s.found.indices → IsDistinct nat_eq s.found.indices → IsDue z o words h (others_of h.port hs) log
+      (record { component = c.component; old = old; value = c.value; at = at })
   record_due free viewed indices distinct = due_of free (by_borrowed s.embedded.borrowed refl)
     where
       by_borrowed : (f : Option ℕ) → s.embedded.borrowed ≡ f → Shows

@@ -30,6 +30,7 @@ use Rattle.partial_core.specs.Part.{Part, core_of, port_of, answers_of, first_at
 use Rattle.partial_core.specs.Steps.{added_by, moved, AreNotesOf, Tells}
 use Rattle.partial_core.specs.Calls.{IsRefusedLast, Made, FirstStepsMakeCalls, FurtherStepsMakeCalls, MadeCallsMakeTheirSteps, CallsBeginBetween, PortsComeBetween}
 use Rattle.partial_core.proofs.Parts.{seen_within}
+use Rattle.partial_model.proofs.StampsStay.{take_within}
 
 -- where no step is due no answer is possible
 idle_none : (s : CoreState) (t : Stage) (a : ℕ) → IsPossibleAt s t a → reply_at t ≡ None
@@ -48,14 +49,8 @@ first_push (x ∷ ks) k some = refl
 take_on : {A : Type 0} (xs ys es : List A) → xs ≡ take (length xs) ys → xs ≡ take (length xs) (ys ++ es)
 take_on xs ys es e = e ∙ sym (take-append-le (length xs) ys es (seen_within xs ys e))
 
-take_take : {A : Type 0} (n m : ℕ) (l : List A) → n ≤ m → take n (take m l) ≡ take n l
-take_take zero m l h = refl
-take_take (suc n) zero l h = absurd (omega (arith, h))
-take_take (suc n) (suc m) [] h = refl
-take_take (suc n) (suc m) (x ∷ l) h = ap (λ t. x ∷ t) (take_take n m l (omega (arith, h)))
-
 take_through : {A : Type 0} (xs ys zs : List A) → xs ≡ take (length xs) ys → ys ≡ take (length ys) zs → xs ≡ take (length xs) zs
-take_through xs ys zs e f = e ∙ ap (take (length xs)) f ∙ take_take (length xs) (length ys) zs (seen_within xs ys e)
+take_through xs ys zs e f = e ∙ ap (take (length xs)) f ∙ take_within (length xs) (length ys) zs (seen_within xs ys e)
 
 -- a refused call has marked its port
 marked_for : (s : CoreState) (a : ℕ) (cause : Refused) → IsBehind s a → reply_of (advance s a) ≡ Some (reply.Refused cause) → IsMarkedFor (advance s a) cause

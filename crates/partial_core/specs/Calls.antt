@@ -65,7 +65,8 @@ FirstStepsMakeCalls = (z : Layout) (o : Opening) (log entries : List Applied) (b
 
 -- each further step
 abbrev pub FurtherStepsMakeCalls : Type 0
-FurtherStepsMakeCalls = (z : Layout) (o : Opening) (log entries : List Applied) (b : CoreState) (x : Part) (c : CoreState) (y : Part) (a : ℕ) (v : Part) →
+FurtherStepsMakeCalls = (z : Layout) (o : Opening) (log entries : List Applied) (b : CoreState) (x : Part) (c : CoreState)
+    (y : Part) (a : ℕ) (v : Part) →
     Made z o b x c y → Tells z o log entries y c a v → Made z o b x (advance c a) v
 
 -- how many steps a call has made, by its kept answers
@@ -95,4 +96,5 @@ CallsBeginBetween = (x : Part) (core : CoreState) → IsBetween x core → Begin
 abbrev pub PortsComeBetween : Type 0
 PortsComeBetween =
     ((z : Layout) (port : ℕ) → IsBetween (fresh_part z port) (fresh z port))
-    × ((z : Layout) (o : Opening) (b : CoreState) (x : Part) (c : CoreState) (y : Part) → Made z o b x c y → is_some (reply_of c) ≡ true → IsBetween y (at_stage c Idle))
+    × ((z : Layout) (o : Opening) (b : CoreState) (x : Part) (c : CoreState) (y : Part) → Made z o b x c y → is_some (reply_of c) ≡ true →
+        IsBetween y (at_stage c Idle))

@@ -20,6 +20,7 @@ abbrev pub is_storing : JoinStage → Bool
 is_storing (Storing slot) = true
 is_storing _ = false
 
+-- whether a machine at this stage is about to store its announcement in its slot
 abbrev pub joins_at : CoreState → Stage → Bool
 joins_at s Joining = is_storing s.join.stage
 joins_at s _ = false
@@ -29,6 +30,7 @@ abbrev pub joined_from : ℕ → CoreState → List Kept → ℕ
 joined_from since s [] = since
 joined_from since s (k ∷ ks) = joined_from (if joins_at s s.stage then k.at else since) (advance s k.answer) ks
 
+-- the length of the history as the port joined
 abbrev pub joined_since : Part → ℕ
 joined_since x = joined_from 0 x.begun x.kept
 
@@ -39,8 +41,10 @@ slot_claimed _ = None
 
 -- the slot that a scan has claimed, and its announcement once it has joined
 abbrev pub scan_claimed : CoreState → ℕ → Option Claimed
-scan_claimed s since = Some (record { slot = s.leave.slot; joined = Some (record { at = s.join.announcement; indices = s.asked; since = since }) })
+scan_claimed s since = Some (record { slot = s.leave.slot;
+    joined = Some (record { at = s.join.announcement; indices = s.asked; since = since }) })
 
+-- the slot that a machine at this stage has claimed, with what stands there
 abbrev pub claimed_at : CoreState → Stage → ℕ → Option Claimed
 claimed_at s Joining since = slot_claimed s.join.stage
 claimed_at s Scanning since = scan_claimed s since
@@ -57,9 +61,11 @@ own_list next _ = None
 abbrev pub own_at : CoreState → Stage → Option Own
 own_at s (GettingSet c old) = own_list s.found.next s.get_set.stage
 own_at s (StoringRecord c old at k) = Some (record { space = Pool; at = at; words = record_words s c old at; stored = k })
-own_at s (Exchanging c old at) = Some (record { space = Pool; at = at; words = record_words s c old at; stored = length (record_words s c old at) })
+own_at s (Exchanging c old at) = Some (record { space = Pool; at = at; words = record_words s c old at;
+    stored = length (record_words s c old at) })
 own_at s (StoringAnnouncement at k) = Some (record { space = Pool; at = at; words = announcement_block s.asked; stored = k })
-own_at s Joining = Some (record { space = Pool; at = s.join.announcement; words = announcement_block s.asked; stored = announcement_size (length s.asked) })
+own_at s Joining = Some (record { space = Pool; at = s.join.announcement; words = announcement_block s.asked;
+    stored = announcement_size (length s.asked) })
 own_at s _ = None
 
 -- the exchange of a component that is due
@@ -79,8 +85,10 @@ holding_at s since = record {
   lists_spent = lists_spent s;
 }
 
+-- what a port holds, read off its machine
 abbrev pub holding_of : Part → Holding
 holding_of x = holding_at (core_of x) (joined_since x)
 
+-- what all ports hold
 abbrev pub holdings : List Part → List Holding
 holdings xs = map holding_of xs

@@ -20,7 +20,8 @@ IsTrueYet z o words hs log (Some (Load w)) k = IsLoaded z o words hs log w k
 IsTrueYet z o words hs log _ k = ⊤
 
 -- an answer that a machine was given: the words may give it, the lengths of the history never fall, and a load's is true yet
-pub record IsKept (z : Layout) (o : Opening) (words : List ℕ) (hs : List Holding) (log : List Applied) (low : ℕ) (s : CoreState) (k : Kept) : Type 0 where
+pub record IsKept (z : Layout) (o : Opening) (words : List ℕ) (hs : List Holding) (log : List Applied) (low : ℕ) (s : CoreState)
+    (k : Kept) : Type 0 where
   pub possible : IsPossible s k.answer
   pub behind : low ≤ k.at
   pub within : k.at ≤ length log

@@ -32,6 +32,7 @@ led_by s (k ∷ ks) = led_by (advance s k.answer) ks
 abbrev pub core_of : Part → CoreState
 core_of x = led_by x.begun x.kept
 
+-- the number of the port
 abbrev pub port_of : Part → ℕ
 port_of x = x.begun.port
 

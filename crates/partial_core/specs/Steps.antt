@@ -30,7 +30,8 @@ use Rattle.partial_core.specs.Lawful.{Lawful}
 -- publishes, and no other step adds any.
 abbrev pub added_by : Layout → ℕ → List ℕ → Step → List Applied
 added_by z port words (Exchange w old at) =
-    if nat_lt w z.m then (if slice_index words w == old then record { port = port; component = w; value = value_of words at; stamp = at } ∷ [] else []) else []
+    if nat_lt w z.m then (if slice_index words w == old then record
+        { port = port; component = w; value = value_of words at; stamp = at } ∷ [] else []) else []
 added_by z port words _ = []
 
 -- a record that the step would publish lies within the words
@@ -38,16 +39,19 @@ abbrev pub PublishesWithin : Layout → List ℕ → Step → Type 0
 PublishesWithin z words (Exchange w old at) = w < z.m → view_word at < length words
 PublishesWithin z words _ = ⊤
 
--- the call's machine and answers so far, and how much was seen and noted before it, where the machine c makes the next step
+-- the machine as the call began of which the machine c makes the next step
 abbrev pub begun_with : CoreState → Part → CoreState
 begun_with c x = if is_begun c.stage then c else x.begun
 
+-- the answers that are kept as the machine's next one comes: none where the call makes its first step
 abbrev pub kept_with : CoreState → Part → List Kept
 kept_with c x = if is_begun c.stage then [] else x.kept
 
+-- the length that the port had seen as its call began
 abbrev pub since_with : CoreState → Part → ℕ
 since_with c x = if is_begun c.stage then length x.seen else x.since
 
+-- how many calls the port had noted as its call began
 abbrev pub past_with : CoreState → Part → ℕ
 past_with c x = if is_begun c.stage then length x.notes else x.past
 

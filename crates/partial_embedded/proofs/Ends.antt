@@ -54,7 +54,8 @@ module _ (indices : List ℕ) (p : Pair) (x : ℕ) (xs : List ℕ) where
   }
 
   -- the load of the reference of the view
-  first_view : (q : Pair) (stamp : ℕ) → p.0.borrowed ≡ Some stamp → ShowsThirdRecord (length indices) xs p.0.collects stamp → q.0.collects ≡ p.0.collects → q.0.borrowed ≡ p.0.borrowed → q.0.view ≡ x → Views (length indices) (xs ++ x ∷ []) q
+  first_view : (q : Pair) (stamp : ℕ) → p.0.borrowed ≡ Some stamp → ShowsThirdRecord (length indices) xs p.0.collects stamp → q.0.collects ≡ p.0.collects → q.0.borrowed ≡ p.0.borrowed →
+      q.0.view ≡ x → Views (length indices) (xs ++ x ∷ []) q
   first_view q stamp some third collects borrowed view = record {
     stamp = stamp;
     loads = record {
@@ -67,17 +68,21 @@ module _ (indices : List ℕ) (p : Pair) (x : ℕ) (xs : List ℕ) where
   }
 
   -- the view goes on, or it is whole
-  view_or : (q : Pair) (b : Bool) (s : Stage) → Views (length indices) (xs ++ x ∷ []) q → (Views (length indices) (xs ++ x ∷ []) q → ending_at indices q (xs ++ x ∷ []) s) → ending_at indices q (xs ++ x ∷ []) (cond b Done s)
+  view_or : (q : Pair) (b : Bool) (s : Stage) → Views (length indices) (xs ++ x ∷ []) q → (Views (length indices) (xs ++ x ∷ []) q → ending_at indices q (xs ++ x ∷ []) s) →
+      ending_at indices q (xs ++ x ∷ []) (cond b Done s)
   view_or q true s v f = view_ends q (xs ++ x ∷ []) v
   view_or q false s v f = f v
 
   -- a whole view of so many pairs, or the next of them
-  pairs_end : (v : Pair) (at left : ℕ) (b : Bool) → Views (length indices) (xs ++ x ∷ []) (at_stage v (cond b Done (Index at left))) → let q = at_stage v (cond b Done (Index at left)) in ending_at indices q (xs ++ x ∷ []) q.0.stage
+  pairs_end : (v : Pair) (at left : ℕ) (b : Bool) → Views (length indices) (xs ++ x ∷ []) (at_stage v (cond b Done (Index at left))) → let q =
+      at_stage v (cond b Done (Index at left)) in ending_at indices q (xs ++ x ∷ []) q.0.stage
   pairs_end v at left true w = view_ends (at_stage v Done) (xs ++ x ∷ []) w
   pairs_end v at left false w = w
 
   -- behind a load of a collect
-  collect_ends : (k : ℕ) → p.0.borrowed ≡ None → (b c d : Bool) → let q = cond b (borrow p x) (cond c (at_stage (noted p k x) (Collect (k + 1))) (cond d (record (noted p k x).0 { collects = p.0.collects + 1; moved = false; stage = Collect 0 }, (noted p k x).1) (at_stage (noted p k x) (Value 0)))) in trace_at (length indices) q (xs ++ x ∷ []) q.0.stage → ending_at indices q (xs ++ x ∷ []) q.0.stage
+  collect_ends : (k : ℕ) → p.0.borrowed ≡ None → (b c d : Bool) → let q =
+      cond b (borrow p x) (cond c (at_stage (noted p k x) (Collect (k + 1))) (cond d (record (noted p k x).0 { collects = p.0.collects + 1; moved = false; stage = Collect 0 }, (noted p k x).1)
+      (at_stage (noted p k x) (Value 0)))) in trace_at (length indices) q (xs ++ x ∷ []) q.0.stage → ending_at indices q (xs ++ x ∷ []) q.0.stage
   collect_ends k none true c d t = (refl, t)
   collect_ends k none false true d t = none
   collect_ends k none false false true t = none
@@ -95,7 +100,8 @@ module _ (indices : List ℕ) (p : Pair) (x : ℕ) (xs : List ℕ) where
   )
 
   -- behind the load of a value
-  value_ends : (k : ℕ) → k < length indices → LoadsValues indices xs p k → p.0.borrowed ≡ None → (b : Bool) → nat_lt (k + 1) (length indices) ≡ b → let q = at_stage (with_value p (get_or indices k 0) x) (cond b (Value (k + 1)) Done) in ending_at indices q (xs ++ x ∷ []) q.0.stage
+  value_ends : (k : ℕ) → k < length indices → LoadsValues indices xs p k → p.0.borrowed ≡ None → (b : Bool) → nat_lt (k + 1) (length indices) ≡ b → let q =
+      at_stage (with_value p (get_or indices k 0) x) (cond b (Value (k + 1)) Done) in ending_at indices q (xs ++ x ∷ []) q.0.stage
   value_ends k below l none b e = by b e
     where
       next : (q : Pair) → q.0.collects ≡ p.0.collects → q.1.values ≡ set p.1.values (get_or indices k 0) x → LoadsValues indices (xs ++ x ∷ []) q (k + 1)
@@ -125,19 +131,22 @@ module _ (indices : List ℕ) (p : Pair) (x : ℕ) (xs : List ℕ) where
             shared = λ stamp some. let bad : None ≡ Some stamp = sym none ∙ some in absurd cc;
           }
 
-  step_ends : (s : Stage) → goes_at indices p s → IsPossibleAt p.0.sizes s x → ending_at indices p xs s → let q = advance_at indices p s x in trace_at (length indices) q (xs ++ x ∷ []) q.0.stage → ending_at indices q (xs ++ x ∷ []) q.0.stage
+  step_ends : (s : Stage) → goes_at indices p s → IsPossibleAt p.0.sizes s x → ending_at indices p xs s → let q = advance_at indices p s x in trace_at (length indices) q (xs ++ x ∷ []) q.0.stage →
+      ending_at indices q (xs ++ x ∷ []) q.0.stage
   step_ends (Collect k) goes possible none t = collect_ends k none (differs p k x && was_changed p k) (nat_lt (k + 1) (length indices)) (is_first p || (noted p k x).0.moved) t
   step_ends (View stamp) goes possible w t =
       let q : Pair = (after_view p.0 x, p.1) in
       view_or q ((x == 0) || p.0.shares) (Len x) (first_view q stamp w.0 w.1 refl refl refl) (λ v. v)
   step_ends (Len at) goes possible w t = pairs_end p (at + 1) x (x == 0) (more_view (at_stage p (pairs_from (at + 1) x)) w refl refl refl)
   step_ends (Index at left) goes possible w t = more_view (at_stage p (PairValue (at + 1) left x)) w refl refl refl
-  step_ends (PairValue at left index) goes possible w t = pairs_end (with_value p index x) (at + 1) (left - 1) (left - 1 == 0) (more_view (at_stage (with_value p index x) (pairs_from (at + 1) (left - 1))) w refl refl refl)
+  step_ends (PairValue at left index) goes possible w t = pairs_end (with_value p index x) (at + 1) (left - 1) (left - 1 == 0)
+      (more_view (at_stage (with_value p index x) (pairs_from (at + 1) (left - 1))) w refl refl refl)
   step_ends (Value k) goes possible w t = value_ends k goes.0 w.0 w.1 (nat_lt (k + 1) (length indices)) refl
   step_ends Done goes possible w t = absurd possible
 
 -- over a run
-run_ends : (indices : List ℕ) (p : Pair) (past xs : List ℕ) (q : Pair) → GoTogether indices p → trace_at (length indices) p past p.0.stage → ending_at indices p past p.0.stage → Run indices p xs q → ending_at indices q (past ++ xs) q.0.stage
+run_ends : (indices : List ℕ) (p : Pair) (past xs : List ℕ) (q : Pair) → GoTogether indices p → trace_at (length indices) p past p.0.stage → ending_at indices p past p.0.stage → Run indices p xs q →
+    ending_at indices q (past ++ xs) q.0.stage
 run_ends indices p past [] q w t n is =
     subst (λ (l : List ℕ). ending_at indices q l q.0.stage) (sym (append-nil past)) (subst (λ (u : Pair). ending_at indices u past u.0.stage) (sym is) n)
 run_ends indices p past (x ∷ xs) q w t n run =

@@ -136,11 +136,17 @@ module _ (indices : List ℕ) (p : Pair) (k x : ℕ) (w : GoTogether indices p) 
         let room = h.1 in
         let times = mul-le-mul_left (length indices) f in
         record {
-          together = record { positions = w.positions; rows = rows_noted; collects = w.collects; stage = (more, omega (arith, room, f), h.2, loaded_noted (cond (is_first p) (k + 1) (length indices)) (λ i below. next_loaded (is_first p) (length indices) k i below)) };
+          together = record {
+            positions = w.positions;
+            rows = rows_noted;
+            collects = w.collects;
+            stage = (more, omega (arith, room, f), h.2, loaded_noted (cond (is_first p) (k + 1) (length indices)) (λ i below. next_loaded (is_first p) (length indices) k i below));
+          };
           fewer = omega (arith, times, l, more);
         }
 
-    another : length indices ≡ k + 1 → (is_first p || (noted p k x).0.moved) ≡ true → Keeps indices p (record (noted p k x).0 { collects = p.0.collects + 1; moved = false; stage = Collect 0 }, (noted p k x).1)
+    another : length indices ≡ k + 1 → (is_first p || (noted p k x).0.moved) ≡ true →
+        Keeps indices p (record (noted p k x).0 { collects = p.0.collects + 1; moved = false; stage = Collect 0 }, (noted p k x).1)
     another last e =
         let f = fewer_collects in
         let h = at_here in
@@ -149,11 +155,13 @@ module _ (indices : List ℕ) (p : Pair) (k x : ℕ) (w : GoTogether indices p) 
         let some = h.2 in
         let q : Pair = (record (noted p k x).0 { collects = p.0.collects + 1; moved = false; stage = Collect 0 }, (noted p k x).1) in
         let later : is_first q ≡ false = ne_eqb (p.0.collects + 1) 1 (λ same. omega (arith, some, same)) in
-        let next : future (length indices) q ≡ length indices - changes (length indices) (noted p k x).1 = ap (λ (b : Bool). future_by (length indices) (changes (length indices) (noted p k x).1) b false) later in
+        let next : future (length indices) q ≡ length indices - changes (length indices) (noted p k x).1 =
+        ap (λ (b : Bool). future_by (length indices) (changes (length indices) (noted p k x).1) b false) later in
         let one = one_fewer (length indices) (changes (length indices) (noted p k x).1) (is_first p) (noted p k x).0.moved e in
         let fewer : future (length indices) q + 1 ≤ future (length indices) p = omega (arith, next, one, f) in
         let times = mul-le-mul_left (length indices) fewer in
-        let all : AreLoaded p.0.sizes (noted p k x).1 (cond (is_first q) 0 (length indices)) = subst (λ (b : Bool). AreLoaded p.0.sizes (noted p k x).1 (cond b 0 (length indices))) (sym later) (loaded_noted (length indices) (λ i below. all_loaded (is_first p) (length indices) k i last below)) in
+        let all : AreLoaded p.0.sizes (noted p k x).1 (cond (is_first q) 0 (length indices)) = subst (λ (b : Bool). AreLoaded p.0.sizes (noted p k x).1 (cond b 0 (length indices))) (sym later)
+        (loaded_noted (length indices) (λ i below. all_loaded (is_first p) (length indices) k i last below)) in
         record {
           together = record { positions = w.positions; rows = rows_noted; collects = omega (arith, room, fewer); stage = (omega (arith, last), omega (arith, room, fewer), omega arith, all) };
           fewer = omega (arith, times, l, last);
@@ -164,11 +172,17 @@ module _ (indices : List ℕ) (p : Pair) (k x : ℕ) (w : GoTogether indices p) 
         let l = left_here in
         let few = w.positions.few in
         record {
-          together = record { positions = w.positions; rows = rows_noted; collects = w.collects; stage = (omega (arith, last), loaded_noted (length indices) (λ i below. all_loaded (is_first p) (length indices) k i last below)) };
+          together = record {
+            positions = w.positions;
+            rows = rows_noted;
+            collects = w.collects;
+            stage = (omega (arith, last), loaded_noted (length indices) (λ i below. all_loaded (is_first p) (length indices) k i last below));
+          };
           fewer = omega (arith, l, last, few);
         }
 
-    whole : length indices ≡ k + 1 → (b : Bool) → (is_first p || (noted p k x).0.moved) ≡ b → Keeps indices p (cond b (record (noted p k x).0 { collects = p.0.collects + 1; moved = false; stage = Collect 0 }, (noted p k x).1) (at_stage (noted p k x) (Value 0)))
+    whole : length indices ≡ k + 1 → (b : Bool) → (is_first p || (noted p k x).0.moved) ≡ b →
+        Keeps indices p (cond b (record (noted p k x).0 { collects = p.0.collects + 1; moved = false; stage = Collect 0 }, (noted p k x).1) (at_stage (noted p k x) (Value 0)))
     whole last true e = another last e
     whole last false e = values last
 
@@ -189,12 +203,18 @@ neither false b c = refl
 
 module _ (indices : List ℕ) (p : Pair) (x : ℕ) (w : GoTogether indices p) where
   -- the same buffers at a stage of which something is known
-  stays : (s t : Stage) (e : EmbeddedState) → p.0.stage ≡ s → e.sizes ≡ p.0.sizes → e.collects ≡ p.0.collects → e.stage ≡ t → goes_at indices (e, p.1) t → left_at (length indices) (e, p.1) t < left_at (length indices) p s → Keeps indices p (e, p.1)
+  stays : (s t : Stage) (e : EmbeddedState) → p.0.stage ≡ s → e.sizes ≡ p.0.sizes → e.collects ≡ p.0.collects → e.stage ≡ t → goes_at indices (e, p.1) t →
+      left_at (length indices) (e, p.1) t < left_at (length indices) p s → Keeps indices p (e, p.1)
   stays s t e stage sizes collects next goes fewer =
       let before : left_of indices p ≡ left_at (length indices) p s = ap (left_at (length indices) p) stage in
       let after : left_of indices (e, p.1) ≡ left_at (length indices) (e, p.1) t = ap (left_at (length indices) (e, p.1)) next in
       record {
-        together = record { positions = subst (λ (l : Layout). ArePositions l indices) (sym sizes) w.positions; rows = subst (λ (l : Layout). IsFor l p.1) (sym sizes) w.rows; collects = omega (arith, collects, w.collects); stage = subst (goes_at indices (e, p.1)) (sym next) goes };
+        together = record {
+          positions = subst (λ (l : Layout). ArePositions l indices) (sym sizes) w.positions;
+          rows = subst (λ (l : Layout). IsFor l p.1) (sym sizes) w.rows;
+          collects = omega (arith, collects, w.collects);
+          stage = subst (goes_at indices (e, p.1)) (sym next) goes;
+        };
         fewer = omega (arith, before, after, fewer);
       }
 
@@ -206,10 +226,12 @@ module _ (indices : List ℕ) (p : Pair) (x : ℕ) (w : GoTogether indices p) wh
     where
       either : (b : Bool) → ((x == 0) || p.0.shares) ≡ b → Keeps indices p (record p.0 { view = x; stage = cond b Done (Len x) }, p.1)
       either true c = stays (View stamp) Done (record p.0 { view = x; stage = Done }) e refl refl refl tt (omega arith)
-      either false c = stays (View stamp) (Len x) (record p.0 { view = x; stage = Len x }) e refl refl refl (elim possible [ inl zero' ↦ absurd (false≢true (sym (neither (x == 0) p.0.shares c) ∙ eq-eqb x 0 zero')) | inr h ↦ h ]) (omega arith)
+      either false c = stays (View stamp) (Len x) (record p.0 { view = x; stage = Len x }) e refl refl refl
+          (elim possible [ inl zero' ↦ absurd (false≢true (sym (neither (x == 0) p.0.shares c) ∙ eq-eqb x 0 zero')) | inr h ↦ h ]) (omega arith)
 
   -- so many pairs left
-  pairs_kept : (s : Stage) (rows : RowsState) (at left : ℕ) → p.0.stage ≡ s → IsFor p.0.sizes rows → pool_base p.0.sizes ≤ at → left ≤ p.0.sizes.m → at + 2 * left ≤ pool_end p.0.sizes → 2 * left < left_at (length indices) p s → Keeps indices p (at_stage (p.0, rows) (pairs_from at left))
+  pairs_kept : (s : Stage) (rows : RowsState) (at left : ℕ) → p.0.stage ≡ s → IsFor p.0.sizes rows → pool_base p.0.sizes ≤ at → left ≤ p.0.sizes.m → at + 2 * left ≤ pool_end p.0.sizes →
+      2 * left < left_at (length indices) p s → Keeps indices p (at_stage (p.0, rows) (pairs_from at left))
   pairs_kept s rows at left e for base few room fewer = either (left == 0) refl
     where
       before : left_of indices p ≡ left_at (length indices) p s
@@ -217,17 +239,20 @@ module _ (indices : List ℕ) (p : Pair) (x : ℕ) (w : GoTogether indices p) wh
 
       either : (b : Bool) → (left == 0) ≡ b → Keeps indices p (at_stage (p.0, rows) (cond b Done (Index at left)))
       either true c = let l = before in record { together = record { positions = w.positions; rows = for; collects = w.collects; stage = tt }; fewer = omega (arith, l, fewer) }
-      either false c = let l = before in let some = eqb-false left 0 c in record { together = record { positions = w.positions; rows = for; collects = w.collects; stage = (omega (arith, some), few, room, base) }; fewer = omega (arith, l, fewer) }
+      either false c = let l = before in let some = eqb-false left 0 c in record
+          { together = record { positions = w.positions; rows = for; collects = w.collects; stage = (omega (arith, some), few, room, base) }; fewer = omega (arith, l, fewer) }
 
   len_kept : (at : ℕ) → p.0.stage ≡ Len at → IsPossibleAt p.0.sizes (Len at) x → Keeps indices p (at_stage p (pairs_from (at + 1) x))
-  len_kept at e possible = let few = possible.0 in let room = possible.1 in pairs_kept (Len at) p.1 (at + 1) x e w.rows (let base = (here (Len at) e).0 in omega (arith, base)) few (omega (arith, room)) (omega (arith, few))
+  len_kept at e possible = let few = possible.0 in let room = possible.1 in pairs_kept (Len at) p.1 (at + 1) x e w.rows (let base = (here (Len at) e).0 in omega (arith, base)) few
+      (omega (arith, room)) (omega (arith, few))
 
   index_kept : (at left : ℕ) → p.0.stage ≡ Index at left → x < p.0.sizes.m → Keeps indices p (at_stage p (PairValue (at + 1) left x))
   index_kept at left e below =
       let h = here (Index at left) e in
       let some = h.0 in
       let room = h.2 in
-      stays (Index at left) (PairValue (at + 1) left x) (record p.0 { stage = PairValue (at + 1) left x }) e refl refl refl (h.0, h.1, omega (arith, room), below, let base = h.3 in omega (arith, base)) (omega (arith, some))
+      stays (Index at left) (PairValue (at + 1) left x) (record p.0 { stage = PairValue (at + 1) left x }) e refl refl refl
+      (h.0, h.1, omega (arith, room), below, let base = h.3 in omega (arith, base)) (omega (arith, some))
 
   values_for : (j : ℕ) → IsFor p.0.sizes (with_value p j x).1
   values_for j = record { last = w.rows.last; changed = w.rows.changed; values = length-set p.1.values j x ∙ w.rows.values }
@@ -238,7 +263,8 @@ module _ (indices : List ℕ) (p : Pair) (x : ℕ) (w : GoTogether indices p) wh
       let some = h.0 in
       let few = h.1 in
       let room = h.2 in
-      pairs_kept (PairValue at left index) (with_value p index x).1 (at + 1) (left - 1) e (values_for index) (let base = h.4 in omega (arith, base)) (omega (arith, few)) (omega (arith, some, room)) (omega (arith, some))
+      pairs_kept (PairValue at left index) (with_value p index x).1 (at + 1) (left - 1) e (values_for index) (let base = h.4 in omega (arith, base)) (omega (arith, few))
+      (omega (arith, some, room)) (omega (arith, some))
 
   value_kept : (k : ℕ) → p.0.stage ≡ Value k → Keeps indices p (at_stage (with_value p (get_or indices k 0) x) (cond (nat_lt (k + 1) (length indices)) (Value (k + 1)) Done))
   value_kept k e = either (nat_lt (k + 1) (length indices)) refl
@@ -250,8 +276,10 @@ module _ (indices : List ℕ) (p : Pair) (x : ℕ) (w : GoTogether indices p) wh
       before = ap (left_at (length indices) p) e
 
       either : (b : Bool) → nat_lt (k + 1) (length indices) ≡ b → Keeps indices p (at_stage (with_value p (get_or indices k 0) x) (cond b (Value (k + 1)) Done))
-      either true c = let l = before in let more = ltb-true (k + 1) (length indices) c in record { together = record { positions = w.positions; rows = values_for (get_or indices k 0); collects = w.collects; stage = (more, (here (Value k) e).1) }; fewer = omega (arith, l, more) }
-      either false c = let l = before in let below = (here (Value k) e).0 in record { together = record { positions = w.positions; rows = values_for (get_or indices k 0); collects = w.collects; stage = tt }; fewer = omega (arith, l, below) }
+      either true c = let l = before in let more = ltb-true (k + 1) (length indices) c in record
+          { together = record { positions = w.positions; rows = values_for (get_or indices k 0); collects = w.collects; stage = (more, (here (Value k) e).1) }; fewer = omega (arith, l, more) }
+      either false c = let l = before in let below = (here (Value k) e).0 in record
+          { together = record { positions = w.positions; rows = values_for (get_or indices k 0); collects = w.collects; stage = tt }; fewer = omega (arith, l, below) }
 
   kept_at : (s : Stage) → p.0.stage ≡ s → IsPossibleAt p.0.sizes s x → Keeps indices p (advance_at indices p s x)
   kept_at (Collect k) e possible = load_kept indices p k x w e possible
@@ -275,7 +303,8 @@ pub fresh_left : (s : Layout) (shares : Bool) (indices : List ℕ) (rows : RowsS
 fresh_left s shares indices rows = omega arith
 
 -- the sizes stay
-on_sizes : (r : ℕ) (p : Pair) (k : ℕ) (b c : Bool) → (cond b (at_stage p (Collect (k + 1))) (cond c (record p.0 { collects = p.0.collects + 1; moved = false; stage = Collect 0 }, p.1) (at_stage p (Value 0)))).0.sizes ≡ p.0.sizes
+on_sizes : (r : ℕ) (p : Pair) (k : ℕ) (b c : Bool) → (cond b (at_stage p (Collect (k + 1)))
+    (cond c (record p.0 { collects = p.0.collects + 1; moved = false; stage = Collect 0 }, p.1) (at_stage p (Value 0)))).0.sizes ≡ p.0.sizes
 on_sizes r p k true c = refl
 on_sizes r p k false true = refl
 on_sizes r p k false false = refl

@@ -16,7 +16,12 @@ record Ran (indices : List ℕ) (p : Pair) (xs : List ℕ) (q : Pair) : Type 0 w
   steps : length xs + left_of indices q ≤ left_of indices p
 
 ran : (indices : List ℕ) (p : Pair) (xs : List ℕ) (q : Pair) → GoTogether indices p → Run indices p xs q → Ran indices p xs q
-ran indices p [] q w is = record { together = subst (GoTogether indices) (sym is) w; sizes = ap (λ (t : Pair). t.0.sizes) is; steps = let same : left_of indices q ≡ left_of indices p = ap (left_of indices) is in omega (arith, same) }
+ran indices p [] q w is = record {
+  together = subst (GoTogether indices) (sym is) w;
+  sizes = ap (λ (t : Pair). t.0.sizes) is;
+  steps = let same : left_of indices q ≡ left_of indices p =
+      ap (left_of indices) is in omega (arith, same);
+}
 ran indices p (x ∷ xs) q w run =
     let k = kept indices p x w run.0 in
     let rest = ran indices (advance indices p x) xs q k.together run.1 in
@@ -35,13 +40,15 @@ makes_few_collects s shares indices rows xs q w =
     (r.together.collects, omega (arith, left, steps))
 
 -- the step at a stage
-loads_at : (s : Layout) (indices : List ℕ) (q : Pair) (stage : Stage) (step : Step) → q.0.sizes ≡ s → goes_at indices q stage → step_at q.0.sizes indices q.1.last stage ≡ Some step → (w : ℕ) × (step ≡ Load w) × (w < s.m → IsOfPosition indices w)
+loads_at : (s : Layout) (indices : List ℕ) (q : Pair) (stage : Stage) (step : Step) → q.0.sizes ≡ s → goes_at indices q stage → step_at q.0.sizes indices q.1.last stage ≡ Some step → (w : ℕ) ×
+    (step ≡ Load w) × (w < s.m → IsOfPosition indices w)
 loads_at s indices q (Collect k) step is goes due = (get_or indices k 0, cc, λ below. (k, goes.0, refl))
 loads_at s indices q (View stamp) step is goes due = let base = goes.0 in let same = ap (λ (l : Layout). l.m) is in (stamp + 2, cc, λ below. absurd (omega (arith, base, below, same)))
 loads_at s indices q (Len at) step is goes due = let base = goes.0 in let same = ap (λ (l : Layout). l.m) is in (at, cc, λ below. absurd (omega (arith, base, below, same)))
 loads_at s indices q (Index at left) step is goes due = let base = goes.3 in let same = ap (λ (l : Layout). l.m) is in (at, cc, λ below. absurd (omega (arith, base, below, same)))
 loads_at s indices q (PairValue at left index) step is goes due = let base = goes.4 in let same = ap (λ (l : Layout). l.m) is in (at, cc, λ below. absurd (omega (arith, base, below, same)))
-loads_at s indices q (Value k) step is goes due = let base = (goes.1 k goes.0).0 in let same = ap (λ (l : Layout). l.m) is in (get_or q.1.last k 0 + 1, cc, λ below. absurd (omega (arith, base, below, same)))
+loads_at s indices q (Value k) step is goes due = let base = (goes.1 k goes.0).0 in let same =
+    ap (λ (l : Layout). l.m) is in (get_or q.1.last k 0 + 1, cc, λ below. absurd (omega (arith, base, below, same)))
 loads_at s indices q Done step is goes due = cc
 
 pub loads_its_positions_alone : LoadsItsPositionsAlone

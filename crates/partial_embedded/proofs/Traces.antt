@@ -82,7 +82,7 @@ is_same false true f d = refl
 is_same false false f d = absurd (false≢true (sym d))
 is_same true e f d = absurd (false≢true (sym f))
 
-neither_first : (a b : Bool) → (a || b) ≡ false → (a ≡ false) × (b ≡ false)
+pub neither_first : (a b : Bool) → (a || b) ≡ false → (a ≡ false) × (b ≡ false)
 neither_first true b e = absurd (false≢true (sym e))
 neither_first false b e = (refl, e)
 
@@ -167,13 +167,20 @@ module _ (r : ℕ) (p : Pair) (k x : ℕ) (xs : List ℕ) (t : Traced r p k xs) 
 
   changed_next : (b : ℕ) → t.c ≡ b + 1 → (i : ℕ) → i < r → get_or (noted p k x).1.changed i false ≡ true → HasChanged r (xs ++ x ∷ []) t.c (k + 1) i
   changed_next b later i inside marked = elim (eqb_tells i k) [
-    | inl e ↦ subst (HasChanged r (xs ++ x ∷ []) t.c (k + 1)) (sym e.1) (elim (one_of (differs p k x) (was_changed p k) (sym mark_new ∙ ap (λ n. get_or (noted p k x).1.changed n false) (sym e.1) ∙ marked)) [
-      | inl d ↦
-          let other : (get_or p.1.last k 0 == x) ≡ false = is_differing (is_first p) (get_or p.1.last k 0 == x) (first_is b later) d in
-          let next : load_in r (xs ++ x ∷ []) (b + 1) k ≡ x = ap (λ n. load_in r (xs ++ x ∷ []) n k) (sym later) ∙ now_is in
-          record { collect = b; by = omega (arith, later); loaded = λ _. omega arith; changes = λ same. eqb-false (get_or p.1.last k 0) x other (last_is b later ∙ sym (before_is b later k within) ∙ same ∙ next) }
-      | inr d ↦ changed_old r xs x t.c k t.long within k within (t.changed b later k within (sym (ap (λ (f : Bool). not f && get_or p.1.changed k false) (first_is b later)) ∙ d))
-    ])
+    | inl e ↦ subst (HasChanged r (xs ++ x ∷ []) t.c (k + 1)) (sym e.1)
+        (elim (one_of (differs p k x) (was_changed p k) (sym mark_new ∙ ap (λ n. get_or (noted p k x).1.changed n false) (sym e.1) ∙ marked)) [
+          | inl d ↦
+              let other : (get_or p.1.last k 0 == x) ≡ false = is_differing (is_first p) (get_or p.1.last k 0 == x) (first_is b later) d in
+              let next : load_in r (xs ++ x ∷ []) (b + 1) k ≡ x = ap (λ n. load_in r (xs ++ x ∷ []) n k) (sym later) ∙ now_is in
+              record {
+                collect = b;
+                by = omega (arith, later);
+                loaded = λ _. omega arith;
+                changes = λ same. eqb-false (get_or p.1.last k 0) x other
+                    (last_is b later ∙ sym (before_is b later k within) ∙ same ∙ next);
+              }
+          | inr d ↦ changed_old r xs x t.c k t.long within k within (t.changed b later k within (sym (ap (λ (f : Bool). not f && get_or p.1.changed k false) (first_is b later)) ∙ d))
+        ])
     | inr e ↦ changed_old r xs x t.c k t.long within i inside (t.changed b later i inside (sym (mark_kept i e.1) ∙ marked))
   ]
 
@@ -248,7 +255,8 @@ module _ (indices : List ℕ) (p : Pair) (x : ℕ) (xs : List ℕ) (w : GoTogeth
   done_or q ys true s t = tt
   done_or q ys false s t = t
 
-  collect_traced : (k : ℕ) → k < length indices → Traced (length indices) p k xs → trace_at (length indices) (after_load (length indices) p k x) (xs ++ x ∷ []) (after_load (length indices) p k x).0.stage
+  collect_traced : (k : ℕ) → k < length indices → Traced (length indices) p k xs → trace_at (length indices) (after_load (length indices) p k x) (xs ++ x ∷ [])
+      (after_load (length indices) p k x).0.stage
   collect_traced k within t = either (differs p k x && was_changed p k) refl
     where
       r : ℕ
@@ -266,14 +274,18 @@ module _ (indices : List ℕ) (p : Pair) (x : ℕ) (xs : List ℕ) (w : GoTogeth
       third_here : (differs p k x && was_changed p k) ≡ true → ShowsThirdRecord (length indices) (xs ++ x ∷ []) p.0.collects x
       third_here both = elim (cases_lt 0 t.c) [
         | inl some ↦ third (length indices) p k x xs t within last_room changed_room (t.c - 1) (omega (arith, some)) both
-        | inr none ↦ absurd (false≢true (sym (ap (λ (f : Bool). (not f && not (get_or p.1.last k 0 == x)) && was_changed p k) (only_first (length indices) p k x xs t within last_room changed_room (omega (arith, none)))) ∙ both))
+        | inr none ↦ absurd (false≢true (sym (ap (λ (f : Bool). (not f && not (get_or p.1.last k 0 == x)) && was_changed p k)
+            (only_first (length indices) p k x xs t within last_room changed_room (omega (arith, none)))) ∙ both))
       ]
 
-      whole : length indices ≡ k + 1 → (b : Bool) → (is_first p || (noted p k x).0.moved) ≡ b → let q = cond b (record (noted p k x).0 { collects = p.0.collects + 1; moved = false; stage = Collect 0 }, (noted p k x).1) (at_stage (noted p k x) (Value 0)) in trace_at (length indices) q (xs ++ x ∷ []) q.0.stage
+      whole : length indices ≡ k + 1 → (b : Bool) → (is_first p || (noted p k x).0.moved) ≡ b → let q =
+          cond b (record (noted p k x).0 { collects = p.0.collects + 1; moved = false; stage = Collect 0 }, (noted p k x).1) (at_stage (noted p k x) (Value 0)) in trace_at (length indices) q
+          (xs ++ x ∷ []) q.0.stage
       whole last true e = again_traced (length indices) (noted p k x) k (xs ++ x ∷ []) last traced
       whole last false e = λ _. still_equal (length indices) (noted p k x) k (xs ++ x ∷ []) last traced e
 
-      on_from : (b : Bool) → nat_lt (k + 1) (length indices) ≡ b → let q = cond b (at_stage (noted p k x) (Collect (k + 1))) (after_collect (noted p k x)) in trace_at (length indices) q (xs ++ x ∷ []) q.0.stage
+      on_from : (b : Bool) → nat_lt (k + 1) (length indices) ≡ b → let q = cond b (at_stage (noted p k x) (Collect (k + 1))) (after_collect (noted p k x)) in trace_at (length indices) q
+          (xs ++ x ∷ []) q.0.stage
       on_from true e = retraced (length indices) (noted p k x) (Collect (k + 1)) (k + 1) (xs ++ x ∷ []) traced
       on_from false e = let past = ltb-false (k + 1) (length indices) e in whole (omega (arith, past, within)) (is_first p || (noted p k x).0.moved) refl
 
@@ -285,17 +297,20 @@ module _ (indices : List ℕ) (p : Pair) (x : ℕ) (xs : List ℕ) (w : GoTogeth
   value_traced q ys k true = λ e. absurd (omega (arith, e))
   value_traced q ys k false = tt
 
-  pub step_traced : (s : Stage) → goes_at indices p s → IsPossibleAt p.0.sizes s x → trace_at (length indices) p xs s → trace_at (length indices) (advance_at indices p s x) (xs ++ x ∷ []) (advance_at indices p s x).0.stage
+  pub step_traced : (s : Stage) → goes_at indices p s → IsPossibleAt p.0.sizes s x → trace_at (length indices) p xs s → trace_at (length indices) (advance_at indices p s x) (xs ++ x ∷ [])
+      (advance_at indices p s x).0.stage
   step_traced (Collect k) goes possible t = collect_traced k goes.0 t
   step_traced (View stamp) goes possible t = done_or (after_view p.0 x, p.1) (xs ++ x ∷ []) ((x == 0) || p.0.shares) (Len x) tt
   step_traced (Len at) goes possible t = done_or (at_stage p (pairs_from (at + 1) x)) (xs ++ x ∷ []) (x == 0) (Index (at + 1) x) tt
   step_traced (Index at left) goes possible t = tt
   step_traced (PairValue at left index) goes possible t = done_or (at_stage (with_value p index x) (pairs_from (at + 1) (left - 1))) (xs ++ x ∷ []) (left - 1 == 0) (Index (at + 1) (left - 1)) tt
-  step_traced (Value k) goes possible t = value_traced (at_stage (with_value p (get_or indices k 0) x) (cond (nat_lt (k + 1) (length indices)) (Value (k + 1)) Done)) (xs ++ x ∷ []) k (nat_lt (k + 1) (length indices))
+  step_traced (Value k) goes possible t = value_traced (at_stage (with_value p (get_or indices k 0) x) (cond (nat_lt (k + 1) (length indices)) (Value (k + 1)) Done)) (xs ++ x ∷ []) k
+      (nat_lt (k + 1) (length indices))
   step_traced Done goes possible t = absurd possible
 
 -- over a run
-pub run_traced : (indices : List ℕ) (p : Pair) (past xs : List ℕ) (q : Pair) → GoTogether indices p → trace_at (length indices) p past p.0.stage → Run indices p xs q → trace_at (length indices) q (past ++ xs) q.0.stage
+pub run_traced : (indices : List ℕ) (p : Pair) (past xs : List ℕ) (q : Pair) → GoTogether indices p → trace_at (length indices) p past p.0.stage → Run indices p xs q →
+    trace_at (length indices) q (past ++ xs) q.0.stage
 run_traced indices p past [] q w t is =
     subst (λ (l : List ℕ). trace_at (length indices) q l q.0.stage) (sym (append-nil past)) (subst (λ (u : Pair). trace_at (length indices) u past u.0.stage) (sym is) t)
 run_traced indices p past (x ∷ xs) q w t run =
@@ -316,5 +331,6 @@ fresh_traced s shares rows r = record {
 
 pub ends_in_equal_collects_or_a_third_record : EndsInEqualCollectsOrAThirdRecord
 ends_in_equal_collects_or_a_third_record s shares indices rows xs q w =
-    let t : trace_at (length indices) q xs q.0.stage = run_traced indices (fresh s shares, rows) [] xs q (fresh_together s shares indices rows w.0 w.1) (fresh_traced s shares rows (length indices)) w.2 in
+    let t : trace_at (length indices) q xs q.0.stage = run_traced indices (fresh s shares, rows) [] xs q (fresh_together s shares indices rows w.0 w.1)
+    (fresh_traced s shares rows (length indices)) w.2 in
     (λ e. let v : trace_at (length indices) q xs (Value 0) = subst (trace_at (length indices) q xs) e t in v refl, λ stamp e. subst (trace_at (length indices) q xs) e t)

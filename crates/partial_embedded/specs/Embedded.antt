@@ -39,7 +39,7 @@ pub record IsFor (s : Layout) (r : RowsState) : Type 0 where
 abbrev pub fresh : Layout → Bool → EmbeddedState
 fresh s shares = record { sizes = s; shares = shares; collects = 1; moved = false; borrowed = None; view = 0; stage = Collect 0 }
 
--- the step that is due
+-- the step that is due at a stage
 abbrev pub step_at : Layout → List ℕ → List ℕ → Stage → Option Step
 step_at s indices last (Collect k) = Some (Load (component_word s (slice_index indices k)))
 step_at s indices last (View stamp) = Some (Load (view_word stamp))
@@ -49,6 +49,7 @@ step_at s indices last (PairValue at left index) = Some (Load at)
 step_at s indices last (Value k) = Some (Load (value_word (slice_index last k)))
 step_at s indices last Done = None
 
+-- the step that is due
 abbrev pub step_of : List ℕ → Pair → Option Step
 step_of indices p = step_at p.0.sizes indices p.1.last p.0.stage
 
@@ -88,6 +89,7 @@ after_collect p =
 abbrev pub go_on : ℕ → Pair → ℕ → Pair
 go_on r p k = if nat_lt (k + 1) r then at_stage p (Collect (k + 1)) else after_collect p
 
+-- a load of position k in a collect: where it differs from the last one and the position had changed before, a view is borrowed
 abbrev pub after_load : ℕ → Pair → ℕ → ℕ → Pair
 after_load r p k x = if differs p k x && was_changed p k then borrow p x else go_on r (noted p k x) k
 
@@ -114,6 +116,7 @@ advance_at indices p (Value k) x =
     at_stage (with_value p (slice_index indices k) x) (if nat_lt (k + 1) (length indices) then Value (k + 1) else Done)
 advance_at indices p Done x = p
 
+-- what the answer x makes of an embedded scan and its rows
 abbrev pub advance : List ℕ → Pair → ℕ → Pair
 advance indices p x = advance_at indices p p.0.stage x
 
@@ -139,7 +142,7 @@ future r p = if is_first p then r + 1 else if p.0.moved then r - changes r p.1 +
 abbrev pub most_steps : Layout → ℕ → ℕ
 most_steps s r = r * (r + 2) + 2 * s.m + 2
 
--- how many steps are left at most
+-- how many steps are left at most at a stage
 abbrev pub left_at : ℕ → Pair → Stage → ℕ
 left_at r p (Collect k) = r - k + r * future r p + 2 * p.0.sizes.m + 2
 left_at r p (View stamp) = 2 * p.0.sizes.m + 2
@@ -149,6 +152,7 @@ left_at r p (PairValue at left index) = 2 * left - 1
 left_at r p (Value k) = r - k
 left_at r p Done = 0
 
+-- how many steps are left at most
 abbrev pub left_of : List ℕ → Pair → ℕ
 left_of indices p = left_at (length indices) p p.0.stage
 
@@ -192,5 +196,6 @@ IsPossibleAt s (PairValue at left index) x = ⊤
 IsPossibleAt s (Value k) x = ⊤
 IsPossibleAt s Done x = ⊥
 
+-- an answer that lawful words may give to the due step
 abbrev pub IsPossible : Pair → ℕ → Type 0
 IsPossible p x = IsPossibleAt p.0.sizes p.0.stage x

@@ -47,7 +47,15 @@ impl Model for Embedded {
 
     ghost Value = { EmbeddedState };
 
-    ghost view = { λ e. record { sizes = e.sizes; shares = e.shares; collects = e.collects; moved = e.moved; borrowed = e.borrowed; view = e.view; stage = e.stage } };
+    ghost view = { λ e. record {
+      sizes = e.sizes;
+      shares = e.shares;
+      collects = e.collects;
+      moved = e.moved;
+      borrowed = e.borrowed;
+      view = e.view;
+      stage = e.stage;
+    } };
 
     ghost invariant = { λ e. IsLayout e.sizes };
 }
@@ -62,8 +70,10 @@ impl Embedded {
     #[inline(always)]
     pub fn new(sizes: Sizes, shares: bool) -> Embedded
         ensures state { result ≡ fresh sizes shares }
-        ensures together { (indices : List ℕ) (rows : RowsState) → ArePositions sizes indices → IsFor sizes rows → GoTogether indices (result, rows) }
-        ensures steps { (indices : List ℕ) (rows : RowsState) → left_of indices (result, rows) ≡ most_steps sizes (length indices) }
+        ensures together { (indices : List ℕ) (rows : RowsState) → ArePositions sizes indices → IsFor sizes rows →
+            GoTogether indices (result, rows) }
+        ensures steps { (indices : List ℕ) (rows : RowsState) →
+            left_of indices (result, rows) ≡ most_steps sizes (length indices) }
     {
         let _components = sizes.m();
         Embedded {

@@ -31,7 +31,12 @@ impl Rows {
     /// memory for them is.
     pub fn new(alloc: Global, sizes: Sizes) -> Result<Rows, AllocError>
         ensures sizes { IfOk result (IsFor sizes) }
-        ensures empty { IfOk result (λ rows. rows ≡ record { last = replicate sizes.m 0; changed = replicate sizes.m false; values = replicate sizes.m 0 }) }
+        ensures empty { IfOk result (λ rows.
+            rows ≡ record {
+              last = replicate sizes.m 0;
+              changed = replicate sizes.m false;
+              values = replicate sizes.m 0;
+            }) }
     {
         let room = sizes.m() as usize;
         Ok(Rows {
@@ -64,7 +69,10 @@ impl Rows {
     pub(crate) fn note(&mut self, position: usize, stamp: u64, changed: bool)
         requires last { position < length self.old.last }
         requires changed { position < length self.old.changed }
-        ensures { self.new ≡ record self.old { last = slice_set self.old.last position stamp; changed = slice_set self.old.changed position changed } }
+        ensures { self.new ≡ record self.old {
+          last = slice_set self.old.last position stamp;
+          changed = slice_set self.old.changed position changed;
+        } }
     {
         self.last[position] = stamp;
         self.changed[position] = changed;

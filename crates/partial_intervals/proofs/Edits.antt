@@ -26,7 +26,8 @@ module _ (list : Ranges) (i : ℕ) (range : ℕ × ℕ) (within : i < length lis
   pub highest_other : (k : ℕ) → (k ≡ i → ⊥) → highest (set list i range) k ≡ highest list k
   highest_other k other = ap (λ (r : ℕ × ℕ). r.1) (get_or-set_other list i k range (0, 0) other)
 
-module _ (list : Ranges) (normal : IsNormal list) (i lo hi : ℕ) (within : i < length list) (closed : lo ≤ hi) (bounded : hi < 4294967295) (before : (j : ℕ) → j < i → highest list j + 1 < lo) (after : (k : ℕ) → i < k → k < length list → hi + 1 < lowest list k) where
+module _ (list : Ranges) (normal : IsNormal list) (i lo hi : ℕ) (within : i < length list) (closed : lo ≤ hi) (bounded : hi < 4294967295) (before : (j : ℕ) → j < i → highest list j + 1 < lo)
+    (after : (k : ℕ) → i < k → k < length list → hi + 1 < lowest list k) where
   -- an interval may grow where it touches no other
   pub normal_set : IsNormal (set list i (lo, hi))
   normal_set = record {
@@ -50,7 +51,8 @@ module _ (list : Ranges) (normal : IsNormal list) (i lo hi : ℕ) (within : i < 
   }
 
   -- it then holds what it held, and what the interval gained
-  pub held_set : (l : ℕ) → (lo ≤ l) × (l ≤ hi) → lo ≤ lowest list i → highest list i ≤ hi → ((x : ℕ) → lo ≤ x → x ≤ hi → ((lowest list i ≤ x) × (x ≤ highest list i)) ⊎ (x ≡ l)) → (x : ℕ) → Holds (set list i (lo, hi)) x ↔ (Holds list x ⊎ (x ≡ l))
+  pub held_set : (l : ℕ) → (lo ≤ l) × (l ≤ hi) → lo ≤ lowest list i → highest list i ≤ hi → ((x : ℕ) → lo ≤ x → x ≤ hi → ((lowest list i ≤ x) × (x ≤ highest list i)) ⊎ (x ≡ l)) → (x : ℕ) →
+      Holds (set list i (lo, hi)) x ↔ (Holds list x ⊎ (x ≡ l))
   held_set l gained low high grows x = (
     λ h. elim (cases_eq h.0 i) [
       | inl here ↦
@@ -63,14 +65,25 @@ module _ (list : Ranges) (normal : IsNormal list) (i lo hi : ℕ) (within : i < 
     ],
     λ h. elim h [
       | inl was ↦ elim (cases_eq was.0 i) [
-        | inl here ↦ (i, omega (arith, length-set list i (lo, hi)), omega (arith, lowest_here list i (lo, hi) within, rw here at was.2), omega (arith, highest_here list i (lo, hi) within, rw here at was.3))
-        | inr other ↦ (was.0, omega (arith, length-set list i (lo, hi)), omega (arith, lowest_other list i (lo, hi) within was.0 other), omega (arith, highest_other list i (lo, hi) within was.0 other))
+        | inl here ↦ (
+          i,
+          omega (arith, length-set list i (lo, hi)),
+          omega (arith, lowest_here list i (lo, hi) within, rw here at was.2),
+          omega (arith, highest_here list i (lo, hi) within, rw here at was.3),
+        )
+        | inr other ↦ (
+          was.0,
+          omega (arith, length-set list i (lo, hi)),
+          omega (arith, lowest_other list i (lo, hi) within was.0 other),
+          omega (arith, highest_other list i (lo, hi) within was.0 other),
+        )
       ]
       | inr is ↦ (i, omega (arith, length-set list i (lo, hi)), omega (arith, lowest_here list i (lo, hi) within), omega (arith, highest_here list i (lo, hi) within))
     ],
   )
 
-module _ (list : Ranges) (normal : IsNormal list) (l : ℕ) (small : l < 4294967295) (count : ℕ) (counted : IsCountUpTo list l count) (beyond_last : (0 < count) × (l ≤ highest list (count - 1)) → ⊥) where
+module _ (list : Ranges) (normal : IsNormal list) (l : ℕ) (small : l < 4294967295) (count : ℕ) (counted : IsCountUpTo list l count)
+    (beyond_last : (0 < count) × (l ≤ highest list (count - 1)) → ⊥) where
   -- the intervals before the place end below l, since they lie apart
   ends_below : (j : ℕ) → j < count → highest list j < l
   ends_below j lt = elim (cases_lt (highest list (count - 1)) l) [
@@ -83,7 +96,12 @@ module _ (list : Ranges) (normal : IsNormal list) (l : ℕ) (small : l < 4294967
 
   -- those before the last of them do not touch it
   ends_apart : (j : ℕ) → j + 1 < count → highest list j + 1 < l
-  ends_apart j lt = omega (arith, ends_below (count - 1) (omega arith), normal.apart j (count - 1) (omega arith) (omega (arith, counted.in_range)), normal.closed (count - 1) (omega (arith, counted.in_range)))
+  ends_apart j lt = omega (
+    arith,
+    ends_below (count - 1) (omega arith),
+    normal.apart j (count - 1) (omega arith) (omega (arith, counted.in_range)),
+    normal.closed (count - 1) (omega (arith, counted.in_range)),
+  )
 
   -- where the interval before does not touch l either, all of them end apart from it
   all_apart : ((0 < count) × (highest list (count - 1) + 1 ≡ l) → ⊥) → (j : ℕ) → j < count → highest list j + 1 < l
@@ -106,7 +124,8 @@ module _ (list : Ranges) (normal : IsNormal list) (l : ℕ) (small : l < 4294967
   ]
 
   -- the interval before the place grows by l
-  pub adds_before : (range : ℕ × ℕ) → range ≡ get_or list (count - 1) range → (0 < count) × (highest list (count - 1) + 1 ≡ l) → ((count < length list) × (l + 1 ≡ lowest list count) → ⊥) → Adds list (set list (count - 1) (range.0, l)) l
+  pub adds_before : (range : ℕ × ℕ) → range ≡ get_or list (count - 1) range → (0 < count) × (highest list (count - 1) + 1 ≡ l) → ((count < length list) × (l + 1 ≡ lowest list count) → ⊥) →
+      Adds list (set list (count - 1) (range.0, l)) l
   adds_before range read touches apart_after =
       let within : count - 1 < length list = omega (arith, counted.in_range, touches.0) in
       let low : range.0 ≡ lowest list (count - 1) = ap (λ (r : ℕ × ℕ). r.0) (get_or_read list (count - 1) range within read (0, 0)) in
@@ -123,7 +142,8 @@ module _ (list : Ranges) (normal : IsNormal list) (l : ℕ) (small : l < 4294967
       }
 
   -- the interval at the place grows by l
-  pub adds_after : (range : ℕ × ℕ) → range ≡ get_or list count range → ((0 < count) × (highest list (count - 1) + 1 ≡ l) → ⊥) → (count < length list) × (l + 1 ≡ lowest list count) → Adds list (set list count (l, range.1)) l
+  pub adds_after : (range : ℕ × ℕ) → range ≡ get_or list count range → ((0 < count) × (highest list (count - 1) + 1 ≡ l) → ⊥) → (count < length list) × (l + 1 ≡ lowest list count) →
+      Adds list (set list count (l, range.1)) l
   adds_after range read apart_before touches =
       let within : count < length list = touches.0 in
       let high : range.1 ≡ highest list count = ap (λ (r : ℕ × ℕ). r.1) (get_or_read list count range within read (0, 0)) in
@@ -208,7 +228,8 @@ module _ (list : Ranges) (normal : IsNormal list) (l : ℕ) (small : l < 4294967
       high_above k lt = subst (λ q. highest (insert list count (l, l)) q ≡ highest list (k - 1)) {x = k - 1 + 1} (omega arith) (high_moved (k - 1) (omega arith))
 
   -- the intervals on both sides become one
-  pub adds_between : (range after : ℕ × ℕ) → range ≡ get_or (remove list count) (count - 1) range → after ≡ get_or list count after → (0 < count) × (highest list (count - 1) + 1 ≡ l) → (count < length list) × (l + 1 ≡ lowest list count) → Adds list (set (remove list count) (count - 1) (range.0, after.1)) l
+  pub adds_between : (range after : ℕ × ℕ) → range ≡ get_or (remove list count) (count - 1) range → after ≡ get_or list count after → (0 < count) × (highest list (count - 1) + 1 ≡ l) →
+      (count < length list) × (l + 1 ≡ lowest list count) → Adds list (set (remove list count) (count - 1) (range.0, after.1)) l
   adds_between range after read read_after touches_before touches_after =
       let rest = remove list count in
       let place = count - 1 in
@@ -257,25 +278,68 @@ module _ (list : Ranges) (normal : IsNormal list) (l : ℕ) (small : l < 4294967
                   | inr (inl below) ↦ inl (place, omega arith, omega arith, omega (arith, touches_before.1))
                   | inr (inr above) ↦ inl (count, within, omega (arith, touches_after.1), omega arith)
                 ]
-            | inr (inl below) ↦ inl (h.0, omega arith, omega (arith, lowest_other rest place (range.0, after.1) place_in h.0 (λ e. omega arith), low_below h.0 (omega arith)), omega (arith, highest_other rest place (range.0, after.1) place_in h.0 (λ e. omega arith), high_below h.0 (omega arith)))
-            | inr (inr above) ↦ inl (h.0 + 1, omega arith, omega (arith, lowest_other rest place (range.0, after.1) place_in h.0 (λ e. omega arith), low_above h.0 (omega arith)), omega (arith, highest_other rest place (range.0, after.1) place_in h.0 (λ e. omega arith), high_above h.0 (omega arith)))
+            | inr (inl below) ↦ inl (
+              h.0,
+              omega arith,
+              omega (arith, lowest_other rest place (range.0, after.1) place_in h.0 (λ e. omega arith), low_below h.0 (omega arith)),
+              omega (arith, highest_other rest place (range.0, after.1) place_in h.0 (λ e. omega arith), high_below h.0 (omega arith)),
+            )
+            | inr (inr above) ↦ inl (
+              h.0 + 1,
+              omega arith,
+              omega (arith, lowest_other rest place (range.0, after.1) place_in h.0 (λ e. omega arith), low_above h.0 (omega arith)),
+              omega (arith, highest_other rest place (range.0, after.1) place_in h.0 (λ e. omega arith), high_above h.0 (omega arith)),
+            )
           ],
           λ h. elim h [
             | inl was ↦ elim (cases_lt was.0 place) [
-              | inl below ↦ (was.0, omega arith, omega (arith, lowest_other rest place (range.0, after.1) place_in was.0 (λ e. omega arith), low_below was.0 (omega arith)), omega (arith, highest_other rest place (range.0, after.1) place_in was.0 (λ e. omega arith), high_below was.0 (omega arith)))
+              | inl below ↦ (
+                was.0,
+                omega arith,
+                omega (arith, lowest_other rest place (range.0, after.1) place_in was.0 (λ e. omega arith), low_below was.0 (omega arith)),
+                omega (arith, highest_other rest place (range.0, after.1) place_in was.0 (λ e. omega arith), high_below was.0 (omega arith)),
+              )
               | inr from_place ↦ elim (cases_lt count was.0) [
                 | inl above ↦
-                    let back : was.0 - 1 + 1 ≡ was.0 = omega arith in
-                    (was.0 - 1, omega arith, omega (arith, lowest_other rest place (range.0, after.1) place_in (was.0 - 1) (λ e. omega arith), low_above (was.0 - 1) (omega arith), ap (lowest list) back), omega (arith, highest_other rest place (range.0, after.1) place_in (was.0 - 1) (λ e. omega arith), high_above (was.0 - 1) (omega arith), ap (highest list) back))
+                    let back : was.0 - 1 + 1 ≡ was.0 = omega arith in (
+                      was.0 - 1,
+                      omega arith,
+                      omega (
+                        arith,
+                        lowest_other rest place (range.0, after.1) place_in (was.0 - 1) (λ e. omega arith),
+                        low_above (was.0 - 1) (omega arith),
+                        ap (lowest list) back,
+                      ),
+                      omega (
+                        arith,
+                        highest_other rest place (range.0, after.1) place_in (was.0 - 1) (λ e. omega arith),
+                        high_above (was.0 - 1) (omega arith),
+                        ap (highest list) back,
+                      ),
+                    )
                 | inr up_to ↦ elim (cases_eq was.0 count) [
-                  | inl here ↦ (place, omega arith, omega (arith, lowest_here rest place (range.0, after.1) place_in, touches_before.1, touches_after.1, rw here at was.2), omega (arith, highest_here rest place (range.0, after.1) place_in, rw here at was.3))
+                  | inl here ↦ (
+                    place,
+                    omega arith,
+                    omega (arith, lowest_here rest place (range.0, after.1) place_in, touches_before.1, touches_after.1, rw here at was.2),
+                    omega (arith, highest_here rest place (range.0, after.1) place_in, rw here at was.3),
+                  )
                   | inr other ↦
-                      let here : was.0 ≡ place = omega arith in
-                      (place, omega arith, omega (arith, lowest_here rest place (range.0, after.1) place_in, rw here at was.2), omega (arith, highest_here rest place (range.0, after.1) place_in, touches_before.1, touches_after.1, rw here at was.3))
+                      let here : was.0 ≡ place = omega arith in (
+                        place,
+                        omega arith,
+                        omega (arith, lowest_here rest place (range.0, after.1) place_in, rw here at was.2),
+                        omega (arith, highest_here rest place (range.0, after.1) place_in, touches_before.1, touches_after.1, rw here at was.3),
+                      )
                 ]
               ]
             ]
-            | inr is ↦ (place, omega arith, omega (arith, lowest_here rest place (range.0, after.1) place_in, touches_before.1), omega (arith, highest_here rest place (range.0, after.1) place_in, touches_after.1))
+            | inr is ↦ (
+              place,
+              omega arith,
+              omega (arith, lowest_here rest place (range.0, after.1) place_in, touches_before.1),
+              omega (arith, highest_here rest place (range.0, after.1) place_in, touches_after.1),
+            )
           ],
         );
       }

@@ -88,7 +88,10 @@ impl Intervals {
         requires some { 0 < length self.old.list }
         requires up { highest self.old.list (length self.old.list - 1) ≤ hi }
         requires small { hi < 4294967295 }
-        ensures { self.new ≡ record self.old { list = slice_set self.old.list (length self.old.list - 1) (lowest self.old.list (length self.old.list - 1), hi) } }
+        ensures { self.new ≡ record self.old {
+          list = slice_set self.old.list (length self.old.list - 1)
+              (lowest self.old.list (length self.old.list - 1), hi);
+        } }
     {
         let last = self.list.len() - 1;
         self.list[last].1 = hi;

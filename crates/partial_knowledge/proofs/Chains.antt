@@ -8,7 +8,7 @@ use Rattle.partial_model.specs.declared.history.Applied.{Applied}
 use Rattle.partial_model.specs.declared.history.Opening.{Opening}
 use Rattle.partial_model.specs.History.{IsHistory, initial_stamp, stamp_of, last_entry}
 use Rattle.partial_model.proofs.HistoryLemmas.{last_from-push, last_at, overtaken_at}
-use Rattle.partial_model.proofs.StampsStay.{take_within, in_whole, found, distinct_at}
+use Rattle.partial_model.proofs.StampsStay.{take_within, in_whole, distinct_at, stamp_told}
 use Rattle.partial_words.specs.Layout.{Layout, pool_base, pool_end, pool_counter}
 use Rattle.partial_words.specs.Record.{prev_of, view_of, view_len}
 use Rattle.partial_words.specs.Chain.{Agrees}
@@ -18,6 +18,8 @@ use Rattle.partial_state.specs.Holdings.{Holding, unpublished, announcements, bl
 use Rattle.partial_state.specs.LawfulWords.{LawfulWords, IsEntry}
 use Rattle.partial_knowledge.specs.Sets.{IsReadable}
 use Rattle.partial_knowledge.specs.Scans.{HasEntry}
+use Rattle.partial_state.proofs.HoldingLemmas.{three_words}
+use Rattle.partial_model.proofs.NotesLemmas.{AllByRecursion-get}
 
 -- a changed stamp is that of an entry between
 pub record IsNewer (log : List Applied) (component a b stamp : ℕ) : Type 0 where
@@ -42,10 +44,8 @@ take_one (x ∷ h) zero e s = let is : x ≡ e = cc in ap (λ y. y ∷ []) is
 take_one (x ∷ h) (suc k) e s = ap (λ l. x ∷ l) (take_one h k e s)
 
 last_there : (log : List Applied) (k : ℕ) (e : Applied) → slice_get log k ≡ Some e → last_entry e.component (take (k + 1) log) ≡ Some e
-last_there log k e stands = let next : k + 1 ≡ suc k = omega arith in ap (last_entry e.component) (ap (λ n. take n log) next ∙ take_one log k e stands) ∙ last_from-push None e.component (take k log) e ∙ ap (λ b. cond b (Some e) (last_entry e.component (take k log))) (eq-eqb e.component e.component refl)
-
-stamp_told : (o : Opening) (h : List Applied) (j : ℕ) (f : Option Applied) → last_entry j h ≡ f → stamp_of o h j ≡ option_map_or (λ (x : Applied). x.stamp) f (initial_stamp o j)
-stamp_told o h j f e = ap (λ (g : Option Applied). option_map_or (λ (x : Applied). x.stamp) g (initial_stamp o j)) e
+last_there log k e stands = let next : k + 1 ≡ suc k = omega arith in ap (last_entry e.component) (ap (λ n. take n log) next ∙ take_one log k e stands) ∙ last_from-push None e.component
+    (take k log) e ∙ ap (λ b. cond b (Some e) (last_entry e.component (take k log))) (eq-eqb e.component e.component refl)
 
 -- behind an entry for the component, its stamp is that of an entry at that place or later
 pub entry_since : (o : Opening) (log : List Applied) (j low b : ℕ) → HasEntry log low b j → IsBegunSince log low (stamp_of o (take b log) j)
@@ -65,7 +65,8 @@ entry_since o log j low b has =
           let inside = at.0 in
           let stamp : stamp_of o (take b log) j ≡ l.entry.stamp = stamp_told o (take b log) j (Some l.entry) (ap (last_entry j) (sym whole) ∙ l.from b inside) in
           elim (cases_lt l.place k) [
-            | inl before ↦ let same : Some l.entry ≡ Some e = sym (l.from (k + 1) (omega (arith, before))) ∙ there in let is : l.entry ≡ e = cc in (k, e, from, stands, ap (λ (x : Applied). x.stamp) (sym is) ∙ sym stamp)
+            | inl before ↦ let same : Some l.entry ≡ Some e = sym (l.from (k + 1) (omega (arith, before))) ∙ there in let is : l.entry ≡ e =
+                cc in (k, e, from, stands, ap (λ (x : Applied). x.stamp) (sym is) ∙ sym stamp)
             | inr later ↦ (l.place, l.entry, omega (arith, from, later), at.1, sym stamp)
           ]
     ]
@@ -87,7 +88,7 @@ stamp_within o log n j below = elim (last_at None j (take n log)) [
 pub begun_within : (o : Opening) (log : List Applied) (low n stamp : ℕ) → IsHistory o log → IsBegunSince log low stamp → IsWithin o log n stamp → low < n
 begun_within o log low n stamp history begun (inl initial) =
     let j = initial.0 in
-    absurd (found (λ (e : Applied). (i : ℕ) → i < length o.values → e.stamp ≢ initial_stamp o i) log begun.0 begun.1 history.not_initial begun.3 j initial.1 (begun.4 ∙ initial.2))
+    absurd (AllByRecursion-get (λ (e : Applied). (i : ℕ) → i < length o.values → e.stamp ≢ initial_stamp o i) log begun.0 begun.1 history.not_initial begun.3 j initial.1 (begun.4 ∙ initial.2))
 begun_within o log low n stamp history begun (inr entry) =
     let from = begun.2 in
     let below = entry.2 in
@@ -100,7 +101,8 @@ begun_within o log low n stamp history begun (inr entry) =
     ]
 
 -- where an entry for its component stands before it, an entry's record was begun since that one
-pub begun_since : (o : Opening) (words : List ℕ) (log : List Applied) (low k : ℕ) (e : Applied) → Agrees o words log → e.component < length o.values → slice_get log k ≡ Some e → HasEntry log low k e.component → IsBegunSince log low (prev_of words e.stamp)
+pub begun_since : (o : Opening) (words : List ℕ) (log : List Applied) (low k : ℕ) (e : Applied) → Agrees o words log → e.component < length o.values → slice_get log k ≡ Some e →
+    HasEntry log low k e.component → IsBegunSince log low (prev_of words e.stamp)
 begun_since o words log low k e agrees below stands has = subst (IsBegunSince log low) (sym (prev_before_entry o words log k e agrees below stands)) (entry_since o log e.component low k has)
 
 -- the blocks of the entries are apart from those behind them
@@ -109,17 +111,11 @@ entry_blocks f [] rest w = tt
 entry_blocks f (e ∷ log) rest w = (all_back (AreApart (f e)) (map f log) rest w.0, entry_blocks f log rest w.1)
 
 -- a part of a block is apart from what the block is apart from
-pub apart_part : (us : List Block) (at size from count : ℕ) → at ≤ from → from + count ≤ at + size → IsApartFrom us (record { at = at; size = size }) → IsApartFrom us (record { at = from; size = count })
+pub apart_part : (us : List Block) (at size from count : ℕ) → at ≤ from → from + count ≤ at + size → IsApartFrom us (record { at = at; size = size }) →
+    IsApartFrom us (record { at = from; size = count })
 apart_part [] at size from count low high apart = tt
-apart_part (b ∷ us) at size from count low high apart = (elim apart.0 [ inl before ↦ inl (omega (arith, high, before)) | inr behind ↦ inr (omega (arith, low, behind)) ], apart_part us at size from count low high apart.1)
-
--- a record has at least three words
-three_words : (words : List ℕ) (stamp : ℕ) → 3 ≤ (block_at words stamp).size
-three_words words stamp = three (view_of words stamp == stamp + 3)
-  where
-    three : (b : Bool) → 3 ≤ cond b (4 + 2 * view_len words (stamp + 3)) 3
-    three true = omega arith
-    three false = omega arith
+apart_part (b ∷ us) at size from count low high apart = (elim apart.0 [ inl before ↦ inl (omega (arith, high, before)) | inr behind ↦ inr (omega (arith, low, behind)) ],
+    apart_part us at size from count low high apart.1)
 
 -- a record of the history lies in the pool, below the counter, and no block that isn't published shares a word with it
 pub record IsStanding (z : Layout) (words : List ℕ) (hs : List Holding) (stamp : ℕ) : Type 0 where
@@ -139,7 +135,8 @@ module _ (z : Layout) (o : Opening) (words : List ℕ) (hs : List Holding) (log 
       let stamps = w.stamps in
       let low = w.pool_low in
       let pool = w.sizes.pool.0 in
-      let free : IsApartFrom (unpublished hs) (record { at = pool_base z; size = 3 * z.m }) = all_back (AreApart (record { at = pool_base z; size = 3 * z.m })) (announcements hs) (unpublished hs) (all_back (AreApart (record { at = pool_base z; size = 3 * z.m })) (map (λ (e : Applied). block_at words e.stamp) log) (announcements hs ++ unpublished hs) blocks.0) in
+      let free : IsApartFrom (unpublished hs) (record { at = pool_base z; size = 3 * z.m }) = all_back (AreApart (record { at = pool_base z; size = 3 * z.m })) (announcements hs) (unpublished hs)
+          (all_back (AreApart (record { at = pool_base z; size = 3 * z.m })) (map (λ (e : Applied). block_at words e.stamp) log) (announcements hs ++ unpublished hs) blocks.0) in
       record {
         above = omega (arith, is, stamps);
         within = omega (arith, is, stamps, below, values, pool);
@@ -150,11 +147,12 @@ module _ (z : Layout) (o : Opening) (words : List ℕ) (hs : List Holding) (log 
       let blocks = w.apart in
       let e = entry.1 in
       let is : e.stamp ≡ stamp = entry.4 in
-      let of : IsEntry z words e = found (IsEntry z words) log entry.0 e w.entries entry.3 in
+      let of : IsEntry z words e = AllByRecursion-get (IsEntry z words) log entry.0 e w.entries entry.3 in
       let above = of.above in
       let within = of.within in
       let below = of.below in
-      let all = found (λ (f : Applied). AllByRecursion (AreApart (block_at words f.stamp)) (announcements hs ++ unpublished hs)) log entry.0 e (entry_blocks (λ (f : Applied). block_at words f.stamp) log (announcements hs ++ unpublished hs) blocks.1) entry.3 in
+      let all = AllByRecursion-get (λ (f : Applied). AllByRecursion (AreApart (block_at words f.stamp)) (announcements hs ++ unpublished hs)) log entry.0 e
+          (entry_blocks (λ (f : Applied). block_at words f.stamp) log (announcements hs ++ unpublished hs) blocks.1) entry.3 in
       let free : IsApartFrom (unpublished hs) (block_at words e.stamp) = all_back (AreApart (block_at words e.stamp)) (announcements hs) (unpublished hs) all in
       record {
         above = omega (arith, is, above);
@@ -169,4 +167,5 @@ module _ (z : Layout) (o : Opening) (words : List ℕ) (hs : List Holding) (log 
       let above = s.above in
       let within = s.within in
       let below = s.below in
-      (omega (arith, lt, within), λ far. record { claimed = inr (omega (arith, above), omega (arith, lt, below)); apart = apart_part (unpublished hs) stamp 3 (stamp + i) 1 (omega arith) (omega (arith, lt)) s.apart })
+      (omega (arith, lt, within), λ far. record { claimed = inr (omega (arith, above), omega (arith, lt, below)); apart = apart_part (unpublished hs) stamp 3 (stamp + i) 1 (omega arith)
+          (omega (arith, lt)) s.apart })

@@ -3,7 +3,6 @@ use Rattle.std.proofs.Common.{ℕ, ◌≡◌, ◌<◌, List, length, slice_index
 use Rattle.std.specs.List.{AllByRecursion}
 use Rattle.partial_model.specs.declared.history.Applied.{Applied}
 use Rattle.partial_model.specs.declared.history.Opening.{Opening}
-use Rattle.partial_model.proofs.StampsStay.{found}
 use Rattle.partial_words.specs.Layout.{Layout, slot_word, slot_counter}
 use Rattle.partial_words.specs.Record.{StandsAt}
 use Rattle.partial_words.specs.Announcement.{announcement_block}
@@ -12,12 +11,15 @@ use Rattle.partial_state.specs.Views.{Joined, IsAnnounced}
 use Rattle.partial_state.specs.Holdings.{Claimed, Holding, IfJoined, unpublished}
 use Rattle.partial_state.specs.LawfulWords.{LawfulWords, IsClaim}
 use Rattle.partial_knowledge.specs.Joins.{Joins}
+use Rattle.partial_active.proofs.Active.{same_named}
+use Rattle.partial_model.proofs.NotesLemmas.{AllByRecursion-get}
 
 -- what holds of each announcement holds of this one
 pub at_joined : (P : ℕ → Joined → Type 0) (hs : List Holding) (l : ℕ) (j : Joined) → AllByRecursion (λ h. IfJoined h P) hs → Joins hs l j → P l j
 at_joined P hs l j w joins =
-    let here : IfJoined joins.1 P = found (λ (h : Holding). IfJoined h P) hs joins.0 joins.1 w joins.2 in
-    let some : IfSome (Some (record { slot = l; joined = Some j })) (λ (c : Claimed). IfSome c.joined (P c.slot)) = subst (λ (f : Option Claimed). IfSome f (λ (c : Claimed). IfSome c.joined (P c.slot))) joins.3 here in
+    let here : IfJoined joins.1 P = AllByRecursion-get (λ (h : Holding). IfJoined h P) hs joins.0 joins.1 w joins.2 in
+    let some : IfSome (Some (record { slot = l; joined = Some j })) (λ (c : Claimed). IfSome c.joined (P c.slot)) =
+        subst (λ (f : Option Claimed). IfSome f (λ (c : Claimed). IfSome c.joined (P c.slot))) joins.3 here in
     some
 
 -- its slot is one of the slots that were claimed, and shows its announcement
@@ -29,7 +31,7 @@ pub record IsShown (z : Layout) (words : List ℕ) (hs : List Holding) (l : ℕ)
 
 pub shown : (z : Layout) (o : Opening) (words : List ℕ) (hs : List Holding) (log : List Applied) → LawfulWords z o words hs log → (l : ℕ) (j : Joined) → Joins hs l j → IsShown z words hs l j
 shown z o words hs log w l j joins =
-    let here : IfSome joins.1.claimed (IsClaim z words hs log) = found (λ (h : Holding). IfSome h.claimed (IsClaim z words hs log)) hs joins.0 joins.1 w.claims joins.2 in
+    let here : IfSome joins.1.claimed (IsClaim z words hs log) = AllByRecursion-get (λ (h : Holding). IfSome h.claimed (IsClaim z words hs log)) hs joins.0 joins.1 w.claims joins.2 in
     let c : IsClaim z words hs log (record { slot = l; joined = Some j }) = subst (λ (f : Option Claimed). IfSome f (IsClaim z words hs log)) joins.3 here in
     let holds = c.holds in
     record { slot = c.slot; below = c.below; shows = holds.0; announced = holds.2 }
@@ -37,11 +39,3 @@ shown z o words hs log w l j joins =
 -- it is the reference of an announcement, above EMPTY and VACATED
 pub reference_above : (z : Layout) (words : List ℕ) (hs : List Holding) (l : ℕ) (j : Joined) → IsShown z words hs l j → 1 < j.at
 reference_above z words hs l j s = let from = s.announced.above in omega (arith, from)
-
--- two announcements at one word have the same indices
-pub same_named : (words : List ℕ) (at : ℕ) (a b : List ℕ) → StandsAt words at (announcement_block a) → StandsAt words at (announcement_block b) → (length a ≡ length b) × ((k : ℕ) → k < length a → slice_index b k ≡ slice_index a k)
-same_named words at a b stands_a stands_b =
-    let ra = announcement_reads_back words at a stands_a in
-    let rb = announcement_reads_back words at b stands_b in
-    let same : length a ≡ length b = sym ra.count ∙ rb.count in
-    (same, λ k lt. sym (rb.each k (omega (arith, same))) ∙ ra.each k lt)

@@ -8,7 +8,7 @@ use Rattle.partial_model.specs.declared.history.Applied.{Applied}
 use Rattle.partial_model.specs.declared.history.Opening.{Opening}
 use Rattle.partial_model.specs.History.{value_of, stamp_of}
 use Rattle.partial_model.proofs.HistoryLemmas.{place_below}
-use Rattle.partial_model.proofs.StampsStay.{stamps_never_return, found}
+use Rattle.partial_model.proofs.StampsStay.{stamps_never_return}
 use Rattle.partial_words.specs.declared.step.Step.TheVariants.{Load}
 use Rattle.partial_words.specs.Layout.{Layout, list_base, pool_end}
 use Rattle.partial_words.specs.Record.{prev_of, view_of, view_block, view_size}
@@ -25,16 +25,13 @@ use Rattle.partial_state.specs.Loads.{Kept, IsLoaded}
 use Rattle.partial_knowledge.specs.Sets.{IsReadable}
 use Rattle.partial_knowledge.specs.Scans.{HasEntry, IsLatest, IsCollecting, HasValues, Agreed, IsThird, HasLoaded, Loads, knows_at, Knows, EmbeddedScansKnow}
 use Rattle.partial_knowledge.proofs.Chains.{newer, begun_since, begun_within, stamp_within, standing, standing_word, IsStanding, apart_part}
+use Rattle.partial_embedded.proofs.Traces.{neither_first}
+use Rattle.partial_model.proofs.Values.{element_at}
+use Rattle.partial_model.proofs.NotesLemmas.{AllByRecursion-get}
 
 -- an entry between two lengths stands between wider ones
 wider : (log : List Applied) (low a b c : ℕ) → a ≤ b → HasEntry log low a c → HasEntry log low b c
 wider log low a b c le h = let below = h.5 in (h.0, h.1, h.2, h.3, h.4, omega (arith, below, le))
-
--- the element at a place
-pub there : {A : Type 0} (xs : List A) (i : ℕ) → i < length xs → (x : A) × (slice_get xs i ≡ Some x)
-there [] i lt = absurd (omega (arith, lt))
-there (x ∷ xs) zero lt = (x, refl)
-there (x ∷ xs) (suc i) lt = there xs i (omega (arith, lt))
 
 pub got : {A : Type 0} (xs : List A) (i : ℕ) (x d : A) → slice_get xs i ≡ Some x → get_or xs i d ≡ x
 got [] i x d e = let bad : None ≡ Some x = e in absurd cc
@@ -42,12 +39,14 @@ got (y ∷ xs) zero x d e = let is : y ≡ x = cc in is
 got (y ∷ xs) (suc i) x d e = got xs i x d e
 
 -- a word of a view may be loaded
-view_word : (z : Layout) (words : List ℕ) (hs : List Holding) (at i : ℕ) (pairs : List (ℕ × ℕ)) → IsView z words (unpublished hs) at pairs → i < length (view_block pairs) → IsReadable z words hs (at + i)
+view_word : (z : Layout) (words : List ℕ) (hs : List Holding) (at i : ℕ) (pairs : List (ℕ × ℕ)) → IsView z words (unpublished hs) at pairs → i < length (view_block pairs) →
+    IsReadable z words hs (at + i)
 view_word z words hs at i pairs view lt =
     let above = view.above in
     let within = view.within in
     let below = view.below in
-    (omega (arith, lt, within), λ far. record { claimed = inr (omega (arith, above), omega (arith, lt, below)); apart = apart_part (unpublished hs) at (length (view_block pairs)) (at + i) 1 (omega arith) (omega (arith, lt)) view.apart })
+    (omega (arith, lt, within), λ far. record { claimed = inr (omega (arith, above), omega (arith, lt, below)); apart = apart_part (unpublished hs) at (length (view_block pairs)) (at + i) 1
+        (omega arith) (omega (arith, lt)) view.apart })
 
 -- what a position's load tells where it differs from the latest one
 differs_tells : (p : Pair) (k x : ℕ) → differs p k x ≡ true → (is_first p ≡ false) × (get_or p.1.last k 0 ≢ x)
@@ -74,11 +73,8 @@ changed_tells p k c =
     unless true e = absurd (false≢true e)
     unless false e = refl
 
-or_false : (a b : Bool) → (a || b) ≡ false → (a ≡ false) × (b ≡ false)
-or_false true b e = absurd (false≢true (sym e))
-or_false false b e = (refl, e)
-
-module _ (o : Opening) (words : List ℕ) (hs : List Holding) (log : List Applied) (indices : List ℕ) (low high : ℕ) (p : Pair) (w : LawfulWords p.0.sizes o words hs log) (together : GoTogether indices p) (order : low ≤ high) where
+module _ (o : Opening) (words : List ℕ) (hs : List Holding) (log : List Applied) (indices : List ℕ) (low high : ℕ) (p : Pair) (w : LawfulWords p.0.sizes o words hs log)
+    (together : GoTogether indices p) (order : low ≤ high) where
   -- what is known once the answer given at length t leads to q
   pub Known : ℕ → Pair → Type 0
   Known t q = Knows p.0.sizes o words hs log indices low t q
@@ -86,7 +82,8 @@ module _ (o : Opening) (words : List ℕ) (hs : List Holding) (log : List Applie
   there_is : (i : ℕ) → i < length indices → slice_index indices i < length o.values
   there_is i lt = let below = together.positions.components i lt in let values = w.values in omega (arith, below, values)
 
-  module _ (k : ℕ) (x t : ℕ) (stage : p.0.stage ≡ Collect k) (knows : IsCollecting o log indices low high p k) (after : high ≤ t) (inside : t ≤ length log) (is : x ≡ stamp_of o (take t log) (slice_index indices k)) where
+  module _ (k : ℕ) (x t : ℕ) (stage : p.0.stage ≡ Collect k) (knows : IsCollecting o log indices low high p k) (after : high ≤ t) (inside : t ≤ length log)
+      (is : x ≡ stamp_of o (take t log) (slice_index indices k)) where
     here : k < length indices
     here = let g = subst (goes_at indices p) stage together.stage in g.0
 
@@ -139,27 +136,30 @@ module _ (o : Opening) (words : List ℕ) (hs : List Holding) (log : List Applie
     -- the loads of this collect, up to this one
     noted_loaded : (i : ℕ) → i < k + 1 → (s : ℕ) × IsLatest o log indices low (noted p k x).1 i s × (knows.middle ≤ s) × (s ≤ t)
     noted_loaded i lt = elim (eqb_tells i k) [
-      | inl e ↦ let to = knows.to in subst (λ n. (s : ℕ) × IsLatest o log indices low (noted p k x).1 n s × (knows.middle ≤ s) × (s ≤ t)) (sym e.1) (t, noted_here, omega (arith, to, after), omega arith)
+      | inl e ↦ let to = knows.to in subst (λ n. (s : ℕ) × IsLatest o log indices low (noted p k x).1 n s × (knows.middle ≤ s) × (s ≤ t)) (sym e.1)
+          (t, noted_here, omega (arith, to, after), omega arith)
       | inr e ↦ let other = e.1 in let l = knows.loaded i (omega (arith, lt, other)) in let early = l.3 in (l.0, noted_other i l.0 other l.1, l.2, omega (arith, early, after))
     ]
 
     noted_same : is_first p ≡ false → (p.0.moved || differs p k x) ≡ false → (i : ℕ) → i < k + 1 → slice_index (noted p k x).1.last i ≡ stamp_of o (take knows.middle log) (slice_index indices i)
     noted_same first unmoved i lt =
-        let both = or_false p.0.moved (differs p k x) unmoved in
+        let both = neither_first p.0.moved (differs p k x) unmoved in
         elim (eqb_tells i k) [
           | inl e ↦
               let b = knows.before first k (omega arith) here in
               let to = knows.to in
               let latest : get_or p.1.last k 0 ≡ x = agrees_tells p k x first both.1 in
               let then = stamps_never_return o log (slice_index indices k) b.0 t knows.middle w.history (there_is k here) b.2 (omega (arith, to, after)) (sym b.1.stamp ∙ latest ∙ is) in
-              subst (λ n. slice_index (noted p k x).1.last n ≡ stamp_of o (take knows.middle log) (slice_index indices n)) (sym e.1) (get_or-set_same p.1.last k x 0 in_last ∙ sym latest ∙ b.1.stamp ∙ sym then.0)
+              subst (λ n. slice_index (noted p k x).1.last n ≡ stamp_of o (take knows.middle log) (slice_index indices n)) (sym e.1)
+                  (get_or-set_same p.1.last k x 0 in_last ∙ sym latest ∙ b.1.stamp ∙ sym then.0)
           | inr e ↦ let other = e.1 in get_or-set_other p.1.last k i x 0 other ∙ knows.same first both.0 i (omega (arith, lt, other))
         ]
 
     -- in the first collect the load is no change
     noted_calm : is_first p ≡ true → (i : ℕ) → i < k + 1 → slice_index_or (noted p k x).1.changed i false ≡ false
     noted_calm first i lt = elim (eqb_tells i k) [
-      | inl e ↦ ap (λ n. slice_index_or (noted p k x).1.changed n false) e.1 ∙ get_or-set_same p.1.changed k (differs p k x || was_changed p k) false in_changed ∙ ap (λ (b : Bool). (not b && not (get_or p.1.last k 0 == x)) || (not b && slice_index_or p.1.changed k false)) first
+      | inl e ↦ ap (λ n. slice_index_or (noted p k x).1.changed n false) e.1 ∙ get_or-set_same p.1.changed k (differs p k x || was_changed p k) false in_changed ∙
+          ap (λ (b : Bool). (not b && not (get_or p.1.last k 0 == x)) || (not b && slice_index_or p.1.changed k false)) first
       | inr e ↦ let other = e.1 in get_or-set_other p.1.changed k i (differs p k x || was_changed p k) false other ∙ knows.calm_first first i (omega (arith, lt, other))
     ]
 
@@ -232,13 +232,15 @@ module _ (o : Opening) (words : List ℕ) (hs : List Holding) (log : List Applie
           position = k;
           within = here;
           component = n.component_is;
-          begun = subst (λ s. IsBegunSince log low (slice_index words s)) stamp_is (begun_since o words log low n.place n.entry w.agrees (subst (λ c. c < length o.values) (sym n.component_is) (there_is k here)) n.stands has);
+          begun = subst (λ s. IsBegunSince log low (slice_index words s)) stamp_is
+              (begun_since o words log low n.place n.entry w.agrees (subst (λ c. c < length o.values) (sym n.component_is) (there_is k here)) n.stands has);
         }
 
     whole_collect : length indices ≤ k + 1 → Known t (after_collect (noted p k x))
-    whole_collect last = cond_both (is_first p || (p.0.moved || differs p k x)) (record (noted p k x).0 { collects = p.0.collects + 1; moved = false; stage = Collect 0 }, (noted p k x).1) (at_stage (noted p k x) (Value 0)) (λ q. Known t q)
+    whole_collect last = cond_both (is_first p || (p.0.moved || differs p k x)) (record (noted p k x).0 { collects = p.0.collects + 1; moved = false; stage = Collect 0 }, (noted p k x).1)
+        (at_stage (noted p k x) (Value 0)) (λ q. Known t q)
         (λ e. collects_again last)
-        (λ e. let neither = or_false (is_first p) (p.0.moved || differs p k x) e in agreed last neither.0 neither.1)
+        (λ e. let neither = neither_first (is_first p) (p.0.moved || differs p k x) e in agreed last neither.0 neither.1)
 
     pub step_collect : Known t (after_load (length indices) p k x)
     step_collect = cond_both (differs p k x && was_changed p k) (borrow p x) (go_on (length indices) (noted p k x) k) (λ q. Known t q)
@@ -248,13 +250,15 @@ module _ (o : Opening) (words : List ℕ) (hs : List Holding) (log : List Applie
         (λ last. whole_collect (ltb-false (k + 1) (length indices) last)))
 
 -- two views at one word have the same pairs
-same_pairs : (words : List ℕ) (z : Layout) (hs : List Holding) (at : ℕ) (pairs : List (ℕ × ℕ)) (i : ℕ) (c v : ℕ) → IsView z words (unpublished hs) at pairs → slice_get pairs i ≡ Some (c, v) → (get_or words (at + 1 + 2 * i) 0 ≡ c) × (get_or words (at + 2 + 2 * i) 0 ≡ v)
+same_pairs : (words : List ℕ) (z : Layout) (hs : List Holding) (at : ℕ) (pairs : List (ℕ × ℕ)) (i : ℕ) (c v : ℕ) → IsView z words (unpublished hs) at pairs → slice_get pairs i ≡ Some (c, v) →
+    (get_or words (at + 1 + 2 * i) 0 ≡ c) × (get_or words (at + 2 + 2 * i) 0 ≡ v)
 same_pairs words z hs at pairs i c v view stands =
     let back = (list_reads_back words at pairs view.stands).each i (0, 0) (place_below pairs i (c, v) stands) in
     let is = back ∙ got pairs i (c, v) (0, 0) stands in
     (ap (λ (q : ℕ × ℕ). q.0) is, ap (λ (q : ℕ × ℕ). q.1) is)
 
-module _ (o : Opening) (words : List ℕ) (hs : List Holding) (log : List Applied) (indices : List ℕ) (low high : ℕ) (p : Pair) (w : LawfulWords p.0.sizes o words hs log) (together : GoTogether indices p) (order : low ≤ high) where
+module _ (o : Opening) (words : List ℕ) (hs : List Holding) (log : List Applied) (indices : List ℕ) (low high : ℕ) (p : Pair) (w : LawfulWords p.0.sizes o words hs log)
+    (together : GoTogether indices p) (order : low ≤ high) where
   pub Knows_at : ℕ → Pair → Type 0
   Knows_at t q = Knows p.0.sizes o words hs log indices low t q
 
@@ -267,7 +271,8 @@ module _ (o : Opening) (words : List ℕ) (hs : List Holding) (log : List Applie
   third_fresh stamp third = subst (HasFreshView p.0.sizes o words (unpublished hs) log third.place) third.is (w.fresh third.place third.entry third.stands)
 
   -- none of its pairs is loaded yet
-  none_loaded : (stamp : ℕ) (rows : RowsState) (third : IsThird words log indices low p stamp) (f : HasFreshView p.0.sizes o words (unpublished hs) log third.place stamp) → HasLoaded p.0.sizes o words hs log low third.place rows stamp f.pairs 0
+  none_loaded : (stamp : ℕ) (rows : RowsState) (third : IsThird words log indices low p stamp) (f : HasFreshView p.0.sizes o words (unpublished hs) log third.place stamp) →
+      HasLoaded p.0.sizes o words hs log low third.place rows stamp f.pairs 0
   none_loaded stamp rows third f = record {
     shown = f.shown;
     prefix = f.prefix;
@@ -279,7 +284,8 @@ module _ (o : Opening) (words : List ℕ) (hs : List Holding) (log : List Applie
 
   -- the third record's facts, for the machine at another stage
   abbrev third_on : (stamp : ℕ) (q : Pair) → q.0.borrowed ≡ p.0.borrowed → q.0.collects ≡ p.0.collects → IsThird words log indices low p stamp → IsThird words log indices low q stamp
-  third_on stamp q same count third = record { borrowed = same ∙ third.borrowed; three = let three = third.three in omega (arith, three, count); place = third.place; entry = third.entry; stands = third.stands; is = third.is; position = third.position; within = third.within; component = third.component; begun = third.begun }
+  third_on stamp q same count third = record { borrowed = same ∙ third.borrowed; three = let three = third.three in omega (arith, three, count); place = third.place; entry = third.entry;
+      stands = third.stands; is = third.is; position = third.position; within = third.within; component = third.component; begun = third.begun }
 
   -- no pair, no word
   no_pairs : (pairs : List (ℕ × ℕ)) (stamp : ℕ) → view_of words stamp ≡ 0 → HasPairs p.0.sizes words (unpublished hs) stamp pairs → length pairs ≡ 0
@@ -295,10 +301,12 @@ module _ (o : Opening) (words : List ℕ) (hs : List Holding) (log : List Applie
   step_view stamp t x third is = cond_both ((x == 0) || p.0.shares) Done (Len x) (λ stage. Knows p.0.sizes o words hs log indices low t (record p.0 { view = x; stage = stage }, p.1))
       (λ e. (
         λ none. let bad : None ≡ Some stamp = sym none ∙ third.borrowed in absurd cc,
-        λ s borrowed. subst (λ n. IsThird words log indices low (record p.0 { view = x; stage = Done }, p.1) n × (x ≡ view_of words n)) (one_stamp stamp s third.borrowed borrowed) (third_on stamp (record p.0 { view = x; stage = Done }, p.1) refl refl third, is),
-        λ s borrowed shares. subst (λ n. Loads p.0.sizes o words hs log indices low (record p.0 { view = x; stage = Done }, p.1) 0) (one_stamp stamp s third.borrowed borrowed) (empty (nothing e shares)),
+        λ s borrowed. subst (λ n. IsThird words log indices low (record p.0 { view = x; stage = Done }, p.1) n × (x ≡ view_of words n)) (one_stamp stamp s third.borrowed borrowed)
+            (third_on stamp (record p.0 { view = x; stage = Done }, p.1) refl refl third, is),
+        λ s borrowed shares. subst (λ n. Loads p.0.sizes o words hs log indices low (record p.0 { view = x; stage = Done }, p.1) 0) (one_stamp stamp s third.borrowed borrowed)
+            (empty (nothing e shares)),
       ))
-      (λ e. let neither = or_false (x == 0) p.0.shares e in (stamp, third_on stamp (record p.0 { view = x; stage = Len x }, p.1) refl refl third, is, is, eqb-false x 0 neither.0, neither.1))
+      (λ e. let neither = neither_first (x == 0) p.0.shares e in (stamp, third_on stamp (record p.0 { view = x; stage = Len x }, p.1) refl refl third, is, is, eqb-false x 0 neither.0, neither.1))
     where
       nothing : ((x == 0) || p.0.shares) ≡ true → p.0.shares ≡ false → x ≡ 0
       nothing e shares = elim (or_cases (x == 0) p.0.shares e) [ inl zero_is ↦ eqb-true x 0 zero_is | inr shared ↦ absurd (false≢true (sym shares ∙ shared)) ]
@@ -314,7 +322,8 @@ module _ (o : Opening) (words : List ℕ) (hs : List Holding) (log : List Applie
   view_here stamp pairs some (inl empty) = absurd (some empty.0)
   view_here stamp pairs some (inr view) = view
 
-  pub step_len : (at t x : ℕ) → knows_at p.0.sizes o words hs log indices low high (Len at) p → x ≡ get_or words at 0 → ((x ≤ p.0.sizes.m) × (at + view_size x ≤ pool_end p.0.sizes)) × Knows_at t (at_stage p (pairs_from (at + 1) x))
+  pub step_len : (at t x : ℕ) → knows_at p.0.sizes o words hs log indices low high (Len at) p → x ≡ get_or words at 0 → ((x ≤ p.0.sizes.m) × (at + view_size x ≤ pool_end p.0.sizes)) ×
+      Knows_at t (at_stage p (pairs_from (at + 1) x))
   unfolding Knows_at
   step_len at t x knows is =
       let stamp = knows.0 in
@@ -331,9 +340,11 @@ module _ (o : Opening) (words : List ℕ) (hs : List Holding) (log : List Applie
         cond_both (x == 0) Done (Index (at + 1) x) (λ stage. Knows p.0.sizes o words hs log indices low t (at_stage p stage))
             (λ e.
             let none = eqb-true x 0 e in
-            let all : Loads p.0.sizes o words hs log indices low (at_stage p Done) 0 = (stamp, third_on stamp (at_stage p Done) refl refl third, view_is, f.pairs, 0, omega (arith, none, count), none_loaded stamp p.1 third f) in (
+            let all : Loads p.0.sizes o words hs log indices low (at_stage p Done) 0 =
+                (stamp, third_on stamp (at_stage p Done) refl refl third, view_is, f.pairs, 0, omega (arith, none, count), none_loaded stamp p.1 third f) in (
               λ nothing. let bad : None ≡ Some stamp = sym nothing ∙ third.borrowed in absurd cc,
-              λ s borrowed. subst (λ n. IsThird words log indices low (at_stage p Done) n × (p.0.view ≡ view_of words n)) (one_stamp stamp s third.borrowed borrowed) (third_on stamp (at_stage p Done) refl refl third, view_is),
+              λ s borrowed. subst (λ n. IsThird words log indices low (at_stage p Done) n × (p.0.view ≡ view_of words n)) (one_stamp stamp s third.borrowed borrowed)
+                  (third_on stamp (at_stage p Done) refl refl third, view_is),
               λ s borrowed shares. all,
             ))
             (λ e.
@@ -346,28 +357,33 @@ module _ (o : Opening) (words : List ℕ) (hs : List Holding) (log : List Applie
       )
 
   -- the word of the pair that is next
-  next_pair : (left : ℕ) (l : Loads p.0.sizes o words hs log indices low p left) → 0 < left → p.0.view ≢ 0 → (pair : ℕ × ℕ) × (slice_get l.3 l.4 ≡ Some pair) × (get_or words (p.0.view + 1 + 2 * l.4) 0 ≡ pair.0) × (get_or words (p.0.view + 2 + 2 * l.4) 0 ≡ pair.1) × (pair.0 < p.0.sizes.m)
+  next_pair : (left : ℕ) (l : Loads p.0.sizes o words hs log indices low p left) → 0 < left → p.0.view ≢ 0 → (pair : ℕ × ℕ) × (slice_get l.3 l.4 ≡ Some pair) ×
+      (get_or words (p.0.view + 1 + 2 * l.4) 0 ≡ pair.0) × (get_or words (p.0.view + 2 + 2 * l.4) 0 ≡ pair.1) × (pair.0 < p.0.sizes.m)
   next_pair left l some shown =
       let sum = l.5 in
-      let pair = there l.3 l.4 (omega (arith, sum, some)) in
+      let pair = element_at l.3 l.4 (omega (arith, sum, some)) in
       let view = view_here l.0 l.3 (λ none. shown (l.2 ∙ none)) l.6.shown in
       let read = same_pairs words p.0.sizes hs (view_of words l.0) l.3 l.4 pair.0.0 pair.0.1 view pair.1 in
-      (pair.0, pair.1, ap (λ n. get_or words (n + 1 + 2 * l.4) 0) l.2 ∙ read.0, ap (λ n. get_or words (n + 2 + 2 * l.4) 0) l.2 ∙ read.1, found (λ (q : ℕ × ℕ). q.0 < p.0.sizes.m) l.3 l.4 pair.0 view.components pair.1)
+      (pair.0, pair.1, ap (λ n. get_or words (n + 1 + 2 * l.4) 0) l.2 ∙ read.0, ap (λ n. get_or words (n + 2 + 2 * l.4) 0) l.2 ∙ read.1,
+          AllByRecursion-get (λ (q : ℕ × ℕ). q.0 < p.0.sizes.m) l.3 l.4 pair.0 view.components pair.1)
 
   -- where pairs are left, the view isn't the empty one
   view_shown : (left : ℕ) (l : Loads p.0.sizes o words hs log indices low p left) → 0 < left → p.0.view ≢ 0
   view_shown left l some none = let sum = l.5 in let no = no_pairs l.3 l.0 (sym l.2 ∙ none) l.6.shown in omega (arith, sum, some, no)
 
-  pub step_index : (at left t x : ℕ) → knows_at p.0.sizes o words hs log indices low high (Index at left) p → x ≡ get_or words at 0 → (x < p.0.sizes.m) × Knows_at t (at_stage p (PairValue (at + 1) left x))
+  pub step_index : (at left t x : ℕ) → knows_at p.0.sizes o words hs log indices low high (Index at left) p → x ≡ get_or words at 0 → (x < p.0.sizes.m) ×
+      Knows_at t (at_stage p (PairValue (at + 1) left x))
   unfolding Knows_at
   step_index at left t x knows is =
       let l = knows.1 in
       let at_is = knows.2 in
       let next = next_pair left l knows.3 (view_shown left l knows.3) in
       let index : x ≡ next.0.0 = is ∙ ap (λ n. get_or words n 0) at_is ∙ next.2 in
-      (subst (λ n. n < p.0.sizes.m) (sym index) next.4, (knows.0, (l.0, third_on l.0 (at_stage p (PairValue (at + 1) left x)) refl refl l.1, l.2, l.3, l.4, l.5, l.6), omega (arith, at_is), knows.3, (next.0.1, next.1 ∙ ap (λ n. Some (n, next.0.1)) (sym index))))
+      (subst (λ n. n < p.0.sizes.m) (sym index) next.4, (knows.0, (l.0, third_on l.0 (at_stage p (PairValue (at + 1) left x)) refl refl l.1, l.2, l.3, l.4, l.5, l.6), omega (arith, at_is), knows.3,
+          (next.0.1, next.1 ∙ ap (λ n. Some (n, next.0.1)) (sym index))))
 
-  pub step_pair : (at left index t x : ℕ) → index < length p.1.values → knows_at p.0.sizes o words hs log indices low high (PairValue at left index) p → x ≡ get_or words at 0 → Knows_at t (at_stage (with_value p index x) (pairs_from (at + 1) (left - 1)))
+  pub step_pair : (at left index t x : ℕ) → index < length p.1.values → knows_at p.0.sizes o words hs log indices low high (PairValue at left index) p → x ≡ get_or words at 0 →
+      Knows_at t (at_stage (with_value p index x) (pairs_from (at + 1) (left - 1)))
   unfolding Knows_at
   step_pair at left index t x room knows is =
       let l = knows.1 in
@@ -379,7 +395,7 @@ module _ (o : Opening) (words : List ℕ) (hs : List Holding) (log : List Applie
       let read = same_pairs words p.0.sizes hs (view_of words l.0) l.3 l.4 index pair.0 view pair.1 in
       let value : x ≡ pair.0 = is ∙ ap (λ n. get_or words n 0) at_is ∙ ap (λ n. get_or words (n + 2 + 2 * l.4) 0) l.2 ∙ read.1 in
       let h = l.6 in
-      let fresh_here : pair.0 ≡ value_of o (take h.prefix log) index = found (λ (q : ℕ × ℕ). q.1 ≡ value_of o (take h.prefix log) q.0) l.3 l.4 (index, pair.0) h.fresh pair.1 in
+      let fresh_here : pair.0 ≡ value_of o (take h.prefix log) index = AllByRecursion-get (λ (q : ℕ × ℕ). q.1 ≡ value_of o (take h.prefix log) q.0) l.3 l.4 (index, pair.0) h.fresh pair.1 in
       let next : HasLoaded p.0.sizes o words hs log low l.1.place (with_value p index x).1 l.0 l.3 (l.4 + 1) = record {
         shown = h.shown;
         prefix = h.prefix;
@@ -398,7 +414,8 @@ module _ (o : Opening) (words : List ℕ) (hs : List Holding) (log : List Applie
       (λ e.
       let none = eqb-true (left - 1) 0 e in (
         λ nothing. let bad : None ≡ Some l.0 = sym nothing ∙ l.1.borrowed in absurd cc,
-        λ s borrowed. subst (λ n. IsThird words log indices low (at_stage (with_value p index x) Done) n × (p.0.view ≡ view_of words n)) (one_stamp l.0 s l.1.borrowed borrowed) (third_on l.0 (at_stage (with_value p index x) Done) refl refl l.1, l.2),
+        λ s borrowed. subst (λ n. IsThird words log indices low (at_stage (with_value p index x) Done) n × (p.0.view ≡ view_of words n)) (one_stamp l.0 s l.1.borrowed borrowed)
+            (third_on l.0 (at_stage (with_value p index x) Done) refl refl l.1, l.2),
         λ s borrowed shares. (l.0, third_on l.0 (at_stage (with_value p index x) Done) refl refl l.1, l.2, l.3, l.4 + 1, omega (arith, sum, some, none), next),
       ))
       (λ e.
@@ -409,7 +426,8 @@ module _ (o : Opening) (words : List ℕ) (hs : List Holding) (log : List Applie
         omega (arith, more),
       ))
 
-  pub step_value : (k t x : ℕ) → k < length indices → slice_index indices k < length p.1.values → high ≤ t → Agreed o log indices low high p k → x ≡ get_or words (slice_index p.1.last k + 1) 0 → Knows_at t (at_stage (with_value p (slice_index indices k) x) (cond (nat_lt (k + 1) (length indices)) (Value (k + 1)) Done))
+  pub step_value : (k t x : ℕ) → k < length indices → slice_index indices k < length p.1.values → high ≤ t → Agreed o log indices low high p k → x ≡ get_or words (slice_index p.1.last k + 1) 0 →
+      Knows_at t (at_stage (with_value p (slice_index indices k) x) (cond (nat_lt (k + 1) (length indices)) (Value (k + 1)) Done))
   unfolding Knows_at
   step_value k t x here room after knows is =
       let j = slice_index indices k in
@@ -435,15 +453,18 @@ module _ (o : Opening) (words : List ℕ) (hs : List Holding) (log : List Applie
         λ s borrowed shares. let bad : None ≡ Some s = sym knows.none ∙ borrowed in absurd cc,
       ))
 
-module _ (o : Opening) (words : List ℕ) (hs : List Holding) (log : List Applied) (indices : List ℕ) (low high : ℕ) (p : Pair) (w : LawfulWords p.0.sizes o words hs log) (together : GoTogether indices p) (order : low ≤ high) where
+module _ (o : Opening) (words : List ℕ) (hs : List Holding) (log : List Applied) (indices : List ℕ) (low high : ℕ) (p : Pair) (w : LawfulWords p.0.sizes o words hs log)
+    (together : GoTogether indices p) (order : low ≤ high) where
   -- the words that are to be loaded
-  readable_at : (stage : Stage) (n : ℕ) → step_at p.0.sizes indices p.1.last stage ≡ Some (Load n) → goes_at indices p stage → knows_at p.0.sizes o words hs log indices low high stage p → IsReadable p.0.sizes words hs n
+  readable_at : (stage : Stage) (n : ℕ) → step_at p.0.sizes indices p.1.last stage ≡ Some (Load n) → goes_at indices p stage → knows_at p.0.sizes o words hs log indices low high stage p →
+      IsReadable p.0.sizes words hs n
   readable_at (Collect k) n e goes knows =
       let is : slice_index indices k ≡ n = cc in
       let here = goes.0 in
       let below = together.positions.components k here in
       (omega (arith, is, below), λ far. absurd (omega (arith, is, below, far)))
-  readable_at (View stamp) n e goes knows = let is : stamp + 2 ≡ n = cc in subst (IsReadable p.0.sizes words hs) is (standing_word p.0.sizes o words hs log w stamp 2 (omega arith) (third_stands o words hs log indices low high p w together order stamp knows))
+  readable_at (View stamp) n e goes knows = let is : stamp + 2 ≡ n = cc in subst (IsReadable p.0.sizes words hs) is
+      (standing_word p.0.sizes o words hs log w stamp 2 (omega arith) (third_stands o words hs log indices low high p w together order stamp knows))
   readable_at (Len at) n e goes knows =
       let is : at ≡ n = cc in
       let f = third_fresh o words hs log indices low high p w together order knows.0 knows.1 in
@@ -458,7 +479,8 @@ module _ (o : Opening) (words : List ℕ) (hs : List Holding) (log : List Applie
       let sum = l.5 in
       let view_is = l.2 in
       let view = view_here o words hs log indices low high p w together order l.0 l.3 (λ none. view_shown o words hs log indices low high p w together order left l some (view_is ∙ none)) l.6.shown in
-      subst (IsReadable p.0.sizes words hs) (omega (arith, is, at_is, view_is)) (view_word p.0.sizes words hs (view_of words l.0) (1 + 2 * l.4) l.3 view (let size = length-pairs l.3 in omega (arith, sum, some, size)))
+      subst (IsReadable p.0.sizes words hs) (omega (arith, is, at_is, view_is))
+          (view_word p.0.sizes words hs (view_of words l.0) (1 + 2 * l.4) l.3 view (let size = length-pairs l.3 in omega (arith, sum, some, size)))
   readable_at (PairValue at left index) n e goes knows =
       let is : at ≡ n = cc in
       let l = knows.1 in
@@ -467,16 +489,19 @@ module _ (o : Opening) (words : List ℕ) (hs : List Holding) (log : List Applie
       let sum = l.5 in
       let view_is = l.2 in
       let view = view_here o words hs log indices low high p w together order l.0 l.3 (λ none. view_shown o words hs log indices low high p w together order left l some (view_is ∙ none)) l.6.shown in
-      subst (IsReadable p.0.sizes words hs) (omega (arith, is, at_is, view_is)) (view_word p.0.sizes words hs (view_of words l.0) (2 + 2 * l.4) l.3 view (let size = length-pairs l.3 in omega (arith, sum, some, size)))
+      subst (IsReadable p.0.sizes words hs) (omega (arith, is, at_is, view_is))
+          (view_word p.0.sizes words hs (view_of words l.0) (2 + 2 * l.4) l.3 view (let size = length-pairs l.3 in omega (arith, sum, some, size)))
   readable_at (Value k) n e goes knows =
       let is : slice_index p.1.last k + 1 ≡ n = cc in
       let here = goes.0 in
       let below : slice_index indices k < length o.values = let b = together.positions.components k here in let values = w.values in omega (arith, b, values) in
-      let within : IsWithin o log knows.prefix (slice_index p.1.last k) = subst (IsWithin o log knows.prefix) (sym (knows.stamps k here)) (stamp_within o log knows.prefix (slice_index indices k) below) in
-      subst (IsReadable p.0.sizes words hs) is (standing_word p.0.sizes o words hs log w (slice_index p.1.last k) 1 (omega arith) (standing p.0.sizes o words hs log w knows.prefix (slice_index p.1.last k) within))
+      let within : IsWithin o log knows.prefix (slice_index p.1.last k) = subst (IsWithin o log knows.prefix) (sym (knows.stamps k here))
+          (stamp_within o log knows.prefix (slice_index indices k) below) in
+      subst (IsReadable p.0.sizes words hs) is (standing_word p.0.sizes o words hs log w (slice_index p.1.last k) 1 (omega arith)
+          (standing p.0.sizes o words hs log w knows.prefix (slice_index p.1.last k) within))
   readable_at Done n e goes knows = absurd cc
 
-  -- what a load of a block's word answered stands there
+  -- what a load of a block's word answered stands element_at
   still : (n : ℕ) (k : Kept) → list_base p.0.sizes ≤ n → IsLoaded p.0.sizes o words hs log n k → k.answer ≡ get_or words n 0
   still n k far l = (l.block far).0
 
@@ -486,27 +511,33 @@ module _ (o : Opening) (words : List ℕ) (hs : List Holding) (log : List Applie
   view_reference stamp pairs (inr view) = let above = view.above in let within = view.within in inr (omega (arith, above), omega (arith, within))
 
   -- and what they answer now is possible
-  possible_at : (stage : Stage) (n : ℕ) → step_at p.0.sizes indices p.1.last stage ≡ Some (Load n) → goes_at indices p stage → knows_at p.0.sizes o words hs log indices low high stage p → IsLoaded p.0.sizes o words hs log n (record { answer = slice_index words n; at = length log }) → IsPossibleAt p.0.sizes stage (slice_index words n)
+  possible_at : (stage : Stage) (n : ℕ) → step_at p.0.sizes indices p.1.last stage ≡ Some (Load n) → goes_at indices p stage → knows_at p.0.sizes o words hs log indices low high stage p →
+      IsLoaded p.0.sizes o words hs log n (record { answer = slice_index words n; at = length log }) → IsPossibleAt p.0.sizes stage (slice_index words n)
   possible_at (Collect k) n e goes knows l =
       let is : slice_index indices k ≡ n = cc in
       let here = goes.0 in
       let component = together.positions.components k here in
       let below : slice_index indices k < length o.values = let values = w.values in omega (arith, component, values) in
-      let stamp : slice_index words n ≡ stamp_of o (take (length log) log) (slice_index indices k) = subst (λ m. slice_index words n ≡ stamp_of o (take (length log) log) m) (sym is) (l.component (omega (arith, is, component))) in
-      let s = standing p.0.sizes o words hs log w (length log) (slice_index words n) (subst (IsWithin o log (length log)) (sym stamp) (stamp_within o log (length log) (slice_index indices k) below)) in
+      let stamp : slice_index words n ≡ stamp_of o (take (length log) log) (slice_index indices k) = subst (λ m. slice_index words n ≡ stamp_of o (take (length log) log) m) (sym is)
+          (l.component (omega (arith, is, component))) in
+      let s = standing p.0.sizes o words hs log w (length log) (slice_index words n)
+          (subst (IsWithin o log (length log)) (sym stamp) (stamp_within o log (length log) (slice_index indices k) below)) in
       (s.above, s.within)
   possible_at (View stamp) n e goes knows l =
       let is : stamp + 2 ≡ n = cc in
       let f = third_fresh o words hs log indices low high p w together order stamp knows in
       subst (λ m. IsPossibleAt p.0.sizes (View stamp) (slice_index words m)) is (view_reference stamp f.pairs f.shown)
   possible_at (Len at) n e goes knows l = let is : n ≡ at = cc in (step_len o words hs log indices low high p w together order at high (slice_index words n) knows (ap (λ m. get_or words m 0) is)).0
-  possible_at (Index at left) n e goes knows l = let is : n ≡ at = cc in (step_index o words hs log indices low high p w together order at left high (slice_index words n) knows (ap (λ m. get_or words m 0) is)).0
+  possible_at (Index at left) n e goes knows l = let is : n ≡ at = cc in
+      (step_index o words hs log indices low high p w together order at left high (slice_index words n) knows (ap (λ m. get_or words m 0) is)).0
   possible_at (PairValue at left index) n e goes knows l = tt
   possible_at (Value k) n e goes knows l = tt
   possible_at Done n e goes knows l = absurd cc
 
   -- an answer leads to what is known next
-  on_at : (stage : Stage) (n : ℕ) (k : Kept) → p.0.stage ≡ stage → step_at p.0.sizes indices p.1.last stage ≡ Some (Load n) → goes_at indices p stage → knows_at p.0.sizes o words hs log indices low high stage p → IsLoaded p.0.sizes o words hs log n k → high ≤ k.at → Knows p.0.sizes o words hs log indices low k.at (advance_at indices p stage k.answer)
+  on_at : (stage : Stage) (n : ℕ) (k : Kept) → p.0.stage ≡ stage → step_at p.0.sizes indices p.1.last stage ≡ Some (Load n) → goes_at indices p stage →
+      knows_at p.0.sizes o words hs log indices low high stage p → IsLoaded p.0.sizes o words hs log n k → high ≤ k.at → Knows p.0.sizes o words hs log indices low k.at
+      (advance_at indices p stage k.answer)
   unfolding Known Knows_at
   on_at (Collect i) n k at e goes knows l after =
       let is : slice_index indices i ≡ n = cc in
@@ -518,21 +549,25 @@ module _ (o : Opening) (words : List ℕ) (hs : List Holding) (log : List Applie
       let s = third_stands o words hs log indices low high p w together order stamp knows in
       let above = s.above in
       step_view o words hs log indices low high p w together order stamp k.at k.answer knows (still n k (omega (arith, is, above)) l ∙ ap (λ m. get_or words m 0) (sym is))
-  on_at (Len at) n k stage e goes knows l after = let is : at ≡ n = cc in let above = goes.0 in (step_len o words hs log indices low high p w together order at k.at k.answer knows (still n k (omega (arith, is, above)) l ∙ ap (λ m. get_or words m 0) (sym is))).1
-  on_at (Index at left) n k stage e goes knows l after = let is : at ≡ n = cc in let above = goes.3 in (step_index o words hs log indices low high p w together order at left k.at k.answer knows (still n k (omega (arith, is, above)) l ∙ ap (λ m. get_or words m 0) (sym is))).1
+  on_at (Len at) n k stage e goes knows l after = let is : at ≡ n = cc in let above =
+      goes.0 in (step_len o words hs log indices low high p w together order at k.at k.answer knows (still n k (omega (arith, is, above)) l ∙ ap (λ m. get_or words m 0) (sym is))).1
+  on_at (Index at left) n k stage e goes knows l after = let is : at ≡ n = cc in let above =
+      goes.3 in (step_index o words hs log indices low high p w together order at left k.at k.answer knows (still n k (omega (arith, is, above)) l ∙ ap (λ m. get_or words m 0) (sym is))).1
   on_at (PairValue at left index) n k stage e goes knows l after =
       let is : at ≡ n = cc in
       let above = goes.4 in
       let below = goes.3 in
       let room = together.rows.values in
-      step_pair o words hs log indices low high p w together order at left index k.at k.answer (omega (arith, below, room)) knows (still n k (omega (arith, is, above)) l ∙ ap (λ m. get_or words m 0) (sym is))
+      step_pair o words hs log indices low high p w together order at left index k.at k.answer (omega (arith, below, room)) knows
+          (still n k (omega (arith, is, above)) l ∙ ap (λ m. get_or words m 0) (sym is))
   on_at (Value i) n k stage e goes knows l after =
       let is : slice_index p.1.last i + 1 ≡ n = cc in
       let here = goes.0 in
       let component = together.positions.components i here in
       let room = together.rows.values in
       let above = (goes.1 i here).0 in
-      step_value o words hs log indices low high p w together order i k.at k.answer here (omega (arith, component, room)) after knows (still n k (omega (arith, is, above)) l ∙ ap (λ m. get_or words m 0) (sym is))
+      step_value o words hs log indices low high p w together order i k.at k.answer here (omega (arith, component, room)) after knows
+          (still n k (omega (arith, is, above)) l ∙ ap (λ m. get_or words m 0) (sym is))
   on_at Done n k stage e goes knows l after = absurd cc
 
 pub embedded_scans_know : EmbeddedScansKnow

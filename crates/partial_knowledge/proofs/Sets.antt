@@ -22,14 +22,14 @@ use Rattle.partial_active.specs.GetSetAnswers.{EndsBelow, IsSlotWord, is_possibl
 use Rattle.partial_active.proofs.Extended.{length_normal, held_extended}
 use Rattle.partial_active.proofs.Walk.{begun}
 use Rattle.partial_active.proofs.Answered.{walk_begins, walk_next, walk_noted}
-use Rattle.partial_active.proofs.Active.{with_index_keeps, with_index_new}
+use Rattle.partial_active.proofs.Active.{with_index_keeps, with_index_new, same_named}
 use Rattle.partial_state.specs.Views.{Joined, IsAnnounced, IsPublishedList, IsApartFrom, Block}
 use Rattle.partial_state.specs.Holdings.{Holding, unpublished}
 use Rattle.partial_state.specs.LawfulWords.{LawfulWords}
 use Rattle.partial_state.specs.Loads.{Kept, IsLoaded, IsSlotAnswer}
 use Rattle.partial_knowledge.specs.Joins.{Joins}
 use Rattle.partial_knowledge.specs.Sets.{HasAll, IsInSlot, FindsJoined, walks, knows_at, Knows, IsReadable, IsKeptAnswer, GetSetsKnow}
-use Rattle.partial_knowledge.proofs.Joined.{at_joined, shown, reference_above, same_named}
+use Rattle.partial_knowledge.proofs.Joined.{at_joined, shown, reference_above}
 
 module _ (z : Layout) (o : Opening) (words : List ℕ) (hs : List Holding) (log : List Applied) (low : ℕ) (w : LawfulWords z o words hs log) where
   -- a slot that is VACATED is no joined port's
@@ -51,7 +51,8 @@ module _ (z : Layout) (o : Opening) (words : List ℕ) (hs : List Holding) (log 
   found_after_walk : (p : Pair) (slot : ℕ) → p.0.end ≤ slot → walks z words hs low p slot → Knows z words hs low (after_walk p)
   found_after_walk p slot over k =
       let all : FindsJoined hs low p.1.indices = λ l j joins since. k.complete l j joins since (let below = k.ended l j joins since in omega (arith, below, over)) in
-      cond_both (p.0.noted && not p.0.lists_spent) (Claim (next_words p.1)) Done (λ stage. Knows z words hs low (record p.0 { stage = stage }, p.1)) (λ e. ((k.noted, all), unmarked p.0.lists_spent (and_parts p.0.noted (not p.0.lists_spent) e).1)) (λ e. (k.noted, all))
+      cond_both (p.0.noted && not p.0.lists_spent) (Claim (next_words p.1)) Done (λ stage. Knows z words hs low (record p.0 { stage = stage }, p.1))
+          (λ e. ((k.noted, all), unmarked p.0.lists_spent (and_parts p.0.noted (not p.0.lists_spent) e).1)) (λ e. (k.noted, all))
     where
       unmarked : (b : Bool) → not b ≡ true → b ≡ false
       unmarked true e = absurd (false≢true e)
@@ -93,7 +94,8 @@ module _ (z : Layout) (o : Opening) (words : List ℕ) (hs : List Holding) (log 
       let start = p.whole.from in
       let below = p.below in
       let size : length (list_block list) ≡ 1 + 2 * length list = let pairs = length-pairs list in omega (arith, pairs) in
-      (omega (arith, lt, to, size), λ far. record { claimed = inl (omega (arith, lt, to, size), omega (arith, lt, below)); apart = apart_word (unpublished hs) from (length (list_block list)) i lt p.apart })
+      (omega (arith, lt, to, size), λ far. record { claimed = inl (omega (arith, lt, to, size), omega (arith, lt, below));
+          apart = apart_word (unpublished hs) from (length (list_block list)) i lt p.apart })
 
   announced_word : (at i : ℕ) (named : List ℕ) → IsAnnounced z words (unpublished hs) at named → i < 1 + length named → IsReadable z words hs (at + i)
   announced_word at i named p lt =
@@ -103,7 +105,8 @@ module _ (z : Layout) (o : Opening) (words : List ℕ) (hs : List Holding) (log 
       (omega (arith, lt, to), λ far. record { claimed = inr (omega (arith, above), omega (arith, lt, below)); apart = apart_word (unpublished hs) at (1 + length named) i lt p.apart })
 
   -- the announcement that was read is the joined port's
-  all_read : (slot a : ℕ) (named indices : List ℕ) → IsAnnounced z words (unpublished hs) a named → IsInSlot hs low slot a → ((k : ℕ) → k < length named → has_index indices (slice_index named k) ≡ true) → (j : Joined) → Joins hs slot j → j.since < low → HasAll indices j
+  all_read : (slot a : ℕ) (named indices : List ℕ) → IsAnnounced z words (unpublished hs) a named → IsInSlot hs low slot a →
+      ((k : ℕ) → k < length named → has_index indices (slice_index named k) ≡ true) → (j : Joined) → Joins hs slot j → j.since < low → HasAll indices j
   all_read slot a named indices announced here so_far j joins since k lt =
       let s = shown z o words hs log w slot j joins in
       let at : j.at ≡ a = here j joins since in
@@ -136,7 +139,8 @@ module _ (o : Opening) (words : List ℕ) (hs : List Holding) (log : List Applie
         let from = list.1.whole.from in
         let to = list.1.whole.to in (
           inr (from, omega (arith, to)),
-          cond_both (eqb k.answer 0) Counter (ListLen k.answer) (λ stage. Knows p.0.sizes words hs low (record p.0 { head = k.answer; stage = stage }, record p.1 { indices = []; read = []; next = [] }))
+          cond_both (eqb k.answer 0) Counter (ListLen k.answer) (λ stage. Knows p.0.sizes words hs low
+              (record p.0 { head = k.answer; stage = stage }, record p.1 { indices = []; read = []; next = [] }))
               (λ e. λ x holds. let inside = holds.1 in absurd (omega (arith, inside)))
               (λ e. list),
         )
@@ -169,7 +173,8 @@ module _ (o : Opening) (words : List ℕ) (hs : List Holding) (log : List Applie
   read_high : (list : Ranges) (k : ℕ) → p.1.read ≡ take (length p.1.read) list → k < length p.1.read → highest p.1.read k ≡ highest list k
   read_high list k is lt = ap (λ (l : Ranges). highest l k) is ∙ ap (λ (r : ℕ × ℕ). r.1) (get_or-take (length p.1.read) list k (0, 0) lt)
 
-  step_list_low : (at left : ℕ) (k : Kept) → goes_at (ListLow at left) p → knows_at p.0.sizes words hs low (ListLow at left) p → IsLoaded p.0.sizes o words hs log at k → Leads (ListLow at left) k.answer
+  step_list_low : (at left : ℕ) (k : Kept) → goes_at (ListLow at left) p → knows_at p.0.sizes words hs low (ListLow at left) p → IsLoaded p.0.sizes o words hs log at k →
+      Leads (ListLow at left) k.answer
   unfolding Leads
   step_list_low at left k goes knows l =
       let from = knows.0 in
@@ -191,7 +196,8 @@ module _ (o : Opening) (words : List ℕ) (hs : List Holding) (log : List Applie
         (from, list, record { published = r.published; read_is = r.read_is; sum = r.sum }, omega (arith, place), refl),
       )
 
-  step_list_high : (at left lo : ℕ) (k : Kept) → goes_at (ListHigh at left lo) p → knows_at p.0.sizes words hs low (ListHigh at left lo) p → IsLoaded p.0.sizes o words hs log at k → Leads (ListHigh at left lo) k.answer
+  step_list_high : (at left lo : ℕ) (k : Kept) → goes_at (ListHigh at left lo) p → knows_at p.0.sizes words hs low (ListHigh at left lo) p → IsLoaded p.0.sizes o words hs log at k →
+      Leads (ListHigh at left lo) k.answer
   unfolding Leads
   step_list_high at left lo k goes knows l =
       let from = knows.0 in
@@ -209,7 +215,8 @@ module _ (o : Opening) (words : List ℕ) (hs : List Holding) (log : List Applie
       let closed = normal.closed i lt in
       let high : k.answer ≡ highest list i = still at k (omega (arith, place, start)) l ∙ ap (slice_index words) place ∙ high_word from list r.published i lt in
       let longer : length (p.1.read ++ (lo, highest list i) ∷ []) ≡ i + 1 = length_push p.1.read (lo, highest list i) in
-      let so_far : p.1.read ++ (lo, highest list i) ∷ [] ≡ take (i + 1) list = ap (λ n. p.1.read ++ (n, highest list i) ∷ []) low_is ∙ ap (λ (m : Ranges). m ++ get_or list i (0, 0) ∷ []) r.read_is ∙ sym (take_more list i (0, 0) lt) in
+      let so_far : p.1.read ++ (lo, highest list i) ∷ [] ≡ take (i + 1) list = ap (λ n. p.1.read ++ (n, highest list i) ∷ []) low_is ∙ ap (λ (m : Ranges). m ++ get_or list i (0, 0) ∷ []) r.read_is ∙
+          sym (take_more list i (0, 0) lt) in
       rw high (
         (omega (arith, low_is, closed), whole.within (highest list i) (i, lt, closed, omega arith)),
         cond_both (eqb left 1) Counter (ListLow (at + 1) (left - 1)) (λ stage. Knows p.0.sizes words hs low (record p.0 { stage = stage }, record p.1 { read = p.1.read ++ (lo, highest list i) ∷ [] }))
@@ -234,13 +241,15 @@ module _ (o : Opening) (words : List ℕ) (hs : List Holding) (log : List Applie
         | inr above ↦ let empty = w.unclaimed (highest p.1.read i) above held.0 in let vacated = held.1 in absurd (omega (arith, empty, vacated))
       ]
 
-  step_counter : (k : Kept) → low ≤ k.at → EndsBelow p.1.read k.answer → goes_at Counter p → knows_at p.0.sizes words hs low Counter p → IsLoaded p.0.sizes o words hs log (slot_counter p.0.sizes) k → Knows p.0.sizes words hs low (advance_at Counter p k.answer)
+  step_counter : (k : Kept) → low ≤ k.at → EndsBelow p.1.read k.answer → goes_at Counter p → knows_at p.0.sizes words hs low Counter p → IsLoaded p.0.sizes o words hs log (slot_counter p.0.sizes) k →
+      Knows p.0.sizes words hs low (advance_at Counter p k.answer)
   step_counter k after below goes knows l =
       let q : Pair = (record p.0 { end = min k.answer p.0.sizes.slots; passed = 0 }, p.1) in
       knows_come_to p.0.sizes o words hs log low w q 0 (walk_begins p k.answer goes.0 below goes.1) (record {
         listed = knows;
         noted = λ y holds. let empty : length p.1.next ≡ 0 = ap length goes.1 in let inside = holds.1 in absurd (omega (arith, empty, inside));
-        ended = λ m j joins since. let s = shown p.0.sizes o words hs log w m j joins in let slot = s.slot in let less = at_joined (λ n i. i.since < k.at → n < k.answer) hs m j (l.counter refl) joins (omega (arith, since, after)) in omega (arith, slot, less);
+        ended = λ m j joins since. let s = shown p.0.sizes o words hs log w m j joins in let slot = s.slot in let less = at_joined (λ n i. i.since < k.at → n < k.answer) hs m j (l.counter refl) joins
+            (omega (arith, since, after)) in omega (arith, slot, less);
         complete = λ m j joins since lt. absurd (omega (arith, lt));
       })
 
@@ -250,7 +259,8 @@ module _ (o : Opening) (words : List ℕ) (hs : List Holding) (log : List Applie
   slot_possible slot a (inr (inl vacated)) = inr (inl vacated.0)
   slot_possible slot a (inr (inr there)) = let from = there.1.whole.from in let to = there.1.whole.to in inr (inr (from, omega (arith, to)))
 
-  step_slot : (slot : ℕ) (k : Kept) → low ≤ k.at → goes_at (Slot slot) p → knows_at p.0.sizes words hs low (Slot slot) p → IsLoaded p.0.sizes o words hs log (slot_word p.0.sizes slot) k → Leads (Slot slot) k.answer
+  step_slot : (slot : ℕ) (k : Kept) → low ≤ k.at → goes_at (Slot slot) p → knows_at p.0.sizes words hs low (Slot slot) p → IsLoaded p.0.sizes o words hs log (slot_word p.0.sizes slot) k →
+      Leads (Slot slot) k.answer
   unfolding Leads
   step_slot slot k after goes knows l =
       let a = k.answer in
@@ -258,23 +268,28 @@ module _ (o : Opening) (words : List ℕ) (hs : List Holding) (log : List Applie
       let bound = goes.walking.end_within in
       let within : slot < p.0.sizes.slots = omega (arith, less, bound) in
       let is = l.slot slot within refl in
-      let here : IsInSlot hs low slot a = λ j joins since. sym (at_joined (λ n i. i.since < k.at → slot_word p.0.sizes slot ≡ slot_word p.0.sizes n → k.answer ≡ i.at) hs slot j l.joined joins (omega (arith, since, after)) refl) in
-      let none : a ≤ 1 → (j : Joined) → Joins hs slot j → j.since < low → HasAll p.1.indices j = λ small j joins since. let s = shown p.0.sizes o words hs log w slot j joins in let above = reference_above p.0.sizes words hs slot j s in let at = here j joins since in absurd (omega (arith, small, above, at)) in
+      let here : IsInSlot hs low slot a = λ j joins since. sym (at_joined (λ n i. i.since < k.at → slot_word p.0.sizes slot ≡ slot_word p.0.sizes n → k.answer ≡ i.at) hs slot j l.joined joins
+          (omega (arith, since, after)) refl) in
+      let none : a ≤ 1 → (j : Joined) → Joins hs slot j → j.since < low → HasAll p.1.indices j = λ small j joins since. let s = shown p.0.sizes o words hs log w slot j joins in let above =
+          reference_above p.0.sizes words hs slot j s in let at = here j joins since in absurd (omega (arith, small, above, at)) in
       let vacated_now : a ≡ 1 → slice_index words (slot_word p.0.sizes slot) ≡ 1 = λ one. vacated is one in
       let noted : a ≡ 1 → walks p.0.sizes words hs low (note_slot p slot) slot = λ one. record {
         listed = knows.listed;
         noted = λ x holds. elim (held_extended p.1.next slot slot goes.walking.next x holds) [
           | inl before ↦ knows.noted x before
-          | inr at ↦ let from = at.0 in let to = at.1 in let same : x ≡ slot = omega (arith, from, to) in (omega (arith, same, within), ap (λ n. slice_index words (slot_word p.0.sizes n)) same ∙ vacated_now one)
+          | inr at ↦ let from = at.0 in let to = at.1 in let same : x ≡ slot =
+              omega (arith, from, to) in (omega (arith, same, within), ap (λ n. slice_index words (slot_word p.0.sizes n)) same ∙ vacated_now one)
         ];
         ended = knows.ended;
         complete = knows.complete;
       } in (
         slot_possible slot a is,
         cond_both (eqb a 0) (come_to p (slot + 1)) (cond (eqb a 1) (come_to (note_slot p slot) (slot + 1)) (in_stage p (Len slot a))) (λ q. Knows p.0.sizes words hs low q)
-            (λ e. let zero_is = eqb-true a 0 e in knows_come_to p.0.sizes o words hs log low w p (slot + 1) (walk_next p slot goes) (walks_next p.0.sizes o words hs log low w p slot knows (none (omega (arith, zero_is)))))
+            (λ e. let zero_is = eqb-true a 0 e in knows_come_to p.0.sizes o words hs log low w p (slot + 1) (walk_next p slot goes)
+                (walks_next p.0.sizes o words hs log low w p slot knows (none (omega (arith, zero_is)))))
             (λ not_empty. cond_both (eqb a 1) (come_to (note_slot p slot) (slot + 1)) (in_stage p (Len slot a)) (λ q. Knows p.0.sizes words hs low q)
-            (λ e. let one = eqb-true a 1 e in knows_come_to p.0.sizes o words hs log low w (note_slot p slot) (slot + 1) (walk_noted p slot layout goes) (walks_next p.0.sizes o words hs log low w (note_slot p slot) slot (noted one) (none (omega (arith, one)))))
+            (λ e. let one = eqb-true a 1 e in knows_come_to p.0.sizes o words hs log low w (note_slot p slot) (slot + 1) (walk_noted p slot layout goes)
+                (walks_next p.0.sizes o words hs log low w (note_slot p slot) slot (noted one) (none (omega (arith, one)))))
             (λ not_vacated. elim is [
               | inl empty ↦ absurd (eqb-false a 0 not_empty empty)
               | inr (inl gone) ↦ absurd (eqb-false a 1 not_vacated gone.0)
@@ -299,14 +314,17 @@ module _ (o : Opening) (words : List ℕ) (hs : List Holding) (log : List Applie
       rw count (
         (whole.to, whole.count),
         cond_both (eqb (length named) 0) (come_to p (slot + 1)) (in_stage p (Index slot (at + 1) (length named))) (λ q. Knows p.0.sizes words hs low q)
-            (λ e. let none = eqb-true (length named) 0 e in knows_come_to p.0.sizes o words hs log low w p (slot + 1) (walk_next p slot goes.0) (walks_next p.0.sizes o words hs log low w p slot knows.0 (all_read p.0.sizes o words hs log low w slot at named p.1.indices announced here (λ i lt. absurd (omega (arith, none, lt))))))
+            (λ e. let none = eqb-true (length named) 0 e in knows_come_to p.0.sizes o words hs log low w p (slot + 1) (walk_next p slot goes.0)
+                (walks_next p.0.sizes o words hs log low w p slot knows.0
+                (all_read p.0.sizes o words hs log low w slot at named p.1.indices announced here (λ i lt. absurd (omega (arith, none, lt))))))
             (λ e. (
               record { listed = knows.0.listed; noted = knows.0.noted; ended = knows.0.ended; complete = knows.0.complete },
               (at, named, 0, record { announced = announced; here = here; place = omega arith; sum = omega arith; so_far = λ i lt. absurd (omega (arith, lt)) }),
             )),
       )
 
-  step_index : (slot at left : ℕ) (k : Kept) → goes_at (Index slot at left) p → knows_at p.0.sizes words hs low (Index slot at left) p → IsLoaded p.0.sizes o words hs log at k → Leads (Index slot at left) k.answer
+  step_index : (slot at left : ℕ) (k : Kept) → goes_at (Index slot at left) p → knows_at p.0.sizes words hs low (Index slot at left) p → IsLoaded p.0.sizes o words hs log at k →
+      Leads (Index slot at left) k.answer
   unfolding Leads
   step_index slot at left k goes knows l =
       let a = knows.1.0 in
@@ -335,7 +353,9 @@ module _ (o : Opening) (words : List ℕ) (hs : List Holding) (log : List Applie
       rw word (
         whole.each i lt,
         cond_both (eqb left 1) (come_to q (slot + 1)) (in_stage q (Index slot (at + 1) (left - 1))) (λ v. Knows p.0.sizes words hs low v)
-            (λ e. let one = eqb-true left 1 e in knows_come_to p.0.sizes o words hs log low w q (slot + 1) (walk_next q slot (with_here x goes.0)) (walks_next p.0.sizes o words hs log low w q slot walked (all_read p.0.sizes o words hs log low w slot a named (with_index p.1.indices x) r.announced r.here (λ n less. so_far n (omega (arith, sum, one, less))))))
+            (λ e. let one = eqb-true left 1 e in knows_come_to p.0.sizes o words hs log low w q (slot + 1) (walk_next q slot (with_here x goes.0))
+                (walks_next p.0.sizes o words hs log low w q slot walked
+                (all_read p.0.sizes o words hs log low w slot a named (with_index p.1.indices x) r.announced r.here (λ n less. so_far n (omega (arith, sum, one, less))))))
             (λ e. let more = eqb-false left 1 e in (
               record { listed = walked.listed; noted = walked.noted; ended = walked.ended; complete = walked.complete },
               (a, named, i + 1, record { announced = r.announced; here = r.here; place = omega (arith, place); sum = omega (arith, sum, more, some); so_far = so_far }),
@@ -362,7 +382,8 @@ module _ (o : Opening) (words : List ℕ) (hs : List Holding) (log : List Applie
   -- the words that are to be loaded
   readable_at : (stage : Stage) (n : ℕ) → step_at p.0.sizes p.0.head stage ≡ Some (Load n) → goes_at stage p → knows_at p.0.sizes words hs low stage p → IsReadable p.0.sizes words hs n
   readable_at Head n e goes knows = let is : list_head p.0.sizes ≡ n = cc in let some = layout.slots.0 in (omega (arith, is, some), λ far. absurd (omega (arith, is, some, far)))
-  readable_at (ListLen at) n e goes knows = let is : at ≡ n = cc in subst (IsReadable p.0.sizes words hs) (omega (arith, is)) (list_word p.0.sizes o words hs log low w at 0 knows.0 knows.1 (omega arith))
+  readable_at (ListLen at) n e goes knows = let is : at ≡ n = cc in subst (IsReadable p.0.sizes words hs) (omega (arith, is))
+      (list_word p.0.sizes o words hs log low w at 0 knows.0 knows.1 (omega arith))
   readable_at (ListLow at left) n e goes knows =
       let is : at ≡ n = cc in
       let from = knows.0 in
@@ -384,8 +405,10 @@ module _ (o : Opening) (words : List ℕ) (hs : List Holding) (log : List Applie
       let pairs = length-pairs list in
       subst (IsReadable p.0.sizes words hs) (omega (arith, is, place)) (list_word p.0.sizes o words hs log low w from (2 + 2 * length p.1.read) list r.published (omega (arith, pairs, sum, some)))
   readable_at Counter n e goes knows = let is : slot_counter p.0.sizes ≡ n = cc in let some = layout.slots.0 in (omega (arith, is, some), λ far. absurd (omega (arith, is, some, far)))
-  readable_at (Slot slot) n e goes knows = let is : slot_word p.0.sizes slot ≡ n = cc in let less = goes.below in let bound = goes.walking.end_within in (omega (arith, is, less, bound), λ far. absurd (omega (arith, is, less, bound, far)))
-  readable_at (Len slot at) n e goes knows = let is : at ≡ n = cc in subst (IsReadable p.0.sizes words hs) (omega (arith, is)) (announced_word p.0.sizes o words hs log low w at 0 knows.1.0 knows.1.1 (omega arith))
+  readable_at (Slot slot) n e goes knows = let is : slot_word p.0.sizes slot ≡ n = cc in let less = goes.below in let bound =
+      goes.walking.end_within in (omega (arith, is, less, bound), λ far. absurd (omega (arith, is, less, bound, far)))
+  readable_at (Len slot at) n e goes knows = let is : at ≡ n = cc in subst (IsReadable p.0.sizes words hs) (omega (arith, is))
+      (announced_word p.0.sizes o words hs log low w at 0 knows.1.0 knows.1.1 (omega arith))
   readable_at (Index slot at left) n e goes knows =
       let is : at ≡ n = cc in
       let a = knows.1.0 in
@@ -402,23 +425,38 @@ module _ (o : Opening) (words : List ℕ) (hs : List Holding) (log : List Applie
   readable_at Done n e goes knows = absurd cc
 
   -- and what they answer now is possible
-  possible_at : (stage : Stage) (n : ℕ) → step_at p.0.sizes p.0.head stage ≡ Some (Load n) → goes_at stage p → knows_at p.0.sizes words hs low stage p → IsLoaded p.0.sizes o words hs log n (record { answer = slice_index words n; at = length log }) → low ≤ length log → is_possible_at stage p (slice_index words n)
+  possible_at : (stage : Stage) (n : ℕ) → step_at p.0.sizes p.0.head stage ≡ Some (Load n) → goes_at stage p → knows_at p.0.sizes words hs low stage p → IsLoaded p.0.sizes o words hs log n
+      (record { answer = slice_index words n; at = length log }) → low ≤ length log → is_possible_at stage p (slice_index words n)
   unfolding Leads
-  possible_at Head n e goes knows l after = let is : n ≡ list_head p.0.sizes = cc in (step_head (record { answer = slice_index words n; at = length log }) (subst (λ m. IsLoaded p.0.sizes o words hs log m (record { answer = slice_index words n; at = length log })) is l)).0
-  possible_at (ListLen at) n e goes knows l after = let is : n ≡ at = cc in (step_list_len at (record { answer = slice_index words n; at = length log }) goes knows (subst (λ m. IsLoaded p.0.sizes o words hs log m (record { answer = slice_index words n; at = length log })) is l)).0
-  possible_at (ListLow at left) n e goes knows l after = let is : n ≡ at = cc in (step_list_low at left (record { answer = slice_index words n; at = length log }) goes knows (subst (λ m. IsLoaded p.0.sizes o words hs log m (record { answer = slice_index words n; at = length log })) is l)).0
-  possible_at (ListHigh at left lo) n e goes knows l after = let is : n ≡ at = cc in (step_list_high at left lo (record { answer = slice_index words n; at = length log }) goes knows (subst (λ m. IsLoaded p.0.sizes o words hs log m (record { answer = slice_index words n; at = length log })) is l)).0
+  possible_at Head n e goes knows l after = let is : n ≡ list_head p.0.sizes =
+      cc in (step_head (record { answer = slice_index words n; at = length log }) (subst (λ m. IsLoaded p.0.sizes o words hs log m (record { answer = slice_index words n; at = length log })) is l)).0
+  possible_at (ListLen at) n e goes knows l after = let is : n ≡ at = cc in
+      (step_list_len at (record { answer = slice_index words n; at = length log }) goes knows
+      (subst (λ m. IsLoaded p.0.sizes o words hs log m (record { answer = slice_index words n; at = length log })) is l)).0
+  possible_at (ListLow at left) n e goes knows l after = let is : n ≡ at =
+      cc in (step_list_low at left (record { answer = slice_index words n; at = length log }) goes knows
+      (subst (λ m. IsLoaded p.0.sizes o words hs log m (record { answer = slice_index words n; at = length log })) is l)).0
+  possible_at (ListHigh at left lo) n e goes knows l after = let is : n ≡ at =
+      cc in (step_list_high at left lo (record { answer = slice_index words n; at = length log }) goes knows
+      (subst (λ m. IsLoaded p.0.sizes o words hs log m (record { answer = slice_index words n; at = length log })) is l)).0
   possible_at Counter n e goes knows l after = let is : slot_counter p.0.sizes ≡ n = cc in subst (λ m. EndsBelow p.1.read (slice_index words m)) is (counter_now goes knows)
-  possible_at (Slot slot) n e goes knows l after = let is : n ≡ slot_word p.0.sizes slot = cc in (step_slot slot (record { answer = slice_index words n; at = length log }) after goes knows (subst (λ m. IsLoaded p.0.sizes o words hs log m (record { answer = slice_index words n; at = length log })) is l)).0
-  possible_at (Len slot at) n e goes knows l after = let is : n ≡ at = cc in (step_len slot at (record { answer = slice_index words n; at = length log }) goes knows (subst (λ m. IsLoaded p.0.sizes o words hs log m (record { answer = slice_index words n; at = length log })) is l)).0
-  possible_at (Index slot at left) n e goes knows l after = let is : n ≡ at = cc in (step_index slot at left (record { answer = slice_index words n; at = length log }) goes knows (subst (λ m. IsLoaded p.0.sizes o words hs log m (record { answer = slice_index words n; at = length log })) is l)).0
+  possible_at (Slot slot) n e goes knows l after = let is : n ≡ slot_word p.0.sizes slot =
+      cc in (step_slot slot (record { answer = slice_index words n; at = length log }) after goes knows
+      (subst (λ m. IsLoaded p.0.sizes o words hs log m (record { answer = slice_index words n; at = length log })) is l)).0
+  possible_at (Len slot at) n e goes knows l after = let is : n ≡ at =
+      cc in (step_len slot at (record { answer = slice_index words n; at = length log }) goes knows
+      (subst (λ m. IsLoaded p.0.sizes o words hs log m (record { answer = slice_index words n; at = length log })) is l)).0
+  possible_at (Index slot at left) n e goes knows l after = let is : n ≡ at =
+      cc in (step_index slot at left (record { answer = slice_index words n; at = length log }) goes knows
+      (subst (λ m. IsLoaded p.0.sizes o words hs log m (record { answer = slice_index words n; at = length log })) is l)).0
   possible_at (Claim count) n e goes knows l after = absurd cc
   possible_at (Write at k count word) n e goes knows l after = absurd cc
   possible_at (Publish at) n e goes knows l after = absurd cc
   possible_at Done n e goes knows l after = absurd cc
 
   -- an answer leads to what is known next
-  on_at : (stage : Stage) (k : Kept) → IsSome (step_at p.0.sizes p.0.head stage) → goes_at stage p → knows_at p.0.sizes words hs low stage p → is_possible_at stage p k.answer → ((n : ℕ) → step_at p.0.sizes p.0.head stage ≡ Some (Load n) → (low ≤ k.at) × IsLoaded p.0.sizes o words hs log n k) → Knows p.0.sizes words hs low (advance_at stage p k.answer)
+  on_at : (stage : Stage) (k : Kept) → IsSome (step_at p.0.sizes p.0.head stage) → goes_at stage p → knows_at p.0.sizes words hs low stage p → is_possible_at stage p k.answer →
+      ((n : ℕ) → step_at p.0.sizes p.0.head stage ≡ Some (Load n) → (low ≤ k.at) × IsLoaded p.0.sizes o words hs log n k) → Knows p.0.sizes words hs low (advance_at stage p k.answer)
   unfolding Leads
   on_at Head k due goes knows possible f = (step_head k (f (list_head p.0.sizes) refl).1).1
   on_at (ListLen at) k due goes knows possible f = (step_list_len at k goes knows (f at refl).1).1
@@ -428,13 +466,16 @@ module _ (o : Opening) (words : List ℕ) (hs : List Holding) (log : List Applie
   on_at (Slot slot) k due goes knows possible f = let h = f (slot_word p.0.sizes slot) refl in (step_slot slot k h.0 goes knows h.1).1
   on_at (Len slot at) k due goes knows possible f = (step_len slot at k goes knows (f at refl).1).1
   on_at (Index slot at left) k due goes knows possible f = (step_index slot at left k goes knows (f at refl).1).1
-  on_at (Claim count) k due goes knows possible f = cond_both (ltb (list_end p.0.sizes) (k.answer + count)) (record p.0 { lists_spent = true; stage = Done }, p.1) (in_stage p (Write k.answer 0 count (length p.1.next))) (λ q. Knows p.0.sizes words hs low q) (λ e. knows.0) (λ e. knows.0)
-  on_at (Write at i count word) k due goes knows possible f = cond_both (eqb (i + 1) count) (Publish at) (Write at (i + 1) count (slice_index (list_block p.1.next) (i + 1))) (λ stage. Knows p.0.sizes words hs low (in_stage p stage)) (λ e. knows) (λ e. knows)
+  on_at (Claim count) k due goes knows possible f = cond_both (ltb (list_end p.0.sizes) (k.answer + count)) (record p.0 { lists_spent = true; stage = Done }, p.1)
+      (in_stage p (Write k.answer 0 count (length p.1.next))) (λ q. Knows p.0.sizes words hs low q) (λ e. knows.0) (λ e. knows.0)
+  on_at (Write at i count word) k due goes knows possible f = cond_both (eqb (i + 1) count) (Publish at) (Write at (i + 1) count (slice_index (list_block p.1.next) (i + 1)))
+      (λ stage. Knows p.0.sizes words hs low (in_stage p stage)) (λ e. knows) (λ e. knows)
   on_at (Publish at) k due goes knows possible f = knows
   on_at Done k due goes knows possible f = absurd (false≢true due)
 
   -- what a kept answer says of a load
-  kept_load : (f : Option Step) (k : Kept) → IsKeptAnswer p.0.sizes o words hs log low p f k → IsSome f × IsPossible p k.answer × ((n : ℕ) → f ≡ Some (Load n) → (low ≤ k.at) × IsLoaded p.0.sizes o words hs log n k)
+  kept_load : (f : Option Step) (k : Kept) → IsKeptAnswer p.0.sizes o words hs log low p f k → IsSome f × IsPossible p k.answer ×
+      ((n : ℕ) → f ≡ Some (Load n) → (low ≤ k.at) × IsLoaded p.0.sizes o words hs log n k)
   kept_load None k h = absurd h
   kept_load (Some (Load m)) k h = (refl, h.0, λ n e. let is : m ≡ n = cc in (h.1, subst (λ i. IsLoaded p.0.sizes o words hs log i k) is h.2))
   kept_load (Some (Store m v)) k h = (refl, h, λ n e. absurd cc)

@@ -104,6 +104,7 @@ knows_at z o words hs log indices low high Done p =
     × ((stamp : ℕ) → p.0.borrowed ≡ Some stamp → IsThird words log indices low p stamp × (p.0.view ≡ view_of words stamp))
     × ((stamp : ℕ) → p.0.borrowed ≡ Some stamp → p.0.shares ≡ false → Loads z o words hs log indices low p 0)
 
+-- what an embedded scan knows of lawful words by its answers
 abbrev pub Knows : Layout → Opening → List ℕ → List Holding → List Applied → List ℕ → ℕ → ℕ → Pair → Type 0
 Knows z o words hs log indices low high p = knows_at z o words hs log indices low high p.0.stage p
 

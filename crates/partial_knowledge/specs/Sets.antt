@@ -58,6 +58,7 @@ pub record HasReadNamed (z : Layout) (words : List ℕ) (hs : List Holding) (low
   pub sum : i + left ≡ length named
   pub so_far : (k : ℕ) → k < i → has_index indices (slice_index named k) ≡ true
 
+-- a getSet has walked the slots below that one
 abbrev pub walks : Layout → List ℕ → List Holding → ℕ → Pair → ℕ → Type 0
 walks z words hs low p slot = HasWalked z words hs low p.0.end p.1.read p.1.next p.1.indices slot
 
@@ -85,6 +86,7 @@ knows_at z words hs low (Write at k count word) p = has_found z words hs low p
 knows_at z words hs low (Publish at) p = has_found z words hs low p
 knows_at z words hs low Done p = has_found z words hs low p
 
+-- what a getSet knows of lawful words by its answers
 abbrev pub Knows : Layout → List ℕ → List Holding → ℕ → Pair → Type 0
 Knows z words hs low p = knows_at z words hs low p.0.stage p
 

@@ -42,7 +42,8 @@ sound_with : (s : CoreState) (js : List ℕ) (t : Stage) → AreComponents s.siz
 sound_with s js t asked stage w = record { asked = asked; found = w.found; indices = w.indices; distinct = w.distinct; rows = w.rows; stage = stage }
 
 -- what is known of an update that is begun, of a read, and of a scan
-begins_update : (s : CoreState) (j : ℕ) (a b : Bool) → nat_lt j s.sizes.m ≡ a → s.pool_spent ≡ b → cond a (cond b (Some refused.PoolSpent) None) (Some refused.Component) ≡ None → (j < s.sizes.m) × (s.pool_spent ≡ false)
+begins_update : (s : CoreState) (j : ℕ) (a b : Bool) → nat_lt j s.sizes.m ≡ a → s.pool_spent ≡ b → cond a (cond b (Some refused.PoolSpent) None) (Some refused.Component) ≡ None →
+    (j < s.sizes.m) × (s.pool_spent ≡ false)
 begins_update s j true true below spent is = let bad : Some refused.PoolSpent ≡ None = is in absurd cc
 begins_update s j true false below spent is = (ltb-true j s.sizes.m below, spent)
 begins_update s j false b below spent is = let bad : Some refused.Component ≡ None = is in absurd cc
@@ -56,10 +57,14 @@ record ScanMay (s : CoreState) (js : List ℕ) : Type 0 where
   asked : AreComponents s.sizes js
   may : (0 < length js) × (s.pool_spent ≡ false) × (s.slots_spent ≡ false)
 
-scan_may : (s : CoreState) (js : List ℕ) (a p q : Bool) → length js ≤ s.sizes.m → list_all (λ i. nat_lt i s.sizes.m) js ≡ a → s.pool_spent ≡ p → s.slots_spent ≡ q → 0 < length js → cond a (cond p (Some refused.PoolSpent) (cond q (Some refused.SlotsSpent) None)) (Some refused.Component) ≡ None → ScanMay s js
+scan_may : (s : CoreState) (js : List ℕ) (a p q : Bool) → length js ≤ s.sizes.m → list_all (λ i. nat_lt i s.sizes.m) js ≡ a → s.pool_spent ≡ p → s.slots_spent ≡ q → 0 < length js →
+    cond a (cond p (Some refused.PoolSpent) (cond q (Some refused.SlotsSpent) None)) (Some refused.Component) ≡ None → ScanMay s js
 scan_may s js true true q few below pool slots some is = let bad : Some refused.PoolSpent ≡ None = is in absurd cc
 scan_may s js true false true few below pool slots some is = let bad : Some refused.SlotsSpent ≡ None = is in absurd cc
-scan_may s js true false false few below pool slots some is = record { asked = record { few = few; each = λ k. position_below js s.sizes.m k (all_below s.sizes.m js below) }; may = (some, pool, slots) }
+scan_may s js true false false few below pool slots some is = record {
+  asked = record { few = few; each = λ k. position_below js s.sizes.m k (all_below s.sizes.m js below) };
+  may = (some, pool, slots);
+}
 scan_may s js false p q few below pool slots some is = let bad : Some refused.Component ≡ None = is in absurd cc
 
 begins_scan : (s : CoreState) (js : List ℕ) → length js ≤ s.sizes.m → refusal_of s (call.Scan js) ≡ None → IsBegunWith s (call.Scan js)
@@ -79,7 +84,8 @@ begins_scan s (j ∷ js) few is =
     let none : (length (j ∷ js) == 0) ≡ false = ne_eqb (length (j ∷ js)) 0 (λ e. omega (arith, e)) in
     let stage : cond (length (j ∷ js) == 0) (Finished (reply.Scanned 0 None)) ScanBegun ≡ ScanBegun = ap (λ (b : Bool). cond b (Finished (reply.Scanned 0 None)) ScanBegun) none in
     let allowed : cond (list_all (λ i. nat_lt i s.sizes.m) (j ∷ js)) (cond s.pool_spent (Some refused.PoolSpent) (cond s.slots_spent (Some refused.SlotsSpent) None)) (Some refused.Component) ≡ None =
-    sym (ap (λ (b : Bool). cond (list_all (λ i. nat_lt i s.sizes.m) (j ∷ js)) (cond b None (cond s.pool_spent (Some refused.PoolSpent) (cond s.slots_spent (Some refused.SlotsSpent) None))) (Some refused.Component)) none) ∙ is in
+    sym (ap (λ (b : Bool). cond (list_all (λ i. nat_lt i s.sizes.m) (j ∷ js)) (cond b None (cond s.pool_spent (Some refused.PoolSpent) (cond s.slots_spent (Some refused.SlotsSpent) None)))
+    (Some refused.Component)) none) ∙ is in
     let m = scan_may s (j ∷ js) (list_all (λ i. nat_lt i s.sizes.m) (j ∷ js)) s.pool_spent s.slots_spent few refl refl refl (omega arith) allowed in
     let may : is_sound_at (begin_scan s (j ∷ js)) (begin_scan s (j ∷ js)).stage = subst (λ (u : Stage). is_sound_at (record s { asked = j ∷ js; stage = u }) u) (sym stage) m.may in
     record {
@@ -93,7 +99,9 @@ begins_scan s (j ∷ js) few is =
       at_once = λ e. absurd (false≢true (sym e));
     }
 
-begins_change : (s : CoreState) (j v : ℕ) (e : Option ℕ) (c : Call) → AreComponents s.sizes s.asked → (j < s.sizes.m) × (s.pool_spent ≡ false) → begun_of s c ≡ at_stage s (UpdateBegun (record { component = j; expected = e; value = v })) → call_at s (UpdateBegun (record { component = j; expected = e; value = v })) ≡ Some c → makes_steps c ≡ true → most_steps s.sizes c ≡ most_of_update s.sizes → IsBegunWith s c
+begins_change : (s : CoreState) (j v : ℕ) (e : Option ℕ) (c : Call) → AreComponents s.sizes s.asked → (j < s.sizes.m) × (s.pool_spent ≡ false) →
+    begun_of s c ≡ at_stage s (UpdateBegun (record { component = j; expected = e; value = v })) → call_at s (UpdateBegun (record { component = j; expected = e; value = v })) ≡ Some c →
+    makes_steps c ≡ true → most_steps s.sizes c ≡ most_of_update s.sizes → IsBegunWith s c
 begins_change s j v e c asked may is made makes most =
     let t : Stage = UpdateBegun (record { component = j; expected = e; value = v }) in
     let sound = sound_with s s.asked t asked may in
@@ -113,7 +121,16 @@ calls_begin s (call.Update j v) asked served is = begins_change s j v None (call
 calls_begin s (call.Scan js) asked served is = begins_scan s js served is
 calls_begin s (call.Read j) asked served is =
     let may = begins_read s j (nat_lt j s.sizes.m) refl is in
-    record { like = refl; asked = asked; may = may; sound = sound_with s s.asked (ReadBegun j) asked may; few = omega arith; begun = refl; made = λ e. refl; at_once = λ e. absurd (false≢true (sym e)) }
+    record {
+      like = refl;
+      asked = asked;
+      may = may;
+      sound = sound_with s s.asked (ReadBegun j) asked may;
+      few = omega arith;
+      begun = refl;
+      made = λ e. refl;
+      at_once = λ e. absurd (false≢true (sym e));
+    }
 calls_begin s (call.UpdateIf j x v) asked served is = begins_change s j v (Some x) (call.UpdateIf j x v) asked (begins_update s j (nat_lt j s.sizes.m) s.pool_spent refl refl is) refl refl refl refl
 
 pub rests_are_sound : RestsAreSound
@@ -135,24 +152,32 @@ rests_are_sound = record {
 abbrev IsWhy : CoreState → Call → Refused → Type 0
 IsWhy s c cause = MayBeRefused s.sizes.m c cause × IsOldMark s cause
 
-refused_update : (s : CoreState) (j : ℕ) (cause : Refused) (a b : Bool) → nat_lt j s.sizes.m ≡ a → s.pool_spent ≡ b → cond a (cond b (Some refused.PoolSpent) None) (Some refused.Component) ≡ Some cause → (c : Call) → ((k : j < s.sizes.m) → MayBeRefused s.sizes.m c refused.PoolSpent) → (s.sizes.m ≤ j → MayBeRefused s.sizes.m c refused.Component) → IsWhy s c cause
+refused_update : (s : CoreState) (j : ℕ) (cause : Refused) (a b : Bool) → nat_lt j s.sizes.m ≡ a → s.pool_spent ≡ b → cond a (cond b (Some refused.PoolSpent) None)
+    (Some refused.Component) ≡ Some cause → (c : Call) → ((k : j < s.sizes.m) → MayBeRefused s.sizes.m c refused.PoolSpent) →
+    (s.sizes.m ≤ j → MayBeRefused s.sizes.m c refused.Component) → IsWhy s c cause
 refused_update s j cause true true below spent is c pool out = let same : refused.PoolSpent ≡ cause = cc in subst (IsWhy s c) same (pool (ltb-true j s.sizes.m below), spent)
 refused_update s j cause true false below spent is c pool out = let bad : None ≡ Some cause = is in absurd cc
 refused_update s j cause false b below spent is c pool out = let same : refused.Component ≡ cause = cc in subst (IsWhy s c) same (out (ltb-false j s.sizes.m below), tt)
 
-refused_scan : (s : CoreState) (js : List ℕ) (cause : Refused) (a b p q : Bool) → list_all (λ i. nat_lt i s.sizes.m) js ≡ a → (length js == 0) ≡ b → s.pool_spent ≡ p → s.slots_spent ≡ q → cond a (cond b None (cond p (Some refused.PoolSpent) (cond q (Some refused.SlotsSpent) None))) (Some refused.Component) ≡ Some cause → IsWhy s (call.Scan js) cause
+refused_scan : (s : CoreState) (js : List ℕ) (cause : Refused) (a b p q : Bool) → list_all (λ i. nat_lt i s.sizes.m) js ≡ a → (length js == 0) ≡ b → s.pool_spent ≡ p → s.slots_spent ≡ q →
+    cond a (cond b None (cond p (Some refused.PoolSpent) (cond q (Some refused.SlotsSpent) None))) (Some refused.Component) ≡ Some cause → IsWhy s (call.Scan js) cause
 refused_scan s js cause true true p q below none pool slots is = let bad : None ≡ Some cause = is in absurd cc
-refused_scan s js cause true false true q below none pool slots is = let same : refused.PoolSpent ≡ cause = cc in subst (IsWhy s (call.Scan js)) same ((all_below s.sizes.m js below, some_position js none), pool)
-refused_scan s js cause true false false true below none pool slots is = let same : refused.SlotsSpent ≡ cause = cc in subst (IsWhy s (call.Scan js)) same ((all_below s.sizes.m js below, some_position js none), slots)
+refused_scan s js cause true false true q below none pool slots is = let same : refused.PoolSpent ≡ cause = cc in subst (IsWhy s (call.Scan js)) same
+    ((all_below s.sizes.m js below, some_position js none), pool)
+refused_scan s js cause true false false true below none pool slots is = let same : refused.SlotsSpent ≡ cause = cc in subst (IsWhy s (call.Scan js)) same
+    ((all_below s.sizes.m js below, some_position js none), slots)
 refused_scan s js cause true false false false below none pool slots is = let bad : None ≡ Some cause = is in absurd cc
 refused_scan s js cause false b p q below none pool slots is = let same : refused.Component ≡ cause = cc in subst (IsWhy s (call.Scan js)) same (not_below s.sizes.m js below, tt)
 
 refused_read : (s : CoreState) (j : ℕ) (cause : Refused) (a : Bool) → nat_lt j s.sizes.m ≡ a → cond a None (Some refused.Component) ≡ Some cause → IsWhy s (call.Read j) cause
 refused_read s j cause true below is = let bad : None ≡ Some cause = is in absurd cc
-refused_read s j cause false below is = let same : refused.Component ≡ cause = cc in let out = ltb-false j s.sizes.m below in subst (IsWhy s (call.Read j)) same ((λ w. let below' = w.0 in omega (arith, out, below')), tt)
+refused_read s j cause false below is = let same : refused.Component ≡ cause = cc in let out = ltb-false j s.sizes.m below in subst (IsWhy s (call.Read j)) same
+    ((λ w. let below' = w.0 in omega (arith, out, below')), tt)
 
 pub calls_are_refused_at_once : CallsAreRefusedAtOnce
-calls_are_refused_at_once s (call.Update j v) cause is = refused_update s j cause (nat_lt j s.sizes.m) s.pool_spent refl refl is (call.Update j v) (λ below. ((below, tt), tt)) (λ out w. let below' = w.0 in omega (arith, out, below'))
+calls_are_refused_at_once s (call.Update j v) cause is = refused_update s j cause (nat_lt j s.sizes.m) s.pool_spent refl refl is (call.Update j v) (λ below. ((below, tt), tt))
+    (λ out w. let below' = w.0 in omega (arith, out, below'))
 calls_are_refused_at_once s (call.Scan js) cause is = refused_scan s js cause (list_all (λ i. nat_lt i s.sizes.m) js) (length js == 0) s.pool_spent s.slots_spent refl refl refl refl is
 calls_are_refused_at_once s (call.Read j) cause is = refused_read s j cause (nat_lt j s.sizes.m) refl is
-calls_are_refused_at_once s (call.UpdateIf j x v) cause is = refused_update s j cause (nat_lt j s.sizes.m) s.pool_spent refl refl is (call.UpdateIf j x v) (λ below. ((below, tt), tt)) (λ out w. let below' = w.0 in omega (arith, out, below'))
+calls_are_refused_at_once s (call.UpdateIf j x v) cause is = refused_update s j cause (nat_lt j s.sizes.m) s.pool_spent refl refl is (call.UpdateIf j x v) (λ below. ((below, tt), tt))
+    (λ out w. let below' = w.0 in omega (arith, out, below'))

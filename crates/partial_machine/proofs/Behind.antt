@@ -105,7 +105,8 @@ record After (s : CoreState) (x : ℕ) (t : CoreState) : Type 0 where
   slots : t.slots_spent ≡ (refuses_slots (reply_at t.stage) || s.slots_spent)
 
 -- the call goes on, or it is answered
-plain : (s : CoreState) (x : ℕ) (t : CoreState) (u : Stage) → t.stage ≡ u → is_behind u ≡ true → is_refusal (reply_at u) ≡ false → t.pool_spent ≡ s.pool_spent → t.slots_spent ≡ s.slots_spent → After s x t
+plain : (s : CoreState) (x : ℕ) (t : CoreState) (u : Stage) → t.stage ≡ u → is_behind u ≡ true → is_refusal (reply_at u) ≡ false → t.pool_spent ≡ s.pool_spent →
+    t.slots_spent ≡ s.slots_spent → After s x t
 plain s x t u e ahead answered pool slots = record {
   ahead = ap is_behind e ∙ ahead;
   refused_by = λ cause is. let bad : true ≡ false = sym (ap is_refusal is) ∙ ap (λ (v : Stage). is_refusal (reply_at v)) e ∙ answered in absurd (false≢true (sym bad));
@@ -114,7 +115,7 @@ plain s x t u e ahead answered pool slots = record {
 }
 
 -- what holds of both holds of the one that an option picks
-either : {A : Type 0} (f : Option A) (s t : CoreState) (P : CoreState → Type 0) → P s → P t → P (option_map_or (λ _. s) f t)
+pub either : {A : Type 0} (f : Option A) (s t : CoreState) (P : CoreState → Type 0) → P s → P t → P (option_map_or (λ _. s) f t)
 either None s t P p q = q
 either (Some a) s t P p q = p
 
@@ -129,11 +130,14 @@ module _ (s : CoreState) (x : ℕ) (w : IsSound s) where
   here t e = subst (is_sound_at s) e w.stage
 
   -- a claim of pool words that went past the end
-  pool_after : (t : Stage) (size : ℕ) → s.stage ≡ t → step_at s t ≡ Some (Add (pool_counter s.sizes) size) → size ≤ 4 + 2 * s.sizes.m → s.pool_spent ≡ false → fits_pool s.sizes size x ≡ false → After s x (pool_refused s)
+  pool_after : (t : Stage) (size : ℕ) → s.stage ≡ t → step_at s t ≡ Some (Add (pool_counter s.sizes) size) → size ≤ 4 + 2 * s.sizes.m → s.pool_spent ≡ false → fits_pool s.sizes size x ≡ false →
+      After s x (pool_refused s)
   pool_after t size e due few unmarked past = record {
     ahead = refl;
-    refused_by = λ cause is. let same : refused.PoolSpent ≡ cause = cc in subst (λ (f : Refused). IsRefusedBy s x f × (¬ IsMarkedFor s f)) same
-        (record { size = size; step = ap (step_at s) e ∙ due; few = few; past = let over = ltb-false (x + size) (pool_end s.sizes + 1) past in omega (arith, over) }, λ marked. false≢true (sym unmarked ∙ marked));
+    refused_by = λ cause is. let same : refused.PoolSpent ≡ cause = cc in subst (λ (f : Refused). IsRefusedBy s x f × (¬ IsMarkedFor s f)) same (
+      record { size = size; step = ap (step_at s) e ∙ due; few = few; past = let over = ltb-false (x + size) (pool_end s.sizes + 1) past in omega (arith, over) },
+      λ marked. false≢true (sym unmarked ∙ marked),
+    );
     pool = refl;
     slots = refl;
   }
@@ -143,7 +147,8 @@ module _ (s : CoreState) (x : ℕ) (w : IsSound s) where
       let q = with_getting s (finding.advance (getting s) x) in
       let next : Stage → CoreState = λ u. record q { embedded = viewing.fresh q.sizes true; stage = u } in
       either (finding.step_of q.get_set) q (next (cond (length q.found.indices == 0) (ClaimingRecord c old) (Viewing c old))) (After s x) (plain s x q (GettingSet c old) e refl refl refl refl)
-      (cond_both (length q.found.indices == 0) (ClaimingRecord c old) (Viewing c old) (λ (u : Stage). After s x (next u)) (λ _. plain s x (next (ClaimingRecord c old)) (ClaimingRecord c old) refl refl refl refl refl) (λ _. plain s x (next (Viewing c old)) (Viewing c old) refl refl refl refl refl))
+      (cond_both (length q.found.indices == 0) (ClaimingRecord c old) (Viewing c old) (λ (u : Stage). After s x (next u))
+      (λ _. plain s x (next (ClaimingRecord c old)) (ClaimingRecord c old) refl refl refl refl refl) (λ _. plain s x (next (Viewing c old)) (Viewing c old) refl refl refl refl refl))
 
   joining_after : (j : JoinStage) → s.stage ≡ Joining → s.join.stage ≡ j → After s x (let q : CoreState = record s { join = advance_join s.join x } in after_joining q (join_after s.join.sizes j x))
   joining_after Claiming e at = by (nat_lt x s.join.sizes.slots) refl
@@ -182,7 +187,8 @@ module _ (s : CoreState) (x : ℕ) (w : IsSound s) where
   after_at (GettingSet c old) e p = getting_after c old e
   after_at (Viewing c old) e p =
       let q = with_scanning s (viewing.advance s.found.indices (scanning s) x) in
-      either (viewing.step_of s.found.indices (scanning q)) q (at_stage q (ClaimingRecord c old)) (After s x) (plain s x q (Viewing c old) e refl refl refl refl) (plain s x (at_stage q (ClaimingRecord c old)) (ClaimingRecord c old) refl refl refl refl refl)
+      either (viewing.step_of s.found.indices (scanning q)) q (at_stage q (ClaimingRecord c old)) (After s x) (plain s x q (Viewing c old) e refl refl refl refl)
+      (plain s x (at_stage q (ClaimingRecord c old)) (ClaimingRecord c old) refl refl refl refl refl)
   after_at (ClaimingRecord c old) e p = by (fits_pool s.sizes (record_size s) x) refl
     where
       by : (b : Bool) → fits_pool s.sizes (record_size s) x ≡ b → After s x (cond b (at_stage s (StoringRecord c old x 0)) (pool_refused s))
@@ -217,7 +223,8 @@ same_at_slot : (p : finding.Pair) (slot : ℕ) → (finding.at_slot p slot).0.li
 same_at_slot p slot = cond_both (ltb slot p.0.end) (record p.0 { stage = set.Slot slot }, p.1) (finding.after_walk p) (λ (q : finding.Pair). q.0.lists_spent ≡ p.0.lists_spent) (λ e. refl) (λ e. refl)
 
 same_come_to : (p : finding.Pair) (slot : ℕ) → (finding.come_to p slot).0.lists_spent ≡ p.0.lists_spent
-same_come_to p slot = cond_both (begins_at p.1.read p.0.passed slot) (finding.at_slot (finding.pass_interval p) (highest p.1.read p.0.passed + 1)) (finding.at_slot p slot) (λ (q : finding.Pair). q.0.lists_spent ≡ p.0.lists_spent)
+same_come_to p slot = cond_both (begins_at p.1.read p.0.passed slot) (finding.at_slot (finding.pass_interval p) (highest p.1.read p.0.passed + 1)) (finding.at_slot p slot)
+    (λ (q : finding.Pair). q.0.lists_spent ≡ p.0.lists_spent)
     (λ e. same_at_slot (finding.pass_interval p) (highest p.1.read p.0.passed + 1))
     (λ e. same_at_slot p slot)
 
@@ -227,16 +234,21 @@ marks_lists (set.ListLen at) p x = inl refl
 marks_lists (set.ListLow at left) p x = inl refl
 marks_lists (set.ListHigh at left lo) p x = inl refl
 marks_lists set.Counter p x = inl (same_come_to (record p.0 { end = min x p.0.sizes.slots; passed = 0 }, p.1) 0)
-marks_lists (set.Slot slot) p x = inl (cond_both (eqb x 0) (finding.come_to p (slot + 1)) (cond (eqb x 1) (finding.come_to (finding.note_slot p slot) (slot + 1)) (finding.in_stage p (set.Len slot x))) (λ (q : finding.Pair). q.0.lists_spent ≡ p.0.lists_spent)
+marks_lists (set.Slot slot) p x = inl (cond_both (eqb x 0) (finding.come_to p (slot + 1))
+    (cond (eqb x 1) (finding.come_to (finding.note_slot p slot) (slot + 1)) (finding.in_stage p (set.Len slot x))) (λ (q : finding.Pair). q.0.lists_spent ≡ p.0.lists_spent)
     (λ e. same_come_to p (slot + 1))
-    (λ other. cond_both (eqb x 1) (finding.come_to (finding.note_slot p slot) (slot + 1)) (finding.in_stage p (set.Len slot x)) (λ (q : finding.Pair). q.0.lists_spent ≡ p.0.lists_spent) (λ e. same_come_to (finding.note_slot p slot) (slot + 1)) (λ e. refl)))
-marks_lists (set.Len slot at) p x = inl (cond_both (eqb x 0) (finding.come_to p (slot + 1)) (finding.in_stage p (set.Index slot (at + 1) x)) (λ (q : finding.Pair). q.0.lists_spent ≡ p.0.lists_spent) (λ e. same_come_to p (slot + 1)) (λ e. refl))
+    (λ other. cond_both (eqb x 1) (finding.come_to (finding.note_slot p slot) (slot + 1)) (finding.in_stage p (set.Len slot x)) (λ (q : finding.Pair). q.0.lists_spent ≡ p.0.lists_spent)
+    (λ e. same_come_to (finding.note_slot p slot) (slot + 1)) (λ e. refl)))
+marks_lists (set.Len slot at) p x = inl (cond_both (eqb x 0) (finding.come_to p (slot + 1)) (finding.in_stage p (set.Index slot (at + 1) x)) (λ (q : finding.Pair). q.0.lists_spent ≡ p.0.lists_spent)
+    (λ e. same_come_to p (slot + 1)) (λ e. refl))
 marks_lists (set.Index slot at left) p x =
     let q : finding.Pair = (p.0, record p.1 { indices = with_index p.1.indices x }) in
-    inl (cond_both (eqb left 1) (finding.come_to q (slot + 1)) (finding.in_stage q (set.Index slot (at + 1) (left - 1))) (λ (r : finding.Pair). r.0.lists_spent ≡ p.0.lists_spent) (λ e. same_come_to q (slot + 1)) (λ e. refl))
+    inl (cond_both (eqb left 1) (finding.come_to q (slot + 1)) (finding.in_stage q (set.Index slot (at + 1) (left - 1))) (λ (r : finding.Pair). r.0.lists_spent ≡ p.0.lists_spent)
+    (λ e. same_come_to q (slot + 1)) (λ e. refl))
 marks_lists (set.Claim words) p x = by (ltb (list_end p.0.sizes) (x + words)) refl
   where
-    by : (b : Bool) → ltb (list_end p.0.sizes) (x + words) ≡ b → MarksLists (set.Claim words) p x (cond b (record p.0 { lists_spent = true; stage = set.Done }, p.1) (finding.in_stage p (set.Write x 0 words (length p.1.next))))
+    by : (b : Bool) → ltb (list_end p.0.sizes) (x + words) ≡ b → MarksLists (set.Claim words) p x
+        (cond b (record p.0 { lists_spent = true; stage = set.Done }, p.1) (finding.in_stage p (set.Write x 0 words (length p.1.next))))
     by true over = inr (words, refl, ltb-true (list_end p.0.sizes) (x + words) over, refl)
     by false fits = inl refl
 marks_lists (set.Write at k words word) p x = inl refl
@@ -276,18 +288,23 @@ module _ (s : CoreState) (x : ℕ) (layout : IsLayout s.sizes) (w : IsSound s) w
   lists_at Idle e = same_lists s x s refl
   lists_at (ReadBegun j) e = same_lists s x (at_stage s (LoadingValue x)) refl
   lists_at (LoadingValue stamp) e = same_lists s x (at_stage s (Finished (reply.Read x stamp))) refl
-  lists_at (UpdateBegun c) e = cond_both (expects c x) (begin_getting s c x) (at_stage s (Finished (reply.Changed x))) (KeepsLists s x) (λ _. same_lists s x (begin_getting s c x) refl) (λ _. same_lists s x (at_stage s (Finished (reply.Changed x))) refl)
+  lists_at (UpdateBegun c) e = cond_both (expects c x) (begin_getting s c x) (at_stage s (Finished (reply.Changed x))) (KeepsLists s x) (λ _. same_lists s x (begin_getting s c x) refl)
+      (λ _. same_lists s x (at_stage s (Finished (reply.Changed x))) refl)
   lists_at (GettingSet c old) e =
       let q = with_getting s (finding.advance (getting s) x) in
-      either (finding.step_of q.get_set) q (record q { embedded = viewing.fresh q.sizes true; stage = cond (length q.found.indices == 0) (ClaimingRecord c old) (Viewing c old) }) (KeepsLists s x) (getting_lists c old e) (getting_lists c old e)
+      either (finding.step_of q.get_set) q (record q { embedded = viewing.fresh q.sizes true; stage = cond (length q.found.indices == 0) (ClaimingRecord c old) (Viewing c old) }) (KeepsLists s x)
+      (getting_lists c old e) (getting_lists c old e)
   lists_at (Viewing c old) e =
       let q = with_scanning s (viewing.advance s.found.indices (scanning s) x) in
       either (viewing.step_of s.found.indices (scanning q)) q (at_stage q (ClaimingRecord c old)) (KeepsLists s x) (same_lists s x q refl) (same_lists s x (at_stage q (ClaimingRecord c old)) refl)
-  lists_at (ClaimingRecord c old) e = cond_both (fits_pool s.sizes (record_size s) x) (at_stage s (StoringRecord c old x 0)) (pool_refused s) (KeepsLists s x) (λ _. same_lists s x (at_stage s (StoringRecord c old x 0)) refl) (λ _. same_lists s x (pool_refused s) refl)
+  lists_at (ClaimingRecord c old) e = cond_both (fits_pool s.sizes (record_size s) x) (at_stage s (StoringRecord c old x 0)) (pool_refused s) (KeepsLists s x)
+      (λ _. same_lists s x (at_stage s (StoringRecord c old x 0)) refl) (λ _. same_lists s x (pool_refused s) refl)
   lists_at (StoringRecord c old at k) e = same_lists s x (advance_at s (StoringRecord c old at k) x) refl
   lists_at (Exchanging c old at) e = same_lists s x (advance_at s (Exchanging c old at) x) refl
-  lists_at ScanBegun e = cond_both (fits_pool s.sizes (announcement_size (length s.asked)) x) (at_stage s (StoringAnnouncement x 0)) (pool_refused s) (KeepsLists s x) (λ _. same_lists s x (at_stage s (StoringAnnouncement x 0)) refl) (λ _. same_lists s x (pool_refused s) refl)
-  lists_at (StoringAnnouncement at k) e = cond_both (k == length s.asked) (begin_joining s at) (at_stage s (StoringAnnouncement at (k + 1))) (KeepsLists s x) (λ _. same_lists s x (begin_joining s at) refl) (λ _. same_lists s x (at_stage s (StoringAnnouncement at (k + 1))) refl)
+  lists_at ScanBegun e = cond_both (fits_pool s.sizes (announcement_size (length s.asked)) x) (at_stage s (StoringAnnouncement x 0)) (pool_refused s) (KeepsLists s x)
+      (λ _. same_lists s x (at_stage s (StoringAnnouncement x 0)) refl) (λ _. same_lists s x (pool_refused s) refl)
+  lists_at (StoringAnnouncement at k) e = cond_both (k == length s.asked) (begin_joining s at) (at_stage s (StoringAnnouncement at (k + 1))) (KeepsLists s x)
+      (λ _. same_lists s x (begin_joining s at) refl) (λ _. same_lists s x (at_stage s (StoringAnnouncement at (k + 1))) refl)
   lists_at Joining e = by (advance_join s.join x).stage
     where
       q : CoreState

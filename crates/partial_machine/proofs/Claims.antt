@@ -26,6 +26,7 @@ use Rattle.partial_machine.specs.Possible.{IsPossibleAt}
 use Rattle.partial_machine.specs.Steps.{Run}
 use Rattle.partial_machine.specs.Claims.{claims, claims_of, CallsClaimOnce}
 use Rattle.partial_machine.proofs.Sound.{kept}
+use Rattle.partial_machine.proofs.Behind.{either}
 
 -- the claims that are left at a stage
 abbrev pool_left : CoreState → Stage → ℕ
@@ -91,11 +92,6 @@ leave_quiet : (z : Layout) (slot counter : ℕ) (b : Bool) → claims counter (c
 leave_quiet z slot counter true = refl
 leave_quiet z slot counter false = refl
 
--- what holds of both holds of the one that an option picks
-either : {A : Type 0} (f : Option A) (s t : CoreState) (P : CoreState → Type 0) → P s → P t → P (option_map_or (λ _. s) f t)
-either None s t P p q = q
-either (Some a) s t P p q = p
-
 -- the claims that a machine has left, at a stage that is known
 left_is : (left : CoreState → Stage → ℕ) (q : CoreState) (t : Stage) (n : ℕ) → q.stage ≡ t → left q t ≤ n → left q q.stage ≤ n
 left_is left q t n e less = subst (λ (u : Stage). left q u ≤ n) (sym e) less
@@ -108,7 +104,8 @@ module _ (s : CoreState) (x : ℕ) (w : IsSound s) where
   set_step counter c old e other = set_quiet s.get_set.sizes counter s.get_set.head s.get_set.stage (λ same. other (ap list_counter (sym (here (GettingSet c old) e).2) ∙ same))
 
   join_step_quiet : s.stage ≡ Joining → (j : JoinStage) → claims (pool_counter s.sizes) (join_step s.join.sizes s.join.announcement j) ≡ false
-  join_step_quiet e Claiming = ne_eqb (slot_counter s.join.sizes) (pool_counter s.sizes) (λ same. let h : slot_counter s.join.sizes ≡ slot_counter s.sizes = ap slot_counter (here Joining e).2 in omega (arith, same, h))
+  join_step_quiet e Claiming = ne_eqb (slot_counter s.join.sizes) (pool_counter s.sizes)
+      (λ same. let h : slot_counter s.join.sizes ≡ slot_counter s.sizes = ap slot_counter (here Joining e).2 in omega (arith, same, h))
   join_step_quiet e (Storing slot) = refl
   join_step_quiet e (Joined slot) = refl
   join_step_quiet e Spent = refl
@@ -123,27 +120,36 @@ module _ (s : CoreState) (x : ℕ) (w : IsSound s) where
   pool_at Idle e p = absurd p
   pool_at (ReadBegun j) e p = quiet false 0 0 refl (omega arith)
   pool_at (LoadingValue stamp) e p = quiet false 0 0 refl (omega arith)
-  pool_at (UpdateBegun c) e p = quiet false _ 1 refl (cond_both (expects c x) (begin_getting s c x) (at_stage s (Finished (reply.Changed x))) (λ (q : CoreState). pool_left q q.stage ≤ 1) (λ _. omega arith) (λ _. omega arith))
+  pool_at (UpdateBegun c) e p = quiet false _ 1 refl (cond_both (expects c x) (begin_getting s c x) (at_stage s (Finished (reply.Changed x))) (λ (q : CoreState). pool_left q q.stage ≤ 1)
+      (λ _. omega arith) (λ _. omega arith))
   pool_at (GettingSet c old) e p =
       let q = with_getting s (finding.advance (getting s) x) in
       quiet (claims (pool_counter s.sizes) (step_at s (GettingSet c old))) _ 1 (set_step (pool_counter s.sizes) c old e (λ same. omega (arith, same)))
-      (either (finding.step_of q.get_set) q (record q { embedded = viewing.fresh q.sizes true; stage = cond (length q.found.indices == 0) (ClaimingRecord c old) (Viewing c old) }) (λ (v : CoreState). pool_left v v.stage ≤ 1)
+      (either (finding.step_of q.get_set) q (record q { embedded = viewing.fresh q.sizes true; stage = cond (length q.found.indices == 0) (ClaimingRecord c old) (Viewing c old) })
+      (λ (v : CoreState). pool_left v v.stage ≤ 1)
       (left_is pool_left q (GettingSet c old) 1 e (omega arith))
-      (cond_both (length q.found.indices == 0) (ClaimingRecord c old) (Viewing c old) (λ (u : Stage). pool_left (record q { embedded = viewing.fresh q.sizes true; stage = u }) u ≤ 1) (λ _. omega arith) (λ _. omega arith)))
+      (cond_both (length q.found.indices == 0) (ClaimingRecord c old) (Viewing c old) (λ (u : Stage). pool_left (record q { embedded = viewing.fresh q.sizes true; stage = u }) u ≤ 1)
+      (λ _. omega arith) (λ _. omega arith)))
   pool_at (Viewing c old) e p =
       let q = with_scanning s (viewing.advance s.found.indices (scanning s) x) in
       quiet (claims (pool_counter s.sizes) (step_at s (Viewing c old))) _ 1 (view_quiet s.embedded.sizes s.found.indices s.rows.last (pool_counter s.sizes) s.embedded.stage)
-      (either (viewing.step_of s.found.indices (scanning q)) q (at_stage q (ClaimingRecord c old)) (λ (v : CoreState). pool_left v v.stage ≤ 1) (left_is pool_left q (Viewing c old) 1 e (omega arith)) (omega arith))
+      (either (viewing.step_of s.found.indices (scanning q)) q (at_stage q (ClaimingRecord c old)) (λ (v : CoreState). pool_left v v.stage ≤ 1)
+      (left_is pool_left q (Viewing c old) 1 e (omega arith)) (omega arith))
   pool_at (ClaimingRecord c old) e p =
       let one = few (claims (pool_counter s.sizes) (step_at s (ClaimingRecord c old))) in
-      cond_both (fits_pool s.sizes (record_size s) x) (at_stage s (StoringRecord c old x 0)) (pool_refused s) (λ (q : CoreState). count (claims (pool_counter s.sizes) (step_at s (ClaimingRecord c old))) + pool_left q q.stage ≤ 1) (λ _. omega (arith, one)) (λ _. omega (arith, one))
-  pool_at (StoringRecord c old at k) e p = quiet false _ 0 refl (cond_both (k + 1 == record_size s) (Exchanging c old at) (StoringRecord c old at (k + 1)) (λ (u : Stage). pool_left (at_stage s u) u ≤ 0) (λ _. omega arith) (λ _. omega arith))
+      cond_both (fits_pool s.sizes (record_size s) x) (at_stage s (StoringRecord c old x 0)) (pool_refused s)
+      (λ (q : CoreState). count (claims (pool_counter s.sizes) (step_at s (ClaimingRecord c old))) + pool_left q q.stage ≤ 1) (λ _. omega (arith, one)) (λ _. omega (arith, one))
+  pool_at (StoringRecord c old at k) e p = quiet false _ 0 refl (cond_both (k + 1 == record_size s) (Exchanging c old at) (StoringRecord c old at (k + 1))
+      (λ (u : Stage). pool_left (at_stage s u) u ≤ 0) (λ _. omega arith) (λ _. omega arith))
   pool_at (Exchanging c old at) e p = quiet false 0 0 refl (omega arith)
   pool_at ScanBegun e p =
       let one = few (claims (pool_counter s.sizes) (step_at s ScanBegun)) in
-      cond_both (fits_pool s.sizes (announcement_size (length s.asked)) x) (at_stage s (StoringAnnouncement x 0)) (pool_refused s) (λ (q : CoreState). count (claims (pool_counter s.sizes) (step_at s ScanBegun)) + pool_left q q.stage ≤ 1) (λ _. omega (arith, one)) (λ _. omega (arith, one))
-  pool_at (StoringAnnouncement at k) e p = quiet false _ 0 refl (cond_both (k == length s.asked) (begin_joining s at) (at_stage s (StoringAnnouncement at (k + 1))) (λ (q : CoreState). pool_left q q.stage ≤ 0) (λ _. omega arith) (λ _. omega arith))
-  pool_at Joining e p = quiet (claims (pool_counter s.sizes) (step_at s Joining)) _ 0 (join_step_quiet e s.join.stage) (joined_pool (record s { join = advance_join s.join x }) (advance_join s.join x).stage e)
+      cond_both (fits_pool s.sizes (announcement_size (length s.asked)) x) (at_stage s (StoringAnnouncement x 0)) (pool_refused s)
+      (λ (q : CoreState). count (claims (pool_counter s.sizes) (step_at s ScanBegun)) + pool_left q q.stage ≤ 1) (λ _. omega (arith, one)) (λ _. omega (arith, one))
+  pool_at (StoringAnnouncement at k) e p = quiet false _ 0 refl (cond_both (k == length s.asked) (begin_joining s at) (at_stage s (StoringAnnouncement at (k + 1)))
+      (λ (q : CoreState). pool_left q q.stage ≤ 0) (λ _. omega arith) (λ _. omega arith))
+  pool_at Joining e p = quiet (claims (pool_counter s.sizes) (step_at s Joining)) _ 0 (join_step_quiet e s.join.stage)
+      (joined_pool (record s { join = advance_join s.join x }) (advance_join s.join x).stage e)
   pool_at Scanning e p =
       let q = with_scanning s (viewing.advance s.asked (scanning s) x) in
       quiet (claims (pool_counter s.sizes) (step_at s Scanning)) _ 0 (view_quiet s.embedded.sizes s.asked s.rows.last (pool_counter s.sizes) s.embedded.stage)
@@ -152,14 +158,18 @@ module _ (s : CoreState) (x : ℕ) (w : IsSound s) where
   pool_at (Finished r) e p = absurd p
 
   -- a join claims its slot once
-  joined_slots : (j : JoinStage) → s.stage ≡ Joining → s.join.stage ≡ j → (let q : CoreState = record s { join = advance_join s.join x } in count (claims (slot_counter s.sizes) (join_step s.join.sizes s.join.announcement j)) + slots_left (after_joining q (join_after s.join.sizes j x)) (after_joining q (join_after s.join.sizes j x)).stage ≤ join_claims j)
+  joined_slots : (j : JoinStage) → s.stage ≡ Joining → s.join.stage ≡ j →
+      (let q : CoreState = record s { join = advance_join s.join x } in count (claims (slot_counter s.sizes) (join_step s.join.sizes s.join.announcement j)) + slots_left
+      (after_joining q (join_after s.join.sizes j x)) (after_joining q (join_after s.join.sizes j x)).stage ≤ join_claims j)
   joined_slots Claiming e at = by (nat_lt x s.join.sizes.slots) refl
     where
-      by : (b : Bool) → nat_lt x s.join.sizes.slots ≡ b → count (slot_counter s.join.sizes == slot_counter s.sizes) + slots_left (after_joining (record s { join = advance_join s.join x }) (cond b (Storing x) Spent)) (after_joining (record s { join = advance_join s.join x }) (cond b (Storing x) Spent)).stage ≤ 1
+      by : (b : Bool) → nat_lt x s.join.sizes.slots ≡ b → count (slot_counter s.join.sizes == slot_counter s.sizes) + slots_left
+          (after_joining (record s { join = advance_join s.join x }) (cond b (Storing x) Spent)) (after_joining (record s { join = advance_join s.join x }) (cond b (Storing x) Spent)).stage ≤ 1
       by true within =
           let one = few (slot_counter s.join.sizes == slot_counter s.sizes) in
           let is : (advance_join s.join x).stage ≡ Storing x = ap (λ t. join_after s.join.sizes t x) at ∙ ap (λ b. cond b (Storing x) Spent) within in
-          let none : slots_left (record s { join = advance_join s.join x }) s.stage ≤ 0 = left_is slots_left (record s { join = advance_join s.join x }) Joining 0 e (let zero_is : join_claims (advance_join s.join x).stage ≡ 0 = ap join_claims is in omega (arith, zero_is)) in
+          let none : slots_left (record s { join = advance_join s.join x }) s.stage ≤ 0 = left_is slots_left (record s { join = advance_join s.join x }) Joining 0 e
+          (let zero_is : join_claims (advance_join s.join x).stage ≡ 0 = ap join_claims is in omega (arith, zero_is)) in
           omega (arith, one, none)
       by false past = let one = few (slot_counter s.join.sizes == slot_counter s.sizes) in omega (arith, one)
   joined_slots (Storing slot) e at = quiet false 0 0 refl (omega arith)
@@ -170,26 +180,33 @@ module _ (s : CoreState) (x : ℕ) (w : IsSound s) where
   slots_at Idle e p = absurd p
   slots_at (ReadBegun j) e p = quiet false 0 0 refl (omega arith)
   slots_at (LoadingValue stamp) e p = quiet false 0 0 refl (omega arith)
-  slots_at (UpdateBegun c) e p = quiet false _ 0 refl (cond_both (expects c x) (begin_getting s c x) (at_stage s (Finished (reply.Changed x))) (λ (q : CoreState). slots_left q q.stage ≤ 0) (λ _. omega arith) (λ _. omega arith))
+  slots_at (UpdateBegun c) e p = quiet false _ 0 refl (cond_both (expects c x) (begin_getting s c x) (at_stage s (Finished (reply.Changed x))) (λ (q : CoreState). slots_left q q.stage ≤ 0)
+      (λ _. omega arith) (λ _. omega arith))
   slots_at (GettingSet c old) e p =
       let q = with_getting s (finding.advance (getting s) x) in
       quiet (claims (slot_counter s.sizes) (step_at s (GettingSet c old))) _ 0 (set_step (slot_counter s.sizes) c old e (λ same. omega (arith, same)))
-      (either (finding.step_of q.get_set) q (record q { embedded = viewing.fresh q.sizes true; stage = cond (length q.found.indices == 0) (ClaimingRecord c old) (Viewing c old) }) (λ (v : CoreState). slots_left v v.stage ≤ 0)
+      (either (finding.step_of q.get_set) q (record q { embedded = viewing.fresh q.sizes true; stage = cond (length q.found.indices == 0) (ClaimingRecord c old) (Viewing c old) })
+      (λ (v : CoreState). slots_left v v.stage ≤ 0)
       (left_is slots_left q (GettingSet c old) 0 e (omega arith))
-      (cond_both (length q.found.indices == 0) (ClaimingRecord c old) (Viewing c old) (λ (u : Stage). slots_left (record q { embedded = viewing.fresh q.sizes true; stage = u }) u ≤ 0) (λ _. omega arith) (λ _. omega arith)))
+      (cond_both (length q.found.indices == 0) (ClaimingRecord c old) (Viewing c old) (λ (u : Stage). slots_left (record q { embedded = viewing.fresh q.sizes true; stage = u }) u ≤ 0)
+      (λ _. omega arith) (λ _. omega arith)))
   slots_at (Viewing c old) e p =
       let q = with_scanning s (viewing.advance s.found.indices (scanning s) x) in
       quiet (claims (slot_counter s.sizes) (step_at s (Viewing c old))) _ 0 (view_quiet s.embedded.sizes s.found.indices s.rows.last (slot_counter s.sizes) s.embedded.stage)
-      (either (viewing.step_of s.found.indices (scanning q)) q (at_stage q (ClaimingRecord c old)) (λ (v : CoreState). slots_left v v.stage ≤ 0) (left_is slots_left q (Viewing c old) 0 e (omega arith)) (omega arith))
+      (either (viewing.step_of s.found.indices (scanning q)) q (at_stage q (ClaimingRecord c old)) (λ (v : CoreState). slots_left v v.stage ≤ 0)
+      (left_is slots_left q (Viewing c old) 0 e (omega arith)) (omega arith))
   slots_at (ClaimingRecord c old) e p =
       quiet (pool_counter s.sizes == slot_counter s.sizes) _ 0 (ne_eqb (pool_counter s.sizes) (slot_counter s.sizes) (λ same. omega (arith, same)))
       (cond_both (fits_pool s.sizes (record_size s) x) (at_stage s (StoringRecord c old x 0)) (pool_refused s) (λ (q : CoreState). slots_left q q.stage ≤ 0) (λ _. omega arith) (λ _. omega arith))
-  slots_at (StoringRecord c old at k) e p = quiet false _ 0 refl (cond_both (k + 1 == record_size s) (Exchanging c old at) (StoringRecord c old at (k + 1)) (λ (u : Stage). slots_left (at_stage s u) u ≤ 0) (λ _. omega arith) (λ _. omega arith))
+  slots_at (StoringRecord c old at k) e p = quiet false _ 0 refl (cond_both (k + 1 == record_size s) (Exchanging c old at) (StoringRecord c old at (k + 1))
+      (λ (u : Stage). slots_left (at_stage s u) u ≤ 0) (λ _. omega arith) (λ _. omega arith))
   slots_at (Exchanging c old at) e p = quiet false 0 0 refl (omega arith)
   slots_at ScanBegun e p =
       quiet (pool_counter s.sizes == slot_counter s.sizes) _ 1 (ne_eqb (pool_counter s.sizes) (slot_counter s.sizes) (λ same. omega (arith, same)))
-      (cond_both (fits_pool s.sizes (announcement_size (length s.asked)) x) (at_stage s (StoringAnnouncement x 0)) (pool_refused s) (λ (q : CoreState). slots_left q q.stage ≤ 1) (λ _. omega arith) (λ _. omega arith))
-  slots_at (StoringAnnouncement at k) e p = quiet false _ 1 refl (cond_both (k == length s.asked) (begin_joining s at) (at_stage s (StoringAnnouncement at (k + 1))) (λ (q : CoreState). slots_left q q.stage ≤ 1) (λ _. omega arith) (λ _. omega arith))
+      (cond_both (fits_pool s.sizes (announcement_size (length s.asked)) x) (at_stage s (StoringAnnouncement x 0)) (pool_refused s) (λ (q : CoreState). slots_left q q.stage ≤ 1)
+      (λ _. omega arith) (λ _. omega arith))
+  slots_at (StoringAnnouncement at k) e p = quiet false _ 1 refl (cond_both (k == length s.asked) (begin_joining s at) (at_stage s (StoringAnnouncement at (k + 1)))
+      (λ (q : CoreState). slots_left q q.stage ≤ 1) (λ _. omega arith) (λ _. omega arith))
   slots_at Joining e p = joined_slots s.join.stage e refl
   slots_at Scanning e p =
       let q = with_scanning s (viewing.advance s.asked (scanning s) x) in
@@ -199,7 +216,8 @@ module _ (s : CoreState) (x : ℕ) (w : IsSound s) where
   slots_at (Finished r) e p = absurd p
 
 -- over a run
-run_claims : (counter : Layout → ℕ) (left : CoreState → Stage → ℕ) → ((s : CoreState) (x : ℕ) → IsSound s → IsPossibleAt s s.stage x → Falls counter left s s.stage (advance s x)) → (s t : CoreState) (xs : List ℕ) → IsLayout s.sizes → IsSound s → Run s xs t → claims_of counter s xs ≤ left s s.stage
+run_claims : (counter : Layout → ℕ) (left : CoreState → Stage → ℕ) → ((s : CoreState) (x : ℕ) → IsSound s → IsPossibleAt s s.stage x → Falls counter left s s.stage (advance s x)) →
+    (s t : CoreState) (xs : List ℕ) → IsLayout s.sizes → IsSound s → Run s xs t → claims_of counter s xs ≤ left s s.stage
 unfolding count
 run_claims counter left falls s t [] layout w run = omega arith
 run_claims counter left falls s t (x ∷ xs) layout w run =

@@ -16,6 +16,7 @@ use Rattle.partial_active.specs.declared.get_set.Stage.{Stage}
 use Rattle.partial_active.specs.declared.get_set.Stage.TheVariants.{Head, ListLen, ListLow, ListHigh, Counter, Slot, Len, Index, Claim, Write, Publish, Done}
 use Rattle.partial_active.specs.GetSet.{Pair, after_walk, at_slot, come_to, pass_interval, note_slot, in_stage, advance_at}
 use Rattle.partial_active.specs.GetSetAnswers.{is_possible_at}
+use Rattle.partial_active.proofs.Named.{same_test}
 
 -- indices without repeats, below a number
 pub record AreIndices (n : ℕ) (l : List ℕ) : Type 0 where
@@ -36,10 +37,6 @@ below (y ∷ l) n each q is = elim (or_cases (eqb q y) (list_any (eqb q) l) is) 
 -- there are no more of them than numbers below
 pub few_indices : (n : ℕ) (l : List ℕ) → AreIndices n l → length l ≤ n
 few_indices n l w = length-le_from_distinct_below l n w.distinct (below l n w.each)
-
-same_test : (l : List ℕ) (x : ℕ) → list_any (eqb x) l ≡ has_index l x
-same_test [] x = refl
-same_test (y ∷ l) x = ap (λ b. b || list_any (eqb x) l) (nat_eq_equiv.symm x y) ∙ ap (λ b. eqb y x || b) (same_test l x)
 
 pub one_more_index : (n : ℕ) (l : List ℕ) (x : ℕ) → AreIndices n l → x < n → AreIndices n (with_index l x)
 one_more_index n l x w lt = cond_both (has_index l x) l (l ++ x ∷ []) (AreIndices n)
@@ -77,15 +74,20 @@ found_kept (ListLen at) p x possible w = w
 found_kept (ListLow at left) p x possible w = w
 found_kept (ListHigh at left lo) p x possible w = w
 found_kept Counter p x possible w = walked p.0.sizes.m (record p.0 { end = min x p.0.sizes.slots; passed = 0 }, p.1) 0 w
-found_kept (Slot slot) p x possible w = cond_both (eqb x 0) (come_to p (slot + 1)) (cond (eqb x 1) (come_to (note_slot p slot) (slot + 1)) (in_stage p (Len slot x))) (λ (q : Pair). AreIndices p.0.sizes.m q.1.indices)
+found_kept (Slot slot) p x possible w = cond_both (eqb x 0) (come_to p (slot + 1)) (cond (eqb x 1) (come_to (note_slot p slot) (slot + 1)) (in_stage p (Len slot x)))
+    (λ (q : Pair). AreIndices p.0.sizes.m q.1.indices)
     (λ e. walked p.0.sizes.m p (slot + 1) w)
-    (λ not_empty. cond_both (eqb x 1) (come_to (note_slot p slot) (slot + 1)) (in_stage p (Len slot x)) (λ (q : Pair). AreIndices p.0.sizes.m q.1.indices) (λ e. walked p.0.sizes.m (note_slot p slot) (slot + 1) w) (λ e. w))
-found_kept (Len slot at) p x possible w = cond_both (eqb x 0) (come_to p (slot + 1)) (in_stage p (Index slot (at + 1) x)) (λ (q : Pair). AreIndices p.0.sizes.m q.1.indices) (λ e. walked p.0.sizes.m p (slot + 1) w) (λ e. w)
+    (λ not_empty. cond_both (eqb x 1) (come_to (note_slot p slot) (slot + 1)) (in_stage p (Len slot x)) (λ (q : Pair). AreIndices p.0.sizes.m q.1.indices)
+    (λ e. walked p.0.sizes.m (note_slot p slot) (slot + 1) w) (λ e. w))
+found_kept (Len slot at) p x possible w = cond_both (eqb x 0) (come_to p (slot + 1)) (in_stage p (Index slot (at + 1) x)) (λ (q : Pair). AreIndices p.0.sizes.m q.1.indices)
+    (λ e. walked p.0.sizes.m p (slot + 1) w) (λ e. w)
 found_kept (Index slot at left) p x possible w =
     let q : Pair = (p.0, record p.1 { indices = with_index p.1.indices x }) in
     let more : AreIndices p.0.sizes.m q.1.indices = one_more_index p.0.sizes.m p.1.indices x w possible in
-    cond_both (eqb left 1) (come_to q (slot + 1)) (in_stage q (Index slot (at + 1) (left - 1))) (λ (r : Pair). AreIndices p.0.sizes.m r.1.indices) (λ e. walked p.0.sizes.m q (slot + 1) more) (λ e. more)
-found_kept (Claim words) p x possible w = cond_both (ltb (list_end p.0.sizes) (x + words)) (record p.0 { lists_spent = true; stage = Done }, p.1) (in_stage p (Write x 0 words (length p.1.next))) (λ (q : Pair). AreIndices p.0.sizes.m q.1.indices) (λ e. w) (λ e. w)
+    cond_both (eqb left 1) (come_to q (slot + 1)) (in_stage q (Index slot (at + 1) (left - 1))) (λ (r : Pair). AreIndices p.0.sizes.m r.1.indices)
+    (λ e. walked p.0.sizes.m q (slot + 1) more) (λ e. more)
+found_kept (Claim words) p x possible w = cond_both (ltb (list_end p.0.sizes) (x + words)) (record p.0 { lists_spent = true; stage = Done }, p.1) (in_stage p (Write x 0 words (length p.1.next)))
+    (λ (q : Pair). AreIndices p.0.sizes.m q.1.indices) (λ e. w) (λ e. w)
 found_kept (Write at k words word) p x possible w = w
 found_kept (Publish at) p x possible w = w
 found_kept Done p x possible w = w

@@ -41,17 +41,22 @@ module _ (indices : List ℕ) (p : viewing.Pair) (made n x : ℕ) (w : viewing.G
   Counts : ℕ → viewing.Pair → Type 0
   Counts more q = counted_at (length indices) q (made + 1) (n + more) q.0.stage
 
-  load_counted : (k : ℕ) → k < length indices → counted_at (length indices) p made n (Collect k) → (a b c : Bool) → nat_lt (k + 1) (length indices) ≡ b → let q = viewing.noted p k x in let v = cond a (viewing.borrow p x) (cond b (viewing.at_stage q (Collect (k + 1))) (cond c (record q.0 { collects = q.0.collects + 1; moved = false; stage = Collect 0 }, q.1) (viewing.at_stage q (Value 0)))) in counted_at (length indices) v (made + 1) (n + 0) v.0.stage
+  load_counted : (k : ℕ) → k < length indices → counted_at (length indices) p made n (Collect k) → (a b c : Bool) → nat_lt (k + 1) (length indices) ≡ b → let q = viewing.noted p k x in let v =
+      cond a (viewing.borrow p x) (cond b (viewing.at_stage q (Collect (k + 1)))
+      (cond c (record q.0 { collects = q.0.collects + 1; moved = false; stage = Collect 0 }, q.1) (viewing.at_stage q (Value 0)))) in counted_at (length indices) v (made + 1) (n + 0) v.0.stage
   load_counted k within h true b c e = let made_is = h.0 in (omega (arith, made_is, within), refl)
   load_counted k within h false true c e = let made_is = h.0 in (omega (arith, made_is), h.1)
   load_counted k within h false false true e = let past = ltb-false (k + 1) (length indices) e in let made_is = h.0 in (omega (arith, made_is, within, past), h.1)
   load_counted k within h false false false e = let past = ltb-false (k + 1) (length indices) e in let made_is = h.0 in (omega (arith, made_is, within, past), h.1)
 
-  view_counted : (stamp : ℕ) → counted_at (length indices) p made n (View stamp) → (b : Bool) → let v : viewing.Pair = (record p.0 { view = x; stage = cond b Done (Len x) }, p.1) in counted_at (length indices) v (made + 1) (n + 0) v.0.stage
+  view_counted : (stamp : ℕ) → counted_at (length indices) p made n (View stamp) → (b : Bool) → let v : viewing.Pair = (record p.0 { view = x; stage = cond b Done (Len x) }, p.1) in counted_at
+      (length indices) v (made + 1) (n + 0) v.0.stage
   view_counted stamp h true = let few = h.0 in (λ none. never p.0.borrowed none h.1, λ some. omega (arith, few))
   view_counted stamp h false = let few = h.0 in (omega (arith, few), h.1)
 
-  pairs_counted : (at left more : ℕ) (v : viewing.Pair) → v.0.collects ≡ p.0.collects → v.0.borrowed ≡ p.0.borrowed → IsSome p.0.borrowed → made + 1 + 2 * left ≤ length indices * p.0.collects + 2 + 2 * (n + more) → (b : Bool) → let u = viewing.at_stage v (cond b Done (Index at left)) in counted_at (length indices) u (made + 1) (n + more) u.0.stage
+  pairs_counted : (at left more : ℕ) (v : viewing.Pair) → v.0.collects ≡ p.0.collects → v.0.borrowed ≡ p.0.borrowed → IsSome p.0.borrowed →
+      made + 1 + 2 * left ≤ length indices * p.0.collects + 2 + 2 * (n + more) → (b : Bool) → let u = viewing.at_stage v (cond b Done (Index at left)) in counted_at (length indices) u
+      (made + 1) (n + more) u.0.stage
   pairs_counted at left more v same borrowed some few true =
       let times : length indices * v.0.collects ≡ length indices * p.0.collects = ap (λ c. length indices * c) same in
       (λ none. never p.0.borrowed (sym borrowed ∙ none) some, λ _. omega (arith, few, times))
@@ -59,7 +64,8 @@ module _ (indices : List ℕ) (p : viewing.Pair) (made n x : ℕ) (w : viewing.G
       let times : length indices * v.0.collects ≡ length indices * p.0.collects = ap (λ c. length indices * c) same in
       (omega (arith, few, times), subst IsSome (sym borrowed) some)
 
-  value_counted : (k : ℕ) → k < length indices → counted_at (length indices) p made n (Value k) → (b : Bool) → nat_lt (k + 1) (length indices) ≡ b → let v = viewing.at_stage (viewing.with_value p (get_or indices k 0) x) (cond b (Value (k + 1)) Done) in counted_at (length indices) v (made + 1) (n + 0) v.0.stage
+  value_counted : (k : ℕ) → k < length indices → counted_at (length indices) p made n (Value k) → (b : Bool) → nat_lt (k + 1) (length indices) ≡ b → let v =
+      viewing.at_stage (viewing.with_value p (get_or indices k 0) x) (cond b (Value (k + 1)) Done) in counted_at (length indices) v (made + 1) (n + 0) v.0.stage
   value_counted k within h true e = let made_is = h.0 in (omega (arith, made_is), h.1)
   value_counted k within h false e =
       let past = ltb-false (k + 1) (length indices) e in
@@ -67,12 +73,15 @@ module _ (indices : List ℕ) (p : viewing.Pair) (made n x : ℕ) (w : viewing.G
       (λ none. omega (arith, made_is, within, past), λ some. never p.0.borrowed h.1 some)
 
   -- over an answer
-  step_counted : (s : ViewStage) → viewing.goes_at indices p s → viewing.IsPossibleAt p.0.sizes s x → counted_at (length indices) p made n s → let q = viewing.advance_at indices p s x in counted_at (length indices) q (made + 1) (n + cond (is_len s) x 0) q.0.stage
-  step_counted (Collect k) goes possible h = load_counted k goes.0 h (viewing.differs p k x && viewing.was_changed p k) (nat_lt (k + 1) (length indices)) (viewing.is_first p || (viewing.noted p k x).0.moved) refl
+  step_counted : (s : ViewStage) → viewing.goes_at indices p s → viewing.IsPossibleAt p.0.sizes s x → counted_at (length indices) p made n s → let q = viewing.advance_at indices p s x in counted_at
+      (length indices) q (made + 1) (n + cond (is_len s) x 0) q.0.stage
+  step_counted (Collect k) goes possible h = load_counted k goes.0 h (viewing.differs p k x && viewing.was_changed p k) (nat_lt (k + 1) (length indices))
+      (viewing.is_first p || (viewing.noted p k x).0.moved) refl
   step_counted (View stamp) goes possible h = view_counted stamp h ((x == 0) || p.0.shares)
   step_counted (Len at) goes possible h = let few = h.0 in pairs_counted (at + 1) x x p refl refl h.1 (omega (arith, few)) (x == 0)
   step_counted (Index at left) goes possible h = let few = h.0 in (omega (arith, few), h.1)
-  step_counted (PairValue at left index) goes possible h = let few = h.0 in let some = goes.0 in pairs_counted (at + 1) (left - 1) 0 (viewing.with_value p index x) refl refl h.1 (omega (arith, few, some)) (left - 1 == 0)
+  step_counted (PairValue at left index) goes possible h = let few = h.0 in let some = goes.0 in pairs_counted (at + 1) (left - 1) 0 (viewing.with_value p index x) refl refl h.1
+      (omega (arith, few, some)) (left - 1 == 0)
   step_counted (Value k) goes possible h = value_counted k goes.0 h (nat_lt (k + 1) (length indices)) refl
   step_counted Done goes possible h = absurd possible
 
@@ -113,7 +122,8 @@ module _ (s : CoreState) (layout : IsLayout s.sizes) (w : IsSound s) (made n x :
   claimed e h true = omega (arith, h)
   claimed e h false = tt
 
-  stored : (at k : ℕ) → made ≡ 1 + k → (b : Bool) → (k == length s.asked) ≡ b → let q = cond b (begin_joining s at) (at_stage s (StoringAnnouncement at (k + 1))) in made_at q (made + 1) (n + 0) q.stage
+  stored : (at k : ℕ) → made ≡ 1 + k → (b : Bool) → (k == length s.asked) ≡ b → let q = cond b (begin_joining s at) (at_stage s (StoringAnnouncement at (k + 1))) in made_at q
+      (made + 1) (n + 0) q.stage
   stored at k h true whole = let same = eqb-true k (length s.asked) whole in omega (arith, h, same)
   stored at k h false more = omega (arith, h)
 
@@ -189,7 +199,8 @@ module _ (s : CoreState) (layout : IsLayout s.sizes) (w : IsSound s) (made n x :
   made_on (Finished r) e possible h = absurd possible
 
 -- over a run
-run_made : (s t : CoreState) (xs : List ℕ) (made n : ℕ) → IsLayout s.sizes → IsSound s → Made s made n → Run s xs t → Made t (made + length xs) (n + pairs_loaded s xs) × (length t.asked ≡ length s.asked)
+run_made : (s t : CoreState) (xs : List ℕ) (made n : ℕ) → IsLayout s.sizes → IsSound s → Made s made n → Run s xs t → Made t (made + length xs) (n + pairs_loaded s xs) ×
+    (length t.asked ≡ length s.asked)
 run_made s t [] made n layout w h is =
     let none : made + 0 ≡ made = omega arith in
     let no_more : n + 0 ≡ n = omega arith in
@@ -224,7 +235,8 @@ pub scans_make_their_steps : ScansMakeTheirSteps
 scans_make_their_steps s t xs c borrowed layout w e run done =
     let begun : Made s 0 0 = subst (made_at s 0 0) (sym e) refl in
     let all = run_made s t xs 0 0 layout w begun run in
-    let end : ends_with (length t.asked) (0 + length xs) (0 + pairs_loaded s xs) (reply.Scanned c borrowed) = subst (made_at t (0 + length xs) (0 + pairs_loaded s xs)) (replied t.stage (reply.Scanned c borrowed) done) all.0 in
+    let end : ends_with (length t.asked) (0 + length xs) (0 + pairs_loaded s xs) (reply.Scanned c borrowed) = subst (made_at t (0 + length xs) (0 + pairs_loaded s xs))
+    (replied t.stage (reply.Scanned c borrowed) done) all.0 in
     let same = all.1 in
     let times : length t.asked * (c + 2) ≡ length s.asked * (c + 2) = ap (λ r. r * (c + 2)) same in
     let fewer : length t.asked * (c + 1) ≡ length s.asked * (c + 1) = ap (λ r. r * (c + 1)) same in

@@ -60,7 +60,8 @@ module _ (s : CoreState) (layout : IsLayout s.sizes) (w : IsSound s) where
   few = w.indices.few
 
   -- the machine at another stage, of which something is known
-  kept_as : (q : CoreState) (t u : Stage) → s.stage ≡ t → q.stage ≡ u → q.sizes ≡ s.sizes → q.port ≡ s.port → q.asked ≡ s.asked → AreComponents q.sizes q.asked → AreBuffersFor q.sizes q.found → AreIndices q.sizes.m q.found.indices → viewing.IsFor q.sizes q.rows → is_sound_at q u → left_at q u < left_at s t → Keeps s q
+  kept_as : (q : CoreState) (t u : Stage) → s.stage ≡ t → q.stage ≡ u → q.sizes ≡ s.sizes → q.port ≡ s.port → q.asked ≡ s.asked → AreComponents q.sizes q.asked → AreBuffersFor q.sizes q.found →
+      AreIndices q.sizes.m q.found.indices → viewing.IsFor q.sizes q.rows → is_sound_at q u → left_at q u < left_at s t → Keeps s q
   kept_as q t u e f sizes port positions asked found indices rows stage fewer =
       let before : steps_left s ≡ left_at s t = ap (left_at s) e in
       let after : steps_left q ≡ left_at q u = ap (left_at q) f in
@@ -92,7 +93,8 @@ module _ (s : CoreState) (layout : IsLayout s.sizes) (w : IsSound s) where
   begun_kept c x e rec true =
       let h = here (UpdateBegun c) e in
       let fresh = finding.fresh s.sizes s.get_set.lists_spent in
-      kept_as (begin_getting s c x) (UpdateBegun c) (GettingSet c x) e refl refl refl refl w.asked w.found same_indices w.rows ((h.0, rec, h.1), record { sizes = w.found; stage = tt }, refl, refl) (omega arith)
+      kept_as (begin_getting s c x) (UpdateBegun c) (GettingSet c x) e refl refl refl refl w.asked w.found same_indices w.rows
+      ((h.0, rec, h.1), record { sizes = w.found; stage = tt }, refl, refl) (omega arith)
   begun_kept c x e rec false = staying (UpdateBegun c) (Finished (reply.Changed x)) e tt (omega arith)
 
   getting_kept : (c : Change) (old x : ℕ) → s.stage ≡ GettingSet c old → finding_answers.IsPossible (getting s) x → Keeps s (advance_at s (GettingSet c old) x)
@@ -142,7 +144,8 @@ module _ (s : CoreState) (layout : IsLayout s.sizes) (w : IsSound s) where
           kept_as (next (Viewing c old)) (GettingSet c old) (Viewing c old) e refl refl refl refl w.asked buffers named w.rows (h.0, together, refl, refl) (omega (arith, left, most, k.fewer))
 
       either : (o : Option Step) → finding.step_of q.0 ≡ o → Keeps s (option_map_or (λ _. on) o (next (cond (length q.1.indices == 0) (ClaimingRecord c old) (Viewing c old))))
-      either (Some step) due = kept_as on (GettingSet c old) (GettingSet c old) e e refl refl refl w.asked buffers named w.rows (h.0, k.together, same, subst IsSome (sym due) refl) (omega (arith, k.fewer))
+      either (Some step) due = kept_as on (GettingSet c old) (GettingSet c old) e e refl refl refl w.asked buffers named w.rows (h.0, k.together, same, subst IsSome (sym due) refl)
+          (omega (arith, k.fewer))
       either None done = found_some (length q.1.indices == 0) refl
 
   viewing_kept : (c : Change) (old x : ℕ) → s.stage ≡ Viewing c old → viewing.IsPossible (scanning s) x → Keeps s (advance_at s (Viewing c old) x)
@@ -167,7 +170,8 @@ module _ (s : CoreState) (layout : IsLayout s.sizes) (w : IsSound s) where
       on = with_scanning s q
 
       either : (o : Option Step) → viewing.step_of s.found.indices q ≡ o → Keeps s (option_map_or (λ _. on) o (at_stage on (ClaimingRecord c old)))
-      either (Some step) due = kept_as on (Viewing c old) (Viewing c old) e e refl refl refl w.asked w.found same_indices rows (h.0, k.together, same, subst IsSome (sym due) refl) (omega (arith, k.fewer))
+      either (Some step) due = kept_as on (Viewing c old) (Viewing c old) e e refl refl refl w.asked w.found same_indices rows (h.0, k.together, same, subst IsSome (sym due) refl)
+          (omega (arith, k.fewer))
       either None done =
           let size = (size_few (at_stage on (ClaimingRecord c old)) few).1 in
           kept_as (at_stage on (ClaimingRecord c old)) (Viewing c old) (ClaimingRecord c old) e refl refl refl refl w.asked w.found same_indices rows h.0 (omega (arith, size, k.fewer))
@@ -197,14 +201,16 @@ module _ (s : CoreState) (layout : IsLayout s.sizes) (w : IsSound s) where
       either (Some step) due = kept_as on Scanning Scanning e e refl refl refl w.asked w.found same_indices rows (k.together, same, subst IsSome (sym due) refl, h.3) (omega (arith, k.fewer))
       either None done = kept_as (at_stage on Leaving) Scanning Leaving e refl refl refl refl w.asked w.found same_indices rows h.3 (omega (arith, k.fewer))
 
-  record_claimed : (c : Change) (old x : ℕ) → s.stage ≡ ClaimingRecord c old → IsPoolCount s.sizes x → (b : Bool) → fits_pool s.sizes (record_size s) x ≡ b → Keeps s (cond b (at_stage s (StoringRecord c old x 0)) (pool_refused s))
+  record_claimed : (c : Change) (old x : ℕ) → s.stage ≡ ClaimingRecord c old → IsPoolCount s.sizes x → (b : Bool) → fits_pool s.sizes (record_size s) x ≡ b →
+      Keeps s (cond b (at_stage s (StoringRecord c old x 0)) (pool_refused s))
   record_claimed c old x e possible true fits =
       let h = here (ClaimingRecord c old) e in
       let size = (size_few s few).0 in
       staying (ClaimingRecord c old) (StoringRecord c old x 0) e (h, in_pool s.sizes (record_size s) x possible fits, omega (arith, size)) (omega arith)
   record_claimed c old x e possible false past = refused_pool (ClaimingRecord c old) e (omega arith)
 
-  record_stored : (c : Change) (old at k : ℕ) → s.stage ≡ StoringRecord c old at k → (b : Bool) → (k + 1 == record_size s) ≡ b → Keeps s (at_stage s (cond b (Exchanging c old at) (StoringRecord c old at (k + 1))))
+  record_stored : (c : Change) (old at k : ℕ) → s.stage ≡ StoringRecord c old at k → (b : Bool) → (k + 1 == record_size s) ≡ b →
+      Keeps s (at_stage s (cond b (Exchanging c old at) (StoringRecord c old at (k + 1))))
   record_stored c old at k e true last = let h = here (StoringRecord c old at k) e in let within = h.2 in staying (StoringRecord c old at k) (Exchanging c old at) e (h.0, h.1) (omega (arith, within))
   record_stored c old at k e false more =
       let h = here (StoringRecord c old at k) e in
@@ -212,7 +218,8 @@ module _ (s : CoreState) (layout : IsLayout s.sizes) (w : IsSound s) where
       let not_last = eqb-false (k + 1) (record_size s) more in
       staying (StoringRecord c old at k) (StoringRecord c old at (k + 1)) e (h.0, h.1, omega (arith, within, not_last)) (omega (arith, within))
 
-  announcement_claimed : (x : ℕ) → s.stage ≡ ScanBegun → IsPoolCount s.sizes x → (b : Bool) → fits_pool s.sizes (1 + length s.asked) x ≡ b → Keeps s (cond b (at_stage s (StoringAnnouncement x 0)) (pool_refused s))
+  announcement_claimed : (x : ℕ) → s.stage ≡ ScanBegun → IsPoolCount s.sizes x → (b : Bool) → fits_pool s.sizes (1 + length s.asked) x ≡ b →
+      Keeps s (cond b (at_stage s (StoringAnnouncement x 0)) (pool_refused s))
   announcement_claimed x e possible true fits =
       let h = here ScanBegun e in
       staying ScanBegun (StoringAnnouncement x 0) e (h.0, h.2, in_pool s.sizes (1 + length s.asked) x possible fits, omega arith) (omega arith)
@@ -259,7 +266,8 @@ module _ (s : CoreState) (layout : IsLayout s.sizes) (w : IsSound s) where
           let positions : viewing.ArePositions s.sizes s.asked = record { some = h.0; few = w.asked.few; components = w.asked.each } in
           let together = viewed.fresh_together s.sizes false s.asked s.rows positions w.rows in
           let left = viewed.fresh_left s.sizes false s.asked s.rows in
-          kept_as (after_joining q (Joined slot)) Joining Scanning e refl refl refl refl w.asked w.found same_indices w.rows (together, refl, refl, (refl, omega (arith, below, slots), refl)) (omega (arith, before, left))
+          kept_as (after_joining q (Joined slot)) Joining Scanning e refl refl refl refl w.asked w.found same_indices w.rows (together, refl, refl, (refl, omega (arith, below, slots), refl))
+          (omega (arith, before, left))
 
       by : (j : JoinStage) → s.join.stage ≡ j → Keeps s (after_joining q (join_after s.join.sizes j x))
       by Claiming j = claimed j (nat_lt x s.join.sizes.slots) refl

@@ -22,12 +22,15 @@ comes_to None x y done = refl
 comes_to (Some a) x y done = absurd (false≢true (sym done))
 
 module _ (s : CoreState) (room x : ℕ) (w : IsMachine s room) where
-  pub got_more : (c : Change) (old : ℕ) (p : finding.Pair) → s.stage ≡ GettingSet c old → finding_answers.IsPossible (getting s) x → p ≡ finding.advance (getting s) x → is_some (finding.step_of p.0) ≡ true → IsMachine (with_getting s p) room
+  pub got_more : (c : Change) (old : ℕ) (p : finding.Pair) → s.stage ≡ GettingSet c old → finding_answers.IsPossible (getting s) x → p ≡ finding.advance (getting s) x →
+      is_some (finding.step_of p.0) ≡ true → IsMachine (with_getting s p) room
   got_more c old p stage possible is due =
       let on : with_getting s p ≡ after_getting (with_getting s p) c old = goes_on (finding.step_of p.0) (with_getting s p) _ due in
       machine_on s (with_getting s p) room x (GettingSet c old) w stage possible (on ∙ ap (λ q. after_getting (with_getting s q) c old) is)
 
-  pub got_all : (c : Change) (old : ℕ) (p : finding.Pair) (v : viewing.EmbeddedState) (u : Stage) → s.stage ≡ GettingSet c old → finding_answers.IsPossible (getting s) x → p ≡ finding.advance (getting s) x → is_some (finding.step_of p.0) ≡ false → v ≡ viewing.fresh s.sizes true → u ≡ cond (length p.1.indices == 0) (ClaimingRecord c old) (Viewing c old) → IsMachine (record (with_getting s p) { embedded = v; stage = u }) room
+  pub got_all : (c : Change) (old : ℕ) (p : finding.Pair) (v : viewing.EmbeddedState) (u : Stage) → s.stage ≡ GettingSet c old → finding_answers.IsPossible (getting s) x →
+      p ≡ finding.advance (getting s) x → is_some (finding.step_of p.0) ≡ false → v ≡ viewing.fresh s.sizes true → u ≡ cond (length p.1.indices == 0) (ClaimingRecord c old) (Viewing c old) →
+      IsMachine (record (with_getting s p) { embedded = v; stage = u }) room
   got_all c old p v u stage possible is done fresh next =
       let q : CoreState = record (with_getting s p) { embedded = v; stage = u } in
       let same : q ≡ record (with_getting s p) { embedded = viewing.fresh s.sizes true; stage = cond (length p.1.indices == 0) (ClaimingRecord c old) (Viewing c old) } =
@@ -35,12 +38,14 @@ module _ (s : CoreState) (room x : ℕ) (w : IsMachine s room) where
       let on : q ≡ after_getting (with_getting s p) c old = same ∙ comes_to (finding.step_of p.0) (with_getting s p) _ done in
       machine_on s q room x (GettingSet c old) w stage possible (on ∙ ap (λ r. after_getting (with_getting s r) c old) is)
 
-  pub viewed_more : (c : Change) (old : ℕ) (p : viewing.Pair) → s.stage ≡ Viewing c old → viewing.IsPossible (scanning s) x → p ≡ viewing.advance s.found.indices (scanning s) x → is_some (viewing.step_of s.found.indices p) ≡ true → IsMachine (with_scanning s p) room
+  pub viewed_more : (c : Change) (old : ℕ) (p : viewing.Pair) → s.stage ≡ Viewing c old → viewing.IsPossible (scanning s) x → p ≡ viewing.advance s.found.indices (scanning s) x →
+      is_some (viewing.step_of s.found.indices p) ≡ true → IsMachine (with_scanning s p) room
   viewed_more c old p stage possible is due =
       let on : with_scanning s p ≡ after_scanning (with_scanning s p) s.found.indices (ClaimingRecord c old) = goes_on (viewing.step_of s.found.indices p) (with_scanning s p) _ due in
       machine_on s (with_scanning s p) room x (Viewing c old) w stage possible (on ∙ ap (λ q. after_scanning (with_scanning s q) s.found.indices (ClaimingRecord c old)) is)
 
-  pub scanned_more : (p : viewing.Pair) → s.stage ≡ Scanning → viewing.IsPossible (scanning s) x → p ≡ viewing.advance s.asked (scanning s) x → is_some (viewing.step_of s.asked p) ≡ true → IsMachine (with_scanning s p) room
+  pub scanned_more : (p : viewing.Pair) → s.stage ≡ Scanning → viewing.IsPossible (scanning s) x → p ≡ viewing.advance s.asked (scanning s) x → is_some (viewing.step_of s.asked p) ≡ true →
+      IsMachine (with_scanning s p) room
   scanned_more p stage possible is due =
       let on : with_scanning s p ≡ after_scanning (with_scanning s p) s.asked Leaving = goes_on (viewing.step_of s.asked p) (with_scanning s p) _ due in
       machine_on s (with_scanning s p) room x Scanning w stage possible (on ∙ ap (λ q. after_scanning (with_scanning s q) s.asked Leaving) is)

@@ -48,11 +48,12 @@ IsMarkedFor s refused.Component = ⊥
 IsMarkedFor s refused.SlotsSpent = s.slots_spent ≡ true
 IsMarkedFor s refused.PoolSpent = s.pool_spent ≡ true
 
--- the reply is a refusal for the pool, or for the slots
+-- whether the reply is a refusal for the pool
 abbrev pub refuses_pool : Option Reply → Bool
 refuses_pool (Some (reply.Refused refused.PoolSpent)) = true
 refuses_pool _ = false
 
+-- whether the reply is a refusal for the slots
 abbrev pub refuses_slots : Option Reply → Bool
 refuses_slots (Some (reply.Refused refused.SlotsSpent)) = true
 refuses_slots _ = false
@@ -114,4 +115,5 @@ IsOldMark s cause = IsMarkedFor s cause
 
 -- a call is refused at once for an index, or for an old mark; either is a cause for which it may be refused
 abbrev pub CallsAreRefusedAtOnce : Type 0
-CallsAreRefusedAtOnce = (s : CoreState) (c : Call) (cause : Refused) → refusal_of s c ≡ Some cause → MayBeRefused s.sizes.m c cause × IsOldMark s cause
+CallsAreRefusedAtOnce = (s : CoreState) (c : Call) (cause : Refused) → refusal_of s c ≡ Some cause →
+    MayBeRefused s.sizes.m c cause × IsOldMark s cause

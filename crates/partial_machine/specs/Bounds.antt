@@ -44,5 +44,6 @@ left_at s Scanning = viewing.left_of s.asked (scanning s) + 1
 left_at s Leaving = 1
 left_at s (Finished r) = 0
 
+-- how many steps of the call are left at most
 abbrev pub steps_left : CoreState → ℕ
 steps_left s = left_at s s.stage

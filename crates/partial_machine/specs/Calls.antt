@@ -18,6 +18,7 @@ use Rattle.partial_machine.specs.Machine.{CoreState, at_stage, scanned_values}
 abbrev pub read_refusal : CoreState → ℕ → Option Refused
 read_refusal s i = if nat_lt i s.sizes.m then None else Some refused.Component
 
+-- why an update is refused before any step: its component comes first, then the mark for the pool
 abbrev pub update_refusal : CoreState → ℕ → Option Refused
 update_refusal s i = if nat_lt i s.sizes.m then (if s.pool_spent then Some refused.PoolSpent else None) else Some refused.Component
 
@@ -25,8 +26,10 @@ update_refusal s i = if nat_lt i s.sizes.m then (if s.pool_spent then Some refus
 abbrev pub mark_refusal : CoreState → Option Refused
 mark_refusal s = if s.pool_spent then Some refused.PoolSpent else (if s.slots_spent then Some refused.SlotsSpent else None)
 
+-- why a scan is refused before any step: its components come first, then, where it has positions, the marks
 abbrev pub scan_refusal : CoreState → List ℕ → Option Refused
-scan_refusal s indices = if list_all (λ i. nat_lt i s.sizes.m) indices then (if length indices == 0 then None else mark_refusal s) else Some refused.Component
+scan_refusal s indices = if list_all (λ i. nat_lt i s.sizes.m) indices then (if length indices == 0 then None else mark_refusal s)
+    else Some refused.Component
 
 -- a scan is begun; one of no position is finished at once
 abbrev pub begin_scan : CoreState → List ℕ → CoreState
@@ -85,6 +88,7 @@ call_at s (UpdateBegun c) = Some (update_call c.component c.expected c.value)
 call_at s ScanBegun = Some (call.Scan s.asked)
 call_at s _ = None
 
+-- the call that the machine has begun and made no step of
 abbrev pub call_of : CoreState → Option Call
 call_of s = call_at s s.stage
 

@@ -45,6 +45,7 @@ lists_spent s = s.get_set.lists_spent
 abbrev pub no_indices : Layout → Buffers
 no_indices z = record { limit = z.m; room = (z.slots + 1) / 2 + 1; indices = []; read = []; next = [] }
 
+-- the rows of a scan before its first collect
 abbrev pub no_rows : Layout → viewing.RowsState
 no_rows z = record { last = replicate z.m 0; changed = replicate z.m false; values = replicate z.m 0 }
 
@@ -69,16 +70,19 @@ fresh z port = record {
 abbrev pub at_stage : CoreState → Stage → CoreState
 at_stage s stage = record s { stage = stage }
 
--- the getSet and the embedded scan, each with its buffers
+-- the getSet with what it has found
 abbrev pub getting : CoreState → finding.Pair
 getting s = (s.get_set, s.found)
 
+-- the embedded scan with its rows
 abbrev pub scanning : CoreState → viewing.Pair
 scanning s = (s.embedded, s.rows)
 
+-- the machine with this getSet and what it has found
 abbrev pub with_getting : CoreState → finding.Pair → CoreState
 with_getting s p = record s { get_set = p.0; found = p.1 }
 
+-- the machine with this embedded scan and its rows
 abbrev pub with_scanning : CoreState → viewing.Pair → CoreState
 with_scanning s p = record s { embedded = p.0; rows = p.1 }
 
@@ -118,6 +122,7 @@ step_at s Scanning = viewing.step_of s.asked (scanning s)
 step_at s Leaving = step_of_leave s.leave
 step_at s (Finished r) = None
 
+-- the step that is due
 abbrev pub step_of : CoreState → Option Step
 step_of s = step_at s s.stage
 
@@ -147,7 +152,11 @@ begin_getting s c old = record s { get_set = finding.fresh s.sizes s.get_set.lis
 
 -- the getSet goes on, or it is finished and what it found is scanned, where it found anything
 abbrev pub after_getting : CoreState → Change → ℕ → CoreState
-after_getting s c old = option_map_or (λ _. s) (finding.step_of s.get_set) (record s { embedded = viewing.fresh s.sizes true; stage = if length s.found.indices == 0 then ClaimingRecord c old else Viewing c old })
+after_getting s c old = option_map_or (λ _. s) (finding.step_of s.get_set)
+    (record s {
+      embedded = viewing.fresh s.sizes true;
+      stage = if length s.found.indices == 0 then ClaimingRecord c old else Viewing c old;
+    })
 
 -- the embedded scan goes on, or it is finished and the machine comes to the next stage
 abbrev pub after_scanning : CoreState → List ℕ → Stage → CoreState
@@ -161,7 +170,11 @@ begin_joining s at = record s { join = record { sizes = s.sizes; announcement = 
 abbrev pub after_joining : CoreState → JoinStage → CoreState
 after_joining s Claiming = s
 after_joining s (Storing slot) = s
-after_joining s (Joined slot) = record s { embedded = viewing.fresh s.sizes false; leave = record { sizes = s.sizes; slot = slot; left = false }; stage = Scanning }
+after_joining s (Joined slot) = record s {
+  embedded = viewing.fresh s.sizes false;
+  leave = record { sizes = s.sizes; slot = slot; left = false };
+  stage = Scanning;
+}
 after_joining s Spent = slots_refused s
 
 -- the reply of a scan that is finished
@@ -175,17 +188,21 @@ advance_at s (ReadBegun j) x = at_stage s (LoadingValue x)
 advance_at s (LoadingValue stamp) x = at_stage s (Finished (reply.Read x stamp))
 advance_at s (UpdateBegun c) x = if expects c x then begin_getting s c x else at_stage s (Finished (reply.Changed x))
 advance_at s (GettingSet c old) x = after_getting (with_getting s (finding.advance (getting s) x)) c old
-advance_at s (Viewing c old) x = after_scanning (with_scanning s (viewing.advance s.found.indices (scanning s) x)) s.found.indices (ClaimingRecord c old)
+advance_at s (Viewing c old) x = after_scanning (with_scanning s (viewing.advance s.found.indices (scanning s) x))
+    s.found.indices (ClaimingRecord c old)
 advance_at s (ClaimingRecord c old) x = if fits_pool s.sizes (record_size s) x then at_stage s (StoringRecord c old x 0) else pool_refused s
-advance_at s (StoringRecord c old at k) x = at_stage s (if k + 1 == record_size s then Exchanging c old at else StoringRecord c old at (k + 1))
+advance_at s (StoringRecord c old at k) x = at_stage s
+    (if k + 1 == record_size s then Exchanging c old at else StoringRecord c old at (k + 1))
 advance_at s (Exchanging c old at) x = at_stage s (Finished (if x == old then reply.Applied at else overtaken c x))
-advance_at s ScanBegun x = if fits_pool s.sizes (announcement_size (length s.asked)) x then at_stage s (StoringAnnouncement x 0) else pool_refused s
+advance_at s ScanBegun x = if fits_pool s.sizes (announcement_size (length s.asked)) x then at_stage s
+    (StoringAnnouncement x 0) else pool_refused s
 advance_at s (StoringAnnouncement at k) x = if k == length s.asked then begin_joining s at else at_stage s (StoringAnnouncement at (k + 1))
 advance_at s Joining x = let j = advance_join s.join x in after_joining (record s { join = j }) j.stage
 advance_at s Scanning x = after_scanning (with_scanning s (viewing.advance s.asked (scanning s) x)) s.asked Leaving
 advance_at s Leaving x = record s { leave = advance_leave s.leave; stage = Finished (scanned_reply s) }
 advance_at s (Finished r) x = s
 
+-- what the answer x makes of the machine
 abbrev pub advance : CoreState → ℕ → CoreState
 advance s x = advance_at s s.stage x
 
@@ -194,6 +211,7 @@ abbrev pub reply_at : Stage → Option Reply
 reply_at (Finished r) = Some r
 reply_at _ = None
 
+-- the reply of a call that has ended and isn't taken
 abbrev pub reply_of : CoreState → Option Reply
 reply_of s = reply_at s.stage
 

@@ -41,15 +41,20 @@ is_sound_at s Idle = ⊤
 is_sound_at s (ReadBegun j) = j < s.sizes.m
 is_sound_at s (LoadingValue stamp) = IsRecord s.sizes stamp
 is_sound_at s (UpdateBegun c) = (c.component < s.sizes.m) × (s.pool_spent ≡ false)
-is_sound_at s (GettingSet c old) = IsUpdating s c old × finding_answers.GoTogether (getting s) × (s.get_set.sizes ≡ s.sizes) × IsSome (finding.step_of s.get_set)
-is_sound_at s (Viewing c old) = IsUpdating s c old × viewing.GoTogether s.found.indices (scanning s) × (s.embedded.sizes ≡ s.sizes) × IsSome (viewing.step_of s.found.indices (scanning s))
+is_sound_at s (GettingSet c old) = IsUpdating s c old × finding_answers.GoTogether (getting s) × (s.get_set.sizes ≡ s.sizes) ×
+    IsSome (finding.step_of s.get_set)
+is_sound_at s (Viewing c old) = IsUpdating s c old × viewing.GoTogether s.found.indices (scanning s) × (s.embedded.sizes ≡ s.sizes) ×
+    IsSome (viewing.step_of s.found.indices (scanning s))
 is_sound_at s (ClaimingRecord c old) = IsUpdating s c old
 is_sound_at s (StoringRecord c old at k) = IsUpdating s c old × IsInPool s.sizes at (record_size s) × (k < record_size s)
 is_sound_at s (Exchanging c old at) = IsUpdating s c old × IsInPool s.sizes at (record_size s)
 is_sound_at s ScanBegun = (0 < length s.asked) × (s.pool_spent ≡ false) × (s.slots_spent ≡ false)
-is_sound_at s (StoringAnnouncement at k) = (0 < length s.asked) × (s.slots_spent ≡ false) × IsInPool s.sizes at (announcement_size (length s.asked)) × (k < announcement_size (length s.asked))
-is_sound_at s Joining = (0 < length s.asked) × (s.slots_spent ≡ false) × (s.join.sizes ≡ s.sizes) × IsInPool s.sizes s.join.announcement (announcement_size (length s.asked)) × IsSome (step_of_join s.join) × IsTrue (fits_join s.join.sizes s.join.stage)
-is_sound_at s Scanning = viewing.GoTogether s.asked (scanning s) × (s.embedded.sizes ≡ s.sizes) × IsSome (viewing.step_of s.asked (scanning s)) × IsLeaving s
+is_sound_at s (StoringAnnouncement at k) = (0 < length s.asked) × (s.slots_spent ≡ false) ×
+    IsInPool s.sizes at (announcement_size (length s.asked)) × (k < announcement_size (length s.asked))
+is_sound_at s Joining = (0 < length s.asked) × (s.slots_spent ≡ false) × (s.join.sizes ≡ s.sizes) × IsInPool s.sizes s.join.announcement
+    (announcement_size (length s.asked)) × IsSome (step_of_join s.join) × IsTrue (fits_join s.join.sizes s.join.stage)
+is_sound_at s Scanning = viewing.GoTogether s.asked (scanning s) × (s.embedded.sizes ≡ s.sizes) ×
+    IsSome (viewing.step_of s.asked (scanning s)) × IsLeaving s
 is_sound_at s Leaving = IsLeaving s
 is_sound_at s (Finished r) = ⊤
 

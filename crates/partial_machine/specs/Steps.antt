@@ -21,11 +21,13 @@ Run s (x ∷ xs) t = IsPossible s x × Run (advance s x) xs t
 
 -- over possible answers a machine stays sound, and each one is a step less
 abbrev pub StaysSound : Type 0
-StaysSound = (s t : CoreState) (xs : List ℕ) → IsLayout s.sizes → IsSound s → Run s xs t → IsSound t × (length xs + steps_left t ≤ steps_left s)
+StaysSound = (s t : CoreState) (xs : List ℕ) → IsLayout s.sizes → IsSound s → Run s xs t → IsSound t ×
+    (length xs + steps_left t ≤ steps_left s)
 
 -- a call makes few steps
 abbrev pub MakesFewSteps : Type 0
-MakesFewSteps = (s t : CoreState) (c : Call) (xs : List ℕ) → IsLayout s.sizes → IsSound s → call_of s ≡ Some c → Run s xs t → length xs + steps_left t ≤ most_steps s.sizes c
+MakesFewSteps = (s t : CoreState) (c : Call) (xs : List ℕ) → IsLayout s.sizes → IsSound s → call_of s ≡ Some c → Run s xs t →
+    length xs + steps_left t ≤ most_steps s.sizes c
 
 -- a read makes 2 steps
 abbrev pub ReadsInTwo : Type 0
@@ -36,6 +38,7 @@ abbrev pub is_len : ViewStage → Bool
 is_len (Len at) = true
 is_len _ = false
 
+-- whether a scan is about to load the number of pairs of the view that it borrows
 abbrev pub loads_len : CoreState → Stage → Bool
 loads_len s Scanning = is_len s.embedded.stage
 loads_len s _ = false
@@ -53,4 +56,5 @@ pub record AreOfScan (r c n steps : ℕ) (borrowed : Option ℕ) : Type 0 where
 
 -- a scan makes its steps
 abbrev pub ScansMakeTheirSteps : Type 0
-ScansMakeTheirSteps = (s t : CoreState) (xs : List ℕ) (c : ℕ) (borrowed : Option ℕ) → IsLayout s.sizes → IsSound s → s.stage ≡ ScanBegun → Run s xs t → reply_of t ≡ Some (reply.Scanned c borrowed) → AreOfScan (length s.asked) c (pairs_loaded s xs) (length xs) borrowed
+ScansMakeTheirSteps = (s t : CoreState) (xs : List ℕ) (c : ℕ) (borrowed : Option ℕ) → IsLayout s.sizes → IsSound s → s.stage ≡ ScanBegun →
+    Run s xs t → reply_of t ≡ Some (reply.Scanned c borrowed) → AreOfScan (length s.asked) c (pairs_loaded s xs) (length xs) borrowed

@@ -45,9 +45,35 @@ impl Model for Core {
 
     ghost Value = { CoreState };
 
-    ghost view = { λ c. record { sizes = c.sizes; port = c.port; pool_spent = c.pool_spent; slots_spent = c.slots_spent; asked = c.asked.items; join = c.join; leave = c.leave; get_set = c.get_set; found = c.found; embedded = c.embedded; rows = c.rows; stage = c.stage } };
+    ghost view = { λ c. record {
+      sizes = c.sizes;
+      port = c.port;
+      pool_spent = c.pool_spent;
+      slots_spent = c.slots_spent;
+      asked = c.asked.items;
+      join = c.join;
+      leave = c.leave;
+      get_set = c.get_set;
+      found = c.found;
+      embedded = c.embedded;
+      rows = c.rows;
+      stage = c.stage;
+    } };
 
-    ghost invariant = { λ c. IsMachine (record { sizes = c.sizes; port = c.port; pool_spent = c.pool_spent; slots_spent = c.slots_spent; asked = c.asked.items; join = c.join; leave = c.leave; get_set = c.get_set; found = c.found; embedded = c.embedded; rows = c.rows; stage = c.stage }) (vec_capacity c.asked) };
+    ghost invariant = { λ c. IsMachine (record {
+      sizes = c.sizes;
+      port = c.port;
+      pool_spent = c.pool_spent;
+      slots_spent = c.slots_spent;
+      asked = c.asked.items;
+      join = c.join;
+      leave = c.leave;
+      get_set = c.get_set;
+      found = c.found;
+      embedded = c.embedded;
+      rows = c.rows;
+      stage = c.stage;
+    }) (vec_capacity c.asked) };
 }
 
 impl Core {
@@ -111,7 +137,9 @@ impl Core {
     /// below the number of components, then for the mark of the pool; the machine is then unchanged.
     pub fn begin_update(&mut self, component: u32, value: u64) -> Result<(), Refused>
         requires { self.old.stage ≡ Idle }
-        ensures ok { OnOk result ((update_refusal self.old component ≡ None) × (self.new ≡ at_stage self.old (UpdateBegun (record { component = component; expected = None; value = value })))) }
+        ensures ok { OnOk result ((update_refusal self.old component ≡ None) ×
+            (self.new ≡ at_stage self.old (UpdateBegun
+            (record { component = component; expected = None; value = value })))) }
         ensures err { IfErr result (λ cause. (update_refusal self.old component ≡ Some cause) × (self.new ≡ self.old)) }
     {
         self.begin_change(Change {
@@ -130,7 +158,9 @@ impl Core {
         value: u64,
     ) -> Result<(), Refused>
         requires { self.old.stage ≡ Idle }
-        ensures ok { OnOk result ((update_refusal self.old component ≡ None) × (self.new ≡ at_stage self.old (UpdateBegun (record { component = component; expected = Some expected; value = value })))) }
+        ensures ok { OnOk result ((update_refusal self.old component ≡ None) ×
+            (self.new ≡ at_stage self.old (UpdateBegun
+            (record { component = component; expected = Some expected; value = value })))) }
         ensures err { IfErr result (λ cause. (update_refusal self.old component ≡ Some cause) × (self.new ≡ self.old)) }
     {
         self.begin_change(Change {
@@ -142,8 +172,10 @@ impl Core {
 
     fn begin_change(&mut self, change: Change) -> Result<(), Refused>
         requires { self.old.stage ≡ Idle }
-        ensures ok { OnOk result ((update_refusal self.old change.component ≡ None) × (self.new ≡ at_stage self.old (UpdateBegun change))) }
-        ensures err { IfErr result (λ cause. (update_refusal self.old change.component ≡ Some cause) × (self.new ≡ self.old)) }
+        ensures ok { OnOk result ((update_refusal self.old change.component ≡ None) ×
+            (self.new ≡ at_stage self.old (UpdateBegun change))) }
+        ensures err { IfErr result (λ cause. (update_refusal self.old change.component ≡ Some cause) ×
+            (self.new ≡ self.old)) }
     {
         if change.component >= self.sizes.m() {
             return Err(Refused::Component);
@@ -159,7 +191,8 @@ impl Core {
     /// number of components; the machine is then unchanged.
     pub fn begin_read(&mut self, component: u32) -> Result<(), Refused>
         requires { self.old.stage ≡ Idle }
-        ensures ok { OnOk result ((read_refusal self.old component ≡ None) × (self.new ≡ at_stage self.old (ReadBegun component))) }
+        ensures ok { OnOk result ((read_refusal self.old component ≡ None) ×
+            (self.new ≡ at_stage self.old (ReadBegun component))) }
         ensures err { IfErr result (λ cause. (read_refusal self.old component ≡ Some cause) × (self.new ≡ self.old)) }
     {
         if component >= self.sizes.m() {
@@ -175,8 +208,10 @@ impl Core {
     pub fn begin_scan(&mut self, components: &[u32]) -> Result<(), Refused>
         requires idle { self.old.stage ≡ Idle }
         requires few { length components.now ≤ self.old.sizes.m }
-        ensures ok { OnOk result ((scan_refusal self.old components.now ≡ None) × (self.new ≡ begin_scan self.old components.now)) }
-        ensures err { IfErr result (λ cause. (scan_refusal self.old components.now ≡ Some cause) × (self.new ≡ self.old)) }
+        ensures ok { OnOk result ((scan_refusal self.old components.now ≡ None) ×
+            (self.new ≡ begin_scan self.old components.now)) }
+        ensures err { IfErr result (λ cause. (scan_refusal self.old components.now ≡ Some cause) ×
+            (self.new ≡ self.old)) }
     {
         if let Some(cause) = self.scan_refusal(components) {
             return Err(cause);
@@ -317,7 +352,8 @@ impl Core {
     #[inline(always)]
     fn pair_word(&self, k: u64) -> u64
         requires { k < 2 * length self.now.found.indices }
-        ensures { result ≡ slice_index (flat_map pair_words (map (λ j. (j, slice_index self.now.rows.values j)) self.now.found.indices)) k }
+        ensures { result ≡ slice_index (flat_map pair_words
+            (map (λ j. (j, slice_index self.now.rows.values j)) self.now.found.indices)) k }
     {
         let index = self.found.indices()[(k / 2) as usize];
         if k % 2 == 0 {

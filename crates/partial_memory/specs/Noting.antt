@@ -25,11 +25,12 @@ pub record NotesMore (p q : PortView) (new : List Noted) : Type 0 where
 abbrev pub NotesCall : PortView → Call → Answer → PortView → Type 0
 NotesCall p c a q = (n : Note) × NotesMore p q (record { call = c; answer = a; note = Some n } ∷ [])
 
--- the answer that is noted of an update and of a conditional update
+-- the answer that is noted of what an update came to
 abbrev pub noted_update : Updated → Answer
 noted_update (Applied stamp) = answer.Applied stamp
 noted_update (Lost by) = answer.Lost by
 
+-- the answer that is noted of what a conditional update came to
 abbrev pub noted_update_if : UpdatedIf → Answer
 noted_update_if (conditional.Applied stamp) = answer.Applied stamp
 noted_update_if (conditional.Changed by) = answer.Changed by

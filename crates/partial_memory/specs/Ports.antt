@@ -50,6 +50,7 @@ pub record PortView : Type 0 where
   pub steps : ℕ
   pub last : LastCall
 
+-- a port as a contract sees it, by the table and what its seat knows
 abbrev pub port_view : TableId → Seated → PortView
 port_view table x = record {
   memory = record { table = table; about = x.about };
@@ -140,6 +141,7 @@ abbrev pub is_pool : Refused → Bool
 is_pool refused.PoolSpent = true
 is_pool _ = false
 
+-- the same of the mark for the slots
 abbrev pub is_slots : Refused → Bool
 is_slots refused.SlotsSpent = true
 is_slots _ = false

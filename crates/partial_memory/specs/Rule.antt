@@ -22,6 +22,7 @@ abbrev pub flatten : List (List Seated) → List Seated
 flatten [] = []
 flatten (v ∷ vs) = v ++ flatten vs
 
+-- the parts of these ports
 abbrev pub parts_of : List Seated → List Part
 parts_of xs = map (λ x. x.part) xs
 
@@ -56,11 +57,12 @@ abbrev pub nobody : Seated
 nobody =
     newcomer (record { sizes = record { m = 1; slots = 1; lists = 0; pool = 3 }; opening = record { values = []; first = 0 }; ports = 0 }) 0
 
--- the first port of a view, and of the first view
+-- the first port of a view
 abbrev pub one_of : List Seated → Seated
 one_of [] = nobody
 one_of (x ∷ xs) = x
 
+-- the first port of the first view
 abbrev pub one_in : List (List Seated) → Seated
 one_in [] = nobody
 one_in (v ∷ vs) = one_of v
@@ -69,6 +71,7 @@ one_in (v ∷ vs) = one_of v
 abbrev pub IsOne : {S : Type 0} → Me S (List Seated) → Type 0
 IsOne me = (me.0 ≡ one_of me.0 ∷ []) × (me.1 ≡ [])
 
+-- a badge of one seat in which there is one port
 abbrev pub IsBadgeOfOne : List (List Seated) → Type 0
 IsBadgeOfOne views = views ≡ (one_in views ∷ []) ∷ []
 
@@ -94,18 +97,20 @@ makes c me a me' = IsOne me' × Told c (one_of me.0) a (one_of me'.0)
 abbrev pub reading : Part → ℕ → CoreState
 reading x j = record (core_of x) { asked = []; stage = ReadBegun j }
 
--- a load begins a read, and the call of a seat goes on with a further load
+-- a load begins a read
 abbrev pub begins_read : {S : Type 0} → Step S → Me S (List Seated) → ℕ → Me S (List Seated) → Type 0
 begins_read s me = makes (reading (one_of me.0).part s.word) me
 
+-- a further load of the call of a seat: of the machine to which the port's kept answers lead
 abbrev pub goes_on : {S : Type 0} → Step S → Me S (List Seated) → ℕ → Me S (List Seated) → Type 0
 goes_on s me = makes (core_of (one_of me.0).part) me
 
--- the first port of a view, and the others
+-- the first port of a view, as a view of its own
 abbrev pub first_of : List Seated → List Seated
 first_of [] = []
 first_of (x ∷ xs) = x ∷ []
 
+-- the ports of a view but the first
 abbrev pub others_of : List Seated → List Seated
 others_of [] = []
 others_of (x ∷ xs) = xs

@@ -43,7 +43,8 @@ impl Model for Memory {
 
     ghost view = { λ m. record { table = m.table.shared.table_id; about = m.table.shared.key } };
 
-    ghost invariant = { λ m. (m.sizes ≡ m.table.shared.key.sizes) × (m.table.shared.table_id.words ≡ total m.table.shared.key.sizes) × (m.table.shared.table_id.slots ≡ 0) };
+    ghost invariant = { λ m. (m.sizes ≡ m.table.shared.key.sizes) ×
+        (m.table.shared.table_id.words ≡ total m.table.shared.key.sizes) × (m.table.shared.table_id.slots ≡ 0) };
 }
 
 // The words at opening: behind the initial records all of them are 0.

@@ -41,13 +41,16 @@ Decides-is_initial o m s =
 pub Decides-are_distinct : (h : List Applied) → Decides (are_distinct h) (HaveDistinctStamps h)
 Decides-are_distinct [] = Decides-always tt
 Decides-are_distinct (e ∷ h) =
-    Decides-and (not (list_any (λ (f : Applied). e.stamp == f.stamp) h)) (are_distinct h) (Decides-list_none (λ (f : Applied). e.stamp == f.stamp) (λ f. e.stamp ≡ f.stamp) (λ f. Decides-eqb e.stamp f.stamp) h) (Decides-are_distinct h)
+    Decides-and (not (list_any (λ (f : Applied). e.stamp == f.stamp) h)) (are_distinct h)
+    (Decides-list_none (λ (f : Applied). e.stamp == f.stamp) (λ f. e.stamp ≡ f.stamp) (λ f. Decides-eqb e.stamp f.stamp) h) (Decides-are_distinct h)
 
-not_initial_all : (o : Opening) (m : ℕ) (h : List Applied) → AllByRecursion (λ (e : Applied). IsInitial o m e.stamp → ⊥) h → AllByRecursion (λ (e : Applied). (j : ℕ) → j < m → e.stamp ≢ initial_stamp o j) h
+not_initial_all : (o : Opening) (m : ℕ) (h : List Applied) → AllByRecursion (λ (e : Applied). IsInitial o m e.stamp → ⊥) h →
+    AllByRecursion (λ (e : Applied). (j : ℕ) → j < m → e.stamp ≢ initial_stamp o j) h
 not_initial_all o m [] w = tt
 not_initial_all o m (e ∷ h) w = (λ j lt same. w.0 (j, lt, same), not_initial_all o m h w.1)
 
-all_not_initial : (o : Opening) (m : ℕ) (h : List Applied) → AllByRecursion (λ (e : Applied). (j : ℕ) → j < m → e.stamp ≢ initial_stamp o j) h → AllByRecursion (λ (e : Applied). IsInitial o m e.stamp → ⊥) h
+all_not_initial : (o : Opening) (m : ℕ) (h : List Applied) → AllByRecursion (λ (e : Applied). (j : ℕ) → j < m → e.stamp ≢ initial_stamp o j) h →
+    AllByRecursion (λ (e : Applied). IsInitial o m e.stamp → ⊥) h
 all_not_initial o m [] w = tt
 all_not_initial o m (e ∷ h) w = (λ i. w.0 i.0 i.1 i.2, all_not_initial o m h w.1)
 
@@ -101,7 +104,8 @@ Decides-same_entry e a =
     (Decides-and3 (e.port == a.port) (e.component == a.component) (e.value == a.value) (Decides-eqb e.port a.port) (Decides-eqb e.component a.component) (Decides-eqb e.value a.value))
     (Decides-eqb e.stamp a.stamp))
 
-stands_at_found : (found : Option Applied) (a : Applied) → Decides (option_map_or (λ (e : Applied). (e.port == a.port) && (e.component == a.component) && (e.value == a.value) && (e.stamp == a.stamp)) found false) (found ≡ Some a)
+stands_at_found : (found : Option Applied) (a : Applied) → Decides (option_map_or (λ (e : Applied). (e.port == a.port) && (e.component == a.component) && (e.value == a.value) && (e.stamp == a.stamp))
+    found false) (found ≡ Some a)
 stands_at_found None a = Decides-never (λ w. cc)
 stands_at_found (Some e) a =
     Decides-like ((e.port == a.port) && (e.component == a.component) && (e.value == a.value) && (e.stamp == a.stamp)) (λ w. ap (λ (x : Applied). Some x) w) (λ w. cc) (Decides-same_entry e a)
@@ -109,7 +113,8 @@ stands_at_found (Some e) a =
 pub Decides-stands_at : (h : List Applied) (k : ℕ) (a : Applied) → Decides (stands_at h k a) (slice_get h k ≡ Some a)
 Decides-stands_at h k a = stands_at_found (slice_get h k) a
 
-is_entry_found : (found : Option Applied) (j t : ℕ) → Decides (option_map_or (λ (e : Applied). (e.component == j) && (e.stamp == t)) found false) ((e : Applied) × (found ≡ Some e) × (e.component ≡ j) × (e.stamp ≡ t))
+is_entry_found : (found : Option Applied) (j t : ℕ) → Decides (option_map_or (λ (e : Applied). (e.component == j) && (e.stamp == t)) found false)
+    ((e : Applied) × (found ≡ Some e) × (e.component ≡ j) × (e.stamp ≡ t))
 is_entry_found None j t = Decides-never (λ w. let found : None ≡ Some w.0 = w.1 in cc)
 is_entry_found (Some x) j t =
     Decides-like ((x.component == j) && (x.stamp == t))
@@ -190,7 +195,8 @@ Decides-saw_together o h js vs c b n =
     (λ w. record { within = w.0.0; values = w.0.1; collects = w.0.2; borrowed = w.1 })
     (λ w. ((w.within, w.values, w.collects), w.borrowed))
     (Decides-and (nat_le n (length h) && hold (value_of o (take n h)) js vs && are_collects (length js) c b) borrowed
-    (Decides-and3 (nat_le n (length h)) (hold (value_of o (take n h)) js vs) (are_collects (length js) c b) (Decides-nat_le n (length h)) (Decides-hold (value_of o (take n h)) js vs) (Decides-are_collects (length js) c b))
+    (Decides-and3 (nat_le n (length h)) (hold (value_of o (take n h)) js vs) (are_collects (length js) c b) (Decides-nat_le n (length h)) (Decides-hold (value_of o (take n h)) js vs)
+    (Decides-are_collects (length js) c b))
     (Decides-if_some (λ t. shows_stamp js t (drop n h)) (λ t. (k j : ℕ) × (n ≤ k) × Contains js j × IsEntryFor h k j t) (λ t. Decides-shows_stamp h js n t) b))
 
 Decides-differ : (t x : ℕ) → Decides (not (t == x)) (t ≢ x)
@@ -237,7 +243,8 @@ Decides-is_refusal m (call.Scan js) _ = Decides-never (λ w. w)
 Decides-is_refusal m (call.Read j) _ = Decides-never (λ w. w)
 Decides-is_refusal m (call.UpdateIf j x v) _ = Decides-never (λ w. w)
 
-pub Decides-is_legal : (o : Opening) (h : List Applied) (p seen : ℕ) (c : Call) (a : Answer) (n : Option Note) → Decides (is_legal o h p seen c a n) (IsLegal o h p seen (record { call = c; answer = a; note = n }))
+pub Decides-is_legal : (o : Opening) (h : List Applied) (p seen : ℕ) (c : Call) (a : Answer) (n : Option Note) → Decides (is_legal o h p seen c a n)
+    (IsLegal o h p seen (record { call = c; answer = a; note = n }))
 Decides-is_legal o h p seen c a None =
     Decides-like (is_refusal (length o.values) c a) (λ w. (w, tt)) (λ w. w.0) (Decides-is_refusal (length o.values) c a)
 Decides-is_legal o h p seen c a (Some n) =
@@ -264,12 +271,14 @@ Decides-ends_in_time : (n began : ℕ) (f : Finish) → Decides (ends_in_time n 
 Decides-ends_in_time n began f =
     let test : Note → Bool = λ note. nat_le began (place_of note) && nat_le (shown_by note) f.ended in
     Decides-and3 (nat_le began f.ended) (nat_le f.ended n) (option_map_or test f.note true) (Decides-nat_le began f.ended) (Decides-nat_le f.ended n)
-    (Decides-if_some test (λ note. (began ≤ place_of note) × (shown_by note ≤ f.ended)) (λ note. Decides-and (nat_le began (place_of note)) (nat_le (shown_by note) f.ended) (Decides-nat_le began (place_of note)) (Decides-nat_le (shown_by note) f.ended)) f.note)
+    (Decides-if_some test (λ note. (began ≤ place_of note) × (shown_by note ≤ f.ended))
+    (λ note. Decides-and (nat_le began (place_of note)) (nat_le (shown_by note) f.ended) (Decides-nat_le began (place_of note)) (Decides-nat_le (shown_by note) f.ended)) f.note)
 
 Decides-is_in_time : (n : ℕ) (c : Called) → Decides (is_in_time n c) (IsInTime n c)
 Decides-is_in_time n c =
     Decides-and (nat_le c.began n) (option_map_or (ends_in_time n c.began) c.finish true) (Decides-nat_le c.began n)
-    (Decides-if_some (ends_in_time n c.began) (λ f. (c.began ≤ f.ended) × (f.ended ≤ n) × IfSome f.note (λ note. (c.began ≤ place_of note) × (shown_by note ≤ f.ended))) (Decides-ends_in_time n c.began) c.finish)
+    (Decides-if_some (ends_in_time n c.began) (λ f. (c.began ≤ f.ended) × (f.ended ≤ n) × IfSome f.note (λ note. (c.began ≤ place_of note) × (shown_by note ≤ f.ended)))
+    (Decides-ends_in_time n c.began) c.finish)
 
 pub Decides-are_in_time : (n : ℕ) (before : Option Called) (cs : List Called) → Decides (are_in_time n before cs) (RealTime n before cs)
 Decides-are_in_time n before [] = Decides-always tt

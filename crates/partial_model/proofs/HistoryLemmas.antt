@@ -21,7 +21,8 @@ unfolding last_from
 last_entry-nil j = refl
 
 -- the last of the first i entries is the one before place i where that is for the component
-pub last_entry-take : (h : List Applied) (i j : ℕ) (d : Applied) → 0 < i → i ≤ length h → last_entry j (take i h) ≡ cond ((get_or h (i - 1) d).component == j) (Some (get_or h (i - 1) d)) (last_entry j (take (i - 1) h))
+pub last_entry-take : (h : List Applied) (i j : ℕ) (d : Applied) → 0 < i → i ≤ length h → last_entry j (take i h) ≡ cond ((get_or h (i - 1) d).component == j) (Some (get_or h (i - 1) d))
+    (last_entry j (take (i - 1) h))
 last_entry-take h i j d some within =
     let e : i - 1 + 1 ≡ i = omega arith in
     ap (λ n. last_entry j (take n h)) (sym e) ∙ ap (last_entry j) (take_more h (i - 1) d (omega arith)) ∙ last_from-push None j (take (i - 1) h) (get_or h (i - 1) d)
@@ -41,11 +42,13 @@ pick f false x found d = refl
 
 pub value_of-push : (o : Opening) (h : List Applied) (e : Applied) (j : ℕ) → value_of o (h ++ e ∷ []) j ≡ cond (e.component == j) e.value (value_of o h j)
 value_of-push o h e j =
-    ap (λ (found : Option Applied). option_map_or (λ (x : Applied). x.value) found (get_or o.values j 0)) (last_from-push None j h e) ∙ pick (λ (x : Applied). x.value) (e.component == j) e (last_entry j h) (get_or o.values j 0)
+    ap (λ (found : Option Applied). option_map_or (λ (x : Applied). x.value) found (get_or o.values j 0)) (last_from-push None j h e) ∙ pick (λ (x : Applied). x.value) (e.component == j) e
+    (last_entry j h) (get_or o.values j 0)
 
 pub stamp_of-push : (o : Opening) (h : List Applied) (e : Applied) (j : ℕ) → stamp_of o (h ++ e ∷ []) j ≡ cond (e.component == j) e.stamp (stamp_of o h j)
 stamp_of-push o h e j =
-    ap (λ (found : Option Applied). option_map_or (λ (x : Applied). x.stamp) found (initial_stamp o j)) (last_from-push None j h e) ∙ pick (λ (x : Applied). x.stamp) (e.component == j) e (last_entry j h) (initial_stamp o j)
+    ap (λ (found : Option Applied). option_map_or (λ (x : Applied). x.stamp) found (initial_stamp o j)) (last_from-push None j h e) ∙ pick (λ (x : Applied). x.stamp) (e.component == j) e
+    (last_entry j h) (initial_stamp o j)
 
 -- where the last entry for a component stands: from there on it is the last one, and without one there never was any
 pub record LastAt (found : Option Applied) (j : ℕ) (h : List Applied) : Type 0 where
@@ -60,17 +63,20 @@ unfolding last_from
 last_at_none found j zero = refl
 last_at_none found j (suc a) = refl
 
-last_at_kept : (found : Option Applied) (j : ℕ) (x : Applied) (h : List Applied) → cond (x.component == j) (Some x) found ≡ found → ((a : ℕ) → last_from (cond (x.component == j) (Some x) found) j (take a h) ≡ cond (x.component == j) (Some x) found) → (a : ℕ) → last_from found j (take a (x ∷ h)) ≡ found
+last_at_kept : (found : Option Applied) (j : ℕ) (x : Applied) (h : List Applied) → cond (x.component == j) (Some x) found ≡ found →
+    ((a : ℕ) → last_from (cond (x.component == j) (Some x) found) j (take a h) ≡ cond (x.component == j) (Some x) found) → (a : ℕ) → last_from found j (take a (x ∷ h)) ≡ found
 unfolding last_from
 last_at_kept found j x h same all zero = refl
 last_at_kept found j x h same all (suc a) = all a ∙ same
 
-last_at_first : (found : Option Applied) (j : ℕ) (x : Applied) (h : List Applied) → cond (x.component == j) (Some x) found ≡ Some x → ((a : ℕ) → last_from (cond (x.component == j) (Some x) found) j (take a h) ≡ cond (x.component == j) (Some x) found) → (a : ℕ) → 0 < a → last_from found j (take a (x ∷ h)) ≡ Some x
+last_at_first : (found : Option Applied) (j : ℕ) (x : Applied) (h : List Applied) → cond (x.component == j) (Some x) found ≡ Some x →
+    ((a : ℕ) → last_from (cond (x.component == j) (Some x) found) j (take a h) ≡ cond (x.component == j) (Some x) found) → (a : ℕ) → 0 < a → last_from found j (take a (x ∷ h)) ≡ Some x
 unfolding last_from
 last_at_first found j x h same all zero some = absurd (omega arith)
 last_at_first found j x h same all (suc a) some = all a ∙ same
 
-last_at_later : (found : Option Applied) (j : ℕ) (x : Applied) (h : List Applied) (k : ℕ) (e : Applied) → ((a : ℕ) → k < a → last_from (cond (x.component == j) (Some x) found) j (take a h) ≡ Some e) → (a : ℕ) → suc k < a → last_from found j (take a (x ∷ h)) ≡ Some e
+last_at_later : (found : Option Applied) (j : ℕ) (x : Applied) (h : List Applied) (k : ℕ) (e : Applied) →
+    ((a : ℕ) → k < a → last_from (cond (x.component == j) (Some x) found) j (take a h) ≡ Some e) → (a : ℕ) → suc k < a → last_from found j (take a (x ∷ h)) ≡ Some e
 unfolding last_from
 last_at_later found j x h k e from zero some = absurd (omega arith)
 last_at_later found j x h k e from (suc a) some = from a (omega arith)
@@ -116,16 +122,22 @@ overtaken_at o h j a changed =
             stands = l.stands;
             component = l.component;
             stamp = sym (stamp_found o j h (Some l.entry) last);
-            behind = elim (cases_lt l.place a) [ inl before ↦ absurd (changed (stamp_found o j h (Some l.entry) last ∙ sym (stamp_found o j (take a h) (Some l.entry) (l.from a before)))) | inr after ↦ after ];
+            behind = elim (cases_lt l.place a) [
+              | inl before ↦ absurd (changed
+                  (stamp_found o j h (Some l.entry) last ∙ sym (stamp_found o j (take a h) (Some l.entry) (l.from a before))))
+              | inr after ↦ after
+            ];
           }
     ]
 
 -- what holds of each entry's stamp and of the initial one holds of a component's stamp
-stamp_all_step : (P : ℕ → Type 0) (first : ℕ) (found : Option Applied) (x : Applied) (b : Bool) → P x.stamp → P (option_map_or (λ (e : Applied). e.stamp) found first) → P (option_map_or (λ (e : Applied). e.stamp) (cond b (Some x) found) first)
+stamp_all_step : (P : ℕ → Type 0) (first : ℕ) (found : Option Applied) (x : Applied) (b : Bool) → P x.stamp → P (option_map_or (λ (e : Applied). e.stamp) found first) →
+    P (option_map_or (λ (e : Applied). e.stamp) (cond b (Some x) found) first)
 stamp_all_step P first found x true p w = p
 stamp_all_step P first found x false p w = w
 
-stamp_all_from : (P : ℕ → Type 0) (first j : ℕ) (found : Option Applied) (h : List Applied) → AllByRecursion (λ (e : Applied). P e.stamp) h → P (option_map_or (λ (e : Applied). e.stamp) found first) → P (option_map_or (λ (e : Applied). e.stamp) (last_from found j h) first)
+stamp_all_from : (P : ℕ → Type 0) (first j : ℕ) (found : Option Applied) (h : List Applied) → AllByRecursion (λ (e : Applied). P e.stamp) h →
+    P (option_map_or (λ (e : Applied). e.stamp) found first) → P (option_map_or (λ (e : Applied). e.stamp) (last_from found j h) first)
 unfolding last_from
 stamp_all_from P first j found [] all w = w
 stamp_all_from P first j found (x ∷ h) all w = stamp_all_from P first j (cond (x.component == j) (Some x) found) h all.1 (stamp_all_step P first found x (x.component == j) all.0 w)

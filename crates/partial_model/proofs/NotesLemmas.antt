@@ -35,7 +35,8 @@ entry_grows h es k j t w = (w.0, slice_get_grows h es k w.0 w.1, w.2, w.3)
 within_grows : (h es : List Applied) (n : ℕ) → n ≤ length h → n ≤ length (h ++ es)
 within_grows h es n w = omega (arith, length-append h es)
 
-borrowed_grows : (h es : List Applied) (js : List ℕ) (n : ℕ) (b : Option ℕ) → IfSome b (λ t. (k j : ℕ) × (n ≤ k) × Contains js j × IsEntryFor h k j t) → IfSome b (λ t. (k j : ℕ) × (n ≤ k) × Contains js j × IsEntryFor (h ++ es) k j t)
+borrowed_grows : (h es : List Applied) (js : List ℕ) (n : ℕ) (b : Option ℕ) → IfSome b (λ t. (k j : ℕ) × (n ≤ k) × Contains js j × IsEntryFor h k j t) →
+    IfSome b (λ t. (k j : ℕ) × (n ≤ k) × Contains js j × IsEntryFor (h ++ es) k j t)
 borrowed_grows h es js n None w = w
 borrowed_grows h es js n (Some t) w = (w.0, w.1, w.2, w.3, entry_grows h es w.0 w.1 t w.4)
 
@@ -52,13 +53,17 @@ IsTrueOf-grows o h es p (call.Scan js) (answer.Scanned vs c b) (note.Saw n) w =
     }
 IsTrueOf-grows o h es p (call.Read j) (answer.Read v s) (note.Saw n) w =
     (within_grows h es n w.0, w.1 ∙ ap (λ (k : List Applied). value_of o k j) (sym (take-append-le n h es w.0)), w.2 ∙ ap (λ (k : List Applied). stamp_of o k j) (sym (take-append-le n h es w.0)))
-IsTrueOf-grows o h es p (call.UpdateIf j x v) (answer.Applied s) (note.Wrote k) w =
-    (slice_get_grows h es k (record { port = p; component = j; value = v; stamp = s }) w.0, ap (λ (l : List Applied). stamp_of o l j) (take-append-le k h es (place_within h k (record { port = p; component = j; value = v; stamp = s }) w.0)) ∙ w.1)
+IsTrueOf-grows o h es p (call.UpdateIf j x v) (answer.Applied s) (note.Wrote k) w = (
+  slice_get_grows h es k (record { port = p; component = j; value = v; stamp = s }) w.0,
+  ap (λ (l : List Applied). stamp_of o l j)
+      (take-append-le k h es (place_within h k (record { port = p; component = j; value = v; stamp = s }) w.0)) ∙ w.1,
+)
 IsTrueOf-grows o h es p (call.UpdateIf j x v) (answer.Changed t) (note.Saw n) w =
     (within_grows h es n w.0, ap (λ (k : List Applied). stamp_of o k j) (take-append-le n h es w.0) ∙ w.1, w.2)
 IsTrueOf-grows o h es p _ _ _ w = absurd w
 
-legal_note_grows : (o : Opening) (h es : List Applied) (p seen : ℕ) (c : Call) (a : Answer) (n : Option Note) → IfSome n (λ note. IsTrueOf o h p c a note × (seen ≤ place_of note)) → IfSome n (λ note. IsTrueOf o (h ++ es) p c a note × (seen ≤ place_of note))
+legal_note_grows : (o : Opening) (h es : List Applied) (p seen : ℕ) (c : Call) (a : Answer) (n : Option Note) → IfSome n (λ note. IsTrueOf o h p c a note × (seen ≤ place_of note)) →
+    IfSome n (λ note. IsTrueOf o (h ++ es) p c a note × (seen ≤ place_of note))
 legal_note_grows o h es p seen c a None w = w
 legal_note_grows o h es p seen c a (Some n) w = (IsTrueOf-grows o h es p c a n w.0, w.1)
 
@@ -89,7 +94,8 @@ pub places_by-push : (p k : ℕ) (h : List Applied) (e : Applied) → places_by 
 places_by-push p k [] e = ap (λ n. cond (e.port == p) (n ∷ []) []) (omega arith)
 places_by-push p k (x ∷ h) e =
     let one : k + 1 + length h ≡ k + suc (length h) = omega arith in
-    let rest : places_by p (k + 1) (h ++ e ∷ []) ≡ places_by p (k + 1) h ++ cond (e.port == p) ((k + suc (length h)) ∷ []) [] = places_by-push p (k + 1) h e ∙ ap (λ n. places_by p (k + 1) h ++ cond (e.port == p) (n ∷ []) []) one in
+    let rest : places_by p (k + 1) (h ++ e ∷ []) ≡ places_by p (k + 1) h ++ cond (e.port == p) ((k + suc (length h)) ∷ []) [] =
+    places_by-push p (k + 1) h e ∙ ap (λ n. places_by p (k + 1) h ++ cond (e.port == p) (n ∷ []) []) one in
     places_step p k x (places_by p (k + 1) (h ++ e ∷ [])) (places_by p (k + 1) h) (cond (e.port == p) ((k + suc (length h)) ∷ []) []) (x.port == p) rest
 
 pub places_written-push : (ns : List Noted) (n : Noted) → places_written (ns ++ n ∷ []) ≡ places_written ns ++ wrote n.note

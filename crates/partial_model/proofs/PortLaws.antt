@@ -73,17 +73,21 @@ Decides-call_is_legal o h seen c = finished c.finish
     finished None = Decides-always tt
     finished (Some f) = Decides-is_legal o h c.port seen c.call f.answer f.note
 
-first_is_legal : (o : Opening) (h : List Applied) (seen : ℕ) (c : Called) (ns : List Noted) → LegalNotes o h c.port seen (known (noted_of c) ++ ns) → CallIsLegal o h seen c × LegalNotes o h c.port (seen_behind seen c.finish) ns
+first_is_legal : (o : Opening) (h : List Applied) (seen : ℕ) (c : Called) (ns : List Noted) → LegalNotes o h c.port seen (known (noted_of c) ++ ns) → CallIsLegal o h seen c ×
+    LegalNotes o h c.port (seen_behind seen c.finish) ns
 first_is_legal o h seen c ns = finished c.finish
   where
-    finished : (f : Option Finish) → LegalNotes o h c.port seen (known (noted_of (record c { finish = f })) ++ ns) → CallIsLegal o h seen (record c { finish = f }) × LegalNotes o h c.port (seen_behind seen f) ns
+    finished : (f : Option Finish) → LegalNotes o h c.port seen (known (noted_of (record c { finish = f })) ++ ns) → CallIsLegal o h seen (record c { finish = f }) ×
+        LegalNotes o h c.port (seen_behind seen f) ns
     finished None w = (tt, w)
     finished (Some f) w = (w.0, w.1)
 
-with_first_legal : (o : Opening) (h : List Applied) (seen : ℕ) (c : Called) (ns : List Noted) → CallIsLegal o h seen c → LegalNotes o h c.port (seen_behind seen c.finish) ns → LegalNotes o h c.port seen (known (noted_of c) ++ ns)
+with_first_legal : (o : Opening) (h : List Applied) (seen : ℕ) (c : Called) (ns : List Noted) → CallIsLegal o h seen c → LegalNotes o h c.port (seen_behind seen c.finish) ns →
+    LegalNotes o h c.port seen (known (noted_of c) ++ ns)
 with_first_legal o h seen c ns = finished c.finish
   where
-    finished : (f : Option Finish) → CallIsLegal o h seen (record c { finish = f }) → LegalNotes o h c.port (seen_behind seen f) ns → LegalNotes o h c.port seen (known (noted_of (record c { finish = f })) ++ ns)
+    finished : (f : Option Finish) → CallIsLegal o h seen (record c { finish = f }) → LegalNotes o h c.port (seen_behind seen f) ns →
+        LegalNotes o h c.port seen (known (noted_of (record c { finish = f })) ++ ns)
     finished None w rest = rest
     finished (Some f) w rest = (w, rest)
 
@@ -92,7 +96,8 @@ abbrev AreLegalFrom : Opening → List Applied → ℕ → ℕ → List Called �
 AreLegalFrom o h q seen cs = LegalNotes o h q seen (notes_of q cs) × ((p : ℕ) → q < p → LegalNotes o h p 0 (notes_of p cs))
 
 -- a call of the port itself
-own_is_legal : (o : Opening) (h : List Applied) (seen : ℕ) (c : Called) (cs : List Called) (rest : Bool) → Decides rest (AreLegalFrom o h c.port (seen_behind seen c.finish) cs) → Decides (call_is_legal o h seen c && rest) (AreLegalFrom o h c.port seen (c ∷ cs))
+own_is_legal : (o : Opening) (h : List Applied) (seen : ℕ) (c : Called) (cs : List Called) (rest : Bool) → Decides rest (AreLegalFrom o h c.port (seen_behind seen c.finish) cs) →
+    Decides (call_is_legal o h seen c && rest) (AreLegalFrom o h c.port seen (c ∷ cs))
 own_is_legal o h seen c cs rest d =
     Decides-like (call_is_legal o h seen c && rest)
     (λ w. (
@@ -105,7 +110,8 @@ own_is_legal o h seen c cs rest d =
     (Decides-and (call_is_legal o h seen c) rest (Decides-call_is_legal o h seen c) d)
 
 -- the first call of a later port
-next_is_legal : (o : Opening) (h : List Applied) (q seen : ℕ) (c : Called) (cs : List Called) (rest : Bool) → q < c.port → Rises c.port cs → Decides rest (AreLegalFrom o h c.port (seen_behind 0 c.finish) cs) → Decides (call_is_legal o h 0 c && rest) (AreLegalFrom o h q seen (c ∷ cs))
+next_is_legal : (o : Opening) (h : List Applied) (q seen : ℕ) (c : Called) (cs : List Called) (rest : Bool) → q < c.port → Rises c.port cs →
+    Decides rest (AreLegalFrom o h c.port (seen_behind 0 c.finish) cs) → Decides (call_is_legal o h 0 c && rest) (AreLegalFrom o h q seen (c ∷ cs))
 next_is_legal o h q seen c cs rest below rises d =
     let whole : Decides (call_is_legal o h 0 c && rest) (AreLegalFrom o h c.port 0 (c ∷ cs)) = own_is_legal o h 0 c cs rest d in
     let up : Rises c.port (c ∷ cs) = (omega arith, rises) in
@@ -171,7 +177,8 @@ places_tail true k l w = let no : k ∷ l ≡ [] = w in cc
 places_tail false k l w = w
 
 -- no entry is by a port in a range exactly where none of these ports has a place
-Decides-none_in : (outside : ℕ → Bool) (Within : ℕ → Type 0) → ((x : ℕ) → Decides (outside x) (Within x → ⊥)) → (k : ℕ) (h : List Applied) → Decides (list_all (λ (e : Applied). outside e.port) h) ((x : ℕ) → Within x → places_by x k h ≡ [])
+Decides-none_in : (outside : ℕ → Bool) (Within : ℕ → Type 0) → ((x : ℕ) → Decides (outside x) (Within x → ⊥)) → (k : ℕ) (h : List Applied) → Decides (list_all (λ (e : Applied). outside e.port) h)
+    ((x : ℕ) → Within x → places_by x k h ≡ [])
 Decides-none_in outside Within each k [] = Decides-always (λ x w. refl)
 Decides-none_in outside Within each k (e ∷ h) =
     let rest : ℕ → List ℕ = λ x. places_by x (k + 1) h in
@@ -207,7 +214,8 @@ Decides-none_between q p h =
     (λ x. Decides-like (nat_le x q || nat_le p x) (not_within q p x) (outside_range q p x) (Decides-or (nat_le x q) (nat_le p x) (Decides-nat_le x q) (Decides-nat_le p x))) 0 h
 
 -- what is left once the claimed places were taken from the front
-Decides-taken : (places ks tail : List ℕ) (R : Type 0) (rest : List ℕ → Bool) → ((l : List ℕ) → Decides (rest l) ((l ≡ tail) × R)) → Decides (option_map_or rest (taken places ks) false) ((places ≡ ks ++ tail) × R)
+Decides-taken : (places ks tail : List ℕ) (R : Type 0) (rest : List ℕ → Bool) → ((l : List ℕ) → Decides (rest l) ((l ≡ tail) × R)) → Decides (option_map_or rest (taken places ks) false)
+    ((places ≡ ks ++ tail) × R)
 Decides-taken places [] tail R rest each = each places
 Decides-taken [] (k ∷ ks) tail R rest each = Decides-never (λ w. let no : [] ≡ k ∷ (ks ++ tail) = w.0 in cc)
 Decides-taken (i ∷ places) (k ∷ ks) tail R rest each =
@@ -228,7 +236,8 @@ abbrev AreClaimedFrom : List Applied → ℕ → List ℕ → List Called → Ty
 AreClaimedFrom h q places cs = (places ≡ written_by q cs) × ((p : ℕ) → q < p → places_by p 0 h ≡ written_by p cs)
 
 -- a call of the port itself
-own_is_claimed : (h : List Applied) (places : List ℕ) (c : Called) (cs : List Called) (rest : List ℕ → Bool) → ((left : List ℕ) → Decides (rest left) (AreClaimedFrom h c.port left cs)) → Decides (option_map_or rest (taken places (claim_of c.finish)) false) (AreClaimedFrom h c.port places (c ∷ cs))
+own_is_claimed : (h : List Applied) (places : List ℕ) (c : Called) (cs : List Called) (rest : List ℕ → Bool) → ((left : List ℕ) → Decides (rest left) (AreClaimedFrom h c.port left cs)) →
+    Decides (option_map_or rest (taken places (claim_of c.finish)) false) (AreClaimedFrom h c.port places (c ∷ cs))
 own_is_claimed h places c cs rest each =
     Decides-like (option_map_or rest (taken places (claim_of c.finish)) false)
     (λ w. (w.0 ∙ sym (written_by-own c cs), λ p above. w.1 p above ∙ sym (written_by-other p c cs (omega arith))))
@@ -236,7 +245,8 @@ own_is_claimed h places c cs rest each =
     (Decides-taken places (claim_of c.finish) (written_by c.port cs) ((p : ℕ) → c.port < p → places_by p 0 h ≡ written_by p cs) rest each)
 
 -- the first call of a later port
-next_is_claimed : (h : List Applied) (q : ℕ) (places : List ℕ) (c : Called) (cs : List Called) (rest : Bool) → q < c.port → Rises c.port cs → Decides rest (AreClaimedFrom h c.port (places_by c.port 0 h) (c ∷ cs)) → Decides (is_spent places && none_between q c.port h && rest) (AreClaimedFrom h q places (c ∷ cs))
+next_is_claimed : (h : List Applied) (q : ℕ) (places : List ℕ) (c : Called) (cs : List Called) (rest : Bool) → q < c.port → Rises c.port cs →
+    Decides rest (AreClaimedFrom h c.port (places_by c.port 0 h) (c ∷ cs)) → Decides (is_spent places && none_between q c.port h && rest) (AreClaimedFrom h q places (c ∷ cs))
 next_is_claimed h q places c cs rest below rises d =
     let up : Rises c.port (c ∷ cs) = (omega arith, rises) in
     let none : (p : ℕ) → p < c.port → written_by p (c ∷ cs) ≡ [] = λ p lt. written_by-below p c.port (c ∷ cs) up lt in
@@ -283,7 +293,8 @@ at_each_port P first rest (suc p) = rest (suc p) (omega arith)
 pub Decides-is_legal_outcome : (o : Opening) (h : List Applied) (calls : List Called) → Decides (is_legal_outcome o h calls) (LegalOutcome o h calls)
 Decides-is_legal_outcome o h calls =
     let ordered : Bool = is_history o h && are_in_time (length h) None calls in
-    let known : Decides ordered (IsHistory o h × RealTime (length h) None calls) = Decides-and (is_history o h) (are_in_time (length h) None calls) (Decides-is_history o h) (Decides-are_in_time (length h) None calls) in (
+    let known : Decides ordered (IsHistory o h × RealTime (length h) None calls) = Decides-and (is_history o h) (are_in_time (length h) None calls) (Decides-is_history o h)
+    (Decides-are_in_time (length h) None calls) in (
       λ w.
           let parts = and_true (ordered && notes_are_legal o h 0 0 calls) (claim_all h 0 (places_by 0 0 h) calls) w in
           let front = and_true ordered (notes_are_legal o h 0 0 calls) parts.0 in

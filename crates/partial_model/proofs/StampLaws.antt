@@ -24,22 +24,27 @@ above_is_new h i g d w within above =
     let e : Applied = get_or h i d in
     let more : take (i + 1) h ≡ take i h ++ e ∷ [] = take_more h i d within in
     record {
-      distinct = subst HaveDistinctStamps (sym more) (distinct_push (take i h) e w.distinct (AllByRecursion-weaker (λ (f : Applied). f.stamp ≤ g) (λ f. f.stamp ≢ e.stamp) (λ f le. omega arith) (take i h) w.below));
-      below = subst (AllByRecursion (λ (f : Applied). f.stamp ≤ e.stamp)) (sym more) (AllByRecursion-push (λ (f : Applied). f.stamp ≤ e.stamp) (take i h) e (AllByRecursion-weaker (λ (f : Applied). f.stamp ≤ g) (λ f. f.stamp ≤ e.stamp) (λ f le. omega arith) (take i h) w.below) (omega arith));
+      distinct = subst HaveDistinctStamps (sym more) (distinct_push (take i h) e w.distinct
+          (AllByRecursion-weaker (λ (f : Applied). f.stamp ≤ g) (λ f. f.stamp ≢ e.stamp) (λ f le. omega arith) (take i h) w.below));
+      below = subst (AllByRecursion (λ (f : Applied). f.stamp ≤ e.stamp)) (sym more)
+          (AllByRecursion-push (λ (f : Applied). f.stamp ≤ e.stamp) (take i h) e
+          (AllByRecursion-weaker (λ (f : Applied). f.stamp ≤ g) (λ f. f.stamp ≤ e.stamp) (λ f le. omega arith) (take i h) w.below) (omega arith));
     }
 
 -- another stamp is new where no entry before has it
-pub unseen_is_new : (h : List Applied) (i g : ℕ) (d : Applied) → AreDistinctUpTo h i g → i < length h → (get_or h i d).stamp ≤ g → list_any (λ (f : Applied). f.stamp == (get_or h i d).stamp) (take i h) ≡ false → AreDistinctUpTo h (i + 1) g
+pub unseen_is_new : (h : List Applied) (i g : ℕ) (d : Applied) → AreDistinctUpTo h i g → i < length h → (get_or h i d).stamp ≤ g → list_any (λ (f : Applied). f.stamp == (get_or h i d).stamp)
+    (take i h) ≡ false → AreDistinctUpTo h (i + 1) g
 unseen_is_new h i g d w within le unseen =
     let e : Applied = get_or h i d in
     let more : take (i + 1) h ≡ take i h ++ e ∷ [] = take_more h i d within in
-    let new : AllByRecursion (λ (f : Applied). f.stamp ≢ e.stamp) (take i h) = (Decides-list_none (λ (f : Applied). f.stamp == e.stamp) (λ f. f.stamp ≡ e.stamp) (λ f. Decides-eqb f.stamp e.stamp) (take i h)).0 (ap not unseen) in
+    let new : AllByRecursion (λ (f : Applied). f.stamp ≢ e.stamp) (take i h) =
+    (Decides-list_none (λ (f : Applied). f.stamp == e.stamp) (λ f. f.stamp ≡ e.stamp) (λ f. Decides-eqb f.stamp e.stamp) (take i h)).0 (ap not unseen) in
     record {
       distinct = subst HaveDistinctStamps (sym more) (distinct_push (take i h) e w.distinct new);
       below = subst (AllByRecursion (λ (f : Applied). f.stamp ≤ g)) (sym more) (AllByRecursion-push (λ (f : Applied). f.stamp ≤ g) (take i h) e w.below le);
     }
 
-and_false : (b : Bool) → (b && false) ≡ false
+pub and_false : (b : Bool) → (b && false) ≡ false
 and_false true = refl
 and_false false = refl
 

@@ -8,6 +8,7 @@ use Rattle.partial_model.specs.declared.history.Opening.{Opening}
 use Rattle.partial_model.specs.History.{IsHistory, HaveDistinctStamps, last_entry, initial_stamp, value_of, stamp_of}
 use Rattle.partial_model.specs.Stamps.{HasThen, StampsNeverReturn, Twice, EqualCollectsStandTogether}
 use Rattle.partial_model.proofs.HistoryLemmas.{last_at, stamp_all}
+use Rattle.partial_model.proofs.NotesLemmas.{AllByRecursion-get}
 
 -- a prefix of a prefix
 pub take_within : {A : Type 0} (n b : ℕ) (h : List A) → n ≤ b → take n (take b h) ≡ take n h
@@ -23,38 +24,34 @@ in_whole (suc n) [] k e s = let bad : None ≡ Some e = s in cc
 in_whole (suc n) (x ∷ h) zero e s = (omega arith, s)
 in_whole (suc n) (x ∷ h) (suc k) e s = let w = in_whole n h k e s in let below = w.0 in (omega (arith, below), w.1)
 
-pub found : {A : Type 0} (P : A → Type 0) (h : List A) (k : ℕ) (e : A) → AllByRecursion P h → slice_get h k ≡ Some e → P e
-found P [] k e w s = let bad : None ≡ Some e = s in cc
-found P (x ∷ h) zero e w s = let is : x ≡ e = cc in subst P is w.0
-found P (x ∷ h) (suc k) e w s = found P h k e w.1 s
-
-pub each : {A : Type 0} (P : A → Type 0) (h : List A) → ((k : ℕ) (e : A) → slice_get h k ≡ Some e → P e) → AllByRecursion P h
-each P [] f = tt
-each P (x ∷ h) f = (f 0 x refl, each P h (λ k e s. f (suc k) e s))
+pub all_where : {A : Type 0} (P : A → Type 0) (h : List A) → ((k : ℕ) (e : A) → slice_get h k ≡ Some e → P e) → AllByRecursion P h
+all_where P [] f = tt
+all_where P (x ∷ h) f = (f 0 x refl, all_where P h (λ k e s. f (suc k) e s))
 
 -- entries at two places have two stamps
 pub distinct_at : (h : List Applied) (k q : ℕ) (e f : Applied) → HaveDistinctStamps h → slice_get h k ≡ Some e → slice_get h q ≡ Some f → k < q → e.stamp ≢ f.stamp
 distinct_at [] k q e f w s t less = let bad : None ≡ Some e = s in cc
 distinct_at (x ∷ h) k zero e f w s t less = absurd (omega (arith, less))
-distinct_at (x ∷ h) zero (suc q) e f w s t less = let is : x ≡ e = cc in subst (λ (d : Applied). d.stamp ≢ f.stamp) is (found (λ (g : Applied). x.stamp ≢ g.stamp) h q f w.0 t)
+distinct_at (x ∷ h) zero (suc q) e f w s t less = let is : x ≡ e = cc in subst (λ (d : Applied). d.stamp ≢ f.stamp) is (AllByRecursion-get (λ (g : Applied). x.stamp ≢ g.stamp) h q f w.0 t)
 distinct_at (x ∷ h) (suc k) (suc q) e f w s t less = distinct_at h k q e f w.1 s t (omega (arith, less))
 
 -- the stamp after the first a entries is none of an entry behind them
 stamp_before : (o : Opening) (h : List Applied) (j a q : ℕ) (f : Applied) → IsHistory o h → j < length o.values → slice_get h q ≡ Some f → a ≤ q → stamp_of o (take a h) j ≢ f.stamp
 stamp_before o h j a q f w below t from =
     stamp_all (λ (s : ℕ). s ≢ f.stamp) o j (take a h)
-    (each (λ (e : Applied). e.stamp ≢ f.stamp) (take a h) (λ k e s. let at = in_whole a h k e s in let less = at.0 in distinct_at h k q e f w.distinct at.1 t (omega (arith, less, from))))
-    (λ same. found (λ (e : Applied). (i : ℕ) → i < length o.values → e.stamp ≢ initial_stamp o i) h q f w.not_initial t j below (sym same))
+    (all_where (λ (e : Applied). e.stamp ≢ f.stamp) (take a h) (λ k e s. let at = in_whole a h k e s in let less = at.0 in distinct_at h k q e f w.distinct at.1 t (omega (arith, less, from))))
+    (λ same. AllByRecursion-get (λ (e : Applied). (i : ℕ) → i < length o.values → e.stamp ≢ initial_stamp o i) h q f w.not_initial t j below (sym same))
 
 -- what the last entry tells of the stamp and of the value
-stamp_told : (o : Opening) (h : List Applied) (j : ℕ) (f : Option Applied) → last_entry j h ≡ f → stamp_of o h j ≡ option_map_or (λ (x : Applied). x.stamp) f (initial_stamp o j)
+pub stamp_told : (o : Opening) (h : List Applied) (j : ℕ) (f : Option Applied) → last_entry j h ≡ f → stamp_of o h j ≡ option_map_or (λ (x : Applied). x.stamp) f (initial_stamp o j)
 stamp_told o h j f e = ap (λ (g : Option Applied). option_map_or (λ (x : Applied). x.stamp) g (initial_stamp o j)) e
 
 value_told : (o : Opening) (h : List Applied) (j : ℕ) (f : Option Applied) → last_entry j h ≡ f → value_of o h j ≡ option_map_or (λ (x : Applied). x.value) f (get_or o.values j 0)
 value_told o h j f e = ap (λ (g : Option Applied). option_map_or (λ (x : Applied). x.value) g (get_or o.values j 0)) e
 
 -- the same last entry at two lengths
-same_last : (o : Opening) (h : List Applied) (j a n : ℕ) (f : Option Applied) → last_entry j (take a h) ≡ f → last_entry j (take n h) ≡ f → HasThen o h j n (stamp_of o (take a h) j) (value_of o (take a h) j)
+same_last : (o : Opening) (h : List Applied) (j a n : ℕ) (f : Option Applied) → last_entry j (take a h) ≡ f → last_entry j (take n h) ≡ f → HasThen o h j n (stamp_of o (take a h) j)
+    (value_of o (take a h) j)
 same_last o h j a n f at_a at_n =
     (stamp_told o (take n h) j f at_n ∙ sym (stamp_told o (take a h) j f at_a), value_told o (take n h) j f at_n ∙ sym (value_told o (take a h) j f at_a))
 

@@ -23,7 +23,8 @@ true_within o h p (call.Update j v) (answer.Applied s) (note.Wrote k) w = let be
 true_within o h p (call.Update j v) (answer.Lost by) (note.Lost k) w = let below : k < length h = slice_get_within h k w.0 w.1 in omega arith
 true_within o h p (call.Scan js) (answer.Scanned vs c b) (note.Saw n) w = w.within
 true_within o h p (call.Read j) (answer.Read v s) (note.Saw n) w = w.0
-true_within o h p (call.UpdateIf j x v) (answer.Applied s) (note.Wrote k) w = let below : k < length h = slice_get_within h k (record { port = p; component = j; value = v; stamp = s }) w.0 in omega arith
+true_within o h p (call.UpdateIf j x v) (answer.Applied s) (note.Wrote k) w = let below : k < length h =
+    slice_get_within h k (record { port = p; component = j; value = v; stamp = s }) w.0 in omega arith
 true_within o h p (call.UpdateIf j x v) (answer.Changed t) (note.Saw n) w = w.0
 true_within o h p _ _ _ w = absurd w
 
@@ -41,9 +42,12 @@ seen_within o h seen c legal within = finished c.finish ((Decides-call_is_legal 
 -- ---- one call further
 
 -- a legal call leaves the rest of the calls to decide
-pub notes_more : (o : Opening) (h : List Applied) (q seen : ℕ) (cs : List Called) (i : ℕ) (c : Called) (before : ℕ) → i < length cs → c ≡ get_or cs i c → before ≡ cond (c.port == q) seen 0 → call_is_legal o h before c ≡ true → notes_are_legal o h c.port (seen_behind before c.finish) (drop (i + 1) cs) ≡ notes_are_legal o h q seen (drop i cs)
+pub notes_more : (o : Opening) (h : List Applied) (q seen : ℕ) (cs : List Called) (i : ℕ) (c : Called) (before : ℕ) → i < length cs → c ≡ get_or cs i c → before ≡ cond (c.port == q) seen 0 →
+    call_is_legal o h before c ≡ true → notes_are_legal o h c.port (seen_behind before c.finish) (drop (i + 1) cs) ≡ notes_are_legal o h q seen (drop i cs)
 notes_more o h q seen cs i c before within here known legal =
     let rest : ℕ → Bool = λ n. notes_are_legal o h c.port (seen_behind n c.finish) (drop (i + 1) cs) in
-    let turn : notes_are_legal o h q seen (drop i cs) ≡ notes_are_legal o h q seen (c ∷ drop (i + 1) cs) = ap (notes_are_legal o h q seen) (drop_more cs i c within ∙ ap (λ (x : Called). x ∷ drop (i + 1) cs) (sym here)) in
-    let step : (call_is_legal o h (cond (c.port == q) seen 0) c && rest (cond (c.port == q) seen 0)) ≡ (call_is_legal o h before c && rest before) = ap (λ n. call_is_legal o h n c && rest n) (sym known) in
+    let turn : notes_are_legal o h q seen (drop i cs) ≡ notes_are_legal o h q seen (c ∷ drop (i + 1) cs) =
+    ap (notes_are_legal o h q seen) (drop_more cs i c within ∙ ap (λ (x : Called). x ∷ drop (i + 1) cs) (sym here)) in
+    let step : (call_is_legal o h (cond (c.port == q) seen 0) c && rest (cond (c.port == q) seen 0)) ≡ (call_is_legal o h before c && rest before) =
+    ap (λ n. call_is_legal o h n c && rest n) (sym known) in
     sym (turn ∙ step ∙ ap (λ b. b && rest before) legal)

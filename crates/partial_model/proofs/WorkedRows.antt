@@ -86,7 +86,8 @@ two_components = lawful two (entry 1 1 9 27 ∷ entry 0 0 7 24 ∷ []) two_compo
 -- a scan of component 0 beside two updates of port 1
 abbrev scan_beside : ℕ → ℕ → ℕ → Option ℕ → ℕ → List Called
 scan_beside first second seen borrowed prefix =
-    done 0 0 (call.Scan (0 ∷ [])) 0 2 (answer.Scanned (seen ∷ []) 3 borrowed) (Some (note.Saw prefix)) ∷ done 1 0 (call.Update 0 first) 0 1 (answer.Applied 26) (Some (note.Wrote 0)) ∷ done 1 1 (call.Update 0 second) 1 2 (answer.Applied 32) (Some (note.Wrote 1)) ∷ []
+    done 0 0 (call.Scan (0 ∷ [])) 0 2 (answer.Scanned (seen ∷ []) 3 borrowed) (Some (note.Saw prefix)) ∷ done 1 0 (call.Update 0 first) 0 1 (answer.Applied 26) (Some (note.Wrote 0)) ∷
+    done 1 1 (call.Update 0 second) 1 2 (answer.Applied 32) (Some (note.Wrote 1)) ∷ []
 
 abbrev two_updates : ℕ → ℕ → List Applied
 two_updates first second = entry 1 0 first 26 ∷ entry 1 0 second 32 ∷ []
@@ -122,8 +123,10 @@ chain_entries = entry 3 0 5 28 ∷ entry 3 1 8 36 ∷ entry 3 1 9 42 ∷ entry 2
 
 abbrev chain_calls : List Called
 chain_calls =
-    done 0 0 (call.Scan (1 ∷ [])) 0 1 (answer.Scanned (20 ∷ []) 2 None) (Some (note.Saw 0)) ∷ done 1 0 (call.Scan (0 ∷ [])) 0 4 (answer.Scanned (5 ∷ []) 3 (Some 48)) (Some (note.Saw 1)) ∷ done 2 0 (call.Update 0 7) 1 4 (answer.Applied 48) (Some (note.Wrote 3))
-    ∷ done 3 0 (call.Update 0 5) 0 1 (answer.Applied 28) (Some (note.Wrote 0)) ∷ done 3 1 (call.Update 1 8) 1 2 (answer.Applied 36) (Some (note.Wrote 1)) ∷ done 3 2 (call.Update 1 9) 2 3 (answer.Applied 42) (Some (note.Wrote 2)) ∷ []
+    done 0 0 (call.Scan (1 ∷ [])) 0 1 (answer.Scanned (20 ∷ []) 2 None) (Some (note.Saw 0)) ∷ done 1 0 (call.Scan (0 ∷ [])) 0 4 (answer.Scanned (5 ∷ []) 3 (Some 48)) (Some (note.Saw 1)) ∷
+    done 2 0 (call.Update 0 7) 1 4 (answer.Applied 48) (Some (note.Wrote 3))
+    ∷ done 3 0 (call.Update 0 5) 0 1 (answer.Applied 28) (Some (note.Wrote 0)) ∷ done 3 1 (call.Update 1 8) 1 2 (answer.Applied 36) (Some (note.Wrote 1)) ∷
+    done 3 2 (call.Update 1 9) 2 3 (answer.Applied 42) (Some (note.Wrote 2)) ∷ []
 
 borrowed_chain : LegalOutcome two chain_entries chain_calls
 unfolding last_from
@@ -131,7 +134,8 @@ borrowed_chain = lawful two chain_entries chain_calls refl
 
 abbrev pool_spent_calls : List Called
 pool_spent_calls =
-    done 0 0 (call.Update 0 7) 0 1 (answer.Applied 24) (Some (note.Wrote 0)) ∷ done 0 1 (call.Update 0 8) 1 1 (answer.Refused refused.PoolSpent) None ∷ done 0 2 (call.Update 1 9) 1 1 (answer.Refused refused.PoolSpent) None ∷ done 0 3 (call.Read 0) 1 1 (answer.Read 7 24) (Some (note.Saw 1)) ∷ []
+    done 0 0 (call.Update 0 7) 0 1 (answer.Applied 24) (Some (note.Wrote 0)) ∷ done 0 1 (call.Update 0 8) 1 1 (answer.Refused refused.PoolSpent) None ∷
+    done 0 2 (call.Update 1 9) 1 1 (answer.Refused refused.PoolSpent) None ∷ done 0 3 (call.Read 0) 1 1 (answer.Read 7 24) (Some (note.Saw 1)) ∷ []
 
 pool_spent : LegalOutcome two (entry 0 0 7 24 ∷ []) pool_spent_calls
 unfolding last_from
@@ -146,14 +150,16 @@ stopped_joiner = lawful two (entry 1 0 7 26 ∷ []) stopped_joiner_calls refl
 
 abbrev conditional_calls : List Called
 conditional_calls =
-    done 0 0 (call.UpdateIf 0 18 7) 0 1 (answer.Applied 24) (Some (note.Wrote 0)) ∷ done 0 1 (call.UpdateIf 0 18 8) 1 1 (answer.Changed 24) (Some (note.Saw 1)) ∷ done 0 2 (call.UpdateIf 0 24 9) 1 2 (answer.Applied 27) (Some (note.Wrote 1)) ∷ []
+    done 0 0 (call.UpdateIf 0 18 7) 0 1 (answer.Applied 24) (Some (note.Wrote 0)) ∷ done 0 1 (call.UpdateIf 0 18 8) 1 1 (answer.Changed 24) (Some (note.Saw 1)) ∷ done 0 2 (call.UpdateIf 0 24 9) 1 2
+    (answer.Applied 27) (Some (note.Wrote 1)) ∷ []
 
 conditional : LegalOutcome two (entry 0 0 7 24 ∷ entry 0 0 9 27 ∷ []) conditional_calls
 unfolding last_from
 conditional = lawful two (entry 0 0 7 24 ∷ entry 0 0 9 27 ∷ []) conditional_calls refl
 
 abbrev greatest_value_calls : List Called
-greatest_value_calls = done 0 0 (call.Update 1 18446744073709551615) 0 1 (answer.Applied 24) (Some (note.Wrote 0)) ∷ done 0 1 (call.Read 1) 1 1 (answer.Read 18446744073709551615 24) (Some (note.Saw 1)) ∷ []
+greatest_value_calls = done 0 0 (call.Update 1 18446744073709551615) 0 1 (answer.Applied 24) (Some (note.Wrote 0)) ∷ done 0 1 (call.Read 1) 1 1 (answer.Read 18446744073709551615 24)
+    (Some (note.Saw 1)) ∷ []
 
 greatest_value : LegalOutcome two (entry 0 1 18446744073709551615 24 ∷ []) greatest_value_calls
 unfolding last_from

@@ -29,7 +29,8 @@ are_distinct (e ∷ h) = not (list_any (λ f. e.stamp == f.stamp) h) && are_dist
 
 -- `IsHistory`
 abbrev pub is_history : Opening → List Applied → Bool
-is_history o h = list_all (λ e. nat_lt e.component (length o.values)) h && are_distinct h && not (list_any (λ e. is_initial o (length o.values) e.stamp) h)
+is_history o h = list_all (λ e. nat_lt e.component (length o.values)) h && are_distinct h && not
+    (list_any (λ e. is_initial o (length o.values) e.stamp) h)
 
 -- `NamesComponents`
 abbrev pub names_components : ℕ → List ℕ → Bool
@@ -57,7 +58,8 @@ may_be_refused m c refused.PoolSpent = names_components m (indices_of c) && clai
 
 -- the entry at place k is that one
 abbrev pub stands_at : List Applied → ℕ → Applied → Bool
-stands_at h k a = option_map_or (λ e. (e.port == a.port) && (e.component == a.component) && (e.value == a.value) && (e.stamp == a.stamp)) (slice_get h k) false
+stands_at h k a = option_map_or (λ e. (e.port == a.port) && (e.component == a.component) && (e.value == a.value) &&
+    (e.stamp == a.stamp)) (slice_get h k) false
 
 -- `IsEntryFor`
 abbrev pub is_entry_for : List Applied → ℕ → ℕ → ℕ → Bool
@@ -80,16 +82,21 @@ shows_stamp js t h = list_any (λ e. (e.stamp == t) && list_any (λ j. j == e.co
 
 -- `SawTogether`
 abbrev pub saw_together : Opening → List Applied → List ℕ → List ℕ → ℕ → Option ℕ → ℕ → Bool
-saw_together o h js vs c b n = nat_le n (length h) && hold (value_of o (take n h)) js vs && are_collects (length js) c b && option_map_or (λ t. shows_stamp js t (drop n h)) b true
+saw_together o h js vs c b n = nat_le n (length h) && hold (value_of o (take n h)) js vs && are_collects (length js) c b && option_map_or
+    (λ t. shows_stamp js t (drop n h)) b true
 
 -- `Fits` and `IsTrueOf` of an answer with a note
 abbrev pub is_right : Opening → List Applied → ℕ → Call → Answer → Note → Bool
-is_right o h p (call.Update j v) (answer.Applied s) (note.Wrote k) = nat_lt j (length o.values) && stands_at h k (record { port = p; component = j; value = v; stamp = s })
+is_right o h p (call.Update j v) (answer.Applied s) (note.Wrote k) = nat_lt j (length o.values) && stands_at h k
+    (record { port = p; component = j; value = v; stamp = s })
 is_right o h p (call.Update j v) (answer.Lost by) (note.Lost k) = nat_lt j (length o.values) && is_entry_for h k j by
 is_right o h p (call.Scan js) (answer.Scanned vs c b) (note.Saw n) = names_components (length o.values) js && saw_together o h js vs c b n
-is_right o h p (call.Read j) (answer.Read v s) (note.Saw n) = nat_lt j (length o.values) && nat_le n (length h) && (value_of o (take n h) j == v) && (stamp_of o (take n h) j == s)
-is_right o h p (call.UpdateIf j x v) (answer.Applied s) (note.Wrote k) = nat_lt j (length o.values) && stands_at h k (record { port = p; component = j; value = v; stamp = s }) && (stamp_of o (take k h) j == x)
-is_right o h p (call.UpdateIf j x v) (answer.Changed t) (note.Saw n) = nat_lt j (length o.values) && nat_le n (length h) && (stamp_of o (take n h) j == t) && not (t == x)
+is_right o h p (call.Read j) (answer.Read v s) (note.Saw n) = nat_lt j (length o.values) && nat_le n (length h) &&
+    (value_of o (take n h) j == v) && (stamp_of o (take n h) j == s)
+is_right o h p (call.UpdateIf j x v) (answer.Applied s) (note.Wrote k) = nat_lt j (length o.values) && stands_at h k
+    (record { port = p; component = j; value = v; stamp = s }) && (stamp_of o (take k h) j == x)
+is_right o h p (call.UpdateIf j x v) (answer.Changed t) (note.Saw n) = nat_lt j (length o.values) && nat_le n (length h) &&
+    (stamp_of o (take n h) j == t) && not (t == x)
 is_right o h p _ _ _ = false
 
 -- `Fits` of an answer without a note
@@ -114,7 +121,8 @@ seen_behind seen (Some f) = seen_after seen f.note
 -- the notes of the calls are legal, where port q had seen so many entries before and no other port has
 abbrev pub notes_are_legal : Opening → List Applied → ℕ → ℕ → List Called → Bool
 notes_are_legal o h q seen [] = true
-notes_are_legal o h q seen (c ∷ cs) = let before = if c.port == q then seen else 0 in call_is_legal o h before c && notes_are_legal o h c.port (seen_behind before c.finish) cs
+notes_are_legal o h q seen (c ∷ cs) = let before = if c.port == q then seen else 0 in call_is_legal o h before c && notes_are_legal o h
+    c.port (seen_behind before c.finish) cs
 
 -- the places of the entries by port p, from place k on
 abbrev pub places_from : List Applied → ℕ → ℕ → List ℕ
@@ -155,16 +163,19 @@ to_claim h q places p = if p == q then places else places_by p 0 h
 -- The calls claim these places of port q, and all places of the ports above it.
 abbrev pub claim_all : List Applied → ℕ → List ℕ → List Called → Bool
 claim_all h q places [] = is_spent places && none_above q h
-claim_all h q places (c ∷ cs) = may_go_on h q places c.port && option_map_or (λ left. claim_all h c.port left cs) (taken (to_claim h q places c.port) (claim_of c.finish)) false
+claim_all h q places (c ∷ cs) = may_go_on h q places c.port && option_map_or (λ left. claim_all h c.port left cs)
+    (taken (to_claim h q places c.port) (claim_of c.finish)) false
 
 -- `Follows`
 abbrev pub follows : Option Called → Called → Bool
 follows None c = c.number == 0
-follows (Some b) c = (nat_lt b.port c.port && (c.number == 0)) || ((c.port == b.port) && (c.number == b.number + 1) && option_map_or (λ f. nat_le f.ended c.began) b.finish false)
+follows (Some b) c = (nat_lt b.port c.port && (c.number == 0)) ||
+    ((c.port == b.port) && (c.number == b.number + 1) && option_map_or (λ f. nat_le f.ended c.began) b.finish false)
 
 -- `IsInTime` of a finish
 abbrev pub ends_in_time : ℕ → ℕ → Finish → Bool
-ends_in_time n began f = nat_le began f.ended && nat_le f.ended n && option_map_or (λ note. nat_le began (place_of note) && nat_le (shown_by note) f.ended) f.note true
+ends_in_time n began f = nat_le began f.ended && nat_le f.ended n && option_map_or
+    (λ note. nat_le began (place_of note) && nat_le (shown_by note) f.ended) f.note true
 
 -- `IsInTime`
 abbrev pub is_in_time : ℕ → Called → Bool
@@ -177,4 +188,5 @@ are_in_time n before (c ∷ cs) = follows before c && is_in_time n c && are_in_t
 
 -- `LegalOutcome`
 abbrev pub is_legal_outcome : Opening → List Applied → List Called → Bool
-is_legal_outcome o h calls = is_history o h && are_in_time (length h) None calls && notes_are_legal o h 0 0 calls && claim_all h 0 (places_by 0 0 h) calls
+is_legal_outcome o h calls = is_history o h && are_in_time (length h) None calls && notes_are_legal o h 0 0 calls && claim_all h 0
+    (places_by 0 0 h) calls

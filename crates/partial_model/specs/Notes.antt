@@ -90,17 +90,20 @@ pub record SawTogether (o : Opening) (h : List Applied) (js vs : List ℕ) (c : 
 
 -- what the answer and note of a call of port p say of the history h
 abbrev pub IsTrueOf : Opening → List Applied → ℕ → Call → Answer → Note → Type 0
-IsTrueOf o h p (call.Update j v) (answer.Applied s) (note.Wrote k) = slice_get h k ≡ Some (record { port = p; component = j; value = v; stamp = s })
+IsTrueOf o h p (call.Update j v) (answer.Applied s) (note.Wrote k) =
+    slice_get h k ≡ Some (record { port = p; component = j; value = v; stamp = s })
 IsTrueOf o h p (call.Update j v) (answer.Lost by) (note.Lost k) = IsEntryFor h k j by
 IsTrueOf o h p (call.Scan js) (answer.Scanned vs c b) (note.Saw n) = SawTogether o h js vs c b n
 IsTrueOf o h p (call.Read j) (answer.Read v s) (note.Saw n) = (n ≤ length h) × (v ≡ value_of o (take n h) j) × (s ≡ stamp_of o (take n h) j)
-IsTrueOf o h p (call.UpdateIf j x v) (answer.Applied s) (note.Wrote k) = (slice_get h k ≡ Some (record { port = p; component = j; value = v; stamp = s })) × (stamp_of o (take k h) j ≡ x)
+IsTrueOf o h p (call.UpdateIf j x v) (answer.Applied s) (note.Wrote k) =
+    (slice_get h k ≡ Some (record { port = p; component = j; value = v; stamp = s })) × (stamp_of o (take k h) j ≡ x)
 IsTrueOf o h p (call.UpdateIf j x v) (answer.Changed t) (note.Saw n) = (n ≤ length h) × (stamp_of o (take n h) j ≡ t) × (t ≢ x)
 IsTrueOf o h p _ _ _ = ⊥
 
 -- the triple fits, and its note is true of the history and lies behind all that was seen before
 abbrev pub IsLegal : Opening → List Applied → ℕ → ℕ → Noted → Type 0
-IsLegal o h p seen n = Fits (length o.values) n.call n.answer n.note × IfSome n.note (λ note. IsTrueOf o h p n.call n.answer note × (seen ≤ place_of note))
+IsLegal o h p seen n = Fits (length o.values) n.call n.answer n.note ×
+    IfSome n.note (λ note. IsTrueOf o h p n.call n.answer note × (seen ≤ place_of note))
 
 -- how many entries a port has seen once a call is noted
 abbrev pub seen_after : ℕ → Option Note → ℕ

@@ -40,11 +40,13 @@ EachOnce h p ns = places_by p 0 h ≡ places_written ns
 -- once the one before has ended, and the ports rise.
 abbrev pub Follows : Option Called → Called → Type 0
 Follows None c = c.number ≡ 0
-Follows (Some b) c = ((b.port < c.port) × (c.number ≡ 0)) ⊎ ((c.port ≡ b.port) × (c.number ≡ b.number + 1) × IsSomeAnd b.finish (λ f. f.ended ≤ c.began))
+Follows (Some b) c = ((b.port < c.port) × (c.number ≡ 0)) ⊎
+    ((c.port ≡ b.port) × (c.number ≡ b.number + 1) × IsSomeAnd b.finish (λ f. f.ended ≤ c.began))
 
 -- a call begins, has its place and ends in this order, while the history has at most n entries
 abbrev pub IsInTime : ℕ → Called → Type 0
-IsInTime n c = (c.began ≤ n) × IfSome c.finish (λ f. (c.began ≤ f.ended) × (f.ended ≤ n) × IfSome f.note (λ note. (c.began ≤ place_of note) × (shown_by note ≤ f.ended)))
+IsInTime n c = (c.began ≤ n) × IfSome c.finish (λ f. (c.began ≤ f.ended) × (f.ended ≤ n) ×
+    IfSome f.note (λ note. (c.began ≤ place_of note) × (shown_by note ≤ f.ended)))
 
 -- the calls behind that one, in a history of n entries
 abbrev pub RealTime : ℕ → Option Called → List Called → Type 0

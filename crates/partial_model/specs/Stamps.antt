@@ -11,7 +11,8 @@ HasThen o h j n stamp value = (stamp_of o (take n h) j ≡ stamp) × (value_of o
 
 -- a component with one stamp at two lengths of a history has that stamp and that value at each length between
 abbrev pub StampsNeverReturn : Type 0
-StampsNeverReturn = (o : Opening) (h : List Applied) (j a b n : ℕ) → IsHistory o h → j < length o.values → a ≤ n → n ≤ b → stamp_of o (take a h) j ≡ stamp_of o (take b h) j → HasThen o h j n (stamp_of o (take a h) j) (value_of o (take a h) j)
+StampsNeverReturn = (o : Opening) (h : List Applied) (j a b n : ℕ) → IsHistory o h → j < length o.values → a ≤ n → n ≤ b →
+    stamp_of o (take a h) j ≡ stamp_of o (take b h) j → HasThen o h j n (stamp_of o (take a h) j) (value_of o (take a h) j)
 
 -- two loads of a component at two lengths of the history, that both gave this stamp
 pub record Twice : Type 0 where
@@ -30,4 +31,5 @@ pub record IsRound (o : Opening) (h : List Applied) (n : ℕ) (l : Twice) : Type
 
 -- two equal collects, one before and one behind a length of the history, gave the stamps that stood together then
 abbrev pub EqualCollectsStandTogether : Type 0
-EqualCollectsStandTogether = (o : Opening) (h : List Applied) (n : ℕ) (ls : List Twice) → IsHistory o h → AllByRecursion (IsRound o h n) ls → map (λ l. l.stamp) ls ≡ map (λ l. stamp_of o (take n h) l.component) ls
+EqualCollectsStandTogether = (o : Opening) (h : List Applied) (n : ℕ) (ls : List Twice) → IsHistory o h →
+    AllByRecursion (IsRound o h n) ls → map (λ l. l.stamp) ls ≡ map (λ l. stamp_of o (take n h) l.component) ls

@@ -25,7 +25,8 @@ now_is_after o words h j agrees below =
     ap (value_of words) ((agrees j below).0 ∙ ap (λ (l : List Applied). stamp_of o l j) (sym whole)) ∙ value_behind_stamp o words h j (length h) agrees below
 
 -- behind the stamp before an entry stands the value that its component had before it
-pub value_before : (o : Opening) (words : List ℕ) (h : List Applied) (k : ℕ) (e : Applied) → Agrees o words h → e.component < length o.values → slice_get h k ≡ Some e → value_of words (prev_of words e.stamp) ≡ values_after o h k e.component
+pub value_before : (o : Opening) (words : List ℕ) (h : List Applied) (k : ℕ) (e : Applied) → Agrees o words h → e.component < length o.values → slice_get h k ≡ Some e →
+    value_of words (prev_of words e.stamp) ≡ values_after o h k e.component
 value_before o words h k e agrees below stands =
     ap (value_of words) (prev_before_entry o words h k e agrees below stands) ∙ value_behind_stamp o words h e.component k agrees below
 
@@ -39,7 +40,8 @@ value_beside o h k j e stands other =
     ap (λ (found : Option Applied). option_map_or (λ (x : Applied). x.value) found (get_or o.values j 0)) (passed ∙ ap (λ n. last_entry j (take n h)) back)
 
 -- the marks at one place less
-marks_at : (w : Option ℕ) (wanted : List (Option ℕ)) (marks : List Bool) (c x : ℕ) (after before : ℕ → ℕ) → get_or wanted c None ≡ w → c < length marks → ((v : ℕ) → w ≡ Some v → x ≡ before c) → ((j : ℕ) → j ≢ c → after j ≡ before j) → AreMarked wanted marks after → AreMarked wanted (marks_before w marks c x) before
+marks_at : (w : Option ℕ) (wanted : List (Option ℕ)) (marks : List Bool) (c x : ℕ) (after before : ℕ → ℕ) → get_or wanted c None ≡ w → c < length marks → ((v : ℕ) → w ≡ Some v → x ≡ before c) →
+    ((j : ℕ) → j ≢ c → after j ≡ before j) → AreMarked wanted marks after → AreMarked wanted (marks_before w marks c x) before
 marks_at None wanted marks c x after before is within own others marked = λ j. elim (cases_eq j c) [
   | inl here ↦
       let none : get_or wanted j None ≡ None = ap (λ n. get_or wanted n None) here ∙ is in
@@ -50,7 +52,8 @@ marks_at (Some v) wanted marks c x after before is within own others marked = λ
   | inl here ↦
       let wants : get_or wanted j None ≡ Some v = ap (λ n. get_or wanted n None) here ∙ is in
       let value : x ≡ before j = own v refl ∙ ap before (sym here) in
-      ap (λ n. get_or (set marks c (not (v == x))) n false) here ∙ get_or-set_same marks c (not (v == x)) false within ∙ ap (λ n. not (v == n)) value ∙ sym (ap (λ (w : Option ℕ). differs w (before j)) wants)
+      ap (λ n. get_or (set marks c (not (v == x))) n false) here ∙ get_or-set_same marks c (not (v == x)) false within ∙ ap (λ n. not (v == n)) value ∙
+      sym (ap (λ (w : Option ℕ). differs w (before j)) wants)
   | inr other ↦ get_or-set_other marks c j (not (v == x)) false other ∙ marked j ∙ ap (differs (get_or wanted j None)) (others j other)
 ]
 
@@ -124,9 +127,11 @@ pub record IsSearched (o : Opening) (wanted : List (Option ℕ)) (marks : List B
   pub marked : AreMarked wanted marks (values_after o h place)
   pub found : IsFoundFrom (λ n. AllHave wanted (values_after o h n)) place (length h) least
 
-searched_at_end : (o : Opening) (wanted : List (Option ℕ)) (marks : List Bool) (words : List ℕ) (h : List Applied) (place : ℕ) → Agrees o words h → AreComponents o wanted → AreMarked wanted marks (values_now words) → place ≡ length h → IsSearched o wanted marks h place (length h)
+searched_at_end : (o : Opening) (wanted : List (Option ℕ)) (marks : List Bool) (words : List ℕ) (h : List Applied) (place : ℕ) → Agrees o words h → AreComponents o wanted →
+    AreMarked wanted marks (values_now words) → place ≡ length h → IsSearched o wanted marks h place (length h)
 searched_at_end o wanted marks words h place agrees below marked is = record {
-  marked = λ j. marked j ∙ same (get_or wanted j None) (values_now words j) (values_after o h place j) (λ v wants. now_is_after o words h j agrees (below j v wants) ∙ ap (λ n. values_after o h n j) (sym is));
+  marked = λ j. marked j ∙ same (get_or wanted j None) (values_now words j) (values_after o h place j)
+      (λ v wants. now_is_after o words h j agrees (below j v wants) ∙ ap (λ n. values_after o h n j) (sym is));
   found = found_at_end (λ n. AllHave wanted (values_after o h n)) place (length h) is;
 }
   where
@@ -134,28 +139,44 @@ searched_at_end o wanted marks words h place agrees below marked is = record {
     same None x y is = refl
     same (Some v) x y is = ap (λ n. not (v == n)) (is v refl)
 
-marked_back : (o : Opening) (wanted : List (Option ℕ)) (marks : List Bool) (words : List ℕ) (h : List Applied) (place least : ℕ) (e : Applied) → Agrees o words h → AreComponents o wanted → slice_get h place ≡ Some e → e.component < length marks → IsSearched o wanted marks h (place + 1) least → AreMarked wanted (marks_before (get_or wanted e.component None) marks e.component (value_of words (prev_of words e.stamp))) (values_after o h place)
+marked_back : (o : Opening) (wanted : List (Option ℕ)) (marks : List Bool) (words : List ℕ) (h : List Applied) (place least : ℕ) (e : Applied) → Agrees o words h → AreComponents o wanted →
+    slice_get h place ≡ Some e → e.component < length marks → IsSearched o wanted marks h (place + 1) least →
+    AreMarked wanted (marks_before (get_or wanted e.component None) marks e.component (value_of words (prev_of words e.stamp))) (values_after o h place)
 marked_back o wanted marks words h place least e agrees below stands within s =
-    marks_at (get_or wanted e.component None) wanted marks e.component (value_of words (prev_of words e.stamp)) (values_after o h (place + 1)) (values_after o h place) refl within (λ v wants. value_before o words h place e agrees (below e.component v wants) stands) (λ j other. value_beside o h place j e stands other) s.marked
+    marks_at (get_or wanted e.component None) wanted marks e.component (value_of words (prev_of words e.stamp)) (values_after o h (place + 1)) (values_after o h place) refl within
+    (λ v wants. value_before o words h place e agrees (below e.component v wants) stands) (λ j other. value_beside o h place j e stands other) s.marked
 
 -- where all have their values, the place is the least so far
-searched_here : (o : Opening) (wanted : List (Option ℕ)) (marks after : List Bool) (words : List ℕ) (h : List Applied) (place least : ℕ) (e : Applied) → Agrees o words h → AreComponents o wanted → slice_get h place ≡ Some e → e.component < length marks → after ≡ marks_before (get_or wanted e.component None) marks e.component (value_of words (prev_of words e.stamp)) → count_by (λ b. b) after ≡ 0 → IsSearched o wanted marks h (place + 1) least → IsSearched o wanted after h place place
+searched_here : (o : Opening) (wanted : List (Option ℕ)) (marks after : List Bool) (words : List ℕ) (h : List Applied) (place least : ℕ) (e : Applied) → Agrees o words h → AreComponents o wanted →
+    slice_get h place ≡ Some e → e.component < length marks → after ≡ marks_before (get_or wanted e.component None) marks e.component (value_of words (prev_of words e.stamp)) →
+    count_by (λ b. b) after ≡ 0 → IsSearched o wanted marks h (place + 1) least → IsSearched o wanted after h place place
 searched_here o wanted marks after words h place least e agrees below stands within is none s =
     let marked = subst (λ ms. AreMarked wanted ms (values_after o h place)) (sym is) (marked_back o wanted marks words h place least e agrees below stands within s) in
-    record { marked = marked; found = found_here (λ n. AllHave wanted (values_after o h n)) place (length h) (omega (arith, slice_get_within h place e stands)) (have_unmarked wanted after (values_after o h place) marked none) }
+    record {
+      marked = marked;
+      found = found_here (λ n. AllHave wanted (values_after o h n)) place (length h) (omega (arith, slice_get_within h place e stands))
+          (have_unmarked wanted after (values_after o h place) marked none);
+    }
 
 -- where some differ, it isn't
-searched_past : (o : Opening) (wanted : List (Option ℕ)) (marks after : List Bool) (words : List ℕ) (h : List Applied) (place least : ℕ) (e : Applied) → Agrees o words h → AreComponents o wanted → slice_get h place ≡ Some e → e.component < length marks → after ≡ marks_before (get_or wanted e.component None) marks e.component (value_of words (prev_of words e.stamp)) → count_by (λ b. b) after ≢ 0 → IsSearched o wanted marks h (place + 1) least → IsSearched o wanted after h place least
+searched_past : (o : Opening) (wanted : List (Option ℕ)) (marks after : List Bool) (words : List ℕ) (h : List Applied) (place least : ℕ) (e : Applied) → Agrees o words h → AreComponents o wanted →
+    slice_get h place ≡ Some e → e.component < length marks → after ≡ marks_before (get_or wanted e.component None) marks e.component (value_of words (prev_of words e.stamp)) →
+    count_by (λ b. b) after ≢ 0 → IsSearched o wanted marks h (place + 1) least → IsSearched o wanted after h place least
 searched_past o wanted marks after words h place least e agrees below stands within is some s =
     let marked = subst (λ ms. AreMarked wanted ms (values_after o h place)) (sym is) (marked_back o wanted marks words h place least e agrees below stands within s) in
-    record { marked = marked; found = found_later (λ n. AllHave wanted (values_after o h n)) place (length h) least (λ all. some (unmarked_have wanted after (values_after o h place) marked all)) s.found }
+    record {
+      marked = marked;
+      found = found_later (λ n. AllHave wanted (values_after o h n)) place (length h) least
+          (λ all. some (unmarked_have wanted after (values_after o h place) marked all)) s.found;
+    }
 
 -- an entry taken back leaves the room, and the marks of what isn't wanted
 length_before : (w : Option ℕ) (marks : List Bool) (c x : ℕ) → length (marks_before w marks c x) ≡ length marks
 length_before None marks c x = refl
 length_before (Some v) marks c x = length-set marks c (not (v == x))
 
-others_before : (w : Option ℕ) (wanted : List (Option ℕ)) (marks : List Bool) (c x j : ℕ) → get_or wanted c None ≡ w → get_or wanted j None ≡ None → get_or (marks_before w marks c x) j false ≡ get_or marks j false
+others_before : (w : Option ℕ) (wanted : List (Option ℕ)) (marks : List Bool) (c x j : ℕ) → get_or wanted c None ≡ w → get_or wanted j None ≡ None →
+    get_or (marks_before w marks c x) j false ≡ get_or marks j false
 others_before None wanted marks c x j is none = refl
 others_before (Some v) wanted marks c x j is none =
     get_or-set_other marks c j (not (v == x)) false (λ same. let bad : None ≡ Some v = sym none ∙ ap (λ n. get_or wanted n None) same ∙ is in cc)
@@ -176,10 +197,14 @@ walked_at_end wanted first words h began = record {
 }
 
 -- one entry more is taken back, and the least place is its own where none differs now
-pub walked_back : (wanted : List (Option ℕ)) (first marks after : List Bool) (words : List ℕ) (h : List Applied) (began place before least next : ℕ) (e : Applied) → slice_get h before ≡ Some e → place ≡ before + 1 → began ≤ before → length wanted ≡ length first → e.component < length wanted → after ≡ marks_before (get_or wanted e.component None) marks e.component (value_of words (prev_of words e.stamp)) → ((count_by (λ b. b) after ≡ 0) × (next ≡ before)) ⊎ ((count_by (λ b. b) after ≢ 0) × (next ≡ least)) → IsWalked wanted first marks words h began place least → IsWalked wanted first after words h began before next
+pub walked_back : (wanted : List (Option ℕ)) (first marks after : List Bool) (words : List ℕ) (h : List Applied) (began place before least next : ℕ) (e : Applied) → slice_get h before ≡ Some e →
+    place ≡ before + 1 → began ≤ before → length wanted ≡ length first → e.component < length wanted → after ≡ marks_before (get_or wanted e.component None) marks e.component
+    (value_of words (prev_of words e.stamp)) → ((count_by (λ b. b) after ≡ 0) × (next ≡ before)) ⊎ ((count_by (λ b. b) after ≢ 0) × (next ≡ least)) →
+    IsWalked wanted first marks words h began place least → IsWalked wanted first after words h began before next
 walked_back wanted first marks after words h began place before least next e stands at from rooms component taken which w = record {
   room = ap length taken ∙ length_before (get_or wanted e.component None) marks e.component (value_of words (prev_of words e.stamp)) ∙ w.room;
-  others = λ j is. ap (λ (ms : List Bool). get_or ms j false) taken ∙ others_before (get_or wanted e.component None) wanted marks e.component (value_of words (prev_of words e.stamp)) j refl is ∙ w.others j is;
+  others = λ j is. ap (λ (ms : List Bool). get_or ms j false) taken ∙ others_before (get_or wanted e.component None) wanted marks e.component (value_of words (prev_of words e.stamp)) j
+      refl is ∙ w.others j is;
   behind = λ _. from;
   searched = λ o behind agrees below marked.
       let within : e.component < length marks = omega (arith, component, rooms, w.room) in
@@ -191,7 +216,8 @@ walked_back wanted first marks after words h began place before least next e sta
 }
 
 -- one position more
-pub wanted_more : (wanted : List (Option ℕ)) (components values : List ℕ) (k c v : ℕ) → get_or components k 0 ≡ c → get_or values k 0 ≡ v → c < length wanted → AreWanted wanted components values k → AreWanted (set wanted c (Some v)) components values (k + 1)
+pub wanted_more : (wanted : List (Option ℕ)) (components values : List ℕ) (k c v : ℕ) → get_or components k 0 ≡ c → get_or values k 0 ≡ v → c < length wanted → AreWanted wanted components values k →
+    AreWanted (set wanted c (Some v)) components values (k + 1)
 wanted_more wanted components values k c v component value within w = record {
   each = λ i below. elim (cases_eq (get_or components i 0) c) [
     | inl here ↦ (v, ap (λ n. get_or (set wanted c (Some v)) n None) here ∙ get_or-set_same wanted c (Some v) None within)
@@ -210,7 +236,8 @@ wanted_more wanted components values k c v component value within w = record {
   ];
 }
 
-marked_set : (wanted : List (Option ℕ)) (marks : List Bool) (value : ℕ → ℕ) (c v : ℕ) → c < length wanted → c < length marks → AreMarked wanted marks value → AreMarked (set wanted c (Some v)) (set marks c (not (v == value c))) value
+marked_set : (wanted : List (Option ℕ)) (marks : List Bool) (value : ℕ → ℕ) (c v : ℕ) → c < length wanted → c < length marks → AreMarked wanted marks value →
+    AreMarked (set wanted c (Some v)) (set marks c (not (v == value c))) value
 marked_set wanted marks value c v within room marked = λ j. elim (cases_eq j c) [
   | inl here ↦
       ap (λ n. get_or (set marks c (not (v == value c))) n false) here ∙ get_or-set_same marks c (not (v == value c)) false room ∙ ap (λ n. not (v == value n)) (sym here)
@@ -219,7 +246,8 @@ marked_set wanted marks value c v within room marked = λ j. elim (cases_eq j c)
       get_or-set_other marks c j (not (v == value c)) false other ∙ marked j ∙ ap (λ (w : Option ℕ). differs w (value j)) (sym (get_or-set_other wanted c j (Some v) None other))
 ]
 
-pub marked_more : (wanted : List (Option ℕ)) (marks after : List Bool) (value : ℕ → ℕ) (c v x : ℕ) → after ≡ set marks c (not (v == x)) → x ≡ value c → c < length wanted → c < length marks → AreMarked wanted marks value → AreMarked (set wanted c (Some v)) after value
+pub marked_more : (wanted : List (Option ℕ)) (marks after : List Bool) (value : ℕ → ℕ) (c v x : ℕ) → after ≡ set marks c (not (v == x)) → x ≡ value c → c < length wanted → c < length marks →
+    AreMarked wanted marks value → AreMarked (set wanted c (Some v)) after value
 marked_more wanted marks after value c v x is now within room marked =
     subst (λ (ms : List Bool). AreMarked (set wanted c (Some v)) ms value) (sym (is ∙ ap (λ n. set marks c (not (v == n))) now)) (marked_set wanted marks value c v within room marked)
 
@@ -229,13 +257,15 @@ have_shown wanted components values f w shown j v wants =
     let at = w.only j v wants in
     sym at.3 ∙ ap (λ (l : List ℕ). get_or l at.0 0) shown ∙ get_or-map f components at.0 0 0 at.1 ∙ ap f at.2
 
-pub shown_have : (wanted : List (Option ℕ)) (components values : List ℕ) (f g : ℕ → ℕ) → AreWanted wanted components values (length components) → values ≡ map g components → AllHave wanted f → values ≡ map f components
+pub shown_have : (wanted : List (Option ℕ)) (components values : List ℕ) (f g : ℕ → ℕ) → AreWanted wanted components values (length components) → values ≡ map g components → AllHave wanted f →
+    values ≡ map f components
 shown_have wanted components values f g w shown all =
     same_number_lists values (map f components) (ap length shown ∙ length-map components g ∙ sym (length-map components f)) (λ k below.
     let within : k < length components = omega (arith, below, ap length shown, length-map components g) in
     let j = get_or components k 0 in
     let is = w.each k within in
-    ap (λ (l : List ℕ). get_or l k 0) shown ∙ get_or-map g components k 0 0 within ∙ sym (have_shown wanted components values g w shown j is.0 is.1) ∙ all j is.0 is.1 ∙ sym (get_or-map f components k 0 0 within))
+    ap (λ (l : List ℕ). get_or l k 0) shown ∙ get_or-map g components k 0 0 within ∙ sym (have_shown wanted components values g w shown j is.0 is.1) ∙ all j is.0 is.1 ∙
+    sym (get_or-map f components k 0 0 within))
 
 -- one position less
 pub left_less : (wanted : List (Option ℕ)) (components : List ℕ) (k c : ℕ) → get_or components k 0 ≡ c → c < length wanted → IsLeft wanted components k → IsLeft (set wanted c None) components (k + 1)
@@ -256,7 +286,8 @@ marks_less wanted marks c room of j none = elim (cases_eq j c) [
 ]
 
 -- at the end nothing is left
-pub nothing_left : (wanted : List (Option ℕ)) (marks : List Bool) (components : List ℕ) (k : ℕ) → length components ≤ k → length wanted ≡ length marks → IsLeft wanted components k → AreMarksOf wanted marks → IsEmpty wanted marks
+pub nothing_left : (wanted : List (Option ℕ)) (marks : List Bool) (components : List ℕ) (k : ℕ) → length components ≤ k → length wanted ≡ length marks → IsLeft wanted components k →
+    AreMarksOf wanted marks → IsEmpty wanted marks
 nothing_left wanted marks components k end room left of =
     let none : (j : ℕ) → get_or wanted j None ≡ None = λ j. no (get_or wanted j None) j refl in
     record { room = room; none = none; clear = λ j. of j (none j) }
@@ -266,7 +297,8 @@ nothing_left wanted marks components k end room left of =
     no (Some v) j is = let at = left j v is in absurd (omega (arith, at.1, at.2, end))
 
 -- what the search for a scan's place finds is the least place that shows its values
-pub least_shown : (o : Opening) (h : List Applied) (wanted : List (Option ℕ)) (components values : List ℕ) (began shown least : ℕ) → AreWanted wanted components values (length components) → ShowsValues o h components values shown → IsLeast (λ n. AllHave wanted (values_after o h n)) began (length h) least → IsLeast (ShowsValues o h components values) began (length h) least
+pub least_shown : (o : Opening) (h : List Applied) (wanted : List (Option ℕ)) (components values : List ℕ) (began shown least : ℕ) → AreWanted wanted components values (length components) →
+    ShowsValues o h components values shown → IsLeast (λ n. AllHave wanted (values_after o h n)) began (length h) least → IsLeast (ShowsValues o h components values) began (length h) least
 least_shown o h wanted components values began shown least w shows l = record {
   behind = l.behind;
   within = l.within;
@@ -289,18 +321,22 @@ position_below (x ∷ xs) n zero all within = all.0
 position_below (x ∷ xs) n (suc k) all within = position_below xs n k all.1 (omega (arith, within))
 
 -- what is wanted are components
-pub wanted_below : (o : Opening) (wanted : List (Option ℕ)) (components values : List ℕ) → AllByRecursion (λ j. j < length o.values) components → AreWanted wanted components values (length components) → AreComponents o wanted
+pub wanted_below : (o : Opening) (wanted : List (Option ℕ)) (components values : List ℕ) → AllByRecursion (λ j. j < length o.values) components → AreWanted wanted components values
+    (length components) → AreComponents o wanted
 wanted_below o wanted components values below w j v wants =
     let at = w.only j v wants in
     subst (λ n. n < length o.values) at.2 (position_below components (length o.values) at.0 below at.1)
 
 -- where the records of the history and the initial ones lie within the words, so does all that the search reads
-pub has_records : (o : Opening) (words : List ℕ) (h : List Applied) → Agrees o words h → AllByRecursion (λ (e : Applied). e.stamp + 1 < length words) h → ((j : ℕ) → j < length o.values → initial_stamp o j + 1 < length words) → HasRecords words (length o.values)
+pub has_records : (o : Opening) (words : List ℕ) (h : List Applied) → Agrees o words h → AllByRecursion (λ (e : Applied). e.stamp + 1 < length words) h →
+    ((j : ℕ) → j < length o.values → initial_stamp o j + 1 < length words) → HasRecords words (length o.values)
 has_records o words h agrees own first j below =
     let within = stamp_all (λ n. n + 1 < length words) o j h own (first j below) in
     (omega (arith, first j below), omega (arith, (agrees j below).0, within))
 
-pub has_record : (o : Opening) (words : List ℕ) (h : List Applied) → Agrees o words h → AllByRecursion (λ (e : Applied). e.stamp + 1 < length words) h → AllByRecursion (λ (e : Applied). e.component < length o.values) h → ((j : ℕ) → j < length o.values → initial_stamp o j + 1 < length words) → (k : ℕ) (e : Applied) → slice_get h k ≡ Some e → HasRecord words (length o.values) e
+pub has_record : (o : Opening) (words : List ℕ) (h : List Applied) → Agrees o words h → AllByRecursion (λ (e : Applied). e.stamp + 1 < length words) h →
+    AllByRecursion (λ (e : Applied). e.component < length o.values) h → ((j : ℕ) → j < length o.values → initial_stamp o j + 1 < length words) → (k : ℕ) (e : Applied) → slice_get h k ≡ Some e →
+    HasRecord words (length o.values) e
 has_record o words h agrees own components first k e stands =
     let below : e.component < length o.values = AllByRecursion-get (λ (f : Applied). f.component < length o.values) h k e components stands in
     let at : e.stamp + 1 < length words = AllByRecursion-get (λ (f : Applied). f.stamp + 1 < length words) h k e own stands in

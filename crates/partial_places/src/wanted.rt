@@ -86,7 +86,8 @@ fn want(
 fn take_back(wanted: &[Option<u64>], differing: &mut Marks, words: &[u64], entry: Applied)
     requires room { length wanted.now ≡ length differing.old }
     requires record { HasRecord words.now (length wanted.now) entry }
-    ensures { differing.new ≡ marks_before (slice_index_or wanted.now entry.component None) differing.old entry.component (value_of words.now (prev_of words.now entry.stamp)) }
+    ensures { differing.new ≡ marks_before (slice_index_or wanted.now entry.component None) differing.old
+        entry.component (value_of words.now (prev_of words.now entry.stamp)) }
 {
     let component = entry.component as usize;
     if let Some(value) = wanted[component] {
@@ -105,9 +106,11 @@ fn least_prefix(
     began: usize,
 ) -> usize
     requires room { length wanted.now ≡ length differing.old }
-    requires entries { (k : ℕ) (e : Applied) → slice_get history.now k ≡ Some e → HasRecord words.now (length wanted.now) e }
+    requires entries { (k : ℕ) (e : Applied) → slice_get history.now k ≡ Some e →
+        HasRecord words.now (length wanted.now) e }
     ensures room { length differing.new ≡ length differing.old }
-    ensures others { (j : ℕ) → slice_index_or wanted.now j None ≡ None → slice_index_or differing.new j false ≡ slice_index_or differing.old j false }
+    ensures others { (j : ℕ) → slice_index_or wanted.now j None ≡ None →
+        slice_index_or differing.new j false ≡ slice_index_or differing.old j false }
     ensures least { (o : Opening) (shown : ℕ) → Agrees o words.now history.now → AreComponents o wanted.now
         → AreMarked wanted.now differing.old (values_now words.now) → began ≤ shown → shown ≤ length history.now
         → AllHave wanted.now (values_after o history.now shown)
@@ -191,7 +194,8 @@ impl Wanted {
         requires components { AllByRecursion (λ j. j < self.old) components.now }
         requires values { length values.now ≡ length components.now }
         ensures room { self.new ≡ self.old }
-        ensures least { (o : Opening) (shown : ℕ) → Agrees o words.now history.now → AllByRecursion (λ j. j < length o.values) components.now
+        ensures least { (o : Opening) (shown : ℕ) → Agrees o words.now history.now →
+            AllByRecursion (λ j. j < length o.values) components.now
             → began ≤ shown → shown ≤ length history.now → ShowsValues o history.now components.now values.now shown
             → IsLeast (ShowsValues o history.now components.now values.now) began (length history.now) result }
     {

@@ -89,20 +89,23 @@ AllByRecursion-above : (a b : ℕ) (ks : List ℕ) → a ≤ b → AllByRecursio
 AllByRecursion-above a b [] less w = tt
 AllByRecursion-above a b (k ∷ ks) less w = (let here = w.0 in omega (arith, less, here), AllByRecursion-above a b ks less w.1)
 
-claimed_from : (n low began : ℕ) (c : Call) (f : Option Finish) (rest : List Noted) → low ≤ began → InTime n began f → AllByRecursion (λ k. end_with low f ≤ k) (places_written rest) → AllByRecursion (λ k. low ≤ k) (places_written (cons_option (noted_with c f) rest))
+claimed_from : (n low began : ℕ) (c : Call) (f : Option Finish) (rest : List Noted) → low ≤ began → InTime n began f → AllByRecursion (λ k. end_with low f ≤ k) (places_written rest) →
+    AllByRecursion (λ k. low ≤ k) (places_written (cons_option (noted_with c f) rest))
 claimed_from n low began c None rest from time behind = behind
 claimed_from n low began c (Some g) rest from time behind =
     let here = time.0 in
     let tail = AllByRecursion-above low g.ended (places_written rest) (omega (arith, from, here)) behind in
     of g.note time.2 tail
   where
-    of : (a : Option Note) → IfSome a (λ note. (began ≤ place_of note) × (shown_by note ≤ g.ended)) → AllByRecursion (λ k. low ≤ k) (places_written rest) → AllByRecursion (λ k. low ≤ k) (wrote a ++ places_written rest)
+    of : (a : Option Note) → IfSome a (λ note. (began ≤ place_of note) × (shown_by note ≤ g.ended)) → AllByRecursion (λ k. low ≤ k) (places_written rest) →
+        AllByRecursion (λ k. low ≤ k) (wrote a ++ places_written rest)
     of None t tail = tail
     of (Some (note.Wrote k)) t tail = (let place = t.0 in omega (arith, from, place), tail)
     of (Some (note.Lost k)) t tail = tail
     of (Some (note.Saw k)) t tail = tail
 
-places_from : (n low : ℕ) (b : Option Called) (cs : List Called) → GoesFrom b low → AllByRecursion (λ (c : Called). c.port ≡ 0) cs → RealTime n b cs → AllByRecursion (λ k. low ≤ k) (places_written (filter_map noted_of cs))
+places_from : (n low : ℕ) (b : Option Called) (cs : List Called) → GoesFrom b low → AllByRecursion (λ (c : Called). c.port ≡ 0) cs → RealTime n b cs →
+    AllByRecursion (λ k. low ≤ k) (places_written (filter_map noted_of cs))
 places_from n low b [] goes zeros w = tt
 places_from n low b (c ∷ cs) goes zeros w =
     claimed_from n low c.began c.call c.finish (filter_map noted_of cs) (goes c zeros.0 w.0) w.1.1 (places_from n (end_with low c.finish) (Some c) cs (goes_next c low zeros.0) zeros.1 w.2)
@@ -113,10 +116,12 @@ reaches e low zero n ks is sum within all = omega (arith, sum, within)
 reaches e low (suc d) n ks is sum within all = (subst (AllByRecursion (λ k. e ≤ k)) is all).0
 
 -- what a call alone answers
-answers_alone : (o : Opening) (h : List Applied) (p m began ended : ℕ) (c : Call) (a : Answer) (n : Option Note) → Fits m c a n → IfSome n (IsTrueOf o h p c a) → AddsAlone began ended n → AnswersAlone o (take began h) c a
+answers_alone : (o : Opening) (h : List Applied) (p m began ended : ℕ) (c : Call) (a : Answer) (n : Option Note) → Fits m c a n → IfSome n (IsTrueOf o h p c a) → AddsAlone began ended n →
+    AnswersAlone o (take began h) c a
 answers_alone o h p m began ended (call.Update j v) (answer.Lost by) (Some (note.Lost k)) fits is alone = alone
 answers_alone o h p m began ended (call.Scan js) (answer.Scanned vs c b) (Some (note.Saw n)) fits is alone = is.values ∙ ap (λ i. map (λ j. value_of o (take i h) j) js) alone.0
-answers_alone o h p m began ended (call.Read j) (answer.Read v s) (Some (note.Saw n)) fits is alone = (is.1 ∙ ap (λ i. value_of o (take i h) j) alone.0, is.2 ∙ ap (λ i. stamp_of o (take i h) j) alone.0)
+answers_alone o h p m began ended (call.Read j) (answer.Read v s) (Some (note.Saw n)) fits is alone =
+    (is.1 ∙ ap (λ i. value_of o (take i h) j) alone.0, is.2 ∙ ap (λ i. stamp_of o (take i h) j) alone.0)
 answers_alone o h p m began ended (call.UpdateIf j x v) (answer.Applied s) (Some (note.Wrote k)) fits is alone = ap (λ i. stamp_of o (take i h) j) (sym alone.0) ∙ is.1
 answers_alone o h p m began ended (call.UpdateIf j x v) (answer.Changed t) (Some (note.Saw n)) fits is alone = (ap (λ i. stamp_of o (take i h) j) (sym alone.0) ∙ is.1, is.2)
 answers_alone o h p m began ended (call.Update j v) (answer.Applied s) n fits is alone = tt
@@ -133,7 +138,9 @@ record GoesAlone (o : Opening) (h : List Applied) (low n began : ℕ) (c : Call)
   legal : LegalNotes o h 0 later rest
 
 -- a call that adds no entry of its own
-adds_none : (o : Opening) (h : List Applied) (low n began ended d later : ℕ) (c : Call) (a : Answer) (b : Option Note) (rest : List Noted) → wrote b ≡ [] → low ≤ began → began ≤ ended → ended ≤ n → LegalNotes o h 0 later rest → places_written rest ≡ range_with_len low d → low + d ≡ n → AllByRecursion (λ k. ended ≤ k) (places_written rest) → (began ≡ ended → began ≡ low → AddsAlone began ended b × AnswersAlone o (take began h) c a) → GoesAlone o h low n began c (Some (record { ended = ended; answer = a; note = b })) rest
+adds_none : (o : Opening) (h : List Applied) (low n began ended d later : ℕ) (c : Call) (a : Answer) (b : Option Note) (rest : List Noted) → wrote b ≡ [] → low ≤ began → began ≤ ended → ended ≤ n →
+    LegalNotes o h 0 later rest → places_written rest ≡ range_with_len low d → low + d ≡ n → AllByRecursion (λ k. ended ≤ k) (places_written rest) →
+    (began ≡ ended → began ≡ low → AddsAlone began ended b × AnswersAlone o (take began h) c a) → GoesAlone o h low n began c (Some (record { ended = ended; answer = a; note = b })) rest
 adds_none o h low n began ended d later c a b rest none from time within legal places sum behind alone =
     let e = reaches ended low d n (places_written rest) places sum within behind in
     let same : low ≡ ended = omega (arith, from, time, e) in
@@ -147,7 +154,9 @@ adds_none o h low n began ended d later c a b rest none from time within legal p
     }
 
 -- a call that adds its own entry
-adds_own : (o : Opening) (h : List Applied) (low n began ended k d later : ℕ) (c : Call) (a : Answer) (rest : List Noted) → low ≤ began → began ≤ k → k + 1 ≤ ended → ended ≤ n → LegalNotes o h 0 later rest → k ∷ places_written rest ≡ range_with_len low d → low + d ≡ n → AllByRecursion (λ i. ended ≤ i) (places_written rest) → (AddsAlone began ended (Some (note.Wrote k)) → AnswersAlone o (take began h) c a) → GoesAlone o h low n began c (Some (record { ended = ended; answer = a; note = Some (note.Wrote k) })) rest
+adds_own : (o : Opening) (h : List Applied) (low n began ended k d later : ℕ) (c : Call) (a : Answer) (rest : List Noted) → low ≤ began → began ≤ k → k + 1 ≤ ended → ended ≤ n →
+    LegalNotes o h 0 later rest → k ∷ places_written rest ≡ range_with_len low d → low + d ≡ n → AllByRecursion (λ i. ended ≤ i) (places_written rest) →
+    (AddsAlone began ended (Some (note.Wrote k)) → AnswersAlone o (take began h) c a) → GoesAlone o h low n began c (Some (record { ended = ended; answer = a; note = Some (note.Wrote k) })) rest
 adds_own o h low n began ended k zero later c a rest from place shown within legal places sum behind alone = let bad : k ∷ places_written rest ≡ [] = places in cc
 adds_own o h low n began ended k (suc d) later c a rest from place shown within legal places sum behind alone =
     let both : k ∷ places_written rest ≡ low ∷ range_with_len (low + 1) d = places in
@@ -170,7 +179,10 @@ true_note : (o : Opening) (h : List Applied) (seen : ℕ) (c : Call) (a : Answer
 true_note o h seen c a None w = tt
 true_note o h seen c a (Some b) w = w.0
 
-goes_noted : (o : Opening) (h : List Applied) (low n began ended d seen : ℕ) (c : Call) (a : Answer) (b : Option Note) (rest : List Noted) → low ≤ began → began ≤ ended → ended ≤ n → IfSome b (λ note. (began ≤ place_of note) × (shown_by note ≤ ended)) → IsLegal o h 0 seen (record { call = c; answer = a; note = b }) → LegalNotes o h 0 (seen_after seen b) rest → wrote b ++ places_written rest ≡ range_with_len low d → low + d ≡ n → AllByRecursion (λ k. ended ≤ k) (places_written rest) → GoesAlone o h low n began c (Some (record { ended = ended; answer = a; note = b })) rest
+goes_noted : (o : Opening) (h : List Applied) (low n began ended d seen : ℕ) (c : Call) (a : Answer) (b : Option Note) (rest : List Noted) → low ≤ began → began ≤ ended → ended ≤ n →
+    IfSome b (λ note. (began ≤ place_of note) × (shown_by note ≤ ended)) → IsLegal o h 0 seen (record { call = c; answer = a; note = b }) → LegalNotes o h 0 (seen_after seen b) rest → wrote b ++
+    places_written rest ≡ range_with_len low d → low + d ≡ n → AllByRecursion (λ k. ended ≤ k) (places_written rest) →
+    GoesAlone o h low n began c (Some (record { ended = ended; answer = a; note = b })) rest
 goes_noted o h low n began ended d seen c a None rest from time within placed legal later places sum behind =
     adds_none o h low n began ended d seen c a None rest refl from time within later places sum behind
     (λ same here. (sym same, answers_alone o h 0 (length o.values) began ended c a None legal.0 tt (sym same)))
@@ -188,13 +200,16 @@ goes_noted o h low n began ended d seen c a (Some (note.Wrote k)) rest from time
     adds_own o h low n began ended k d (k + 1) c a rest from placed.0 placed.1 within later places sum behind
     (λ adds. answers_alone o h 0 (length o.values) began ended c a (Some (note.Wrote k)) legal.0 (legal.1.0) adds)
 
-goes_alone : (o : Opening) (h : List Applied) (low n began d seen : ℕ) (c : Call) (f : Option Finish) (rest : List Noted) → low ≤ began → InTime n began f → LegalNotes o h 0 seen (cons_option (noted_with c f) rest) → places_written (cons_option (noted_with c f) rest) ≡ range_with_len low d → low + d ≡ n → AllByRecursion (λ k. end_with low f ≤ k) (places_written rest) → GoesAlone o h low n began c f rest
+goes_alone : (o : Opening) (h : List Applied) (low n began d seen : ℕ) (c : Call) (f : Option Finish) (rest : List Noted) → low ≤ began → InTime n began f →
+    LegalNotes o h 0 seen (cons_option (noted_with c f) rest) → places_written (cons_option (noted_with c f) rest) ≡ range_with_len low d → low + d ≡ n → AllByRecursion (λ k. end_with low f ≤ k)
+    (places_written rest) → GoesAlone o h low n began c f rest
 goes_alone o h low n began d seen c None rest from time legal places sum behind =
     record { alone = tt; left = d; places = places; sum = sum; later = seen; legal = legal }
 goes_alone o h low n began d seen c (Some g) rest from time legal places sum behind =
     goes_noted o h low n began g.ended d seen c g.answer g.note rest from time.0 time.1 time.2 legal.0 legal.1 places sum behind
 
-all_alone : (o : Opening) (h : List Applied) (n low d seen : ℕ) (b : Option Called) (cs : List Called) → GoesFrom b low → AllByRecursion (λ (c : Called). c.port ≡ 0) cs → RealTime n b cs → LegalNotes o h 0 seen (filter_map noted_of cs) → places_written (filter_map noted_of cs) ≡ range_with_len low d → low + d ≡ n → AllByRecursion (IsAlone o h) cs
+all_alone : (o : Opening) (h : List Applied) (n low d seen : ℕ) (b : Option Called) (cs : List Called) → GoesFrom b low → AllByRecursion (λ (c : Called). c.port ≡ 0) cs → RealTime n b cs →
+    LegalNotes o h 0 seen (filter_map noted_of cs) → places_written (filter_map noted_of cs) ≡ range_with_len low d → low + d ≡ n → AllByRecursion (IsAlone o h) cs
 all_alone o h n low d seen b [] goes zeros time legal places sum = tt
 all_alone o h n low d seen b (c ∷ cs) goes zeros time legal places sum =
     let next = goes_next c low zeros.0 in

@@ -15,7 +15,7 @@ pub mod OneList
 pub mod OneOutcome
 pub mod Opens
 pub mod Plans
-pub mod Told
+pub mod LegalOutcomes
 pub mod Replays
 pub mod Alone
 pub mod StepsOf

@@ -23,7 +23,7 @@ use Rattle.partial_replay.specs.CallSteps.{Makes, HasSteps, IsFinishedAtOnce, Is
 use Rattle.partial_replay.specs.Listed.{calls_by, AreFirstOf, EndInStep}
 use Rattle.partial_replay.specs.Turns.{BeginInTurns}
 use Rattle.partial_replay.proofs.PortLaws.{same_eqb}
-use Rattle.partial_replay.proofs.PortRuns.{unreplied, AreFinishedBut}
+use Rattle.partial_replay.proofs.PortRuns.{unreplied, AreFinishedBut, none_map}
 use Rattle.partial_replay.proofs.OneNote.{IsRightNote, AreRight, notes_same}
 
 -- ---- the calls of one port, numbered
@@ -33,10 +33,10 @@ abbrev pub AreListedFrom : ℕ → ℕ → List Called → Type 0
 AreListedFrom q k [] = Unit {0}
 AreListedFrom q k (c ∷ cs) = (c.port ≡ q) × (c.number ≡ k) × (c.finish ≡ None → cs ≡ []) × AreListedFrom q (k + 1) cs
 
-own_call : (q : ℕ) (c : Called) (cs : List Called) → c.port ≡ q → calls_by q (c ∷ cs) ≡ c ∷ calls_by q cs
+pub own_call : (q : ℕ) (c : Called) (cs : List Called) → c.port ≡ q → calls_by q (c ∷ cs) ≡ c ∷ calls_by q cs
 own_call q c cs same = ap (λ (b : Bool). cond b (c ∷ calls_by q cs) (calls_by q cs)) (same_eqb c.port q same)
 
-other_call : (q : ℕ) (c : Called) (cs : List Called) → c.port ≢ q → calls_by q (c ∷ cs) ≡ calls_by q cs
+pub other_call : (q : ℕ) (c : Called) (cs : List Called) → c.port ≢ q → calls_by q (c ∷ cs) ≡ calls_by q cs
 other_call q c cs other = ap (λ (b : Bool). cond b (c ∷ calls_by q cs) (calls_by q cs)) (ne_eqb c.port q other)
 
 -- behind a call of a later port there is none of port q
@@ -118,10 +118,6 @@ record SameCall (c d : Called) (own own' behind behind' : List Moment) (u v : Co
 ended_is : (f : Option Finish) (n : ℕ) (g : Finish) → f ≡ Some g → g.ended ≡ n → IfSome f (λ e. e.ended ≡ n)
 ended_is f n g is ends = subst (λ (e : Option Finish). IfSome e (λ x. x.ended ≡ n)) (sym is) ends
 
-no_answer : (f : Option Finish) (s : CoreState) (found : Option Reply) → found ≡ None → option_map (λ (g : Finish). g.answer) f ≡ option_map (answer_for s) found → f ≡ None
-no_answer None s found none e = refl
-no_answer (Some g) s found none e = let bad : Some g.answer ≡ None = e ∙ ap (option_map (answer_for s)) none in cc
-
 module _ (s : CoreState) (c d : Called) (u v : CoreState) (behind behind' : List Moment) (same : c.call ≡ d.call) (began : c.began ≡ d.began) where
   refused_same : IsRefusedAtOnce s c u → IsRefusedAtOnce s d v → behind ≡ behind' → SameCall c d [] [] behind behind' u v
   refused_same a b all =
@@ -143,7 +139,8 @@ module _ (s : CoreState) (c d : Called) (u v : CoreState) (behind behind' : List
         events = refl;
         rest = all;
         next = a.rests ∙ ap (λ (e : Call). at_stage (begun_of s e) Idle) same ∙ sym b.rests;
-        answers = ap (option_map (λ (f : Finish). f.answer)) a.finish ∙ ap (λ (e : Call). Some (answer_for (begun_of s e) a.reply)) same ∙ ap (λ (r : Reply). Some (answer_for (begun_of s d.call) r)) reply ∙ sym (ap (option_map (λ (f : Finish). f.answer)) b.finish);
+        answers = ap (option_map (λ (f : Finish). f.answer)) a.finish ∙ ap (λ (e : Call). Some (answer_for (begun_of s e) a.reply)) same ∙ ap (λ (r : Reply). Some (answer_for (begun_of s d.call) r))
+            reply ∙ sym (ap (option_map (λ (f : Finish). f.answer)) b.finish);
         end = (c.began, ended_is c.finish c.began _ a.finish refl, ended_is d.finish c.began _ b.finish (sym began));
       }
 
@@ -151,7 +148,8 @@ module _ (s : CoreState) (c d : Called) (u v : CoreState) (behind behind' : List
       (d.finish ≡ None → behind' ≡ []) → SameCall c d (x ∷ xs) (y ∷ ys) behind behind' u v
   steps_same x y xs ys a b all last last' =
       let makes : Makes (begun_of s d.call) (x ∷ xs) a.last = subst (λ (e : Call). Makes (begun_of s e) (x ∷ xs) a.last) same a.makes in
-      let w = makes_same (begun_of s d.call) a.last b.last (x ∷ xs) (y ∷ ys) behind behind' makes b.makes all (λ none. last (no_answer c.finish a.last (reply_of a.last) none a.answered)) (λ none. last' (no_answer d.finish b.last (reply_of b.last) none b.answered)) in
+      let w = makes_same (begun_of s d.call) a.last b.last (x ∷ xs) (y ∷ ys) behind behind' makes b.makes all (λ none. last (none_map c.finish a.last (reply_of a.last) none a.answered))
+      (λ none. last' (none_map d.finish b.last (reply_of b.last) none b.answered)) in
       let ends : last_behind y.behind ys ≡ last_behind x.behind xs = ap (last_behind 0) (sym w.0) in
       record {
         events = w.0;
@@ -209,7 +207,8 @@ finish_same o h q began e (Some f) (Some g) n distinct answers end end' right ri
     let same : f.answer ≡ g.answer = cc in
     let right'' : IsRightNote o h q began e f.answer g.note = subst (λ (a : Answer). IsRightNote o h q began e a g.note) (sym same) right' in
     let note : f.note ≡ g.note = notes_same o h q began distinct e f.answer f.note g.note right right'' in
-    ap (λ k. Some (record { ended = k; answer = f.answer; note = f.note })) (end ∙ sym end') ∙ ap (λ (a : Answer). Some (record { ended = g.ended; answer = a; note = f.note })) same ∙ ap (λ (m : Option Note). Some (record { ended = g.ended; answer = g.answer; note = m })) note
+    ap (λ k. Some (record { ended = k; answer = f.answer; note = f.note })) (end ∙ sym end') ∙ ap (λ (a : Answer). Some (record { ended = g.ended; answer = a; note = f.note })) same ∙
+    ap (λ (m : Option Note). Some (record { ended = g.ended; answer = g.answer; note = m })) note
 
 called_same : (c d : Called) → c.port ≡ d.port → c.number ≡ d.number → c.call ≡ d.call → c.began ≡ d.began → c.steps ≡ d.steps → c.finish ≡ d.finish → c ≡ d
 called_same c d port number call' began steps finish =
@@ -274,12 +273,17 @@ calls_same o h q ls (p ∷ plan) turn k s xs (c ∷ cs) (d ∷ ds) distinct a b 
     let began : c.began ≡ d.began = cc in
     let x = a.steps in
     let y = b.steps in
-    let none : (e : Called) (es : List Called) (t last : CoreState) (l : List Moment) → (e.finish ≡ None → es ≡ []) → AreStepsOf t es l last → e.finish ≡ None → l ≡ [] = λ e es t last l ends w f. (subst (λ (es' : List Called). AreStepsOf t es' l last) (ends f) w).0 in
+    let none : (e : Called) (es : List Called) (t last : CoreState) (l : List Moment) → (e.finish ≡ None → es ≡ []) → AreStepsOf t es l last → e.finish ≡ None → l ≡ [] =
+    λ e es t last l ends w f. (subst (λ (es' : List Called). AreStepsOf t es' l last) (ends f) w).0 in
     let w = call_same s c d (x.2) (y.2) (x.1) (y.1) same began (x.0) (y.0) x.5 y.5 (sym x.3 ∙ y.3) (none c cs (x.2) a.last (x.1) (a.listed).2 x.6) (none d ds (y.2) b.last (y.1) (b.listed).2 y.6) in
     let steps : c.steps ≡ d.steps = sym x.4 ∙ ap length w.events ∙ y.4 in
-    let right : IfSome d.finish (λ f. IsRightNote o h q c.began c.call f.answer f.note) = subst (λ n. IfSome d.finish (λ f. IsRightNote o h q n c.call f.answer f.note)) (sym began) (subst (λ (e : Call). IfSome d.finish (λ f. IsRightNote o h q d.began e f.answer f.note)) (sym same) (b.right).0) in
+    let right : IfSome d.finish (λ f. IsRightNote o h q c.began c.call f.answer f.note) = subst (λ n. IfSome d.finish (λ f. IsRightNote o h q n c.call f.answer f.note)) (sym began)
+    (subst (λ (e : Call). IfSome d.finish (λ f. IsRightNote o h q d.began e f.answer f.note)) (sym same) (b.right).0) in
     let finish : c.finish ≡ d.finish = finish_same o h q c.began c.call c.finish d.finish (w.end.0) distinct w.answers w.end.1 w.end.2 (a.right).0 right in
     let head : c ≡ d = called_same c d ((a.listed).0 ∙ sym (b.listed).0) ((a.listed).1 ∙ sym (b.listed).1) same began steps finish in
     let more : AreMade o h q ls plan (turn + c.steps) (k + 1) (x.2) (x.1) ds =
-    subst (λ n. AreMade o h q ls plan (turn + n) (k + 1) (x.2) (x.1) ds) (sym steps) (subst (λ (v : CoreState). AreMade o h q ls plan (turn + d.steps) (k + 1) v (x.1) ds) (sym w.next) (subst (λ (l : List Moment). AreMade o h q ls plan (turn + d.steps) (k + 1) (y.2) l ds) (sym w.rest) (made_behind o h q ls p plan turn k s xs d ds b))) in
-    ap (λ (e : Called). e ∷ cs) head ∙ ap (λ (l : List Called). d ∷ l) (calls_same o h q ls plan (turn + c.steps) (k + 1) (x.2) (x.1) cs ds distinct (made_behind o h q ls p plan turn k s xs c cs a) more (alike_behind p plan c d cs ds alike))
+    subst (λ n. AreMade o h q ls plan (turn + n) (k + 1) (x.2) (x.1) ds) (sym steps)
+    (subst (λ (v : CoreState). AreMade o h q ls plan (turn + d.steps) (k + 1) v (x.1) ds) (sym w.next)
+    (subst (λ (l : List Moment). AreMade o h q ls plan (turn + d.steps) (k + 1) (y.2) l ds) (sym w.rest) (made_behind o h q ls p plan turn k s xs d ds b))) in
+    ap (λ (e : Called). e ∷ cs) head ∙ ap (λ (l : List Called). d ∷ l)
+    (calls_same o h q ls plan (turn + c.steps) (k + 1) (x.2) (x.1) cs ds distinct (made_behind o h q ls p plan turn k s xs c cs a) more (alike_behind p plan c d cs ds alike))

@@ -78,17 +78,20 @@ module _ (o : Opening) (h : List Applied) (p began : ℕ) (distinct : HaveDistin
   changes_same j x v s _ m a b = absurd a.fits
 
   scanned_same : (js vs : List ℕ) (c : ℕ) (w : Option ℕ) (n m : Note) → Right (call.Scan js) (answer.Scanned vs c w) n → Right (call.Scan js) (answer.Scanned vs c w) m → n ≡ m
-  scanned_same js vs c w (note.Saw n) (note.Saw m) a b = ap note.Saw (same_least (λ i. Shows o (take i h) (call.Scan js) (answer.Scanned vs c w)) began n m a.behind b.behind a.is.values b.is.values a.least b.least)
+  scanned_same js vs c w (note.Saw n) (note.Saw m) a b = ap note.Saw (same_least (λ i. Shows o (take i h) (call.Scan js) (answer.Scanned vs c w)) began n m a.behind b.behind a.is.values
+      b.is.values a.least b.least)
   scanned_same js vs c w (note.Saw n) _ a b = absurd b.fits
   scanned_same js vs c w _ m a b = absurd a.fits
 
   read_same : (j v s : ℕ) (n m : Note) → Right (call.Read j) (answer.Read v s) n → Right (call.Read j) (answer.Read v s) m → n ≡ m
-  read_same j v s (note.Saw n) (note.Saw m) a b = ap note.Saw (same_least (λ i. Shows o (take i h) (call.Read j) (answer.Read v s)) began n m a.behind b.behind (a.is.1, a.is.2) (b.is.1, b.is.2) a.least b.least)
+  read_same j v s (note.Saw n) (note.Saw m) a b = ap note.Saw (same_least (λ i. Shows o (take i h) (call.Read j) (answer.Read v s)) began n m a.behind b.behind (a.is.1, a.is.2)
+      (b.is.1, b.is.2) a.least b.least)
   read_same j v s (note.Saw n) _ a b = absurd b.fits
   read_same j v s _ m a b = absurd a.fits
 
   changed_same : (j x v t : ℕ) (n m : Note) → Right (call.UpdateIf j x v) (answer.Changed t) n → Right (call.UpdateIf j x v) (answer.Changed t) m → n ≡ m
-  changed_same j x v t (note.Saw n) (note.Saw m) a b = ap note.Saw (same_least (λ i. Shows o (take i h) (call.UpdateIf j x v) (answer.Changed t)) began n m a.behind b.behind a.is.1 b.is.1 a.least b.least)
+  changed_same j x v t (note.Saw n) (note.Saw m) a b = ap note.Saw (same_least (λ i. Shows o (take i h) (call.UpdateIf j x v) (answer.Changed t)) began n m a.behind b.behind a.is.1
+      b.is.1 a.least b.least)
   changed_same j x v t (note.Saw n) _ a b = absurd b.fits
   changed_same j x v t _ m a b = absurd a.fits
 
@@ -104,8 +107,10 @@ module _ (o : Opening) (h : List Applied) (p began : ℕ) (distinct : HaveDistin
   -- two right notes of one answer are the same
   pub notes_same : (c : Call) (a : Answer) (n m : Option Note) → IsRightNote o h p began c a n → IsRightNote o h p began c a m → n ≡ m
   notes_same c a None None x y = refl
-  notes_same c a None (Some m) x y = let r = unnoted (length o.values) c a x.fits in absurd (noted_unrefused (length o.values) c (r.0) m (subst (λ (b : Answer). Fits (length o.values) c b (Some m)) r.1 y.fits))
-  notes_same c a (Some n) None x y = let r = unnoted (length o.values) c a y.fits in absurd (noted_unrefused (length o.values) c (r.0) n (subst (λ (b : Answer). Fits (length o.values) c b (Some n)) r.1 x.fits))
+  notes_same c a None (Some m) x y = let r = unnoted (length o.values) c a x.fits in absurd
+      (noted_unrefused (length o.values) c (r.0) m (subst (λ (b : Answer). Fits (length o.values) c b (Some m)) r.1 y.fits))
+  notes_same c a (Some n) None x y = let r = unnoted (length o.values) c a y.fits in absurd
+      (noted_unrefused (length o.values) c (r.0) n (subst (λ (b : Answer). Fits (length o.values) c b (Some n)) r.1 x.fits))
   notes_same c a (Some n) (Some m) x y = ap Some (some_same c a n m x y)
 
 -- each finished call of a port has a right note
@@ -140,4 +145,5 @@ pub notes_right : (o : Opening) (h : List Applied) (p seen : ℕ) (cs : List Cal
     AllByRecursion (HasLeastPlace o h) cs → AreRight o h p cs
 notes_right o h p seen [] legal time least = tt
 notes_right o h p seen (c ∷ cs) legal time least =
-    first_right o h p seen c.began c.call c.finish (filter_map noted_of cs) (AreRight o h p cs) (λ seen' w. notes_right o h p seen' cs w time.1 least.1) legal (in_time (length h) c.began c.finish time.0.1) least.0
+    first_right o h p seen c.began c.call c.finish (filter_map noted_of cs) (AreRight o h p cs) (λ seen' w. notes_right o h p seen' cs w time.1 least.1) legal
+    (in_time (length h) c.began c.finish time.0.1) least.0

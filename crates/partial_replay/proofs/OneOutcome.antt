@@ -22,9 +22,9 @@ use Rattle.partial_replay.specs.Place.{HasLeastPlace}
 use Rattle.partial_replay.specs.Replayed.{IsReplayOf, turn_lengths}
 use Rattle.partial_replay.specs.Trace.{Moment, entry_of, moments_from, moments_by, ports_of, events_in}
 use Rattle.partial_replay.specs.Turns.{turns_of, turns_by, lengths_in}
-use Rattle.partial_replay.specs.TurnState.{MakeTurns}
+use Rattle.partial_replay.specs.Inner.TurnState.{MakeTurns}
 use Rattle.partial_replay.specs.Listed.{calls_by, steps_by, AreAllMade, HaveMade}
-use Rattle.partial_replay.proofs.OneList.{AreListedFrom, calls_listed, finished_but, AreMade, EndAlike, calls_same}
+use Rattle.partial_replay.proofs.OneList.{AreListedFrom, calls_listed, finished_but, AreMade, EndAlike, calls_same, own_call, other_call}
 use Rattle.partial_replay.proofs.OneNote.{notes_right}
 use Rattle.partial_replay.proofs.OneTrace.{moments_events, Goes, traces_same, plan_turns}
 use Rattle.partial_replay.proofs.PortLaws.{same_eqb}
@@ -36,7 +36,8 @@ use Rattle.partial_replay.proofs.TurnLengths.{lengths_same}
 
 -- a memory opens with one list of words
 opened_same : (z : Layout) (initial words words' : List ℕ) → AreOpeningWords z initial words → AreOpeningWords z initial words' → words ≡ words'
-opened_same z initial words words' a b = ext_get_or 0 words words' (a.count ∙ sym b.count) (λ i below. let count = a.count in let within : i < total z = omega (arith, below, count) in a.each i within ∙ sym (b.each i within))
+opened_same z initial words words' a b = ext_get_or 0 words words' (a.count ∙ sym b.count)
+    (λ i below. let count = a.count in let within : i < total z = omega (arith, below, count) in a.each i within ∙ sym (b.each i within))
 
 -- a trace leads to one list of words
 leads_same : (words last last' : List ℕ) (es : List Event) → Leads words es last → Leads words es last' → last ≡ last'
@@ -53,7 +54,8 @@ listed_of p x w q = calls_listed (length x.history.items) q None x.calls.items t
 
 run_of : (p : PlanView) (x : Outcome) → IsReplayOf p x → (q : ℕ) →
     RunOf (fresh p.sizes q) (get_or p.ports q []) (calls_by q x.calls.items) (map (λ (m : Moment). m.event) (moments_by p.sizes.m q x.trace.items))
-run_of p x w q = runs_of (fresh p.sizes q) ((w.events q).0) (get_or p.ports q []) (calls_by q x.calls.items) (moments_by p.sizes.m q x.trace.items) refl (w.calls q) (finished_but q 0 (calls_by q x.calls.items) (listed_of p x w q)) (w.events q).1
+run_of p x w q = runs_of (fresh p.sizes q) ((w.events q).0) (get_or p.ports q []) (calls_by q x.calls.items) (moments_by p.sizes.m q x.trace.items) refl (w.calls q)
+    (finished_but q 0 (calls_by q x.calls.items) (listed_of p x w q)) (w.events q).1
 
 -- where each port ends
 abbrev ports_last : (p : PlanView) (x : Outcome) → IsReplayOf p x → ℕ → PortAt
@@ -95,39 +97,33 @@ rising : (n : ℕ) (cs : List Called) → RealTime n None cs → AreRising 0 cs
 rising n [] w = tt
 rising n (c ∷ cs) w = (omega arith, rising_behind n c cs w.2)
 
-own_calls : (q : ℕ) (c : Called) (cs : List Called) → c.port ≡ q → calls_by q (c ∷ cs) ≡ c ∷ calls_by q cs
-own_calls q c cs same = ap (λ (b : Bool). cond b (c ∷ calls_by q cs) (calls_by q cs)) (same_eqb c.port q same)
-
-other_calls : (q : ℕ) (c : Called) (cs : List Called) → c.port ≢ q → calls_by q (c ∷ cs) ≡ calls_by q cs
-other_calls q c cs other = ap (λ (b : Bool). cond b (c ∷ calls_by q cs) (calls_by q cs)) (ne_eqb c.port q other)
-
 none_below : (q r : ℕ) (cs : List Called) → q < r → AreRising r cs → calls_by q cs ≡ []
 none_below q r [] less w = refl
-none_below q r (c ∷ cs) less w = let low = w.0 in other_calls q c cs (λ h. omega (arith, h, low, less)) ∙ none_below q c.port cs (omega (arith, less, low)) w.1
+none_below q r (c ∷ cs) less w = let low = w.0 in other_call q c cs (λ h. omega (arith, h, low, less)) ∙ none_below q c.port cs (omega (arith, less, low)) w.1
 
 -- calls of rising ports are the same where those of each port are
 rising_same : (r s : ℕ) (xs ys : List Called) → AreRising r xs → AreRising s ys → ((q : ℕ) → calls_by q xs ≡ calls_by q ys) → xs ≡ ys
 rising_same r s [] [] w v same = refl
-rising_same r s [] (y ∷ ys) w v same = let bad : [] ≡ y ∷ calls_by y.port ys = same y.port ∙ own_calls y.port y ys refl in cc
-rising_same r s (x ∷ xs) [] w v same = let bad : x ∷ calls_by x.port xs ≡ [] = sym (own_calls x.port x xs refl) ∙ same x.port in cc
+rising_same r s [] (y ∷ ys) w v same = let bad : [] ≡ y ∷ calls_by y.port ys = same y.port ∙ own_call y.port y ys refl in cc
+rising_same r s (x ∷ xs) [] w v same = let bad : x ∷ calls_by x.port xs ≡ [] = sym (own_call x.port x xs refl) ∙ same x.port in cc
 rising_same r s (x ∷ xs) (y ∷ ys) w v same = elim (cases_lt x.port y.port) [
   | inl less ↦
       let none : calls_by x.port (y ∷ ys) ≡ [] = none_below x.port y.port (y ∷ ys) less (omega arith, v.1) in
-      let bad : x ∷ calls_by x.port xs ≡ [] = sym (own_calls x.port x xs refl) ∙ same x.port ∙ none in
+      let bad : x ∷ calls_by x.port xs ≡ [] = sym (own_call x.port x xs refl) ∙ same x.port ∙ none in
       cc
   | inr from ↦ elim (cases_lt y.port x.port) [
     | inl less ↦
         let none : calls_by y.port (x ∷ xs) ≡ [] = none_below y.port x.port (x ∷ xs) less (omega arith, w.1) in
-        let bad : y ∷ calls_by y.port ys ≡ [] = sym (own_calls y.port y ys refl) ∙ sym (same y.port) ∙ none in
+        let bad : y ∷ calls_by y.port ys ≡ [] = sym (own_call y.port y ys refl) ∙ sym (same y.port) ∙ none in
         cc
     | inr back ↦
         let port : y.port ≡ x.port = omega (arith, from, back) in
-        let both : x ∷ calls_by x.port xs ≡ y ∷ calls_by x.port ys = sym (own_calls x.port x xs refl) ∙ same x.port ∙ own_calls x.port y ys port in
+        let both : x ∷ calls_by x.port xs ≡ y ∷ calls_by x.port ys = sym (own_call x.port x xs refl) ∙ same x.port ∙ own_call x.port y ys port in
         let first : x ≡ y = cc in
         let own : calls_by x.port xs ≡ calls_by x.port ys = cc in
         let rest : (q : ℕ) → calls_by q xs ≡ calls_by q ys = λ q. elim (eqb_tells x.port q) [
           | inl is ↦ ap (λ k. calls_by k xs) (sym is.1) ∙ own ∙ ap (λ k. calls_by k ys) is.1
-          | inr other ↦ sym (other_calls q x xs other.1) ∙ same q ∙ other_calls q y ys (λ h. other.1 (sym port ∙ h))
+          | inr other ↦ sym (other_call q x xs other.1) ∙ same q ∙ other_call q y ys (λ h. other.1 (sym port ∙ h))
         ] in
         ap (λ (c : Called). c ∷ xs) first ∙ ap (λ (l : List Called). y ∷ l) (rising_same x.port y.port xs ys w.1 v.1 rest)
   ]
@@ -152,7 +148,9 @@ made_of p x w q = record {
   first = w.calls q;
   listed = listed_of p x w q;
   begins = w.begins q;
-  right = notes_right x.opening x.history.items q 0 (calls_by q x.calls.items) (w.legal.notes q) (all_by (IsInTime (length x.history.items)) q x.calls.items (all_in_time (length x.history.items) None x.calls.items w.legal.time)) (all_by (HasLeastPlace x.opening x.history.items) q x.calls.items w.places);
+  right = notes_right x.opening x.history.items q 0 (calls_by q x.calls.items) (w.legal.notes q)
+      (all_by (IsInTime (length x.history.items)) q x.calls.items (all_in_time (length x.history.items) None x.calls.items w.legal.time))
+      (all_by (HasLeastPlace x.opening x.history.items) q x.calls.items w.places);
   last = (w.events q).0;
   steps = (w.events q).1;
 }
@@ -175,11 +173,15 @@ pub plans_have_one_outcome : PlansHaveOneOutcome
 plans_have_one_outcome p a b w v =
     let z = p.sizes in
     let opened : v.opened ≡ w.opened = opened_same z p.initial (v.opened) (w.opened) v.opens w.opens in
-    let goes : Goes (opened_ports p) (w.opened) b.trace.items b.words.items (ports_last p b v) = subst (λ (l : List ℕ). Goes (opened_ports p) l b.trace.items b.words.items (ports_last p b v)) opened (goes_of p b v) in
-    let trace : a.trace.items ≡ b.trace.items = traces_same (Stops p a w) (Stops p b v) (turns_of p) a.words.items b.words.items (ports_last p a w) (ports_last p b v) (λ q d. d) (λ q d. d) (opened_ports p) (w.opened) a.trace.items b.trace.items (goes_of p a w) goes (turns_made p a w) (turns_made p b v) in
-    let words : a.words.items ≡ b.words.items = leads_same (w.opened) a.words.items b.words.items b.trace.items (subst (λ (es : List Event). Leads (w.opened) es a.words.items) trace w.leads) goes.leads in
+    let goes : Goes (opened_ports p) (w.opened) b.trace.items b.words.items (ports_last p b v) = subst (λ (l : List ℕ). Goes (opened_ports p) l b.trace.items b.words.items (ports_last p b v))
+    opened (goes_of p b v) in
+    let trace : a.trace.items ≡ b.trace.items = traces_same (Stops p a w) (Stops p b v) (turns_of p) a.words.items b.words.items (ports_last p a w) (ports_last p b v) (λ q d. d) (λ q d. d)
+    (opened_ports p) (w.opened) a.trace.items b.trace.items (goes_of p a w) goes (turns_made p a w) (turns_made p b v) in
+    let words : a.words.items ≡ b.words.items = leads_same (w.opened) a.words.items b.words.items b.trace.items
+    (subst (λ (es : List Event). Leads (w.opened) es a.words.items) trace w.leads) goes.leads in
     let opening : a.opening ≡ b.opening = opening_is a.opening p.initial (pool_base z) w.values w.first ∙ sym (opening_is b.opening p.initial (pool_base z) v.values v.first) in
-    let history : a.history.items ≡ b.history.items = w.entries ∙ ap (λ (l : List ℕ). filter_map (entry_of z.m (value_of l)) a.trace.items) words ∙ ap (filter_map (entry_of z.m (value_of b.words.items))) trace ∙ sym v.entries in
+    let history : a.history.items ≡ b.history.items = w.entries ∙ ap (λ (l : List ℕ). filter_map (entry_of z.m (value_of l)) a.trace.items) words ∙
+    ap (filter_map (entry_of z.m (value_of b.words.items))) trace ∙ sym v.entries in
     let steps : (q : ℕ) → steps_by q b.calls.items ≡ steps_by q a.calls.items = λ q. steps_of p b v q ∙ ap (λ (es : List Event). events_in q (ports_of es)) (sym trace) ∙ sym (steps_of p a w q) in
     let lengths : (q : ℕ) → turn_lengths p b q ≡ turn_lengths p a q = λ q.
     lengths_same q (turns_of p) (λ r. steps_by r b.calls.items) (λ r. steps_by r a.calls.items) 0 (moments_from z.m 0 b.trace.items) steps
@@ -194,7 +196,8 @@ plans_have_one_outcome p a b w v =
     (subst (λ (ls : List ℕ). AreMade b.opening b.history.items q ls plan 0 0 first (moments_by z.m q a.trace.items) ds) (lengths q)
     (subst (λ (es : List Event). AreMade b.opening b.history.items q (turn_lengths p b q) plan 0 0 first (moments_by z.m q es) ds) (sym trace) (made_of p b v q)))) in
     let made : HaveMade p.rest (turns_by q p.steps) (steps_by q a.calls.items) plan ds = subst (λ n. HaveMade p.rest (turns_by q p.steps) n plan ds) (steps q) (v.made q) in
-    calls_same a.opening a.history.items q (turn_lengths p a q) plan 0 0 first (moments_by z.m q a.trace.items) (calls_by q a.calls.items) ds (w.legal.history).distinct (made_of p a w q) other (alike_of p.rest (turns_by q p.steps) (steps_by q a.calls.items) plan (calls_by q a.calls.items) ds (w.made q) made) in
+    calls_same a.opening a.history.items q (turn_lengths p a q) plan 0 0 first (moments_by z.m q a.trace.items) (calls_by q a.calls.items) ds (w.legal.history).distinct (made_of p a w q) other
+    (alike_of p.rest (turns_by q p.steps) (steps_by q a.calls.items) plan (calls_by q a.calls.items) ds (w.made q) made) in
     record {
       opening = opening;
       history = history;

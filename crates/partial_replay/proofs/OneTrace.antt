@@ -11,7 +11,7 @@ use Rattle.partial_machine.specs.Machine.{step_of}
 use Rattle.partial_replay.specs.Trace.{Moment, adds, moments_from, ports_of, events_in}
 use Rattle.partial_replay.specs.Turns.{so_many, to_its_end, made_in, left_behind, ports_in, turns_by, turns_of}
 use Rattle.partial_text.specs.PlanText.{PlanView}
-use Rattle.partial_replay.specs.TurnState.{HasTurns, MakeTurns}
+use Rattle.partial_replay.specs.Inner.TurnState.{HasTurns, MakeTurns}
 use Rattle.partial_replay.proofs.PortLaws.{same_eqb}
 use Rattle.partial_replay.proofs.TurnLaws.{events_own, events_other}
 use Rattle.partial_replay.proofs.PortRuns.{PortAt, PortRun, port_behind}
@@ -22,7 +22,8 @@ events_of q es = filter (λ e. e.port == q) es
 
 pub moments_events : (m n q : ℕ) (es : List Event) → map (λ (x : Moment). x.event) (filter (λ (x : Moment). x.event.port == q) (moments_from m n es)) ≡ events_of q es
 moments_events m n q [] = refl
-moments_events m n q (e ∷ es) = kept (e.port == q) (record { event = e; before = n; behind = n + adds m e }) (filter (λ (x : Moment). x.event.port == q) (moments_from m (n + adds m e) es)) (events_of q es) (moments_events m (n + adds m e) q es)
+moments_events m n q (e ∷ es) = kept (e.port == q) (record { event = e; before = n; behind = n + adds m e }) (filter (λ (x : Moment). x.event.port == q) (moments_from m (n + adds m e) es))
+    (events_of q es) (moments_events m (n + adds m e) q es)
   where
     kept : (b : Bool) (x : Moment) (xs : List Moment) (fs : List Event) → map (λ (y : Moment). y.event) xs ≡ fs → map (λ (y : Moment). y.event) (cond b (x ∷ xs) xs) ≡ cond b (x.event ∷ fs) fs
     kept true x xs fs same = ap (λ (l : List Event). x.event ∷ l) same
@@ -77,7 +78,8 @@ same_first ports words e f es fs last last' final final' same a b =
     let one : Some e.step ≡ Some f.step = sym a.due ∙ ap (λ q. step_of (ports q).core) same ∙ b.due in
     let step : e.step ≡ f.step = cc in
     let answer : e.answer ≡ f.answer = a.gives ∙ ap (answer_of words) step ∙ sym b.gives in
-    ap (λ q. record { port = q; step = e.step; answer = e.answer }) same ∙ ap (λ (s : Step). record { port = f.port; step = s; answer = e.answer }) step ∙ ap (λ n. record { port = f.port; step = f.step; answer = n }) answer
+    ap (λ q. record { port = q; step = e.step; answer = e.answer }) same ∙ ap (λ (s : Step). record { port = f.port; step = s; answer = e.answer }) step ∙
+    ap (λ n. record { port = f.port; step = f.step; answer = n }) answer
 
 -- a port that has no event left is where it ends
 stopped : (ports : ℕ → PortAt) (words : List ℕ) (es : List Event) (last : List ℕ) (final : ℕ → PortAt) (p : ℕ) → Goes ports words es last final → events_in p (ports_of es) ≡ 0 →
@@ -104,12 +106,15 @@ abbrev IsStopped : (ℕ → PortAt) → ℕ → List ℕ → Type 0
 IsStopped final p behind = (step_of (final p).core ≡ None) × (events_in p behind ≡ 0)
 
 abbrev SameBehind : (ℕ → Type 0) → (ℕ → Type 0) → List (ℕ × Option ℕ) → List ℕ → List ℕ → (ℕ → PortAt) → (ℕ → PortAt) → Type 0
-SameBehind D E es last last' final final' = (ports : ℕ → PortAt) (words : List ℕ) (xs ys : List Event) → Goes ports words xs last final → Goes ports words ys last' final' → MakeTurns D es (ports_of xs) → MakeTurns E es (ports_of ys) → xs ≡ ys
+SameBehind D E es last last' final final' = (ports : ℕ → PortAt) (words : List ℕ) (xs ys : List Event) → Goes ports words xs last final → Goes ports words ys last' final' →
+    MakeTurns D es (ports_of xs) → MakeTurns E es (ports_of ys) → xs ≡ ys
 
-entry_same : (D E : ℕ → Type 0) (es : List (ℕ × Option ℕ)) (last last' : List ℕ) (final final' : ℕ → PortAt) (p i j : ℕ) (ports : ℕ → PortAt) (words : List ℕ) (xs ys : List Event) (behind behind' : List ℕ) →
+entry_same : (D E : ℕ → Type 0) (es : List (ℕ × Option ℕ)) (last last' : List ℕ) (final final' : ℕ → PortAt) (p i j : ℕ) (ports : ℕ → PortAt) (words : List ℕ) (xs ys : List Event)
+    (behind behind' : List ℕ) →
     SameBehind D E es last last' final final' → Goes ports words xs last final → Goes ports words ys last' final' → ports_of xs ≡ replicate i p ++ behind → ports_of ys ≡ replicate j p ++ behind' →
     (i < j → IsStopped final p behind) → (j < i → IsStopped final' p behind') → MakeTurns D es behind → MakeTurns E es behind' → xs ≡ ys
-entry_same D E es last last' final final' p zero zero ports words xs ys behind behind' same g h is is' less less' f f' = same ports words xs ys g h (subst (MakeTurns D es) (sym is) f) (subst (MakeTurns E es) (sym is') f')
+entry_same D E es last last' final final' p zero zero ports words xs ys behind behind' same g h is is' less less' f f' = same ports words xs ys g h (subst (MakeTurns D es) (sym is) f)
+    (subst (MakeTurns E es) (sym is') f')
 entry_same D E es last last' final final' p zero (suc j) ports words xs [] behind behind' same g h is is' less less' f f' = let bad : [] ≡ p ∷ (replicate j p ++ behind') = is' in cc
 entry_same D E es last last' final final' p zero (suc j) ports words xs (y ∷ ys) behind behind' same g h is is' less less' f f' =
     let stop = less (omega arith) in
@@ -138,8 +143,10 @@ entry_same D E es last last' final final' p (suc i) (suc j) ports words (x ∷ x
     let rest' : ports_of ys ≡ replicate j p ++ behind' = cc in
     let first : x ≡ y = same_first ports words x y xs ys last last' final final' port a b in
     let next = with_port x.port (port_behind x.answer (ports x.port)) ports in
-    let goes : Goes next (words_after words x.step) ys last' final' = subst (λ (e : Event). Goes (with_port e.port (port_behind e.answer (ports e.port)) ports) (words_after words e.step) ys last' final') (sym first) b.goes in
-    let tail = entry_same D E es last last' final final' p i j next (words_after words x.step) xs ys behind behind' same a.goes goes rest rest' (λ l. less (omega (arith, l))) (λ l. less' (omega (arith, l))) f f' in
+    let goes : Goes next (words_after words x.step) ys last' final' = subst (λ (e : Event). Goes (with_port e.port (port_behind e.answer (ports e.port)) ports) (words_after words e.step) ys last'
+    final') (sym first) b.goes in
+    let tail = entry_same D E es last last' final final' p i j next (words_after words x.step) xs ys behind behind' same a.goes goes rest rest' (λ l. less (omega (arith, l)))
+    (λ l. less' (omega (arith, l))) f f' in
     ap (λ (e : Event). e ∷ xs) first ∙ ap (λ (l : List Event). y ∷ l) tail
 
 -- where a port has made fewer steps in an entry, it has stopped
@@ -182,7 +189,8 @@ ports_few (e ∷ es) left q =
     let few = made_few e.1 (left e.0) in
     elim (eqb_tells q e.0) [
       | inl same ↦
-          let all : events_in q (replicate n e.0 ++ behind) ≡ n + events_in q behind = ap (λ r. events_in r (replicate n e.0 ++ behind)) same.1 ∙ events_own n e.0 behind ∙ ap (λ r. n + events_in r behind) (sym same.1) in
+          let all : events_in q (replicate n e.0 ++ behind) ≡ n + events_in q behind = ap (λ r. events_in r (replicate n e.0 ++ behind)) same.1 ∙ events_own n e.0 behind ∙
+          ap (λ r. n + events_in r behind) (sym same.1) in
           let left' : left_behind e left q ≡ left e.0 - n = ap (left_behind e left) same.1 ∙ left_own e left in
           let here : left q ≡ left e.0 = ap left same.1 in
           omega (arith, all, left', here, rest, few)
@@ -202,7 +210,13 @@ none_behind e es left all =
 -- the rest of each port, where all have made their calls
 ends_made : (D : ℕ → Type 0) → ((q : ℕ) → D q) → (qs : List ℕ) (left : ℕ → ℕ) → MakeTurns D (map to_its_end qs) (ports_in (map to_its_end qs) left)
 ends_made D done [] left = refl
-ends_made D done (q ∷ qs) left = (left q, ports_in (map to_its_end qs) (left_behind (to_its_end q) left), refl, (done q, none_behind (to_its_end q) (map to_its_end qs) left refl), ends_made D done qs (left_behind (to_its_end q) left))
+ends_made D done (q ∷ qs) left = (
+  left q,
+  ports_in (map to_its_end qs) (left_behind (to_its_end q) left),
+  refl,
+  (done q, none_behind (to_its_end q) (map to_its_end qs) left refl),
+  ends_made D done qs (left_behind (to_its_end q) left),
+)
 
 -- so many turns of each port, where one that makes fewer steps than it has turns has made its calls
 turns_left : (e : ℕ × ℕ) (steps : List (ℕ × ℕ)) (left : ℕ → ℕ) (q : ℕ) → left_behind (so_many e) left q < turns_by q steps → left q < turns_by q (e ∷ steps)
@@ -210,7 +224,8 @@ turns_left e steps left q less =
     let sum = sum_by-cons (λ (d : ℕ × ℕ). cond (d.0 == q) d.1 0) e steps in
     elim (eqb_tells q e.0) [
       | inl same ↦
-          let left' : left_behind (so_many e) left q ≡ left q - min e.1 (left q) = ap (left_behind (so_many e) left) same.1 ∙ left_own (so_many e) left ∙ ap (λ r. left r - min e.1 (left r)) (sym same.1) in
+          let left' : left_behind (so_many e) left q ≡ left q - min e.1 (left q) = ap (left_behind (so_many e) left) same.1 ∙ left_own
+          (so_many e) left ∙ ap (λ r. left r - min e.1 (left r)) (sym same.1) in
           let own : cond (e.0 == q) e.1 0 ≡ e.1 = ap (λ (b : Bool). cond b e.1 0) (same_eqb e.0 q (sym same.1)) in
           omega (arith, sum, left', own, less)
       | inr other ↦
@@ -231,8 +246,13 @@ some_made : (D : ℕ → Type 0) (steps : List (ℕ × ℕ)) (ends : List (ℕ �
 some_made D [] ends left stops tail = tail left
 some_made D (e ∷ steps) ends left stops tail =
     let n = min e.1 (left e.0) in
-    let es = map so_many steps ++ ends in
-    (n, ports_in es (left_behind (so_many e) left), refl, (omega arith, λ less. (stops e.0 (turns_here e steps left less), none_behind (so_many e) es left (omega (arith, less)))), some_made D steps ends (left_behind (so_many e) left) (λ q less. stops q (turns_left e steps left q less)) tail)
+    let es = map so_many steps ++ ends in (
+      n,
+      ports_in es (left_behind (so_many e) left),
+      refl,
+      (omega arith, λ less. (stops e.0 (turns_here e steps left less), none_behind (so_many e) es left (omega (arith, less)))),
+      some_made D steps ends (left_behind (so_many e) left) (λ q less. stops q (turns_left e steps left q less)) tail,
+    )
 
 -- the turns of a plan
 pub plan_turns : (D : ℕ → Type 0) (p : PlanView) (left : ℕ → ℕ) → (p.rest ≡ true → (q : ℕ) → D q) → (p.rest ≡ false → (q : ℕ) → left q < turns_by q p.steps → D q) →
@@ -240,6 +260,7 @@ pub plan_turns : (D : ℕ → Type 0) (p : PlanView) (left : ℕ → ℕ) → (p
 plan_turns D p left rest stops = at p.rest refl
   where
     at : (b : Bool) → p.rest ≡ b →
-        MakeTurns D (map so_many p.steps ++ cond b (map to_its_end (range_with_len 0 (length p.ports))) []) (ports_in (map so_many p.steps ++ cond b (map to_its_end (range_with_len 0 (length p.ports))) []) left)
+        MakeTurns D (map so_many p.steps ++ cond b (map to_its_end (range_with_len 0 (length p.ports))) [])
+        (ports_in (map so_many p.steps ++ cond b (map to_its_end (range_with_len 0 (length p.ports))) []) left)
     at true is = some_made D p.steps (map to_its_end (range_with_len 0 (length p.ports))) left (λ q less. rest is q) (ends_made D (rest is) (range_with_len 0 (length p.ports)))
     at false is = some_made D p.steps [] left (stops is) (λ left'. refl)

@@ -15,28 +15,31 @@ use Rattle.partial_machine.specs.Calls.{begun_like}
 use Rattle.partial_core.proofs.Laws.{opens_lawful}
 use Rattle.partial_replay.specs.declared.port.Port.{Port}
 use Rattle.partial_replay.specs.declared.port.UnderWay.{UnderWay}
-use Rattle.partial_replay.specs.PortState.{unfinished_call, AreFinished, AreFew, IsUnderWay, PortFits, notes_in, ends_of, IsGoing, HasTurned, steps_under_way}
-use Rattle.partial_replay.specs.RunState.{PortsFit, IsRunOf, FreshFrom, AreFreshPorts, AreListed, ArePlans, left_over, calls_in, ArePortsMade, AreStarted}
+use Rattle.partial_replay.specs.Inner.PortState.{unfinished_call, AreFinished, IsUnderWay, PortFits, notes_in, ends_of, IsGoing, HasTurned, steps_under_way}
+use Rattle.partial_replay.specs.Inner.RunState.{PortsFit, IsRunOf, FreshFrom, AreFreshPorts, AreListed, ArePlans, left_over, calls_in, ArePortsMade, AreStarted}
 use Rattle.std.specs.Option.{IsSome}
 use Rattle.std.specs.List.{zip}
 use Rattle.std.proofs.lemmas.List.{append-nil}
 use Rattle.partial_model.specs.declared.history.Applied.{Applied}
 use Rattle.partial_replay.specs.Place.{HasLeastPlace}
-use Rattle.partial_replay.proofs.PortLaws.{get_below, some_is}
+use Rattle.partial_replay.proofs.PortLaws.{some_is}
 use Rattle.partial_replay.specs.Trace.{Moment}
 use Rattle.partial_replay.specs.CallSteps.{AreStepsOf}
 use Rattle.partial_replay.specs.Turns.{BeginInTurns}
-use Rattle.partial_replay.specs.TurnState.{StopsAtStep}
-use Rattle.partial_replay.specs.Listed.{steps_in, EndInStep}
+use Rattle.partial_replay.specs.Inner.TurnState.{StopsAtStep}
+use Rattle.partial_replay.specs.Listed.{steps_in, EndInStep, AreFew}
+use Rattle.partial_model.proofs.HistoryLemmas.{place_below}
 
 -- one fresh port more
-pub fresh_push : (z : Layout) (p : ℕ) (ports : List Port) (port : Port) → FreshFrom z p ports → port.number ≡ p + length ports → port.core ≡ fresh z port.number → port.finished.items ≡ [] → port.under_way ≡ None → FreshFrom z p (ports ++ port ∷ [])
+pub fresh_push : (z : Layout) (p : ℕ) (ports : List Port) (port : Port) → FreshFrom z p ports → port.number ≡ p + length ports → port.core ≡ fresh z port.number → port.finished.items ≡ [] →
+    port.under_way ≡ None → FreshFrom z p (ports ++ port ∷ [])
 fresh_push z p [] port w number core finished none =
     let is : port.number ≡ p = omega (arith, number) in
     (is, core ∙ ap (fresh z) is, finished, none, tt)
 fresh_push z p (x ∷ ports) port w number core finished none = (w.0, w.1, w.2, w.3, fresh_push z (p + 1) ports port w.4 (omega (arith, number)) core finished none)
 
-fresh_fits : (z : Layout) (o : Opening) (calls : List Call) (p : ℕ) (port : Port) → z.m ≡ length o.values → port.number ≡ p → port.core ≡ fresh z p → port.finished.items ≡ [] → port.under_way ≡ None → PortFits o [] calls p (record { seen = []; notes = []; begun = fresh z p; kept = []; since = 0; past = 0 }) port
+fresh_fits : (z : Layout) (o : Opening) (calls : List Call) (p : ℕ) (port : Port) → z.m ≡ length o.values → port.number ≡ p → port.core ≡ fresh z p → port.finished.items ≡ [] →
+    port.under_way ≡ None → PortFits o [] calls p (record { seen = []; notes = []; begun = fresh z p; kept = []; since = 0; past = 0 }) port
 fresh_fits z o calls p port m number core finished none =
     let x : Part = record { seen = []; notes = []; begun = fresh z p; kept = []; since = 0; past = 0 } in
     record {
@@ -59,13 +62,15 @@ fresh_fits z o calls p port m number core finished none =
       });
     }
 
-fresh_ports_fit : (z : Layout) (o : Opening) (p : ℕ) (plans : List (List Call)) (ports : List Port) → z.m ≡ length o.values → FreshFrom z p ports → length ports ≡ length plans → PortsFit o [] p plans (fresh_parts z p (length plans)) ports
+fresh_ports_fit : (z : Layout) (o : Opening) (p : ℕ) (plans : List (List Call)) (ports : List Port) → z.m ≡ length o.values → FreshFrom z p ports → length ports ≡ length plans →
+    PortsFit o [] p plans (fresh_parts z p (length plans)) ports
 fresh_ports_fit z o p [] [] m w n = tt
 fresh_ports_fit z o p [] (t ∷ ports) m w n = absurd (omega (arith, n))
 fresh_ports_fit z o p (c ∷ plans) [] m w n = absurd (omega (arith, n))
 fresh_ports_fit z o p (c ∷ plans) (t ∷ ports) m w n = (fresh_fits z o c p t m w.0 w.1 w.2 w.3, fresh_ports_fit z o (p + 1) plans ports m w.4 (omega (arith, n)))
 
-fresh_at : (z : Layout) (p i : ℕ) (ports : List Port) (port : Port) → FreshFrom z p ports → slice_get ports i ≡ Some port → (port.core ≡ fresh z (p + i)) × (port.finished.items ≡ []) × (port.under_way ≡ None)
+fresh_at : (z : Layout) (p i : ℕ) (ports : List Port) (port : Port) → FreshFrom z p ports → slice_get ports i ≡ Some port → (port.core ≡ fresh z (p + i)) × (port.finished.items ≡ []) ×
+    (port.under_way ≡ None)
 fresh_at z p i [] port w t = let bad : None ≡ Some port = t in cc
 fresh_at z p zero (u ∷ ports) port w t =
     let same : u ≡ port = cc in
@@ -111,10 +116,21 @@ fresh_turned z ports w q calls port t =
     }
 
 -- a replay opens lawful
-pub opens_run : (plans : List (List Call)) (z : Layout) (o : Opening) (words : List ℕ) (ports : List Port) → IsLayout z → length o.values ≡ z.m → o.first ≡ pool_base z → AreOpeningWords z o.values words → length plans ≤ 64 → AreFreshPorts z (length plans) ports → IsRunOf plans z o words ports [] []
+pub opens_run : (plans : List (List Call)) (z : Layout) (o : Opening) (words : List ℕ) (ports : List Port) → IsLayout z → length o.values ≡ z.m → o.first ≡ pool_base z →
+    AreOpeningWords z o.values words → length plans ≤ 64 → AreFreshPorts z (length plans) ports → IsRunOf plans z o words ports [] []
 opens_run plans z o words ports sizes values first opening few fresh =
     let lawful = opens_lawful z o words (length plans) (record { sizes = sizes; values = values; stamps = first; words = opening }) few in
-    record { parts = fresh_parts z 0 (length plans); opened = words; opens = opening; lawful = lawful; fit = fresh_ports_fit z o 0 plans ports (sym values) fresh.1 fresh.0; leads = refl; entries = refl; senders = tt; made = fresh_made plans z ports fresh.1 }
+    record {
+      parts = fresh_parts z 0 (length plans);
+      opened = words;
+      opens = opening;
+      lawful = lawful;
+      fit = fresh_ports_fit z o 0 plans ports (sym values) fresh.1 fresh.0;
+      leads = refl;
+      entries = refl;
+      senders = tt;
+      made = fresh_made plans z ports fresh.1;
+    }
 
 pub listed_length : (plans : List (List Call)) (ports : List Port) → AreListed plans ports → length ports ≡ length plans
 listed_length [] [] w = refl
@@ -123,10 +139,16 @@ listed_length [] (t ∷ ports) w = absurd w
 listed_length (c ∷ plans) [] w = absurd w
 
 -- the ports of a run list their calls
-pub run_listed : (o : Opening) (log : List Applied) (q : ℕ) (plans : List (List Call)) (parts : List Part) (ports : List Port) (m : ℕ) → PortsFit o log q plans parts ports → ArePlans m plans → AreListed plans ports
+pub run_listed : (o : Opening) (log : List Applied) (q : ℕ) (plans : List (List Call)) (parts : List Part) (ports : List Port) (m : ℕ) → PortsFit o log q plans parts ports →
+    ArePlans m plans → AreListed plans ports
 run_listed o log q [] [] [] m w p = tt
-run_listed o log q (c ∷ plans) (x ∷ parts) (t ∷ ports) m w p =
-    (p.0.0, (λ some. let way = some_is t.under_way some in let u : IsUnderWay (length log) c x t.core t.finished.items (way.0) = subst (λ (f : Option UnderWay). MatchOption f (IsBetween x t.core) (IsUnderWay (length log) c x t.core t.finished.items)) way.1 w.0.way in get_below c (length t.finished.items) (u.call) u.next), run_listed o log (q + 1) plans parts ports m w.1 p.1)
+run_listed o log q (c ∷ plans) (x ∷ parts) (t ∷ ports) m w p = (
+  p.0.0,
+  (λ some. let way = some_is t.under_way some in let u : IsUnderWay (length log) c x t.core t.finished.items (way.0) =
+      subst (λ (f : Option UnderWay). MatchOption f (IsBetween x t.core) (IsUnderWay (length log) c x t.core t.finished.items)) way.1 w.0.way in place_below c (length t.finished.items)
+      (u.call) u.next),
+  run_listed o log (q + 1) plans parts ports m w.1 p.1,
+)
 run_listed o log q [] [] (t ∷ ports) m w p = absurd w
 run_listed o log q [] (x ∷ parts) ports m w p = absurd w
 run_listed o log q (c ∷ plans) [] ports m w p = absurd w
@@ -144,14 +166,18 @@ pair_at (u ∷ ports) (d ∷ plans) zero port calls here =
 pair_at (u ∷ ports) (d ∷ plans) (suc n) port calls here = let below = here.0 in pair_at ports plans n port calls (omega (arith, below), here.1)
 
 -- a call under way is one of the port's calls, and its number fits
-pub listed_at_place : (plans : List (List Call)) (ports : List Port) (n : ℕ) (calls : List Call) (port : Port) → AreListed plans ports → slice_get plans n ≡ Some calls → slice_get ports n ≡ Some port →
+pub listed_at_place : (plans : List (List Call)) (ports : List Port) (n : ℕ) (calls : List Call) (port : Port) → AreListed plans ports → slice_get plans n ≡ Some calls →
+    slice_get ports n ≡ Some port →
     (length calls < 2 ^ 32) × (IsSome port.under_way → length port.finished.items < length calls)
 listed_at_place [] ports n calls port w c t = let bad : None ≡ Some calls = c in cc
 listed_at_place (d ∷ plans) [] n calls port w c t = absurd w
 listed_at_place (d ∷ plans) (u ∷ ports) zero calls port w c t =
     let is : d ≡ calls = cc in
-    let same : u ≡ port = cc in
-    (subst (λ (e : List Call). length e < 2 ^ 32) is w.0, subst (λ (v : Port). IsSome v.under_way → length v.finished.items < length calls) same (subst (λ (e : List Call). IsSome u.under_way → length u.finished.items < length e) is w.1))
+    let same : u ≡ port = cc in (
+      subst (λ (e : List Call). length e < 2 ^ 32) is w.0,
+      subst (λ (v : Port). IsSome v.under_way → length v.finished.items < length calls) same
+          (subst (λ (e : List Call). IsSome u.under_way → length u.finished.items < length e) is w.1),
+    )
 listed_at_place (d ∷ plans) (u ∷ ports) (suc n) calls port w c t = listed_at_place plans ports n calls port w.2 c t
 
 pub length-zip : (plans : List (List Call)) (ports : List Port) → AreListed plans ports → length (zip ports plans) ≡ length ports
@@ -184,8 +210,10 @@ calls_next (d ∷ plans) (u ∷ ports) (suc n) calls port c t =
     ∙ sym (append_assoc (u.finished.items ++ over) (front ++ port.finished.items) own)
     ∙ ap (λ (l : List Called). l ++ own) (sym (append_assoc (u.finished.items ++ over) front port.finished.items))
 
-pub calls_more : (plans : List (List Call)) (ports : List Port) (n k : ℕ) (calls : List Call) (port : Port) (over so_far now : List Called) → k ≡ n + 1 → slice_get plans n ≡ Some calls → slice_get ports n ≡ Some port →
-    so_far ≡ calls_in plans (take n ports) → over ≡ left_over port (slice_get calls (length port.finished.items)) port.under_way → now ≡ (so_far ++ port.finished.items) ++ over → now ≡ calls_in plans (take k ports)
+pub calls_more : (plans : List (List Call)) (ports : List Port) (n k : ℕ) (calls : List Call) (port : Port) (over so_far now : List Called) → k ≡ n + 1 → slice_get plans n ≡ Some calls →
+    slice_get ports n ≡ Some port →
+    so_far ≡ calls_in plans (take n ports) → over ≡ left_over port (slice_get calls (length port.finished.items)) port.under_way → now ≡ (so_far ++ port.finished.items) ++ over →
+    now ≡ calls_in plans (take k ports)
 calls_more plans ports n k calls port over so_far now long c t told o is =
     let one : suc n ≡ k = omega (arith, long) in
     is
@@ -195,7 +223,8 @@ calls_more plans ports n k calls port over so_far now long c t told o is =
     ∙ ap (λ i. calls_in plans (take i ports)) one
 
 -- the call that a port leaves unfinished
-pub over_is : (port : Port) (calls : List Call) (way : UnderWay) (call : Call) (c : Called) → port.under_way ≡ Some way → slice_get calls (length port.finished.items) ≡ Some call → c ≡ unfinished_call port.number (length port.finished.items) call way → c ∷ [] ≡ left_over port (slice_get calls (length port.finished.items)) port.under_way
+pub over_is : (port : Port) (calls : List Call) (way : UnderWay) (call : Call) (c : Called) → port.under_way ≡ Some way → slice_get calls (length port.finished.items) ≡ Some call →
+    c ≡ unfinished_call port.number (length port.finished.items) call way → c ∷ [] ≡ left_over port (slice_get calls (length port.finished.items)) port.under_way
 over_is port calls way call c under get is =
     ap (λ (d : Called). d ∷ []) is
     ∙ ap (λ (f : Option Call). left_over port f (Some way)) (sym get)

@@ -47,10 +47,12 @@ pub record ShowsSame (h : List Applied) (j began n m : ℕ) : Type 0 where
   pub behind : began ≤ m
   pub same : last_entry j (take m h) ≡ last_entry j (take n h)
 
-stamp_behind : (o : Opening) (j : ℕ) (h : List Applied) (found : Option Applied) (s : ℕ) → last_entry j h ≡ found → stamp_of o h j ≡ s → option_map_or (λ (e : Applied). e.stamp) found (initial_stamp o j) ≡ s
+stamp_behind : (o : Opening) (j : ℕ) (h : List Applied) (found : Option Applied) (s : ℕ) → last_entry j h ≡ found → stamp_of o h j ≡ s → option_map_or (λ (e : Applied). e.stamp) found
+    (initial_stamp o j) ≡ s
 stamp_behind o j h found s is stamp = ap (λ (f : Option Applied). option_map_or (λ (e : Applied). e.stamp) f (initial_stamp o j)) (sym is) ∙ stamp
 
-shows_initial : (o : Opening) (h : List Applied) (j began n s : ℕ) (found : Option ℕ) → IsHistory o h → began ≤ n → j < length o.values → s ≡ initial_stamp o j → ((a : ℕ) → last_entry j (take a (take n h)) ≡ None) → IsPlaceFrom h began s found → ShowsSame h j began n (prefix_from began found)
+shows_initial : (o : Opening) (h : List Applied) (j began n s : ℕ) (found : Option ℕ) → IsHistory o h → began ≤ n → j < length o.values → s ≡ initial_stamp o j →
+    ((a : ℕ) → last_entry j (take a (take n h)) ≡ None) → IsPlaceFrom h began s found → ShowsSame h j began n (prefix_from began found)
 shows_initial o h j began n s None hist behind below first all place =
     let whole : take n (take n h) ≡ take n h = take-take n n h (omega arith) in
     let front : take began (take n h) ≡ take began h = take-take began n h behind in
@@ -59,13 +61,18 @@ shows_initial o h j began n s (Some k) hist behind below first all place =
     let e = place.1.0 in
     absurd (AllByRecursion-get (λ (f : Applied). (i : ℕ) → i < length o.values → f.stamp ≢ initial_stamp o i) h k e hist.not_initial place.1.1 j below (place.1.2 ∙ first))
 
-shows_entry : (o : Opening) (h : List Applied) (j began n s : ℕ) (found : Option ℕ) (l : LastAt None j (take n h)) → IsHistory o h → began ≤ n → (l.entry).stamp ≡ s → IsPlaceFrom h began s found → ShowsSame h j began n (prefix_from began found)
+shows_entry : (o : Opening) (h : List Applied) (j began n s : ℕ) (found : Option ℕ) (l : LastAt None j (take n h)) → IsHistory o h → began ≤ n → (l.entry).stamp ≡ s → IsPlaceFrom h began s found →
+    ShowsSame h j began n (prefix_from began found)
 shows_entry o h j began n s None l hist behind stamp place =
     let both = front_place h n (l.place) (l.entry) (l.stands) in
     let whole : take n (take n h) ≡ take n h = take-take n n h (omega arith) in
     let front : take began (take n h) ≡ take began h = take-take began n h behind in
     elim (cases_lt (l.place) began) [
-      | inl before ↦ record { least = behind; behind = omega arith; same = ap (last_entry j) (sym front) ∙ l.from began before ∙ sym (ap (last_entry j) (sym whole) ∙ l.from n (omega (arith, before, behind))) }
+      | inl before ↦ record {
+        least = behind;
+        behind = omega arith;
+        same = ap (last_entry j) (sym front) ∙ l.from began before ∙ sym (ap (last_entry j) (sym whole) ∙ l.from n (omega (arith, before, behind)));
+      }
       | inr from ↦ absurd (place (l.place) (l.entry) from both.1 stamp)
     ]
 shows_entry o h j began n s (Some k) l hist behind stamp place =
@@ -74,9 +81,15 @@ shows_entry o h j began n s (Some k) l hist behind stamp place =
     let more : k + 1 ≤ n = omega (arith, is, both.0) in
     let whole : take n (take n h) ≡ take n h = take-take n n h (omega arith) in
     let front : take (k + 1) (take n h) ≡ take (k + 1) h = take-take (k + 1) n h more in
-    record { least = more; behind = omega (arith, place.0); same = ap (last_entry j) (sym front) ∙ l.from (k + 1) (omega (arith, is)) ∙ sym (ap (last_entry j) (sym whole) ∙ l.from n (omega (arith, both.0))) }
+    record {
+      least = more;
+      behind = omega (arith, place.0);
+      same = ap (last_entry j) (sym front) ∙ l.from (k + 1)
+          (omega (arith, is)) ∙ sym (ap (last_entry j) (sym whole) ∙ l.from n (omega (arith, both.0)));
+    }
 
-pub shows_same : (o : Opening) (h : List Applied) (j began n s : ℕ) (found : Option ℕ) → IsHistory o h → began ≤ n → j < length o.values → stamp_of o (take n h) j ≡ s → IsPlaceFrom h began s found → ShowsSame h j began n (prefix_from began found)
+pub shows_same : (o : Opening) (h : List Applied) (j began n s : ℕ) (found : Option ℕ) → IsHistory o h → began ≤ n → j < length o.values → stamp_of o (take n h) j ≡ s → IsPlaceFrom h began s found →
+    ShowsSame h j began n (prefix_from began found)
 shows_same o h j began n s found hist behind below stamp place =
     let whole : take n (take n h) ≡ take n h = take-take n n h (omega arith) in
     elim (last_at None j (take n h)) [
@@ -102,7 +115,8 @@ not_before o h j k i s e hist below stands stamp before shows =
     ]
 
 -- the prefix that is found is the least one
-least_prefix : (o : Opening) (h : List Applied) (j began s : ℕ) (found : Option ℕ) → IsHistory o h → j < length o.values → IsPlaceFrom h began s found → (i : ℕ) → began ≤ i → i < prefix_from began found → stamp_of o (take i h) j ≡ s → ⊥
+least_prefix : (o : Opening) (h : List Applied) (j began s : ℕ) (found : Option ℕ) → IsHistory o h → j < length o.values → IsPlaceFrom h began s found → (i : ℕ) → began ≤ i →
+    i < prefix_from began found → stamp_of o (take i h) j ≡ s → ⊥
 least_prefix o h j began s None hist below place i from within shows = omega (arith, from, within)
 least_prefix o h j began s (Some k) hist below place i from within shows = not_before o h j k i s (place.1.0) hist below place.1.1 place.1.2 (omega (arith, within)) shows
 
@@ -118,11 +132,13 @@ pub record FindsPlace (o : Opening) (h : List Applied) (p began : ℕ) (c : Call
   pub least : IsLeastFrom o h began c a note
 
 -- the place of an entry is found where the entry stands from the begin on
-found_at : (o : Opening) (h : List Applied) (began s k : ℕ) (e : Applied) (found : Option ℕ) → IsHistory o h → began ≤ k → slice_get h k ≡ Some e → e.stamp ≡ s → IsPlaceFrom h began s found → found ≡ Some k
+found_at : (o : Opening) (h : List Applied) (began s k : ℕ) (e : Applied) (found : Option ℕ) → IsHistory o h → began ≤ k → slice_get h k ≡ Some e → e.stamp ≡ s →
+    IsPlaceFrom h began s found → found ≡ Some k
 found_at o h began s k e None hist behind stands stamp place = absurd (place k e behind stands stamp)
 found_at o h began s k e (Some i) hist behind stands stamp place = ap Some (one_place h i k (place.1.0) e hist.distinct place.1.1 stands (place.1.2 ∙ sym stamp))
 
-pub finds_place : (o : Opening) (h : List Applied) (p began : ℕ) (words : List ℕ) (c : Call) (a : Answer) (n : Note) (found : Option Note) → IsHistory o h → Agrees o words h → Fits (length o.values) c a (Some n) → IsTrueOf o h p c a n → began ≤ place_of n → IsNoteFrom words h began c a found → FindsPlace o h p began c a n found
+pub finds_place : (o : Opening) (h : List Applied) (p began : ℕ) (words : List ℕ) (c : Call) (a : Answer) (n : Note) (found : Option Note) → IsHistory o h → Agrees o words h →
+    Fits (length o.values) c a (Some n) → IsTrueOf o h p c a n → began ≤ place_of n → IsNoteFrom words h began c a found → FindsPlace o h p began c a n found
 finds_place o h p began words (call.Update j v) (answer.Applied s) (note.Wrote k) found hist agrees fits w behind place =
     let is = found_at o h began s k (record { port = p; component = j; value = v; stamp = s }) (place.0) hist behind w refl place.1 in
     record { note = note.Wrote k; is = place.2 ∙ ap (option_map note.Wrote) is; fits = fits; true' = w; behind = behind; within = omega arith; wrote' = refl; least = tt }
@@ -136,7 +152,11 @@ finds_place o h p began words (call.Read j) (answer.Read v s) (note.Saw n) found
       note = note.Saw m;
       is = place.2;
       fits = fits;
-      true' = (omega (arith, l.least, w.0), w.1 ∙ ap (λ (f : Option Applied). option_map_or (λ (e : Applied). e.value) f (get_or o.values j 0)) (sym l.same), w.2 ∙ ap (λ (f : Option Applied). option_map_or (λ (e : Applied). e.stamp) f (initial_stamp o j)) (sym l.same));
+      true' = (
+        omega (arith, l.least, w.0),
+        w.1 ∙ ap (λ (f : Option Applied). option_map_or (λ (e : Applied). e.value) f (get_or o.values j 0)) (sym l.same),
+        w.2 ∙ ap (λ (f : Option Applied). option_map_or (λ (e : Applied). e.stamp) f (initial_stamp o j)) (sym l.same),
+      );
       behind = l.behind;
       within = l.least;
       wrote' = refl;
@@ -173,7 +193,8 @@ finds_place o h p began words (call.Scan js) (answer.Scanned vs c b) (note.Saw n
       least = λ i from below shows. l.least i from below shows;
     }
   where
-    borrowed_from : (is : List ℕ) (m n : ℕ) (s : Option ℕ) → m ≤ n → IfSome s (λ t. (k j : ℕ) × (n ≤ k) × Contains is j × IsEntryFor h k j t) → IfSome s (λ t. (k j : ℕ) × (m ≤ k) × Contains is j × IsEntryFor h k j t)
+    borrowed_from : (is : List ℕ) (m n : ℕ) (s : Option ℕ) → m ≤ n → IfSome s (λ t. (k j : ℕ) × (n ≤ k) × Contains is j × IsEntryFor h k j t) →
+        IfSome s (λ t. (k j : ℕ) × (m ≤ k) × Contains is j × IsEntryFor h k j t)
     borrowed_from is m n None less w = tt
     borrowed_from is m n (Some t) less w = (w.0, w.1, (let from = w.2 in omega (arith, less, from)), w.3, w.4)
 finds_place o h p began words _ _ _ found hist agrees fits w behind place = absurd w

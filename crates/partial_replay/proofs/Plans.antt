@@ -6,7 +6,7 @@ use Rattle.partial_model.specs.declared.call.Call.{Call}
 use Rattle.partial_model.specs.declared.call.Call.TheVariants as call
 use Rattle.partial_text.specs.PlanText.{PlanView, IsPlan, IsCall, sizes_line, initial_line, call_text, next_call, field, port_line, steps_line, ended, plan_text}
 use Rattle.partial_machine.specs.Calls.{IsServed}
-use Rattle.partial_replay.specs.RunState.{ArePlans}
+use Rattle.partial_replay.specs.Inner.RunState.{ArePlans}
 
 next_long : (cs : List Call) → length cs ≤ length (flat_map next_call cs)
 next_long [] = omega arith

@@ -41,7 +41,9 @@ use Rattle.partial_core.proofs.Laws.{calls_begin_between}
 use Rattle.partial_replay.specs.declared.port.Port.{Port}
 use Rattle.partial_replay.specs.declared.port.UnderWay.{UnderWay}
 use Rattle.partial_replay.specs.CallSteps.{IsRefusedAtOnce, IsFinishedAtOnce}
-use Rattle.partial_replay.specs.PortState.{end_of, ends_of, IsFinished, AreFinished, AreFew, notes_in, IsUnderWay, PortFits, IsDoneAtOnce, entry_at, one_step_more, IsEndedCall, GoesOn, Ends, StepMade}
+use Rattle.partial_replay.specs.Inner.PortState.{end_of, ends_of, IsFinished, AreFinished, notes_in, IsUnderWay, PortFits, IsDoneAtOnce, entry_at, one_step_more, IsEndedCall, GoesOn, Ends, StepMade}
+use Rattle.partial_replay.specs.Listed.{AreFew}
+use Rattle.partial_model.proofs.HistoryLemmas.{place_below}
 
 pub same_eqb : (a b : ℕ) → a ≡ b → (a == b) ≡ true
 same_eqb a b h = elim (eqb_tells a b) [ inl w ↦ w.0 | inr w ↦ absurd (w.1 h) ]
@@ -71,11 +73,6 @@ take_next {A} (y ∷ ys) (suc k) x s =
     let e : suc k + 1 ≡ suc (k + 1) = omega arith in
     ap (λ n. take n (y ∷ ys)) e ∙ ap (λ (l : List A). y ∷ l) (take_next ys k x s)
 
-pub get_below : {A : Type 0} (xs : List A) (k : ℕ) (x : A) → slice_get xs k ≡ Some x → k < length xs
-get_below [] k x s = let bad : None ≡ Some x = s in cc
-get_below (y ∷ ys) zero x s = omega arith
-get_below (y ∷ ys) (suc k) x s = let below = get_below ys k x s in omega arith
-
 -- another element at a place
 pub get_set : {A : Type 0} (xs : List A) (i : ℕ) (a b : A) → slice_get xs i ≡ Some a → slice_get (set xs i b) i ≡ Some b
 get_set [] i a b s = let bad : None ≡ Some a = s in cc
@@ -93,7 +90,8 @@ get_set_other (x ∷ xs) (suc i) (suc q) b d = get_set_other xs i q b (λ h. d (
 ended_here : (n low : ℕ) (c : Called) → low ≤ n → IsFinished n low c → end_of low c ≤ n
 ended_here n low c within w = here c.finish w.ended
   where
-    here : (f : Option Finish) → IsSomeAnd f (λ (f : Finish). (c.began ≤ f.ended) × (f.ended ≤ n) × IfSome f.note (λ note. (c.began ≤ place_of note) × (shown_by note ≤ f.ended))) → option_map_or (λ (f : Finish). f.ended) f low ≤ n
+    here : (f : Option Finish) → IsSomeAnd f (λ (f : Finish). (c.began ≤ f.ended) × (f.ended ≤ n) × IfSome f.note (λ note. (c.began ≤ place_of note) × (shown_by note ≤ f.ended))) →
+        option_map_or (λ (f : Finish). f.ended) f low ≤ n
     here None h = absurd h
     here (Some f) h = h.1
 
@@ -101,7 +99,8 @@ pub ends_within : (n p k low : ℕ) (cs : List Called) → low ≤ n → AreFini
 ends_within n p k low [] within w = within
 ends_within n p k low (c ∷ cs) within w = ends_within n p (k + 1) (end_of low c) cs (ended_here n low c within w.2) w.3
 
-pub finished_push : (n p k low : ℕ) (cs : List Called) (c : Called) → AreFinished n p k low cs → c.port ≡ p → c.number ≡ k + length cs → IsFinished n (ends_of low cs) c → AreFinished n p k low (cs ++ c ∷ [])
+pub finished_push : (n p k low : ℕ) (cs : List Called) (c : Called) → AreFinished n p k low cs → c.port ≡ p → c.number ≡ k + length cs → IsFinished n (ends_of low cs) c →
+    AreFinished n p k low (cs ++ c ∷ [])
 finished_push n p k low [] c w port number f = (port, number ∙ omega arith, f, tt)
 finished_push n p k low (x ∷ cs) c w port number f = (w.0, w.1, w.2, finished_push n p (k + 1) (end_of low x) cs c w.3 port (omega (arith, number)) f)
 
@@ -121,7 +120,8 @@ notes_in-push (x ∷ cs) c n e = notes_push_step (noted_of x) (notes_in (cs ++ c
 finished_grows_here : (n m low : ℕ) (c : Called) → n ≤ m → IsFinished n low c → IsFinished m low c
 finished_grows_here n m low c more w = record { behind = w.behind; ended = here c.finish w.ended }
   where
-    here : (f : Option Finish) → IsSomeAnd f (λ (f : Finish). (c.began ≤ f.ended) × (f.ended ≤ n) × IfSome f.note (λ note. (c.began ≤ place_of note) × (shown_by note ≤ f.ended))) → IsSomeAnd f (λ (f : Finish). (c.began ≤ f.ended) × (f.ended ≤ m) × IfSome f.note (λ note. (c.began ≤ place_of note) × (shown_by note ≤ f.ended)))
+    here : (f : Option Finish) → IsSomeAnd f (λ (f : Finish). (c.began ≤ f.ended) × (f.ended ≤ n) × IfSome f.note (λ note. (c.began ≤ place_of note) × (shown_by note ≤ f.ended))) →
+        IsSomeAnd f (λ (f : Finish). (c.began ≤ f.ended) × (f.ended ≤ m) × IfSome f.note (λ note. (c.began ≤ place_of note) × (shown_by note ≤ f.ended)))
     here None h = absurd h
     here (Some f) h = (h.0, omega (arith, h.1), h.2)
 
@@ -130,22 +130,27 @@ finished_grows n m p k low [] more w = tt
 finished_grows n m p k low (c ∷ cs) more w = (w.0, w.1, finished_grows_here n m low c more w.2, finished_grows n m p (k + 1) (end_of low c) cs more w.3)
 
 -- the history grows: what a call saw is still the least
-least_from_grows : (o : Opening) (h es : List Applied) (began n : ℕ) (c : Call) (a : Answer) (note : Note) → shown_by note ≤ n → n ≤ length h → IsLeastFrom o h began c a note → IsLeastFrom o (h ++ es) began c a note
+least_from_grows : (o : Opening) (h es : List Applied) (began n : ℕ) (c : Call) (a : Answer) (note : Note) → shown_by note ≤ n → n ≤ length h → IsLeastFrom o h began c a note →
+    IsLeastFrom o (h ++ es) began c a note
 least_from_grows o h es began n c a (note.Wrote k) within below w = tt
 least_from_grows o h es began n c a (note.Lost k) within below w = tt
 least_from_grows o h es began n c a (note.Saw m) within below w = λ i from less shows.
     let front : take i (h ++ es) ≡ take i h = take-append-le i h es (omega (arith, less, within, below)) in
     w i from less (subst (λ (l : List Applied). Shows o l c a) front shows)
 
-least_note_grows : (o : Opening) (h es : List Applied) (began n : ℕ) (c : Call) (a : Answer) (note : Option Note) → n ≤ length h → IfSome note (λ m. (began ≤ place_of m) × (shown_by m ≤ n)) → IfSome note (IsLeastFrom o h began c a) → IfSome note (IsLeastFrom o (h ++ es) began c a)
+least_note_grows : (o : Opening) (h es : List Applied) (began n : ℕ) (c : Call) (a : Answer) (note : Option Note) → n ≤ length h → IfSome note (λ m. (began ≤ place_of m) × (shown_by m ≤ n)) →
+    IfSome note (IsLeastFrom o h began c a) → IfSome note (IsLeastFrom o (h ++ es) began c a)
 least_note_grows o h es began n c a None below w l = tt
 least_note_grows o h es began n c a (Some m) below w l = least_from_grows o h es began n c a m w.1 below l
 
-least_place_grows : (o : Opening) (h es : List Applied) (began : ℕ) (c : Call) (f : Option Finish) → IsSomeAnd f (λ (g : Finish). (began ≤ g.ended) × (g.ended ≤ length h) × IfSome g.note (λ m. (began ≤ place_of m) × (shown_by m ≤ g.ended))) → IfSome f (λ (g : Finish). IfSome g.note (IsLeastFrom o h began c g.answer)) → IfSome f (λ (g : Finish). IfSome g.note (IsLeastFrom o (h ++ es) began c g.answer))
+least_place_grows : (o : Opening) (h es : List Applied) (began : ℕ) (c : Call) (f : Option Finish) →
+    IsSomeAnd f (λ (g : Finish). (began ≤ g.ended) × (g.ended ≤ length h) × IfSome g.note (λ m. (began ≤ place_of m) × (shown_by m ≤ g.ended))) →
+    IfSome f (λ (g : Finish). IfSome g.note (IsLeastFrom o h began c g.answer)) → IfSome f (λ (g : Finish). IfSome g.note (IsLeastFrom o (h ++ es) began c g.answer))
 least_place_grows o h es began c None w l = absurd w
 least_place_grows o h es began c (Some g) w l = least_note_grows o h es began g.ended c g.answer g.note w.1 w.2 l
 
-pub least_grow : (o : Opening) (log es : List Applied) (p k low : ℕ) (cs : List Called) → AreFinished (length log) p k low cs → AllByRecursion (HasLeastPlace o log) cs → AllByRecursion (HasLeastPlace o (log ++ es)) cs
+pub least_grow : (o : Opening) (log es : List Applied) (p k low : ℕ) (cs : List Called) → AreFinished (length log) p k low cs → AllByRecursion (HasLeastPlace o log) cs →
+    AllByRecursion (HasLeastPlace o (log ++ es)) cs
 least_grow o log es p k low [] w l = tt
 least_grow o log es p k low (c ∷ cs) w l = (least_place_grows o log es c.began c.call c.finish w.2.ended l.0, least_grow o log es p (k + 1) (end_of low c) cs w.3 l.1)
 
@@ -173,10 +178,12 @@ pub record DoneFits (o : Opening) (log : List Applied) (calls : List Call) (p : 
   pub few : length done ≤ length calls
   pub least : AllByRecursion (HasLeastPlace o log) done
 
-pub done_of : (o : Opening) (log : List Applied) (calls : List Call) (p : ℕ) (x : Part) (port : Port) → PortFits o log calls p x port → DoneFits o log calls p port.finished.items (places_written x.notes)
+pub done_of : (o : Opening) (log : List Applied) (calls : List Call) (p : ℕ) (x : Part) (port : Port) → PortFits o log calls p x port → DoneFits o log calls p port.finished.items
+    (places_written x.notes)
 done_of o log calls p x port w = record { finished = w.finished; legal = w.legal; shown = w.shown; written = w.written; made = w.made; few = w.few; least = w.least }
 
-pub done_grows : (o : Opening) (log es : List Applied) (calls : List Call) (p : ℕ) (done : List Called) (places : List ℕ) → DoneFits o log calls p done places → DoneFits o (log ++ es) calls p done places
+pub done_grows : (o : Opening) (log es : List Applied) (calls : List Call) (p : ℕ) (done : List Called) (places : List ℕ) → DoneFits o log calls p done places →
+    DoneFits o (log ++ es) calls p done places
 done_grows o log es calls p done places w =
     record {
       finished = finished_grows (length log) (length (log ++ es)) p 0 0 done (omega (arith, length-append log es)) w.finished;
@@ -190,36 +197,61 @@ done_grows o log es calls p done places w =
 
 ended_finish : (o : Opening) (log : List Applied) (p number low seen : ℕ) (call : Call) (c : Called) (e : EndedCall o log p number low seen call c) → IsFinished (length log) low c
 ended_finish o log p number low seen call c e =
-    record { behind = e.behind; ended = subst (λ (f : Option Finish). IsSomeAnd f (λ (f : Finish). (c.began ≤ f.ended) × (f.ended ≤ length log) × IfSome f.note (λ note. (c.began ≤ place_of note) × (shown_by note ≤ f.ended)))) (sym (e.finish)) (e.within, omega arith, e.placed) }
+    record {
+      behind = e.behind;
+      ended = subst (λ (f : Option Finish). IsSomeAnd f
+          (λ (f : Finish). (c.began ≤ f.ended) × (f.ended ≤ length log) × IfSome f.note (λ note. (c.began ≤ place_of note) × (shown_by note ≤ f.ended)))) (sym (e.finish))
+          (e.within, omega arith, e.placed);
+    }
 
 seen_next : (seen low n began : ℕ) (note : Option Note) → seen ≤ low → low ≤ n → IfSome note (λ a. (began ≤ place_of a) × (shown_by a ≤ n)) → seen_after seen note ≤ n
 seen_next seen low n began None s l w = omega arith
 seen_next seen low n began (Some a) s l w = w.1
 
-pub push_fits : (o : Opening) (log : List Applied) (calls : List Call) (p : ℕ) (done : List Called) (places : List ℕ) (call : Call) (c : Called) → DoneFits o log calls p done places → slice_get calls (length done) ≡ Some call → (e : EndedCall o log p (length done) (ends_of 0 done) (seen_by 0 (notes_in done)) call c) → DoneFits o log calls p (done ++ c ∷ []) (places ++ wrote (e.note))
+pub push_fits : (o : Opening) (log : List Applied) (calls : List Call) (p : ℕ) (done : List Called) (places : List ℕ) (call : Call) (c : Called) → DoneFits o log calls p done places →
+    slice_get calls (length done) ≡ Some call → (e : EndedCall o log p (length done) (ends_of 0 done) (seen_by 0 (notes_in done)) call c) → DoneFits o log calls p (done ++ c ∷ [])
+    (places ++ wrote (e.note))
 push_fits o log calls p done places call c w next e =
     let n : Noted = record { call = call; answer = e.answer; note = e.note } in
-    let noted : noted_of c ≡ Some n = ap (λ (f : Option Finish). option_map (λ (f : Finish). record { call = c.call; answer = f.answer; note = f.note }) f) (e.finish) ∙ ap (λ (d : Call). Some (record { call = d; answer = e.answer; note = e.note })) (e.call') in
+    let noted : noted_of c ≡ Some n = ap (λ (f : Option Finish). option_map (λ (f : Finish). record { call = c.call; answer = f.answer; note = f.note }) f)
+    (e.finish) ∙ ap (λ (d : Call). Some (record { call = d; answer = e.answer; note = e.note })) (e.call') in
     let pushed = notes_in-push done c n noted in
     let longer = length_push done c in
     let low = ends_within (length log) p 0 0 done (omega arith) w.finished in
     let end : ends_of 0 (done ++ c ∷ []) ≡ length log = ends_of-push 0 done c ∙ ap (λ (f : Option Finish). option_map_or (λ (f : Finish). f.ended) f (ends_of 0 done)) (e.finish) in
     let seen : seen_by 0 (notes_in (done ++ c ∷ [])) ≡ seen_after (seen_by 0 (notes_in done)) (e.note) = ap (seen_by 0) pushed ∙ seen_by-push 0 (notes_in done) n in
-    let below = get_below calls (length done) call next in
+    let below = place_below calls (length done) call next in
     record {
       finished = finished_push (length log) p 0 0 done c w.finished (e.port) (e.number' ∙ omega arith) (ended_finish o log p (length done) (ends_of 0 done) (seen_by 0 (notes_in done)) call c e);
       legal = subst (LegalNotes o log p 0) (sym pushed) (LegalNotes-push o log p 0 (notes_in done) n w.legal (e.legal));
       shown = let top = seen_next (seen_by 0 (notes_in done)) (ends_of 0 done) (length log) c.began (e.note) w.shown low (e.placed) in omega (arith, end, seen, top);
       written = ap places_written pushed ∙ places_written-push (notes_in done) n ∙ ap (λ (l : List ℕ). l ++ wrote (e.note)) w.written;
-      made = map_push (λ (c : Called). c.call) done c ∙ ap (λ (d : Call). map (λ (c : Called). c.call) done ++ d ∷ []) (e.call') ∙ ap (λ (l : List Call). l ++ call ∷ []) w.made ∙ sym (ap (λ n. take n calls) longer ∙ take_next calls (length done) call next);
+      made = map_push (λ (c : Called). c.call) done c ∙ ap (λ (d : Call). map (λ (c : Called). c.call) done ++ d ∷ []) (e.call') ∙ ap (λ (l : List Call). l ++ call ∷ []) w.made ∙
+          sym (ap (λ n. take n calls) longer ∙ take_next calls (length done) call next);
       few = omega (arith, longer, below);
-      least = AllByRecursion-push (HasLeastPlace o log) done c w.least (subst (λ (f : Option Finish). IfSome f (λ (f : Finish). IfSome f.note (IsLeastFrom o log c.began c.call f.answer))) (sym (e.finish)) (subst (λ (d : Call). IfSome e.note (IsLeastFrom o log c.began d e.answer)) (sym (e.call')) e.least));
+      least = AllByRecursion-push (HasLeastPlace o log) done c w.least (subst (λ (f : Option Finish). IfSome f (λ (f : Finish). IfSome f.note (IsLeastFrom o log c.began c.call f.answer)))
+          (sym (e.finish)) (subst (λ (d : Call). IfSome e.note (IsLeastFrom o log c.began d e.answer)) (sym (e.call')) e.least));
     }
 
 -- a port with these finished calls
-pub fits_with : (o : Opening) (log : List Applied) (calls : List Call) (p : ℕ) (x : Part) (port : Port) (places : List ℕ) → port.number ≡ p → port_of x ≡ p → port.core.sizes.m ≡ length o.values → DoneFits o log calls p port.finished.items places → AreFew port.core.sizes port.finished.items → places ≡ places_written x.notes → MatchOption port.under_way (IsBetween x port.core) (IsUnderWay (length log) calls x port.core port.finished.items) → PortFits o log calls p x port
+pub fits_with : (o : Opening) (log : List Applied) (calls : List Call) (p : ℕ) (x : Part) (port : Port) (places : List ℕ) → port.number ≡ p → port_of x ≡ p → port.core.sizes.m ≡ length o.values →
+    DoneFits o log calls p port.finished.items places → AreFew port.core.sizes port.finished.items → places ≡ places_written x.notes → MatchOption port.under_way (IsBetween x port.core)
+    (IsUnderWay (length log) calls x port.core port.finished.items) → PortFits o log calls p x port
 fits_with o log calls p x port places number part sizes w bounded same way =
-    record { number = number; part = part; sizes = sizes; finished = w.finished; legal = w.legal; shown = w.shown; written = w.written ∙ same; made = w.made; few = w.few; bounded = bounded; least = w.least; way = way }
+    record {
+      number = number;
+      part = part;
+      sizes = sizes;
+      finished = w.finished;
+      legal = w.legal;
+      shown = w.shown;
+      written = w.written ∙ same;
+      made = w.made;
+      few = w.few;
+      bounded = bounded;
+      least = w.least;
+      way = way;
+    }
 
 no_position : (js : List ℕ) → (length js == 0) ≡ true → js ≡ []
 no_position [] e = refl
@@ -269,7 +301,9 @@ pub between_of : (o : Opening) (log : List Applied) (calls : List Call) (p : ℕ
 between_of o log calls p x port w none = subst (λ (f : Option UnderWay). MatchOption f (IsBetween x port.core) (IsUnderWay (length log) calls x port.core port.finished.items)) none w.way
 
 -- a call begins at a port between calls
-pub begun_fits : (o : Opening) (log : List Applied) (calls : List Call) (p : ℕ) (x : Part) (port new : Port) (call : Call) → PortFits o log calls p x port → port.under_way ≡ None → slice_get calls (length port.finished.items) ≡ Some call → IsServed port.core.sizes.m call → refusal_of port.core call ≡ None → reply_of (begun_of port.core call) ≡ None → new.number ≡ port.number → new.core ≡ begun_of port.core call → new.finished ≡ port.finished → new.under_way ≡ Some (record { began = length log; steps = 0 }) → PortFits o log calls p x new
+pub begun_fits : (o : Opening) (log : List Applied) (calls : List Call) (p : ℕ) (x : Part) (port new : Port) (call : Call) → PortFits o log calls p x port → port.under_way ≡ None →
+    slice_get calls (length port.finished.items) ≡ Some call → IsServed port.core.sizes.m call → refusal_of port.core call ≡ None → reply_of (begun_of port.core call) ≡ None →
+    new.number ≡ port.number → new.core ≡ begun_of port.core call → new.finished ≡ port.finished → new.under_way ≡ Some (record { began = length log; steps = 0 }) → PortFits o log calls p x new
 begun_fits o log calls p x port new call w none next served refusal reply number core finished way =
     let between = between_of o log calls p x port w none in
     let done : new.finished.items ≡ port.finished.items = ap (λ (v : Vec Called Global). v.items) finished in
@@ -289,7 +323,8 @@ begun_fits o log calls p x port new call w none next served refusal reply number
       first = λ b. absurd (false≢true (sym b ∙ begun));
       machine = machine;
       due = ap (λ (s : CoreState). is_at_rest s.stage) core ∙ b.due;
-      steps = let left : steps_left c ≡ steps_left (begun_of port.core call) = ap steps_left core in let few = b.few in let most : most_steps c.sizes call ≡ most_steps port.core.sizes call = ap (λ (z : Layout). most_steps z call) sizes in omega (arith, left, few, most);
+      steps = let left : steps_left c ≡ steps_left (begun_of port.core call) = ap steps_left core in let few = b.few in let most : most_steps c.sizes call ≡ most_steps port.core.sizes call =
+          ap (λ (z : Layout). most_steps z call) sizes in omega (arith, left, few, most);
     } in
     fits_with o log calls p x new (places_written x.notes) (number ∙ w.number) w.part (ap (λ (z : Layout). z.m) sizes ∙ w.sizes)
     (subst (λ (l : List Called). DoneFits o log calls p l (places_written x.notes)) (sym done) (done_of o log calls p x port w))
@@ -309,12 +344,17 @@ once_empty s (call.Update j v) r is = let bad : None ≡ Some r = is in cc
 once_empty s (call.Scan js) r is = at (length js == 0) refl
   where
     at : (b : Bool) → (length js == 0) ≡ b → (call.Scan js ≡ call.Scan []) × (r ≡ reply.Scanned 0 None)
-    at true e = (ap call.Scan (no_position js e), (let same : Some (reply.Scanned 0 None) ≡ Some r = ap (λ (b : Bool). reply_at (cond b (Finished (reply.Scanned 0 None)) ScanBegun)) (sym e) ∙ is in cc))
+    at true e = (
+      ap call.Scan (no_position js e),
+      (let same : Some (reply.Scanned 0 None) ≡ Some r =
+          ap (λ (b : Bool). reply_at (cond b (Finished (reply.Scanned 0 None)) ScanBegun)) (sym e) ∙ is in cc),
+    )
     at false e = let bad : None ≡ Some r = ap (λ (b : Bool). reply_at (cond b (Finished (reply.Scanned 0 None)) ScanBegun)) (sym e) ∙ is in cc
 once_empty s (call.Read j) r is = let bad : None ≡ Some r = is in cc
 once_empty s (call.UpdateIf j x v) r is = let bad : None ≡ Some r = is in cc
 
-once_refused : (o : Opening) (log : List Applied) (p number low seen : ℕ) (call : Call) (c : Called) (s t : CoreState) (x : Part) → IsDoneAtOnce p number call (length log) s t c → IsRefusedAtOnce s c t → low ≤ length log → s.sizes.m ≡ length o.values → IsBetween x s → OnceEnded o log p number low seen call c s t x
+once_refused : (o : Opening) (log : List Applied) (p number low seen : ℕ) (call : Call) (c : Called) (s t : CoreState) (x : Part) → IsDoneAtOnce p number call (length log) s t c →
+    IsRefusedAtOnce s c t → low ≤ length log → s.sizes.m ≡ length o.values → IsBetween x s → OnceEnded o log p number low seen call c s t x
 once_refused o log p number low seen call c s t x d r behind sizes between =
     let may : MayBeRefused (length o.values) call r.cause = subst (λ m. MayBeRefused m call r.cause) sizes (may_be_refused s call r.cause (ap (refusal_of s) (sym d.call') ∙ r.refused)) in
     record {
@@ -336,7 +376,8 @@ once_refused o log p number low seen call c s t x d r behind sizes between =
       sizes = ap (λ (v : CoreState). v.sizes) r.rests;
     }
 
-once_finished : (o : Opening) (log : List Applied) (p number low seen : ℕ) (made : Call) (c : Called) (s t : CoreState) (x : Part) → IsDoneAtOnce p number made (length log) s t c → IsFinishedAtOnce s c t → low ≤ length log → seen ≤ low → IsBetween x s → OnceEnded o log p number low seen made c s t x
+once_finished : (o : Opening) (log : List Applied) (p number low seen : ℕ) (made : Call) (c : Called) (s t : CoreState) (x : Part) → IsDoneAtOnce p number made (length log) s t c →
+    IsFinishedAtOnce s c t → low ≤ length log → seen ≤ low → IsBetween x s → OnceEnded o log p number low seen made c s t x
 once_finished o log p number low seen made c s t x d f behind earlier between =
     let e = once_empty s c.call f.reply f.replied in
     let is : made ≡ call.Scan [] = sym d.call' ∙ e.0 in
@@ -352,14 +393,20 @@ once_finished o log p number low seen made c s t x d f behind earlier between =
         call' = d.call';
         behind = let at = d.began in omega (arith, at, behind);
         within = let at = d.began in omega (arith, at);
-        finish = f.finish ∙ ap (λ (v : Answer). Some (record { ended = c.began; answer = v; note = Some (note.Saw c.began) })) a ∙ ap (λ n. Some (record { ended = n; answer = answer.Scanned [] 0 None; note = Some (note.Saw n) })) d.began;
+        finish = f.finish ∙ ap (λ (v : Answer). Some (record { ended = c.began; answer = v; note = Some (note.Saw c.began) })) a ∙
+            ap (λ n. Some (record { ended = n; answer = answer.Scanned [] 0 None; note = Some (note.Saw n) })) d.began;
         placed = (let at = d.began in omega (arith, at), omega arith);
         legal = subst (λ (v : Call). IsLegal o log p seen (record { call = v; answer = answer.Scanned [] 0 None; note = Some (note.Saw (length log)) })) (sym is)
             (tt, (record { within = omega arith; values = refl; collects = (refl, refl); borrowed = tt }, omega (arith, earlier, behind)));
         least = λ i from below shows. let at = d.began in omega (arith, at, from, below);
       };
       writes = refl;
-      between = subst (IsBetween x) (sym rests) (record { rest = between.rest; machine = ap (λ (v : CoreState). at_stage (begin_scan v []) Idle) between.machine; idle = refl; asked = record { few = omega arith; each = λ k below. absurd (omega (arith, below)) } });
+      between = subst (IsBetween x) (sym rests) (record {
+        rest = between.rest;
+        machine = ap (λ (v : CoreState). at_stage (begin_scan v []) Idle) between.machine;
+        idle = refl;
+        asked = record { few = omega arith; each = λ k below. absurd (omega (arith, below)) };
+      });
       sizes = ap (λ (v : CoreState). v.sizes) rests;
     }
 
@@ -377,17 +424,22 @@ once_sizes p number made seen s t c d = elim d.done [
 ]
 
 -- a call is finished at once at a port between calls
-pub once_fits : (o : Opening) (log : List Applied) (calls : List Call) (p : ℕ) (x : Part) (port new : Port) (call : Call) (c : Called) → PortFits o log calls p x port → port.under_way ≡ None → slice_get calls (length port.finished.items) ≡ Some call → IsDoneAtOnce port.number (length port.finished.items) call (length log) port.core new.core c → new.number ≡ port.number → new.finished.items ≡ port.finished.items ++ c ∷ [] → new.under_way ≡ None → PortFits o log calls p x new
+pub once_fits : (o : Opening) (log : List Applied) (calls : List Call) (p : ℕ) (x : Part) (port new : Port) (call : Call) (c : Called) → PortFits o log calls p x port → port.under_way ≡ None →
+    slice_get calls (length port.finished.items) ≡ Some call → IsDoneAtOnce port.number (length port.finished.items) call (length log) port.core new.core c → new.number ≡ port.number →
+    new.finished.items ≡ port.finished.items ++ c ∷ [] → new.under_way ≡ None → PortFits o log calls p x new
 once_fits o log calls p x port new call c w none next d number finished way =
     let between = between_of o log calls p x port w none in
     let low = ends_within (length log) p 0 0 port.finished.items (omega arith) w.finished in
-    let at : IsDoneAtOnce p (length port.finished.items) call (length log) port.core new.core c = subst (λ n. IsDoneAtOnce n (length port.finished.items) call (length log) port.core new.core c) w.number d in
+    let at : IsDoneAtOnce p (length port.finished.items) call (length log) port.core new.core c =
+    subst (λ n. IsDoneAtOnce n (length port.finished.items) call (length log) port.core new.core c) w.number d in
     let e : OnceEnded o log p (length port.finished.items) (ends_of 0 port.finished.items) (seen_by 0 (notes_in port.finished.items)) call c port.core new.core x = elim d.done [
       | inl r ↦ once_refused o log p (length port.finished.items) (ends_of 0 port.finished.items) (seen_by 0 (notes_in port.finished.items)) call c port.core new.core x at r low w.sizes between
       | inr f ↦ once_finished o log p (length port.finished.items) (ends_of 0 port.finished.items) (seen_by 0 (notes_in port.finished.items)) call c port.core new.core x at f low w.shown between
     ] in
-    let pushed : DoneFits o log calls p (port.finished.items ++ c ∷ []) (places_written x.notes ++ wrote (e.ended).note) = push_fits o log calls p port.finished.items (places_written x.notes) call c (done_of o log calls p x port w) next e.ended in
-    let bounded : AreFew new.core.sizes (port.finished.items ++ c ∷ []) = AllByRecursion-push (λ (f : Called). f.steps ≤ most_steps new.core.sizes f.call) port.finished.items c (subst (λ (z : Layout). AreFew z port.finished.items) (sym e.sizes) w.bounded) (let steps = d.steps in omega (arith, steps)) in
+    let pushed : DoneFits o log calls p (port.finished.items ++ c ∷ []) (places_written x.notes ++ wrote (e.ended).note) = push_fits o log calls p port.finished.items (places_written x.notes) call c
+    (done_of o log calls p x port w) next e.ended in
+    let bounded : AreFew new.core.sizes (port.finished.items ++ c ∷ []) = AllByRecursion-push (λ (f : Called). f.steps ≤ most_steps new.core.sizes f.call) port.finished.items c
+    (subst (λ (z : Layout). AreFew z port.finished.items) (sym e.sizes) w.bounded) (let steps = d.steps in omega (arith, steps)) in
     fits_with o log calls p x new (places_written x.notes ++ wrote (e.ended).note) (number ∙ w.number) w.part (ap (λ (z : Layout). z.m) e.sizes ∙ w.sizes)
     (subst (λ (l : List Called). DoneFits o log calls p l (places_written x.notes ++ wrote (e.ended).note)) (sym finished) pushed)
     (subst (λ (l : List Called). AreFew new.core.sizes l) (sym finished) bounded)
@@ -408,11 +460,18 @@ answer_idle s (reply.Refused cause) = refl
 answer_idle s (reply.Changed by) = refl
 
 -- a step that ends its call
-pub step_ended : (calls : List Call) (words words' : List ℕ) (trace trace' : List Event) (log log' : List Applied) (port new : Port) (step : Step) (way : UnderWay) (a : ℕ) (core' core'' : CoreState) (r : Reply) (call : Call) (called : Called) → step_of port.core ≡ Some step → port.under_way ≡ Some way → IsPossible port.core (answer_of words step) → a ≡ answer_of words step → words' ≡ words_after words step → trace' ≡ trace ++ record { port = port.number; step = step; answer = a } ∷ [] → log' ≡ log ++ entry_at port.core.sizes.m words' port.number step a → core' ≡ advance port.core a → steps_left core' < steps_left port.core → reply_of core' ≡ Some r → core'' ≡ at_stage core' Idle → slice_get calls (length port.finished.items) ≡ Some call → IsEndedCall port.number (length port.finished.items) call (one_step_more way) words' log' (answer_for core' r) called → new.number ≡ port.number → new.core ≡ core'' → new.under_way ≡ None → new.finished.items ≡ port.finished.items ++ called ∷ [] → StepMade calls words words' trace trace' log log' port new
-step_ended calls words words' trace trace' log log' port new step way a core' core'' r call called due was possible answer words_are trace_is log_is core falls replied taken next ended number machine none finished =
+pub step_ended : (calls : List Call) (words words' : List ℕ) (trace trace' : List Event) (log log' : List Applied) (port new : Port) (step : Step) (way : UnderWay) (a : ℕ) (core' core'' : CoreState)
+    (r : Reply) (call : Call) (called : Called) → step_of port.core ≡ Some step → port.under_way ≡ Some way → IsPossible port.core (answer_of words step) → a ≡ answer_of words step →
+    words' ≡ words_after words step → trace' ≡ trace ++ record { port = port.number; step = step; answer = a } ∷ [] → log' ≡ log ++ entry_at port.core.sizes.m words' port.number step a →
+    core' ≡ advance port.core a → steps_left core' < steps_left port.core → reply_of core' ≡ Some r → core'' ≡ at_stage core' Idle → slice_get calls (length port.finished.items) ≡ Some call →
+    IsEndedCall port.number (length port.finished.items) call (one_step_more way) words' log' (answer_for core' r) called → new.number ≡ port.number → new.core ≡ core'' → new.under_way ≡ None →
+    new.finished.items ≡ port.finished.items ++ called ∷ [] → StepMade calls words words' trace trace' log log' port new
+step_ended calls words words' trace trace' log log' port new step way a core' core'' r call called due was possible answer words_are trace_is log_is core falls replied taken next ended number
+    machine none finished =
     let moved : core' ≡ advance port.core (answer_of words step) = core ∙ ap (advance port.core) answer in
     let reply' : reply_of (advance port.core (answer_of words step)) ≡ Some r = ap reply_of (sym moved) ∙ replied in
-    let ended' : IsEndedCall port.number (length port.finished.items) call (one_step_more way) words' log' (answer_for (advance port.core (answer_of words step)) r) called = subst (λ (s : CoreState). IsEndedCall port.number (length port.finished.items) call (one_step_more way) words' log' (answer_for s r) called) moved ended in
+    let ended' : IsEndedCall port.number (length port.finished.items) call (one_step_more way) words' log' (answer_for (advance port.core (answer_of words step)) r) called =
+    subst (λ (s : CoreState). IsEndedCall port.number (length port.finished.items) call (one_step_more way) words' log' (answer_for s r) called) moved ended in
     let after : Ends calls words' log' port new way (advance port.core (answer_of words step)) r = record {
       machine = machine ∙ taken ∙ ap (λ (s : CoreState). at_stage s Idle) moved;
       none = none;
@@ -433,5 +492,6 @@ step_ended calls words words' trace trace' log log' port new step way a core' co
       log_is = log_is ∙ ap (λ n. log ++ entry_at port.core.sizes.m words' port.number step n) answer;
       number = number;
       falls = subst (λ (s : CoreState). steps_left s < steps_left port.core) moved falls;
-      after = subst (λ (f : Option Reply). MatchOption f (GoesOn port new way (advance port.core (answer_of words step))) (Ends calls words' log' port new way (advance port.core (answer_of words step)))) (sym reply') after;
+      after = subst (λ (f : Option Reply). MatchOption f (GoesOn port new way (advance port.core (answer_of words step)))
+          (Ends calls words' log' port new way (advance port.core (answer_of words step)))) (sym reply') after;
     }

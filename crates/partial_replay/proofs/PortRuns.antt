@@ -48,7 +48,7 @@ PortRun p [] t = t ≡ p
 PortRun p (e ∷ es) t = (step_of p.core ≡ Some e.step) × PortRun (port_behind e.answer p) es t
 
 -- a machine with a due step has no reply
-unreplied_at : (s : CoreState) (t : Stage) (step : Step) → step_at s t ≡ Some step → reply_at t ≡ None
+pub unreplied_at : (s : CoreState) (t : Stage) (step : Step) → step_at s t ≡ Some step → reply_at t ≡ None
 unreplied_at s (Finished r) step e = let bad : None ≡ Some step = e in cc
 unreplied_at s _ step e = refl
 
@@ -68,7 +68,8 @@ goes_next s cs r some = ap (λ (f : Option Reply). option_map_or (λ (q : Reply)
 
 -- where the next call leads
 next_refused : (s : CoreState) (c : Call) (cs : List Call) (cause : Refused) → refusal_of s c ≡ Some cause → next_at s (c ∷ cs) ≡ next_at s cs
-next_refused s c cs cause is = ap (λ (f : Option Refused). chosen f (reply_of (begun_of s c)) (next_at s cs) (next_at (at_stage (begun_of s c) Idle) cs) (record { core = begun_of s c; calls = cs })) is
+next_refused s c cs cause is = ap (λ (f : Option Refused). chosen f (reply_of (begun_of s c)) (next_at s cs) (next_at (at_stage (begun_of s c) Idle) cs)
+    (record { core = begun_of s c; calls = cs })) is
 
 next_chosen : (s : CoreState) (c : Call) (cs : List Call) (found : Option Reply) → refusal_of s c ≡ None → reply_of (begun_of s c) ≡ found →
     next_at s (c ∷ cs) ≡ chosen None found (next_at s cs) (next_at (at_stage (begun_of s c) Idle) cs) (record { core = begun_of s c; calls = cs })
@@ -97,7 +98,7 @@ pub record RunOf (s : CoreState) (plan : List Call) (cs : List Called) (es : Lis
   -- where all calls of the plan are made no step is due
   pub done : AreAllMade plan cs → step_of final.core ≡ None
 
-none_map : (f : Option Finish) (s : CoreState) (found : Option Reply) → found ≡ None → option_map (λ (g : Finish). g.answer) f ≡ option_map (answer_for s) found → f ≡ None
+pub none_map : (f : Option Finish) (s : CoreState) (found : Option Reply) → found ≡ None → option_map (λ (g : Finish). g.answer) f ≡ option_map (answer_for s) found → f ≡ None
 none_map None s found none e = refl
 none_map (Some g) s found none e = let bad : Some g.answer ≡ None = e ∙ ap (option_map (answer_for s)) none in cc
 
@@ -135,7 +136,8 @@ module _ (s u last : CoreState) (p : Call) (plan : List Call) (c : Called) (cs :
       let makes : Makes (begun_of s p) (x ∷ xs) h.last = subst (λ (v : CoreState). Makes v (x ∷ xs) h.last) begun h.makes in
       let whole : (es : List Event) (t : PortAt) → PortRun (goes_at h.last plan) es t → PortRun (next_at s (p ∷ plan)) (map (λ (m : Moment). m.event) (x ∷ xs) ++ es) t = λ es t run.
       subst (λ (q : PortAt). PortRun q (map (λ (m : Moment). m.event) (x ∷ xs) ++ es) t) (sym start) (makes_run (begun_of s p) h.last x xs plan es t makes run) in
-      let split : map (λ (m : Moment). m.event) (x ∷ xs) ++ map (λ (m : Moment). m.event) behind ≡ map (λ (m : Moment). m.event) ((x ∷ xs) ++ behind) = sym (map-append (λ (m : Moment). m.event) (x ∷ xs) behind) in
+      let split : map (λ (m : Moment). m.event) (x ∷ xs) ++ map (λ (m : Moment). m.event) behind ≡ map (λ (m : Moment). m.event) ((x ∷ xs) ++ behind) =
+      sym (map-append (λ (m : Moment). m.event) (x ∷ xs) behind) in
       at found is whole split
     where
       at : (found : Option Reply) → reply_of h.last ≡ found →
@@ -148,7 +150,8 @@ module _ (s u last : CoreState) (p : Call) (plan : List Call) (c : Called) (cs :
           record {
             final = goes_at h.last plan;
             run = subst (λ (es : List Event). PortRun (next_at s (p ∷ plan)) es (goes_at h.last plan)) split
-                (whole (map (λ (m : Moment). m.event) behind) (goes_at h.last plan) (subst (λ (l : List Moment). PortRun (goes_at h.last plan) (map (λ (m : Moment). m.event) l) (goes_at h.last plan)) (sym empty) refl));
+                (whole (map (λ (m : Moment). m.event) behind) (goes_at h.last plan)
+                (subst (λ (l : List Moment). PortRun (goes_at h.last plan) (map (λ (m : Moment). m.event) l) (goes_at h.last plan)) (sym empty) refl));
             done = λ all. absurd (finished c.finish unfinished all.1.0);
           }
       at (Some r) some whole split =

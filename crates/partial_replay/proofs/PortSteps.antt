@@ -28,15 +28,16 @@ use Rattle.partial_replay.specs.declared.port.UnderWay.{UnderWay}
 use Rattle.partial_replay.specs.Trace.{Moment, last_behind, adds, is_won, new_of, entry_of, moments_from, moments_by, ports_of, events_in}
 use Rattle.partial_replay.specs.Listed.{EndInStep}
 use Rattle.partial_replay.specs.CallSteps.{Makes, IsCallOf, AreStepsOf}
-use Rattle.partial_replay.specs.PortState.{IsUnderWay, PortFits, IsGoing, PortMade, KeepsMade, unfinished_call, began_at, IsDoneAtOnce, ended_call, one_step_more, GoesOn, Ends, StepMade}
-use Rattle.partial_replay.specs.RunState.{ArePortsMade, AreStarted, AreStartedBut, left_over, unvalued}
-use Rattle.partial_replay.specs.TurnState.{StopsAtStep}
+use Rattle.partial_replay.specs.Inner.PortState.{IsUnderWay, PortFits, IsGoing, PortMade, KeepsMade, unfinished_call, began_at, IsDoneAtOnce, ended_call, one_step_more, GoesOn, Ends, StepMade}
+use Rattle.partial_replay.specs.Inner.RunState.{ArePortsMade, AreStarted, AreStartedBut, left_over, unvalued}
+use Rattle.partial_replay.specs.Inner.TurnState.{StopsAtStep}
 use Rattle.partial_replay.proofs.PortLaws.{same_eqb, get_set, get_set_other}
 use Rattle.partial_replay.proofs.Opens.{over_none}
-use Rattle.partial_replay.proofs.Told.{begun_by}
+use Rattle.partial_replay.proofs.LegalOutcomes.{begun_by}
 
 -- one call more
-pub steps_push : (s t u : CoreState) (cs : List Called) (c : Called) (xs own : List Moment) → AreStepsOf s cs xs t → IsCallOf t c own u → length own ≡ c.steps → AreStepsOf s (cs ++ c ∷ []) (xs ++ own) u
+pub steps_push : (s t u : CoreState) (cs : List Called) (c : Called) (xs own : List Moment) → AreStepsOf s cs xs t → IsCallOf t c own u → length own ≡ c.steps →
+    AreStepsOf s (cs ++ c ∷ []) (xs ++ own) u
 steps_push s t u [] c xs own w call long =
     (own, [], u, ap (λ (l : List Moment). l ++ own) w.0 ∙ sym (append-nil own), long, subst (λ (v : CoreState). IsCallOf v c own u) w.1 call, (refl, refl))
 steps_push s t u (d ∷ cs) c xs own w call long =
@@ -44,7 +45,11 @@ steps_push s t u (d ∷ cs) c xs own w call long =
 
 -- one event more of the call under way
 makes_push : (s t u : CoreState) (xs : List Moment) (x : Moment) → Makes s xs t → step_of t ≡ Some x.event.step → IsPossible t x.event.answer → u ≡ advance t x.event.answer → Makes s (xs ++ x ∷ []) u
-makes_push s t u [] x m due possible is = (subst (λ (v : CoreState). step_of v ≡ Some x.event.step) m due, subst (λ (v : CoreState). IsPossible v x.event.answer) m possible, is ∙ ap (λ (v : CoreState). advance v x.event.answer) m)
+makes_push s t u [] x m due possible is = (
+  subst (λ (v : CoreState). step_of v ≡ Some x.event.step) m due,
+  subst (λ (v : CoreState). IsPossible v x.event.answer) m possible,
+  is ∙ ap (λ (v : CoreState). advance v x.event.answer) m,
+)
 makes_push s t u (y ∷ xs) x m due possible is = (m.0, m.1, makes_push (advance s y.event.answer) t u xs x m.2 due possible is)
 
 behind_push : (n : ℕ) (xs : List Moment) (x : Moment) → last_behind n (xs ++ x ∷ []) ≡ x.behind
@@ -56,16 +61,30 @@ began_push n k [] x is = sym is
 began_push n k (y ∷ xs) x is = refl
 
 -- a call that has made its last step, or that is left unfinished
-call_of : (s t last : CoreState) (c : Called) (own : List Moment) (x : Moment) → refusal_of s c.call ≡ None → Makes (begun_of s c.call) (own ++ x ∷ []) last → c.began ≡ began_at 0 (own ++ x ∷ []) → option_map (λ (f : Finish). f.answer) c.finish ≡ option_map (answer_for last) (reply_of last) → IfSome c.finish (λ (f : Finish). f.ended ≡ x.behind) → t ≡ at_stage last Idle → IsCallOf s c (own ++ x ∷ []) t
+call_of : (s t last : CoreState) (c : Called) (own : List Moment) (x : Moment) → refusal_of s c.call ≡ None → Makes (begun_of s c.call) (own ++ x ∷ []) last → c.began ≡ began_at 0 (own ++ x ∷ []) →
+    option_map (λ (f : Finish). f.answer) c.finish ≡ option_map (answer_for last) (reply_of last) → IfSome c.finish (λ (f : Finish). f.ended ≡ x.behind) → t ≡ at_stage last Idle →
+    IsCallOf s c (own ++ x ∷ []) t
 call_of s t last c [] x begins makes began answered ended rests = record { begins = begins; last = last; makes = makes; began = began; answered = answered; ended = ended; rests = rests }
 call_of s t last c (y ∷ own) x begins makes began answered ended rests =
-    record { begins = begins; last = last; makes = makes; began = began; answered = answered; ended = subst (λ n. IfSome c.finish (λ (f : Finish). f.ended ≡ n)) (sym (behind_push y.behind own x)) ended; rests = rests }
+    record {
+      begins = begins;
+      last = last;
+      makes = makes;
+      began = began;
+      answered = answered;
+      ended = subst (λ n. IfSome c.finish (λ (f : Finish). f.ended ≡ n))
+          (sym (behind_push y.behind own x)) ended;
+      rests = rests;
+    }
 
 -- a call begins at a port between calls
-pub begun_made : (z : Layout) (n : ℕ) (calls : List Call) (p : ℕ) (xs : List Moment) (port new : Port) (call : Call) → PortMade z n calls p xs port → port.under_way ≡ None → slice_get calls (length port.finished.items) ≡ Some call → refusal_of port.core call ≡ None → new.core ≡ begun_of port.core call → new.finished.items ≡ port.finished.items → new.under_way ≡ Some (record { began = n; steps = 0 }) → PortMade z n calls p xs new
+pub begun_made : (z : Layout) (n : ℕ) (calls : List Call) (p : ℕ) (xs : List Moment) (port new : Port) (call : Call) → PortMade z n calls p xs port → port.under_way ≡ None →
+    slice_get calls (length port.finished.items) ≡ Some call → refusal_of port.core call ≡ None → new.core ≡ begun_of port.core call → new.finished.items ≡ port.finished.items →
+    new.under_way ≡ Some (record { began = n; steps = 0 }) → PortMade z n calls p xs new
 begun_made z n calls p xs port new call w none next refusal core finished way =
     let nil : List Moment = [] in
-    let idle : (w.own ≡ []) × (port.core ≡ w.at) = subst (λ (f : Option UnderWay). MatchOption f ((w.own ≡ []) × (port.core ≡ w.at)) (IsGoing n calls port.finished.items w.at port.core w.own)) none w.going in
+    let idle : (w.own ≡ []) × (port.core ≡ w.at) = subst (λ (f : Option UnderWay). MatchOption f ((w.own ≡ []) × (port.core ≡ w.at))
+    (IsGoing n calls port.finished.items w.at port.core w.own)) none w.going in
     let going : IsGoing n calls new.finished.items w.at new.core [] (record { began = n; steps = 0 }) = record {
       call = call;
       next = ap (λ (d : List Called). slice_get calls (length d)) finished ∙ next;
@@ -84,10 +103,12 @@ begun_made z n calls p xs port new call w none next refusal core finished way =
     }
 
 -- a call is finished at once at a port between calls
-pub once_made : (z : Layout) (n : ℕ) (calls : List Call) (p : ℕ) (xs : List Moment) (port new : Port) (call : Call) (c : Called) → PortMade z n calls p xs port → port.under_way ≡ None → IsDoneAtOnce port.number (length port.finished.items) call n port.core new.core c → new.finished.items ≡ port.finished.items ++ c ∷ [] → new.under_way ≡ None → PortMade z n calls p xs new
+pub once_made : (z : Layout) (n : ℕ) (calls : List Call) (p : ℕ) (xs : List Moment) (port new : Port) (call : Call) (c : Called) → PortMade z n calls p xs port → port.under_way ≡ None →
+    IsDoneAtOnce port.number (length port.finished.items) call n port.core new.core c → new.finished.items ≡ port.finished.items ++ c ∷ [] → new.under_way ≡ None → PortMade z n calls p xs new
 once_made z n calls p xs port new call c w none d finished way =
     let nil : List Moment = [] in
-    let idle : (w.own ≡ []) × (port.core ≡ w.at) = subst (λ (f : Option UnderWay). MatchOption f ((w.own ≡ []) × (port.core ≡ w.at)) (IsGoing n calls port.finished.items w.at port.core w.own)) none w.going in
+    let idle : (w.own ≡ []) × (port.core ≡ w.at) = subst (λ (f : Option UnderWay). MatchOption f ((w.own ≡ []) × (port.core ≡ w.at))
+    (IsGoing n calls port.finished.items w.at port.core w.own)) none w.going in
     let here : IsCallOf w.at c [] new.core = subst (λ (s : CoreState). IsCallOf s c [] new.core) idle.1 d.done in
     let led = steps_push (fresh z p) w.at new.core port.finished.items c w.done [] w.led here (sym d.steps) in
     record {
@@ -100,7 +121,9 @@ once_made z n calls p xs port new call c w none d finished way =
     }
 
 -- a step of the call under way: it goes on, or it is finished
-goes_made : (z : Layout) (n k : ℕ) (calls : List Call) (p : ℕ) (xs : List Moment) (port new : Port) (way : UnderWay) (x : Moment) → (w : PortMade z n calls p xs port) → IsGoing n calls port.finished.items w.at port.core w.own way → x.before ≡ n → step_of port.core ≡ Some x.event.step → IsPossible port.core x.event.answer → GoesOn port new way (advance port.core x.event.answer) → PortMade z k calls p (xs ++ x ∷ []) new
+goes_made : (z : Layout) (n k : ℕ) (calls : List Call) (p : ℕ) (xs : List Moment) (port new : Port) (way : UnderWay) (x : Moment) → (w : PortMade z n calls p xs port) →
+    IsGoing n calls port.finished.items w.at port.core w.own way → x.before ≡ n → step_of port.core ≡ Some x.event.step → IsPossible port.core x.event.answer →
+    GoesOn port new way (advance port.core x.event.answer) → PortMade z k calls p (xs ++ x ∷ []) new
 goes_made z n k calls p xs port new way x w u before due possible g =
     let going : IsGoing k calls new.finished.items w.at new.core (w.own ++ x ∷ []) (one_step_more way) = record {
       call = u.call;
@@ -119,7 +142,10 @@ goes_made z n k calls p xs port new way x w u before due possible g =
       going = subst (λ (f : Option UnderWay). MatchOption f ((w.own ++ x ∷ [] ≡ []) × (new.core ≡ w.at)) (IsGoing k calls new.finished.items w.at new.core (w.own ++ x ∷ []))) (sym g.way') going;
     }
 
-ends_made : (z : Layout) (n k : ℕ) (calls : List Call) (p : ℕ) (xs : List Moment) (port new : Port) (way : UnderWay) (x : Moment) (words : List ℕ) (log : List Applied) (r : Reply) → (w : PortMade z n calls p xs port) → IsGoing n calls port.finished.items w.at port.core w.own way → x.before ≡ n → x.behind ≡ length log → step_of port.core ≡ Some x.event.step → IsPossible port.core x.event.answer → reply_of (advance port.core x.event.answer) ≡ Some r → Ends calls words log port new way (advance port.core x.event.answer) r → PortMade z k calls p (xs ++ x ∷ []) new
+ends_made : (z : Layout) (n k : ℕ) (calls : List Call) (p : ℕ) (xs : List Moment) (port new : Port) (way : UnderWay) (x : Moment) (words : List ℕ) (log : List Applied) (r : Reply) →
+    (w : PortMade z n calls p xs port) → IsGoing n calls port.finished.items w.at port.core w.own way → x.before ≡ n → x.behind ≡ length log → step_of port.core ≡ Some x.event.step →
+    IsPossible port.core x.event.answer → reply_of (advance port.core x.event.answer) ≡ Some r → Ends calls words log port new way (advance port.core x.event.answer) r →
+    PortMade z k calls p (xs ++ x ∷ []) new
 ends_made z n k calls p xs port new way x words log r w u before behind due possible replied e =
     let nil : List Moment = [] in
     let own = w.own ++ x ∷ [] in
@@ -141,10 +167,14 @@ ends_made z n k calls p xs port new way x words log r w u before behind due poss
       at = at_stage last Idle;
       is = ap (λ (l : List Moment). l ++ x ∷ []) w.is ∙ append_assoc w.done w.own (x ∷ []) ∙ sym (append-nil (w.done ++ own));
       led = subst (λ (d : List Called). AreStepsOf (fresh z p) d (w.done ++ own) (at_stage last Idle)) (sym e.finished) led;
-      going = subst (λ (f : Option UnderWay). MatchOption f ((nil ≡ []) × (new.core ≡ at_stage last Idle)) (IsGoing k calls new.finished.items (at_stage last Idle) new.core [])) (sym e.none) (refl, e.machine);
+      going = subst (λ (f : Option UnderWay). MatchOption f ((nil ≡ []) × (new.core ≡ at_stage last Idle)) (IsGoing k calls new.finished.items (at_stage last Idle) new.core []))
+          (sym e.none) (refl, e.machine);
     }
 
-after_made : (z : Layout) (n k : ℕ) (calls : List Call) (p : ℕ) (xs : List Moment) (port new : Port) (way : UnderWay) (x : Moment) (words : List ℕ) (log : List Applied) (found : Option Reply) → (w : PortMade z n calls p xs port) → IsGoing n calls port.finished.items w.at port.core w.own way → x.before ≡ n → x.behind ≡ length log → step_of port.core ≡ Some x.event.step → IsPossible port.core x.event.answer → reply_of (advance port.core x.event.answer) ≡ found → MatchOption found (GoesOn port new way (advance port.core x.event.answer)) (Ends calls words log port new way (advance port.core x.event.answer)) → PortMade z k calls p (xs ++ x ∷ []) new
+after_made : (z : Layout) (n k : ℕ) (calls : List Call) (p : ℕ) (xs : List Moment) (port new : Port) (way : UnderWay) (x : Moment) (words : List ℕ) (log : List Applied) (found : Option Reply) →
+    (w : PortMade z n calls p xs port) → IsGoing n calls port.finished.items w.at port.core w.own way → x.before ≡ n → x.behind ≡ length log → step_of port.core ≡ Some x.event.step →
+    IsPossible port.core x.event.answer → reply_of (advance port.core x.event.answer) ≡ found → MatchOption found (GoesOn port new way (advance port.core x.event.answer))
+    (Ends calls words log port new way (advance port.core x.event.answer)) → PortMade z k calls p (xs ++ x ∷ []) new
 after_made z n k calls p xs port new way x words log None w u before behind due possible replied g = goes_made z n k calls p xs port new way x w u before due possible g
 after_made z n k calls p xs port new way x words log (Some r) w u before behind due possible replied e = ends_made z n k calls p xs port new way x words log r w u before behind due possible replied e
 
@@ -152,23 +182,36 @@ after_made z n k calls p xs port new way x words log (Some r) w u before behind 
 abbrev event_of : List ℕ → ℕ → Step → Event
 event_of words p step = record { port = p; step = step; answer = answer_of words step }
 
-step_made : (z : Layout) (calls : List Call) (p : ℕ) (xs : List Moment) (words words' : List ℕ) (trace trace' : List Event) (log log' : List Applied) (port new : Port) → (m : StepMade calls words words' trace trace' log log' port new) → PortMade z (length log) calls p xs port → PortMade z (length log') calls p (xs ++ record { event = event_of words port.number m.step; before = length log; behind = length log' } ∷ []) new
+step_made : (z : Layout) (calls : List Call) (p : ℕ) (xs : List Moment) (words words' : List ℕ) (trace trace' : List Event) (log log' : List Applied) (port new : Port) →
+    (m : StepMade calls words words' trace trace' log log' port new) → PortMade z (length log) calls p xs port →
+    PortMade z (length log') calls p (xs ++ record { event = event_of words port.number m.step; before = length log; behind = length log' } ∷ []) new
 step_made z calls p xs words words' trace trace' log log' port new m w =
-    let u : IsGoing (length log) calls port.finished.items w.at port.core w.own m.way = subst (λ (f : Option UnderWay). MatchOption f ((w.own ≡ []) × (port.core ≡ w.at)) (IsGoing (length log) calls port.finished.items w.at port.core w.own)) m.was w.going in
-    after_made z (length log) (length log') calls p xs port new m.way (record { event = event_of words port.number m.step; before = length log; behind = length log' }) words' log' (reply_of (advance port.core (answer_of words m.step))) w u refl refl m.due m.possible refl m.after
+    let u : IsGoing (length log) calls port.finished.items w.at port.core w.own m.way =
+    subst (λ (f : Option UnderWay). MatchOption f ((w.own ≡ []) × (port.core ≡ w.at)) (IsGoing (length log) calls port.finished.items w.at port.core w.own)) m.was w.going in
+    after_made z (length log) (length log') calls p xs port new m.way (record { event = event_of words port.number m.step; before = length log; behind = length log' }) words' log'
+    (reply_of (advance port.core (answer_of words m.step))) w u refl refl m.due m.possible refl m.after
 
 -- another port's step
 own_stays : (n k : ℕ) (own : List Moment) (way : UnderWay) → length own ≡ way.steps → 0 < way.steps → began_at n own ≡ began_at k own
 own_stays n k [] way long some = absurd (omega (arith, long, some))
 own_stays n k (x ∷ own) way long some = refl
 
-going_stays : (n k : ℕ) (calls : List Call) (done : List Called) (at core : CoreState) (own : List Moment) (way : Option UnderWay) → ((v : UnderWay) → way ≡ Some v → 0 < v.steps) → MatchOption way ((own ≡ []) × (core ≡ at)) (IsGoing n calls done at core own) → MatchOption way ((own ≡ []) × (core ≡ at)) (IsGoing k calls done at core own)
+going_stays : (n k : ℕ) (calls : List Call) (done : List Called) (at core : CoreState) (own : List Moment) (way : Option UnderWay) → ((v : UnderWay) → way ≡ Some v → 0 < v.steps) →
+    MatchOption way ((own ≡ []) × (core ≡ at)) (IsGoing n calls done at core own) → MatchOption way ((own ≡ []) × (core ≡ at)) (IsGoing k calls done at core own)
 going_stays n k calls done at core own None started w = w
 going_stays n k calls done at core own (Some way) started w =
     record { call = w.call; next = w.next; begins = w.begins; makes = w.makes; steps = w.steps; began = w.began ∙ own_stays n k own way w.steps (started way refl) }
 
-other_made : (z : Layout) (n k : ℕ) (calls : List Call) (q : ℕ) (xs : List Moment) (port : Port) → ((v : UnderWay) → port.under_way ≡ Some v → 0 < v.steps) → PortMade z n calls q xs port → PortMade z k calls q xs port
-other_made z n k calls q xs port started w = record { done = w.done; own = w.own; at = w.at; is = w.is; led = w.led; going = going_stays n k calls port.finished.items w.at port.core w.own port.under_way started w.going }
+other_made : (z : Layout) (n k : ℕ) (calls : List Call) (q : ℕ) (xs : List Moment) (port : Port) → ((v : UnderWay) → port.under_way ≡ Some v → 0 < v.steps) → PortMade z n calls q xs port →
+    PortMade z k calls q xs port
+other_made z n k calls q xs port started w = record {
+  done = w.done;
+  own = w.own;
+  at = w.at;
+  is = w.is;
+  led = w.led;
+  going = going_stays n k calls port.finished.items w.at port.core w.own port.under_way started w.going;
+}
 
 -- how long the history is behind a trace
 abbrev pub long_by : ℕ → ℕ → List Event → ℕ
@@ -195,9 +238,11 @@ long_entries m n (e ∷ es) =
 
 -- the history is as long as the trace makes it
 pub log_long : (m : ℕ) (trace : List Event) (log : List Applied) → filter_map (entry_of m (λ _. 0)) trace ≡ map unvalued log → length log ≡ long_by m 0 trace
-log_long m trace log same = let all = long_entries m 0 trace in let long : length (filter_map (entry_of m (λ _. 0)) trace) ≡ length log = ap length same ∙ length-map log unvalued in omega (arith, all, long)
+log_long m trace log same = let all = long_entries m 0 trace in let long : length (filter_map (entry_of m (λ _. 0)) trace) ≡ length log =
+    ap length same ∙ length-map log unvalued in omega (arith, all, long)
 
-by_push : (m q n k : ℕ) (trace : List Event) (e : Event) → n ≡ long_by m 0 trace → k ≡ long_by m 0 (trace ++ e ∷ []) → moments_by m q (trace ++ e ∷ []) ≡ moments_by m q trace ++ cond (e.port == q) (record { event = e; before = n; behind = k } ∷ []) []
+by_push : (m q n k : ℕ) (trace : List Event) (e : Event) → n ≡ long_by m 0 trace → k ≡ long_by m 0 (trace ++ e ∷ []) → moments_by m q (trace ++ e ∷ []) ≡ moments_by m q trace ++
+    cond (e.port == q) (record { event = e; before = n; behind = k } ∷ []) []
 by_push m q n k trace e before behind =
     let last = long_push m 0 trace e in
     ap (filter (λ (x : Moment). x.event.port == q)) (moments_push m 0 trace e)
@@ -206,7 +251,9 @@ by_push m q n k trace e before behind =
     ∙ ap (λ i. moments_by m q trace ++ cond (e.port == q) (record { event = e; before = n; behind = i } ∷ []) []) (sym last ∙ sym behind)
 
 -- a step of port i, and a call that begins there
-pub ports_step : (plans : List (List Call)) (z : Layout) (words words' : List ℕ) (ports : List Port) (log log' : List Applied) (trace trace' : List Event) (i : ℕ) (calls : List Call) (port new : Port) → ArePortsMade plans z ports log trace → length log ≡ long_by z.m 0 trace → length log' ≡ long_by z.m 0 trace' → AreStartedBut i ports → slice_get plans i ≡ Some calls → slice_get ports i ≡ Some port → port.number ≡ i → StepMade calls words words' trace trace' log log' port new → ArePortsMade plans z (set ports i new) log' trace'
+pub ports_step : (plans : List (List Call)) (z : Layout) (words words' : List ℕ) (ports : List Port) (log log' : List Applied) (trace trace' : List Event) (i : ℕ) (calls : List Call)
+    (port new : Port) → ArePortsMade plans z ports log trace → length log ≡ long_by z.m 0 trace → length log' ≡ long_by z.m 0 trace' → AreStartedBut i ports → slice_get plans i ≡ Some calls →
+    slice_get ports i ≡ Some port → port.number ≡ i → StepMade calls words words' trace trace' log log' port new → ArePortsMade plans z (set ports i new) log' trace'
 ports_step plans z words words' ports log log' trace trace' i calls port new made before behind started c t number m q d u plan is =
     let e = event_of words port.number m.step in
     let push : moments_by z.m q trace' ≡ moments_by z.m q trace ++ cond (port.number == q) (record { event = e; before = length log; behind = length log' } ∷ []) [] =
@@ -218,17 +265,22 @@ ports_step plans z words words' ports log log' trace trace' i calls port new mad
           let calls_same : calls ≡ d = cc in
           let port_same : new ≡ u = cc in
           let old : PortMade z (length log) calls q (moments_by z.m q trace) port = made q calls port (ap (slice_get plans) same.1 ∙ c) (ap (slice_get ports) same.1 ∙ t) in
-          let here : moments_by z.m q trace' ≡ moments_by z.m q trace ++ record { event = e; before = length log; behind = length log' } ∷ [] = push ∙ ap (λ (b : Bool). moments_by z.m q trace ++ cond b (record { event = e; before = length log; behind = length log' } ∷ []) []) (same_eqb port.number q (number ∙ sym same.1)) in
+          let here : moments_by z.m q trace' ≡ moments_by z.m q trace ++ record { event = e; before = length log; behind = length log' } ∷ [] =
+          push ∙ ap (λ (b : Bool). moments_by z.m q trace ++ cond b (record { event = e; before = length log; behind = length log' } ∷ []) []) (same_eqb port.number q (number ∙ sym same.1)) in
           subst (λ (l : List Call). PortMade z (length log') l q (moments_by z.m q trace') u) calls_same
           (subst (λ (v : Port). PortMade z (length log') calls q (moments_by z.m q trace') v) port_same
           (subst (λ (xs : List Moment). PortMade z (length log') calls q xs new) (sym here) (step_made z calls q (moments_by z.m q trace) words words' trace trace' log log' port new m old)))
       | inr other ↦
           let here : slice_get ports q ≡ Some u = sym (get_set_other ports i q new other.1) ∙ is in
-          let none : moments_by z.m q trace' ≡ moments_by z.m q trace = push ∙ ap (λ (b : Bool). moments_by z.m q trace ++ cond b (record { event = e; before = length log; behind = length log' } ∷ []) []) (ne_eqb port.number q (λ h. other.1 (sym h ∙ number))) ∙ append-nil (moments_by z.m q trace) in
-          subst (λ (xs : List Moment). PortMade z (length log') d q xs u) (sym none) (other_made z (length log) (length log') d q (moments_by z.m q trace) u (λ v way. started q u v other.1 here way) (made q d u plan here))
+          let none : moments_by z.m q trace' ≡ moments_by z.m q trace =
+          push ∙ ap (λ (b : Bool). moments_by z.m q trace ++ cond b (record { event = e; before = length log; behind = length log' } ∷ []) [])
+          (ne_eqb port.number q (λ h. other.1 (sym h ∙ number))) ∙ append-nil (moments_by z.m q trace) in
+          subst (λ (xs : List Moment). PortMade z (length log') d q xs u) (sym none)
+          (other_made z (length log) (length log') d q (moments_by z.m q trace) u (λ v way. started q u v other.1 here way) (made q d u plan here))
     ]
 
-pub ports_begin : (plans : List (List Call)) (z : Layout) (ports : List Port) (log : List Applied) (trace : List Event) (i : ℕ) (calls : List Call) (port new : Port) → ArePortsMade plans z ports log trace → slice_get plans i ≡ Some calls → slice_get ports i ≡ Some port → KeepsMade calls (length log) port new → ArePortsMade plans z (set ports i new) log trace
+pub ports_begin : (plans : List (List Call)) (z : Layout) (ports : List Port) (log : List Applied) (trace : List Event) (i : ℕ) (calls : List Call) (port new : Port) →
+    ArePortsMade plans z ports log trace → slice_get plans i ≡ Some calls → slice_get ports i ≡ Some port → KeepsMade calls (length log) port new → ArePortsMade plans z (set ports i new) log trace
 ports_begin plans z ports log trace i calls port new made c t keeps q d u plan is = elim (eqb_tells q i) [
   | inl same ↦
       let one : Some d ≡ Some calls = sym plan ∙ ap (slice_get plans) same.1 ∙ c in
@@ -242,7 +294,8 @@ ports_begin plans z ports log trace i calls port new made c t keeps q d u plan i
 ]
 
 -- the calls under way have made a step
-pub started_set : (ports : List Port) (i : ℕ) (port new : Port) → slice_get ports i ≡ Some port → AreStartedBut i ports → ((way : UnderWay) → new.under_way ≡ Some way → 0 < way.steps) → AreStarted (set ports i new)
+pub started_set : (ports : List Port) (i : ℕ) (port new : Port) → slice_get ports i ≡ Some port → AreStartedBut i ports → ((way : UnderWay) → new.under_way ≡ Some way → 0 < way.steps) →
+    AreStarted (set ports i new)
 started_set ports i port new t started own q u way is under = elim (eqb_tells q i) [
   | inl same ↦
       let two : Some u ≡ Some new = sym is ∙ ap (slice_get (set ports i new)) same.1 ∙ get_set ports i port new t in
@@ -257,11 +310,14 @@ started_but ports i new started q u way other is under = started q u way (sym (g
 pub started_idle : (ports : List Port) (i : ℕ) (port new : Port) → slice_get ports i ≡ Some port → AreStarted ports → new.under_way ≡ None → AreStarted (set ports i new)
 started_idle ports i port new t started none = started_set ports i port new t (λ q u way other is under. started q u way is under) (λ way is. let bad : None ≡ Some way = sym none ∙ is in cc)
 
-pub step_started : (calls : List Call) (words words' : List ℕ) (trace trace' : List Event) (log log' : List Applied) (port new : Port) → StepMade calls words words' trace trace' log log' port new → (way : UnderWay) → new.under_way ≡ Some way → 0 < way.steps
+pub step_started : (calls : List Call) (words words' : List ℕ) (trace trace' : List Event) (log log' : List Applied) (port new : Port) → StepMade calls words words' trace trace' log log' port new →
+    (way : UnderWay) → new.under_way ≡ Some way → 0 < way.steps
 step_started calls words words' trace trace' log log' port new m way is = here (reply_of (advance port.core (answer_of words m.step))) m.after
   where
-    here : (found : Option Reply) → MatchOption found (GoesOn port new m.way (advance port.core (answer_of words m.step))) (Ends calls words' log' port new m.way (advance port.core (answer_of words m.step))) → 0 < way.steps
-    here None g = let one : Some (one_step_more m.way) ≡ Some way = sym g.way' ∙ is in let same : one_step_more m.way ≡ way = cc in let steps = ap (λ (v : UnderWay). v.steps) same in omega (arith, steps)
+    here : (found : Option Reply) → MatchOption found (GoesOn port new m.way (advance port.core (answer_of words m.step)))
+        (Ends calls words' log' port new m.way (advance port.core (answer_of words m.step))) → 0 < way.steps
+    here None g = let one : Some (one_step_more m.way) ≡ Some way = sym g.way' ∙ is in let same : one_step_more m.way ≡ way = cc in let steps =
+        ap (λ (v : UnderWay). v.steps) same in omega (arith, steps)
     here (Some r) e = let bad : None ≡ Some way = sym e.none ∙ is in cc
 
 -- what a port has made in the end
@@ -272,7 +328,8 @@ at_rest_replied s due = at s.stage due
     at (Finished r) e = absurd (false≢true (sym e))
     at _ e = refl
 
-unfinished_of : (s core : CoreState) (c : Called) (own : List Moment) → refusal_of s c.call ≡ None → Makes (begun_of s c.call) own core → c.began ≡ began_at 0 own → 0 < length own → reply_of core ≡ None → c.finish ≡ None → IsCallOf s c own (at_stage core Idle)
+unfinished_of : (s core : CoreState) (c : Called) (own : List Moment) → refusal_of s c.call ≡ None → Makes (begun_of s c.call) own core → c.began ≡ began_at 0 own → 0 < length own →
+    reply_of core ≡ None → c.finish ≡ None → IsCallOf s c own (at_stage core Idle)
 unfinished_of s core c [] begins makes began some none finish = absurd (omega (arith, some))
 unfinished_of s core c (x ∷ own) begins makes began some none finish =
     record {
@@ -285,20 +342,29 @@ unfinished_of s core c (x ∷ own) begins makes began some none finish =
       rests = refl;
     }
 
-steps_over : (z : Layout) (n : ℕ) (calls : List Call) (p : ℕ) (xs : List Moment) (x : Part) (port : Port) (way : Option UnderWay) → (w : PortMade z n calls p xs port) → MatchOption way (IsBetween x port.core) (IsUnderWay n calls x port.core port.finished.items) → ((v : UnderWay) → way ≡ Some v → 0 < v.steps) → MatchOption way ((w.own ≡ []) × (port.core ≡ w.at)) (IsGoing n calls port.finished.items w.at port.core w.own) → (t : CoreState) × AreStepsOf (fresh z p) (port.finished.items ++ left_over port (slice_get calls (length port.finished.items)) way) xs t
+steps_over : (z : Layout) (n : ℕ) (calls : List Call) (p : ℕ) (xs : List Moment) (x : Part) (port : Port) (way : Option UnderWay) → (w : PortMade z n calls p xs port) →
+    MatchOption way (IsBetween x port.core) (IsUnderWay n calls x port.core port.finished.items) → ((v : UnderWay) → way ≡ Some v → 0 < v.steps) → MatchOption way ((w.own ≡ []) × (port.core ≡ w.at))
+    (IsGoing n calls port.finished.items w.at port.core w.own) → (t : CoreState) ×
+    AreStepsOf (fresh z p) (port.finished.items ++ left_over port (slice_get calls (length port.finished.items)) way) xs t
 steps_over z n calls p xs x port None w f started idle =
     let is : w.done ≡ xs = sym (w.is ∙ ap (λ (l : List Moment). w.done ++ l) idle.0 ∙ append-nil w.done) in
-    let none : port.finished.items ≡ port.finished.items ++ left_over port (slice_get calls (length port.finished.items)) None = sym (ap (λ (l : List Called). port.finished.items ++ l) (over_none port (slice_get calls (length port.finished.items))) ∙ append-nil port.finished.items) in
+    let none : port.finished.items ≡ port.finished.items ++ left_over port (slice_get calls (length port.finished.items)) None =
+    sym (ap (λ (l : List Called). port.finished.items ++ l) (over_none port (slice_get calls (length port.finished.items))) ∙ append-nil port.finished.items) in
     (w.at, subst (λ (cs : List Called). AreStepsOf (fresh z p) cs xs w.at) none (subst (λ (l : List Moment). AreStepsOf (fresh z p) port.finished.items l w.at) is w.led))
 steps_over z n calls p xs x port (Some way) w f started u =
     let c = unfinished_call port.number (length port.finished.items) u.call way in
     let some : 0 < length w.own = let here = started way refl in omega (arith, here, u.steps) in
-    let call : IsCallOf w.at c w.own (at_stage port.core Idle) = unfinished_of w.at port.core c w.own u.begins u.makes (u.began ∙ own_stays n 0 w.own way u.steps (started way refl)) some (at_rest_replied port.core f.due) refl in
+    let call : IsCallOf w.at c w.own (at_stage port.core Idle) = unfinished_of w.at port.core c w.own u.begins u.makes (u.began ∙ own_stays n 0 w.own way u.steps (started way refl)) some
+    (at_rest_replied port.core f.due) refl in
     let led = steps_push (fresh z p) w.at (at_stage port.core Idle) port.finished.items c w.done w.own w.led call u.steps in
-    let over : c ∷ [] ≡ left_over port (slice_get calls (length port.finished.items)) (Some way) = sym (ap (λ (g : Option Call). left_over port g (Some way)) u.next) in
-    (at_stage port.core Idle, subst (λ (cs : List Called). AreStepsOf (fresh z p) (port.finished.items ++ cs) xs (at_stage port.core Idle)) over (subst (λ (l : List Moment). AreStepsOf (fresh z p) (port.finished.items ++ c ∷ []) l (at_stage port.core Idle)) (sym w.is) led))
+    let over : c ∷ [] ≡ left_over port (slice_get calls (length port.finished.items)) (Some way) = sym (ap (λ (g : Option Call). left_over port g (Some way)) u.next) in (
+      at_stage port.core Idle,
+      subst (λ (cs : List Called). AreStepsOf (fresh z p) (port.finished.items ++ cs) xs (at_stage port.core Idle)) over
+          (subst (λ (l : List Moment). AreStepsOf (fresh z p) (port.finished.items ++ c ∷ []) l (at_stage port.core Idle)) (sym w.is) led),
+    )
 
-pub steps_begun : (z : Layout) (o : Opening) (log : List Applied) (calls : List Call) (p : ℕ) (xs : List Moment) (x : Part) (port : Port) → PortFits o log calls p x port → PortMade z (length log) calls p xs port → ((v : UnderWay) → port.under_way ≡ Some v → 0 < v.steps) → (t : CoreState) × AreStepsOf (fresh z p) (begun_by calls port) xs t
+pub steps_begun : (z : Layout) (o : Opening) (log : List Applied) (calls : List Call) (p : ℕ) (xs : List Moment) (x : Part) (port : Port) → PortFits o log calls p x port →
+    PortMade z (length log) calls p xs port → ((v : UnderWay) → port.under_way ≡ Some v → 0 < v.steps) → (t : CoreState) × AreStepsOf (fresh z p) (begun_by calls port) xs t
 steps_begun z o log calls p xs x port f w started = steps_over z (length log) calls p xs x port port.under_way w f.way started w.going
 
 -- a port has as many events as its calls have steps
@@ -313,7 +379,8 @@ steps_sum s t (c ∷ cs) xs w =
 
 moment_ports : (m n q : ℕ) (es : List Event) → length (filter (λ (x : Moment). x.event.port == q) (moments_from m n es)) ≡ events_in q (ports_of es)
 moment_ports m n q [] = refl
-moment_ports m n q (e ∷ es) = same_length (e.port == q) (record { event = e; before = n; behind = n + adds m e }) e.port (filter (λ (x : Moment). x.event.port == q) (moments_from m (n + adds m e) es)) (filter (λ r. r == q) (ports_of es)) (moment_ports m (n + adds m e) q es)
+moment_ports m n q (e ∷ es) = same_length (e.port == q) (record { event = e; before = n; behind = n + adds m e }) e.port
+    (filter (λ (x : Moment). x.event.port == q) (moments_from m (n + adds m e) es)) (filter (λ r. r == q) (ports_of es)) (moment_ports m (n + adds m e) q es)
   where
     same_length : (b : Bool) (x : Moment) (p : ℕ) (xs : List Moment) (ps : List ℕ) → length xs ≡ length ps → length (cond b (x ∷ xs) xs) ≡ length (cond b (p ∷ ps) ps)
     same_length true x p xs ps same = ap suc same
@@ -327,7 +394,8 @@ past_moments : (m n q k : ℕ) (es : List Event) → k ≤ q → AllByRecursion 
 past_moments m n q k [] past w = refl
 past_moments m n q k (e ∷ es) past w =
     let away : e.port ≢ q = λ h. let below = w.0 in omega (arith, below, past, h) in
-    ap (λ (b : Bool). cond b (record { event = e; before = n; behind = n + adds m e } ∷ filter (λ (x : Moment). x.event.port == q) (moments_from m (n + adds m e) es)) (filter (λ (x : Moment). x.event.port == q) (moments_from m (n + adds m e) es))) (ne_eqb e.port q away)
+    ap (λ (b : Bool). cond b (record { event = e; before = n; behind = n + adds m e } ∷ filter (λ (x : Moment). x.event.port == q) (moments_from m (n + adds m e) es))
+    (filter (λ (x : Moment). x.event.port == q) (moments_from m (n + adds m e) es))) (ne_eqb e.port q away)
     ∙ past_moments m (n + adds m e) q k es past w.1
 
 pub none_moments : (m q k : ℕ) (es : List Event) → k ≤ q → AllByRecursion (λ (e : Event). e.port < k) es → moments_by m q es ≡ []
@@ -342,7 +410,8 @@ last_step (d ∷ e ∷ cs) c some = last_step (e ∷ cs) c some
 pub ending_but : (ports : List Port) (i : ℕ) (new : Port) (q : ℕ) → q ≢ i → StopsAtStep ports q → StopsAtStep (set ports i new) q
 ending_but ports i new q other ends u is none = ends u (sym (get_set_other ports i q new other) ∙ is) none
 
-pub ending_with : (ports : List Port) (i : ℕ) (port new : Port) → slice_get ports i ≡ Some port → (new.under_way ≡ None → EndInStep new.finished.items) → (q : ℕ) → (q ≢ i → StopsAtStep ports q) → StopsAtStep (set ports i new) q
+pub ending_with : (ports : List Port) (i : ℕ) (port new : Port) → slice_get ports i ≡ Some port → (new.under_way ≡ None → EndInStep new.finished.items) → (q : ℕ) → (q ≢ i → StopsAtStep ports q) →
+    StopsAtStep (set ports i new) q
 ending_with ports i port new t own q ends u is none = elim (eqb_tells q i) [
   | inl same ↦
       let two : Some u ≡ Some new = sym is ∙ ap (slice_get (set ports i new)) same.1 ∙ get_set ports i port new t in
@@ -351,24 +420,30 @@ ending_with ports i port new t own q ends u is none = elim (eqb_tells q i) [
   | inr other ↦ ending_but ports i new q other.1 (ends other.1) u is none
 ]
 
-pub step_ending : (calls : List Call) (words words' : List ℕ) (trace trace' : List Event) (log log' : List Applied) (port new : Port) → StepMade calls words words' trace trace' log log' port new → new.under_way ≡ None → EndInStep new.finished.items
+pub step_ending : (calls : List Call) (words words' : List ℕ) (trace trace' : List Event) (log log' : List Applied) (port new : Port) → StepMade calls words words' trace trace' log log' port new →
+    new.under_way ≡ None → EndInStep new.finished.items
 step_ending calls words words' trace trace' log log' port new m none = here (reply_of (advance port.core (answer_of words m.step))) m.after
   where
-    here : (found : Option Reply) → MatchOption found (GoesOn port new m.way (advance port.core (answer_of words m.step))) (Ends calls words' log' port new m.way (advance port.core (answer_of words m.step))) → EndInStep new.finished.items
+    here : (found : Option Reply) → MatchOption found (GoesOn port new m.way (advance port.core (answer_of words m.step)))
+        (Ends calls words' log' port new m.way (advance port.core (answer_of words m.step))) → EndInStep new.finished.items
     here None g = let bad : None ≡ Some (one_step_more m.way) = sym none ∙ g.way' in cc
-    here (Some r) e = subst EndInStep (sym e.finished) (last_step port.finished.items (ended_call port.number (length port.finished.items) e.call (one_step_more m.way) (length log') (answer_for (advance port.core (answer_of words m.step)) r) e.note) (omega arith))
+    here (Some r) e = subst EndInStep (sym e.finished) (last_step port.finished.items
+        (ended_call port.number (length port.finished.items) e.call (one_step_more m.way) (length log') (answer_for (advance port.core (answer_of words m.step)) r) e.note) (omega arith))
 
 -- what a port lists ends in a step
-ending_over : (ports : List Port) (q : ℕ) (calls : List Call) (port : Port) (call : Option Call) (way : Option UnderWay) → port.under_way ≡ way → slice_get ports q ≡ Some port → StopsAtStep ports q → ((v : UnderWay) → port.under_way ≡ Some v → 0 < v.steps) → (IsSome way → IsSome call) → EndInStep (port.finished.items ++ left_over port call way)
+ending_over : (ports : List Port) (q : ℕ) (calls : List Call) (port : Port) (call : Option Call) (way : Option UnderWay) → port.under_way ≡ way → slice_get ports q ≡ Some port → StopsAtStep ports q →
+    ((v : UnderWay) → port.under_way ≡ Some v → 0 < v.steps) → (IsSome way → IsSome call) → EndInStep (port.finished.items ++ left_over port call way)
 ending_over ports q calls port None None is t ends started some = subst EndInStep (sym (append-nil port.finished.items)) (ends port t is)
 ending_over ports q calls port (Some c) None is t ends started some = subst EndInStep (sym (append-nil port.finished.items)) (ends port t is)
 ending_over ports q calls port None (Some way) is t ends started some = let bad : false ≡ true = some refl in absurd (false≢true bad)
 ending_over ports q calls port (Some c) (Some way) is t ends started some = last_step port.finished.items (unfinished_call port.number (length port.finished.items) c way) (started way is)
 
-pub ending_begun : (o : Opening) (log : List Applied) (p : ℕ) (x : Part) (ports : List Port) (q : ℕ) (calls : List Call) (port : Port) → PortFits o log calls p x port → slice_get ports q ≡ Some port → StopsAtStep ports q → ((v : UnderWay) → port.under_way ≡ Some v → 0 < v.steps) → EndInStep (begun_by calls port)
+pub ending_begun : (o : Opening) (log : List Applied) (p : ℕ) (x : Part) (ports : List Port) (q : ℕ) (calls : List Call) (port : Port) → PortFits o log calls p x port →
+    slice_get ports q ≡ Some port → StopsAtStep ports q → ((v : UnderWay) → port.under_way ≡ Some v → 0 < v.steps) → EndInStep (begun_by calls port)
 ending_begun o log p x ports q calls port w t ends started =
     ending_over ports q calls port (slice_get calls (length port.finished.items)) port.under_way refl t ends started (next_is port.under_way w.way)
   where
-    next_is : (way : Option UnderWay) → MatchOption way (IsBetween x port.core) (IsUnderWay (length log) calls x port.core port.finished.items) → IsSome way → IsSome (slice_get calls (length port.finished.items))
+    next_is : (way : Option UnderWay) → MatchOption way (IsBetween x port.core) (IsUnderWay (length log) calls x port.core port.finished.items) → IsSome way →
+        IsSome (slice_get calls (length port.finished.items))
     next_is None f some = absurd (false≢true some)
     next_is (Some way) f some = ap is_some f.next

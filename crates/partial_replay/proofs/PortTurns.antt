@@ -12,12 +12,12 @@ use Rattle.partial_machine.specs.Machine.{CoreState, reply_of}
 use Rattle.partial_machine.specs.Calls.{answer_for}
 use Rattle.partial_replay.specs.declared.port.Port.{Port}
 use Rattle.partial_replay.specs.declared.port.UnderWay.{UnderWay}
-use Rattle.partial_replay.specs.PortState.{HasTurned, steps_under_way, one_step_more, ended_call, unfinished_call, GoesOn, Ends, StepMade, core_behind}
-use Rattle.partial_replay.specs.RunState.{left_over}
+use Rattle.partial_replay.specs.Inner.PortState.{HasTurned, steps_under_way, one_step_more, ended_call, unfinished_call, GoesOn, Ends, StepMade, core_behind}
+use Rattle.partial_replay.specs.Inner.RunState.{left_over}
 use Rattle.partial_replay.specs.Turns.{BeginInTurns}
 use Rattle.partial_replay.specs.Listed.{steps_in}
 use Rattle.partial_replay.proofs.TurnLengths.{begin_longer, begin_push}
-use Rattle.partial_replay.proofs.Told.{begun_by}
+use Rattle.partial_replay.proofs.LegalOutcomes.{begun_by}
 
 way_longer : (ls more : List ℕ) (k : ℕ) (way : Option UnderWay) → IfSome way (λ (v : UnderWay). slice_get ls k ≡ Some v.began) → IfSome way (λ (v : UnderWay). slice_get (ls ++ more) k ≡ Some v.began)
 way_longer ls more k None w = tt
@@ -54,7 +54,8 @@ turn_once calls ls n port new c less none none' began steps finished w =
     let idle = none_under_way port.under_way none in
     let idle' = none_under_way new.under_way none' in
     let long : length now ≡ steps_in port.finished.items + 1 = let all = w.turns less in omega (arith, all, idle) in
-    let here : slice_get now (0 + steps_in port.finished.items) ≡ Some c.began = let same : 0 + steps_in port.finished.items ≡ steps_in port.finished.items = omega arith in ap (slice_get now) same ∙ turn_here ls n (steps_in port.finished.items) long ∙ ap Some (sym began) in
+    let here : slice_get now (0 + steps_in port.finished.items) ≡ Some c.began = let same : 0 + steps_in port.finished.items ≡ steps_in port.finished.items =
+    omega arith in ap (slice_get now) same ∙ turn_here ls n (steps_in port.finished.items) long ∙ ap Some (sym began) in
     let sum : steps_in new.finished.items ≡ steps_in port.finished.items + c.steps = ap steps_in finished ∙ sum_by_push (λ (d : Called). d.steps) port.finished.items c in
     record {
       finished = subst (λ (l : List Called). BeginInTurns now 0 l) (sym finished) (begin_push now 0 port.finished.items c w.finished here);
@@ -74,7 +75,8 @@ turn_begins calls ls n port new less none finished way w =
     record {
       finished = subst (λ (l : List Called). BeginInTurns now 0 l) (sym finished) w.finished;
       turns = λ more. omega (arith, long, same, made);
-      way = subst (λ (v : Option UnderWay). IfSome v (λ (u : UnderWay). slice_get now (steps_in new.finished.items) ≡ Some u.began)) (sym way) (turn_here ls n (steps_in new.finished.items) (omega (arith, long, same)));
+      way = subst (λ (v : Option UnderWay). IfSome v (λ (u : UnderWay). slice_get now (steps_in new.finished.items) ≡ Some u.began)) (sym way)
+          (turn_here ls n (steps_in new.finished.items) (omega (arith, long, same)));
     }
 
 -- in that turn a step is made
@@ -91,7 +93,8 @@ turn_goes calls ls port new way core was g w =
     record {
       finished = subst (λ (l : List Called). BeginInTurns ls 0 l) (sym g.finished) w.finished;
       turns = λ more. let all = w.turns (omega (arith, more, many)) in omega (arith, all, same, old, made);
-      way = subst (λ (v : Option UnderWay). IfSome v (λ (u : UnderWay). slice_get ls (steps_in new.finished.items) ≡ Some u.began)) (sym g.way') (ap (slice_get ls) same ∙ way_began ls (steps_in port.finished.items) port.under_way way was w.way);
+      way = subst (λ (v : Option UnderWay). IfSome v (λ (u : UnderWay). slice_get ls (steps_in new.finished.items) ≡ Some u.began)) (sym g.way')
+          (ap (slice_get ls) same ∙ way_began ls (steps_in port.finished.items) port.under_way way was w.way);
     }
 
 turn_ends : (calls : List Call) (words : List ℕ) (log : List Applied) (ls : List ℕ) (port new : Port) (way : UnderWay) (core : CoreState) (r : Reply) → length port.finished.items < length calls →
@@ -102,7 +105,8 @@ turn_ends calls words log ls port new way core r less was e w =
     let sum : steps_in new.finished.items ≡ steps_in port.finished.items + (way.steps + 1) = ap steps_in e.finished ∙ sum_by_push (λ (d : Called). d.steps) port.finished.items c in
     let old : steps_under_way port.under_way ≡ way.steps = ap steps_under_way was in
     let made = none_under_way new.under_way e.none in
-    let here : slice_get ls (0 + steps_in port.finished.items) ≡ Some way.began = let same : 0 + steps_in port.finished.items ≡ steps_in port.finished.items = omega arith in ap (slice_get ls) same ∙ way_began ls (steps_in port.finished.items) port.under_way way was w.way in
+    let here : slice_get ls (0 + steps_in port.finished.items) ≡ Some way.began = let same : 0 + steps_in port.finished.items ≡ steps_in port.finished.items =
+    omega arith in ap (slice_get ls) same ∙ way_began ls (steps_in port.finished.items) port.under_way way was w.way in
     record {
       finished = subst (λ (l : List Called). BeginInTurns ls 0 l) (sym e.finished) (begin_push ls 0 port.finished.items c w.finished here);
       turns = λ more. let all = w.turns less in omega (arith, all, sum, old, made);
@@ -117,14 +121,16 @@ turn_after calls words log ls port new way core (Some r) less was e w = turn_end
 
 pub turn_steps : (calls : List Call) (words words' : List ℕ) (trace trace' : List Event) (log log' : List Applied) (port new : Port) (ls : List ℕ) → length port.finished.items < length calls →
     StepMade calls words words' trace trace' log log' port new → HasTurned 1 calls ls port → HasTurned 0 calls ls new
-turn_steps calls words words' trace trace' log log' port new ls less m w = turn_after calls words' log' ls port new (m.way) (core_behind words (m.step) port) (reply_of (core_behind words (m.step) port)) less m.was m.after w
+turn_steps calls words words' trace trace' log log' port new ls less m w = turn_after calls words' log' ls port new (m.way) (core_behind words (m.step) port)
+    (reply_of (core_behind words (m.step) port)) less m.was m.after w
 
 -- what a port lists in the end has begun in its turns
 turn_over : (ls : List ℕ) (port : Port) (call : Option Call) (way : Option UnderWay) → BeginInTurns ls 0 port.finished.items →
     IfSome way (λ (v : UnderWay). slice_get ls (steps_in port.finished.items) ≡ Some v.began) → BeginInTurns ls 0 (port.finished.items ++ left_over port call way)
 turn_over ls port None way finished w = subst (BeginInTurns ls 0) (sym (append-nil port.finished.items)) finished
 turn_over ls port (Some call) None finished w = subst (BeginInTurns ls 0) (sym (append-nil port.finished.items)) finished
-turn_over ls port (Some call) (Some way) finished w = begin_push ls 0 port.finished.items (unfinished_call port.number (length port.finished.items) call way) finished (let same : 0 + steps_in port.finished.items ≡ steps_in port.finished.items = omega arith in ap (slice_get ls) same ∙ w)
+turn_over ls port (Some call) (Some way) finished w = begin_push ls 0 port.finished.items (unfinished_call port.number (length port.finished.items) call way) finished
+    (let same : 0 + steps_in port.finished.items ≡ steps_in port.finished.items = omega arith in ap (slice_get ls) same ∙ w)
 
 pub turns_over : (calls : List Call) (ls : List ℕ) (port : Port) → HasTurned 0 calls ls port → BeginInTurns ls 0 (begun_by calls port)
 turns_over calls ls port w = turn_over ls port (slice_get calls (length port.finished.items)) port.under_way w.finished w.way

@@ -17,7 +17,7 @@ use Rattle.partial_text.specs.PlanText.{PlanView}
 use Rattle.partial_machine.specs.Machine.{CoreState, fresh}
 use Rattle.partial_replay.specs.CallSteps.{AreStepsOf}
 use Rattle.partial_machine.specs.Bounds.{most_steps}
-use Rattle.partial_replay.specs.PortState.{PortFits, AreFew}
+use Rattle.partial_replay.specs.Inner.PortState.{PortFits}
 use Rattle.partial_replay.proofs.PortSteps.{ending_begun, steps_begun, events_steps, none_moments}
 use Rattle.partial_text.specs.declared.outcome.Outcome.{Outcome}
 use Rattle.partial_replay.specs.declared.port.Port.{Port}
@@ -25,18 +25,18 @@ use Rattle.partial_replay.specs.declared.run.Run.{Run}
 use Rattle.partial_replay.specs.Place.{HasLeastPlace}
 use Rattle.partial_replay.specs.Trace.{entry_of, moments_from, moments_by, ports_of, events_in}
 use Rattle.partial_replay.specs.Turns.{turns_of, turns_by, ports_in, lengths_in, BeginInTurns}
-use Rattle.partial_replay.specs.Listed.{calls_by, steps_by, AreFirstOf, AreAllMade, EndInStep, HaveMade}
+use Rattle.partial_replay.specs.Listed.{calls_by, steps_by, AreFirstOf, AreAllMade, EndInStep, HaveMade, AreFew}
 use Rattle.partial_replay.specs.Replayed.{IsReplayOf, turn_lengths}
-use Rattle.partial_replay.specs.RunState.{AreStarted, IsBetweenTurns, IsRunOf, Tells, calls_in}
-use Rattle.partial_replay.specs.TurnState.{StopsAtStep, StopAtSteps, IsDone, HasMadeTurns, HasBegun, lengths_so_far, HaveBegun}
-use Rattle.partial_replay.proofs.PortLaws.{get_below}
+use Rattle.partial_replay.specs.Inner.RunState.{AreStarted, IsBetweenTurns, IsRunOf, Tells, calls_in}
+use Rattle.partial_replay.specs.Inner.TurnState.{StopsAtStep, StopAtSteps, IsDone, HasMadeTurns, HasBegun, lengths_so_far, HaveBegun}
 use Rattle.partial_replay.proofs.RunSteps.{port_in, ports_length}
 use Rattle.partial_core.proofs.Laws.{lawful_ports_fit}
-use Rattle.partial_replay.proofs.Told.{begun_by, few_told, least_told, run_legal, listed_at, none_listed, first_begun, all_made}
+use Rattle.partial_replay.proofs.LegalOutcomes.{begun_by, few_told, least_told, run_legal, listed_at, none_listed, first_begun, all_made}
 use Rattle.partial_replay.proofs.TurnLaws.{follows_ports, turns_told}
 use Rattle.partial_replay.proofs.TurnLengths.{lengths_same}
 use Rattle.partial_replay.proofs.PortTurns.{turns_over}
 use Rattle.partial_replay.proofs.Traces.{entries_told}
+use Rattle.partial_model.proofs.HistoryLemmas.{place_below}
 
 -- a place of a list is in it or behind it
 pub at_place : {A : Type 0} (xs : List A) (i : ℕ) → ((x : A) × (slice_get xs i ≡ Some x)) ⊎ (length xs ≤ i)
@@ -54,7 +54,7 @@ module _ (plans : List (List Call)) (z : Layout) (o : Opening) (words : List ℕ
   pub port_at : (q : ℕ) (calls : List Call) → slice_get plans q ≡ Some calls → (port : Port) × (slice_get ports q ≡ Some port)
   port_at q calls c = elim (at_place ports q) [
     | inl found ↦ found
-    | inr past ↦ let same = ports_length o log 0 plans w.parts ports w.fit in let below = get_below plans q calls c in absurd (omega (arith, same, below, past))
+    | inr past ↦ let same = ports_length o log 0 plans w.parts ports w.fit in let below = place_below plans q calls c in absurd (omega (arith, same, below, past))
   ]
 
   pub calls_told : (q : ℕ) → AreFirstOf (get_or plans q []) (calls_by q (calls_in plans ports))
@@ -65,8 +65,10 @@ module _ (plans : List (List Call)) (z : Layout) (o : Opening) (words : List ℕ
         let fits = port_in plans z o words ports log trace q calls (port.0) w found.1 port.1 in
         let plan : get_or plans q [] ≡ calls = get_or_from_slice_get plans q calls [] found.1 in
         let from : q ≡ 0 + q = omega arith in
-        let listed : calls_by q (calls_in plans ports) ≡ begun_by calls (port.0) = ap (λ n. calls_by n (calls_in plans ports)) from ∙ listed_at o log 0 q plans w.parts ports calls (port.0) w.fit found.1 port.1 in
-        subst (λ (l : List Called). AreFirstOf (get_or plans q []) l) (sym listed) (subst (λ (d : List Call). AreFirstOf d (begun_by calls (port.0))) (sym plan) (first_begun o log calls (0 + q) (fits.0) (port.0) fits.1))
+        let listed : calls_by q (calls_in plans ports) ≡ begun_by calls (port.0) = ap (λ n. calls_by n (calls_in plans ports)) from ∙ listed_at o log 0 q plans w.parts ports calls
+        (port.0) w.fit found.1 port.1 in
+        subst (λ (l : List Called). AreFirstOf (get_or plans q []) l) (sym listed)
+        (subst (λ (d : List Call). AreFirstOf d (begun_by calls (port.0))) (sym plan) (first_begun o log calls (0 + q) (fits.0) (port.0) fits.1))
     | inr past ↦
         let none : calls_by q (calls_in plans ports) ≡ [] = none_listed o log q 0 plans w.parts ports (inr (omega (arith, past))) w.fit in
         subst (λ (l : List Called). AreFirstOf (get_or plans q []) l) (sym none) refl
@@ -78,8 +80,10 @@ module _ (plans : List (List Call)) (z : Layout) (o : Opening) (words : List ℕ
       let fits = port_in plans z o words ports log trace q d.calls d.port w d.plan d.is in
       let plan : get_or plans q [] ≡ d.calls = get_or_from_slice_get plans q d.calls [] d.plan in
       let from : q ≡ 0 + q = omega arith in
-      let listed : calls_by q (calls_in plans ports) ≡ begun_by d.calls d.port = ap (λ n. calls_by n (calls_in plans ports)) from ∙ listed_at o log 0 q plans w.parts ports d.calls d.port w.fit d.plan d.is in
-      subst (λ (l : List Called). AreAllMade (get_or plans q []) l) (sym listed) (subst (λ (e : List Call). AreAllMade e (begun_by d.calls d.port)) (sym plan) (all_made o log d.calls (0 + q) (fits.0) d.port fits.1 d.idle d.all))
+      let listed : calls_by q (calls_in plans ports) ≡ begun_by d.calls d.port = ap (λ n. calls_by n (calls_in plans ports)) from ∙ listed_at o log 0 q plans w.parts ports d.calls
+      d.port w.fit d.plan d.is in
+      subst (λ (l : List Called). AreAllMade (get_or plans q []) l) (sym listed)
+      (subst (λ (e : List Call). AreAllMade e (begun_by d.calls d.port)) (sym plan) (all_made o log d.calls (0 + q) (fits.0) d.port fits.1 d.idle d.all))
 
   pub past_told : (q : ℕ) → length plans ≤ q → AreAllMade (get_or plans q []) (calls_by q (calls_in plans ports))
   past_told q past =
@@ -96,7 +100,8 @@ module _ (plans : List (List Call)) (z : Layout) (o : Opening) (words : List ℕ
         let in' = port_in plans z o words ports log trace q calls (port.0) w found.1 port.1 in
         let from : q ≡ 0 + q = omega arith in
         let fits : PortFits o log calls q (in'.0) (port.0) = subst (λ n. PortFits o log calls n (in'.0) (port.0)) (sym from) in'.1 in
-        let listed : calls_by q (calls_in plans ports) ≡ begun_by calls (port.0) = ap (λ n. calls_by n (calls_in plans ports)) from ∙ listed_at o log 0 q plans w.parts ports calls (port.0) w.fit found.1 port.1 in
+        let listed : calls_by q (calls_in plans ports) ≡ begun_by calls (port.0) = ap (λ n. calls_by n (calls_in plans ports)) from ∙ listed_at o log 0 q plans w.parts ports calls
+        (port.0) w.fit found.1 port.1 in
         let steps = steps_begun z o log calls q (moments_by z.m q trace) (in'.0) (port.0) fits (w.made q calls (port.0) found.1 port.1) (λ v way. started q (port.0) v port.1 way) in
         (steps.0, subst (λ (l : List Called). AreStepsOf (fresh z q) l (moments_by z.m q trace) (steps.0)) (sym listed) steps.1)
     | inr past ↦
@@ -125,7 +130,8 @@ module _ (plans : List (List Call)) (z : Layout) (o : Opening) (words : List ℕ
         let port = port_at q calls found.1 in
         let in' = port_in plans z o words ports log trace q calls (port.0) w found.1 port.1 in
         let from : q ≡ 0 + q = omega arith in
-        let listed : calls_by q (calls_in plans ports) ≡ begun_by calls (port.0) = ap (λ n. calls_by n (calls_in plans ports)) from ∙ listed_at o log 0 q plans w.parts ports calls (port.0) w.fit found.1 port.1 in
+        let listed : calls_by q (calls_in plans ports) ≡ begun_by calls (port.0) = ap (λ n. calls_by n (calls_in plans ports)) from ∙ listed_at o log 0 q plans w.parts ports calls
+        (port.0) w.fit found.1 port.1 in
         subst EndInStep (sym listed) (ending_begun o log (0 + q) (in'.0) ports q calls (port.0) in'.1 port.1 ends (λ v way. started q (port.0) v port.1 way))
     | inr past ↦ subst EndInStep (sym (none_listed o log q 0 plans w.parts ports (inr (omega (arith, past))) w.fit)) tt
   ]
@@ -158,7 +164,8 @@ take_sum f (suc n) (c ∷ cs) =
     omega (arith, rest, front, all)
 
 -- a port with more turns than its calls make steps at most makes them all
-calls_wait : (z : Layout) (rest : Bool) (turns : ℕ) (plan : List Call) (cs : List Called) → AreFew z cs → AreFirstOf plan cs → sum_by (most_steps z) plan < turns → HaveMade rest turns (sum_by (λ (c : Called). c.steps) cs) plan cs → AreAllMade plan cs
+calls_wait : (z : Layout) (rest : Bool) (turns : ℕ) (plan : List Call) (cs : List Called) → AreFew z cs → AreFirstOf plan cs → sum_by (most_steps z) plan < turns →
+    HaveMade rest turns (sum_by (λ (c : Called). c.steps) cs) plan cs → AreAllMade plan cs
 calls_wait z true turns plan cs few first less made = made
 calls_wait z false turns plan cs few first less made =
     let steps = few_sum z cs few in
@@ -177,7 +184,8 @@ replay_told p run outcome between sizes values f begun ends t =
     let legal : LegalOutcome outcome.opening outcome.history.items outcome.calls.items =
     subst (λ (h : List Applied). LegalOutcome outcome.opening h outcome.calls.items) (sym t.history)
     (subst (λ (l : List Called). LegalOutcome outcome.opening run.memory.history.items l) (sym t.calls)
-    (subst (λ (v : Opening). LegalOutcome v run.memory.history.items (calls_in p.ports run.ports.items)) (sym t.opening) (run_legal p.ports z o run.memory.words.items run.ports.items run.memory.history.items run.memory.trace.items w))) in
+    (subst (λ (v : Opening). LegalOutcome v run.memory.history.items (calls_in p.ports run.ports.items)) (sym t.opening)
+    (run_legal p.ports z o run.memory.words.items run.ports.items run.memory.history.items run.memory.trace.items w))) in
     let agrees : Agrees outcome.opening outcome.words.items outcome.history.items =
     subst (λ (h : List Applied). Agrees outcome.opening outcome.words.items h) (sym t.history)
     (subst (λ (ws : List ℕ). Agrees outcome.opening ws run.memory.history.items) (sym t.words)
@@ -196,8 +204,10 @@ replay_told p run outcome between sizes values f begun ends t =
     (past_told p.ports z o run.memory.words.items run.ports.items run.memory.history.items run.memory.trace.items w q) (ending q) f) in
     let turns : ports ≡ ports_in (turns_of p) (λ q. steps_by q calls) = follows_ports D (turns_of p) ports (λ q. steps_by q calls) steps f in
     let entries = entries_told z.m o run.memory.words.items run.memory.trace.items run.memory.history.items w.lawful.memory.history w.lawful.memory.agrees w.entries in
-    let firsts : (q : ℕ) → AreFirstOf (get_or p.ports q []) (calls_by q outcome.calls.items) = λ q. subst (λ (l : List Called). AreFirstOf (get_or p.ports q []) (calls_by q l)) (sym t.calls) (calls_told p.ports z o run.memory.words.items run.ports.items run.memory.history.items run.memory.trace.items w q) in
-    let all_made : (q : ℕ) → HaveMade p.rest (turns_by q p.steps) (steps_by q outcome.calls.items) (get_or p.ports q []) (calls_by q outcome.calls.items) = λ q. subst (λ (l : List Called). HaveMade p.rest (turns_by q p.steps) (steps_by q l) (get_or p.ports q []) (calls_by q l)) (sym t.calls) (made q) in
+    let firsts : (q : ℕ) → AreFirstOf (get_or p.ports q []) (calls_by q outcome.calls.items) = λ q. subst (λ (l : List Called). AreFirstOf (get_or p.ports q []) (calls_by q l)) (sym t.calls)
+    (calls_told p.ports z o run.memory.words.items run.ports.items run.memory.history.items run.memory.trace.items w q) in
+    let all_made : (q : ℕ) → HaveMade p.rest (turns_by q p.steps) (steps_by q outcome.calls.items) (get_or p.ports q []) (calls_by q outcome.calls.items) =
+    λ q. subst (λ (l : List Called). HaveMade p.rest (turns_by q p.steps) (steps_by q l) (get_or p.ports q []) (calls_by q l)) (sym t.calls) (made q) in
     let lengths : (q : ℕ) → lengths_so_far q (turns_of p) run ≡ turn_lengths p outcome q = λ q.
     lengths_same q (turns_of p) (λ r. events_in r ports) (λ r. steps_by r calls) 0 (moments_from z.m 0 run.memory.trace.items) (λ r. sym (steps r))
     ∙ ap (λ (l : List Called). lengths_in q (turns_of p) (λ r. steps_by r l) 0 (moments_from z.m 0 run.memory.trace.items)) (sym t.calls)
@@ -207,7 +217,9 @@ replay_told p run outcome between sizes values f begun ends t =
     subst (λ (l : List Called). BeginInTurns (turn_lengths p outcome q) 0 (calls_by q l)) (sym t.calls)
     (subst (λ (l : List ℕ). BeginInTurns l 0 (calls_by q calls)) (lengths q)
     (begins_told p.ports z o run.memory.words.items run.ports.items run.memory.history.items run.memory.trace.items w q (lengths_so_far q (turns_of p) run) (begun q))) in
-    let few : AreFew p.sizes outcome.calls.items = subst (λ (y : Layout). AreFew y outcome.calls.items) sizes (subst (AreFew z) (sym t.calls) (few_told z o run.memory.history.items 0 p.ports w.parts run.ports.items w.fit (lawful_ports_fit z o run.memory.words.items w.parts run.memory.history.items w.lawful).sizes)) in
+    let few : AreFew p.sizes outcome.calls.items = subst (λ (y : Layout). AreFew y outcome.calls.items) sizes
+    (subst (AreFew z) (sym t.calls) (few_told z o run.memory.history.items 0 p.ports w.parts run.ports.items w.fit
+    (lawful_ports_fit z o run.memory.words.items w.parts run.memory.history.items w.lawful).sizes)) in
     record {
       values = ap (λ (v : Opening). v.values) t.opening ∙ values;
       first = ap (λ (v : Opening). v.first) t.opening ∙ w.lawful.memory.stamps ∙ ap pool_base sizes;
@@ -221,7 +233,8 @@ replay_told p run outcome between sizes values f begun ends t =
       opens = subst (λ (l : Layout). AreOpeningWords l p.initial w.opened) sizes (subst (λ (l : List ℕ). AreOpeningWords z l w.opened) values w.opens);
       leads = subst (λ (es : List Event). Leads w.opened es outcome.words.items) (sym t.trace) (subst (λ (ws : List ℕ). Leads w.opened run.memory.trace.items ws) (sym t.words) w.leads);
       steps = t.steps ∙ ap length (sym t.trace);
-      entries = t.history ∙ entries ∙ ap (λ (l : Layout). filter_map (entry_of l.m (value_of run.memory.words.items)) run.memory.trace.items) sizes ∙ ap (λ (ws : List ℕ). filter_map (entry_of p.sizes.m (value_of ws)) run.memory.trace.items) (sym t.words) ∙ ap (filter_map (entry_of p.sizes.m (value_of outcome.words.items))) (sym t.trace);
+      entries = t.history ∙ entries ∙ ap (λ (l : Layout). filter_map (entry_of l.m (value_of run.memory.words.items)) run.memory.trace.items) sizes ∙
+          ap (λ (ws : List ℕ). filter_map (entry_of p.sizes.m (value_of ws)) run.memory.trace.items) (sym t.words) ∙ ap (filter_map (entry_of p.sizes.m (value_of outcome.words.items))) (sym t.trace);
       events = λ q. subst (λ (l : Layout). (last : CoreState) × AreStepsOf (fresh l q) (calls_by q outcome.calls.items) (moments_by l.m q outcome.trace.items) last) sizes
           (subst (λ (es : List Event). (last : CoreState) × AreStepsOf (fresh z q) (calls_by q outcome.calls.items) (moments_by z.m q es) last) (sym t.trace)
           (subst (λ (l : List Called). (last : CoreState) × AreStepsOf (fresh z q) (calls_by q l) (moments_by z.m q run.memory.trace.items) last) (sym t.calls) (events q)));

@@ -13,7 +13,7 @@ use Rattle.partial_model.specs.declared.call.Note.TheVariants as note
 use Rattle.partial_model.specs.declared.call.Called.{Called}
 use Rattle.partial_model.specs.Notes.{Noted, LegalNotes, IsLegal, MayBeRefused, seen_by, seen_after, shown_by, place_of, Fits, IsTrueOf}
 use Rattle.partial_model.specs.Outcome.{places_written, wrote}
-use Rattle.partial_model.proofs.NotesLemmas.{places_written-append, AllByRecursion-push, AllByRecursion-weaker}
+use Rattle.partial_model.proofs.NotesLemmas.{places_written-append, AllByRecursion-push, AllByRecursion-weaker, LegalNotes-last}
 use Rattle.partial_words.specs.declared.step.Step.{Step}
 use Rattle.partial_words.specs.declared.step.Event.{Event}
 use Rattle.partial_words.specs.Layout.{Layout}
@@ -30,7 +30,8 @@ use Rattle.partial_core.specs.Steps.{begun_with, kept_with, added_by, LeadsOn, I
 use Rattle.partial_machine.specs.Calls.{is_begun, is_at_rest, begun_like, call_of, answer_for}
 use Rattle.partial_replay.specs.declared.port.Port.{Port}
 use Rattle.partial_replay.specs.declared.port.UnderWay.{UnderWay}
-use Rattle.partial_replay.specs.PortState.{ends_of, notes_in, AreFew, IsUnderWay, PortFits, AreWithin, HasValues, MayAnswer, one_step_more, ended_call, GoesOn, Ends}
+use Rattle.partial_replay.specs.Inner.PortState.{ends_of, notes_in, IsUnderWay, PortFits, AreWithin, HasValues, MayAnswer, one_step_more, ended_call, GoesOn, Ends}
+use Rattle.partial_replay.specs.Listed.{AreFew}
 use Rattle.partial_replay.specs.Place.{IsNoteFrom, IsLeastFrom}
 use Rattle.partial_places.proofs.ScanPlaces.{has_records, has_record}
 use Rattle.partial_words.specs.Record.{view_word}
@@ -52,11 +53,6 @@ first_moved : (c : CoreState) (x : Part) (began at a : ℕ) (b : Bool) → began
 first_moved c x began at a true last h = last
 first_moved c x began at a false last h = first_kept began at x.kept (record { answer = a; at = at }) (λ _. last) last (h refl)
 
--- the last of a port's notes is legal behind the others
-legal_last : (o : Opening) (h : List Applied) (p seen : ℕ) (ns : List Noted) (n : Noted) → LegalNotes o h p seen (ns ++ n ∷ []) → IsLegal o h p (seen_by seen ns) n
-legal_last o h p seen [] n w = w.0
-legal_last o h p seen (x ∷ ns) n w = legal_last o h p (seen_after seen x.note) ns n w.1
-
 pub leads_push : (words last : List ℕ) (trace : List Event) (e : Event) → Leads words trace last → Answers last e.step e.answer → Leads words (trace ++ e ∷ []) (words_after last e.step)
 leads_push words last [] e w a = (subst (λ (l : List ℕ). Answers l e.step e.answer) w a, ap (λ (l : List ℕ). words_after l e.step) w)
 leads_push words last (x ∷ trace) e w a = (w.0, leads_push (words_after words x.step) last trace e w.1 a)
@@ -66,7 +62,8 @@ pub lawful_within : (z : Layout) (o : Opening) (words : List ℕ) (parts : List 
 lawful_within z o words parts log w =
     let r = lawful_records_are_within z o words parts log w in
     let values = r.values in
-    let own : AllByRecursion (λ (e : Applied). e.stamp + 1 < length words) log = AllByRecursion-weaker (λ (e : Applied). (z.m ≤ e.stamp) × (view_word e.stamp < length words)) (λ (e : Applied). e.stamp + 1 < length words) (λ e both. let within = both.1 in omega (arith, within)) log r.entries in
+    let own : AllByRecursion (λ (e : Applied). e.stamp + 1 < length words) log = AllByRecursion-weaker (λ (e : Applied). (z.m ≤ e.stamp) × (view_word e.stamp < length words))
+    (λ (e : Applied). e.stamp + 1 < length words) (λ e both. let within = both.1 in omega (arith, within)) log r.entries in
     let first : (j : ℕ) → j < length o.values → initial_stamp o j + 1 < length words = λ j below. let within = r.initial j (omega (arith, below, values)) in omega (arith, within) in
     record {
       components = has_records o words log r.agrees own first;
@@ -74,7 +71,8 @@ lawful_within z o words parts log w =
     }
 
 -- only a scan answers values: those of components that are there
-scan_values : (o : Opening) (h : List Applied) (p m : ℕ) (c : Call) (vs : List ℕ) (k : ℕ) (b : Option ℕ) (n : Note) → Fits m c (answer.Scanned vs k b) (Some n) → IsTrueOf o h p c (answer.Scanned vs k b) n → HasValues m c vs
+scan_values : (o : Opening) (h : List Applied) (p m : ℕ) (c : Call) (vs : List ℕ) (k : ℕ) (b : Option ℕ) (n : Note) → Fits m c (answer.Scanned vs k b) (Some n) →
+    IsTrueOf o h p c (answer.Scanned vs k b) n → HasValues m c vs
 scan_values o h p m (call.Scan js) vs k b (note.Saw n) fits is = (fits, ap length is.values ∙ length-map js _)
 scan_values o h p m (call.Scan js) vs k b (note.Wrote n) fits is = absurd is
 scan_values o h p m (call.Scan js) vs k b (note.Lost n) fits is = absurd is
@@ -83,7 +81,8 @@ scan_values o h p m (call.Read j) vs k b n fits is = absurd is
 scan_values o h p m (call.UpdateIf j x v) vs k b n fits is = absurd is
 
 -- What a step makes of its port: it goes on as the port of the moved part.
-module _ (z : Layout) (o : Opening) (words : List ℕ) (before : List Part) (x : Part) (after : List Part) (log : List Applied) (calls : List Call) (p : ℕ) (port new : Port) (step : Step) (way : UnderWay) where
+module _ (z : Layout) (o : Opening) (words : List ℕ) (before : List Part) (x : Part) (after : List Part) (log : List Applied) (calls : List Call) (p : ℕ) (port new : Port)
+    (step : Step) (way : UnderWay) where
   abbrev a : ℕ
   a = answer_of words step
 
@@ -124,7 +123,8 @@ module _ (z : Layout) (o : Opening) (words : List ℕ) (before : List Part) (x :
     first_y : way.began ≤ first_at y.kept
     first_y =
         let kept : y.kept ≡ kept_with port.core x ++ record { answer = a; at = length log2 } ∷ [] = ap (λ (v : Part). v.kept) l.tells.part in
-        subst (λ (ks : List Kept). way.began ≤ first_at ks) (sym kept) (first_moved port.core x way.began (length log2) a (is_begun port.core.stage) (let n = longer in omega (arith, n, u.within)) u.first)
+        subst (λ (ks : List Kept). way.began ≤ first_at ks) (sym kept)
+        (first_moved port.core x way.began (length log2) a (is_begun port.core.stage) (let n = longer in omega (arith, n, u.within)) u.first)
 
     components_y : (s : CoreState) → s ≡ core2 → s.sizes.m ≡ length o.values
     components_y s e = ap (λ (t : CoreState). t.sizes.m) e ∙ ap (λ (t : Layout). t.m) sizes_y ∙ w.sizes
@@ -156,7 +156,8 @@ module _ (z : Layout) (o : Opening) (words : List ℕ) (before : List Part) (x :
           steps = let left : steps_left new.core ≡ steps_left core2 = ap steps_left g.machine in let most = most_y new.core u.call g.machine in omega (arith, left, falls, u.steps, most);
         } in
         fits_with o log2 calls p y new (places_written x.notes) (number ∙ w.number) port_y (components_y new.core g.machine)
-        (subst (λ (d : List Called). DoneFits o log2 calls p d (places_written x.notes)) (sym g.finished) (done_grows o log (added_by z (port_of x) words step) calls p port.finished.items (places_written x.notes) (done_of o log calls p x port w)))
+        (subst (λ (d : List Called). DoneFits o log2 calls p d (places_written x.notes)) (sym g.finished)
+        (done_grows o log (added_by z (port_of x) words step) calls p port.finished.items (places_written x.notes) (done_of o log calls p x port w)))
         (subst (λ (d : List Called). AreFew new.core.sizes d) (sym g.finished) (few_y new.core g.machine))
         (sym (places_y [] no_new ∙ append-nil (places_written x.notes)))
         (subst (λ (f : Option UnderWay). MatchOption f (IsBetween y new.core) (IsUnderWay (length log2) calls y new.core new.finished.items)) (sym g.way') going)
@@ -183,14 +184,17 @@ module _ (z : Layout) (o : Opening) (words : List ℕ) (before : List Part) (x :
         }
 
     -- the call is finished
-    ends_fits : (r : Reply) (ns : List Noted) → new.number ≡ port.number → steps_left core2 < steps_left port.core → reply_of core2 ≡ Some r → (e : Ends calls words2 log2 port new way core2 r) → l.tells.new ≡ ns → (d : EndedCall o log2 p (length port.finished.items) (ends_of 0 port.finished.items) (seen_by 0 (notes_in port.finished.items)) e.call (last_call r e)) → wrote (d.note) ≡ places_written ns → PortFits o log2 calls p y new
+    ends_fits : (r : Reply) (ns : List Noted) → new.number ≡ port.number → steps_left core2 < steps_left port.core → reply_of core2 ≡ Some r → (e : Ends calls words2 log2 port new way core2 r) →
+        l.tells.new ≡ ns → (d : EndedCall o log2 p (length port.finished.items) (ends_of 0 port.finished.items) (seen_by 0 (notes_in port.finished.items)) e.call (last_call r e)) →
+        wrote (d.note) ≡ places_written ns → PortFits o log2 calls p y new
     ends_fits r ns number falls replied e news d places =
         let c = last_call r e in
         let grown = done_grows o log (added_by z (port_of x) words step) calls p port.finished.items (places_written x.notes) (done_of o log calls p x port w) in
         let pushed = push_fits o log2 calls p port.finished.items (places_written x.notes) e.call c grown e.next d in
         let sizes : new.core.sizes ≡ core2.sizes = ap (λ (s : CoreState). s.sizes) e.machine in
         let few : AreFew core2.sizes (port.finished.items ++ c ∷ []) = AllByRecursion-push (λ (f : Called). f.steps ≤ most_steps core2.sizes f.call) port.finished.items c (few_y core2 refl)
-        (let most = most_y core2 u.call refl in let same : most_steps core2.sizes e.call ≡ most_steps core2.sizes u.call = ap (most_steps core2.sizes) (sym (call_under_way r e)) in omega (arith, most, same, falls, u.steps)) in
+        (let most = most_y core2 u.call refl in let same : most_steps core2.sizes e.call ≡ most_steps core2.sizes u.call =
+        ap (most_steps core2.sizes) (sym (call_under_way r e)) in omega (arith, most, same, falls, u.steps)) in
         fits_with o log2 calls p y new (places_written x.notes ++ wrote (d.note)) (number ∙ w.number) port_y (ap (λ (t : Layout). t.m) sizes ∙ components_y core2 refl)
         (subst (λ (f : List Called). DoneFits o log2 calls p f (places_written x.notes ++ wrote (d.note))) (sym e.finished) pushed)
         (subst (λ (f : List Called). AreFew new.core.sizes f) (sym e.finished) (subst (λ (t : Layout). AreFew t (port.finished.items ++ c ∷ [])) (sym sizes) few))
@@ -201,7 +205,8 @@ module _ (z : Layout) (o : Opening) (words : List ℕ) (before : List Part) (x :
     same_call : (c : Call) → call_of y.begun ≡ Some c → c ≡ u.call
     same_call c made = let two : Some c ≡ Some (u.call) = sym made ∙ ap call_of begun_y ∙ u.begun in cc
 
-    refused_fits_step : (cause : Refused) → new.number ≡ port.number → steps_left core2 < steps_left port.core → reply_of core2 ≡ Some (reply.Refused cause) → Ends calls words2 log2 port new way core2 (reply.Refused cause) → IsRefusal y cause l.tells.new → PortFits o log2 calls p y new
+    refused_fits_step : (cause : Refused) → new.number ≡ port.number → steps_left core2 < steps_left port.core → reply_of core2 ≡ Some (reply.Refused cause) →
+        Ends calls words2 log2 port new way core2 (reply.Refused cause) → IsRefusal y cause l.tells.new → PortFits o log2 calls p y new
     refused_fits_step cause number falls replied e n =
         let call' : n.call ≡ e.call = same_call n.call n.made ∙ call_under_way (reply.Refused cause) e in
         let m : (y.begun).sizes.m ≡ length o.values = ap (λ (t : Layout). t.m) l.tells.begun_sizes ∙ sym (l.lawful.memory.values) in
@@ -224,20 +229,26 @@ module _ (z : Layout) (o : Opening) (words : List ℕ) (before : List Part) (x :
     -- the note of the part is legal behind the others
     legal_y : (r : Reply) (n : IsNoteOf y r l.tells.new) → IsLegal o log2 p (seen_by 0 x.notes) (record { call = n.call; answer = answer_for core2 r; note = Some (n.note) })
     legal_y r n =
-        let is : l.tells.new ≡ record { call = n.call; answer = answer_for core2 r; note = Some (n.note) } ∷ [] = n.is ∙ ap (λ (s : CoreState). record { call = n.call; answer = answer_for s r; note = Some (n.note) } ∷ []) core_y in
+        let is : l.tells.new ≡ record { call = n.call; answer = answer_for core2 r; note = Some (n.note) } ∷ [] =
+        n.is ∙ ap (λ (s : CoreState). record { call = n.call; answer = answer_for s r; note = Some (n.note) } ∷ []) core_y in
         subst (λ (q : ℕ). IsLegal o log2 q (seen_by 0 x.notes) (record { call = n.call; answer = answer_for core2 r; note = Some (n.note) })) port_y
-        (legal_last o log2 (port_of y) 0 x.notes (record { call = n.call; answer = answer_for core2 r; note = Some (n.note) }) (subst (λ (ns : List Noted). LegalNotes o log2 (port_of y) 0 (x.notes ++ ns)) is (subst (λ (ns : List Noted). LegalNotes o log2 (port_of y) 0 ns) notes_y (subst (λ (h : List Applied). LegalNotes o h (port_of y) 0 y.notes) seen_y l.tells.fits.legal))))
+        (LegalNotes-last o log2 (port_of y) 0 x.notes (record { call = n.call; answer = answer_for core2 r; note = Some (n.note) })
+        (subst (λ (ns : List Noted). LegalNotes o log2 (port_of y) 0 (x.notes ++ ns)) is
+        (subst (λ (ns : List Noted). LegalNotes o log2 (port_of y) 0 ns) notes_y (subst (λ (h : List Applied). LegalNotes o h (port_of y) 0 y.notes) seen_y l.tells.fits.legal))))
 
-    noted_fits : (r : Reply) → new.number ≡ port.number → steps_left core2 < steps_left port.core → reply_of core2 ≡ Some r → Ends calls words2 log2 port new way core2 r → IsNoteOf y r l.tells.new → PortFits o log2 calls p y new
+    noted_fits : (r : Reply) → new.number ≡ port.number → steps_left core2 < steps_left port.core → reply_of core2 ≡ Some r → Ends calls words2 log2 port new way core2 r → IsNoteOf y r l.tells.new →
+        PortFits o log2 calls p y new
     noted_fits r number falls replied e n =
         let c = n.call in
         let answered = answer_for core2 r in
         let call' : c ≡ e.call = same_call c n.made ∙ call_under_way r e in
-        let is : l.tells.new ≡ record { call = c; answer = answered; note = Some (n.note) } ∷ [] = n.is ∙ ap (λ (s : CoreState). record { call = c; answer = answer_for s r; note = Some (n.note) } ∷ []) core_y in
+        let is : l.tells.new ≡ record { call = c; answer = answered; note = Some (n.note) } ∷ [] =
+        n.is ∙ ap (λ (s : CoreState). record { call = c; answer = answer_for s r; note = Some (n.note) } ∷ []) core_y in
         let legal = legal_y r n in
         let first = first_y in
         let more = longer in
-        let found = finds_place o log2 p way.began words2 c answered (n.note) e.note l.lawful.memory.history l.lawful.memory.agrees legal.0 (legal.1.0) (omega (arith, first, n.behind)) (subst (λ (d : Call). IsNoteFrom words2 log2 way.began d answered e.note) (sym call') e.noted) in
+        let found = finds_place o log2 p way.began words2 c answered (n.note) e.note l.lawful.memory.history l.lawful.memory.agrees legal.0 (legal.1.0) (omega (arith, first, n.behind))
+        (subst (λ (d : Call). IsNoteFrom words2 log2 way.began d answered e.note) (sym call') e.noted) in
         let top : shown_by n.note ≤ length log2 = let seen_long : length y.seen ≡ length log2 = ap length seen_y in omega (arith, n.within, seen_long) in
         let placed : (way.began ≤ place_of (found.note)) × (shown_by (found.note) ≤ length log2) = (found.behind, omega (arith, found.within, top)) in
         ends_fits r (record { call = c; answer = answered; note = Some (n.note) } ∷ []) number falls replied e is (record {
@@ -251,10 +262,12 @@ module _ (z : Layout) (o : Opening) (words : List ℕ) (before : List Part) (x :
           finish = ap (λ (f : Option Note). Some (record { ended = length log2; answer = answered; note = f })) (found.is);
           placed = placed;
           least = subst (λ (d : Call). IsLeastFrom o log2 way.began d answered (found.note)) call' (found.least);
-          legal = subst (λ (d : Call). IsLegal o log2 p (seen_by 0 (notes_in port.finished.items)) (record { call = d; answer = answered; note = Some (found.note) })) call' (found.fits, (found.true', omega (arith, w.shown, u.behind, found.behind)));
+          legal = subst (λ (d : Call). IsLegal o log2 p (seen_by 0 (notes_in port.finished.items)) (record { call = d; answer = answered; note = Some (found.note) })) call'
+              (found.fits, (found.true', omega (arith, w.shown, u.behind, found.behind)));
         }) (found.wrote' ∙ sym (append-nil (wrote (Some (n.note)))))
 
-    replied_fits : (r : Reply) → new.number ≡ port.number → steps_left core2 < steps_left port.core → reply_of core2 ≡ Some r → Ends calls words2 log2 port new way core2 r → AreNotesOf y (Some r) l.tells.new → PortFits o log2 calls p y new
+    replied_fits : (r : Reply) → new.number ≡ port.number → steps_left core2 < steps_left port.core → reply_of core2 ≡ Some r → Ends calls words2 log2 port new way core2 r →
+        AreNotesOf y (Some r) l.tells.new → PortFits o log2 calls p y new
     replied_fits (reply.Refused cause) number falls replied e n = refused_fits_step cause number falls replied e n
     replied_fits (reply.Applied s) number falls replied e n = noted_fits (reply.Applied s) number falls replied e n
     replied_fits (reply.Lost by) number falls replied e n = noted_fits (reply.Lost by) number falls replied e n
@@ -262,7 +275,8 @@ module _ (z : Layout) (o : Opening) (words : List ℕ) (before : List Part) (x :
     replied_fits (reply.Read v s) number falls replied e n = noted_fits (reply.Read v s) number falls replied e n
     replied_fits (reply.Changed by) number falls replied e n = noted_fits (reply.Changed by) number falls replied e n
 
-    pub step_fits : (found : Option Reply) → reply_of core2 ≡ found → new.number ≡ port.number → steps_left core2 < steps_left port.core → MatchOption found (GoesOn port new way core2) (Ends calls words2 log2 port new way core2) → PortFits o log2 calls p l.y new
+    pub step_fits : (found : Option Reply) → reply_of core2 ≡ found → new.number ≡ port.number → steps_left core2 < steps_left port.core → MatchOption found (GoesOn port new way core2)
+        (Ends calls words2 log2 port new way core2) → PortFits o log2 calls p l.y new
     step_fits None is number falls g = goes_on_fits number is falls g
     step_fits (Some r) is number falls e = replied_fits r number falls is e (subst (λ (f : Option Reply). AreNotesOf y f l.tells.new) is l.tells.noted)
 

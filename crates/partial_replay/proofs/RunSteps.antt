@@ -27,19 +27,31 @@ use Rattle.partial_core.specs.Steps.{added_by, PublishesWithin, LeadsOn}
 use Rattle.partial_core.proofs.Laws.{steps_stay_lawful, lawful_machines_are_ready, lawful_records_are_within}
 use Rattle.partial_replay.specs.declared.port.Port.{Port}
 use Rattle.partial_replay.specs.declared.port.UnderWay.{UnderWay}
-use Rattle.partial_replay.specs.PortState.{KeepsMade, IsExchangeWithin, AreWithin, notes_in, IsUnderWay, PortFits, core_behind, entry_at, one_step_more, ended_call, GoesOn, Ends, StepMade, MayStep, KeepsFit}
-use Rattle.partial_replay.specs.RunState.{AreStartedBut, ArePlans, PortsFit, IsRunOf, left_for, left_of, left_at}
-use Rattle.partial_replay.proofs.PortLaws.{least_grow, finished_grows, get_below, get_is, between_of}
+use Rattle.partial_replay.specs.Inner.PortState.{KeepsMade, IsExchangeWithin, AreWithin, notes_in, IsUnderWay, PortFits, core_behind, entry_at, one_step_more, ended_call, GoesOn, Ends, StepMade, MayStep, KeepsFit}
+use Rattle.partial_replay.specs.Inner.RunState.{AreStartedBut, ArePlans, PortsFit, IsRunOf, left_for, left_of, left_at}
+use Rattle.partial_replay.proofs.PortLaws.{least_grow, finished_grows, get_is, between_of}
 use Rattle.partial_replay.proofs.RunLaws.{due_step, lawful_within, leads_push, sizes_y, step_fits, end_may}
 use Rattle.partial_replay.proofs.PortSteps.{ports_step, ports_begin, log_long}
 use Rattle.std.specs.List.{AllByRecursion}
 use Rattle.partial_replay.proofs.Traces.{entries_push}
+use Rattle.partial_model.proofs.HistoryLemmas.{place_below}
 
 -- another port's history grows
-way_grows : (log es : List Applied) (calls : List Call) (x : Part) (core : CoreState) (done : List Called) (way : Option UnderWay) → MatchOption way (IsBetween x core) (IsUnderWay (length log) calls x core done) → MatchOption way (IsBetween x core) (IsUnderWay (length (log ++ es)) calls x core done)
+way_grows : (log es : List Applied) (calls : List Call) (x : Part) (core : CoreState) (done : List Called) (way : Option UnderWay) → MatchOption way (IsBetween x core)
+    (IsUnderWay (length log) calls x core done) → MatchOption way (IsBetween x core) (IsUnderWay (length (log ++ es)) calls x core done)
 way_grows log es calls x core done None w = w
 way_grows log es calls x core done (Some way) w =
-    record { call = w.call; next = w.next; begun = w.begun; behind = w.behind; within = omega (arith, length-append log es, w.within); first = w.first; machine = w.machine; due = w.due; steps = w.steps }
+    record {
+      call = w.call;
+      next = w.next;
+      begun = w.begun;
+      behind = w.behind;
+      within = omega (arith, length-append log es, w.within);
+      first = w.first;
+      machine = w.machine;
+      due = w.due;
+      steps = w.steps;
+    }
 
 pub fits_grows : (o : Opening) (log es : List Applied) (calls : List Call) (p : ℕ) (x : Part) (port : Port) → PortFits o log calls p x port → PortFits o (log ++ es) calls p x port
 fits_grows o log es calls p x port w =
@@ -58,7 +70,8 @@ fits_grows o log es calls p x port w =
       way = way_grows log es calls x port.core port.finished.items port.under_way w.way;
     }
 
-pub ports_grow : (o : Opening) (log es : List Applied) (q : ℕ) (plans : List (List Call)) (parts : List Part) (ports : List Port) → PortsFit o log q plans parts ports → PortsFit o (log ++ es) q plans parts ports
+pub ports_grow : (o : Opening) (log es : List Applied) (q : ℕ) (plans : List (List Call)) (parts : List Part) (ports : List Port) → PortsFit o log q plans parts ports →
+    PortsFit o (log ++ es) q plans parts ports
 ports_grow o log es q [] [] [] w = w
 ports_grow o log es q (c ∷ plans) (x ∷ parts) (t ∷ ports) w = (fits_grows o log es c q x t w.0, ports_grow o log es (q + 1) plans parts ports w.1)
 ports_grow o log es q [] [] (t ∷ ports) w = absurd w
@@ -75,7 +88,8 @@ pub record AtPort (o : Opening) (log : List Applied) (q : ℕ) (plans : List (Li
   pub fits : PortFits o log calls (q + i) x port
   pub replace : (es : List Applied) (y : Part) (new : Port) → PortFits o (log ++ es) calls (q + i) y new → PortsFit o (log ++ es) q plans (before ++ y ∷ after) (set ports i new)
 
-pub at_port : (o : Opening) (log : List Applied) (q : ℕ) (plans : List (List Call)) (parts : List Part) (ports : List Port) (i : ℕ) (calls : List Call) (port : Port) → PortsFit o log q plans parts ports → slice_get plans i ≡ Some calls → slice_get ports i ≡ Some port → AtPort o log q plans parts ports i calls port
+pub at_port : (o : Opening) (log : List Applied) (q : ℕ) (plans : List (List Call)) (parts : List Part) (ports : List Port) (i : ℕ) (calls : List Call) (port : Port) →
+    PortsFit o log q plans parts ports → slice_get plans i ≡ Some calls → slice_get ports i ≡ Some port → AtPort o log q plans parts ports i calls port
 at_port o log q [] parts ports i calls port w c t = let bad : None ≡ Some calls = c in cc
 at_port o log q (d ∷ plans) [] ports i calls port w c t = absurd w
 at_port o log q (d ∷ plans) (x ∷ parts) [] i calls port w c t = absurd w
@@ -89,7 +103,10 @@ at_port o log q (d ∷ plans) (x ∷ parts) (u ∷ ports) zero calls port w c t 
       after = parts;
       is = refl;
       fits = subst (λ n. PortFits o log calls n x port) zero' (subst (λ (v : Port). PortFits o log calls q x v) same (subst (λ (e : List Call). PortFits o log e q x u) is w.0));
-      replace = λ es y new f. (subst (λ (e : List Call). PortFits o (log ++ es) e q y new) (sym is) (subst (λ n. PortFits o (log ++ es) calls n y new) (sym zero') f), ports_grow o log es (q + 1) plans parts ports w.1);
+      replace = λ es y new f. (
+        subst (λ (e : List Call). PortFits o (log ++ es) e q y new) (sym is) (subst (λ n. PortFits o (log ++ es) calls n y new) (sym zero') f),
+        ports_grow o log es (q + 1) plans parts ports w.1,
+      );
     }
 at_port o log q (d ∷ plans) (x ∷ parts) (u ∷ ports) (suc i) calls port w c t =
     let rest = at_port o log (q + 1) plans parts ports i calls port w.1 c t in
@@ -109,7 +126,9 @@ set_here (x ∷ xs) zero a b = refl
 set_here {A} (x ∷ xs) (suc i) a b = ap (λ (l : List A). x ∷ l) (set_here xs i a b)
 
 -- a call begins, or is refused at once: the words and the history stay
-pub begin_keeps : (plans : List (List Call)) (z : Layout) (o : Opening) (words : List ℕ) (ports : List Port) (log : List Applied) (trace : List Event) (i : ℕ) (calls : List Call) (port new : Port) → IsRunOf plans z o words ports log trace → slice_get plans i ≡ Some calls → slice_get ports i ≡ Some port → KeepsFit calls (length log) port new → KeepsMade calls (length log) port new → IsRunOf plans z o words (set ports i new) log trace
+pub begin_keeps : (plans : List (List Call)) (z : Layout) (o : Opening) (words : List ℕ) (ports : List Port) (log : List Applied) (trace : List Event) (i : ℕ) (calls : List Call) (port new : Port) →
+    IsRunOf plans z o words ports log trace → slice_get plans i ≡ Some calls → slice_get ports i ≡ Some port → KeepsFit calls (length log) port new → KeepsMade calls (length log) port new →
+    IsRunOf plans z o words (set ports i new) log trace
 begin_keeps plans z o words ports log trace i calls port new w c t keeps keeps_made =
     let at = at_port o log 0 plans w.parts ports i calls port w.fit c t in
     let same = append-nil log in
@@ -123,11 +142,13 @@ begin_keeps plans z o words ports log trace i calls port new w c t keeps keeps_m
       entries = w.entries;
       senders = w.senders;
       made = ports_begin plans z ports log trace i calls port new w.made c t keeps_made;
-      fit = subst (λ (l : List Part). PortsFit o log 0 plans l (set ports i new)) (sym (at.is)) (subst (λ (l : List Applied). PortsFit o l 0 plans ((at.before) ++ (at.x) ∷ (at.after)) (set ports i new)) same (at.replace [] (at.x) new fits));
+      fit = subst (λ (l : List Part). PortsFit o log 0 plans l (set ports i new)) (sym (at.is))
+          (subst (λ (l : List Applied). PortsFit o l 0 plans ((at.before) ++ (at.x) ∷ (at.after)) (set ports i new)) same (at.replace [] (at.x) new fits));
     }
 
 -- the call under way of a port
-pub under_way : (o : Opening) (log : List Applied) (calls : List Call) (p : ℕ) (x : Part) (port : Port) (way : UnderWay) → PortFits o log calls p x port → port.under_way ≡ Some way → IsUnderWay (length log) calls x port.core port.finished.items way
+pub under_way : (o : Opening) (log : List Applied) (calls : List Call) (p : ℕ) (x : Part) (port : Port) (way : UnderWay) → PortFits o log calls p x port → port.under_way ≡ Some way →
+    IsUnderWay (length log) calls x port.core port.finished.items way
 under_way o log calls p x port way w is = subst (λ (f : Option UnderWay). MatchOption f (IsBetween x port.core) (IsUnderWay (length log) calls x port.core port.finished.items)) is w.way
 
 is_below : (a b : ℕ) → a < b → nat_lt a b ≡ true
@@ -146,9 +167,11 @@ adds z words port (Add w k) within above = record { entry = refl; within = tt }
 adds z words port (Exchange w old at) within above = record { entry = by (nat_lt w z.m) refl (get_or words w 0 == old) refl; within = λ below. let inside = within below in omega (arith, inside) }
   where
     by : (a : Bool) → nat_lt w z.m ≡ a → (b : Bool) → (get_or words w 0 == old) ≡ b →
-        cond {A = List Applied} (nat_lt w z.m) (cond (get_or words w 0 == old) (record { port = port; component = w; value = value_of (words_after words (Exchange w old at)) at; stamp = at } ∷ []) []) []
+        cond {A = List Applied} (nat_lt w z.m) (cond (get_or words w 0 == old)
+        (record { port = port; component = w; value = value_of (words_after words (Exchange w old at)) at; stamp = at } ∷ []) []) []
         ≡ cond (nat_lt w z.m) (cond (get_or words w 0 == old) (record { port = port; component = w; value = value_of words at; stamp = at } ∷ []) []) []
-    by false ea b eb = ap (λ (c : Bool). cond {A = List Applied} c (cond (get_or words w 0 == old) (record { port = port; component = w; value = value_of (words_after words (Exchange w old at)) at; stamp = at } ∷ []) []) []) ea
+    by false ea b eb = ap (λ (c : Bool). cond {A = List Applied} c (cond (get_or words w 0 == old)
+        (record { port = port; component = w; value = value_of (words_after words (Exchange w old at)) at; stamp = at } ∷ []) []) []) ea
         ∙ sym (ap (λ (c : Bool). cond c (cond (get_or words w 0 == old) (record { port = port; component = w; value = value_of words at; stamp = at } ∷ []) []) []) ea)
     by true ea false eb = ap (λ (c : Bool). cond (nat_lt w z.m) (cond c (record { port = port; component = w; value = value_of (words_after words (Exchange w old at)) at; stamp = at } ∷ []) []) []) eb
         ∙ sym (ap (λ (c : Bool). cond (nat_lt w z.m) (cond c (record { port = port; component = w; value = value_of words at; stamp = at } ∷ []) []) []) eb)
@@ -158,7 +181,8 @@ adds z words port (Exchange w old at) within above = record { entry = by (nat_lt
         ∙ ap (λ (c : Bool). cond c (record { port = port; component = w; value = value_of words at; stamp = at } ∷ []) []) eb in
         let behind = above (record { port = port; component = w; value = value_of words at; stamp = at }) one in
         let below = ltb-true w z.m ea in
-        let same : value_of (words_after words (Exchange w old at)) at ≡ value_of words at = get_or-set_other words w (at + 1) (cond (get_or words w 0 == old) at (get_or words w 0)) 0 (λ h. omega (arith, behind, below, h)) in
+        let same : value_of (words_after words (Exchange w old at)) at ≡ value_of words at = get_or-set_other words w (at + 1) (cond (get_or words w 0 == old) at (get_or words w 0)) 0
+        (λ h. omega (arith, behind, below, h)) in
         ap (λ v. cond (nat_lt w z.m) (cond (get_or words w 0 == old) (record { port = port; component = w; value = v; stamp = at } ∷ []) []) []) same
 
 -- the last entry of a history
@@ -167,7 +191,8 @@ last_of P [] x all = all.0
 last_of P (y ∷ ys) x all = last_of P ys x all.1
 
 -- the same of a step that leads on
-pub due_adds : (z : Layout) (o : Opening) (words : List ℕ) (before : List Part) (x : Part) (after : List Part) (log : List Applied) (c : CoreState) (step : Step) (number : ℕ) → port_of x ≡ number → LeadsOn z o words before x after log c step → StepAdds z c.sizes.m words step number
+pub due_adds : (z : Layout) (o : Opening) (words : List ℕ) (before : List Part) (x : Part) (after : List Part) (log : List Applied) (c : CoreState) (step : Step) (number : ℕ) → port_of x ≡ number →
+    LeadsOn z o words before x after log c step → StepAdds z c.sizes.m words step number
 due_adds z o words before x after log c step number port l =
     let own : StepAdds z z.m words step (port_of x) = adds z words (port_of x) step l.publishes (λ e is.
     let records = lawful_records_are_within z o (words_after words step) (before ++ l.y ∷ after) (log ++ added_by z (port_of x) words step) l.lawful in
@@ -201,7 +226,9 @@ most_fits : (z : Layout) (c : Call) → IsLayout z → IsServed z.m c → most_s
 most_fits z c layout served = let few = most_of_call z c served in let fits = update_fits z layout in omega (arith, few, fits)
 
 -- the due step of a port whose call is under way may be made
-pub may_step : (plans : List (List Call)) (z : Layout) (o : Opening) (words : List ℕ) (ports : List Port) (log : List Applied) (trace : List Event) (i : ℕ) (calls : List Call) (port : Port) (way : UnderWay) → IsRunOf plans z o words ports log trace → ArePlans z.m plans → slice_get plans i ≡ Some calls → slice_get ports i ≡ Some port → port.under_way ≡ Some way → MayStep calls words log port
+pub may_step : (plans : List (List Call)) (z : Layout) (o : Opening) (words : List ℕ) (ports : List Port) (log : List Applied) (trace : List Event) (i : ℕ) (calls : List Call) (port : Port)
+    (way : UnderWay) → IsRunOf plans z o words ports log trace → ArePlans z.m plans → slice_get plans i ≡ Some calls → slice_get ports i ≡ Some port → port.under_way ≡ Some way →
+    MayStep calls words log port
 may_step plans z o words ports log trace i calls port way w served c t is =
     let at = at_port o log 0 plans w.parts ports i calls port w.fit c t in
     let u = under_way o log calls (0 + i) (at.x) port way (at.fits) is in
@@ -214,7 +241,8 @@ may_step plans z o words ports log trace i calls port way w served c t is =
     let number : port_of (at.x) ≡ port.number = (at.fits).part ∙ sym ((at.fits).number) in
     let adds = due_adds z o words (at.before) (at.x) (at.after) log port.core step port.number number l in
     let entries = added_by z (port_of (at.x)) words step in
-    let call_served : IsServed z.m u.call = AllByRecursion-get (IsServed z.m) calls (length port.finished.items) u.call (AllByRecursion-get (λ (cs : List Call). (length cs < 2 ^ 32) × AllByRecursion (IsServed z.m) cs) plans i calls served c).1 u.next in
+    let call_served : IsServed z.m u.call = AllByRecursion-get (IsServed z.m) calls (length port.finished.items) u.call
+    (AllByRecursion-get (λ (cs : List Call). (length cs < 2 ^ 32) × AllByRecursion (IsServed z.m) cs) plans i calls served c).1 u.next in
     let fits : most_steps port.core.sizes u.call + 1 < 2 ^ 64 = subst (λ (y : Layout). most_steps y u.call + 1 < 2 ^ 64) (sym here.sizes) (most_fits z u.call lawful.memory.sizes call_served) in
     let within : AreWithin (length o.values) (words_after words step) (log ++ entries) = lawful_within z o (words_after words step) ((at.before) ++ l.y ∷ (at.after)) (log ++ entries) l.lawful in
     record {
@@ -229,11 +257,14 @@ may_step plans z o words ports log trace i calls port way w served c t is =
       steps = omega (arith, u.steps, fits);
       next = u.next;
       ends = end_may z o words (at.before) (at.x) (at.after) log calls (0 + i) port port step way (at.fits) u l;
-      places = subst (λ (es : List Applied). AreWithin port.core.sizes.m (words_after words step) (log ++ es)) (ap (λ n. added_by z n words step) number ∙ sym adds.entry) (subst (λ n. AreWithin n (words_after words step) (log ++ entries)) (sym (at.fits).sizes) within);
+      places = subst (λ (es : List Applied). AreWithin port.core.sizes.m (words_after words step) (log ++ es)) (ap (λ n. added_by z n words step) number ∙ sym adds.entry)
+          (subst (λ n. AreWithin n (words_after words step) (log ++ entries)) (sym (at.fits).sizes) within);
     }
 
 -- a step keeps the replay's state
-pub step_keeps : (plans : List (List Call)) (z : Layout) (o : Opening) (words words' : List ℕ) (ports : List Port) (log log' : List Applied) (trace trace' : List Event) (i : ℕ) (calls : List Call) (port new : Port) → IsRunOf plans z o words ports log trace → slice_get plans i ≡ Some calls → slice_get ports i ≡ Some port → AreStartedBut i ports → StepMade calls words words' trace trace' log log' port new → IsRunOf plans z o words' (set ports i new) log' trace'
+pub step_keeps : (plans : List (List Call)) (z : Layout) (o : Opening) (words words' : List ℕ) (ports : List Port) (log log' : List Applied) (trace trace' : List Event) (i : ℕ) (calls : List Call)
+    (port new : Port) → IsRunOf plans z o words ports log trace → slice_get plans i ≡ Some calls → slice_get ports i ≡ Some port → AreStartedBut i ports →
+    StepMade calls words words' trace trace' log log' port new → IsRunOf plans z o words' (set ports i new) log' trace'
 step_keeps plans z o words words' ports log log' trace trace' i calls port new w c t started m =
     let at = at_port o log 0 plans w.parts ports i calls port w.fit c t in
     let u = under_way o log calls (0 + i) (at.x) port (m.way) (at.fits) m.was in
@@ -243,7 +274,8 @@ step_keeps plans z o words words' ports log log' trace trace' i calls port new w
     let number : port_of (at.x) ≡ port.number = (at.fits).part ∙ sym ((at.fits).number) in
     let adds = due_adds z o words (at.before) (at.x) (at.after) log port.core (m.step) port.number number l in
     let gained = added_by z (port_of (at.x)) words (m.step) in
-    let log_is : log' ≡ log ++ gained = m.log_is ∙ ap (λ (ws : List ℕ). log ++ entry_at port.core.sizes.m ws port.number (m.step) a) m.words_are ∙ ap (λ (es : List Applied). log ++ es) adds.entry ∙ ap (λ n. log ++ added_by z n words (m.step)) (sym number) in
+    let log_is : log' ≡ log ++ gained = m.log_is ∙ ap (λ (ws : List ℕ). log ++ entry_at port.core.sizes.m ws port.number (m.step) a) m.words_are ∙ ap (λ (es : List Applied). log ++ es) adds.entry ∙
+    ap (λ n. log ++ added_by z n words (m.step)) (sym number) in
     let core = core_behind words (m.step) port in
     let after : MatchOption (reply_of core) (GoesOn port new (m.way) core) (Ends calls (words_after words (m.step)) (log ++ gained) port new (m.way) core) =
     subst (λ (k : List Applied). MatchOption (reply_of core) (GoesOn port new (m.way) core) (Ends calls (words_after words (m.step)) k port new (m.way) core)) log_is
@@ -258,16 +290,21 @@ step_keeps plans z o words words' ports log log' trace trace' i calls port new w
       parts = (at.before) ++ y ∷ (at.after);
       opened = w.opened;
       opens = w.opens;
-      lawful = subst (λ (ws : List ℕ). Lawful z o ws ((at.before) ++ y ∷ (at.after)) log') (sym m.words_are) (subst (λ (k : List Applied). Lawful z o (words_after words (m.step)) ((at.before) ++ y ∷ (at.after)) k) (sym log_is) l.lawful);
+      lawful = subst (λ (ws : List ℕ). Lawful z o ws ((at.before) ++ y ∷ (at.after)) log') (sym m.words_are)
+          (subst (λ (k : List Applied). Lawful z o (words_after words (m.step)) ((at.before) ++ y ∷ (at.after)) k) (sym log_is) l.lawful);
       fit = subst (λ (k : List Applied). PortsFit o k 0 plans ((at.before) ++ y ∷ (at.after)) (set ports i new)) (sym log_is) (at.replace gained y new fits);
-      leads = subst (λ (ws : List ℕ). Leads w.opened trace' ws) (sym m.words_are) (subst (λ (es : List Event). Leads w.opened es (words_after words (m.step))) (sym m.trace_is) (leads_push w.opened words trace event w.leads l.answers));
+      leads = subst (λ (ws : List ℕ). Leads w.opened trace' ws) (sym m.words_are)
+          (subst (λ (es : List Event). Leads w.opened es (words_after words (m.step))) (sym m.trace_is) (leads_push w.opened words trace event w.leads l.answers));
       entries = entries;
-      senders = subst (AllByRecursion (λ (e : Event). e.port < length plans)) (sym m.trace_is) (AllByRecursion-push (λ (e : Event). e.port < length plans) trace event w.senders (let below = get_below plans i calls c in omega (arith, below, here)));
+      senders = subst (AllByRecursion (λ (e : Event). e.port < length plans)) (sym m.trace_is)
+          (AllByRecursion-push (λ (e : Event). e.port < length plans) trace event w.senders (let below = place_below plans i calls c in omega (arith, below, here)));
       made = ports_step plans z words words' ports log log' trace trace' i calls port new w.made (log_long z.m trace log w.entries) (log_long z.m trace' log' entries) started c t here m;
     }
 
 -- a step leaves the sizes of the port's machine
-pub step_sizes : (plans : List (List Call)) (z : Layout) (o : Opening) (words words' : List ℕ) (ports : List Port) (log log' : List Applied) (trace trace' : List Event) (i : ℕ) (calls : List Call) (port new : Port) → IsRunOf plans z o words ports log trace → slice_get plans i ≡ Some calls → slice_get ports i ≡ Some port → (m : StepMade calls words words' trace trace' log log' port new) → (core_behind words (m.step) port).sizes ≡ port.core.sizes
+pub step_sizes : (plans : List (List Call)) (z : Layout) (o : Opening) (words words' : List ℕ) (ports : List Port) (log log' : List Applied) (trace trace' : List Event) (i : ℕ) (calls : List Call)
+    (port new : Port) → IsRunOf plans z o words ports log trace → slice_get plans i ≡ Some calls → slice_get ports i ≡ Some port → (m : StepMade calls words words' trace trace' log log' port new) →
+    (core_behind words (m.step) port).sizes ≡ port.core.sizes
 step_sizes plans z o words words' ports log log' trace trace' i calls port new w c t m =
     let at = at_port o log 0 plans w.parts ports i calls port w.fit c t in
     let u = under_way o log calls (0 + i) (at.x) port (m.way) (at.fits) m.was in
@@ -276,35 +313,46 @@ step_sizes plans z o words words' ports log log' trace trace' i calls port new w
     sizes_y z o words (at.before) (at.x) (at.after) log calls (0 + i) port new (m.step) (m.way) (at.fits) u l
 
 -- the steps that the port has left
-pub left_is : (plans : List (List Call)) (ports : List Port) (i : ℕ) (calls : List Call) (port : Port) → slice_get plans i ≡ Some calls → slice_get ports i ≡ Some port → left_at i plans ports ≡ left_of calls port
+pub left_is : (plans : List (List Call)) (ports : List Port) (i : ℕ) (calls : List Call) (port : Port) → slice_get plans i ≡ Some calls → slice_get ports i ≡ Some port →
+    left_at i plans ports ≡ left_of calls port
 left_is [] ports i calls port c t = let bad : None ≡ Some calls = c in cc
 left_is (d ∷ plans) [] i calls port c t = let bad : None ≡ Some port = t in cc
 left_is (d ∷ plans) (u ∷ ports) zero calls port c t =
     let is : d ≡ calls = cc in let same : u ≡ port = cc in ap (λ (e : List Call). left_of e u) is ∙ ap (λ (v : Port). left_of calls v) same
 left_is (d ∷ plans) (u ∷ ports) (suc i) calls port c t = left_is plans ports i calls port c t
 
-left_under_way : (calls : List Call) (port : Port) (way : UnderWay) → port.under_way ≡ Some way → left_of calls port ≡ left_for port.core.sizes (length calls - length port.finished.items - 1) + steps_left port.core
-left_under_way calls port way is = ap (λ (f : Option UnderWay). option_map_or (λ (v : UnderWay). left_for port.core.sizes (length calls - length port.finished.items - 1) + steps_left port.core) f (left_for port.core.sizes (length calls - length port.finished.items))) is
+left_under_way : (calls : List Call) (port : Port) (way : UnderWay) → port.under_way ≡ Some way → left_of calls port ≡ left_for port.core.sizes
+    (length calls - length port.finished.items - 1) + steps_left port.core
+left_under_way calls port way is = ap (λ (f : Option UnderWay). option_map_or (λ (v : UnderWay). left_for port.core.sizes (length calls - length port.finished.items - 1) + steps_left port.core) f
+    (left_for port.core.sizes (length calls - length port.finished.items))) is
 
 left_between : (calls : List Call) (port : Port) → port.under_way ≡ None → left_of calls port ≡ left_for port.core.sizes (length calls - length port.finished.items)
-left_between calls port is = ap (λ (f : Option UnderWay). option_map_or (λ (v : UnderWay). left_for port.core.sizes (length calls - length port.finished.items - 1) + steps_left port.core) f (left_for port.core.sizes (length calls - length port.finished.items))) is
+left_between calls port is = ap (λ (f : Option UnderWay). option_map_or (λ (v : UnderWay). left_for port.core.sizes (length calls - length port.finished.items - 1) + steps_left port.core) f
+    (left_for port.core.sizes (length calls - length port.finished.items))) is
 
-left_after : (calls : List Call) (words : List ℕ) (log : List Applied) (port new : Port) (way : UnderWay) (core : CoreState) (found : Option Reply) → core.sizes ≡ port.core.sizes → port.under_way ≡ Some way → steps_left core < steps_left port.core → length port.finished.items < length calls → MatchOption found (GoesOn port new way core) (Ends calls words log port new way core) → left_of calls new < left_of calls port
+left_after : (calls : List Call) (words : List ℕ) (log : List Applied) (port new : Port) (way : UnderWay) (core : CoreState) (found : Option Reply) → core.sizes ≡ port.core.sizes →
+    port.under_way ≡ Some way → steps_left core < steps_left port.core → length port.finished.items < length calls → MatchOption found (GoesOn port new way core)
+    (Ends calls words log port new way core) → left_of calls new < left_of calls port
 left_after calls words log port new way core None sizes was falls more g =
     let old = left_under_way calls port way was in
     let now = left_under_way calls new (one_step_more way) g.way' in
     let same : length new.finished.items ≡ length port.finished.items = ap length g.finished in
     let left : steps_left new.core ≡ steps_left core = ap steps_left g.machine in
-    let rest : left_for new.core.sizes (length calls - length new.finished.items - 1) ≡ left_for port.core.sizes (length calls - length port.finished.items - 1) = ap (λ (z : Layout). left_for z (length calls - length new.finished.items - 1)) (ap (λ (s : CoreState). s.sizes) g.machine ∙ sizes) ∙ ap (λ n. left_for port.core.sizes (length calls - n - 1)) same in
+    let rest : left_for new.core.sizes (length calls - length new.finished.items - 1) ≡ left_for port.core.sizes (length calls - length port.finished.items - 1) =
+    ap (λ (z : Layout). left_for z (length calls - length new.finished.items - 1)) (ap (λ (s : CoreState). s.sizes) g.machine ∙ sizes) ∙
+    ap (λ n. left_for port.core.sizes (length calls - n - 1)) same in
     omega (arith, old, now, left, rest, falls)
 left_after calls words log port new way core (Some r) sizes was falls more e =
     let old = left_under_way calls port way was in
     let now = left_between calls new e.none in
-    let longer : length new.finished.items ≡ length port.finished.items + 1 = ap length e.finished ∙ length_push port.finished.items (ended_call port.number (length port.finished.items) e.call (one_step_more way) (length log) (answer_for core r) e.note) in
-    let rest : left_for new.core.sizes (length calls - length new.finished.items) ≡ left_for port.core.sizes (length calls - length port.finished.items - 1) = ap (λ (z : Layout). left_for z (length calls - length new.finished.items)) (ap (λ (s : CoreState). s.sizes) e.machine ∙ sizes) ∙ ap (λ n. left_for port.core.sizes n) (omega (arith, longer)) in
+    let longer : length new.finished.items ≡ length port.finished.items + 1 = ap length e.finished ∙ length_push port.finished.items
+    (ended_call port.number (length port.finished.items) e.call (one_step_more way) (length log) (answer_for core r) e.note) in
+    let rest : left_for new.core.sizes (length calls - length new.finished.items) ≡ left_for port.core.sizes (length calls - length port.finished.items - 1) =
+    ap (λ (z : Layout). left_for z (length calls - length new.finished.items)) (ap (λ (s : CoreState). s.sizes) e.machine ∙ sizes) ∙ ap (λ n. left_for port.core.sizes n) (omega (arith, longer)) in
     omega (arith, old, now, rest, falls)
 
-pub left_falls : (calls : List Call) (words words' : List ℕ) (trace trace' : List Event) (log log' : List Applied) (port new : Port) → length port.finished.items < length calls → (m : StepMade calls words words' trace trace' log log' port new) → (core_behind words (m.step) port).sizes ≡ port.core.sizes → left_of calls new < left_of calls port
+pub left_falls : (calls : List Call) (words words' : List ℕ) (trace trace' : List Event) (log log' : List Applied) (port new : Port) → length port.finished.items < length calls →
+    (m : StepMade calls words words' trace trace' log log' port new) → (core_behind words (m.step) port).sizes ≡ port.core.sizes → left_of calls new < left_of calls port
 left_falls calls words words' trace trace' log log' port new more m sizes =
     left_after calls words' log' port new (m.way) (core_behind words (m.step) port) (reply_of (core_behind words (m.step) port)) sizes m.was m.falls more m.after
 
@@ -316,14 +364,17 @@ left_one_more : (z : Layout) (n : ℕ) → left_for z (n + 1) ≡ left_for z n +
 left_one_more z n = ap (λ k. (most_of_update z + 1) * k) (let one : n + 1 ≡ suc n = omega arith in one) ∙ mul-suc (most_of_update z + 1) n
 
 -- where a port begins its next call, it has no more left than before
-pub left_begun : (calls : List Call) (port new : Port) → new.core.sizes ≡ port.core.sizes → port.under_way ≡ None → length port.finished.items ≤ length new.finished.items → length new.finished.items ≤ length calls → ((way : UnderWay) → new.under_way ≡ Some way → (steps_left new.core ≤ most_of_update port.core.sizes) × (length new.finished.items < length calls)) → left_of calls new ≤ left_of calls port
+pub left_begun : (calls : List Call) (port new : Port) → new.core.sizes ≡ port.core.sizes → port.under_way ≡ None → length port.finished.items ≤ length new.finished.items →
+    length new.finished.items ≤ length calls → ((way : UnderWay) → new.under_way ≡ Some way → (steps_left new.core ≤ most_of_update port.core.sizes) × (length new.finished.items < length calls)) →
+    left_of calls new ≤ left_of calls port
 left_begun calls port new sizes none more few f = at_way new.under_way refl
   where
     at_way : (way : Option UnderWay) → new.under_way ≡ way → left_of calls new ≤ left_of calls port
     at_way None is =
         let old = left_between calls port none in
         let now = left_between calls new is in
-        let same : left_for new.core.sizes (length calls - length new.finished.items) ≡ left_for port.core.sizes (length calls - length new.finished.items) = ap (λ (z : Layout). left_for z (length calls - length new.finished.items)) sizes in
+        let same : left_for new.core.sizes (length calls - length new.finished.items) ≡ left_for port.core.sizes (length calls - length new.finished.items) =
+        ap (λ (z : Layout). left_for z (length calls - length new.finished.items)) sizes in
         let less = left_fewer port.core.sizes (length calls - length new.finished.items) (length calls - length port.finished.items) (omega (arith, more)) in
         omega (arith, old, now, same, less)
     at_way (Some way) is =
@@ -332,7 +383,8 @@ left_begun calls port new sizes none more few f = at_way new.under_way refl
         let both = f way is in
         let top = both.0 in
         let below = both.1 in
-        let same : left_for new.core.sizes (length calls - length new.finished.items - 1) ≡ left_for port.core.sizes (length calls - length new.finished.items - 1) = ap (λ (z : Layout). left_for z (length calls - length new.finished.items - 1)) sizes in
+        let same : left_for new.core.sizes (length calls - length new.finished.items - 1) ≡ left_for port.core.sizes (length calls - length new.finished.items - 1) =
+        ap (λ (z : Layout). left_for z (length calls - length new.finished.items - 1)) sizes in
         let one = left_one_more port.core.sizes (length calls - length new.finished.items - 1) in
         let less = left_fewer port.core.sizes (length calls - length new.finished.items - 1 + 1) (length calls - length port.finished.items) (omega (arith, more, below)) in
         omega (arith, old, now, same, one, less, top)
@@ -351,7 +403,8 @@ pub got : {A : Type 0} (xs : List A) (i : ℕ) (x : A) → i < length xs → x �
 got xs i x below is = get_is xs i x below ∙ ap Some (sym is)
 
 -- the port that a turn is about
-pub port_here : (plans : List (List Call)) (z : Layout) (o : Opening) (words : List ℕ) (ports : List Port) (log : List Applied) (trace : List Event) (p : ℕ) (port : Port) → IsRunOf plans z o words ports log trace → p < length plans → port ≡ get_or ports p port → slice_get ports p ≡ Some port
+pub port_here : (plans : List (List Call)) (z : Layout) (o : Opening) (words : List ℕ) (ports : List Port) (log : List Applied) (trace : List Event) (p : ℕ) (port : Port) →
+    IsRunOf plans z o words ports log trace → p < length plans → port ≡ get_or ports p port → slice_get ports p ≡ Some port
 port_here plans z o words ports log trace p port w below is = let many = ports_length o log 0 plans w.parts ports w.fit in got ports p port (omega (arith, many, below)) is
 
 pub none_of : {A : Type 0} (f : Option A) → is_some f ≡ false → f ≡ None
@@ -367,22 +420,28 @@ match_bool true P Q R S m f g = f m
 match_bool false P Q R S m f g = g m
 
 -- a port that had made all its calls begins none
-pub begun_done : (b : Bool) (calls : List Call) (port new : Port) → length port.finished.items ≡ length calls → length port.finished.items ≤ length new.finished.items → MatchBool b (IsSome new.under_way × (length new.finished.items < length calls)) ((new.under_way ≡ None) × (length new.finished.items ≡ length calls)) → (new.under_way ≡ None) × (length new.finished.items ≡ length calls)
+pub begun_done : (b : Bool) (calls : List Call) (port new : Port) → length port.finished.items ≡ length calls → length port.finished.items ≤ length new.finished.items →
+    MatchBool b (IsSome new.under_way × (length new.finished.items < length calls)) ((new.under_way ≡ None) × (length new.finished.items ≡ length calls)) → (new.under_way ≡ None) ×
+    (length new.finished.items ≡ length calls)
 begun_done true calls port new all more m = let below = m.1 in absurd (omega (arith, all, more, below))
 begun_done false calls port new all more m = m
 
 -- a port that a run has at a place, with the part that it fits
-pub port_in : (plans : List (List Call)) (z : Layout) (o : Opening) (words : List ℕ) (ports : List Port) (log : List Applied) (trace : List Event) (i : ℕ) (calls : List Call) (port : Port) → IsRunOf plans z o words ports log trace → slice_get plans i ≡ Some calls → slice_get ports i ≡ Some port → (x : Part) × PortFits o log calls (0 + i) x port
+pub port_in : (plans : List (List Call)) (z : Layout) (o : Opening) (words : List ℕ) (ports : List Port) (log : List Applied) (trace : List Event) (i : ℕ) (calls : List Call) (port : Port) →
+    IsRunOf plans z o words ports log trace → slice_get plans i ≡ Some calls → slice_get ports i ≡ Some port → (x : Part) × PortFits o log calls (0 + i) x port
 port_in plans z o words ports log trace i calls port w c t = let at = at_port o log 0 plans w.parts ports i calls port w.fit c t in (at.x, at.fits)
 
 -- the calls of a port are ones that its machine serves
-pub served_here : (plans : List (List Call)) (z : Layout) (o : Opening) (words : List ℕ) (ports : List Port) (log : List Applied) (trace : List Event) (i : ℕ) (calls : List Call) (port : Port) → IsRunOf plans z o words ports log trace → ArePlans z.m plans → slice_get plans i ≡ Some calls → slice_get ports i ≡ Some port → AllByRecursion (IsServed port.core.sizes.m) calls
+pub served_here : (plans : List (List Call)) (z : Layout) (o : Opening) (words : List ℕ) (ports : List Port) (log : List Applied) (trace : List Event) (i : ℕ) (calls : List Call) (port : Port) →
+    IsRunOf plans z o words ports log trace → ArePlans z.m plans → slice_get plans i ≡ Some calls → slice_get ports i ≡ Some port → AllByRecursion (IsServed port.core.sizes.m) calls
 served_here plans z o words ports log trace i calls port w served c t =
     let fits = (port_in plans z o words ports log trace i calls port w c t).1 in
-    subst (λ m. AllByRecursion (IsServed m) calls) (sym (fits.sizes ∙ w.lawful.memory.values)) (AllByRecursion-get (λ (cs : List Call). (length cs < 2 ^ 32) × AllByRecursion (IsServed z.m) cs) plans i calls served c).1
+    subst (λ m. AllByRecursion (IsServed m) calls) (sym (fits.sizes ∙ w.lawful.memory.values))
+    (AllByRecursion-get (λ (cs : List Call). (length cs < 2 ^ 32) × AllByRecursion (IsServed z.m) cs) plans i calls served c).1
 
 -- the machine of a port has as many components as the memory
-pub components_here : (plans : List (List Call)) (z : Layout) (o : Opening) (words : List ℕ) (ports : List Port) (log : List Applied) (trace : List Event) (i : ℕ) (calls : List Call) (port : Port) → IsRunOf plans z o words ports log trace → slice_get plans i ≡ Some calls → slice_get ports i ≡ Some port → z.m ≡ port.core.sizes.m
+pub components_here : (plans : List (List Call)) (z : Layout) (o : Opening) (words : List ℕ) (ports : List Port) (log : List Applied) (trace : List Event) (i : ℕ) (calls : List Call) (port : Port) →
+    IsRunOf plans z o words ports log trace → slice_get plans i ≡ Some calls → slice_get ports i ≡ Some port → z.m ≡ port.core.sizes.m
 components_here plans z o words ports log trace i calls port w c t =
     let fits = (port_in plans z o words ports log trace i calls port w c t).1 in
     sym (fits.sizes ∙ w.lawful.memory.values)
@@ -396,11 +455,12 @@ pub idle_between : (o : Opening) (log : List Applied) (calls : List Call) (p : �
 idle_between o log calls p x port w none = let b = between_of o log calls p x port w none in b.idle
 
 -- a port that has begun its next call where none was under way has no more left than before
-pub left_ready : (o : Opening) (log : List Applied) (calls : List Call) (p : ℕ) (x : Part) (port new : Port) → AllByRecursion (IsServed port.core.sizes.m) calls → new.core.sizes ≡ port.core.sizes → PortFits o log calls p x new → port.under_way ≡ None → length port.finished.items ≤ length new.finished.items → left_of calls new ≤ left_of calls port
+pub left_ready : (o : Opening) (log : List Applied) (calls : List Call) (p : ℕ) (x : Part) (port new : Port) → AllByRecursion (IsServed port.core.sizes.m) calls → new.core.sizes ≡ port.core.sizes →
+    PortFits o log calls p x new → port.under_way ≡ None → length port.finished.items ≤ length new.finished.items → left_of calls new ≤ left_of calls port
 left_ready o log calls p x port new served sizes w none more =
     left_begun calls port new sizes none more w.few (λ way is.
     let u = under_way o log calls p x new way w is in
     let call_served = AllByRecursion-get (IsServed port.core.sizes.m) calls (length new.finished.items) u.call served u.next in
     let most = most_of_call port.core.sizes u.call call_served in
     let same : most_steps new.core.sizes u.call ≡ most_steps port.core.sizes u.call = ap (λ (z : Layout). most_steps z u.call) sizes in
-    (omega (arith, u.steps, most, same), get_below calls (length new.finished.items) (u.call) u.next))
+    (omega (arith, u.steps, most, same), place_below calls (length new.finished.items) (u.call) u.next))

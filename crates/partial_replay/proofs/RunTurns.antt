@@ -11,9 +11,9 @@ use Rattle.partial_replay.specs.declared.port.Port.{Port}
 use Rattle.partial_replay.specs.declared.run.Run.{Run}
 use Rattle.partial_replay.specs.Trace.{Moment, moments_from, last_behind, ports_of, events_in}
 use Rattle.partial_replay.specs.Turns.{idle_in, lengths_of, lengths_in}
-use Rattle.partial_replay.specs.PortState.{HasTurned, StepMade}
-use Rattle.partial_replay.specs.RunState.{IsRun, IsReady, IsSameMemory, IsSameOpening}
-use Rattle.partial_replay.specs.TurnState.{IsDone, StayDone, StayStopped, StayStoppedBut, StayStoppedWith, GoesOnBy, HasBegun, own_turns, BeginsIn, StepsIn, GoesOnIn, moments_behind, TurnMade, StepsMade, TurnsMade, MakeTurns, HasMadeTurns, lengths_so_far, HaveBegun}
+use Rattle.partial_replay.specs.Inner.PortState.{HasTurned, StepMade}
+use Rattle.partial_replay.specs.Inner.RunState.{IsRun, IsReady, IsSameMemory, IsSameOpening}
+use Rattle.partial_replay.specs.Inner.TurnState.{IsDone, StayDone, StayStopped, StayStoppedBut, StayStoppedWith, GoesOnBy, HasBegun, own_turns, BeginsIn, StepsIn, GoesOnIn, moments_behind, TurnMade, StepsMade, TurnsMade, MakeTurns, HasMadeTurns, lengths_so_far, HaveBegun}
 use Rattle.partial_replay.proofs.PortLaws.{get_set, get_set_other}
 use Rattle.partial_replay.proofs.PortSteps.{log_long}
 use Rattle.partial_replay.proofs.TurnLaws.{ready_done, by_more, last_turns}
@@ -49,7 +49,8 @@ begun_same : (plans : List (List Call)) (q idle : ℕ) (ls ks : List ℕ) (ports
 begun_same plans q idle ls ks ports same w = subst (λ (l : List ℕ). HasBegun idle plans q l ports) same w
 
 goes_on_more : (plans : List (List Call)) (p : ℕ) (ls ks : List ℕ) (old mid new : Run) → GoesOnIn plans p ls old mid → GoesOnIn plans p ks mid new → GoesOnIn plans p (ls ++ ks) old new
-goes_on_more plans p ls ks old mid new a b q front w = begun_same plans q 0 ((front ++ own_turns q p ls) ++ own_turns q p ks) (front ++ own_turns q p (ls ++ ks)) new.ports.items (own_more q p front ls ks) (b q (front ++ own_turns q p ls) (a q front w))
+goes_on_more plans p ls ks old mid new a b q front w = begun_same plans q 0 ((front ++ own_turns q p ls) ++ own_turns q p ks) (front ++ own_turns q p (ls ++ ks)) new.ports.items
+    (own_more q p front ls ks) (b q (front ++ own_turns q p ls) (a q front w))
 
 -- a port comes to its end, and any turns behind it change nothing
 goes_on_idle : (plans : List (List Call)) (p : ℕ) (ls more : List ℕ) (old new : Run) → IsDone plans new.ports.items p → GoesOnIn plans p ls old new → GoesOnIn plans p (ls ++ more) old new
@@ -61,7 +62,8 @@ goes_on_idle plans p ls more old new d g q front w calls port c t = elim (eqb_te
       let port_same : d.port ≡ port = cc in
       let all : length port.finished.items ≡ length calls = ap (λ (u : Port). length u.finished.items) (sym port_same) ∙ d.all ∙ ap length calls_same in
       subst (λ (l : List ℕ). HasTurned 0 calls l port) (own_more q p front ls more)
-      (subst (λ (l : List ℕ). HasTurned 0 calls ((front ++ own_turns q p ls) ++ l) port) (sym (own_is q p more is.1)) (turns_idle calls 0 (front ++ own_turns q p ls) more port all (g q front w calls port c t)))
+      (subst (λ (l : List ℕ). HasTurned 0 calls ((front ++ own_turns q p ls) ++ l) port) (sym (own_is q p more is.1))
+      (turns_idle calls 0 (front ++ own_turns q p ls) more port all (g q front w calls port c t)))
   | inr other ↦
       let none : own_turns q p (ls ++ more) ≡ own_turns q p ls = own_other q p (ls ++ more) other.1 ∙ sym (own_other q p ls other.1) in
       subst (λ (l : List ℕ). HasTurned 0 calls (front ++ l) port) (sym none) (g q front w calls port c t)
@@ -83,7 +85,8 @@ begins_at plans p seen calls port new ports c t keeps q lengths w = (
 
 -- its step in that turn
 pub steps_at : (plans : List (List Call)) (p : ℕ) (calls : List Call) (words words' : List ℕ) (trace trace' : List Event) (log log' : List Applied) (port new : Port) (ports : List Port) →
-    length port.finished.items < length calls → slice_get plans p ≡ Some calls → slice_get ports p ≡ Some port → StepMade calls words words' trace trace' log log' port new → StepsIn plans p ports (set ports p new)
+    length port.finished.items < length calls → slice_get plans p ≡ Some calls → slice_get ports p ≡ Some port → StepMade calls words words' trace trace' log log' port new →
+    StepsIn plans p ports (set ports p new)
 steps_at plans p calls words words' trace trace' log log' port new ports less c t m q lengths others own ds u plan is = elim (eqb_tells q p) [
   | inl same ↦
       let one : Some ds ≡ Some calls = sym plan ∙ ap (slice_get plans) same.1 ∙ c in
@@ -109,7 +112,8 @@ turn_done plans p old new same begins kept done ending = record {
         let port_same : done.port ≡ port = cc in
         let all : length port.finished.items ≡ length calls = ap (λ (u : Port). length u.finished.items) (sym port_same) ∙ done.all ∙ ap length calls_same in
         let here = turns_idle calls 1 (front ++ length old.memory.history.items ∷ []) [] port all ((begins q front w).1 is.1 calls port c t) in
-        subst (λ (l : List ℕ). HasTurned 0 calls (front ++ l) port) (sym (own_is q p (length old.memory.history.items ∷ []) is.1)) (subst (λ (l : List ℕ). HasTurned 0 calls l port) (append-nil (front ++ length old.memory.history.items ∷ [])) here)
+        subst (λ (l : List ℕ). HasTurned 0 calls (front ++ l) port) (sym (own_is q p (length old.memory.history.items ∷ []) is.1))
+        (subst (λ (l : List ℕ). HasTurned 0 calls l port) (append-nil (front ++ length old.memory.history.items ∷ [])) here)
     | inr other ↦
         subst (λ (l : List ℕ). HasTurned 0 calls (front ++ l) port) (sym (own_other q p (length old.memory.history.items ∷ []) other.1))
         (subst (λ (l : List ℕ). HasTurned 0 calls l port) (sym (append-nil front)) ((begins q front w).0 other.1 calls port c t))
@@ -128,7 +132,8 @@ turn_stepped plans p old mid new same begins kept ready made steps kept' but wit
     record {
       made = record { events = made.events; trace = made.trace ∙ ap (λ (r : Memory). r.trace.items ++ made.events) same.memory; ports = made.ports };
       begun = λ q front w. steps q (front ++ own_turns q p (n ∷ []))
-          (λ other. begun_same plans q 0 front (front ++ own_turns q p (n ∷ [])) mid.ports.items (sym (ap (λ (l : List ℕ). front ++ l) (own_other q p (n ∷ []) other) ∙ append-nil front)) ((begins q front w).0 other))
+          (λ other. begun_same plans q 0 front (front ++ own_turns q p (n ∷ [])) mid.ports.items (sym (ap (λ (l : List ℕ). front ++ l) (own_other q p (n ∷ []) other) ∙ append-nil front))
+          ((begins q front w).0 other))
           (λ is. begun_same plans q 1 (front ++ n ∷ []) (front ++ own_turns q p (n ∷ [])) mid.ports.items (ap (λ (l : List ℕ). front ++ l) (sym (own_is q p (n ∷ []) is))) ((begins q front w).1 is));
       done = λ d. ready_done plans p mid ready (kept p d);
       kept = λ q d. kept' q (kept q d);
@@ -170,9 +175,11 @@ step_more plans p n old mid new w v same s t =
 pub turns_all : (plans : List (List Call)) (p n : ℕ) (old new : Run) → StepsMade plans p n old new → StayStopped old new → TurnsMade plans p (Some n) old new
 turns_all plans p n old new s ending =
     let own = moments_behind old (s.made).events in
-    let many : length own ≡ n = sym (length-map own (λ (x : Moment). x.event.port)) ∙ ap length (ports_moments old.memory.sizes.m (length old.memory.history.items) (s.made).events ∙ (s.made).ports) ∙ length-replicate n p in
+    let many : length own ≡ n = sym (length-map own (λ (x : Moment). x.event.port)) ∙ ap length (ports_moments old.memory.sizes.m (length old.memory.history.items) (s.made).events ∙ (s.made).ports) ∙
+    length-replicate n p in
     let none : idle_in (Some n) (length own) ≡ 0 = omega (arith, many) in
-    let whole : befores_of own ≡ lengths_of (Some n) (length old.memory.history.items) own = sym (ap (λ k. befores_of own ++ replicate k (last_behind (length old.memory.history.items) own)) none ∙ append-nil (befores_of own)) in
+    let whole : befores_of own ≡ lengths_of (Some n) (length old.memory.history.items) own =
+    sym (ap (λ k. befores_of own ++ replicate k (last_behind (length old.memory.history.items) own)) none ∙ append-nil (befores_of own)) in
     record {
       steps = n;
       made = s.made;
@@ -214,8 +221,13 @@ turns_end plans p n turns old mid new w v same s ending t fewer =
     ∙ ap (λ k. befores_of own ++ replicate k (last_behind first own)) (sym idle) in
     record {
       steps = n;
-      made = record { events = (s.made).events; trace = (t.made).trace ∙ ap (λ (l : List Event). mid.memory.trace.items ++ l) none ∙ append-nil mid.memory.trace.items ∙ (s.made).trace; ports = (s.made).ports };
-      begun = subst (λ (l : List ℕ). GoesOnIn plans p l old new) whole (goes_on_idle plans p (befores_of own ++ length mid.memory.history.items ∷ []) (replicate (more.0) (last_behind first own)) old new t.done here);
+      made = record {
+        events = (s.made).events;
+        trace = (t.made).trace ∙ ap (λ (l : List Event). mid.memory.trace.items ++ l) none ∙ append-nil mid.memory.trace.items ∙ (s.made).trace;
+        ports = (s.made).ports;
+      };
+      begun = subst (λ (l : List ℕ). GoesOnIn plans p l old new) whole
+          (goes_on_idle plans p (befores_of own ++ length mid.memory.history.items ∷ []) (replicate (more.0) (last_behind first own)) old new t.done here);
       none = s.none;
       kept = λ q d. t.kept q (s.kept q d);
       all = idle_all turns n (IsDone plans new.ports.items p) t.done fewer;
@@ -235,12 +247,15 @@ begun_next plans es p k old new w same f begun t q =
     let front_ports : ports_at xs ≡ ports_of old.memory.trace.items = ports_moments m 0 old.memory.trace.items in
     let own_ports : ports_at own ≡ replicate t.steps p = ports_moments m (length old.memory.history.items) (t.made).events ∙ (t.made).ports in
     let moments : moments_from new.memory.sizes.m 0 new.memory.trace.items ≡ xs ++ own =
-    ap (λ (z : Layout). moments_from z.m 0 new.memory.trace.items) same.sizes ∙ ap (moments_from m 0) (t.made).trace ∙ moments-append m 0 old.memory.trace.items (t.made).events ∙ ap (λ n. xs ++ moments_from m n (t.made).events) (sym before) in
+    ap (λ (z : Layout). moments_from z.m 0 new.memory.trace.items) same.sizes ∙ ap (moments_from m 0) (t.made).trace ∙ moments-append m 0 old.memory.trace.items
+    (t.made).events ∙ ap (λ n. xs ++ moments_from m n (t.made).events) (sym before) in
     let all_ports : ports_at (xs ++ own) ≡ ports_of new.memory.trace.items = ap ports_at (sym moments) ∙ ports_moments new.memory.sizes.m 0 new.memory.trace.items in
     let left : ℕ → ℕ = λ r. events_in r (ports_of old.memory.trace.items) in
     let left' : ℕ → ℕ = λ r. events_in r (ports_of new.memory.trace.items) in
     let pushed : lengths_in q (es ++ (p, k) ∷ []) left' 0 (xs ++ own) ≡ lengths_in q es left 0 xs ++ own_turns q p (lengths_of k (last_behind 0 xs) own) =
-    lengths_push D E es xs own 0 p t.steps k q left left' (λ r. ap (events_in r) (sym front_ports)) (λ r. ap (events_in r) (sym all_ports)) own_ports t.none (last_turns E p t.steps k t.all) (subst (MakeTurns D es) (sym front_ports) f) in
+    lengths_push D E es xs own 0 p t.steps k q left left' (λ r. ap (events_in r) (sym front_ports)) (λ r. ap (events_in r) (sym all_ports)) own_ports t.none (last_turns E p t.steps k t.all)
+    (subst (MakeTurns D es) (sym front_ports) f) in
     let here : lengths_so_far q es old ++ own_turns q p (lengths_of k (length old.memory.history.items) own) ≡ lengths_so_far q (es ++ (p, k) ∷ []) new =
     ap (λ n. lengths_so_far q es old ++ own_turns q p (lengths_of k n own)) before ∙ sym pushed ∙ ap (lengths_in q (es ++ (p, k) ∷ []) left' 0) (sym moments) in
-    begun_same plans q 0 (lengths_so_far q es old ++ own_turns q p (lengths_of k (length old.memory.history.items) own)) (lengths_so_far q (es ++ (p, k) ∷ []) new) new.ports.items here (t.begun q (lengths_so_far q es old) (begun q))
+    begun_same plans q 0 (lengths_so_far q es old ++ own_turns q p (lengths_of k (length old.memory.history.items) own)) (lengths_so_far q (es ++ (p, k) ∷ []) new) new.ports.items here
+    (t.begun q (lengths_so_far q es old) (begun q))

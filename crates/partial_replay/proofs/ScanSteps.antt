@@ -28,11 +28,7 @@ use Rattle.partial_replay.specs.ScanSteps.{answers_of, events_in_front, own_even
 use Rattle.partial_replay.proofs.PortLaws.{Begins, begins, begun_sizes, once_empty}
 use Rattle.partial_replay.proofs.StepsOf.{IsCut, steps_cut}
 use Rattle.partial_replay.proofs.Plans.{served}
-
--- a machine with a due step has no reply
-due_unreplied : (s : CoreState) (t : Stage) (step : Step) → step_at s t ≡ Some step → reply_at t ≡ None
-due_unreplied s (Finished r) step e = let bad : None ≡ Some step = e in cc
-due_unreplied s _ step e = refl
+use Rattle.partial_replay.proofs.PortRuns.{unreplied_at}
 
 -- the events are answers that lead the machine on
 run_of : (s t : CoreState) (xs : List Moment) → Makes s xs t → Run s (answers_of xs) t
@@ -57,7 +53,7 @@ record CallRun (z : Layout) (s : CoreState) (c : Called) (own : List Moment) (la
 call_run : (z : Layout) (s t : CoreState) (c : Called) (x : Moment) (xs : List Moment) → IsLayout z → s.sizes ≡ z → IsSound s → IsServed z.m c.call → (h : HasSteps s c x xs t) →
     CallRun z s c (x ∷ xs) h.last
 call_run z s t c x xs layout sizes w served h =
-    let unreplied : reply_of (begun_of s c.call) ≡ None = due_unreplied (begun_of s c.call) (begun_of s c.call).stage x.event.step h.makes.0 in
+    let unreplied : reply_of (begun_of s c.call) ≡ None = unreplied_at (begun_of s c.call) (begun_of s c.call).stage x.event.step h.makes.0 in
     let b = begins s c.call w.asked (subst (λ (y : Layout). IsServed y.m c.call) (sym sizes) served) h.begins unreplied in
     let sound = b.sound w in
     let same : (begun_of s c.call).sizes ≡ z = begun_sizes s c.call ∙ sizes in
@@ -79,7 +75,14 @@ call_sound z s t c [] layout sizes w served h = elim h [
   | inr f ↦
       let empty : at_stage (begun_of s c.call) Idle ≡ at_stage (begin_scan s []) Idle = ap (λ (d : Call). at_stage (begun_of s d) Idle) (once_empty s c.call f.reply f.replied).0 in
       let is : t ≡ at_stage (begin_scan s []) Idle = f.rests ∙ empty in
-      let sound : IsSound (at_stage (begin_scan s []) Idle) = record { asked = record { few = omega arith; each = λ k below. absurd (omega (arith, below)) }; found = w.found; indices = w.indices; distinct = w.distinct; rows = w.rows; stage = tt } in
+      let sound : IsSound (at_stage (begin_scan s []) Idle) = record {
+        asked = record { few = omega arith; each = λ k below. absurd (omega (arith, below)) };
+        found = w.found;
+        indices = w.indices;
+        distinct = w.distinct;
+        rows = w.rows;
+        stage = tt;
+      } in
       (subst IsSound (sym is) sound, ap (λ (v : CoreState). v.sizes) is ∙ sizes)
 ]
 call_sound z s t c (x ∷ xs) layout sizes w served h =
@@ -105,7 +108,8 @@ scan_begun s js some = elim (eqb_tells (length js) 0) [
   | inr some' ↦ ap (λ (b : Bool). cond b (Finished (reply.Scanned 0 None)) ScanBegun) some'.0
 ]
 
-scan_of : (z : Layout) (first : CoreState) (front : List Called) (c : Called) (behind : List Called) (xs : List Moment) (last : CoreState) (cut : IsCut first front c behind xs last) (own : List Moment) →
+scan_of : (z : Layout) (first : CoreState) (front : List Called) (c : Called) (behind : List Called) (xs : List Moment) (last : CoreState)
+    (cut : IsCut first front c behind xs last) (own : List Moment) →
     own ≡ own_events front c xs → IsLayout z → (cut.at).sizes ≡ z → IsSound (cut.at) → IsServed z.m c.call → IsCallOf cut.at c own cut.next → IsOfItsScan first xs front c
 scan_of z first front c behind xs last cut [] own_is layout sizes w served h js vs k b is some answered = elim h [
   | inl r ↦ let bad : Some (answer.Refused r.cause) ≡ Some (answer.Scanned vs k b) = sym (ap (option_map (λ (f : Finish). f.answer)) r.finish) ∙ answered in cc
@@ -125,7 +129,8 @@ scan_of z first front c behind xs last cut (y ∷ ys) own_is layout sizes w serv
     let made = scans_make_their_steps (begun_of s c.call) h.last own k b r.layout r.sound stage r.run replied in
     let positions : length (begun_of s c.call).asked ≡ length js = ap (λ (v : CoreState). length v.asked) begun in
     let events : length own ≡ c.steps = length-map (y ∷ ys) _ ∙ ap length own_is ∙ cut.events in
-    let counted : AreOfScan (length js) k (pairs_loaded (begun_of s c.call) own) c.steps b = subst (λ n. AreOfScan (length js) k (pairs_loaded (begun_of s c.call) own) n b) events (subst (λ n. AreOfScan n k (pairs_loaded (begun_of s c.call) own) (length own) b) positions made) in
+    let counted : AreOfScan (length js) k (pairs_loaded (begun_of s c.call) own) c.steps b = subst (λ n. AreOfScan (length js) k (pairs_loaded (begun_of s c.call) own) n b) events
+    (subst (λ n. AreOfScan n k (pairs_loaded (begun_of s c.call) own) (length own) b) positions made) in
     record {
       s = s;
       t = cut.next;
@@ -171,7 +176,8 @@ answered_scans_make_their_steps p outcome plan w q front c behind is =
     let first = fresh z q in
     let xs = moments_by z.m q outcome.trace.items in
     let events = w.events q in
-    let calls : AllByRecursion (IsServed z.m) (map (λ (d : Called). d.call) cs) = subst (AllByRecursion (IsServed z.m)) (sym (w.calls q)) (all_take (IsServed z.m) (length cs) (get_or p.ports q []) (plan_served p q plan)) in
+    let calls : AllByRecursion (IsServed z.m) (map (λ (d : Called). d.call) cs) = subst (AllByRecursion (IsServed z.m)) (sym (w.calls q))
+    (all_take (IsServed z.m) (length cs) (get_or p.ports q []) (plan_served p q plan)) in
     let served = served_front z.m front c behind (subst (λ (l : List Called). AllByRecursion (IsServed z.m) (map (λ (d : Called). d.call) l)) is calls) in
     let cut = steps_cut first (events.0) front c behind xs (subst (λ (l : List Called). AreStepsOf first l xs (events.0)) is events.1) in
     let sound = calls_sound z first cut.at front (events_in_front front xs) plan.sizes refl (rests_are_sound.fresh z q) served.0 cut.led in

@@ -40,8 +40,10 @@ steps_cut s last (d ∷ front) c behind xs w =
     let own = w.0 in
     let cut = steps_cut (w.2) last front c behind (w.1) w.6 in
     let sum : steps_in (d ∷ front) ≡ length own + steps_in front = sum_by-cons (λ (e : Called). e.steps) d front ∙ ap (λ k. k + steps_in front) (sym w.4) in
-    let front' : take (steps_in (d ∷ front)) xs ≡ own ++ take (steps_in front) (w.1) = ap (λ k. take k xs) sum ∙ ap (take (length own + steps_in front)) w.3 ∙ take-append-add own (w.1) (steps_in front) in
-    let past : drop (steps_in front) (w.1) ≡ drop (steps_in (d ∷ front)) xs = sym (ap (λ k. drop k xs) sum ∙ ap (drop (length own + steps_in front)) w.3 ∙ drop-append-add own (w.1) (steps_in front)) in
+    let front' : take (steps_in (d ∷ front)) xs ≡ own ++ take (steps_in front) (w.1) = ap (λ k. take k xs) sum ∙ ap (take (length own + steps_in front)) w.3 ∙ take-append-add own
+    (w.1) (steps_in front) in
+    let past : drop (steps_in front) (w.1) ≡ drop (steps_in (d ∷ front)) xs =
+    sym (ap (λ k. drop k xs) sum ∙ ap (drop (length own + steps_in front)) w.3 ∙ drop-append-add own (w.1) (steps_in front)) in
     record {
       at = cut.at;
       next = cut.next;

@@ -19,10 +19,11 @@ use Rattle.partial_words.specs.Record.{value_of}
 use Rattle.partial_words.specs.Chain.{Agrees}
 use Rattle.partial_words.proofs.ChainLemmas.{value_behind_stamp}
 use Rattle.partial_replay.specs.Trace.{is_won, new_of, entry_of}
-use Rattle.partial_replay.specs.PortState.{entry_at}
-use Rattle.partial_replay.specs.RunState.{unvalued}
+use Rattle.partial_replay.specs.Inner.PortState.{entry_at}
+use Rattle.partial_replay.specs.Inner.RunState.{unvalued}
 
-entry_won : (p w old new v : ℕ) (c b : Bool) → cons_option (cond (cond c b false) (Some (record { port = p; component = w; value = 0; stamp = new })) None) [] ≡ map unvalued (cond c (cond b (record { port = p; component = w; value = v; stamp = new } ∷ []) []) [])
+entry_won : (p w old new v : ℕ) (c b : Bool) → cons_option (cond (cond c b false) (Some (record { port = p; component = w; value = 0; stamp = new })) None) [] ≡ map unvalued
+    (cond c (cond b (record { port = p; component = w; value = v; stamp = new } ∷ []) []) [])
 entry_won p w old new v true true = refl
 entry_won p w old new v true false = refl
 entry_won p w old new v false b = refl
@@ -34,7 +35,8 @@ entry_same m words p (Store w v) a = refl
 entry_same m words p (Add w k) a = refl
 entry_same m words p (Exchange w old new) a = entry_won p w old new (value_of words new) (nat_lt w m) (a == old)
 
-pub entries_push : (m : ℕ) (words : List ℕ) (trace trace' : List Event) (log log' : List Applied) (p : ℕ) (step : Step) (a : ℕ) → filter_map (entry_of m (λ _. 0)) trace ≡ map unvalued log → trace' ≡ trace ++ record { port = p; step = step; answer = a } ∷ [] → log' ≡ log ++ entry_at m words p step a → filter_map (entry_of m (λ _. 0)) trace' ≡ map unvalued log'
+pub entries_push : (m : ℕ) (words : List ℕ) (trace trace' : List Event) (log log' : List Applied) (p : ℕ) (step : Step) (a : ℕ) → filter_map (entry_of m (λ _. 0)) trace ≡ map unvalued log →
+    trace' ≡ trace ++ record { port = p; step = step; answer = a } ∷ [] → log' ≡ log ++ entry_at m words p step a → filter_map (entry_of m (λ _. 0)) trace' ≡ map unvalued log'
 entries_push m words trace trace' log log' p step a same trace_is log_is =
     ap (filter_map (entry_of m (λ _. 0))) trace_is
     ∙ filter_map-append (entry_of m (λ _. 0)) trace (record { port = p; step = step; answer = a } ∷ [])
@@ -47,7 +49,9 @@ entries_push m words trace trace' log log' p step a same trace_is log_is =
 abbrev valued : (ℕ → ℕ) → Applied → Applied
 valued value e = record { port = e.port; component = e.component; value = value e.stamp; stamp = e.stamp }
 
-valued_won : (value : ℕ → ℕ) (e : Event) (b : Bool) (xs ys : List Applied) → xs ≡ map (valued value) ys → cons_option (cond b (Some (record { port = e.port; component = word_of e.step; value = value (new_of e.step); stamp = new_of e.step })) None) xs ≡ map (valued value) (cons_option (cond b (Some (record { port = e.port; component = word_of e.step; value = 0; stamp = new_of e.step })) None) ys)
+valued_won : (value : ℕ → ℕ) (e : Event) (b : Bool) (xs ys : List Applied) → xs ≡ map (valued value) ys →
+    cons_option (cond b (Some (record { port = e.port; component = word_of e.step; value = value (new_of e.step); stamp = new_of e.step })) None) xs ≡ map (valued value)
+    (cons_option (cond b (Some (record { port = e.port; component = word_of e.step; value = 0; stamp = new_of e.step })) None) ys)
 valued_won value e true xs ys same = ap (λ (l : List Applied). record { port = e.port; component = word_of e.step; value = value (new_of e.step); stamp = new_of e.step } ∷ l) same
 valued_won value e false xs ys same = same
 
@@ -60,7 +64,8 @@ entry_value : (o : Opening) (words : List ℕ) (h : List Applied) (k : ℕ) (e :
 entry_value o words h k e hist agrees stands =
     let below = place_below h k e stands in
     let here : get_or h (k + 1 - 1) e ≡ e = ap (λ i. get_or h i e) (omega arith) ∙ get_or_from_slice_get h k e e stands in
-    let last : last_entry e.component (take (k + 1) h) ≡ Some e = last_entry-found h (k + 1) e.component e (omega arith) (omega (arith, below)) (ap (λ (f : Applied). f.component) here) ∙ ap Some here in
+    let last : last_entry e.component (take (k + 1) h) ≡ Some e = last_entry-found h (k + 1) e.component e (omega arith) (omega (arith, below))
+    (ap (λ (f : Applied). f.component) here) ∙ ap Some here in
     let stamp : stamp_of o (take (k + 1) h) e.component ≡ e.stamp = ap (λ (f : Option Applied). option_map_or (λ (x : Applied). x.stamp) f (initial_stamp o e.component)) last in
     let value : history.value_of o (take (k + 1) h) e.component ≡ e.value = ap (λ (f : Option Applied). option_map_or (λ (x : Applied). x.value) f (get_or o.values e.component 0)) last in
     ap (value_of words) (sym stamp) ∙ value_behind_stamp o words h e.component (k + 1) agrees (AllByRecursion-get (λ (f : Applied). f.component < length o.values) h k e hist.components stands) ∙ value
@@ -73,7 +78,8 @@ valued_back value [] f = refl
 valued_back value (e ∷ h) f = ap (λ (x : Applied). x ∷ h) (valued_here value e (f 0 e refl)) ∙ ap (λ (l : List Applied). valued value (unvalued e) ∷ l) (valued_back value h (λ k x s. f (suc k) x s))
 
 -- the entries that the trace adds are the history, with the values that their records hold
-pub entries_told : (m : ℕ) (o : Opening) (words : List ℕ) (trace : List Event) (log : List Applied) → IsHistory o log → Agrees o words log → filter_map (entry_of m (λ _. 0)) trace ≡ map unvalued log → log ≡ filter_map (entry_of m (value_of words)) trace
+pub entries_told : (m : ℕ) (o : Opening) (words : List ℕ) (trace : List Event) (log : List Applied) → IsHistory o log → Agrees o words log →
+    filter_map (entry_of m (λ _. 0)) trace ≡ map unvalued log → log ≡ filter_map (entry_of m (value_of words)) trace
 entries_told m o words trace log hist agrees same =
     valued_back (value_of words) log (λ k e s. entry_value o words log k e hist agrees s)
     ∙ ap (map (valued (value_of words))) (sym same)

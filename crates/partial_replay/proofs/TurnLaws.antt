@@ -14,16 +14,18 @@ use Rattle.partial_model.specs.declared.call.Call.{Call}
 use Rattle.partial_words.specs.declared.step.Event.{Event}
 use Rattle.partial_words.specs.Step.{answer_of}
 use Rattle.partial_model.specs.declared.history.Applied.{Applied}
-use Rattle.partial_replay.specs.PortState.{StepMade}
+use Rattle.partial_replay.specs.Inner.PortState.{StepMade}
 use Rattle.partial_replay.specs.declared.port.Port.{Port}
 use Rattle.partial_replay.specs.declared.run.Run.{Run}
 use Rattle.partial_replay.specs.Trace.{ports_of, events_in}
-use Rattle.partial_replay.specs.RunState.{IsReady}
-use Rattle.partial_replay.specs.TurnState.{IsDone, GoesOnBy, TurnsMade, StopAtSteps, HasTurns, MakeTurns, HasMadeTurns}
+use Rattle.partial_replay.specs.Inner.RunState.{IsReady}
+use Rattle.partial_replay.specs.Inner.TurnState.{IsDone, GoesOnBy, TurnsMade, StopAtSteps, HasTurns, MakeTurns, HasMadeTurns}
 use Rattle.partial_replay.proofs.PortLaws.{get_set, get_set_other, take_next, get_is, same_eqb}
 
 -- a port in another state: the ports that have made all their calls have still made them where this one has
-pub done_set : (plans : List (List Call)) (ports : List Port) (i : ℕ) (calls : List Call) (port new : Port) → slice_get plans i ≡ Some calls → slice_get ports i ≡ Some port → (port.under_way ≡ None → length port.finished.items ≡ length calls → (new.under_way ≡ None) × (length new.finished.items ≡ length calls)) → (q : ℕ) → IsDone plans ports q → IsDone plans (set ports i new) q
+pub done_set : (plans : List (List Call)) (ports : List Port) (i : ℕ) (calls : List Call) (port new : Port) → slice_get plans i ≡ Some calls → slice_get ports i ≡ Some port →
+    (port.under_way ≡ None → length port.finished.items ≡ length calls → (new.under_way ≡ None) × (length new.finished.items ≡ length calls)) → (q : ℕ) → IsDone plans ports q →
+    IsDone plans (set ports i new) q
 done_set plans ports i calls port new c t keeps q d = elim (eqb_tells q i) [
   | inl same ↦
       let plan : Some d.calls ≡ Some calls = sym d.plan ∙ ap (slice_get plans) same.1 ∙ c in
@@ -44,7 +46,8 @@ ready_done plans p run ready d =
     cc
 
 -- a step is made by a port whose call is under way, and its event is the port's
-pub stepped_done : (calls : List Call) (words words' : List ℕ) (trace trace' : List Event) (log log' : List Applied) (port new : Port) → port.under_way ≡ None → StepMade calls words words' trace trace' log log' port new → ⊥
+pub stepped_done : (calls : List Call) (words words' : List ℕ) (trace trace' : List Event) (log log' : List Applied) (port new : Port) → port.under_way ≡ None →
+    StepMade calls words words' trace trace' log log' port new → ⊥
 stepped_done calls words words' trace trace' log log' port new none m = let way : Some (m.way) ≡ None = sym m.was ∙ none in cc
 
 pub by_step : (calls : List Call) (words words' : List ℕ) (trace trace' : List Event) (log log' : List Applied) (port new : Port) (p : ℕ) →
@@ -56,7 +59,8 @@ abbrev pub by_more : (p n k : ℕ) (old mid new : Run) → GoesOnBy n p old mid 
 by_more p n k old mid new a b = record {
   events = a.events ++ b.events;
   trace = b.trace ∙ ap (λ (l : List Event). l ++ b.events) a.trace ∙ append_assoc old.memory.trace.items a.events b.events;
-  ports = map-append (λ (e : Event). e.port) a.events b.events ∙ ap (λ (l : List ℕ). l ++ ports_of b.events) a.ports ∙ ap (λ (l : List ℕ). replicate n p ++ l) b.ports ∙ replicate-append-replicate n k p;
+  ports = map-append (λ (e : Event). e.port) a.events b.events ∙ ap (λ (l : List ℕ). l ++ ports_of b.events) a.ports ∙ ap (λ (l : List ℕ). replicate n p ++ l) b.ports ∙
+      replicate-append-replicate n k p;
 }
 
 -- the ports of a trace that goes on
@@ -82,10 +86,16 @@ pub turns_grow : (D E : ℕ → Type 0) (q : ℕ) (k : Option ℕ) (m n p : ℕ)
 turns_grow D E q None m n p behind more none h = (more q h.0, none_more q n p behind h.1 (λ e. none (subst D e h.0)))
 turns_grow D E q (Some k) m n p behind more none h = (h.0, λ less. let d = h.1 less in (more q d.0, none_more q n p behind d.1 (λ e. none (subst D e d.0))))
 
-follows_push : (D E : ℕ → Type 0) (es : List (ℕ × Option ℕ)) (ports : List ℕ) (p n : ℕ) (k : Option ℕ) → ((r : ℕ) → D r → E r) → (D p → n ≡ 0) → HasTurns E p k n [] → MakeTurns D es ports → MakeTurns E (es ++ (p, k) ∷ []) (ports ++ replicate n p)
+follows_push : (D E : ℕ → Type 0) (es : List (ℕ × Option ℕ)) (ports : List ℕ) (p n : ℕ) (k : Option ℕ) → ((r : ℕ) → D r → E r) → (D p → n ≡ 0) → HasTurns E p k n [] → MakeTurns D es ports →
+    MakeTurns E (es ++ (p, k) ∷ []) (ports ++ replicate n p)
 follows_push D E [] ports p n k more none last f = (n, [], ap (λ (l : List ℕ). l ++ replicate n p) f ∙ sym (append-nil (replicate n p)), last, refl)
-follows_push D E (e ∷ es) ports p n k more none last f =
-    (f.0, f.1 ++ replicate n p, ap (λ (l : List ℕ). l ++ replicate n p) f.2 ∙ append_assoc (replicate (f.0) e.0) (f.1) (replicate n p), turns_grow D E e.0 e.1 (f.0) n p (f.1) more none f.3, follows_push D E es (f.1) p n k more none last f.4)
+follows_push D E (e ∷ es) ports p n k more none last f = (
+  f.0,
+  f.1 ++ replicate n p,
+  ap (λ (l : List ℕ). l ++ replicate n p) f.2 ∙ append_assoc (replicate (f.0) e.0) (f.1) (replicate n p),
+  turns_grow D E e.0 e.1 (f.0) n p (f.1) more none f.3,
+  follows_push D E es (f.1) p n k more none last f.4,
+)
 
 pub last_turns : (E : ℕ → Type 0) (p n : ℕ) (k : Option ℕ) → MatchOption k (E p) (λ t. (n ≤ t) × (n < t → E p)) → HasTurns E p k n []
 last_turns E p n None m = (m, refl)
@@ -95,7 +105,8 @@ pub followed : (plans : List (List Call)) (es : List (ℕ × Option ℕ)) (p : �
     HasMadeTurns plans es old → TurnsMade plans p k old new → HasMadeTurns plans (es ++ (p, k) ∷ []) new
 followed plans es p k old new f t =
     subst (MakeTurns (IsDone plans new.ports.items) (es ++ (p, k) ∷ [])) (sym (ports_more t.steps p old new t.made))
-    (follows_push (IsDone plans old.ports.items) (IsDone plans new.ports.items) es (ports_of old.memory.trace.items) p t.steps k t.kept t.none (last_turns (IsDone plans new.ports.items) p t.steps k t.all) f)
+    (follows_push (IsDone plans old.ports.items) (IsDone plans new.ports.items) es (ports_of old.memory.trace.items) p t.steps k t.kept t.none
+    (last_turns (IsDone plans new.ports.items) p t.steps k t.all) f)
 
 -- one more entry, of the plan's
 turns_push : (q i : ℕ) (steps : List (ℕ × ℕ)) (e : ℕ × ℕ) → slice_get steps i ≡ Some e → turns_by q (take (i + 1) steps) ≡ turns_by q (take i steps) + cond (e.0 == q) e.1 0
@@ -157,7 +168,8 @@ left_same D e n behind left all h =
     let made : made_in e.1 (left p) ≡ n = made_is D p e.1 n (left p) behind own h in (
       made,
       λ q. elim (eqb_tells q p) [
-        | inl is ↦ ap (λ (b : Bool). cond b (left q - made_in e.1 (left q)) (left q)) is.0 ∙ ap (λ r. left r - made_in e.1 (left r)) is.1 ∙ ap (λ k. left p - k) made ∙ omega (arith, own) ∙ ap (λ r. events_in r behind) (sym is.1)
+        | inl is ↦ ap (λ (b : Bool). cond b (left q - made_in e.1 (left q)) (left q)) is.0 ∙ ap (λ r. left r - made_in e.1 (left r)) is.1 ∙ ap (λ k. left p - k) made ∙ omega (arith, own) ∙
+            ap (λ r. events_in r behind) (sym is.1)
         | inr other ↦ ap (λ (b : Bool). cond b (left q - made_in e.1 (left q)) (left q)) other.0 ∙ all q ∙ events_other q n p behind other.1
       ],
     )
@@ -188,7 +200,8 @@ within_turns D q (e ∷ steps) ports f =
     elim (eqb_tells p q) [
       | inl is ↦
           let turns : turns_by q (e ∷ steps) ≡ e.1 + turns_by q steps = sum ∙ ap (λ (b : Bool). cond b e.1 0 + turns_by q steps) is.0 in
-          let events : events_in q ports ≡ n + events_in q behind = ap (events_in q) f.2 ∙ ap (λ r. events_in r (replicate n p ++ behind)) (sym is.1) ∙ events_own n p behind ∙ ap (λ r. n + events_in r behind) is.1 in
+          let events : events_in q ports ≡ n + events_in q behind = ap (events_in q) f.2 ∙ ap (λ r. events_in r (replicate n p ++ behind)) (sym is.1) ∙ events_own n p behind ∙
+          ap (λ r. n + events_in r behind) is.1 in
           record {
             within = omega (arith, turns, events, few, rest.within);
             done = λ less. elim (cases_lt n e.1) [
@@ -214,7 +227,8 @@ pub rest_done : (D : ℕ → Type 0) (es : List (ℕ × Option ℕ)) (n q : ℕ)
 rest_done D [] n q ports below f = ends_done D 0 n q ports (omega arith) (omega (arith, below)) f
 rest_done D (e ∷ es) n q ports below f = rest_done D es n q (f.1) below f.4
 
-pub ending_next : (plans : List (List Call)) (steps : List (ℕ × ℕ)) (i : ℕ) (old new : Run) → i < length steps → HasMadeTurns plans (map so_many (take i steps)) old → StopAtSteps (take i steps) old → TurnsMade plans (get_or steps i (0, 0)).0 (Some (get_or steps i (0, 0)).1) old new → StopAtSteps (take (i + 1) steps) new
+pub ending_next : (plans : List (List Call)) (steps : List (ℕ × ℕ)) (i : ℕ) (old new : Run) → i < length steps → HasMadeTurns plans (map so_many (take i steps)) old → StopAtSteps (take i steps) old →
+    TurnsMade plans (get_or steps i (0, 0)).0 (Some (get_or steps i (0, 0)).1) old new → StopAtSteps (take (i + 1) steps) new
 ending_next plans steps i old new below f ends t q same =
     let e = get_or steps i (0, 0) in
     let p = e.0 in
@@ -239,10 +253,13 @@ ending_next plans steps i old new below f ends t q same =
     ]
 
 -- what the turns make of each port
-pub turns_told : (D : ℕ → Type 0) (p : PlanView) (ports : List ℕ) (q : ℕ) (calls : List Called) → (D q → AreAllMade (get_or p.ports q []) calls) → (length p.ports ≤ q → AreAllMade (get_or p.ports q []) calls) → (p.rest ≡ false → events_in q ports ≡ turns_by q p.steps → EndInStep calls) → MakeTurns D (turns_of p) ports → HaveMade p.rest (turns_by q p.steps) (events_in q ports) (get_or p.ports q []) calls
+pub turns_told : (D : ℕ → Type 0) (p : PlanView) (ports : List ℕ) (q : ℕ) (calls : List Called) → (D q → AreAllMade (get_or p.ports q []) calls) →
+    (length p.ports ≤ q → AreAllMade (get_or p.ports q []) calls) → (p.rest ≡ false → events_in q ports ≡ turns_by q p.steps → EndInStep calls) → MakeTurns D (turns_of p) ports →
+    HaveMade p.rest (turns_by q p.steps) (events_in q ports) (get_or p.ports q []) calls
 turns_told D p ports q calls done past ends f = at p.rest refl f
   where
-    at : (rest : Bool) → p.rest ≡ rest → MakeTurns D (map so_many p.steps ++ cond rest (map to_its_end (range_with_len 0 (length p.ports))) []) ports → HaveMade rest (turns_by q p.steps) (events_in q ports) (get_or p.ports q []) calls
+    at : (rest : Bool) → p.rest ≡ rest → MakeTurns D (map so_many p.steps ++ cond rest (map to_its_end (range_with_len 0 (length p.ports))) []) ports → HaveMade rest (turns_by q p.steps)
+        (events_in q ports) (get_or p.ports q []) calls
     at true is g = elim (cases_lt q (length p.ports)) [
       | inl below ↦ done (rest_done D (map so_many p.steps) (length p.ports) q ports below g)
       | inr beyond ↦ past beyond

@@ -9,7 +9,7 @@ use Rattle.partial_words.specs.declared.step.Event.{Event}
 use Rattle.partial_replay.specs.Trace.{Moment, adds, moments_from, last_behind, ports_of, events_in}
 use Rattle.partial_replay.specs.Turns.{made_in, left_behind, lengths_of, lengths_in, BeginInTurns}
 use Rattle.partial_replay.specs.Listed.{steps_in}
-use Rattle.partial_replay.specs.TurnState.{HasTurns, MakeTurns, own_turns}
+use Rattle.partial_replay.specs.Inner.TurnState.{HasTurns, MakeTurns, own_turns}
 use Rattle.partial_replay.proofs.PortLaws.{same_eqb}
 use Rattle.partial_replay.proofs.TurnLaws.{own_events, made_is, left_same, turns_grow}
 
@@ -88,7 +88,8 @@ pub lengths_push : (D E : ℕ → Type 0) (es : List (ℕ × Option ℕ)) (xs ow
 lengths_push D E [] xs own s p n k q left left' same same' ports none last f =
     let empty : xs ≡ [] = no_ports xs f in
     let all : xs ++ own ≡ own = ap (λ (l : List Moment). l ++ own) empty in
-    let own_left : left' p ≡ n + events_in p [] = same' p ∙ ap (λ (l : List Moment). events_in p (ports_at l)) all ∙ ap (events_in p) ports ∙ ap length (own_events n p) ∙ length-replicate n p ∙ omega arith in
+    let own_left : left' p ≡ n + events_in p [] = same' p ∙ ap (λ (l : List Moment). events_in p (ports_at l)) all ∙ ap (events_in p) ports ∙ ap length
+    (own_events n p) ∙ length-replicate n p ∙ omega arith in
     let made : made_in k (left' p) ≡ n = made_is E p k n (left' p) [] own_left last in
     let taken : take (made_in k (left' p)) (xs ++ own) ≡ own = ap (λ (l : List Moment). take (made_in k (left' p)) l) all ∙ ap (λ i. take i own) made ∙ take_own own n p ports in
     append-nil (own_turns q p (lengths_of k s (take (made_in k (left' p)) (xs ++ own))))
@@ -97,15 +98,18 @@ lengths_push D E [] xs own s p n k q left left' same same' ports none last f =
 lengths_push D E (e ∷ es) xs own s p n k q left left' same same' ports none last f =
     let i = f.0 in
     let behind = f.1 in
-    let all' : ports_at (xs ++ own) ≡ replicate i e.0 ++ (behind ++ replicate n p) = map-append (λ (x : Moment). x.event.port) xs own ∙ ap (λ (l : List ℕ). ports_at xs ++ l) ports ∙ ap (λ (l : List ℕ). l ++ replicate n p) f.2 ∙ append_assoc (replicate i e.0) behind (replicate n p) in
+    let all' : ports_at (xs ++ own) ≡ replicate i e.0 ++ (behind ++ replicate n p) = map-append (λ (x : Moment). x.event.port) xs own ∙ ap (λ (l : List ℕ). ports_at xs ++ l) ports ∙
+    ap (λ (l : List ℕ). l ++ replicate n p) f.2 ∙ append_assoc (replicate i e.0) behind (replicate n p) in
     let next = left_same D e i behind left (λ r. same r ∙ ap (events_in r) f.2) f.3 in
     let next' = left_same D e i (behind ++ replicate n p) left' (λ r. same' r ∙ ap (events_in r) all') (turns_grow D D e.0 e.1 i n p behind (λ r d. d) none f.3) in
     let within : i ≤ length xs = let long = front_of (ports_at xs) behind i e.0 f.2 in let same_long = length-map xs (λ (x : Moment). x.event.port) in omega (arith, long, same_long) in
     let front = take i xs in
     let rest = drop i xs in
     let rest_ports : ports_at rest ≡ behind = ports_dropped xs i e.0 behind f.2 in
-    let rest_ports' : ports_at (rest ++ own) ≡ behind ++ replicate n p = map-append (λ (x : Moment). x.event.port) rest own ∙ ap (λ (l : List ℕ). l ++ ports_at own) rest_ports ∙ ap (λ (l : List ℕ). behind ++ l) ports in
-    let tail = lengths_push D E es rest own (last_behind s front) p n k q (left_behind e left) (left_behind e left') (λ r. next.1 r ∙ ap (events_in r) (sym rest_ports)) (λ r. next'.1 r ∙ ap (events_in r) (sym rest_ports')) ports none last (subst (MakeTurns D es) (sym rest_ports) f.4) in
+    let rest_ports' : ports_at (rest ++ own) ≡ behind ++ replicate n p = map-append (λ (x : Moment). x.event.port) rest own ∙ ap (λ (l : List ℕ). l ++ ports_at own) rest_ports ∙
+    ap (λ (l : List ℕ). behind ++ l) ports in
+    let tail = lengths_push D E es rest own (last_behind s front) p n k q (left_behind e left) (left_behind e left') (λ r. next.1 r ∙ ap (events_in r) (sym rest_ports))
+    (λ r. next'.1 r ∙ ap (events_in r) (sym rest_ports')) ports none last (subst (MakeTurns D es) (sym rest_ports) f.4) in
     let whole : last_behind (last_behind s front) rest ≡ last_behind s xs = sym (behind-append s front rest) ∙ ap (last_behind s) (take-append-drop i xs) in
     let head : take (made_in e.1 (left' e.0)) (xs ++ own) ≡ front = ap (λ j. take j (xs ++ own)) next'.0 ∙ take-append-le i xs own within in
     let tail' : drop (made_in e.1 (left' e.0)) (xs ++ own) ≡ rest ++ own = ap (λ j. drop j (xs ++ own)) next'.0 ∙ drop-append-le i xs own within in
@@ -114,10 +118,13 @@ lengths_push D E (e ∷ es) xs own s p n k q left left' same same' ports none la
     ap (λ (l : List Moment). own_turns q e.0 (lengths_of e.1 s l) ++ lengths_in q (es ++ (p, k) ∷ []) (left_behind e left') (last_behind s l) (drop (made_in e.1 (left' e.0)) (xs ++ own))) head
     ∙ ap (λ (l : List Moment). own_turns q e.0 (lengths_of e.1 s front) ++ lengths_in q (es ++ (p, k) ∷ []) (left_behind e left') (last_behind s front) l) tail'
     ∙ ap (λ (l : List ℕ). own_turns q e.0 (lengths_of e.1 s front) ++ l) tail
-    ∙ sym (append_assoc (own_turns q e.0 (lengths_of e.1 s front)) (lengths_in q es (left_behind e left) (last_behind s front) rest) (own_turns q p (lengths_of k (last_behind (last_behind s front) rest) own)))
+    ∙ sym (append_assoc (own_turns q e.0 (lengths_of e.1 s front)) (lengths_in q es (left_behind e left) (last_behind s front) rest)
+    (own_turns q p (lengths_of k (last_behind (last_behind s front) rest) own)))
     ∙ ap (λ j. (own_turns q e.0 (lengths_of e.1 s front) ++ lengths_in q es (left_behind e left) (last_behind s front) rest) ++ own_turns q p (lengths_of k j own)) whole
-    ∙ ap (λ (l : List Moment). (own_turns q e.0 (lengths_of e.1 s front) ++ lengths_in q es (left_behind e left) (last_behind s front) l) ++ own_turns q p (lengths_of k (last_behind s xs) own)) (sym tail_is)
-    ∙ ap (λ (l : List Moment). (own_turns q e.0 (lengths_of e.1 s l) ++ lengths_in q es (left_behind e left) (last_behind s l) (drop (made_in e.1 (left e.0)) xs)) ++ own_turns q p (lengths_of k (last_behind s xs) own)) (sym head_is)
+    ∙ ap (λ (l : List Moment). (own_turns q e.0 (lengths_of e.1 s front) ++ lengths_in q es (left_behind e left) (last_behind s front) l) ++
+    own_turns q p (lengths_of k (last_behind s xs) own)) (sym tail_is)
+    ∙ ap (λ (l : List Moment). (own_turns q e.0 (lengths_of e.1 s l) ++ lengths_in q es (left_behind e left) (last_behind s l) (drop (made_in e.1 (left e.0)) xs)) ++
+    own_turns q p (lengths_of k (last_behind s xs) own)) (sym head_is)
 
 -- the lengths are told by what each port has left
 pub lengths_same : (q : ℕ) (es : List (ℕ × Option ℕ)) (left left' : ℕ → ℕ) (n : ℕ) (xs : List Moment) → ((r : ℕ) → left r ≡ left' r) → lengths_in q es left n xs ≡ lengths_in q es left' n xs

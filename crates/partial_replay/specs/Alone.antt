@@ -32,9 +32,11 @@ AnswersAlone o h (call.UpdateIf j x v) (answer.Applied s) = stamp_of o h j ≡ x
 AnswersAlone o h (call.UpdateIf j x v) (answer.Changed t) = (stamp_of o h j ≡ t) × (t ≢ x)
 AnswersAlone o h _ _ = ⊤
 
+-- while a finished call was made nothing came into the history but its own entry, and it answers for the history as it began
 abbrev pub IsAlone : Opening → List Applied → Called → Type 0
 IsAlone o h c = IfSome c.finish (λ f. AddsAlone c.began f.ended f.note × AnswersAlone o (take c.began h) c.call f.answer)
 
 -- in the replay of a plan with one port each call is alone
 abbrev pub OnePortIsAlone : Type 0
-OnePortIsAlone = (p : PlanView) (outcome : Outcome) → length p.ports ≡ 1 → IsReplayOf p outcome → AllByRecursion (IsAlone outcome.opening outcome.history.items) outcome.calls.items
+OnePortIsAlone = (p : PlanView) (outcome : Outcome) → length p.ports ≡ 1 → IsReplayOf p outcome →
+    AllByRecursion (IsAlone outcome.opening outcome.history.items) outcome.calls.items

@@ -52,4 +52,5 @@ IsCallOf s c (x ∷ xs) t = HasSteps s c x xs t
 -- the events are the steps of the calls of the machine s, call by call, and lead to t
 abbrev pub AreStepsOf : CoreState → List Called → List Moment → CoreState → Type 0
 AreStepsOf s [] xs t = (xs ≡ []) × (t ≡ s)
-AreStepsOf s (c ∷ cs) xs t = (own behind : List Moment) × (u : CoreState) × (xs ≡ own ++ behind) × (length own ≡ c.steps) × IsCallOf s c own u × AreStepsOf u cs behind t
+AreStepsOf s (c ∷ cs) xs t = (own behind : List Moment) × (u : CoreState) × (xs ≡ own ++ behind) × (length own ≡ c.steps) ×
+    IsCallOf s c own u × AreStepsOf u cs behind t

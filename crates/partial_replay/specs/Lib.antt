@@ -2,9 +2,7 @@ pub mod Place
 pub mod Trace
 pub mod Turns
 pub mod CallSteps
-pub mod PortState
-pub mod RunState
-pub mod TurnState
+pub mod Inner
 pub mod Listed
 pub mod Replayed
 pub mod Alone

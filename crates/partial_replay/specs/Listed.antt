@@ -3,17 +3,24 @@ use Rattle.std.specs.Prelude.{ℕ, ◌≡◌, ◌<◌, ◌≤◌, ◌==◌, ⊤,
 use Rattle.std.specs.List.{AllByRecursion}
 use Rattle.partial_model.specs.declared.call.Call.{Call}
 use Rattle.partial_model.specs.declared.call.Called.{Called}
+use Rattle.partial_words.specs.Layout.{Layout}
+use Rattle.partial_machine.specs.Bounds.{most_steps}
 
 -- the calls of port q, in order
 abbrev pub calls_by : ℕ → List Called → List Called
 calls_by q calls = filter (λ c. c.port == q) calls
 
--- how many steps these calls have made, and those of port q
+-- how many steps these calls have made
 abbrev pub steps_in : List Called → ℕ
 steps_in calls = sum_by (λ c. c.steps) calls
 
+-- how many steps the calls of the port with number q have made
 abbrev pub steps_by : ℕ → List Called → ℕ
 steps_by q calls = steps_in (calls_by q calls)
+
+-- the calls have made no more steps than such calls may
+abbrev pub AreFew : Layout → List Called → Type 0
+AreFew z calls = AllByRecursion (λ c. c.steps ≤ most_steps z c.call) calls
 
 -- they are the first of the plan's calls
 abbrev pub AreFirstOf : List Call → List Called → Type 0

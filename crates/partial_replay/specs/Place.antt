@@ -35,15 +35,21 @@ prefix_from began (Some k) = k + 1
 -- The place of a scan from `began` on, in a history with which the words agree: the least prefix that shows
 -- its values, where one does.
 abbrev pub IsScanPlace : List ℕ → List Applied → ℕ → List ℕ → List ℕ → ℕ → Type 0
-IsScanPlace words h began js vs n = (o : Opening) (shown : ℕ) → Agrees o words h → AllByRecursion (λ j. j < length o.values) js → began ≤ shown → shown ≤ length h → ShowsValues o h js vs shown → IsLeast (ShowsValues o h js vs) began (length h) n
+IsScanPlace words h began js vs n = (o : Opening) (shown : ℕ) → Agrees o words h → AllByRecursion (λ j. j < length o.values) js →
+    began ≤ shown → shown ≤ length h → ShowsValues o h js vs shown → IsLeast (ShowsValues o h js vs) began (length h) n
 
 -- the note of a call that began at that length of the history and ended with that answer
 abbrev pub IsNoteFrom : List ℕ → List Applied → ℕ → Call → Answer → Option Note → Type 0
-IsNoteFrom words h began c (answer.Applied s) result = (found : Option ℕ) × IsPlaceFrom h began s found × (result ≡ option_map note.Wrote found)
-IsNoteFrom words h began c (answer.Lost by) result = (found : Option ℕ) × IsPlaceFrom h began by found × (result ≡ option_map note.Lost found)
-IsNoteFrom words h began c (answer.Read v s) result = (found : Option ℕ) × IsPlaceFrom h began s found × (result ≡ Some (note.Saw (prefix_from began found)))
-IsNoteFrom words h began c (answer.Changed by) result = (found : Option ℕ) × IsPlaceFrom h began by found × (result ≡ Some (note.Saw (prefix_from began found)))
-IsNoteFrom words h began (call.Scan js) (answer.Scanned vs collects borrowed) result = (n : ℕ) × IsScanPlace words h began js vs n × (result ≡ Some (note.Saw n))
+IsNoteFrom words h began c (answer.Applied s) result = (found : Option ℕ) × IsPlaceFrom h began s found ×
+    (result ≡ option_map note.Wrote found)
+IsNoteFrom words h began c (answer.Lost by) result = (found : Option ℕ) × IsPlaceFrom h began by found ×
+    (result ≡ option_map note.Lost found)
+IsNoteFrom words h began c (answer.Read v s) result = (found : Option ℕ) × IsPlaceFrom h began s found ×
+    (result ≡ Some (note.Saw (prefix_from began found)))
+IsNoteFrom words h began c (answer.Changed by) result = (found : Option ℕ) × IsPlaceFrom h began by found ×
+    (result ≡ Some (note.Saw (prefix_from began found)))
+IsNoteFrom words h began (call.Scan js) (answer.Scanned vs collects borrowed) result = (n : ℕ) × IsScanPlace words h began js vs n ×
+    (result ≡ Some (note.Saw n))
 IsNoteFrom words h began c _ result = result ≡ None
 
 -- the history shows the answer: the values, of a read the stamp too, and of a changed component the stamp
@@ -58,5 +64,6 @@ abbrev pub IsLeastFrom : Opening → List Applied → ℕ → Call → Answer �
 IsLeastFrom o h began c a (note.Saw n) = (i : ℕ) → began ≤ i → i < n → ¬ Shows o (take i h) c a
 IsLeastFrom o h began c a _ = ⊤
 
+-- what a finished call saw is the least prefix from its begin on that shows its answer
 abbrev pub HasLeastPlace : Opening → List Applied → Called → Type 0
 HasLeastPlace o h c = IfSome c.finish (λ f. IfSome f.note (IsLeastFrom o h c.began c.call f.answer))

@@ -13,9 +13,8 @@ use Rattle.partial_replay.specs.Place.{HasLeastPlace}
 use Rattle.partial_replay.specs.Trace.{entry_of, moments_by, ports_of, moments_from}
 use Rattle.partial_replay.specs.CallSteps.{AreStepsOf}
 use Rattle.partial_machine.specs.Bounds.{most_steps}
-use Rattle.partial_replay.specs.PortState.{AreFew}
 use Rattle.partial_replay.specs.Turns.{turns_of, turns_by, ports_in, lengths_in, BeginInTurns}
-use Rattle.partial_replay.specs.Listed.{calls_by, steps_by, AreFirstOf, AreAllMade, HaveMade}
+use Rattle.partial_replay.specs.Listed.{calls_by, steps_by, AreFirstOf, AreAllMade, HaveMade, AreFew}
 
 -- how long the history is at each turn of port q in the plan's turns
 abbrev pub turn_lengths : PlanView → Outcome → ℕ → List ℕ
@@ -41,15 +40,18 @@ pub record IsReplayOf (p : PlanView) (outcome : Outcome) : Type 0 where
   -- its won exchanges of component words are the history, in order
   pub entries : outcome.history.items ≡ filter_map (entry_of p.sizes.m (value_of outcome.words.items)) outcome.trace.items
   -- each port's events are the steps of its calls, call by call
-  pub events : (q : ℕ) → (last : CoreState) × AreStepsOf (fresh p.sizes q) (calls_by q outcome.calls.items) (moments_by p.sizes.m q outcome.trace.items) last
+  pub events : (q : ℕ) → (last : CoreState) × AreStepsOf (fresh p.sizes q) (calls_by q outcome.calls.items)
+      (moments_by p.sizes.m q outcome.trace.items) last
   -- the trace's events are of the plan's turns in order, of each port the first ones, as many as its calls have steps
   pub turns : ports_of outcome.trace.items ≡ ports_in (turns_of p) (λ q. steps_by q outcome.calls.items)
   -- each call begins in the turn of its port that comes behind the steps of the calls in front of it, with the history as it is then
   pub begins : (q : ℕ) → BeginInTurns (turn_lengths p outcome q) 0 (calls_by q outcome.calls.items)
   -- each port makes a step in each of its turns until all its calls are made, and with the rest all are
-  pub made : (q : ℕ) → HaveMade p.rest (turns_by q p.steps) (steps_by q outcome.calls.items) (get_or p.ports q []) (calls_by q outcome.calls.items)
+  pub made : (q : ℕ) → HaveMade p.rest (turns_by q p.steps) (steps_by q outcome.calls.items) (get_or p.ports q [])
+      (calls_by q outcome.calls.items)
   -- no call makes more steps than such a call may
   pub few : AreFew p.sizes outcome.calls.items
   -- Nothing waits for a stopped port: where a port has more turns than its calls make steps at most, they
   -- are all made, wherever the others stopped.
-  pub waits : (q : ℕ) → sum_by (most_steps p.sizes) (get_or p.ports q []) < turns_by q p.steps → AreAllMade (get_or p.ports q []) (calls_by q outcome.calls.items)
+  pub waits : (q : ℕ) → sum_by (most_steps p.sizes) (get_or p.ports q []) < turns_by q p.steps →
+      AreAllMade (get_or p.ports q []) (calls_by q outcome.calls.items)

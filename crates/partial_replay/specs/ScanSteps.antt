@@ -18,17 +18,19 @@ use Rattle.partial_replay.specs.Replayed.{IsReplayOf}
 abbrev pub answers_of : List Moment → List ℕ
 answers_of own = map (λ x. x.event.answer) own
 
--- of a port's events, those of the calls in front of a call, and behind those the call's own: as many as it has steps
+-- of a port's events, those of the calls in front of a call
 abbrev pub events_in_front : List Called → List Moment → List Moment
 events_in_front front xs = take (steps_in front) xs
 
+-- the events of a call of a port, behind those of the calls in front of it
 abbrev pub own_events : List Called → Called → List Moment → List Moment
 own_events front c xs = take c.steps (drop (steps_in front) xs)
 
 -- The call behind those in front of it, of the port that has the machine `first` at opening and these events:
 -- its own events are the steps of the machine to which the calls in front lead, and they are as many as the
 -- positions and collects ask for, and as the pairs that it loaded where it borrowed a view.
-pub record MakesItsSteps (first : CoreState) (xs : List Moment) (front : List Called) (c : Called) (positions collects : ℕ) (borrowed : Option ℕ) : Type 0 where
+pub record MakesItsSteps (first : CoreState) (xs : List Moment) (front : List Called) (c : Called) (positions collects : ℕ)
+    (borrowed : Option ℕ) : Type 0 where
   pub s : CoreState
   pub t : CoreState
   pub led : AreStepsOf first front (events_in_front front xs) s

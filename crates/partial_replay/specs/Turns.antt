@@ -5,10 +5,11 @@ use Rattle.partial_model.specs.declared.call.Called.{Called}
 use Rattle.partial_text.specs.PlanText.{PlanView}
 use Rattle.partial_replay.specs.Trace.{Moment, last_behind}
 
--- turns of a port in a row: so many, or as many as it has steps to make
+-- so many turns of a port in a row
 abbrev pub so_many : ℕ × ℕ → ℕ × Option ℕ
 so_many e = (e.0, Some e.1)
 
+-- turns of a port until it has no call left
 abbrev pub to_its_end : ℕ → ℕ × Option ℕ
 to_its_end q = (q, None)
 
@@ -46,7 +47,8 @@ abbrev pub lengths_in : ℕ → List (ℕ × Option ℕ) → (ℕ → ℕ) → �
 lengths_in q [] left n xs = []
 lengths_in q (e ∷ es) left n xs =
     let own = take (made_in e.1 (left e.0)) xs in
-    (if e.0 == q then lengths_of e.1 n own else []) ++ lengths_in q es (left_behind e left) (last_behind n own) (drop (made_in e.1 (left e.0)) xs)
+    (if e.0 == q then lengths_of e.1 n own else []) ++ lengths_in q es (left_behind e left) (last_behind n own)
+    (drop (made_in e.1 (left e.0)) xs)
 
 -- Each call begins in a turn of its port: the one behind as many as the calls in front of it have steps. It begins
 -- with the history that there is at that turn.

@@ -2,7 +2,7 @@
 
 ghost use Rattle.std.specs.Prelude.{◌≡◌, ◌<◌, ◌≤◌, ◌^◌, length, IfSome, Some};
 ghost use Rattle.partial_replay.specs.Place.{IsPlaceFrom, IsNoteFrom, prefix_from};
-ghost use Rattle.partial_replay.specs.PortState.{AreWithin, MayAnswer};
+ghost use Rattle.partial_replay.specs.Inner.PortState.{AreWithin, MayAnswer};
 
 use crate::memory::Memory;
 use partial_model::{Answer, Applied, Call, Note};

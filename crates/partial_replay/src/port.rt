@@ -6,7 +6,7 @@ ghost use Rattle.std.specs.List.{AllByRecursion};
 ghost use Rattle.partial_machine.specs.declared.stage.Stage.TheVariants.{Idle};
 ghost use Rattle.partial_machine.specs.Machine.{reply_of};
 ghost use Rattle.partial_machine.specs.Calls.{answer_for, begun_of, refusal_of, IsServed};
-ghost use Rattle.partial_replay.specs.PortState.{IsExchangeWithin, AreWithin, IsDoneAtOnce, MayAnswer, call_at_once, entry_at, unfinished_call, IsEndedCall, KeepsFit, KeepsMade, MayStep, StepMade, BeginsInTurn};
+ghost use Rattle.partial_replay.specs.Inner.PortState.{IsExchangeWithin, AreWithin, IsDoneAtOnce, MayAnswer, call_at_once, entry_at, unfinished_call, IsEndedCall, KeepsFit, KeepsMade, MayStep, StepMade, BeginsInTurn};
 
 use crate::memory::Memory;
 use crate::note::note_of;
@@ -73,7 +73,8 @@ fn begin_call(
     requires idle { core.old.stage ≡ Idle }
     requires served { IsServed core.old.sizes.m call.now }
     ensures { IfOk result (λ found. MatchOption found
-        ((refusal_of core.old call.now ≡ None) × (reply_of (begun_of core.old call.now) ≡ None) × (core.new ≡ begun_of core.old call.now))
+        ((refusal_of core.old call.now ≡ None) × (reply_of (begun_of core.old call.now) ≡ None) ×
+        (core.new ≡ begun_of core.old call.now))
         (IsDoneAtOnce port number call.now seen core.old core.new)) }
 {
     if let Err(cause) = core.begin(call) {
@@ -130,7 +131,8 @@ impl Port {
         ensures turn { OnOk result (BeginsInTurn calls.now seen self.old self.new) }
         ensures sizes { OnOk result (self.new.core.sizes ≡ self.old.core.sizes) }
         ensures more { OnOk result (length self.old.finished.items ≤ length self.new.finished.items) }
-        ensures begun { IfOk result (λ begun. MatchBool begun (IsSome self.new.under_way × (length self.new.finished.items < length calls.now))
+        ensures begun { IfOk result (λ begun. MatchBool begun
+            (IsSome self.new.under_way × (length self.new.finished.items < length calls.now))
             ((self.new.under_way ≡ None) × (length self.new.finished.items ≡ length calls.now))) }
     {
         while self.finished.len() < calls.len() {
@@ -168,7 +170,8 @@ impl Port {
         requires sizes { memory.old.sizes.m ≡ self.old.core.sizes.m }
         requires room { memory.old.places ≡ self.old.core.sizes.m }
         requires numbers { length calls.now < 2 ^ 32 }
-        ensures made { OnOk result (StepMade calls.now memory.old.words.items memory.new.words.items memory.old.trace.items memory.new.trace.items
+        ensures made { OnOk result (StepMade calls.now memory.old.words.items memory.new.words.items
+            memory.old.trace.items memory.new.trace.items
             memory.old.history.items memory.new.history.items self.old self.new) }
         ensures same { OnOk result ((memory.new.sizes ≡ memory.old.sizes) × (memory.new.places ≡ memory.old.places)) }
     {
@@ -212,7 +215,8 @@ impl Port {
         requires ends { MayAnswer memory.old.places call.now (answer_for self.now.core reply) }
         requires within { AreWithin memory.old.places memory.old.words.items memory.old.history.items }
         requires numbers { length self.now.finished.items < 2 ^ 32 }
-        ensures called { IfOk result (IsEndedCall self.now.number (length self.now.finished.items) call.now way memory.old.words.items memory.old.history.items (answer_for self.now.core reply)) }
+        ensures called { IfOk result (IsEndedCall self.now.number (length self.now.finished.items) call.now way
+            memory.old.words.items memory.old.history.items (answer_for self.now.core reply)) }
         ensures same { OnOk result (memory.new ≡ memory.old) }
     {
         let port = self.number;

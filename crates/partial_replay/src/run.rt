@@ -4,7 +4,7 @@ ghost use Rattle.std.specs.Prelude.{◌≡◌, ◌<◌, ◌≤◌, ◌^◌, leng
 ghost use Rattle.std.specs.Bool.{OnTrue};
 ghost use Rattle.partial_words.specs.Layout.{IsLayout};
 ghost use Rattle.partial_words.specs.Chain.{AreOpeningWords};
-ghost use Rattle.partial_replay.specs.RunState.{AreFreshPorts, AreListed, calls_in};
+ghost use Rattle.partial_replay.specs.Inner.RunState.{AreFreshPorts, AreListed, calls_in};
 
 use crate::memory::Memory;
 use crate::port::{Port, unfinished};
@@ -37,8 +37,8 @@ fn opening_words(alloc: Global, sizes: Sizes, initial: &[u64]) -> Result<Vec<u64
 }
 
 impl Run {
-    ghost use Rattle.partial_replay.specs.RunState.{ArePlans, AreStarted, IsBetweenTurns, IsReady, IsReplay, IsSameMemory, IsSameOpening, Tells, left_at};
-    ghost use Rattle.partial_replay.specs.TurnState.{BeginsIn, GoesOnBy, HaveBegun, IsDone, StayDone, StayStoppedBut, StayStoppedWith, StepsIn, StopAtSteps, TurnMade, TurnsMade};
+    ghost use Rattle.partial_replay.specs.Inner.RunState.{ArePlans, AreStarted, IsBetweenTurns, IsReady, IsReplay, IsSameMemory, IsSameOpening, Tells, left_at};
+    ghost use Rattle.partial_replay.specs.Inner.TurnState.{BeginsIn, GoesOnBy, HaveBegun, IsDone, StayDone, StayStoppedBut, StayStoppedWith, StepsIn, StopAtSteps, TurnMade, TurnsMade};
 
     /// The replay as it opens, with the ports of a plan.
     pub fn open(
@@ -86,7 +86,8 @@ impl Run {
         ensures between { OnOk result (IsBetweenTurns plans.now self.new) }
         ensures same { OnOk result (IsSameOpening self.old self.new) }
         ensures turn { IfOk result (λ stepped. TurnMade plans.now p self.old stepped self.new) }
-        ensures progress { IfOk result (λ stepped. OnTrue stepped (left_at p plans.now self.new.ports.items < left_at p plans.now self.old.ports.items)) }
+        ensures progress { IfOk result (λ stepped. OnTrue stepped
+            (left_at p plans.now self.new.ports.items < left_at p plans.now self.old.ports.items)) }
     {
         if !self.get_ready(alloc, p, plans)? {
             return Ok(false);
@@ -106,11 +107,14 @@ impl Run {
         requires port { p < length plans.now }
         ensures replay { OnOk result (IsReplay plans.now self.new) }
         ensures same { OnOk result (IsSameMemory self.old self.new) }
-        ensures ready { IfOk result (λ ready. MatchBool ready (IsReady p self.new) (IsDone plans.now self.new.ports.items p × AreStarted self.new.ports.items)) }
-        ensures begun { OnOk result (BeginsIn plans.now p (length self.old.memory.history.items) self.old.ports.items self.new.ports.items) }
+        ensures ready { IfOk result (λ ready. MatchBool ready (IsReady p self.new)
+            (IsDone plans.now self.new.ports.items p × AreStarted self.new.ports.items)) }
+        ensures begun { OnOk result (BeginsIn plans.now p (length self.old.memory.history.items) self.old.ports.items
+            self.new.ports.items) }
         ensures done { OnOk result (StayDone plans.now self.old self.new) }
         ensures ending { OnOk result (StayStoppedBut p self.old self.new) }
-        ensures left { OnOk result (left_at p plans.now self.new.ports.items ≤ left_at p plans.now self.old.ports.items) }
+        ensures left { OnOk result (left_at p plans.now self.new.ports.items ≤ left_at p plans.now
+            self.old.ports.items) }
     {
         let calls = plans[p].as_slice();
         let seen = self.memory.history.len();
@@ -138,7 +142,8 @@ impl Run {
         ensures begun { OnOk result (StepsIn plans.now p self.old.ports.items self.new.ports.items) }
         ensures ending { OnOk result (StayStoppedWith p self.old self.new) }
         ensures done { OnOk result (StayDone plans.now self.old self.new) }
-        ensures progress { OnOk result (left_at p plans.now self.new.ports.items < left_at p plans.now self.old.ports.items) }
+        ensures progress { OnOk result (left_at p plans.now self.new.ports.items < left_at p plans.now
+            self.old.ports.items) }
     {
         let calls = plans[p].as_slice();
         let port = &mut self.ports[p];

@@ -17,7 +17,7 @@ use Rattle.partial_state.proofs.Claimed.{unpublished_two, all_claimed}
 use Rattle.partial_state.proofs.HoldingLemmas.{own_far, if_some_at, none_here}
 use Rattle.partial_state.proofs.Blocks.{unpublished_is, announced_same, own_added, blocks_same, own_block_added}
 use Rattle.partial_state.proofs.Rebuild.{Moves, frame_of}
-use Rattle.partial_state.proofs.Quiet.{calm, pool_stays, slots_stay, lists_stay, fits_word, head_stays}
+use Rattle.partial_state.proofs.NoNewEntry.{calm, pool_stays, slots_stay, lists_stay, fits_word, head_stays}
 use Rattle.partial_state.proofs.MarkLaws.{block_given_up}
 
 module _ (z : Layout) (o : Opening) (words : List ℕ) (before : List Holding) (h : Holding) (after : List Holding) (log : List Applied) (w : LawfulWords z o words (before ++ h ∷ after) log) where
@@ -56,20 +56,24 @@ module _ (z : Layout) (o : Opening) (words : List ℕ) (before : List Holding) (
         let some = w.sizes.slots.0 in
         let most = counter_high space in
         let end = end_high space in
-        get_or-set_same words (counter_of z space) ((get_or words (counter_of z space) 0 + length block) % 2 ^ 64) 0 (omega (arith, count, some, most)) ∙ fits_word z (get_or words (counter_of z space) 0 + length block) w.sizes (omega (arith, room, end))
+        get_or-set_same words (counter_of z space) ((get_or words (counter_of z space) 0 + length block) % 2 ^ 64) 0 (omega (arith, count, some, most)) ∙ fits_word z
+            (get_or words (counter_of z space) 0 + length block) w.sizes (omega (arith, room, end))
 
     other : (k : ℕ) → k ≢ counter_of z space → get_or claimed k 0 ≡ get_or words k 0
     unfolding claimed
     other k differs = get_or-set_other words (counter_of z space) k ((get_or words (counter_of z space) 0 + length block) % 2 ^ 64) 0 differs
 
     -- the counter of a space is where it was, or behind the block
-    counter_now : (s t : Space) → (get_or claimed (counter_of z t) 0 ≡ get_or words (counter_of z t) 0 + length block) → ((k : ℕ) → k ≢ counter_of z t → get_or claimed k 0 ≡ get_or words k 0) → get_or words (counter_of z t) 0 + length block ≤ end_of z t → (get_or words (counter_of z s) 0 ≤ get_or claimed (counter_of z s) 0) × ((n : ℕ) → get_or words (counter_of z s) 0 ≤ end_of z s + n → get_or claimed (counter_of z s) 0 ≤ end_of z s + n)
+    counter_now : (s t : Space) → (get_or claimed (counter_of z t) 0 ≡ get_or words (counter_of z t) 0 + length block) → ((k : ℕ) → k ≢ counter_of z t → get_or claimed k 0 ≡ get_or words k 0) →
+        get_or words (counter_of z t) 0 + length block ≤ end_of z t → (get_or words (counter_of z s) 0 ≤ get_or claimed (counter_of z s) 0) ×
+        ((n : ℕ) → get_or words (counter_of z s) 0 ≤ end_of z s + n → get_or claimed (counter_of z s) 0 ≤ end_of z s + n)
     counter_now Pool Pool now other room = (omega (arith, now), λ n high. omega (arith, now, room))
     counter_now Lists Lists now other room = (omega (arith, now), λ n high. omega (arith, now, room))
     counter_now Pool Lists now other room = let same = other (pool_counter z) (λ e. omega (arith, e)) in (omega (arith, same), λ n high. omega (arith, same, high))
     counter_now Lists Pool now other room = let same = other (list_counter z) (λ e. omega (arith, e)) in (omega (arith, same), λ n high. omega (arith, same, high))
 
-    pub claim_is_kept : IsKept z o words before h after log (set words (counter_of z space) ((get_or words (counter_of z space) 0 + length block) % 2 ^ 64)) (record h { own = Some (record { space = space; at = get_or words (counter_of z space) 0; words = block; stored = 0 }) }) log
+    pub claim_is_kept : IsKept z o words before h after log (set words (counter_of z space) ((get_or words (counter_of z space) 0 + length block) % 2 ^ 64))
+        (record h { own = Some (record { space = space; at = get_or words (counter_of z space) 0; words = block; stored = 0 }) }) log
     unfolding claimed
     claim_is_kept =
         let h' : Holding = record h { own = Some (record { space = space; at = get_or words (counter_of z space) 0; words = block; stored = 0 }) } in
@@ -81,10 +85,13 @@ module _ (z : Layout) (o : Opening) (words : List ℕ) (before : List Holding) (
         let slots : get_or claimed (slot_counter z) 0 ≡ get_or words (slot_counter z) 0 = other (slot_counter z) (λ e. omega (arith, e, least)) in
         let slot_words : (l : ℕ) → l < z.slots → get_or claimed (slot_word z l) 0 ≡ get_or words (slot_word z l) 0 = λ l inside. other (slot_word z l) (λ e. omega (arith, e, most)) in
         let far : (k : ℕ) → list_base z ≤ k → get_or claimed k 0 ≡ get_or words k 0 = λ k above. other k (λ e. omega (arith, above, e, most)) in
-        let m : Moves z words claimed h h' = record { port = refl; count = length-set words (counter_of z space) ((get_or words (counter_of z space) 0 + length block) % 2 ^ 64); pool = pool.0; lists = lists.0; slots = omega (arith, slots); same = λ k above free. far k above; apart = λ x taken free. fresh_apart space (length block) room x taken; slot = λ l inside free. slot_words l inside; vacated = λ l inside one. slot_words l inside ∙ one } in
+        let m : Moves z words claimed h h' = record { port = refl; count = length-set words (counter_of z space) ((get_or words (counter_of z space) 0 + length block) % 2 ^ 64); pool = pool.0;
+            lists = lists.0; slots = omega (arith, slots); same = λ k above free. far k above; apart = λ x taken free. fresh_apart space (length block) room x taken;
+            slot = λ l inside free. slot_words l inside; vacated = λ l inside one. slot_words l inside ∙ one } in
         let tied = all_at (IsTied z words) before h after w.tied in
         let added = own_block_added z words (before ++ h' ∷ after) (before ++ h ∷ after) log (block_of b) (announced_same before h' h after refl) (own_added before h' h after b unowned refl) in
-        let free = all_weaker (IsClaimedBlock z words) (AreApart (block_of b)) (λ x taken. apart_turns x (block_of b) (fresh_apart space (length block) room x taken)) (blocks_in z words (before ++ h ∷ after) log) (all_claimed z o words (before ++ h ∷ after) log w) in
+        let free = all_weaker (IsClaimedBlock z words) (AreApart (block_of b)) (λ x taken. apart_turns x (block_of b) (fresh_apart space (length block) room x taken))
+            (blocks_in z words (before ++ h ∷ after) log) (all_claimed z o words (before ++ h ∷ after) log w) in
         calm z o words claimed before h h' after log w (record {
           moves = m;
           components = λ j below. other j (λ e. omega (arith, below, e, least));
@@ -167,14 +174,16 @@ stores_are_kept z o words before h after log b w is idle more =
           few = omega (arith, more);
           stands = λ i stored. elim (cases_lt i b.stored) [
             | inl old ↦ other (b.at + i) (λ e. omega (arith, old, e)) ∙ own.stands i old
-            | inr from ↦ let last : i ≡ b.stored = omega (arith, from, stored) in ap (λ t. get_or words' (b.at + t) 0) last ∙ get_or-set_same words n v 0 (omega (arith, count, within, more)) ∙ ap (λ t. get_or b.words t 0) (sym last)
+            | inr from ↦ let last : i ≡ b.stored = omega (arith, from, stored) in ap (λ t. get_or words' (b.at + t) 0) last ∙ get_or-set_same words n v 0 (omega (arith, count, within, more)) ∙
+                ap (λ t. get_or b.words t 0) (sym last)
           ];
         };
         pool_marked = λ t. let old = tied.pool_marked t in omega (arith, old, pool);
         slots_marked = λ t. let old = tied.slots_marked t in omega (arith, old, slots);
         lists_marked = λ t. let old = tied.lists_marked t in omega (arith, old, lists);
       };
-      apart = subst (EachTwo AreApart) (sym (blocks_same z words (before ++ h ∷ after) (before ++ h' ∷ after) log (announced_same before h h' after refl) (unpublished_is before h' after (Some b') refl ∙ sym (unpublished_is before h after (Some b) is)))) w.apart;
+      apart = subst (EachTwo AreApart) (sym (blocks_same z words (before ++ h ∷ after) (before ++ h' ∷ after) log (announced_same before h h' after refl)
+          (unpublished_is before h' after (Some b') refl ∙ sym (unpublished_is before h after (Some b) is)))) w.apart;
       due = none_here (IsDue z o words' h' (others_of h'.port (before ++ h' ∷ after)) log) h.due idle;
       claimed = refl;
       slot_words = slot_words;
@@ -186,8 +195,10 @@ stores_are_kept z o words before h after log b w is idle more =
     })
 
 -- a block that is published is apart from all that aren't
-pub own_freed : (before : List Holding) (h h' : Holding) (after : List Holding) (b : Own) → h.own ≡ Some b → h'.own ≡ None → EachTwo AreApart (unpublished (before ++ h ∷ after)) → IsApartFrom (unpublished (before ++ h' ∷ after)) (block_of b)
-own_freed before h h' after b is none two = (two_take AreApart apart_turns (block_of b) (unpublished (before ++ h' ∷ after)) (unpublished (before ++ h ∷ after)) (own_added before h h' after b none is) two).1
+pub own_freed : (before : List Holding) (h h' : Holding) (after : List Holding) (b : Own) → h.own ≡ Some b → h'.own ≡ None → EachTwo AreApart (unpublished (before ++ h ∷ after)) →
+    IsApartFrom (unpublished (before ++ h' ∷ after)) (block_of b)
+own_freed before h h' after b is none two = (two_take AreApart apart_turns (block_of b) (unpublished (before ++ h' ∷ after)) (unpublished (before ++ h ∷ after))
+    (own_added before h h' after b none is) two).1
 
 pub publishings_are_kept : PublishingsAreKept
 publishings_are_kept z o words before h after log old at list w idle is normal holds =
@@ -207,7 +218,8 @@ publishings_are_kept z o words before h after log old at list w idle is normal h
     let slots : get_or words' (slot_counter z) 0 ≡ get_or words (slot_counter z) 0 = other (slot_counter z) (λ e. omega (arith, e)) in
     let slot_words : (l : ℕ) → l < z.slots → get_or words' (slot_word z l) 0 ≡ get_or words (slot_word z l) 0 = λ l room. other (slot_word z l) (λ e. omega (arith, e)) in
     let far : (k : ℕ) → list_base z ≤ k → get_or words' k 0 ≡ get_or words k 0 = λ k above. other k (λ e. omega (arith, above, e)) in
-    let m : Moves z words words' h h' = record { port = refl; count = length-set words n v; pool = omega (arith, pool); lists = omega (arith, lists); slots = omega (arith, slots); same = λ k above free. far k above; apart = λ x claimed free. tt; slot = λ l room free. slot_words l room; vacated = λ l room one. slot_words l room ∙ one } in
+    let m : Moves z words words' h h' = record { port = refl; count = length-set words n v; pool = omega (arith, pool); lists = omega (arith, lists); slots = omega (arith, slots);
+        same = λ k above free. far k above; apart = λ x claimed free. tt; slot = λ l room free. slot_words l room; vacated = λ l room one. slot_words l room ∙ one } in
     let frame = frame_of z words words' h h' m before after in
     let above = own.above in
     let within = own.within in
@@ -225,17 +237,20 @@ publishings_are_kept z o words before h after log old at list w idle is normal h
       below = omega (arith, below, lists);
       apart = own_freed before h h' after b is refl (unpublished_two z o words (before ++ h ∷ after) log w);
     } in
-    let head : IsHead z words' (unpublished (before ++ h' ∷ after)) (get_or words (list_head z) 0) = head_moves z words words' (unpublished (before ++ h ∷ after)) (unpublished (before ++ h' ∷ after)) frame (get_or words (list_head z) 0) w.head in
+    let head : IsHead z words' (unpublished (before ++ h' ∷ after)) (get_or words (list_head z) 0) = head_moves z words words' (unpublished (before ++ h ∷ after)) (unpublished (before ++ h' ∷ after))
+        frame (get_or words (list_head z) 0) w.head in
     calm z o words words' before h h' after log w (record {
       moves = m;
       components = λ j inside. other j (λ e. omega (arith, inside, e));
-      tied = record { own = tt; pool_marked = λ t. let old = tied.pool_marked t in omega (arith, old, pool); slots_marked = λ t. let old = tied.slots_marked t in omega (arith, old, slots); lists_marked = λ t. let old = tied.lists_marked t in omega (arith, old, lists) };
+      tied = record { own = tt; pool_marked = λ t. let old = tied.pool_marked t in omega (arith, old, pool); slots_marked = λ t. let old = tied.slots_marked t in omega (arith, old, slots);
+          lists_marked = λ t. let old = tied.lists_marked t in omega (arith, old, lists) };
       apart = block_given_up z words before h h' after log h.own refl refl refl w.apart;
       due = none_here (IsDue z o words' h' (others_of h'.port (before ++ h' ∷ after)) log) h.due idle;
       claimed = refl;
       slot_words = slot_words;
       counts = λ l inside room. omega (arith, inside, slots);
-      head = subst (IsHead z words' (unpublished (before ++ h' ∷ after))) (sym now) (either z words' (unpublished (before ++ h' ∷ after)) (get_or words n 0 == old) at (get_or words n 0) (inr (list, published)) head);
+      head = subst (IsHead z words' (unpublished (before ++ h' ∷ after))) (sym now)
+          (either z words' (unpublished (before ++ h' ∷ after)) (get_or words n 0 == old) at (get_or words n 0) (inr (list, published)) head);
       pool_high = pool_stays before h h' after (get_or words' (pool_counter z) 0) (pool_end z) (4 + 2 * z.m) refl (let high = w.pool_high in omega (arith, pool, high));
       slots_high = slots_stay before h h' after (get_or words' (slot_counter z) 0) z.slots refl (let high = w.slots_high in omega (arith, slots, high));
       lists_high = lists_stay before h h' after (get_or words' (list_counter z) 0) (list_end z) (z.slots + 2) refl (let high = w.lists_high in omega (arith, lists, high));

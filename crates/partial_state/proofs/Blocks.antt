@@ -15,10 +15,12 @@ announcement_of j = record { at = j.at; size = 1 + length j.indices }
 
 module _ (before : List Holding) (h : Holding) (after : List Holding) where
   pub unpublished_is : (f : Option Own) → h.own ≡ f → unpublished (before ++ h ∷ after) ≡ unpublished before ++ cons_option (option_map block_of f) (unpublished after)
-  unpublished_is f e = filter_split (λ (v : Holding). option_map block_of v.own) before h after ∙ ap (λ (f : Option Own). unpublished before ++ cons_option (option_map block_of f) (unpublished after)) e
+  unpublished_is f e = filter_split (λ (v : Holding). option_map block_of v.own) before h after ∙ ap (λ (f : Option Own). unpublished before ++
+      cons_option (option_map block_of f) (unpublished after)) e
 
   pub announcements_are : (f : Option Joined) → joined_in h.claimed ≡ f → announcements (before ++ h ∷ after) ≡ announcements before ++ cons_option (option_map announcement_of f) (announcements after)
-  announcements_are f e = filter_split (λ (v : Holding). option_map announcement_of (joined_in v.claimed)) before h after ∙ ap (λ (f : Option Joined). announcements before ++ cons_option (option_map announcement_of f) (announcements after)) e
+  announcements_are f e = filter_split (λ (v : Holding). option_map announcement_of (joined_in v.claimed)) before h after ∙ ap (λ (f : Option Joined). announcements before ++
+      cons_option (option_map announcement_of f) (announcements after)) e
 
 module _ (before : List Holding) (h h' : Holding) (after : List Holding) where
   pub unpublished_same : h'.own ≡ h.own → unpublished (before ++ h' ∷ after) ≡ unpublished (before ++ h ∷ after)
@@ -31,7 +33,8 @@ module _ (before : List Holding) (h h' : Holding) (after : List Holding) where
   pub own_added : (b : Own) → h'.own ≡ None → h.own ≡ Some b → Adds (block_of b) (unpublished (before ++ h' ∷ after)) (unpublished (before ++ h ∷ after))
   own_added b none some = (unpublished before, unpublished after, unpublished_is before h' after None none, unpublished_is before h after (Some b) some)
 
-  pub announcement_added : (j : Joined) → joined_in h'.claimed ≡ None → joined_in h.claimed ≡ Some j → Adds (announcement_of j) (announcements (before ++ h' ∷ after)) (announcements (before ++ h ∷ after))
+  pub announcement_added : (j : Joined) → joined_in h'.claimed ≡ None → joined_in h.claimed ≡ Some j → Adds (announcement_of j) (announcements (before ++ h' ∷ after))
+      (announcements (before ++ h ∷ after))
   announcement_added j none some = (announcements before, announcements after, announcements_are before h' after None none, announcements_are before h after (Some j) some)
 
 -- the blocks of both, where one has one more that isn't published, or one more announcement
@@ -47,10 +50,14 @@ module _ (z : Layout) (words : List ℕ) (hs hs' : List Holding) (log : List App
 
   pub own_block_added : (b : Block) → announcements hs' ≡ announcements hs → Adds b (unpublished hs') (unpublished hs) → Adds b (blocks_in z words hs' log) (blocks_in z words hs log)
   own_block_added b a w =
-      let here : Adds b (initial ++ (entries ++ (announcements hs ++ unpublished hs'))) (initial ++ (entries ++ (announcements hs ++ unpublished hs))) = adds_behind b initial (entries ++ (announcements hs ++ unpublished hs')) (entries ++ (announcements hs ++ unpublished hs)) (adds_behind b entries (announcements hs ++ unpublished hs') (announcements hs ++ unpublished hs) (adds_behind b (announcements hs) (unpublished hs') (unpublished hs) w)) in
+      let here : Adds b (initial ++ (entries ++ (announcements hs ++ unpublished hs'))) (initial ++ (entries ++ (announcements hs ++ unpublished hs))) =
+          adds_behind b initial (entries ++ (announcements hs ++ unpublished hs')) (entries ++ (announcements hs ++ unpublished hs))
+          (adds_behind b entries (announcements hs ++ unpublished hs') (announcements hs ++ unpublished hs) (adds_behind b (announcements hs) (unpublished hs') (unpublished hs) w)) in
       (here.0, here.1, ap (λ (l : List Block). initial ++ (entries ++ (l ++ unpublished hs'))) a ∙ here.2, here.3)
 
   pub announced_block_added : (b : Block) → unpublished hs' ≡ unpublished hs → Adds b (announcements hs') (announcements hs) → Adds b (blocks_in z words hs' log) (blocks_in z words hs log)
   announced_block_added b u w =
-      let here : Adds b (initial ++ (entries ++ (announcements hs' ++ unpublished hs))) (initial ++ (entries ++ (announcements hs ++ unpublished hs))) = adds_behind b initial (entries ++ (announcements hs' ++ unpublished hs)) (entries ++ (announcements hs ++ unpublished hs)) (adds_behind b entries (announcements hs' ++ unpublished hs) (announcements hs ++ unpublished hs) (adds_before b (unpublished hs) (announcements hs') (announcements hs) w)) in
+      let here : Adds b (initial ++ (entries ++ (announcements hs' ++ unpublished hs))) (initial ++ (entries ++ (announcements hs ++ unpublished hs))) =
+          adds_behind b initial (entries ++ (announcements hs' ++ unpublished hs)) (entries ++ (announcements hs ++ unpublished hs))
+          (adds_behind b entries (announcements hs' ++ unpublished hs) (announcements hs ++ unpublished hs) (adds_before b (unpublished hs) (announcements hs') (announcements hs) w)) in
       (here.0, here.1, ap (λ (l : List Block). initial ++ (entries ++ (announcements hs' ++ l))) u ∙ here.2, here.3)

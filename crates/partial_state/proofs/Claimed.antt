@@ -13,25 +13,30 @@ use Rattle.partial_state.specs.Holdings.{Claimed, Holding, Space, first_of, end_
 use Rattle.partial_state.specs.Holdings.Space.{Pool, Lists}
 use Rattle.partial_state.specs.LawfulWords.{LawfulWords, IsOwn, IsTied, IsClaim, IsEntry}
 use Rattle.partial_state.specs.Loads.{IsPublished}
-use Rattle.partial_state.proofs.ListLemmas.{all_append, all_back, all_map, all_unmap, all_of, all_found, all_weaker, two_back, two_across}
+use Rattle.partial_state.proofs.ListLemmas.{all_append, all_back, all_map, all_unmap, all_weaker, two_back, two_across}
 use Rattle.partial_state.proofs.Frames.{IsClaimedBlock, announcement_claimed, block_published}
 use Rattle.partial_state.proofs.HoldingLemmas.{if_some, if_all, all_unpublished}
 use Rattle.partial_state.proofs.Blocks.{announcement_of}
+use Rattle.partial_model.proofs.NotesLemmas.{AllByRecursion-get}
+use Rattle.partial_model.proofs.StampsStay.{all_where}
 
 -- what holds of the value that stands there
 pub match_some : {A : Type 0} (P : Type 0) (Q : A → Type 0) (f : Option A) (a : A) → f ≡ Some a → MatchOption f P Q → Q a
 match_some P Q f a e w = let h : MatchOption (Some a) P Q = subst (λ (f : Option _). MatchOption f P Q) e w in h
 
 -- a record of the history with its view lies below the pool's counter
-entry_below : (z : Layout) (words : List ℕ) (us : List Block) (stamp : ℕ) (pairs : List (ℕ × ℕ)) → HasPairs z words us stamp pairs → stamp + 3 ≤ get_or words (pool_counter z) 0 → stamp + (block_at words stamp).size ≤ get_or words (pool_counter z) 0
+entry_below : (z : Layout) (words : List ℕ) (us : List Block) (stamp : ℕ) (pairs : List (ℕ × ℕ)) → HasPairs z words us stamp pairs → stamp + 3 ≤ get_or words (pool_counter z) 0 →
+    stamp + (block_at words stamp).size ≤ get_or words (pool_counter z) 0
 entry_below z words us stamp pairs shown low = either (view_of words stamp == stamp + 3) refl shown
   where
-    sized : (b : Bool) (n : ℕ) → stamp + 3 ≤ get_or words (pool_counter z) 0 → (b ≡ true → stamp + (4 + 2 * n) ≤ get_or words (pool_counter z) 0) → stamp + cond b (4 + 2 * n) 3 ≤ get_or words (pool_counter z) 0
+    sized : (b : Bool) (n : ℕ) → stamp + 3 ≤ get_or words (pool_counter z) 0 → (b ≡ true → stamp + (4 + 2 * n) ≤ get_or words (pool_counter z) 0) →
+        stamp + cond b (4 + 2 * n) 3 ≤ get_or words (pool_counter z) 0
     sized true n low f = f refl
     sized false n low f = low
 
     either : (b : Bool) → (view_of words stamp == stamp + 3) ≡ b → HasPairs z words us stamp pairs → stamp + (block_at words stamp).size ≤ get_or words (pool_counter z) 0
-    either b e (inl h) = sized (view_of words stamp == stamp + 3) (view_len words (stamp + 3)) low (λ t. let is = eqb-true (view_of words stamp) (stamp + 3) t in let none = h.0 in absurd (omega (arith, is, none)))
+    either b e (inl h) = sized (view_of words stamp == stamp + 3) (view_len words (stamp + 3)) low
+        (λ t. let is = eqb-true (view_of words stamp) (stamp + 3) t in let none = h.0 in absurd (omega (arith, is, none)))
     either b e (inr h) = sized (view_of words stamp == stamp + 3) (view_len words (stamp + 3)) low (λ t.
         let is : view_of words stamp ≡ stamp + 3 = eqb-true (view_of words stamp) (stamp + 3) t in
         let first : get_or words (view_of words stamp + 0) 0 ≡ length pairs = (h.stands 0 (omega arith)).1 in
@@ -49,12 +54,14 @@ all_announcements P (h ∷ hs) w = more P (joined_in h.claimed) (announcements h
     joined P None w = tt
     joined P (Some c) w = w
 
-    more : (P : Block → Type 0) (f : Option Joined) (rest : List Block) → IfSome f (λ j. P (announcement_of j)) → AllByRecursion P rest → AllByRecursion P (cons_option (option_map announcement_of f) rest)
+    more : (P : Block → Type 0) (f : Option Joined) (rest : List Block) → IfSome f (λ j. P (announcement_of j)) → AllByRecursion P rest →
+        AllByRecursion P (cons_option (option_map announcement_of f) rest)
     more P None rest w v = v
     more P (Some j) rest w v = (w, v)
 
 -- all words of a port's own block are claimed
-own_claimed : (z : Layout) (words : List ℕ) (s : Space) (at n : ℕ) → first_of z s ≤ at → at + n ≤ end_of z s → at + n ≤ get_or words (counter_of z s) 0 → IsClaimedBlock z words (record { at = at; size = n })
+own_claimed : (z : Layout) (words : List ℕ) (s : Space) (at n : ℕ) → first_of z s ≤ at → at + n ≤ end_of z s → at + n ≤ get_or words (counter_of z s) 0 →
+    IsClaimedBlock z words (record { at = at; size = n })
 own_claimed z words Pool at n above within below = inr (omega (arith, above), below)
 own_claimed z words Lists at n above within below = inl (within, below)
 
@@ -68,7 +75,8 @@ module _ (z : Layout) (o : Opening) (words : List ℕ) (hs : List Holding) (log 
   entry_free k e s =
       let across = two_across AreApart (map (λ e. block_at words e.stamp) log) (announcements hs ++ unpublished hs) w.apart.1 in
       let each = all_unmap (λ b. AllByRecursion (AreApart b) (announcements hs ++ unpublished hs)) (λ e. block_at words e.stamp) log across in
-      all_back (AreApart (block_at words e.stamp)) (announcements hs) (unpublished hs) (all_found (λ (e : Applied). AllByRecursion (AreApart (block_at words e.stamp)) (announcements hs ++ unpublished hs)) log k e each s)
+      all_back (AreApart (block_at words e.stamp)) (announcements hs) (unpublished hs)
+          (AllByRecursion-get (λ (e : Applied). AllByRecursion (AreApart (block_at words e.stamp)) (announcements hs ++ unpublished hs)) log k e each s)
 
   pub initial_free : IsApartFrom (unpublished hs) (record { at = pool_base z; size = 3 * z.m })
   initial_free =
@@ -78,7 +86,7 @@ module _ (z : Layout) (o : Opening) (words : List ℕ) (hs : List Holding) (log 
   -- all words of blocks are claimed
   pub entry_claimed : (k : ℕ) (e : Applied) → slice_get log k ≡ Some e → IsClaimedBlock z words (block_at words e.stamp)
   entry_claimed k e s =
-      let entry : IsEntry z words e = all_found (IsEntry z words) log k e w.entries s in
+      let entry : IsEntry z words e = AllByRecursion-get (IsEntry z words) log k e w.entries s in
       let above = entry.above in
       let fresh = w.fresh k e s in
       inr (omega (arith, above), entry_below z words (unpublished hs) e.stamp fresh.pairs fresh.shown entry.below)
@@ -86,18 +94,22 @@ module _ (z : Layout) (o : Opening) (words : List ℕ) (hs : List Holding) (log 
   announcements_claimed : AllByRecursion (IsClaimedBlock z words) (announcements hs)
   announcements_claimed =
       let P : Joined → Type 0 = λ j. IsClaimedBlock z words (announcement_of j) in
-      all_announcements (IsClaimedBlock z words) hs (all_weaker (λ (h : Holding). IfSome h.claimed (IsClaim z words hs log)) (λ h. IfSome h.claimed (λ c. IfSome c.joined P)) (λ h k. if_some (IsClaim z words hs log) (λ c. IfSome c.joined P) h.claimed (λ c e claim. if_all P c.joined (λ j is.
-      announcement_claimed z words (unpublished hs) j.at j.indices (match_some (get_or words (slot_word z c.slot) 0 ≡ 0) (λ j. (get_or words (slot_word z c.slot) 0 ≡ j.at) × (j.since ≤ length log) × IsAnnounced z words (unpublished hs) j.at j.indices) c.joined j is claim.holds).2)) k) hs w.claims)
+      all_announcements (IsClaimedBlock z words) hs (all_weaker (λ (h : Holding). IfSome h.claimed (IsClaim z words hs log)) (λ h. IfSome h.claimed (λ c. IfSome c.joined P))
+          (λ h k. if_some (IsClaim z words hs log) (λ c. IfSome c.joined P) h.claimed (λ c e claim. if_all P c.joined (λ j is.
+      announcement_claimed z words (unpublished hs) j.at j.indices (match_some (get_or words (slot_word z c.slot) 0 ≡ 0)
+          (λ j. (get_or words (slot_word z c.slot) 0 ≡ j.at) × (j.since ≤ length log) × IsAnnounced z words (unpublished hs) j.at j.indices) c.joined j is claim.holds).2)) k) hs w.claims)
 
   unpublished_claimed : AllByRecursion (IsClaimedBlock z words) (unpublished hs)
   unpublished_claimed =
-      all_unpublished (IsClaimedBlock z words) hs (all_weaker (IsTied z words) (λ h. IfSome h.own (λ b. IsClaimedBlock z words (block_of b))) (λ h t. if_some (IsOwn z words) (λ b. IsClaimedBlock z words (block_of b)) h.own (λ b e own. own_claimed z words b.space b.at (length b.words) own.above own.within own.below) t.own) hs w.tied)
+      all_unpublished (IsClaimedBlock z words) hs (all_weaker (IsTied z words) (λ h. IfSome h.own (λ b. IsClaimedBlock z words (block_of b)))
+          (λ h t. if_some (IsOwn z words) (λ b. IsClaimedBlock z words (block_of b)) h.own
+          (λ b e own. own_claimed z words b.space b.at (length b.words) own.above own.within own.below) t.own) hs w.tied)
 
   pub all_claimed : AllByRecursion (IsClaimedBlock z words) (blocks_in z words hs log)
   all_claimed = (
     inr (omega arith, w.pool_low),
     all_append (IsClaimedBlock z words) (map (λ e. block_at words e.stamp) log) (announcements hs ++ unpublished hs)
-        (all_map (IsClaimedBlock z words) (λ (e : Applied). block_at words e.stamp) log (all_of (λ (e : Applied). IsClaimedBlock z words (block_at words e.stamp)) log entry_claimed))
+        (all_map (IsClaimedBlock z words) (λ (e : Applied). block_at words e.stamp) log (all_where (λ (e : Applied). IsClaimedBlock z words (block_at words e.stamp)) log entry_claimed))
         (all_append (IsClaimedBlock z words) (announcements hs) (unpublished hs) announcements_claimed unpublished_claimed),
   )
 
@@ -106,4 +118,5 @@ module _ (z : Layout) (o : Opening) (words : List ℕ) (hs : List Holding) (log 
   entry_published k e n s below = block_published z words (unpublished hs) (block_at words e.stamp) (e.stamp + n) (entry_claimed k e s) (entry_free k e s) (omega arith) (omega (arith, below))
 
   pub initial_published : (n : ℕ) → n < 3 * z.m → IsPublished z words (unpublished hs) (pool_base z + n)
-  initial_published n below = block_published z words (unpublished hs) (record { at = pool_base z; size = 3 * z.m }) (pool_base z + n) (inr (omega arith, w.pool_low)) initial_free (omega arith) (omega (arith, below))
+  initial_published n below = block_published z words (unpublished hs) (record { at = pool_base z; size = 3 * z.m }) (pool_base z + n) (inr (omega arith, w.pool_low)) initial_free
+      (omega arith) (omega (arith, below))

@@ -44,7 +44,8 @@ pub record Grows (o : Opening) (log log' : List Applied) : Type 0 where
 
 -- a history that stays
 pub stays : (o : Opening) (log : List Applied) → Grows o log log
-stays o log = record { more = omega arith; longer = λ k e s. s; older = λ k e s below. s; takes = λ n below. refl; newer = λ k e s from n h. let below = place_below log k e s in absurd (omega (arith, below, from)) }
+stays o log = record { more = omega arith; longer = λ k e s. s; older = λ k e s below. s; takes = λ n below. refl; newer = λ k e s from n h. let below =
+    place_below log k e s in absurd (omega (arith, below, from)) }
 
 -- a part of a block is apart from what the block is apart from
 pub part_apart : (a b c : Block) → b.at ≤ a.at → a.at + a.size ≤ b.at + b.size → AreApart b c → AreApart a c
@@ -74,20 +75,24 @@ begun_back o log log' since n prev g within w = elim (cases_lt w.0 (length log))
 ]
 
 -- all words of what is published are claimed
-pub view_claimed : (z : Layout) (words : List ℕ) (us : List Block) (at : ℕ) (pairs : List (ℕ × ℕ)) → IsView z words us at pairs → IsClaimedBlock z words (record { at = at; size = length (view_block pairs) })
+pub view_claimed : (z : Layout) (words : List ℕ) (us : List Block) (at : ℕ) (pairs : List (ℕ × ℕ)) → IsView z words us at pairs →
+    IsClaimedBlock z words (record { at = at; size = length (view_block pairs) })
 view_claimed z words us at pairs w = let above = w.above in inr (omega (arith, above), w.below)
 
-pub announcement_claimed : (z : Layout) (words : List ℕ) (us : List Block) (at : ℕ) (indices : List ℕ) → IsAnnounced z words us at indices → IsClaimedBlock z words (record { at = at; size = 1 + length indices })
+pub announcement_claimed : (z : Layout) (words : List ℕ) (us : List Block) (at : ℕ) (indices : List ℕ) → IsAnnounced z words us at indices →
+    IsClaimedBlock z words (record { at = at; size = 1 + length indices })
 announcement_claimed z words us at indices w = let above = w.above in let below = w.below in inr (omega (arith, above), omega (arith, below))
 
-pub list_claimed : (z : Layout) (words : List ℕ) (us : List Block) (at : ℕ) (list : Ranges) → IsPublishedList z words us at list → IsClaimedBlock z words (record { at = at; size = length (list_block list) })
+pub list_claimed : (z : Layout) (words : List ℕ) (us : List Block) (at : ℕ) (list : Ranges) → IsPublishedList z words us at list →
+    IsClaimedBlock z words (record { at = at; size = length (list_block list) })
 list_claimed z words us at list w = let to = w.whole.to in let pairs = length-pairs list in inl (omega (arith, to, pairs), w.below)
 
 -- a word of a published block is published
 pub block_published : (z : Layout) (words : List ℕ) (us : List Block) (b : Block) (w : ℕ) → IsClaimedBlock z words b → IsApartFrom us b → b.at ≤ w → w < b.at + b.size → IsPublished z words us w
 block_published z words us b w claimed apart from to =
     record {
-      claimed = elim claimed [ inl h ↦ let a = h.0 in let c = h.1 in inl (omega (arith, a, to), omega (arith, c, to)) | inr h ↦ let a = h.0 in let c = h.1 in inr (omega (arith, a, from), omega (arith, c, to)) ];
+      claimed = elim claimed [ inl h ↦ let a = h.0 in let c = h.1 in inl (omega (arith, a, to), omega (arith, c, to)) | inr h ↦ let a = h.0 in let c =
+          h.1 in inr (omega (arith, a, from), omega (arith, c, to)) ];
       apart = parts_apart us (word_at w) b from (omega (arith, to)) apart;
     }
 
@@ -102,7 +107,8 @@ module _ (z : Layout) (words words' : List ℕ) (us us' : List Block) (f : Frame
   published_moves w p =
       let more = f.lists in
       let most = f.pool in
-      let claimed : IsClaimedBlock z words (word_at w) = elim (p.claimed) [ inl h ↦ let a = h.0 in let b = h.1 in inl (omega (arith, a), omega (arith, b)) | inr h ↦ let b = h.1 in inr (h.0, omega (arith, b)) ] in
+      let claimed : IsClaimedBlock z words (word_at w) = elim (p.claimed) [ inl h ↦ let a = h.0 in let b = h.1 in inl (omega (arith, a), omega (arith, b)) | inr h ↦ let b =
+          h.1 in inr (h.0, omega (arith, b)) ] in
       record {
         claimed = elim (p.claimed) [ inl h ↦ let b = h.1 in inl (h.0, omega (arith, b, more)) | inr h ↦ let b = h.1 in inr (h.0, omega (arith, b, most)) ];
         apart = f.apart (word_at w) claimed p.apart;
@@ -112,7 +118,8 @@ module _ (z : Layout) (words words' : List ℕ) (us us' : List Block) (f : Frame
   pub block_same : (b : Block) (w : ℕ) → list_base z ≤ b.at → IsClaimedBlock z words b → IsApartFrom us b → b.at ≤ w → w < b.at + b.size → get_or words' w 0 ≡ get_or words w 0
   block_same b w far claimed apart from to = f.same w (omega (arith, far, from)) (block_published z words us b w claimed apart from to)
 
-  pub stands_moves : (at : ℕ) (block : List ℕ) → list_base z ≤ at → IsClaimedBlock z words (record { at = at; size = length block }) → IsApartFrom us (record { at = at; size = length block }) → StandsAt words at block → StandsAt words' at block
+  pub stands_moves : (at : ℕ) (block : List ℕ) → list_base z ≤ at → IsClaimedBlock z words (record { at = at; size = length block }) → IsApartFrom us (record { at = at; size = length block }) →
+      StandsAt words at block → StandsAt words' at block
   stands_moves at block far claimed apart w k below =
       let h = w k below in
       let count = f.count in
@@ -156,7 +163,8 @@ module _ (z : Layout) (words words' : List ℕ) (us us' : List Block) (f : Frame
           to = a.to;
           count = a.count;
           each = a.each;
-          stands = stands_moves at (announcement_block indices) (omega (arith, above)) (subst (λ n. IsClaimedBlock z words (record { at = at; size = n })) (sym size) claimed) (subst (λ n. IsApartFrom us (record { at = at; size = n })) (sym size) w.apart) a.stands;
+          stands = stands_moves at (announcement_block indices) (omega (arith, above)) (subst (λ n. IsClaimedBlock z words (record { at = at; size = n })) (sym size) claimed)
+              (subst (λ n. IsApartFrom us (record { at = at; size = n })) (sym size) w.apart) a.stands;
         };
         above = w.above;
         below = omega (arith, below, more);
@@ -208,7 +216,8 @@ module _ (z : Layout) (words words' : List ℕ) (us us' : List Block) (f : Frame
           prefix = w.prefix;
           contains = subst (IsWithin o log' w.prefix) (sym prev) (within_grows o log log' w.prefix (prev_of words stamp) g w.contains);
           without = omega (arith, without, later);
-          values = all_weaker (λ pair. pair.1 ≡ value_of o (take w.prefix log) pair.0) (λ pair. pair.1 ≡ value_of o (take w.prefix log') pair.0) (λ pair h. h ∙ ap (λ (l : List Applied). value_of o l pair.0) (sym same)) w.pairs w.values;
+          values = all_weaker (λ pair. pair.1 ≡ value_of o (take w.prefix log) pair.0) (λ pair. pair.1 ≡ value_of o (take w.prefix log') pair.0)
+              (λ pair h. h ∙ ap (λ (l : List Applied). value_of o l pair.0) (sym same)) w.pairs w.values;
         }
 
     pub covers_moves : (n : ℕ) (j : Joined) → IsWithin o log n (prev_of words stamp) → Covers z words us log stamp j → Covers z words' us' log' stamp j

@@ -73,7 +73,8 @@ one_less : (f : Option Own) (rest : List Block) → EachTwo AreApart (cons_optio
 one_less None rest w = (tt, w)
 one_less (Some a) rest w = (w.0, w.1)
 
-uncross : (f : Option Own) (hs : List Holding) → IfSome f (λ a. AllByRecursion (AreApart (block_of a)) (unpublished hs)) → AllByRecursion (λ h. IfSome f (λ a. IfSome h.own (λ b. AreApart (block_of a) (block_of b)))) hs
+uncross : (f : Option Own) (hs : List Holding) → IfSome f (λ a. AllByRecursion (AreApart (block_of a)) (unpublished hs)) →
+    AllByRecursion (λ h. IfSome f (λ a. IfSome h.own (λ b. AreApart (block_of a) (block_of b)))) hs
 uncross None hs w = nothing hs
   where
     nothing : (ys : List Holding) → AllByRecursion (λ y. Unit {0}) ys
@@ -98,7 +99,9 @@ pub ports_turn : (x y : Holding) → HaveOtherPorts x y → HaveOtherPorts y x
 ports_turn x y w = λ e. w (sym e)
 
 pub slots_turn : (x y : Holding) → HaveOtherSlots x y → HaveOtherSlots y x
-slots_turn x y w = if_all (λ c. IfSome x.claimed (λ d. c.slot ≢ d.slot)) y.claimed (λ c e. if_all (λ d. c.slot ≢ d.slot) x.claimed (λ d e' same. if_some_at (λ c. d.slot ≢ c.slot) y.claimed c e (if_some_at (λ d. IfSome y.claimed (λ c. d.slot ≢ c.slot)) x.claimed d e' w) (sym same)))
+slots_turn x y w = if_all (λ c. IfSome x.claimed (λ d. c.slot ≢ d.slot)) y.claimed
+    (λ c e. if_all (λ d. c.slot ≢ d.slot) x.claimed (λ d e' same. if_some_at (λ c. d.slot ≢ c.slot) y.claimed c e
+    (if_some_at (λ d. IfSome y.claimed (λ c. d.slot ≢ c.slot)) x.claimed d e' w) (sym same)))
 
 -- the other ports' holdings, with one holding apart
 cond_append : {A : Type 0} (t : Bool) (b : A) (xs ys zs : List A) → xs ≡ ys ++ zs → cond t xs (b ∷ xs) ≡ cond t ys (b ∷ ys) ++ zs
@@ -166,18 +169,21 @@ three_words words stamp = least (view_of words stamp == stamp + 3) (view_len wor
     least false n = omega arith
 
 -- a record's block stays where its words do
-pub block_stays : (words words' : List ℕ) (stamp : ℕ) → ((n : ℕ) → n < (block_at words stamp).size → get_or words' (stamp + n) 0 ≡ get_or words (stamp + n) 0) → block_at words' stamp ≡ block_at words stamp
+pub block_stays : (words words' : List ℕ) (stamp : ℕ) → ((n : ℕ) → n < (block_at words stamp).size → get_or words' (stamp + n) 0 ≡ get_or words (stamp + n) 0) →
+    block_at words' stamp ≡ block_at words stamp
 block_stays words words' stamp same =
     let size = three_words words stamp in
     let view : view_of words' stamp ≡ view_of words stamp = same 2 (omega (arith, size)) in
     ap (λ (v : ℕ). record { at = stamp; size = cond (v == stamp + 3) (4 + 2 * view_len words' (stamp + 3)) 3 }) view ∙ either words words' stamp same (view_of words stamp == stamp + 3) refl
   where
-    either : (words words' : List ℕ) (stamp : ℕ) → ((n : ℕ) → n < (block_at words stamp).size → get_or words' (stamp + n) 0 ≡ get_or words (stamp + n) 0) → (b : Bool) → (view_of words stamp == stamp + 3) ≡ b → ◌≡◌ {A = Block} (record { at = stamp; size = cond (view_of words stamp == stamp + 3) (4 + 2 * view_len words' (stamp + 3)) 3 }) (block_at words stamp)
+    either : (words words' : List ℕ) (stamp : ℕ) → ((n : ℕ) → n < (block_at words stamp).size → get_or words' (stamp + n) 0 ≡ get_or words (stamp + n) 0) → (b : Bool) →
+        (view_of words stamp == stamp + 3) ≡ b → ◌≡◌ {A = Block} (record { at = stamp; size = cond (view_of words stamp == stamp + 3) (4 + 2 * view_len words' (stamp + 3)) 3 }) (block_at words stamp)
     either words words' stamp same true e =
         let inside : 3 < (block_at words stamp).size = subst (λ (t : Bool). 3 < cond t (4 + 2 * view_len words (stamp + 3)) 3) (sym e) (omega arith) in
         ap (λ (n : ℕ). record { at = stamp; size = cond (view_of words stamp == stamp + 3) (4 + 2 * n) 3 }) (same 3 inside)
     either words words' stamp same false e =
-        ap (λ (t : Bool). record { at = stamp; size = cond t (4 + 2 * view_len words' (stamp + 3)) 3 }) e ∙ sym (ap (λ (t : Bool). record { at = stamp; size = cond t (4 + 2 * view_len words (stamp + 3)) 3 }) e)
+        ap (λ (t : Bool). record { at = stamp; size = cond t (4 + 2 * view_len words' (stamp + 3)) 3 }) e ∙
+            sym (ap (λ (t : Bool). record { at = stamp; size = cond t (4 + 2 * view_len words (stamp + 3)) 3 }) e)
 
 -- a port's own block lies behind the slots
 pub own_far : (z : Layout) (words : List ℕ) (b : Own) → IsOwn z words b → list_base z ≤ b.at

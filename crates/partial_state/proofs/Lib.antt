@@ -4,8 +4,8 @@ pub mod HoldingLemmas
 pub mod Blocks
 pub mod Claimed
 pub mod Rebuild
-pub mod Keeping
-pub mod Quiet
+pub mod EffectLemmas
+pub mod NoNewEntry
 pub mod LoadLaw
 pub mod MarkLaws
 pub mod BlockLaws

@@ -2,9 +2,10 @@
 use Rattle.std.proofs.Common.{ℕ, zero, suc, map, ◌∙◌, ◌≡◌, ◌<◌, ◌≤◌, ◌++◌, List, [], ◌∷◌, length, refl, sym, ap, subst, Some, None, slice_get, append_assoc, arith}
 use Rattle.std.proofs.lemmas.List.{length_push}
 use Rattle.partial_model.proofs.HistoryLemmas.{place_below}
-use Rattle.partial_model.proofs.NotesLemmas.{slice_get_last}
+use Rattle.partial_model.proofs.NotesLemmas.{slice_get_last, AllByRecursion-get}
 use Rattle.std.specs.List.{AllByRecursion}
 use Rattle.partial_state.specs.Holdings.{EachTwo}
+use Rattle.partial_model.proofs.StampsStay.{all_where}
 pub use Rattle.partial_model.proofs.AllLemmas.{all_before, all_at, all_after, all_join, all_weaker, all_append, all_front, all_back, all_map, all_unmap}
 
 module _ {A : Type 0} (R : A → A → Type 0) (turn : (x y : A) → R x y → R y x) where
@@ -65,16 +66,6 @@ two_put R turn x ys xs w two all =
     two_more : {A : Type 0} (R : A → A → Type 0) → ((x y : A) → R x y → R y x) → (cs : List A) (x : A) (bs : List A) → EachTwo R (cs ++ bs) → AllByRecursion (R x) (cs ++ bs) → EachTwo R (cs ++ x ∷ bs)
     two_more R turn [] x bs w all = (all, w)
     two_more R turn (a ∷ cs) x bs w all = (all_join (R a) cs x bs (all_front (R a) cs bs w.0) (turn x a all.0) (all_back (R a) cs bs w.0), two_more R turn cs x bs w.1 all.1)
-
--- what holds at each place holds of each element, and the other way
-pub all_of : {A : Type 0} (P : A → Type 0) (h : List A) → ((k : ℕ) (e : A) → slice_get h k ≡ Some e → P e) → AllByRecursion P h
-all_of P [] f = tt
-all_of P (x ∷ h) f = (f 0 x refl, all_of P h (λ k e s. f (suc k) e s))
-
-pub all_found : {A : Type 0} (P : A → Type 0) (h : List A) (k : ℕ) (e : A) → AllByRecursion P h → slice_get h k ≡ Some e → P e
-all_found P [] k e w s = let bad : None ≡ Some e = s in cc
-all_found P (x ∷ h) zero e w s = let is : x ≡ e = cc in subst P is w.0
-all_found P (x ∷ h) (suc k) e w s = all_found P h k e w.1 s
 
 -- an element of a longer list, at a place of the old one
 pub found_before : {A : Type 0} (h es : List A) (k : ℕ) (e : A) → slice_get (h ++ es) k ≡ Some e → k < length h → slice_get h k ≡ Some e

@@ -23,7 +23,8 @@ claim_found P l (h ∷ hs) (inl k) all = let found = some_found (λ c. c.slot �
 claim_found P l (h ∷ hs) (inr k) all = claim_found P l hs k all.1
 
 -- a slot below the last holds what a slot may hold
-slot_now : (z : Layout) (o : Opening) (words : List ℕ) (hs : List Holding) (log : List Applied) (l : ℕ) → LawfulWords z o words hs log → l < z.slots → IsSlotAnswer z words (unpublished hs) l (get_or words (slot_word z l) 0)
+slot_now : (z : Layout) (o : Opening) (words : List ℕ) (hs : List Holding) (log : List Applied) (l : ℕ) → LawfulWords z o words hs log → l < z.slots → IsSlotAnswer z words (unpublished hs) l
+    (get_or words (slot_word z l) 0)
 slot_now z o words hs log l w room =
     elim (cases_lt l (get_or words (slot_counter z) 0)) [
       | inr from ↦ inl (w.unclaimed l from room)
@@ -33,14 +34,21 @@ slot_now z o words hs log l w room =
       ]
     ]
   where
-    held : (m : ℕ) (f : Option Joined) → m ≡ l → MatchOption f (get_or words (slot_word z m) 0 ≡ 0) (λ j. (get_or words (slot_word z m) 0 ≡ j.at) × (j.since ≤ length log) × IsAnnounced z words (unpublished hs) j.at j.indices) → IsSlotAnswer z words (unpublished hs) l (get_or words (slot_word z l) 0)
+    held : (m : ℕ) (f : Option Joined) → m ≡ l → MatchOption f (get_or words (slot_word z m) 0 ≡ 0)
+        (λ j. (get_or words (slot_word z m) 0 ≡ j.at) × (j.since ≤ length log) × IsAnnounced z words (unpublished hs) j.at j.indices) → IsSlotAnswer z words (unpublished hs) l
+        (get_or words (slot_word z l) 0)
     held m None is k = inl (ap (λ n. get_or words (slot_word z n) 0) (sym is) ∙ k)
-    held m (Some j) is k = let holds : get_or words (slot_word z l) 0 ≡ j.at = ap (λ n. get_or words (slot_word z n) 0) (sym is) ∙ k.0 in inr (inr (j.indices, subst (λ n. IsAnnounced z words (unpublished hs) n j.indices) (sym holds) k.2))
+    held m (Some j) is k = let holds : get_or words (slot_word z l) 0 ≡ j.at = ap (λ n. get_or words (slot_word z n) 0) (sym is) ∙ k.0 in inr
+        (inr (j.indices, subst (λ n. IsAnnounced z words (unpublished hs) n j.indices) (sym holds) k.2))
 
 -- what a joined port's claim says of its announcement
-joined_all : (z : Layout) (o : Opening) (words : List ℕ) (hs : List Holding) (log : List Applied) (P : ℕ → Joined → Type 0) → LawfulWords z o words hs log → ((c : Claimed) (j : Joined) → IsClaim z words hs log c → get_or words (slot_word z c.slot) 0 ≡ j.at → P c.slot j) → AllByRecursion (λ h. IfJoined h P) hs
+joined_all : (z : Layout) (o : Opening) (words : List ℕ) (hs : List Holding) (log : List Applied) (P : ℕ → Joined → Type 0) → LawfulWords z o words hs log →
+    ((c : Claimed) (j : Joined) → IsClaim z words hs log c → get_or words (slot_word z c.slot) 0 ≡ j.at → P c.slot j) → AllByRecursion (λ h. IfJoined h P) hs
 joined_all z o words hs log P w f =
-    all_weaker (λ (h : Holding). IfSome h.claimed (IsClaim z words hs log)) (λ h. IfJoined h P) (λ h k. if_some (IsClaim z words hs log) (λ c. IfSome c.joined (P c.slot)) h.claimed (λ c e claim. if_all (P c.slot) c.joined (λ j is. f c j claim (match_some (get_or words (slot_word z c.slot) 0 ≡ 0) (λ j. (get_or words (slot_word z c.slot) 0 ≡ j.at) × (j.since ≤ length log) × IsAnnounced z words (unpublished hs) j.at j.indices) c.joined j is claim.holds).0)) k) hs w.claims
+    all_weaker (λ (h : Holding). IfSome h.claimed (IsClaim z words hs log)) (λ h. IfJoined h P)
+        (λ h k. if_some (IsClaim z words hs log) (λ c. IfSome c.joined (P c.slot)) h.claimed
+        (λ c e claim. if_all (P c.slot) c.joined (λ j is. f c j claim (match_some (get_or words (slot_word z c.slot) 0 ≡ 0)
+        (λ j. (get_or words (slot_word z c.slot) 0 ≡ j.at) × (j.since ≤ length log) × IsAnnounced z words (unpublished hs) j.at j.indices) c.joined j is claim.holds).0)) k) hs w.claims
 
 pub loads_are_true : LoadsAreTrue
 loads_are_true z o words hs log n w below far =

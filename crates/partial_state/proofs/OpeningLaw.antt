@@ -67,7 +67,8 @@ opening_is_lawful z o words n opens few =
     let lists : get_or words (list_counter z) 0 ≡ list_base z = opens.words.each (list_counter z) (omega (arith, some)) ∙ lists_open z o.values some in
     let room = opens.sizes.pool.0 in
     let count = idle_length 0 n in
-    let blocks : announcements (idle_holdings 0 n) ++ unpublished (idle_holdings 0 n) ≡ [] = ap (λ (l : List Block). l ++ unpublished (idle_holdings 0 n)) (none_announced 0 n) ∙ none_unpublished 0 n in
+    let blocks : announcements (idle_holdings 0 n) ++ unpublished (idle_holdings 0 n) ≡ [] = ap (λ (l : List Block). l ++ unpublished (idle_holdings 0 n))
+        (none_announced 0 n) ∙ none_unpublished 0 n in
     record {
       sizes = opens.sizes;
       values = opens.values;

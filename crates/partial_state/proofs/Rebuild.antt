@@ -13,10 +13,12 @@ use Rattle.partial_state.specs.Views.{Block, AreApart}
 use Rattle.partial_state.specs.Holdings.{Own, Holding, Space, counter_of, block_of, block_at, announcements, unpublished, blocks_in, EachTwo}
 use Rattle.partial_state.specs.Holdings.Space.{Pool, Lists}
 use Rattle.partial_state.specs.LawfulWords.{LawfulWords, IsOwn, IsTied, IsEntry}
-use Rattle.partial_state.proofs.ListLemmas.{all_at, all_before, all_after, all_join, two_before, two_after, map_same, all_of, all_found}
+use Rattle.partial_state.proofs.ListLemmas.{all_at, all_before, all_after, all_join, two_before, two_after, map_same}
 use Rattle.partial_state.proofs.Frames.{Frame, IsClaimedBlock, word_at, part_apart}
 use Rattle.partial_state.proofs.Claimed.{unpublished_two, entry_free, initial_free}
 use Rattle.partial_state.proofs.HoldingLemmas.{own_far, if_some, if_some_at, all_unpublished, unpublished_all, HaveOtherBlocks, apart_others, blocks_turn, three_words, block_stays}
+use Rattle.partial_model.proofs.NotesLemmas.{AllByRecursion-get}
+use Rattle.partial_model.proofs.StampsStay.{all_where}
 
 -- What a step does to the words of others, where its port holds h before and h' behind it.
 pub record Moves (z : Layout) (words words' : List ℕ) (h h' : Holding) : Type 0 where
@@ -45,14 +47,16 @@ module _ (z : Layout) (words words' : List ℕ) (h h' : Holding) (m : Moves z wo
         apart = λ b claimed apart.
             let P : Holding → Type 0 = λ v. IfSome v.own (λ c. AreApart b (block_of c)) in
             let all = unpublished_all (AreApart b) (before ++ h ∷ after) apart in
-            all_unpublished (AreApart b) (before ++ h' ∷ after) (all_join P before h' after (all_before P before h after all) (m.apart b claimed (all_at P before h after all)) (all_after P before h after all));
+            all_unpublished (AreApart b) (before ++ h' ∷ after) (all_join P before h' after (all_before P before h after all) (m.apart b claimed (all_at P before h after all))
+                (all_after P before h after all));
         vacated = m.vacated;
       }
 
   -- a word of another's own block stays
   pub other_word : (b : Own) (n : ℕ) → list_base z ≤ b.at → n < length b.words → IfSome h.own (λ c. AreApart (block_of b) (block_of c)) → get_or words' (b.at + n) 0 ≡ get_or words (b.at + n) 0
   other_word b n far below apart =
-      m.same (b.at + n) (omega (arith, far)) (if_some (λ c. AreApart (block_of b) (block_of c)) (λ c. AreApart (word_at (b.at + n)) (block_of c)) h.own (λ c e a. part_apart (word_at (b.at + n)) (block_of b) (block_of c) (omega arith) (omega (arith, below)) a) apart)
+      m.same (b.at + n) (omega (arith, far)) (if_some (λ c. AreApart (block_of b) (block_of c)) (λ c. AreApart (word_at (b.at + n)) (block_of c)) h.own
+          (λ c e a. part_apart (word_at (b.at + n)) (block_of b) (block_of c) (omega arith) (omega (arith, below)) a) apart)
 
   counter_grows : (s : Space) → get_or words (counter_of z s) 0 ≤ get_or words' (counter_of z s) 0
   counter_grows Pool = m.pool
@@ -107,16 +111,20 @@ link_stays : (words words' : List ℕ) → length words' ≡ length words → (a
 link_stays words words' count at l same c = record { stamp = c.stamp; within = let within = c.within in omega (arith, count, within); value = same ∙ c.value }
 
 -- a chain whose words stay
-pub chain_stays : (words words' : List ℕ) → length words' ≡ length words → (at : ℕ) (links : List Link) → AllByRecursion (λ l. (get_or words' l.stamp 0 ≡ get_or words l.stamp 0) × (get_or words' (l.stamp + 1) 0 ≡ get_or words (l.stamp + 1) 0)) links → IsChain words at links → IsChain words' at links
+pub chain_stays : (words words' : List ℕ) → length words' ≡ length words → (at : ℕ) (links : List Link) →
+    AllByRecursion (λ l. (get_or words' l.stamp 0 ≡ get_or words l.stamp 0) × (get_or words' (l.stamp + 1) 0 ≡ get_or words (l.stamp + 1) 0)) links → IsChain words at links → IsChain words' at links
 chain_stays words words' count at [] all c = c
 chain_stays words words' count at (l ∷ []) all c =
-    let both : (get_or words' at 0 ≡ get_or words at 0) × (get_or words' (at + 1) 0 ≡ get_or words (at + 1) 0) = subst (λ n. (get_or words' n 0 ≡ get_or words n 0) × (get_or words' (n + 1) 0 ≡ get_or words (n + 1) 0)) c.0.stamp all.0 in
+    let both : (get_or words' at 0 ≡ get_or words at 0) × (get_or words' (at + 1) 0 ≡ get_or words (at + 1) 0) =
+        subst (λ n. (get_or words' n 0 ≡ get_or words n 0) × (get_or words' (n + 1) 0 ≡ get_or words (n + 1) 0)) c.0.stamp all.0 in
     (link_stays words words' count at l both.1 c.0, both.0 ∙ c.1)
 chain_stays words words' count at (l ∷ k ∷ ls) all c =
-    let both : (get_or words' at 0 ≡ get_or words at 0) × (get_or words' (at + 1) 0 ≡ get_or words (at + 1) 0) = subst (λ n. (get_or words' n 0 ≡ get_or words n 0) × (get_or words' (n + 1) 0 ≡ get_or words (n + 1) 0)) c.0.stamp all.0 in
+    let both : (get_or words' at 0 ≡ get_or words at 0) × (get_or words' (at + 1) 0 ≡ get_or words (at + 1) 0) =
+        subst (λ n. (get_or words' n 0 ≡ get_or words n 0) × (get_or words' (n + 1) 0 ≡ get_or words (n + 1) 0)) c.0.stamp all.0 in
     (link_stays words words' count at l both.1 c.0, subst (λ n. IsChain words' n (k ∷ ls)) (sym both.0) (chain_stays words words' count (prev_of words at) (k ∷ ls) all.1 c.1))
 
-module _ (z : Layout) (o : Opening) (words words' : List ℕ) (before : List Holding) (h h' : Holding) (after : List Holding) (log : List Applied) (w : LawfulWords z o words (before ++ h ∷ after) log) (m : Moves z words words' h h') where
+module _ (z : Layout) (o : Opening) (words words' : List ℕ) (before : List Holding) (h h' : Holding) (after : List Holding) (log : List Applied) (w : LawfulWords z o words (before ++ h ∷ after) log)
+    (m : Moves z words words' h h') where
   -- what is apart from each block that isn't published is apart from the port's own
   from_own : (b : Block) → AllByRecursion (AreApart b) (unpublished (before ++ h ∷ after)) → IfSome h.own (λ c. AreApart b (block_of c))
   from_own b all = all_at (λ v. IfSome v.own (λ c. AreApart b (block_of c))) before h after (unpublished_all (AreApart b) (before ++ h ∷ after) all)
@@ -124,10 +132,12 @@ module _ (z : Layout) (o : Opening) (words words' : List ℕ) (before : List Hol
   -- the words of records of the history stay
   pub entry_word : (k : ℕ) (e : Applied) (n : ℕ) → slice_get log k ≡ Some e → n < (block_at words e.stamp).size → get_or words' (e.stamp + n) 0 ≡ get_or words (e.stamp + n) 0
   entry_word k e n s below =
-      let entry : IsEntry z words e = all_found (IsEntry z words) log k e w.entries s in
+      let entry : IsEntry z words e = AllByRecursion-get (IsEntry z words) log k e w.entries s in
       let above = entry.above in
       let b = block_at words e.stamp in
-      m.same (e.stamp + n) (omega (arith, above)) (if_some (λ c. AreApart (block_at words e.stamp) (block_of c)) (λ c. AreApart (word_at (e.stamp + n)) (block_of c)) h.own (λ c is a. part_apart (word_at (e.stamp + n)) (block_at words e.stamp) (block_of c) (omega arith) (omega (arith, below)) a) (from_own b (entry_free z o words (before ++ h ∷ after) log w k e s)))
+      m.same (e.stamp + n) (omega (arith, above)) (if_some (λ c. AreApart (block_at words e.stamp) (block_of c)) (λ c. AreApart (word_at (e.stamp + n)) (block_of c)) h.own
+          (λ c is a. part_apart (word_at (e.stamp + n)) (block_at words e.stamp) (block_of c) (omega arith) (omega (arith, below)) a)
+          (from_own b (entry_free z o words (before ++ h ∷ after) log w k e s)))
 
   pub entry_three : (k : ℕ) (e : Applied) (n : ℕ) → slice_get log k ≡ Some e → n < 3 → get_or words' (e.stamp + n) 0 ≡ get_or words (e.stamp + n) 0
   entry_three k e n s below = let size = three_words words e.stamp in entry_word k e n s (omega (arith, size, below))
@@ -138,7 +148,8 @@ module _ (z : Layout) (o : Opening) (words words' : List ℕ) (before : List Hol
   pub initial_word : (n : ℕ) → pool_base z ≤ n → n < pool_base z + 3 * z.m → get_or words' n 0 ≡ get_or words n 0
   initial_word n from to =
       let b : Block = record { at = pool_base z; size = 3 * z.m } in
-      m.same n (omega (arith, from)) (if_some (λ c. AreApart (record { at = pool_base z; size = 3 * z.m }) (block_of c)) (λ c. AreApart (word_at n) (block_of c)) h.own (λ c is a. part_apart (word_at n) (record { at = pool_base z; size = 3 * z.m }) (block_of c) from (omega (arith, to)) a) (from_own b (initial_free z o words (before ++ h ∷ after) log w)))
+      m.same n (omega (arith, from)) (if_some (λ c. AreApart (record { at = pool_base z; size = 3 * z.m }) (block_of c)) (λ c. AreApart (word_at n) (block_of c)) h.own
+          (λ c is a. part_apart (word_at n) (record { at = pool_base z; size = 3 * z.m }) (block_of c) from (omega (arith, to)) a) (from_own b (initial_free z o words (before ++ h ∷ after) log w)))
 
   -- the chains stay
   pub chain_moves : (j : ℕ) → j < length o.values → IsChain words' (get_or words j 0) (chain_of o j log)
@@ -147,7 +158,9 @@ module _ (z : Layout) (o : Opening) (words words' : List ℕ) (before : List Hol
       let values = w.values in
       let P : ℕ → Type 0 = λ s. (get_or words' s 0 ≡ get_or words s 0) × (get_or words' (s + 1) 0 ≡ get_or words (s + 1) 0) in
       chain_stays words words' m.count (get_or words j 0) (chain_of o j log)
-      (chain_all P o j log (all_of (λ (e : Applied). P e.stamp) log (λ k e s. (entry_prev k e s, entry_three k e 1 s (omega arith)))) (initial_word (initial_stamp o j) (omega (arith, base)) (omega (arith, base, values, below)), initial_word (initial_stamp o j + 1) (omega (arith, base)) (omega (arith, base, values, below))))
+      (chain_all P o j log (all_where (λ (e : Applied). P e.stamp) log (λ k e s. (entry_prev k e s, entry_three k e 1 s (omega arith))))
+          (initial_word (initial_stamp o j) (omega (arith, base)) (omega (arith, base, values, below)), initial_word (initial_stamp o j + 1) (omega (arith, base))
+          (omega (arith, base, values, below))))
       (w.agrees j below).1
 
   pub agrees_stay : ((j : ℕ) → j < z.m → get_or words' j 0 ≡ get_or words j 0) → Agrees o words' log
@@ -158,7 +171,8 @@ module _ (z : Layout) (o : Opening) (words words' : List ℕ) (before : List Hol
 
   -- the blocks of the records of the history stay
   pub entries_stay : map (λ e. block_at words' e.stamp) log ≡ map (λ e. block_at words e.stamp) log
-  entries_stay = map_same (λ (e : Applied). block_at words' e.stamp) (λ (e : Applied). block_at words e.stamp) log (all_of (λ (e : Applied). block_at words' e.stamp ≡ block_at words e.stamp) log (λ k e s. block_stays words words' e.stamp (λ n below. entry_word k e n s below)))
+  entries_stay = map_same (λ (e : Applied). block_at words' e.stamp) (λ (e : Applied). block_at words e.stamp) log
+      (all_where (λ (e : Applied). block_at words' e.stamp ≡ block_at words e.stamp) log (λ k e s. block_stays words words' e.stamp (λ n below. entry_word k e n s below)))
 
   pub blocks_stay : (hs : List Holding) → EachTwo AreApart (blocks_in z words hs log) → EachTwo AreApart (blocks_in z words' hs log)
   blocks_stay hs two = subst (λ (l : List Block). EachTwo AreApart (record { at = pool_base z; size = 3 * z.m } ∷ (l ++ (announcements hs ++ unpublished hs)))) (sym entries_stay) two

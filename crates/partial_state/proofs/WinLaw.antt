@@ -9,7 +9,7 @@ use Rattle.partial_model.specs.declared.history.Applied.{Applied}
 use Rattle.partial_model.specs.declared.history.Opening.{Opening}
 use Rattle.partial_model.specs.History.{IsHistory, initial_stamp, stamp_of}
 use Rattle.partial_model.proofs.HistoryLemmas.{stamp_of-push}
-use Rattle.partial_model.proofs.NotesLemmas.{distinct_push, slice_get_grows, AllByRecursion-push}
+use Rattle.partial_model.proofs.NotesLemmas.{distinct_push, slice_get_grows, AllByRecursion-push, AllByRecursion-get}
 use Rattle.partial_words.specs.Layout.{Layout, slot_counter, list_head, pool_counter, list_counter, slot_word, list_end, pool_base, pool_end}
 use Rattle.partial_words.specs.Record.{prev_of, view_of}
 use Rattle.partial_words.specs.Chain.{IsLink, IsChain, chain_of}
@@ -19,13 +19,14 @@ use Rattle.partial_state.specs.Holdings.{Claimed, Own, Due, Holding, Space, firs
 use Rattle.partial_state.specs.Holdings.Space.{Pool}
 use Rattle.partial_state.specs.LawfulWords.{LawfulWords, IsOwn, IsTied, IsDue}
 use Rattle.partial_state.specs.Effects.{IsKept, WinsAreKept}
-use Rattle.partial_state.proofs.ListLemmas.{all_at, all_front, all_back, all_join, all_weaker, all_unmap, all_of, all_found, two_before, two_after, two_take, two_put, Adds, adds_behind, found_before, found_last}
+use Rattle.partial_state.proofs.ListLemmas.{all_at, all_front, all_back, all_join, all_weaker, all_unmap, two_before, two_after, two_take, two_put, Adds, adds_behind, found_before, found_last}
 use Rattle.partial_state.proofs.Frames.{Frame, Grows, apart_turns, fresh_moves, covers_moves}
 use Rattle.partial_state.proofs.HoldingLemmas.{if_some_at, some_found, joined_weaker, ports_turn, others_gone, others_all, filter_append, three_words, block_stays}
 use Rattle.partial_state.proofs.Blocks.{unpublished_is, announced_same, own_added, own_block_added}
 use Rattle.partial_state.proofs.Rebuild.{Moves, chain_moves, entries_stay}
-use Rattle.partial_state.proofs.Keeping.{IsNew, keeps}
-use Rattle.partial_state.proofs.Quiet.{pool_stays, slots_stay, lists_stay, taken_stays, claim_stays, head_stays}
+use Rattle.partial_state.proofs.EffectLemmas.{IsNew, keeps}
+use Rattle.partial_state.proofs.NoNewEntry.{pool_stays, slots_stay, lists_stay, taken_stays, claim_stays, head_stays}
+use Rattle.partial_model.proofs.StampsStay.{all_where}
 
 map_push : {A B : Type 0} (f : A → B) (xs : List A) (y : A) → map f (xs ++ y ∷ []) ≡ map f xs ++ f y ∷ []
 map_push f [] y = refl
@@ -42,14 +43,16 @@ unjoined_if P None e = tt
 unjoined_if P (Some c) e = subst (λ (j : Option Joined). IfSome j (P c.slot)) (sym e) tt
 
 -- where a block of a port's own lies in the pool
-pub own_in_pool : (z : Layout) (words : List ℕ) (b : Own) → b.space ≡ Pool → IsOwn z words b → (pool_base z + 3 * z.m ≤ b.at) × (b.at + length b.words ≤ pool_end z) × (b.at + length b.words ≤ get_or words (pool_counter z) 0)
+pub own_in_pool : (z : Layout) (words : List ℕ) (b : Own) → b.space ≡ Pool → IsOwn z words b → (pool_base z + 3 * z.m ≤ b.at) × (b.at + length b.words ≤ pool_end z) ×
+    (b.at + length b.words ≤ get_or words (pool_counter z) 0)
 own_in_pool z words b e w = (
   subst (λ (s : Space). first_of z s ≤ b.at) e w.above,
   subst (λ (s : Space). b.at + length b.words ≤ end_of z s) e w.within,
   subst (λ (s : Space). b.at + length b.words ≤ get_or words (counter_of z s) 0) e w.below,
 )
 
-module _ (z : Layout) (o : Opening) (words : List ℕ) (before : List Holding) (h : Holding) (after : List Holding) (log : List Applied) (d : Due) (w : LawfulWords z o words (before ++ h ∷ after) log) (is : h.due ≡ Some d) (won : get_or words d.component 0 ≡ d.old) where
+module _ (z : Layout) (o : Opening) (words : List ℕ) (before : List Holding) (h : Holding) (after : List Holding) (log : List Applied) (d : Due) (w : LawfulWords z o words (before ++ h ∷ after) log)
+    (is : h.due ≡ Some d) (won : get_or words d.component 0 ≡ d.old) where
   abbrev behind : Holding
   behind = record h { own = None; due = None }
 
@@ -66,7 +69,8 @@ module _ (z : Layout) (o : Opening) (words : List ℕ) (before : List Holding) (
   exchanged = set words d.component (cond (get_or words d.component 0 == d.old) d.at (get_or words d.component 0))
 
   due : IsDue z o words h (others_of h.port (before ++ h ∷ after)) log d
-  due = if_some_at (IsDue z o words h (others_of h.port (before ++ h ∷ after)) log) h.due d is (all_at (λ v. IfSome v.due (IsDue z o words v (others_of v.port (before ++ h ∷ after)) log)) before h after w.due)
+  due = if_some_at (IsDue z o words h (others_of h.port (before ++ h ∷ after)) log) h.due d is
+      (all_at (λ v. IfSome v.due (IsDue z o words v (others_of v.port (before ++ h ∷ after)) log)) before h after w.due)
 
   tied : IsTied z words h
   tied = all_at (IsTied z words) before h after w.tied
@@ -101,7 +105,8 @@ module _ (z : Layout) (o : Opening) (words : List ℕ) (before : List Holding) (
   now =
       let count = w.count in
       let below = inside in
-      get_or-set_same words d.component (cond (get_or words d.component 0 == d.old) d.at (get_or words d.component 0)) 0 (omega (arith, count, below)) ∙ ap (λ (t : Bool). cond t d.at (get_or words d.component 0)) (eq-eqb (get_or words d.component 0) d.old won)
+      get_or-set_same words d.component (cond (get_or words d.component 0 == d.old) d.at (get_or words d.component 0)) 0
+          (omega (arith, count, below)) ∙ ap (λ (t : Bool). cond t d.at (get_or words d.component 0)) (eq-eqb (get_or words d.component 0) d.old won)
 
   other : (k : ℕ) → k ≢ d.component → get_or exchanged k 0 ≡ get_or words k 0
   other k differs = get_or-set_other words d.component k (cond (get_or words d.component 0 == d.old) d.at (get_or words d.component 0)) 0 differs
@@ -130,13 +135,15 @@ module _ (z : Layout) (o : Opening) (words : List ℕ) (before : List Holding) (
   freed : EachTwo AreApart (blocks_in z words holdings_after log) × AllByRecursion (AreApart (block_at words d.at)) (blocks_in z words holdings_after log)
   freed =
       let b = published.own in
-      let both = two_take AreApart apart_turns (block_of b) (blocks_in z words holdings_after log) (blocks_in z words (before ++ h ∷ after) log) (own_block_added z words (before ++ h ∷ after) holdings_after log (block_of b) (announced_same before h behind after refl) (own_added before h behind after b refl published.here)) w.apart in
+      let both = two_take AreApart apart_turns (block_of b) (blocks_in z words holdings_after log) (blocks_in z words (before ++ h ∷ after) log)
+          (own_block_added z words (before ++ h ∷ after) holdings_after log (block_of b) (announced_same before h behind after refl) (own_added before h behind after b refl published.here)) w.apart in
       (both.0, subst (λ (x : Block). AllByRecursion (AreApart x) (blocks_in z words holdings_after log)) published.block both.1)
 
   differs : (k : ℕ) (e : Applied) → slice_get log k ≡ Some e → e.stamp ≢ d.at
   differs k e s =
-      let each = all_unmap (AreApart (block_at words d.at)) (λ (e : Applied). block_at words e.stamp) log (all_front (AreApart (block_at words d.at)) (map (λ (e : Applied). block_at words e.stamp) log) (announcements holdings_after ++ unpublished holdings_after) freed.1.1) in
-      other_stamps words d.at e.stamp (all_found (λ (e : Applied). AreApart (block_at words d.at) (block_at words e.stamp)) log k e each s)
+      let each = all_unmap (AreApart (block_at words d.at)) (λ (e : Applied). block_at words e.stamp) log
+          (all_front (AreApart (block_at words d.at)) (map (λ (e : Applied). block_at words e.stamp) log) (announcements holdings_after ++ unpublished holdings_after) freed.1.1) in
+      other_stamps words d.at e.stamp (AllByRecursion-get (λ (e : Applied). AreApart (block_at words d.at) (block_at words e.stamp)) log k e each s)
 
   not_initial : (j : ℕ) → j < length o.values → d.at ≢ initial_stamp o j
   not_initial j below = let far = published.far in let base = w.stamps in let values = w.values in λ e. omega (arith, far, base, values, below, e)
@@ -163,7 +170,7 @@ module _ (z : Layout) (o : Opening) (words : List ℕ) (before : List Holding) (
       let values = w.values in
       record {
         components = AllByRecursion-push (λ (e : Applied). e.component < length o.values) log entry w.history.components (omega (arith, below, values));
-        distinct = distinct_push log entry w.history.distinct (all_of (λ (e : Applied). e.stamp ≢ d.at) log differs);
+        distinct = distinct_push log entry w.history.distinct (all_where (λ (e : Applied). e.stamp ≢ d.at) log differs);
         not_initial = AllByRecursion-push (λ (e : Applied). (j : ℕ) → j < length o.values → e.stamp ≢ initial_stamp o j) log entry w.history.not_initial not_initial;
       }
 
@@ -176,7 +183,8 @@ module _ (z : Layout) (o : Opening) (words : List ℕ) (before : List Holding) (
       let is' : j ≡ i = eqb-true j i same in
       let now' : get_or exchanged i 0 ≡ at = ap (λ n. get_or exchanged n 0) (sym is') ∙ now in
       let stamp : stamp_of o longer i ≡ at = stamp_of-push o log entry i ∙ ap (λ (b : Bool). cond b at (stamp_of o log i)) same in
-      let chain : chain_of o i longer ≡ record { stamp = at; value = d.value } ∷ chain_of o i log = links_from-push (record { stamp = initial_stamp o i; value = get_or o.values i 0 } ∷ []) i log entry ∙ ap (λ (b : Bool). cond b (record { stamp = at; value = d.value } ∷ chain_of o i log) (chain_of o i log)) same in
+      let chain : chain_of o i longer ≡ record { stamp = at; value = d.value } ∷ chain_of o i log = links_from-push (record { stamp = initial_stamp o i; value = get_or o.values i 0 } ∷ []) i log
+          entry ∙ ap (λ (b : Bool). cond b (record { stamp = at; value = d.value } ∷ chain_of o i log) (chain_of o i log)) same in
       let value : get_or exchanged (at + 1) 0 ≡ d.value = higher (at + 1) (omega (arith, far)) ∙ due.value in
       let prev : get_or exchanged at 0 ≡ old = higher at (omega (arith, far)) ∙ due.prev in
       let count : length exchanged ≡ length words = moves.count in
@@ -184,16 +192,20 @@ module _ (z : Layout) (o : Opening) (words : List ℕ) (before : List Holding) (
       let whole = published.within in
       let all = w.count in
       let here : IsLink exchanged at (record { stamp = at; value = d.value }) = record { stamp = refl; within = omega (arith, count, size, whole, all); value = value } in
-      let before' : IsChain exchanged old (chain_of o i log) = subst (λ n. IsChain exchanged n (chain_of o i log)) (ap (λ n. get_or words n 0) (sym is') ∙ won) (chain_moves z o words exchanged before h behind after log w moves i below) in
-      (now' ∙ sym stamp, subst (λ (n : ℕ). IsChain exchanged n (chain_of o i longer)) (sym now') (subst (IsChain exchanged at) (sym chain) (chain_cons exchanged at old (record { stamp = at; value = d.value }) (chain_of o i log) here prev before')))
+      let before' : IsChain exchanged old (chain_of o i log) = subst (λ n. IsChain exchanged n (chain_of o i log)) (ap (λ n. get_or words n 0) (sym is') ∙ won)
+          (chain_moves z o words exchanged before h behind after log w moves i below) in
+      (now' ∙ sym stamp, subst (λ (n : ℕ). IsChain exchanged n (chain_of o i longer)) (sym now')
+          (subst (IsChain exchanged at) (sym chain) (chain_cons exchanged at old (record { stamp = at; value = d.value }) (chain_of o i log) here prev before')))
   agrees_at i below false same =
       let j = d.component in
       let at = d.at in
       let differs' = eqb-false j i same in
       let now' : get_or exchanged i 0 ≡ get_or words i 0 = other i (λ e. differs' (sym e)) in
       let stamp : stamp_of o longer i ≡ stamp_of o log i = stamp_of-push o log entry i ∙ ap (λ (b : Bool). cond b at (stamp_of o log i)) same in
-      let chain : chain_of o i longer ≡ chain_of o i log = links_from-push (record { stamp = initial_stamp o i; value = get_or o.values i 0 } ∷ []) i log entry ∙ ap (λ (b : Bool). cond b (record { stamp = at; value = d.value } ∷ chain_of o i log) (chain_of o i log)) same in
-      (now' ∙ (w.agrees i below).0 ∙ sym stamp, subst (λ (n : ℕ). IsChain exchanged n (chain_of o i longer)) (sym now') (subst (IsChain exchanged (get_or words i 0)) (sym chain) (chain_moves z o words exchanged before h behind after log w moves i below)))
+      let chain : chain_of o i longer ≡ chain_of o i log = links_from-push (record { stamp = initial_stamp o i; value = get_or o.values i 0 } ∷ []) i log entry ∙
+          ap (λ (b : Bool). cond b (record { stamp = at; value = d.value } ∷ chain_of o i log) (chain_of o i log)) same in
+      (now' ∙ (w.agrees i below).0 ∙ sym stamp, subst (λ (n : ℕ). IsChain exchanged n (chain_of o i longer)) (sym now')
+          (subst (IsChain exchanged (get_or words i 0)) (sym chain) (chain_moves z o words exchanged before h behind after log w moves i below)))
 
   -- no component names the new record but the one that it is for
   named : (j old : ℕ) → j < z.m → IsWithin o log (length log) old → get_or exchanged j 0 ≡ old → get_or words j 0 ≡ old
@@ -244,11 +256,13 @@ module _ (z : Layout) (o : Opening) (words : List ℕ) (before : List Holding) (
       let P : Holding → Type 0 = λ v. IfJoined v (λ l j. Covers z words us log d.at j) in
       let Q : Holding → Type 0 = λ v. IfJoined v (λ l j. Covers z exchanged us longer d.at j) in
       let old : IsWithin o log (length log) (prev_of words d.at) = subst (IsWithin o log (length log)) (sym due.prev) due.before in
-      let each : (v : Holding) → P v → Q v = λ v. joined_weaker v (λ l j. Covers z words us log d.at j) (λ l j. Covers z exchanged us longer d.at j) (λ l j. covers_moves z words exchanged us us here o log longer grows d.at prev_now view_now (length log) j old) in
+      let each : (v : Holding) → P v → Q v = λ v. joined_weaker v (λ l j. Covers z words us log d.at j) (λ l j. Covers z exchanged us longer d.at j)
+          (λ l j. covers_moves z words exchanged us us here o log longer grows d.at prev_now view_now (length log) j old) in
       record {
         entry = record { above = far; within = omega (arith, within, size); below = omega (arith, below, size, pool) };
         fresh = fresh_moves z words exchanged us us here o log longer grows d.at prev_now view_now (length log) (length log) (omega arith) (omega arith) would.0;
-        covering = all_join Q before behind after (all_weaker P Q each before (all_front P before after would.1)) (unjoined_if (λ l j. Covers z exchanged us longer d.at j) h.claimed due.unjoined) (all_weaker P Q each after (all_back P before after would.1));
+        covering = all_join Q before behind after (all_weaker P Q each before (all_front P before after would.1)) (unjoined_if (λ l j. Covers z exchanged us longer d.at j) h.claimed due.unjoined)
+            (all_weaker P Q each after (all_back P before after would.1));
       }
 
   blocks_now : EachTwo AreApart (blocks_in z exchanged holdings_after longer)
@@ -258,10 +272,13 @@ module _ (z : Layout) (o : Opening) (words : List ℕ) (before : List Holding) (
       let initial : List Block = record { at = pool_base z; size = 3 * z.m } ∷ [] in
       let rest = announcements holdings_after ++ unpublished holdings_after in
       let block : block_at exchanged d.at ≡ block_at words d.at = block_stays words exchanged d.at (λ n below. higher (d.at + n) (omega (arith, far))) in
-      let entries : map (λ (e : Applied). block_at exchanged e.stamp) longer ≡ E ++ block_at words d.at ∷ [] = map_push (λ (e : Applied). block_at exchanged e.stamp) log entry ∙ ap (λ (l : List Block). l ++ block_at exchanged d.at ∷ []) (entries_stay z o words exchanged before h behind after log w moves) ∙ ap (λ (x : Block). E ++ x ∷ []) block in
+      let entries : map (λ (e : Applied). block_at exchanged e.stamp) longer ≡ E ++ block_at words d.at ∷ [] =
+          map_push (λ (e : Applied). block_at exchanged e.stamp) log entry ∙ ap (λ (l : List Block). l ++ block_at exchanged d.at ∷ [])
+          (entries_stay z o words exchanged before h behind after log w moves) ∙ ap (λ (x : Block). E ++ x ∷ []) block in
       let added : Adds (block_at words d.at) (E ++ rest) ((E ++ block_at words d.at ∷ []) ++ rest) = (E, rest, refl, append_assoc E (block_at words d.at ∷ []) rest) in
       subst (λ (l : List Block). EachTwo AreApart (initial ++ (l ++ rest))) (sym entries)
-      (two_put AreApart apart_turns (block_at words d.at) (initial ++ (E ++ rest)) (initial ++ ((E ++ block_at words d.at ∷ []) ++ rest)) (adds_behind (block_at words d.at) initial (E ++ rest) ((E ++ block_at words d.at ∷ []) ++ rest) added) freed.0 freed.1)
+      (two_put AreApart apart_turns (block_at words d.at) (initial ++ (E ++ rest)) (initial ++ ((E ++ block_at words d.at ∷ []) ++ rest))
+          (adds_behind (block_at words d.at) initial (E ++ rest) ((E ++ block_at words d.at ∷ []) ++ rest) added) freed.0 freed.1)
 
   pub win_is_kept : IsKept z o words before h after log exchanged behind longer
   win_is_kept =
@@ -277,7 +294,8 @@ module _ (z : Layout) (o : Opening) (words : List ℕ) (before : List Holding) (
         agrees = λ i below. agrees_at i below (d.component == i) refl;
         named = named;
         newest = λ k e s from. found_last (λ k (e : Applied). IsNew z o exchanged holdings_after longer k e) log entry k e new s from;
-        tied = record { own = tt; pool_marked = λ m. let old = t.pool_marked m in omega (arith, old, pool); slots_marked = λ m. let old = t.slots_marked m in omega (arith, old, slots); lists_marked = λ m. let old = t.lists_marked m in omega (arith, old, lists) };
+        tied = record { own = tt; pool_marked = λ m. let old = t.pool_marked m in omega (arith, old, pool); slots_marked = λ m. let old = t.slots_marked m in omega (arith, old, slots);
+            lists_marked = λ m. let old = t.lists_marked m in omega (arith, old, lists) };
         apart = blocks_now;
         due = tt;
         taken = taken_stays z words exchanged h behind refl (λ l below room. omega (arith, below, slots));

@@ -58,6 +58,7 @@ PoolRefusalsAreKept =
     pool_end z < slice_index words (pool_counter z) + size →
     IsKept z o words before h after log (words_after words (Add (pool_counter z) size)) (record h { pool_spent = true }) log
 
+-- a claim of list words that goes past their end marks the port and keeps the words lawful
 abbrev pub ListRefusalsAreKept : Type 0
 ListRefusalsAreKept =
     (z : Layout) (o : Opening) (words : List ℕ) (before : List Holding) (h : Holding) (after : List Holding) (log : List Applied)

@@ -18,15 +18,17 @@ pub data Space : Type 0 where
   Pool : Space
   Lists : Space
 
--- the first word that is claimed, the word behind the last one, and the counter of a space
+-- the first word of a space that can be claimed
 abbrev pub first_of : Layout → Space → ℕ
 first_of z Pool = first_free z
 first_of z Lists = list_base z
 
+-- the word behind a space
 abbrev pub end_of : Layout → Space → ℕ
 end_of z Pool = pool_end z
 end_of z Lists = list_end z
 
+-- the word that counts what is claimed of a space
 abbrev pub counter_of : Layout → Space → ℕ
 counter_of z Pool = pool_counter z
 counter_of z Lists = list_counter z
@@ -38,6 +40,7 @@ pub record Own : Type 0 where
   pub words : List ℕ
   pub stored : ℕ
 
+-- where a port's own block lies
 abbrev pub block_of : Own → Block
 block_of b = record { at = b.at; size = length b.words }
 
@@ -71,6 +74,7 @@ abbrev pub joined_in : Option Claimed → Option Joined
 joined_in None = None
 joined_in (Some c) = c.joined
 
+-- the announcements of the ports that have joined
 abbrev pub announcements : List Holding → List Block
 announcements hs =
     filter_map (λ h. option_map (λ j. record { at = j.at; size = announcement_size (length j.indices) }) (joined_in h.claimed)) hs
@@ -94,9 +98,11 @@ abbrev pub EachTwo : {A : Type 0} → (A → A → Type 0) → List A → Type 0
 EachTwo R [] = ⊤
 EachTwo R (x ∷ xs) = AllByRecursion (R x) xs × EachTwo R xs
 
+-- the two are of two ports
 abbrev pub HaveOtherPorts : Holding → Holding → Type 0
 HaveOtherPorts a b = a.port ≢ b.port
 
+-- the two have claimed two slots, where both have claimed one
 abbrev pub HaveOtherSlots : Holding → Holding → Type 0
 HaveOtherSlots a b = IfSome a.claimed (λ c. IfSome b.claimed (λ d. c.slot ≢ d.slot))
 
@@ -105,15 +111,17 @@ abbrev pub others_of : ℕ → List Holding → List Holding
 others_of p [] = []
 others_of p (h ∷ hs) = if h.port == p then others_of p hs else h ∷ others_of p hs
 
--- how many ports are marked for the pool, for the slots and for the list words
+-- how many ports are marked for the pool
 abbrev pub pool_marks : List Holding → ℕ
 pool_marks [] = 0
 pool_marks (h ∷ hs) = (if h.pool_spent then 1 else 0) + pool_marks hs
 
+-- how many ports are marked for the slots
 abbrev pub slot_marks : List Holding → ℕ
 slot_marks [] = 0
 slot_marks (h ∷ hs) = (if h.slots_spent then 1 else 0) + slot_marks hs
 
+-- how many ports are marked for the list words
 abbrev pub list_marks : List Holding → ℕ
 list_marks [] = 0
 list_marks (h ∷ hs) = (if h.lists_spent then 1 else 0) + list_marks hs

@@ -56,7 +56,8 @@ update_if_again line j s v a b c =
 
 abbrev call_by : ℕ → ℕ → List ℕ → List (List ℕ) → Result Call PlanError
 call_by m line w fs =
-    cond (bytes_eq w (codes "update")) (update_from line fs) (cond (bytes_eq w (codes "scan")) (scan_from m line fs) (cond (bytes_eq w (codes "read")) (read_from line fs) (cond (bytes_eq w (codes "updateif")) (update_if_from line fs) (Err (plan.Line line cause.Word)))))
+    cond (bytes_eq w (codes "update")) (update_from line fs) (cond (bytes_eq w (codes "scan")) (scan_from m line fs)
+    (cond (bytes_eq w (codes "read")) (read_from line fs) (cond (bytes_eq w (codes "updateif")) (update_if_from line fs) (Err (plan.Line line cause.Word)))))
 
 call_is : (m line : ℕ) (text : List ℕ) → call_at m line text ≡ call_by m line (until 32 text) (fields_of text)
 unfolding call_at
@@ -69,13 +70,17 @@ call_parts m line word fs none nones =
 
 pub call_again : (m line : ℕ) (c : Call) → IsCall m c → call_at m line (call_text c) ≡ Ok c
 call_again m line (call.Update j v) fits =
-    call_parts m line (codes "update") (decimal j ∷ decimal v ∷ []) (refl, (refl, (refl, (refl, (refl, (refl, tt)))))) (HasNo-decimal 32 j space_no_digit (omega (arith, fits.0)), (HasNo-decimal 32 v space_no_digit fits.1, tt)) ∙ update_again line j v (omega (arith, fits.0)) (omega (arith, fits.1))
+    call_parts m line (codes "update") (decimal j ∷ decimal v ∷ []) (refl, (refl, (refl, (refl, (refl, (refl, tt))))))
+    (HasNo-decimal 32 j space_no_digit (omega (arith, fits.0)), (HasNo-decimal 32 v space_no_digit fits.1, tt)) ∙ update_again line j v (omega (arith, fits.0)) (omega (arith, fits.1))
 call_again m line (call.Scan js) fits =
-    ap (λ (l : List ℕ). call_at m line (codes "scan" ++ l)) (sym (behind_numbers js)) ∙ call_parts m line (codes "scan") (map decimal js) (refl, (refl, (refl, (refl, tt)))) (HasNo-numbers 32 js space_no_digit (indices_small js fits.1)) ∙ scan_again m line js fits.0 fits.1
+    ap (λ (l : List ℕ). call_at m line (codes "scan" ++ l)) (sym (behind_numbers js)) ∙ call_parts m line (codes "scan") (map decimal js) (refl, (refl, (refl, (refl, tt))))
+    (HasNo-numbers 32 js space_no_digit (indices_small js fits.1)) ∙ scan_again m line js fits.0 fits.1
 call_again m line (call.Read j) fits =
     call_parts m line (codes "read") (decimal j ∷ []) (refl, (refl, (refl, (refl, tt)))) (HasNo-decimal 32 j space_no_digit (omega (arith, fits)), tt) ∙ read_again line j (omega (arith, fits))
 call_again m line (call.UpdateIf j s v) fits =
-    call_parts m line (codes "updateif") (decimal j ∷ decimal s ∷ decimal v ∷ []) (refl, (refl, (refl, (refl, (refl, (refl, (refl, (refl, tt)))))))) (HasNo-decimal 32 j space_no_digit (omega (arith, fits.0)), (HasNo-decimal 32 s space_no_digit fits.1, (HasNo-decimal 32 v space_no_digit fits.2, tt))) ∙ update_if_again line j s v (omega (arith, fits.0)) (omega (arith, fits.1)) (omega (arith, fits.2))
+    call_parts m line (codes "updateif") (decimal j ∷ decimal s ∷ decimal v ∷ []) (refl, (refl, (refl, (refl, (refl, (refl, (refl, (refl, tt))))))))
+    (HasNo-decimal 32 j space_no_digit (omega (arith, fits.0)), (HasNo-decimal 32 s space_no_digit fits.1, (HasNo-decimal 32 v space_no_digit fits.2, tt))) ∙ update_if_again line j s v
+    (omega (arith, fits.0)) (omega (arith, fits.1)) (omega (arith, fits.2))
 
 calls_again : (m line : ℕ) (found cs : List Call) → AllByRecursion (IsCall m) cs → calls_at m line found (map call_text cs) ≡ Ok (found ++ cs)
 unfolding calls_at
@@ -84,7 +89,8 @@ calls_again m line found (c ∷ cs) fits =
     rw (call_again m line c fits.0) (calls_again m line (found ++ c ∷ []) cs fits.1 ∙ ap Ok (append_assoc found (c ∷ []) cs))
 
 -- no byte of a call's text is the newline or the semicolon
-HasNo-call : (c m : ℕ) (x : Call) → IsNoDigit c → eqb 32 c ≡ false → HasNo c (codes "update") → HasNo c (codes "scan") → HasNo c (codes "read") → HasNo c (codes "updateif") → IsCall m x → HasNo c (call_text x)
+HasNo-call : (c m : ℕ) (x : Call) → IsNoDigit c → eqb 32 c ≡ false → HasNo c (codes "update") → HasNo c (codes "scan") → HasNo c (codes "read") → HasNo c (codes "updateif") →
+    IsCall m x → HasNo c (call_text x)
 HasNo-call c m (call.Update j v) none space a s b d fits =
     HasNo-append c (codes "update") (flat_map number_field (j ∷ v ∷ [])) a (HasNo-fields c (j ∷ v ∷ []) none space (omega (arith, fits.0), (fits.1, tt)))
 HasNo-call c m (call.Scan js) none space a s b d fits =
@@ -96,11 +102,13 @@ HasNo-call c m (call.UpdateIf j e v) none space a s b d fits =
 
 semicolon_call : (m : ℕ) (x : Call) → IsCall m x → HasNo 59 (call_text x)
 semicolon_call m x fits =
-    HasNo-call 59 m x semicolon_no_digit refl (refl, (refl, (refl, (refl, (refl, (refl, tt)))))) (refl, (refl, (refl, (refl, tt)))) (refl, (refl, (refl, (refl, tt)))) (refl, (refl, (refl, (refl, (refl, (refl, (refl, (refl, tt)))))))) fits
+    HasNo-call 59 m x semicolon_no_digit refl (refl, (refl, (refl, (refl, (refl, (refl, tt)))))) (refl, (refl, (refl, (refl, tt)))) (refl, (refl, (refl, (refl, tt))))
+    (refl, (refl, (refl, (refl, (refl, (refl, (refl, (refl, tt)))))))) fits
 
 newline_call : (m : ℕ) (x : Call) → IsCall m x → HasNo 10 (call_text x)
 newline_call m x fits =
-    HasNo-call 10 m x newline_no_digit refl (refl, (refl, (refl, (refl, (refl, (refl, tt)))))) (refl, (refl, (refl, (refl, tt)))) (refl, (refl, (refl, (refl, tt)))) (refl, (refl, (refl, (refl, (refl, (refl, (refl, (refl, tt)))))))) fits
+    HasNo-call 10 m x newline_no_digit refl (refl, (refl, (refl, (refl, (refl, (refl, tt)))))) (refl, (refl, (refl, (refl, tt)))) (refl, (refl, (refl, (refl, tt))))
+    (refl, (refl, (refl, (refl, (refl, (refl, (refl, (refl, tt)))))))) fits
 
 not_cut : (x : ℕ) (xs : List ℕ) → eqb x 59 ≡ false → is_cut (x ∷ xs) ≡ false
 not_cut x [] h = refl
@@ -133,7 +141,8 @@ unfolding port_at
 port_again m line [] fits = refl
 port_again m line (c ∷ cs) fits =
     let rest : flat_map next_call cs ≡ behind_cuts (map call_text cs) = sym (flat_map-map (λ (t : List ℕ). 59 ∷ 32 ∷ t) call_text cs) in
-    ap (λ (l : List ℕ). calls_at m line [] (call_texts (call_text c ++ l))) rest ∙ ap (calls_at m line []) (texts_again (call_text c) (map call_text cs) (semicolon_call m c fits.0) (semicolon_calls m cs fits.1)) ∙ calls_again m line [] (c ∷ cs) fits
+    ap (λ (l : List ℕ). calls_at m line [] (call_texts (call_text c ++ l))) rest ∙ ap (calls_at m line [])
+    (texts_again (call_text c) (map call_text cs) (semicolon_call m c fits.0) (semicolon_calls m cs fits.1)) ∙ calls_again m line [] (c ∷ cs) fits
 
 -- ---- turns
 
@@ -148,8 +157,10 @@ entry_again line ports e few fits =
     let same : decimal e.0 ++ behind_each 42 (decimal e.1 ∷ []) ≡ entry_text e = ap (λ (l : List ℕ). decimal e.0 ++ 42 ∷ l) (append-nil (decimal e.1)) in
     let front : until 42 (entry_text e) ≡ decimal e.0 = ap (until 42) (sym same) ∙ parts.0 in
     let back : drop 1 (from 42 (entry_text e)) ≡ decimal e.1 = ap (λ (l : List ℕ). drop 1 (from 42 l)) (sym same) ∙ ap (drop 1) parts.1 ∙ append-nil (decimal e.1) in
-    let a : number_at line greatest_index (until 42 (entry_text e)) ≡ Ok e.0 = ap (number_at line greatest_index) front ∙ number_at_again line greatest_index e.0 (omega arith) (omega (arith, fits.0)) in
-    let b : number_at line greatest_index (drop 1 (from 42 (entry_text e))) ≡ Ok e.1 = ap (number_at line greatest_index) back ∙ number_at_again line greatest_index e.1 (omega arith) (omega (arith, fits.2)) in
+    let a : number_at line greatest_index (until 42 (entry_text e)) ≡ Ok e.0 = ap (number_at line greatest_index) front ∙ number_at_again line greatest_index e.0 (omega arith)
+    (omega (arith, fits.0)) in
+    let b : number_at line greatest_index (drop 1 (from 42 (entry_text e))) ≡ Ok e.1 = ap (number_at line greatest_index) back ∙ number_at_again line greatest_index e.1 (omega arith)
+    (omega (arith, fits.2)) in
     let within : (ltb e.0 ports && ltb 0 e.1) ≡ true = both_and (ltb e.0 ports) (ltb 0 e.1) (lt-ltb e.0 ports fits.0) (lt-ltb 0 e.1 (omega (arith, fits.1))) in
     rw (a, b, within) refl
 
@@ -193,7 +204,8 @@ steps_is : (es : List (ℕ × ℕ)) (rest : Bool) → steps_line es rest ≡ cod
 steps_is es rest =
     append_assoc (codes "steps") (flat_map (λ (e : ℕ × ℕ). field (entry_text e)) es) (rest_text rest) ∙ ap (λ (l : List ℕ). codes "steps" ++ l) (sym (behind_turns es rest))
 
-HasNo-turns : (c ports : ℕ) (es : List (ℕ × ℕ)) (rest : Bool) → IsNoDigit c → eqb 42 c ≡ false → HasNo c (codes "rest") → ports ≤ 64 → AllByRecursion (IsEntry ports) es → AllByRecursion (HasNo c) (turn_fields es rest)
+HasNo-turns : (c ports : ℕ) (es : List (ℕ × ℕ)) (rest : Bool) → IsNoDigit c → eqb 42 c ≡ false → HasNo c (codes "rest") → ports ≤ 64 → AllByRecursion (IsEntry ports) es →
+    AllByRecursion (HasNo c) (turn_fields es rest)
 HasNo-turns c ports [] true none star word few fits = (word, tt)
 HasNo-turns c ports [] false none star word few fits = tt
 HasNo-turns c ports (e ∷ es) rest none star word few fits = (HasNo-entry c e ports none star (omega arith) fits.0, HasNo-turns c ports es rest none star word few fits.1)
@@ -214,7 +226,12 @@ in_range_again s fits =
 sizes_from_again : (s : Layout) → IsLayout s → sizes_from (decimal s.m ∷ decimal s.slots ∷ decimal s.lists ∷ decimal s.pool ∷ []) ≡ Ok s
 unfolding sizes_from
 sizes_from_again s fits =
-    rw (number_at_again 1 greatest_index s.m (omega arith) (omega (arith, fits.components)), number_at_again 1 greatest_index s.slots (omega arith) (omega (arith, fits.slots)), number_at_again 1 greatest_index s.lists (omega arith) (omega (arith, fits.lists)), number_at_again 1 greatest_index s.pool (omega arith) (omega (arith, fits.pool))) (in_range_again s fits)
+    rw (
+      number_at_again 1 greatest_index s.m (omega arith) (omega (arith, fits.components)),
+      number_at_again 1 greatest_index s.slots (omega arith) (omega (arith, fits.slots)),
+      number_at_again 1 greatest_index s.lists (omega arith) (omega (arith, fits.lists)),
+      number_at_again 1 greatest_index s.pool (omega arith) (omega (arith, fits.pool)),
+    ) (in_range_again s fits)
 
 abbrev size_numbers : Layout → List ℕ
 size_numbers s = s.m ∷ s.slots ∷ s.lists ∷ s.pool ∷ []
@@ -237,7 +254,8 @@ sizes_again s fits =
     let fs = map decimal (size_numbers s) in
     let l = codes "sizes" ++ behind_each 32 fs in
     let nones = HasNo-numbers 32 (size_numbers s) space_no_digit (sizes_small s fits) in
-    sizes_is l ∙ ap (λ (w : Bool). sizes_by w (fields_of l)) (word_again (codes "sizes") fs sizes_word) ∙ ap (sizes_by true) (fields_again (codes "sizes") fs sizes_word nones) ∙ sizes_from_again s fits
+    sizes_is l ∙ ap (λ (w : Bool). sizes_by w (fields_of l)) (word_again (codes "sizes") fs sizes_word) ∙ ap (sizes_by true) (fields_again (codes "sizes") fs sizes_word nones) ∙
+    sizes_from_again s fits
 
 initial_word : HasNo 32 (codes "initial")
 initial_word = (refl, (refl, (refl, (refl, (refl, (refl, (refl, tt)))))))
@@ -281,17 +299,20 @@ HasNo-port m (c ∷ cs) fits =
 
 HasNo-steps : (ports : ℕ) (es : List (ℕ × ℕ)) (rest : Bool) → ports ≤ 64 → AllByRecursion (IsEntry ports) es → HasNo 10 (steps_line es rest)
 HasNo-steps ports es rest few fits =
-    subst (HasNo 10) (sym (steps_is es rest)) (HasNo-append 10 (codes "steps") (behind_each 32 (turn_fields es rest)) (refl, (refl, (refl, (refl, (refl, tt))))) (HasNo-behind 10 (turn_fields es rest) refl (HasNo-turns 10 ports es rest newline_no_digit refl (refl, (refl, (refl, (refl, tt)))) few fits)))
+    subst (HasNo 10) (sym (steps_is es rest)) (HasNo-append 10 (codes "steps") (behind_each 32 (turn_fields es rest)) (refl, (refl, (refl, (refl, (refl, tt)))))
+    (HasNo-behind 10 (turn_fields es rest) refl (HasNo-turns 10 ports es rest newline_no_digit refl (refl, (refl, (refl, (refl, tt)))) few fits)))
 
 -- the lines of ports and turns, with nothing behind the last newline
 abbrev last_lines : List (List Call) → List ℕ → List (List ℕ)
 last_lines ports last = map port_line ports ++ last ∷ [] ∷ []
 
-pieces_last : (m : ℕ) (ports : List (List Call)) (last : List ℕ) → AllByRecursion (λ cs. AllByRecursion (IsCall m) cs) ports → HasNo 10 last → pieces 10 (flat_map ended_port ports ++ ended last) ≡ last_lines ports last
+pieces_last : (m : ℕ) (ports : List (List Call)) (last : List ℕ) → AllByRecursion (λ cs. AllByRecursion (IsCall m) cs) ports → HasNo 10 last →
+    pieces 10 (flat_map ended_port ports ++ ended last) ≡ last_lines ports last
 pieces_last m [] last fits none = pieces_before 10 last [] none
 pieces_last m (cs ∷ ports) last fits none =
     let behind = flat_map ended_port ports ++ ended last in
-    let regroup : flat_map ended_port (cs ∷ ports) ++ ended last ≡ port_line cs ++ 10 ∷ behind = append_assoc (ended_port cs) (flat_map ended_port ports) (ended last) ∙ append_assoc (port_line cs) (10 ∷ []) behind in
+    let regroup : flat_map ended_port (cs ∷ ports) ++ ended last ≡ port_line cs ++ 10 ∷ behind = append_assoc (ended_port cs) (flat_map ended_port ports) (ended last) ∙ append_assoc
+    (port_line cs) (10 ∷ []) behind in
     ap (pieces 10) regroup ∙ pieces_before 10 (port_line cs) behind (HasNo-port m cs fits.0) ∙ ap (λ (ls : List (List ℕ)). port_line cs ∷ ls) (pieces_last m ports last fits.1 none)
 
 line_again : (line : ℕ) (l : List ℕ) (ports : List (List Call)) (last : List ℕ) → line_at line (l ∷ last_lines ports last) ≡ Ok (l, last_lines ports last)
@@ -308,7 +329,8 @@ steps_word = (refl, (refl, (refl, (refl, (refl, tt)))))
 
 abbrev last_by : ℕ → ℕ → Bool → List (List ℕ) → List (List ℕ) → Result (List (ℕ × ℕ) × Bool) PlanError
 last_by line ports word fs behind =
-    cond word (cond (eqb ports 0) (Err plan.Ports) (entries_at line ports [] fs >>= λ steps. cond (is_end behind) (Ok steps) (Err (plan.Line (line + 1) cause.Extra)))) (Err (plan.Line line cause.Word))
+    cond word (cond (eqb ports 0) (Err plan.Ports) (entries_at line ports [] fs >>= λ steps. cond (is_end behind) (Ok steps) (Err (plan.Line (line + 1) cause.Extra))))
+    (Err (plan.Line line cause.Word))
 
 last_is : (line ports : ℕ) (l : List ℕ) (behind : List (List ℕ)) → last_at line ports l behind ≡ last_by line ports (bytes_eq (until 32 l) (codes "steps")) (fields_of l) behind
 unfolding last_at
@@ -321,7 +343,8 @@ last_again line ports es rest some few fits =
     let nones = HasNo-turns 32 ports es rest space_no_digit refl (refl, (refl, (refl, (refl, tt)))) few fits in
     let there : eqb ports 0 ≡ false = ne_eqb ports 0 (λ e. omega arith) in
     let whole : last_by line ports true fs ([] ∷ []) ≡ Ok (es, rest) = rw (there, entries_again line ports [] es rest few fits) refl in
-    ap (λ (x : List ℕ). last_at line ports x ([] ∷ [])) (steps_is es rest) ∙ last_is line ports l ([] ∷ []) ∙ ap (λ (w : Bool). last_by line ports w (fields_of l) ([] ∷ [])) (word_again (codes "steps") fs steps_word) ∙ ap (λ (x : List (List ℕ)). last_by line ports true x ([] ∷ [])) (fields_again (codes "steps") fs steps_word nones) ∙ whole
+    ap (λ (x : List ℕ). last_at line ports x ([] ∷ [])) (steps_is es rest) ∙ last_is line ports l ([] ∷ []) ∙ ap (λ (w : Bool). last_by line ports w (fields_of l) ([] ∷ []))
+    (word_again (codes "steps") fs steps_word) ∙ ap (λ (x : List (List ℕ)). last_by line ports true x ([] ∷ [])) (fields_again (codes "steps") fs steps_word nones) ∙ whole
 
 -- the last line is no port line
 not_port : (es : List (ℕ × ℕ)) (rest : Bool) → bytes_eq (until 32 (steps_line es rest)) (codes "port") ≡ false
@@ -332,20 +355,25 @@ more_again : (m line : ℕ) (found : List (List Call)) (cs : List Call) → leng
 unfolding more_ports
 more_again m line found cs few fits = rw (lt-ltb (length found) 64 few, port_again m line cs fits) refl
 
-port_step : (m line : ℕ) (found : List (List Call)) (l : List ℕ) (ls : List (List ℕ)) (all : List (List Call)) → bytes_eq (until 32 l) (codes "port") ≡ true → more_ports m line found (from 32 l) ≡ Ok all → tail_by m line found (l, ls) ≡ tail_at m (line + 1) all ls
+port_step : (m line : ℕ) (found : List (List Call)) (l : List ℕ) (ls : List (List ℕ)) (all : List (List Call)) → bytes_eq (until 32 l) (codes "port") ≡ true →
+    more_ports m line found (from 32 l) ≡ Ok all → tail_by m line found (l, ls) ≡ tail_at m (line + 1) all ls
 port_step m line found l ls all port taken = rw (port, taken) refl
 
-last_step : (m line : ℕ) (found : List (List Call)) (l : List ℕ) (behind : List (List ℕ)) (s : List (ℕ × ℕ) × Bool) → bytes_eq (until 32 l) (codes "port") ≡ false → last_at line (length found) l behind ≡ Ok s → tail_by m line found (l, behind) ≡ Ok (record { ports = found; steps = s.0; rest = s.1 })
+last_step : (m line : ℕ) (found : List (List Call)) (l : List ℕ) (behind : List (List ℕ)) (s : List (ℕ × ℕ) × Bool) → bytes_eq (until 32 l) (codes "port") ≡ false →
+    last_at line (length found) l behind ≡ Ok s → tail_by m line found (l, behind) ≡ Ok (record { ports = found; steps = s.0; rest = s.1 })
 last_step m line found l behind s other taken = rw (other, taken) refl
 
-tail_again : (m line : ℕ) (found more : List (List Call)) (es : List (ℕ × ℕ)) (rest : Bool) → AllByRecursion (λ cs. AllByRecursion (IsCall m) cs) more → 1 ≤ length (found ++ more) → length (found ++ more) ≤ 64 → AllByRecursion (IsEntry (length (found ++ more))) es
+tail_again : (m line : ℕ) (found more : List (List Call)) (es : List (ℕ × ℕ)) (rest : Bool) → AllByRecursion (λ cs. AllByRecursion (IsCall m) cs) more → 1 ≤ length (found ++ more) →
+    length (found ++ more) ≤ 64 → AllByRecursion (IsEntry (length (found ++ more))) es
     → tail_at m line found (last_lines more (steps_line es rest)) ≡ Ok (record { ports = found ++ more; steps = es; rest = rest })
 tail_again m line found [] es rest calls some few fits =
     let l = steps_line es rest in
     let all : found ++ [] ≡ found = append-nil found in
     let many : length (found ++ []) ≡ length found = ap length all in
-    let step : tail_at m line found (l ∷ [] ∷ []) ≡ tail_by m line found (l, [] ∷ []) = tail_step m line found (l ∷ [] ∷ []) ∙ ap (λ (r : Result (List ℕ × List (List ℕ)) PlanError). r >>= tail_by m line found) (line_last line l) in
-    let last : last_at line (length found) l ([] ∷ []) ≡ Ok (es, rest) = last_again line (length found) es rest (omega (arith, many)) (omega (arith, many)) (subst (λ (n : ℕ). AllByRecursion (IsEntry n) es) many fits) in
+    let step : tail_at m line found (l ∷ [] ∷ []) ≡ tail_by m line found (l, [] ∷ []) =
+    tail_step m line found (l ∷ [] ∷ []) ∙ ap (λ (r : Result (List ℕ × List (List ℕ)) PlanError). r >>= tail_by m line found) (line_last line l) in
+    let last : last_at line (length found) l ([] ∷ []) ≡ Ok (es, rest) = last_again line (length found) es rest (omega (arith, many)) (omega (arith, many))
+    (subst (λ (n : ℕ). AllByRecursion (IsEntry n) es) many fits) in
     step ∙ last_step m line found l ([] ∷ []) (es, rest) (not_port es rest) last ∙ ap (λ (x : List (List Call)). Ok (record { ports = x; steps = es; rest = rest })) (sym all)
 tail_again m line found (cs ∷ more) es rest calls some few fits =
     let l = port_line cs in
@@ -355,8 +383,10 @@ tail_again m line found (cs ∷ more) es rest calls some few fits =
     let many : length found < 64 = omega (arith, length-append found (cs ∷ more)) in
     let port : bytes_eq (until 32 l) (codes "port") ≡ true = ap (λ (w : List ℕ). bytes_eq w (codes "port")) parts.0 in
     let taken : more_ports m line found (from 32 l) ≡ Ok (found ++ cs ∷ []) = ap (more_ports m line found) parts.1 ∙ more_again m line found cs many calls.0 in
-    let step : tail_at m line found (l ∷ ls) ≡ tail_by m line found (l, ls) = tail_step m line found (l ∷ ls) ∙ ap (λ (r : Result (List ℕ × List (List ℕ)) PlanError). r >>= tail_by m line found) (line_again line l more (steps_line es rest)) in
-    let rest_is = tail_again m (line + 1) (found ++ cs ∷ []) more es rest calls.1 (subst (λ (x : List (List Call)). 1 ≤ length x) (sym regroup) some) (subst (λ (x : List (List Call)). length x ≤ 64) (sym regroup) few) (subst (λ (x : List (List Call)). AllByRecursion (IsEntry (length x)) es) (sym regroup) fits) in
+    let step : tail_at m line found (l ∷ ls) ≡ tail_by m line found (l, ls) = tail_step m line found (l ∷ ls) ∙ ap (λ (r : Result (List ℕ × List (List ℕ)) PlanError). r >>= tail_by m line found)
+    (line_again line l more (steps_line es rest)) in
+    let rest_is = tail_again m (line + 1) (found ++ cs ∷ []) more es rest calls.1 (subst (λ (x : List (List Call)). 1 ≤ length x) (sym regroup) some)
+    (subst (λ (x : List (List Call)). length x ≤ 64) (sym regroup) few) (subst (λ (x : List (List Call)). AllByRecursion (IsEntry (length x)) es) (sym regroup) fits) in
     step ∙ port_step m line found l ls (found ++ cs ∷ []) port taken ∙ rest_is ∙ ap (λ (x : List (List Call)). Ok (record { ports = x; steps = es; rest = rest })) regroup
 
 -- the text of a plan is cut into its lines
@@ -367,9 +397,11 @@ lines_are p fits =
     let three = flat_map ended_port p.ports in
     let four = ended (steps_line p.steps p.rest) in
     let regroup : plan_text p ≡ one ++ 10 ∷ (two ++ 10 ∷ (three ++ four)) =
-    append_assoc (ended one ++ ended two) three four ∙ append_assoc (ended one) (ended two) (three ++ four) ∙ append_assoc one (10 ∷ []) (ended two ++ (three ++ four)) ∙ ap (λ (l : List ℕ). one ++ 10 ∷ l) (append_assoc two (10 ∷ []) (three ++ four)) in
+    append_assoc (ended one ++ ended two) three four ∙ append_assoc (ended one) (ended two) (three ++ four) ∙ append_assoc one (10 ∷ [])
+    (ended two ++ (three ++ four)) ∙ ap (λ (l : List ℕ). one ++ 10 ∷ l) (append_assoc two (10 ∷ []) (three ++ four)) in
     let none = HasNo-steps (length p.ports) p.steps p.rest fits.few_ports fits.steps in
-    ap (pieces 10) regroup ∙ pieces_before 10 one (two ++ 10 ∷ (three ++ four)) (HasNo-sizes p.sizes fits.sizes) ∙ ap (λ (ls : List (List ℕ)). one ∷ ls) (pieces_before 10 two (three ++ four) (HasNo-initial p.initial fits.values) ∙ ap (λ (ls : List (List ℕ)). two ∷ ls) (pieces_last p.sizes.m p.ports (steps_line p.steps p.rest) fits.calls none))
+    ap (pieces 10) regroup ∙ pieces_before 10 one (two ++ 10 ∷ (three ++ four)) (HasNo-sizes p.sizes fits.sizes) ∙ ap (λ (ls : List (List ℕ)). one ∷ ls)
+    (pieces_before 10 two (three ++ four) (HasNo-initial p.initial fits.values) ∙ ap (λ (ls : List (List ℕ)). two ∷ ls) (pieces_last p.sizes.m p.ports (steps_line p.steps p.rest) fits.calls none))
 
 first_line : (l k : List ℕ) (ls : List (List ℕ)) → line_at 1 (l ∷ k ∷ ls) ≡ Ok (l, k ∷ ls)
 unfolding line_at
@@ -401,9 +433,12 @@ lines_again p fits =
     let two = initial_line p.initial in
     let ls = last_lines p.ports (steps_line p.steps p.rest) in
     let tail : Tail = record { ports = p.ports; steps = p.steps; rest = p.rest } in
-    lines_step (one ∷ two ∷ ls) ∙ passed (line_at 1 (one ∷ two ∷ ls)) (one, two ∷ ls) (λ first. with_sizes first.0 first.1) (first_line one two ls) ∙ passed (sizes_at one) p.sizes (λ sizes. with_second sizes (two ∷ ls)) (sizes_again p.sizes fits.sizes)
-    ∙ passed (line_at 2 (two ∷ ls)) (two, ls) (λ second. with_initial p.sizes second.0 second.1) (line_again 2 two p.ports (steps_line p.steps p.rest)) ∙ passed (initial_at p.sizes.m two) p.initial (λ initial. with_tail p.sizes initial ls) (initial_again p.sizes.m p.initial fits.initial fits.values)
-    ∙ passed (tail_at p.sizes.m 3 [] ls) tail (λ tail. Ok (record { sizes = p.sizes; initial = p.initial; ports = tail.ports; steps = tail.steps; rest = tail.rest })) (tail_again p.sizes.m 3 [] p.ports p.steps p.rest fits.calls fits.some_port fits.few_ports fits.steps)
+    lines_step (one ∷ two ∷ ls) ∙ passed (line_at 1 (one ∷ two ∷ ls)) (one, two ∷ ls) (λ first. with_sizes first.0 first.1) (first_line one two ls) ∙ passed (sizes_at one) p.sizes
+    (λ sizes. with_second sizes (two ∷ ls)) (sizes_again p.sizes fits.sizes)
+    ∙ passed (line_at 2 (two ∷ ls)) (two, ls) (λ second. with_initial p.sizes second.0 second.1) (line_again 2 two p.ports (steps_line p.steps p.rest)) ∙ passed (initial_at p.sizes.m two) p.initial
+    (λ initial. with_tail p.sizes initial ls) (initial_again p.sizes.m p.initial fits.initial fits.values)
+    ∙ passed (tail_at p.sizes.m 3 [] ls) tail (λ tail. Ok (record { sizes = p.sizes; initial = p.initial; ports = tail.ports; steps = tail.steps; rest = tail.rest }))
+    (tail_again p.sizes.m 3 [] p.ports p.steps p.rest fits.calls fits.some_port fits.few_ports fits.steps)
 
 -- the text of a plan is read as the plan
 pub judged_again : (p : PlanView) → IsPlan p → judged (plan_text p) ≡ Ok p

@@ -31,7 +31,8 @@ Consumes_then (Some x) (Some y) None xs ys p q = absurd q
 Consumes_then (Some x) (Some y) (Some z) xs ys p q = p ∙ ap (λ (l : List ℕ). xs ++ l) q ∙ sym (append_assoc xs ys z)
 
 -- a write took n more bytes of the text
-pub written_more : (a b c : Option (List ℕ)) (text rest : List ℕ) (n : ℕ) → length rest ≤ length text → rest ≡ drop (length text - length rest) text → Appends a b (take (length text - length rest) text) → n ≤ length rest → Appends b c (take n rest)
+pub written_more : (a b c : Option (List ℕ)) (text rest : List ℕ) (n : ℕ) → length rest ≤ length text → rest ≡ drop (length text - length rest) text →
+    Appends a b (take (length text - length rest) text) → n ≤ length rest → Appends b c (take n rest)
     → (left : List ℕ) → left ≡ take (length rest - n) (drop n rest) → (length left ≤ length text) × (left ≡ drop (length text - length left) text) × Appends a c (take (length text - length left) text)
 written_more a b c text rest n short is_rest written fits more left is_left =
     let whole : left ≡ drop n rest = is_left ∙ take_rest rest n in

@@ -40,10 +40,12 @@ texts_here xs i h so_far =
     so_far ∙ rw (cut_here (drop i xs) h) (ap (λ (p : List ℕ). p ∷ call_texts_behind (drop i xs)) (append-nil (take i xs)))
 
 -- one byte on
-pub texts_more : (xs : List ℕ) (i : ℕ) → i < length xs → is_cut (drop i xs) ≡ false → call_texts xs ≡ with_front (take i xs) (call_texts (drop i xs)) → call_texts xs ≡ with_front (take (i + 1) xs) (call_texts (drop (i + 1) xs))
+pub texts_more : (xs : List ℕ) (i : ℕ) → i < length xs → is_cut (drop i xs) ≡ false → call_texts xs ≡ with_front (take i xs) (call_texts (drop i xs)) → call_texts xs ≡ with_front (take (i + 1) xs)
+    (call_texts (drop (i + 1) xs))
 texts_more xs i lt h so_far =
     let not_cut : is_cut (get_or xs i 0 ∷ drop (i + 1) xs) ≡ false = sym (at_drop_more is_cut xs i 0 lt) ∙ h in
-    so_far ∙ ap (with_front (take i xs)) (at_drop_more call_texts xs i 0 lt ∙ cut_more (get_or xs i 0) (drop (i + 1) xs) not_cut) ∙ with_front-onto (take i xs) (get_or xs i 0) (call_texts (drop (i + 1) xs)) ∙ ap (λ (f : List ℕ). with_front f (call_texts (drop (i + 1) xs))) (sym (take_more xs i 0 lt))
+    so_far ∙ ap (with_front (take i xs)) (at_drop_more call_texts xs i 0 lt ∙ cut_more (get_or xs i 0) (drop (i + 1) xs) not_cut) ∙ with_front-onto (take i xs) (get_or xs i 0)
+    (call_texts (drop (i + 1) xs)) ∙ ap (λ (f : List ℕ). with_front f (call_texts (drop (i + 1) xs))) (sym (take_more xs i 0 lt))
 
 pub texts_end : (xs : List ℕ) (i : ℕ) → length xs ≤ i → call_texts xs ≡ with_front (take i xs) (call_texts (drop i xs)) → call_texts xs ≡ xs ∷ []
 texts_end xs i le so_far =
@@ -61,7 +63,8 @@ no_cut (x ∷ []) h = refl
 no_cut (x ∷ y ∷ xs) h = absurd (omega arith)
 
 -- the next call of a port line
-pub next_call : (m line : ℕ) (found all : List Call) (first : List ℕ) (rest : List ℕ) (call : Call) (next behind : List ℕ) (judged : Result (List Call) PlanError) → call_at m line first ≡ Ok call → 2 ≤ length rest
+pub next_call : (m line : ℕ) (found all : List Call) (first : List ℕ) (rest : List ℕ) (call : Call) (next behind : List ℕ) (judged : Result (List Call) PlanError) →
+    call_at m line first ≡ Ok call → 2 ≤ length rest
     → call_texts (take (length rest - 2) (drop 2 rest)) ≡ next ∷ call_texts_behind behind → all ≡ found ++ call ∷ []
     → calls_at m line found (first ∷ call_texts_behind rest) ≡ judged → calls_at m line all (next ∷ call_texts_behind behind) ≡ judged
 unfolding calls_at

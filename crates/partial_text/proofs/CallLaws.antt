@@ -66,7 +66,8 @@ read_ok line m fs c e =
 update_if_ok : (line m : ℕ) (fs : List (List ℕ)) (c : Call) → update_if_from line fs ≡ Ok c → (call_text c ≡ codes "updateif" ++ behind_each 32 fs) × IsCall m c
 unfolding update_if_from
 update_if_ok line m fs c e =
-    let a = bind_ok (ok_or (exactly_three fs) (plan.Line line cause.Count)) (λ f. number_at line greatest_index f.0 >>= λ j. number_at line greatest f.1 >>= λ s. number_at line greatest f.2 >>= λ v. Ok (call.UpdateIf j s v)) c e in
+    let a = bind_ok (ok_or (exactly_three fs) (plan.Line line cause.Count))
+    (λ f. number_at line greatest_index f.0 >>= λ j. number_at line greatest f.1 >>= λ s. number_at line greatest f.2 >>= λ v. Ok (call.UpdateIf j s v)) c e in
     let b = bind_ok (number_at line greatest_index a.0.0) (λ j. number_at line greatest a.0.1 >>= λ s. number_at line greatest a.0.2 >>= λ v. Ok (call.UpdateIf j s v)) c a.2 in
     let d = bind_ok (number_at line greatest a.0.1) (λ s. number_at line greatest a.0.2 >>= λ v. Ok (call.UpdateIf b.0 s v)) c b.2 in
     let g = bind_ok (number_at line greatest a.0.2) (λ v. Ok (call.UpdateIf b.0 d.0 v)) c d.2 in
@@ -79,11 +80,12 @@ update_if_ok line m fs c e =
     let text : codes "updateif" ++ behind_each 32 fs ≡ call_text (call.UpdateIf b.0 d.0 g.0) = ap (λ (l : List (List ℕ)). codes "updateif" ++ behind_each 32 l) fields in
     subst (λ (x : Call). (call_text x ≡ codes "updateif" ++ behind_each 32 fs) × IsCall m x) same (sym text, (omega (arith, j.1), omega (arith, s.1), omega (arith, v.1)))
 
-chosen : {A : Type 0} (b : Bool) (x y : A) (z : A) → cond b x y ≡ z → ((b ≡ true) × (x ≡ z)) ⊎ ((b ≡ false) × (y ≡ z))
+pub chosen : {A : Type 0} (b : Bool) (x y : A) (z : A) → cond b x y ≡ z → ((b ≡ true) × (x ≡ z)) ⊎ ((b ≡ false) × (y ≡ z))
 chosen true x y z e = inl (refl, e)
 chosen false x y z e = inr (refl, e)
 
-from_word : (line m : ℕ) (word text : List ℕ) (c : Call) → bytes_eq (until 32 text) word ≡ true → (call_text c ≡ word ++ behind_each 32 (fields_of text)) × IsCall m c → (call_text c ≡ text) × IsCall m c
+from_word : (line m : ℕ) (word text : List ℕ) (c : Call) → bytes_eq (until 32 text) word ≡ true → (call_text c ≡ word ++ behind_each 32 (fields_of text)) × IsCall m c →
+    (call_text c ≡ text) × IsCall m c
 from_word line m word text c same h = (h.0 ∙ sym (with_word word text same), h.1)
 
 -- what is read as a call is its text
@@ -92,18 +94,22 @@ unfolding call_at
 call_ok line m text c e =
     let fs = fields_of text in
     let w = until 32 text in
-    elim (chosen (bytes_eq w (codes "update")) (update_from line fs) (cond (bytes_eq w (codes "scan")) (scan_from m line fs) (cond (bytes_eq w (codes "read")) (read_from line fs) (cond (bytes_eq w (codes "updateif")) (update_if_from line fs) (Err (plan.Line line cause.Word))))) (Ok c) e) [
+    elim (chosen (bytes_eq w (codes "update")) (update_from line fs) (cond (bytes_eq w (codes "scan")) (scan_from m line fs)
+    (cond (bytes_eq w (codes "read")) (read_from line fs) (cond (bytes_eq w (codes "updateif")) (update_if_from line fs) (Err (plan.Line line cause.Word))))) (Ok c) e) [
       | inl h ↦ from_word line m (codes "update") text c h.0 (update_ok line m fs c h.1)
-      | inr h ↦ elim (chosen (bytes_eq w (codes "scan")) (scan_from m line fs) (cond (bytes_eq w (codes "read")) (read_from line fs) (cond (bytes_eq w (codes "updateif")) (update_if_from line fs) (Err (plan.Line line cause.Word)))) (Ok c) h.1) [
-        | inl k ↦ from_word line m (codes "scan") text c k.0 (scan_ok line m fs c k.1)
-        | inr k ↦ elim (chosen (bytes_eq w (codes "read")) (read_from line fs) (cond (bytes_eq w (codes "updateif")) (update_if_from line fs) (Err (plan.Line line cause.Word))) (Ok c) k.1) [
-          | inl l ↦ from_word line m (codes "read") text c l.0 (read_ok line m fs c l.1)
-          | inr l ↦ let n = if_ok (bytes_eq w (codes "updateif")) (update_if_from line fs) (plan.Line line cause.Word) c l.1 in from_word line m (codes "updateif") text c n.0 (update_if_ok line m fs c n.1)
-        ]
-      ]
+      | inr h ↦ elim (chosen (bytes_eq w (codes "scan")) (scan_from m line fs)
+          (cond (bytes_eq w (codes "read")) (read_from line fs) (cond (bytes_eq w (codes "updateif")) (update_if_from line fs) (Err (plan.Line line cause.Word)))) (Ok c) h.1) [
+            | inl k ↦ from_word line m (codes "scan") text c k.0 (scan_ok line m fs c k.1)
+            | inr k ↦ elim (chosen (bytes_eq w (codes "read")) (read_from line fs) (cond (bytes_eq w (codes "updateif")) (update_if_from line fs) (Err (plan.Line line cause.Word))) (Ok c) k.1) [
+              | inl l ↦ from_word line m (codes "read") text c l.0 (read_ok line m fs c l.1)
+              | inr l ↦ let n = if_ok (bytes_eq w (codes "updateif")) (update_if_from line fs) (plan.Line line cause.Word) c l.1 in from_word line m (codes "updateif") text c n.0
+                  (update_if_ok line m fs c n.1)
+            ]
+          ]
     ]
 
-pub calls_ok : (line m : ℕ) (found : List Call) (ts : List (List ℕ)) (all : List Call) → calls_at m line found ts ≡ Ok all → (cs : List Call) × (all ≡ found ++ cs) × (map call_text cs ≡ ts) × AllByRecursion (IsCall m) cs
+pub calls_ok : (line m : ℕ) (found : List Call) (ts : List (List ℕ)) (all : List Call) → calls_at m line found ts ≡ Ok all → (cs : List Call) × (all ≡ found ++ cs) × (map call_text cs ≡ ts) ×
+    AllByRecursion (IsCall m) cs
 unfolding calls_at
 calls_ok line m found [] all e = ([], sym (append-nil found ∙ ok_is found all e), refl, tt)
 calls_ok line m found (t ∷ ts) all e =
@@ -141,7 +147,8 @@ port_by (c ∷ cs) text h =
     let same : call_text c ++ behind_cuts (map call_text cs) ≡ text = cc in
     ap (λ (l : List ℕ). codes "port" ++ 32 ∷ (call_text c ++ l)) rest ∙ ap (λ (l : List ℕ). codes "port" ++ 32 ∷ l) same
 
-pub port_ok : (line m : ℕ) (behind : List ℕ) (cs : List Call) → port_at m line behind ≡ Ok cs → (behind ≡ [] ⊎ behind ≡ 32 ∷ drop 1 behind) → (port_line cs ≡ codes "port" ++ behind) × AllByRecursion (IsCall m) cs
+pub port_ok : (line m : ℕ) (behind : List ℕ) (cs : List Call) → port_at m line behind ≡ Ok cs → (behind ≡ [] ⊎ behind ≡ 32 ∷ drop 1 behind) → (port_line cs ≡ codes "port" ++ behind) ×
+    AllByRecursion (IsCall m) cs
 unfolding port_at
 port_ok line m [] cs e head = subst (λ (x : List Call). (port_line x ≡ codes "port" ++ []) × AllByRecursion (IsCall m) x) (ok_is [] cs e) (refl, tt)
 port_ok line m (x ∷ text) cs e head =

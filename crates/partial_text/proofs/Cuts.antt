@@ -16,9 +16,11 @@ pieces-cut c [] = refl
 pieces-cut c (x ∷ xs) = cut_step (eqb x c) c x xs (pieces-cut c xs)
 
 -- one byte on, where the byte is no separator
-pub until_more : (c : ℕ) (xs : List ℕ) (i : ℕ) → i < length xs → eqb (get_or xs i 0) c ≡ false → until c xs ≡ take i xs ++ until c (drop i xs) → until c xs ≡ take (i + 1) xs ++ until c (drop (i + 1) xs)
+pub until_more : (c : ℕ) (xs : List ℕ) (i : ℕ) → i < length xs → eqb (get_or xs i 0) c ≡ false → until c xs ≡ take i xs ++ until c (drop i xs) → until c xs ≡ take (i + 1) xs ++
+    until c (drop (i + 1) xs)
 until_more c xs i lt not_c so_far =
-    so_far ∙ ap (λ (t : List ℕ). take i xs ++ t) (at_drop_more (until c) xs i 0 lt ∙ rw not_c refl) ∙ sym (append_assoc (take i xs) (get_or xs i 0 ∷ []) (until c (drop (i + 1) xs))) ∙ ap (λ (t : List ℕ). t ++ until c (drop (i + 1) xs)) (sym (take_more xs i 0 lt))
+    so_far ∙ ap (λ (t : List ℕ). take i xs ++ t) (at_drop_more (until c) xs i 0 lt ∙ rw not_c refl) ∙ sym (append_assoc (take i xs) (get_or xs i 0 ∷ []) (until c (drop (i + 1) xs))) ∙
+    ap (λ (t : List ℕ). t ++ until c (drop (i + 1) xs)) (sym (take_more xs i 0 lt))
 
 pub from_more : (c : ℕ) (xs : List ℕ) (i : ℕ) → i < length xs → eqb (get_or xs i 0) c ≡ false → from c xs ≡ from c (drop i xs) → from c xs ≡ from c (drop (i + 1) xs)
 from_more c xs i lt not_c so_far = so_far ∙ at_drop_more (from c) xs i 0 lt ∙ rw not_c refl
@@ -44,7 +46,8 @@ length-pieces-here c xs i lt is_c = ap length (at_drop_more (pieces c) xs i 0 lt
 pub length-pieces-more : (c : ℕ) (xs : List ℕ) (i : ℕ) → i < length xs → eqb (get_or xs i 0) c ≡ false → length (pieces c (drop i xs)) ≡ length (pieces c (drop (i + 1) xs))
 length-pieces-more c xs i lt not_c = ap length (at_drop_more (pieces c) xs i 0 lt) ∙ rw not_c (onto_longer (get_or xs i 0) (pieces c (drop (i + 1) xs)) (pieces_some c (drop (i + 1) xs)))
 
-pub pieces_here : (c : ℕ) (xs : List ℕ) (i : ℕ) → i < length xs → eqb (get_or xs i 0) c ≡ true → until c xs ≡ take i xs ++ until c (drop i xs) → from c xs ≡ from c (drop i xs) → pieces c xs ≡ take i xs ∷ pieces_behind c (drop i xs)
+pub pieces_here : (c : ℕ) (xs : List ℕ) (i : ℕ) → i < length xs → eqb (get_or xs i 0) c ≡ true → until c xs ≡ take i xs ++ until c (drop i xs) → from c xs ≡ from c (drop i xs) →
+    pieces c xs ≡ take i xs ∷ pieces_behind c (drop i xs)
 pieces_here c xs i lt is_c front rest =
     let f : until c xs ≡ take i xs = front ∙ ap (λ (t : List ℕ). take i xs ++ t) (until_here c xs i lt is_c) ∙ append-nil (take i xs) in
     let r : from c xs ≡ drop i xs = rest ∙ from_here c xs i lt is_c in

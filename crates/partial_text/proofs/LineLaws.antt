@@ -19,6 +19,7 @@ use Rattle.partial_text.specs.Judging.{greatest, greatest_index, fields_of, exac
 use Rattle.partial_text.proofs.NumberLaws.{and_both}
 use Rattle.partial_text.proofs.PieceLaws.{behind_each, until_from}
 use Rattle.partial_text.proofs.FieldLaws.{bind_ok, if_ok, ok_is, found_ok, number_at_ok, numbers_ok, behind_numbers, four_is, with_word}
+use Rattle.partial_text.proofs.CallLaws.{chosen}
 
 pub in_range_ok : (s t : Layout) → in_range s ≡ Ok t → (s ≡ t) × IsLayout s
 in_range_ok s t e =
@@ -28,16 +29,27 @@ in_range_ok s t e =
     let d = if_ok (leb (3 * s.m) s.pool && leb s.pool 4194304) (Ok s) (plan.Size size.Pool) t c.1 in
     let p = and_both (leb 1 s.m) (leb s.m 65536) a.0 in
     let q = and_both (leb 1 s.slots) (leb s.slots 65536) b.0 in
-    let r = and_both (leb (3 * s.m) s.pool) (leb s.pool 4194304) d.0 in
-    (ok_is s t d.1, record { components = (leb-true 1 s.m p.0, leb-true s.m 65536 p.1); slots = (leb-true 1 s.slots q.0, leb-true s.slots 65536 q.1); lists = leb-true s.lists 65536 c.0; pool = (leb-true (3 * s.m) s.pool r.0, leb-true s.pool 4194304 r.1) })
+    let r = and_both (leb (3 * s.m) s.pool) (leb s.pool 4194304) d.0 in (
+      ok_is s t d.1,
+      record {
+        components = (leb-true 1 s.m p.0, leb-true s.m 65536 p.1);
+        slots = (leb-true 1 s.slots q.0, leb-true s.slots 65536 q.1);
+        lists = leb-true s.lists 65536 c.0;
+        pool = (leb-true (3 * s.m) s.pool r.0, leb-true s.pool 4194304 r.1);
+      },
+    )
 
 sizes_from_ok : (fs : List (List ℕ)) (s : Layout) → sizes_from fs ≡ Ok s → (codes "sizes" ++ behind_each 32 fs ≡ sizes_line s) × IsLayout s
 unfolding sizes_from
 sizes_from_ok fs s e =
-    let a = bind_ok (ok_or (exactly_four fs) (plan.Line 1 cause.Count)) (λ f. number_at 1 greatest_index f.0 >>= λ m. number_at 1 greatest_index f.1 >>= λ slots. number_at 1 greatest_index f.2 >>= λ lists. number_at 1 greatest_index f.3 >>= λ pool. in_range (record { m = m; slots = slots; lists = lists; pool = pool })) s e in
+    let a = bind_ok (ok_or (exactly_four fs) (plan.Line 1 cause.Count))
+    (λ f. number_at 1 greatest_index f.0 >>= λ m. number_at 1 greatest_index f.1 >>= λ slots. number_at 1 greatest_index f.2 >>= λ lists. number_at 1 greatest_index f.3 >>= λ pool. in_range
+    (record { m = m; slots = slots; lists = lists; pool = pool })) s e in
     let f = a.0 in
-    let b = bind_ok (number_at 1 greatest_index f.0) (λ m. number_at 1 greatest_index f.1 >>= λ slots. number_at 1 greatest_index f.2 >>= λ lists. number_at 1 greatest_index f.3 >>= λ pool. in_range (record { m = m; slots = slots; lists = lists; pool = pool })) s a.2 in
-    let c = bind_ok (number_at 1 greatest_index f.1) (λ slots. number_at 1 greatest_index f.2 >>= λ lists. number_at 1 greatest_index f.3 >>= λ pool. in_range (record { m = b.0; slots = slots; lists = lists; pool = pool })) s b.2 in
+    let b = bind_ok (number_at 1 greatest_index f.0) (λ m. number_at 1 greatest_index f.1 >>= λ slots. number_at 1 greatest_index f.2 >>= λ lists. number_at 1 greatest_index f.3 >>= λ pool. in_range
+    (record { m = m; slots = slots; lists = lists; pool = pool })) s a.2 in
+    let c = bind_ok (number_at 1 greatest_index f.1) (λ slots. number_at 1 greatest_index f.2 >>= λ lists. number_at 1 greatest_index f.3 >>= λ pool. in_range
+    (record { m = b.0; slots = slots; lists = lists; pool = pool })) s b.2 in
     let d = bind_ok (number_at 1 greatest_index f.2) (λ lists. number_at 1 greatest_index f.3 >>= λ pool. in_range (record { m = b.0; slots = c.0; lists = lists; pool = pool })) s c.2 in
     let g = bind_ok (number_at 1 greatest_index f.3) (λ pool. in_range (record { m = b.0; slots = c.0; lists = d.0; pool = pool })) s d.2 in
     let is = four_is fs f (found_ok (exactly_four fs) (plan.Line 1 cause.Count) f a.1) in
@@ -73,12 +85,16 @@ initial_ok m l vs e =
     let a = if_ok (bytes_eq (until 32 l) (codes "initial")) _ (plan.Line 2 cause.Word) vs e in
     let b = if_ok (eqb (length fs) m) (numbers_at 2 greatest [] fs) (plan.Line 2 cause.Count) vs a.1 in
     let r = numbers_ok 2 greatest [] fs vs (omega arith) b.1 in
-    let fields : fs ≡ map decimal vs = r.2 ∙ ap (map decimal) (sym r.1) in
-    (with_word (codes "initial") l a.0 ∙ ap (λ (t : List ℕ). codes "initial" ++ t) (ap (behind_each 32) fields ∙ behind_numbers vs), sym (length_fields fs vs fields) ∙ eqb-true (length fs) m b.0, subst (AllByRecursion (λ (v : ℕ). v < 2 ^ 64)) (sym r.1) (values_fit r.0 r.3))
+    let fields : fs ≡ map decimal vs = r.2 ∙ ap (map decimal) (sym r.1) in (
+      with_word (codes "initial") l a.0 ∙ ap (λ (t : List ℕ). codes "initial" ++ t) (ap (behind_each 32) fields ∙ behind_numbers vs),
+      sym (length_fields fs vs fields) ∙ eqb-true (length fs) m b.0,
+      subst (AllByRecursion (λ (v : ℕ). v < 2 ^ 64)) (sym r.1) (values_fit r.0 r.3),
+    )
 
 -- ---- the turns
 
-from_head : (b : Bool) (c x : ℕ) (xs : List ℕ) → eqb x c ≡ b → ((from c xs ≡ []) ⊎ (from c xs ≡ c ∷ drop 1 (from c xs))) → (cond b (x ∷ xs) (from c xs) ≡ []) ⊎ (cond b (x ∷ xs) (from c xs) ≡ c ∷ drop 1 (cond b (x ∷ xs) (from c xs)))
+from_head : (b : Bool) (c x : ℕ) (xs : List ℕ) → eqb x c ≡ b → ((from c xs ≡ []) ⊎ (from c xs ≡ c ∷ drop 1 (from c xs))) → (cond b (x ∷ xs) (from c xs) ≡ []) ⊎
+    (cond b (x ∷ xs) (from c xs) ≡ c ∷ drop 1 (cond b (x ∷ xs) (from c xs)))
 from_head true c x xs same h = inr (ap (λ (y : ℕ). y ∷ xs) (eqb-true x c same))
 from_head false c x xs same h = h
 
@@ -90,7 +106,8 @@ from_is c (x ∷ xs) = from_head (eqb x c) c x xs refl (from_is c xs)
 entry_ok : (line ports : ℕ) (f : List ℕ) (e : ℕ × ℕ) → entry_at line ports f ≡ Ok e → (f ≡ entry_text e) × IsEntry ports e
 unfolding entry_at
 entry_ok line ports f e h =
-    let a = bind_ok (number_at line greatest_index (until 42 f)) (λ p. number_at line greatest_index (drop 1 (from 42 f)) >>= λ k. cond (ltb p ports && ltb 0 k) (Ok (p, k)) (Err (plan.Line line cause.Range))) e h in
+    let a = bind_ok (number_at line greatest_index (until 42 f)) (λ p. number_at line greatest_index (drop 1 (from 42 f)) >>= λ k. cond (ltb p ports && ltb 0 k) (Ok (p, k))
+    (Err (plan.Line line cause.Range))) e h in
     let b = bind_ok (number_at line greatest_index (drop 1 (from 42 f))) (λ k. cond (ltb a.0 ports && ltb 0 k) (Ok (a.0, k)) (Err (plan.Line line cause.Range))) e a.2 in
     let c = if_ok (ltb a.0 ports && ltb 0 b.0) (Ok (a.0, b.0)) (plan.Line line cause.Range) e b.2 in
     let d = and_both (ltb a.0 ports) (ltb 0 b.0) c.0 in
@@ -113,10 +130,6 @@ pub record Turns (ports : ℕ) (found all : List (ℕ × ℕ)) (rest : Bool) (fs
   pub text : behind_each 32 fs ≡ flat_map (λ (e : ℕ × ℕ). field (entry_text e)) more ++ rest_text rest
   pub each : AllByRecursion (IsEntry ports) more
 
-chosen : {A : Type 0} (b : Bool) (x y : A) (z : A) → cond b x y ≡ z → ((b ≡ true) × (x ≡ z)) ⊎ ((b ≡ false) × (y ≡ z))
-chosen true x y z e = inl (refl, e)
-chosen false x y z e = inr (refl, e)
-
 pub entries_ok : (line ports : ℕ) (found : List (ℕ × ℕ)) (fs : List (List ℕ)) (x : List (ℕ × ℕ) × Bool) → entries_at line ports found fs ≡ Ok x → Turns ports found x.0 x.1 fs
 unfolding entries_at
 entries_ok line ports found [] x e =
@@ -136,7 +149,8 @@ entries_ok line ports found (f ∷ fs) x e =
           record {
             more = b.0 ∷ r.more;
             whole = r.whole ∙ append_assoc found (b.0 ∷ []) r.more;
-            text = ap (λ (l : List ℕ). 32 ∷ (l ++ behind_each 32 fs)) k.0 ∙ ap (λ (l : List ℕ). field (entry_text b.0) ++ l) r.text ∙ sym (append_assoc (field (entry_text b.0)) (flat_map (λ (e : ℕ × ℕ). field (entry_text e)) r.more) (rest_text x.1));
+            text = ap (λ (l : List ℕ). 32 ∷ (l ++ behind_each 32 fs)) k.0 ∙ ap (λ (l : List ℕ). field (entry_text b.0) ++ l) r.text ∙
+                sym (append_assoc (field (entry_text b.0)) (flat_map (λ (e : ℕ × ℕ). field (entry_text e)) r.more) (rest_text x.1));
             each = (k.1, r.each);
           }
     ]

@@ -55,7 +55,8 @@ from_ok most n (c ∷ cs) m small some le e =
     let rest = from_ok most k cs m small (omega (arith, t.2)) t.3 b.2 in
     let tens : k / 10 ≡ n = omega (arith, t.0, t.1, t.2) in
     let last : 48 + k % 10 ≡ c = omega (arith, t.0, t.1, t.2) in
-    let step : decimal k ≡ decimal n ++ c ∷ [] = decimal_step k (omega (arith, t.2)) (omega (arith, t.3)) ∙ ap (λ (j : ℕ). decimal j ++ (48 + k % 10) ∷ []) tens ∙ ap (λ (j : ℕ). decimal n ++ j ∷ []) last in
+    let step : decimal k ≡ decimal n ++ c ∷ [] = decimal_step k (omega (arith, t.2)) (omega (arith, t.3)) ∙ ap (λ (j : ℕ). decimal j ++ (48 + k % 10) ∷ []) tens ∙
+    ap (λ (j : ℕ). decimal n ++ j ∷ []) last in
     (rest.0 ∙ ap (λ (l : List ℕ). l ++ cs) step ∙ append_assoc (decimal n) (c ∷ []) cs, rest.1)
 
 -- a text that is read as a number is its digits
@@ -104,7 +105,8 @@ number_again most zero small le =
     let zero_text = decimal_digit 0 (omega arith) in
     number_of_is most (decimal 0) 0 (decimal_nonempty 0 (omega arith)) (λ long. absurd (omega (arith, ap length zero_text))) (from_again most 0 (omega arith) le)
 number_again most (suc n) small le =
-    number_of_is most (decimal (suc n)) (suc n) (decimal_nonempty (suc n) (omega arith)) (λ long same. omega (arith, first_decimal (suc n) (omega arith) (omega arith))) (from_again most (suc n) (omega arith) le)
+    number_of_is most (decimal (suc n)) (suc n) (decimal_nonempty (suc n) (omega arith)) (λ long same. omega (arith, first_decimal (suc n) (omega arith) (omega arith)))
+    (from_again most (suc n) (omega arith) le)
 
 -- no byte of the text is c
 abbrev pub HasNo : ℕ → List ℕ → Type 0
@@ -120,4 +122,5 @@ pub record IsNoDigit (c : ℕ) : Type 0 where
 
 pub HasNo-decimal : (c n : ℕ) → IsNoDigit c → n < 2 ^ 64 → HasNo c (decimal n)
 HasNo-decimal c n none small =
-    decimal_by_steps (λ (m : ℕ) (ds : List ℕ). HasNo c ds) (λ m lt. (ne_eqb (48 + m) c (none.apart m lt), tt)) (λ m ds ten so_far. HasNo-append c ds ((48 + m % 10) ∷ []) so_far (ne_eqb (48 + m % 10) c (none.apart (m % 10) (omega arith)), tt)) n small
+    decimal_by_steps (λ (m : ℕ) (ds : List ℕ). HasNo c ds) (λ m lt. (ne_eqb (48 + m) c (none.apart m lt), tt))
+    (λ m ds ten so_far. HasNo-append c ds ((48 + m % 10) ∷ []) so_far (ne_eqb (48 + m % 10) c (none.apart (m % 10) (omega arith)), tt)) n small

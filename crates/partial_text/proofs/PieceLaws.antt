@@ -33,7 +33,8 @@ pub behind_pieces : (c : ℕ) (xs : List ℕ) → behind_each c (pieces c xs) �
 behind_pieces c [] = refl
 behind_pieces c (x ∷ xs) = pieces_step (eqb x c) c x xs refl (behind_pieces c xs)
 
-from_step : (b : Bool) (c x : ℕ) (xs : List ℕ) → eqb x c ≡ b → behind_each c (pieces_behind c (from c xs)) ≡ from c xs → behind_each c (pieces_behind c (cond b (x ∷ xs) (from c xs))) ≡ cond b (x ∷ xs) (from c xs)
+from_step : (b : Bool) (c x : ℕ) (xs : List ℕ) → eqb x c ≡ b → behind_each c (pieces_behind c (from c xs)) ≡ from c xs →
+    behind_each c (pieces_behind c (cond b (x ∷ xs) (from c xs))) ≡ cond b (x ∷ xs) (from c xs)
 from_step true c x xs same h = behind_pieces c xs ∙ ap (λ (y : ℕ). y ∷ xs) (sym (eqb-true x c same))
 from_step false c x xs same h = h
 

@@ -14,7 +14,7 @@ use Rattle.partial_text.specs.PlanText.{PlanView, sizes_line, initial_line, port
 use Rattle.partial_text.specs.Judging.{Tail, fields_of, line_at, sizes_at, initial_at, port_at, more_ports, entries_at, is_end, last_at, tail_at, lines_judged, judged}
 use Rattle.partial_text.proofs.PieceLaws.{behind_each, behind_pieces, until_from}
 use Rattle.partial_text.proofs.FieldLaws.{bind_ok, if_ok, unless_ok, ok_is, with_word}
-use Rattle.partial_text.proofs.CallLaws.{port_ok}
+use Rattle.partial_text.proofs.CallLaws.{port_ok, chosen}
 use Rattle.partial_text.proofs.LineLaws.{sizes_ok, initial_ok, entries_ok, from_is}
 
 -- the text that is cut into these pieces
@@ -56,10 +56,6 @@ pub record Tails (m : ℕ) (found : List (List Call)) (t : Tail) (ls : List (Lis
   pub few_ports : length found ≤ 64 → length t.ports ≤ 64
   pub steps : AllByRecursion (IsEntry (length t.ports)) t.steps
 
-chosen : {A : Type 0} (b : Bool) (x y : A) (z : A) → cond b x y ≡ z → ((b ≡ true) × (x ≡ z)) ⊎ ((b ≡ false) × (y ≡ z))
-chosen true x y z e = inl (refl, e)
-chosen false x y z e = inr (refl, e)
-
 -- the last line
 last_ok : (line m : ℕ) (found : List (List Call)) (l : List ℕ) (behind : List (List ℕ)) (s : List (ℕ × ℕ) × Bool) → last_at line (length found) l behind ≡ Ok s
     → (ended l ++ text_of behind ≡ ended (steps_line s.0 s.1)) × (1 ≤ length found) × AllByRecursion (IsEntry (length found)) s.0
@@ -75,7 +71,8 @@ last_ok line m found l behind s e =
     let turns : t.more ≡ s.0 = sym t.whole ∙ ap (λ (y : List (ℕ × ℕ) × Bool). y.0) same in
     let rest : c.0.1 ≡ s.1 = ap (λ (y : List (ℕ × ℕ) × Bool). y.1) same in
     let fields : behind_each 32 (fields_of l) ≡ flat_map (λ (e : ℕ × ℕ). field (entry_text e)) s.0 ++ rest_text s.1 = t.text ∙ rw (turns, rest) refl in
-    let whole : l ≡ steps_line s.0 s.1 = with_word (codes "steps") l a.0 ∙ ap (λ (x : List ℕ). codes "steps" ++ x) fields ∙ sym (append_assoc (codes "steps") (flat_map (λ (e : ℕ × ℕ). field (entry_text e)) s.0) (rest_text s.1)) in
+    let whole : l ≡ steps_line s.0 s.1 = with_word (codes "steps") l a.0 ∙ ap (λ (x : List ℕ). codes "steps" ++ x) fields ∙
+    sym (append_assoc (codes "steps") (flat_map (λ (e : ℕ × ℕ). field (entry_text e)) s.0) (rest_text s.1)) in
     (ap (λ (x : List ℕ). ended l ++ x) (end_is behind d.0) ∙ append-nil (ended l) ∙ ap ended whole, omega (arith, eqb-false n 0 b.0), subst (AllByRecursion (IsEntry n)) turns t.each)
 
 -- a port line
@@ -95,7 +92,8 @@ tail_ok line m found [] t e = absurd cc
 tail_ok line m found (l ∷ []) t e = absurd cc
 tail_ok line m found (l ∷ k ∷ ls) t e =
     let regroup : text_of (l ∷ k ∷ ls) ≡ ended l ++ text_of (k ∷ ls) = sym (append_assoc l (10 ∷ []) (k ++ behind_each 10 ls)) in
-    elim (chosen (bytes_eq (until 32 l) (codes "port")) (more_ports m line found (from 32 l) >>= λ ports. tail_at m (line + 1) ports (k ∷ ls)) (last_at line (length found) l (k ∷ ls) >>= λ steps. Ok (record { ports = found; steps = steps.0; rest = steps.1 })) (Ok t) e) [
+    elim (chosen (bytes_eq (until 32 l) (codes "port")) (more_ports m line found (from 32 l) >>= λ ports. tail_at m (line + 1) ports (k ∷ ls))
+    (last_at line (length found) l (k ∷ ls) >>= λ steps. Ok (record { ports = found; steps = steps.0; rest = steps.1 })) (Ok t) e) [
       | inl h ↦
           let b = bind_ok (more_ports m line found (from 32 l)) (λ (ports : List (List Call)). tail_at m (line + 1) ports (k ∷ ls)) t h.1 in
           let p = more_ok line m found b.0 l h.0 b.1 in
@@ -104,7 +102,8 @@ tail_ok line m found (l ∷ k ∷ ls) t e =
           record {
             more = p.0 ∷ r.more;
             whole = r.whole ∙ ap (λ (x : List (List Call)). x ++ r.more) p.1 ∙ append_assoc found (p.0 ∷ []) r.more;
-            text = regroup ∙ ap (λ (x : List ℕ). ended x ++ text_of (k ∷ ls)) p.2 ∙ ap (λ (x : List ℕ). ended_port p.0 ++ x) r.text ∙ sym (append_assoc (ended_port p.0) (flat_map ended_port r.more) (ended (steps_line t.steps t.rest)));
+            text = regroup ∙ ap (λ (x : List ℕ). ended x ++ text_of (k ∷ ls)) p.2 ∙ ap (λ (x : List ℕ). ended_port p.0 ++ x) r.text ∙
+                sym (append_assoc (ended_port p.0) (flat_map ended_port r.more) (ended (steps_line t.steps t.rest)));
             calls = (p.3, r.calls);
             some_port = r.some_port;
             few_ports = λ few. r.few_ports (omega (arith, one, p.4));
@@ -114,7 +113,8 @@ tail_ok line m found (l ∷ k ∷ ls) t e =
           let b = bind_ok (last_at line (length found) l (k ∷ ls)) (λ (steps : List (ℕ × ℕ) × Bool). Ok (record { ports = found; steps = steps.0; rest = steps.1 })) t h.1 in
           let q = last_ok line m found l (k ∷ ls) b.0 b.1 in
           let made : Tail = record { ports = found; steps = b.0.0; rest = b.0.1 } in
-          subst (λ (y : Tail). Tails m found y (l ∷ k ∷ ls)) (ok_is made t b.2) (record { more = []; whole = sym (append-nil found); text = regroup ∙ q.0; calls = tt; some_port = q.1; few_ports = λ few. few; steps = q.2 })
+          subst (λ (y : Tail). Tails m found y (l ∷ k ∷ ls)) (ok_is made t b.2)
+          (record { more = []; whole = sym (append-nil found); text = regroup ∙ q.0; calls = tt; some_port = q.1; few_ports = λ few. few; steps = q.2 })
     ]
 
 -- what is read as a plan is lawful, and is the plan's text
@@ -123,10 +123,14 @@ unfolding judged lines_judged
 judged_ok text p e =
     let u = unless_ok (ltb 4194304 (length text)) (lines_judged (pieces 10 text)) (plan.Line 0 cause.Size) p e in
     let short : length text ≤ 4194304 = ltb-false 4194304 (length text) u.0 in
-    let a = bind_ok (line_at 1 (pieces 10 text)) (λ first. sizes_at first.0 >>= λ sizes. line_at 2 first.1 >>= λ second. initial_at sizes.m second.0 >>= λ initial. tail_at sizes.m 3 [] second.1 >>= λ tail. Ok (record { sizes = sizes; initial = initial; ports = tail.ports; steps = tail.steps; rest = tail.rest })) p u.1 in
-    let b = bind_ok (sizes_at a.0.0) (λ sizes. line_at 2 a.0.1 >>= λ second. initial_at sizes.m second.0 >>= λ initial. tail_at sizes.m 3 [] second.1 >>= λ tail. Ok (record { sizes = sizes; initial = initial; ports = tail.ports; steps = tail.steps; rest = tail.rest })) p a.2 in
-    let c = bind_ok (line_at 2 a.0.1) (λ second. initial_at b.0.m second.0 >>= λ initial. tail_at b.0.m 3 [] second.1 >>= λ tail. Ok (record { sizes = b.0; initial = initial; ports = tail.ports; steps = tail.steps; rest = tail.rest })) p b.2 in
-    let d = bind_ok (initial_at b.0.m c.0.0) (λ initial. tail_at b.0.m 3 [] c.0.1 >>= λ tail. Ok (record { sizes = b.0; initial = initial; ports = tail.ports; steps = tail.steps; rest = tail.rest })) p c.2 in
+    let a = bind_ok (line_at 1 (pieces 10 text)) (λ first. sizes_at first.0 >>= λ sizes. line_at 2 first.1 >>= λ second. initial_at sizes.m second.0 >>= λ initial. tail_at sizes.m 3 [] second.1 >>=
+    λ tail. Ok (record { sizes = sizes; initial = initial; ports = tail.ports; steps = tail.steps; rest = tail.rest })) p u.1 in
+    let b = bind_ok (sizes_at a.0.0) (λ sizes. line_at 2 a.0.1 >>= λ second. initial_at sizes.m second.0 >>= λ initial. tail_at sizes.m 3 [] second.1 >>= λ tail. Ok
+    (record { sizes = sizes; initial = initial; ports = tail.ports; steps = tail.steps; rest = tail.rest })) p a.2 in
+    let c = bind_ok (line_at 2 a.0.1) (λ second. initial_at b.0.m second.0 >>= λ initial. tail_at b.0.m 3 [] second.1 >>= λ tail. Ok
+    (record { sizes = b.0; initial = initial; ports = tail.ports; steps = tail.steps; rest = tail.rest })) p b.2 in
+    let d = bind_ok (initial_at b.0.m c.0.0) (λ initial. tail_at b.0.m 3 [] c.0.1 >>= λ tail. Ok
+    (record { sizes = b.0; initial = initial; ports = tail.ports; steps = tail.steps; rest = tail.rest })) p c.2 in
     let f = bind_ok (tail_at b.0.m 3 [] c.0.1) (λ tail. Ok (record { sizes = b.0; initial = d.0; ports = tail.ports; steps = tail.steps; rest = tail.rest })) p d.2 in
     let s = sizes_ok a.0.0 b.0 b.1 in
     let i = initial_ok b.0.m c.0.0 d.0 d.1 in
@@ -135,7 +139,8 @@ judged_ok text p e =
     let first : text ≡ ended (sizes_line b.0) ++ text_of a.0.1 = sym (text_of_pieces text) ∙ line_ok 1 (pieces 10 text) a.0 a.1 ∙ ap (λ (l : List ℕ). ended l ++ text_of a.0.1) s.0 in
     let second : text_of a.0.1 ≡ ended (initial_line d.0) ++ text_of c.0.1 = line_ok 2 a.0.1 c.0 c.1 ∙ ap (λ (l : List ℕ). ended l ++ text_of c.0.1) i.0 in
     let ports : t.more ≡ f.0.ports = sym t.whole in
-    let third : text_of c.0.1 ≡ flat_map ended_port f.0.ports ++ ended (steps_line f.0.steps f.0.rest) = t.text ∙ ap (λ (x : List (List Call)). flat_map ended_port x ++ ended (steps_line f.0.steps f.0.rest)) ports in
+    let third : text_of c.0.1 ≡ flat_map ended_port f.0.ports ++ ended (steps_line f.0.steps f.0.rest) =
+    t.text ∙ ap (λ (x : List (List Call)). flat_map ended_port x ++ ended (steps_line f.0.steps f.0.rest)) ports in
     let one = ended (sizes_line b.0) in
     let two = ended (initial_line d.0) in
     let three = flat_map ended_port f.0.ports in

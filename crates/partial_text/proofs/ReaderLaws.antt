@@ -39,12 +39,15 @@ only_memory (plan.Size x) judged h other = absurd h
 only_memory plan.Ports judged h other = absurd h
 only_memory (plan.Line l c) judged h other = absurd h
 
-pub found_from : (r : Result PlanView PlanError) (a : Option (List ℕ)) (text : List ℕ) → Gives (λ (p : PlanView). p) r (judged text) → IfSome a (λ bytes. judged text ≡ judged bytes) → IfOk r (λ (p : PlanView). IfSome a (λ bytes. bytes ≡ plan_text p))
+pub found_from : (r : Result PlanView PlanError) (a : Option (List ℕ)) (text : List ℕ) → Gives (λ (p : PlanView). p) r (judged text) → IfSome a (λ bytes. judged text ≡ judged bytes) →
+    IfOk r (λ (p : PlanView). IfSome a (λ bytes. bytes ≡ plan_text p))
 found_from (Ok p) a text given same = each_some a (λ bytes. judged text ≡ judged bytes) (λ bytes. bytes ≡ plan_text p) (λ bytes e. (judged_ok bytes p (sym e ∙ given)).1) same
 found_from (Err e) a text given same = tt
 
-pub exact_from : (r : Result PlanView PlanError) (a : Option (List ℕ)) (text : List ℕ) → Gives (λ (p : PlanView). p) r (judged text) → IfSome a (λ bytes. judged text ≡ judged bytes) → IfSome a (λ bytes. Gives (λ (p : PlanView). p) r (judged bytes))
-exact_from r a text given same = each_some a (λ bytes. judged text ≡ judged bytes) (λ bytes. Gives (λ (p : PlanView). p) r (judged bytes)) (λ bytes e. subst (Gives (λ (p : PlanView). p) r) e given) same
+pub exact_from : (r : Result PlanView PlanError) (a : Option (List ℕ)) (text : List ℕ) → Gives (λ (p : PlanView). p) r (judged text) → IfSome a (λ bytes. judged text ≡ judged bytes) →
+    IfSome a (λ bytes. Gives (λ (p : PlanView). p) r (judged bytes))
+exact_from r a text given same = each_some a (λ bytes. judged text ≡ judged bytes) (λ bytes. Gives (λ (p : PlanView). p) r (judged bytes))
+    (λ bytes e. subst (Gives (λ (p : PlanView). p) r) e given) same
 
 pub always : {A : Type 0} (o : Option A) (P : A → Type 0) → ((x : A) → P x) → IfSome o P
 always None P h = tt
@@ -53,6 +56,8 @@ always (Some x) P h = h x
 pub true_not_false : true ≡ false → ⊥
 true_not_false e = cc
 
-pub only_from : (r : Result PlanView PlanError) (a : Option (List ℕ)) → IfSome a (λ bytes. Gives (λ (p : PlanView). p) r (judged bytes)) → IfSome a (λ bytes. (p : PlanView) → IsPlan p → bytes ≡ plan_text p → Gives (λ (q : PlanView). q) r (Ok p))
+pub only_from : (r : Result PlanView PlanError) (a : Option (List ℕ)) → IfSome a (λ bytes. Gives (λ (p : PlanView). p) r (judged bytes)) →
+    IfSome a (λ bytes. (p : PlanView) → IsPlan p → bytes ≡ plan_text p → Gives (λ (q : PlanView). q) r (Ok p))
 only_from r a exact =
-    each_some a (λ bytes. Gives (λ (p : PlanView). p) r (judged bytes)) (λ bytes. (p : PlanView) → IsPlan p → bytes ≡ plan_text p → Gives (λ (q : PlanView). q) r (Ok p)) (λ bytes given p fits same. subst (Gives (λ (q : PlanView). q) r) (ap judged same ∙ judged_again p fits) given) exact
+    each_some a (λ bytes. Gives (λ (p : PlanView). p) r (judged bytes)) (λ bytes. (p : PlanView) → IsPlan p → bytes ≡ plan_text p → Gives (λ (q : PlanView). q) r (Ok p))
+    (λ bytes given p fits same. subst (Gives (λ (q : PlanView). q) r) (ap judged same ∙ judged_again p fits) given) exact

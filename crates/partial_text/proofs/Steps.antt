@@ -19,7 +19,8 @@ Fails_first (plan.Line l c) r f judged h e = sym e ∙ rw h refl
 -- what one line makes of the ports so far
 abbrev pub tail_by : ℕ → ℕ → List (List Call) → List ℕ × List (List ℕ) → Result Tail PlanError
 tail_by m line found x =
-    cond (bytes_eq (until 32 x.0) (codes "port")) (more_ports m line found (from 32 x.0) >>= λ ports. tail_at m (line + 1) ports x.1) (last_at line (length found) x.0 x.1 >>= λ steps. Ok (record { ports = found; steps = steps.0; rest = steps.1 }))
+    cond (bytes_eq (until 32 x.0) (codes "port")) (more_ports m line found (from 32 x.0) >>= λ ports. tail_at m (line + 1) ports x.1)
+    (last_at line (length found) x.0 x.1 >>= λ steps. Ok (record { ports = found; steps = steps.0; rest = steps.1 }))
 
 pub tail_step : (m line : ℕ) (found : List (List Call)) (ls : List (List ℕ)) → tail_at m line found ls ≡ (line_at line ls >>= tail_by m line found)
 unfolding tail_at line_at
@@ -27,14 +28,16 @@ tail_step m line found [] = refl
 tail_step m line found (l ∷ []) = refl
 tail_step m line found (l ∷ k ∷ ls) = refl
 
-pub at_port_line : (m line : ℕ) (found : List (List Call)) (ls : List (List ℕ)) (x : List ℕ × List (List ℕ)) (judged : Result Tail PlanError) → line_at line ls ≡ Ok x → bytes_eq (until 32 x.0) (codes "port") ≡ true
+pub at_port_line : (m line : ℕ) (found : List (List Call)) (ls : List (List ℕ)) (x : List ℕ × List (List ℕ)) (judged : Result Tail PlanError) → line_at line ls ≡ Ok x →
+    bytes_eq (until 32 x.0) (codes "port") ≡ true
     → tail_at m line found ls ≡ judged → (more_ports m line found (from 32 x.0) >>= λ ports. tail_at m (line + 1) ports x.1) ≡ judged
 at_port_line m line found ls x judged is_line is_port so_far =
     let e : tail_at m line found ls ≡ tail_by m line found x = tail_step m line found ls ∙ ap (λ (r : Result (List ℕ × List (List ℕ)) PlanError). r >>= tail_by m line found) is_line in
     let f : tail_by m line found x ≡ (more_ports m line found (from 32 x.0) >>= λ ports. tail_at m (line + 1) ports x.1) = rw is_port refl in
     sym f ∙ sym e ∙ so_far
 
-pub at_last_line : (m line : ℕ) (found : List (List Call)) (ls : List (List ℕ)) (x : List ℕ × List (List ℕ)) (judged : Result Tail PlanError) → line_at line ls ≡ Ok x → bytes_eq (until 32 x.0) (codes "port") ≡ false
+pub at_last_line : (m line : ℕ) (found : List (List Call)) (ls : List (List ℕ)) (x : List ℕ × List (List ℕ)) (judged : Result Tail PlanError) → line_at line ls ≡ Ok x →
+    bytes_eq (until 32 x.0) (codes "port") ≡ false
     → tail_at m line found ls ≡ judged → (last_at line (length found) x.0 x.1 >>= λ steps. Ok (record { ports = found; steps = steps.0; rest = steps.1 })) ≡ judged
 at_last_line m line found ls x judged is_line not_port so_far =
     let e : tail_at m line found ls ≡ tail_by m line found x = tail_step m line found ls ∙ ap (λ (r : Result (List ℕ × List (List ℕ)) PlanError). r >>= tail_by m line found) is_line in

@@ -26,7 +26,8 @@ value_after : (h : List Applied) (vs : List ℕ) (j base : ℕ) (found : Option 
 unfolding last_from
 value_after [] vs j base found lt e = e
 value_after (x ∷ h) vs j base found lt e =
-    value_after h (set vs x.component x.value) j base (cond (eqb x.component j) (Some x) found) (omega (arith, length-set vs x.component x.value)) (value_set (eqb x.component j) x vs j base found refl lt e)
+    value_after h (set vs x.component x.value) j base (cond (eqb x.component j) (Some x) found) (omega (arith, length-set vs x.component x.value))
+    (value_set (eqb x.component j) x vs j base found refl lt e)
 
 length_after : (h : List Applied) (vs : List ℕ) → length (values_after vs h) ≡ length vs
 length_after [] vs = refl

@@ -28,18 +28,22 @@ greatest_index = 4294967295
 abbrev pub fields_of : List ℕ → List (List ℕ)
 fields_of text = pieces_behind 32 (from 32 text)
 
+-- the one field of a list of one
 abbrev pub exactly_one : List (List ℕ) → Option (List ℕ)
 exactly_one (a ∷ []) = Some a
 exactly_one _ = None
 
+-- the two fields of a list of two
 abbrev pub exactly_two : List (List ℕ) → Option (List ℕ × List ℕ)
 exactly_two (a ∷ b ∷ []) = Some (a, b)
 exactly_two _ = None
 
+-- the three fields of a list of three
 abbrev pub exactly_three : List (List ℕ) → Option (List ℕ × List ℕ × List ℕ)
 exactly_three (a ∷ b ∷ c ∷ []) = Some (a, b, c)
 exactly_three _ = None
 
+-- the four fields of a list of four
 abbrev pub exactly_four : List (List ℕ) → Option (List ℕ × List ℕ × List ℕ × List ℕ)
 exactly_four [] = None
 exactly_four (a ∷ fs) = option_map (λ x. (a, x.0, x.1, x.2)) (exactly_three fs)
@@ -60,7 +64,9 @@ numbers_at line most found (f ∷ fs) = do
 -- the first size that is out of its range
 abbrev pub in_range : Layout → Result Layout PlanError
 in_range s =
-    if nat_le 1 s.m && nat_le s.m 65536 then (if nat_le 1 s.slots && nat_le s.slots 65536 then (if nat_le s.lists 65536 then (if nat_le (3 * s.m) s.pool && nat_le s.pool 4194304 then Ok s else Err (plan.Size size.Pool)) else Err (plan.Size size.Lists)) else Err (plan.Size size.Slots)) else Err (plan.Size size.Components)
+    if nat_le 1 s.m && nat_le s.m 65536 then (if nat_le 1 s.slots && nat_le s.slots 65536 then
+    (if nat_le s.lists 65536 then (if nat_le (3 * s.m) s.pool && nat_le s.pool 4194304 then Ok s else Err (plan.Size size.Pool)) else
+    Err (plan.Size size.Lists)) else Err (plan.Size size.Slots)) else Err (plan.Size size.Components)
 
 unfoldable pub sizes_from : List (List ℕ) → Result Layout PlanError
 sizes_from fields = do
@@ -75,7 +81,9 @@ unfoldable pub sizes_at : List ℕ → Result Layout PlanError
 sizes_at l = if bytes_eq (until 32 l) (codes "sizes") then sizes_from (fields_of l) else Err (plan.Line 1 cause.Word)
 
 unfoldable pub initial_at : ℕ → List ℕ → Result (List ℕ) PlanError
-initial_at m l = if bytes_eq (until 32 l) (codes "initial") then (if length (fields_of l) == m then numbers_at 2 greatest [] (fields_of l) else Err (plan.Line 2 cause.Count)) else Err (plan.Line 2 cause.Word)
+initial_at m l = if bytes_eq (until 32 l) (codes "initial") then
+    (if length (fields_of l) == m then numbers_at 2 greatest [] (fields_of l) else Err (plan.Line 2 cause.Count)) else Err
+    (plan.Line 2 cause.Word)
 
 -- ---- calls
 
@@ -89,7 +97,8 @@ update_from line fields = do
 -- a scan of no more positions than there are components
 unfoldable pub scan_from : ℕ → ℕ → List (List ℕ) → Result Call PlanError
 scan_from m line fields =
-    if nat_lt m (length fields) then Err (plan.Line line cause.Count) else (numbers_at line greatest_index [] fields >>= λ js. Ok (call.Scan js))
+    if nat_lt m (length fields) then Err (plan.Line line cause.Count) else
+    (numbers_at line greatest_index [] fields >>= λ js. Ok (call.Scan js))
 
 unfoldable pub read_from : ℕ → List (List ℕ) → Result Call PlanError
 read_from line fields = do
@@ -108,7 +117,10 @@ update_if_from line fields = do
 -- the call that a text is, by its first field, in a plan of m components
 unfoldable pub call_at : ℕ → ℕ → List ℕ → Result Call PlanError
 call_at m line text =
-    if bytes_eq (until 32 text) (codes "update") then update_from line (fields_of text) else (if bytes_eq (until 32 text) (codes "scan") then scan_from m line (fields_of text) else (if bytes_eq (until 32 text) (codes "read") then read_from line (fields_of text) else (if bytes_eq (until 32 text) (codes "updateif") then update_if_from line (fields_of text) else Err (plan.Line line cause.Word))))
+    if bytes_eq (until 32 text) (codes "update") then update_from line (fields_of text) else
+    (if bytes_eq (until 32 text) (codes "scan") then scan_from m line (fields_of text) else
+    (if bytes_eq (until 32 text) (codes "read") then read_from line (fields_of text) else
+    (if bytes_eq (until 32 text) (codes "updateif") then update_if_from line (fields_of text) else Err (plan.Line line cause.Word))))
 
 -- the calls that texts are, behind the calls so far
 unfoldable pub calls_at : ℕ → ℕ → List Call → List (List ℕ) → Result (List Call) PlanError
@@ -149,6 +161,7 @@ entry_at line ports f = do
   k ← number_at line greatest_index (drop 1 (from 42 f))
   if nat_lt p ports && nat_lt 0 k then Ok (p, k) else Err (plan.Line line cause.Range)
 
+-- whether there is no field
 abbrev pub is_nil : List (List ℕ) → Bool
 is_nil [] = true
 is_nil (f ∷ fs) = false
@@ -160,7 +173,8 @@ is_rest f fs = is_nil fs && bytes_eq f (codes "rest")
 -- the turns behind those so far, and whether the rest runs behind them
 unfoldable pub entries_at : ℕ → ℕ → List (ℕ × ℕ) → List (List ℕ) → Result (List (ℕ × ℕ) × Bool) PlanError
 entries_at line ports found [] = Ok (found, false)
-entries_at line ports found (f ∷ fs) = if is_rest f fs then Ok (found, true) else (entry_at line ports f >>= λ e. entries_at line ports (found ++ e ∷ []) fs)
+entries_at line ports found (f ∷ fs) = if is_rest f fs then Ok (found, true) else
+    (entry_at line ports f >>= λ e. entries_at line ports (found ++ e ∷ []) fs)
 
 -- ---- the lines
 
@@ -182,7 +196,9 @@ is_end _ = false
 -- the last line of a plan of so many ports, with what stands behind it
 unfoldable pub last_at : ℕ → ℕ → List ℕ → List (List ℕ) → Result (List (ℕ × ℕ) × Bool) PlanError
 last_at line ports l behind =
-    if bytes_eq (until 32 l) (codes "steps") then (if ports == 0 then Err plan.Ports else (entries_at line ports [] (fields_of l) >>= λ steps. if is_end behind then Ok steps else Err (plan.Line (line + 1) cause.Extra))) else Err (plan.Line line cause.Word)
+    if bytes_eq (until 32 l) (codes "steps") then
+    (if ports == 0 then Err plan.Ports else (entries_at line ports [] (fields_of l) >>= λ steps. if is_end behind then Ok steps else
+    Err (plan.Line (line + 1) cause.Extra))) else Err (plan.Line line cause.Word)
 
 -- what stands behind the second line
 pub record Tail : Type 0 where
@@ -195,7 +211,8 @@ unfoldable pub tail_at : ℕ → ℕ → List (List Call) → List (List ℕ) �
 tail_at m line found [] = Err (plan.Line line cause.End)
 tail_at m line found (l ∷ []) = Err (plan.Line line cause.End)
 tail_at m line found (l ∷ k ∷ ls) =
-    if bytes_eq (until 32 l) (codes "port") then (more_ports m line found (from 32 l) >>= λ ports. tail_at m (line + 1) ports (k ∷ ls)) else (last_at line (length found) l (k ∷ ls) >>= λ steps. Ok (record { ports = found; steps = steps.0; rest = steps.1 }))
+    if bytes_eq (until 32 l) (codes "port") then (more_ports m line found (from 32 l) >>= λ ports. tail_at m (line + 1) ports (k ∷ ls))
+    else (last_at line (length found) l (k ∷ ls) >>= λ steps. Ok (record { ports = found; steps = steps.0; rest = steps.1 }))
 
 unfoldable pub lines_judged : List (List ℕ) → Result PlanView PlanError
 lines_judged lines = do

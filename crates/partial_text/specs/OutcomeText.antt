@@ -17,7 +17,8 @@ use Rattle.partial_text.specs.PlanText.{number_field}
 -- an entry of the history at its place
 abbrev pub entry_line : ℕ → Applied → List ℕ
 entry_line place e =
-    codes "applied" ++ number_field place ++ codes " port" ++ number_field e.port ++ codes " component" ++ number_field e.component ++ codes " value" ++ number_field e.value ++ codes " stamp" ++ number_field e.stamp ++ 10 ∷ []
+    codes "applied" ++ number_field place ++ codes " port" ++ number_field e.port ++ codes " component" ++ number_field e.component ++
+    codes " value" ++ number_field e.value ++ codes " stamp" ++ number_field e.stamp ++ 10 ∷ []
 
 -- the entries of a history, of which the first has this place
 abbrev pub entry_lines : ℕ → List Applied → List ℕ
@@ -71,6 +72,7 @@ answer_back (answer.Changed t) = []
 abbrev pub answer_text : Answer → ℕ → List ℕ
 answer_text a k = answer_front a ++ place_field a k ++ answer_back a
 
+-- how a call ended
 abbrev pub finish_text : Option Finish → List ℕ
 finish_text None = codes " unfinished"
 finish_text (Some f) = answer_text f.answer (told_place f.note)
@@ -80,19 +82,24 @@ abbrev pub ended_of : Option Finish → Option ℕ
 ended_of None = None
 ended_of (Some f) = Some f.ended
 
+-- the line of a call
 abbrev pub call_line : Called → List ℕ
 call_line c =
-    codes "call" ++ number_field c.port ++ number_field c.number ++ finish_text c.finish ++ codes " steps" ++ number_field c.steps ++ codes " span" ++ number_field c.began ++ optional_field (ended_of c.finish) ++ 10 ∷ []
+    codes "call" ++ number_field c.port ++ number_field c.number ++ finish_text c.finish ++ codes " steps" ++ number_field c.steps ++
+    codes " span" ++ number_field c.began ++ optional_field (ended_of c.finish) ++ 10 ∷ []
 
 -- the values of the components after a history
 abbrev pub values_of : Opening → List Applied → List ℕ
 values_of o h = map (value_of o h) (range_with_len 0 (length o.values))
 
+-- the line of the values at the end
 abbrev pub values_line : List ℕ → List ℕ
 values_line vs = codes "values" ++ flat_map number_field vs ++ 10 ∷ []
 
+-- the line of the number of steps
 abbrev pub total_line : ℕ → List ℕ
 total_line steps = codes "total" ++ number_field steps ++ 10 ∷ []
 
+-- an outcome: its entries, its calls, the values after all entries, and the number of steps
 abbrev pub outcome_text : Opening → List Applied → List Called → ℕ → List ℕ
 outcome_text o h calls steps = entry_lines 0 h ++ flat_map call_line calls ++ values_line (values_of o h) ++ total_line steps

@@ -21,12 +21,15 @@ field f = 32 ∷ f
 abbrev pub number_field : ℕ → List ℕ
 number_field n = 32 ∷ decimal n
 
+-- the first line, without its newline
 abbrev pub sizes_line : Layout → List ℕ
 sizes_line s = codes "sizes" ++ flat_map number_field (s.m ∷ s.slots ∷ s.lists ∷ s.pool ∷ [])
 
+-- the second line, likewise
 abbrev pub initial_line : List ℕ → List ℕ
 initial_line values = codes "initial" ++ flat_map number_field values
 
+-- a call in a port's line
 abbrev pub call_text : Call → List ℕ
 call_text (call.Update j v) = codes "update" ++ flat_map number_field (j ∷ v ∷ [])
 call_text (call.Scan js) = codes "scan" ++ flat_map number_field js
@@ -37,6 +40,7 @@ call_text (call.UpdateIf j s v) = codes "updateif" ++ flat_map number_field (j �
 abbrev pub next_call : Call → List ℕ
 next_call c = 59 ∷ 32 ∷ call_text c
 
+-- the line of a port, without its newline: its calls with a semicolon and a space between two
 abbrev pub port_line : List Call → List ℕ
 port_line [] = codes "port"
 port_line (c ∷ cs) = codes "port" ++ field (call_text c) ++ flat_map next_call cs
@@ -45,10 +49,12 @@ port_line (c ∷ cs) = codes "port" ++ field (call_text c) ++ flat_map next_call
 abbrev pub entry_text : ℕ × ℕ → List ℕ
 entry_text e = decimal e.0 ++ 42 ∷ decimal e.1
 
+-- the last word of the steps, where the plan has it
 abbrev pub rest_text : Bool → List ℕ
 rest_text true = field (codes "rest")
 rest_text false = []
 
+-- the last line, without its newline
 abbrev pub steps_line : List (ℕ × ℕ) → Bool → List ℕ
 steps_line es rest = codes "steps" ++ flat_map (λ e. field (entry_text e)) es ++ rest_text rest
 
@@ -56,8 +62,10 @@ steps_line es rest = codes "steps" ++ flat_map (λ e. field (entry_text e)) es +
 abbrev pub ended : List ℕ → List ℕ
 ended l = l ++ 10 ∷ []
 
+-- the text of a plan
 abbrev pub plan_text : PlanView → List ℕ
-plan_text p = ended (sizes_line p.sizes) ++ ended (initial_line p.initial) ++ flat_map (λ cs. ended (port_line cs)) p.ports ++ ended (steps_line p.steps p.rest)
+plan_text p = ended (sizes_line p.sizes) ++ ended (initial_line p.initial) ++ flat_map (λ cs. ended (port_line cs)) p.ports ++
+    ended (steps_line p.steps p.rest)
 
 -- a call that may stand in a plan of m components; an index beyond them is refused when the call is made
 abbrev pub IsCall : ℕ → Call → Type 0

@@ -22,9 +22,21 @@ impl Model for Plan {
 
     ghost Value = { PlanView };
 
-    ghost view = { λ p. record { sizes = p.sizes; initial = p.initial.items; ports = p.ports.items; steps = p.steps.items; rest = p.rest } };
+    ghost view = { λ p. record {
+      sizes = p.sizes;
+      initial = p.initial.items;
+      ports = p.ports.items;
+      steps = p.steps.items;
+      rest = p.rest;
+    } };
 
-    ghost invariant = { λ p. IsPlan (record { sizes = p.sizes; initial = p.initial.items; ports = p.ports.items; steps = p.steps.items; rest = p.rest }) };
+    ghost invariant = { λ p. IsPlan (record {
+      sizes = p.sizes;
+      initial = p.initial.items;
+      ports = p.ports.items;
+      steps = p.steps.items;
+      rest = p.rest;
+    }) };
 }
 
 /// What a plan text says.

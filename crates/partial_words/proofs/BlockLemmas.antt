@@ -27,8 +27,10 @@ pub list_reads_back : (words : List ℕ) (at : ℕ) (intervals : List (ℕ × �
 list_reads_back words at intervals stands = record {
   count = first_at words at (length intervals) (flat_map pair_words intervals) stands;
   each = λ k d within.
-      let low : get_or words (at + 1 + 2 * k) 0 ≡ (get_or intervals k d).0 = behind_at words at (length intervals) (2 * k) (flat_map pair_words intervals) stands (omega (arith, length-pairs intervals)) ∙ pairs_even intervals k d within in
-      let high : get_or words (at + 2 + 2 * k) 0 ≡ (get_or intervals k d).1 = ap (λ i. get_or words i 0) (omega arith) ∙ behind_at words at (length intervals) (1 + 2 * k) (flat_map pair_words intervals) stands (omega (arith, length-pairs intervals)) ∙ pairs_odd intervals k d within in
+      let low : get_or words (at + 1 + 2 * k) 0 ≡ (get_or intervals k d).0 = behind_at words at (length intervals) (2 * k) (flat_map pair_words intervals) stands
+      (omega (arith, length-pairs intervals)) ∙ pairs_even intervals k d within in
+      let high : get_or words (at + 2 + 2 * k) 0 ≡ (get_or intervals k d).1 = ap (λ i. get_or words i 0) (omega arith) ∙ behind_at words at (length intervals) (1 + 2 * k)
+      (flat_map pair_words intervals) stands (omega (arith, length-pairs intervals)) ∙ pairs_odd intervals k d within in
       ap (λ n. (n, get_or words (at + 2 + 2 * k) 0)) low ∙ ap (λ n. ((get_or intervals k d).0, n)) high;
 }
 
@@ -36,12 +38,16 @@ list_reads_back words at intervals stands = record {
 pub interval_within : (intervals : List (ℕ × ℕ)) (k : ℕ) → k < length (list_block intervals) → (k ≡ 0 → ⊥) → k - 1 < 2 * length intervals
 interval_within intervals k within behind = omega (arith, length-pairs intervals)
 
-pub interval_word_even : (intervals : List (ℕ × ℕ)) (k : ℕ) → k < length (list_block intervals) → (k ≡ 0 → ⊥) → (k - 1) % 2 ≡ 0 → (get_or intervals ((k - 1) / 2) (0, 0)).0 ≡ get_or (list_block intervals) k 0
+pub interval_word_even : (intervals : List (ℕ × ℕ)) (k : ℕ) → k < length (list_block intervals) → (k ≡ 0 → ⊥) → (k - 1) % 2 ≡ 0 → (get_or intervals ((k - 1) / 2) (0, 0)).0 ≡ get_or
+    (list_block intervals) k 0
 interval_word_even intervals k within behind even =
     let back : k - 1 + 1 ≡ k = omega arith in
-    word_even intervals (k - 1) (0, 0) (interval_within intervals k within behind) even ∙ sym (word_behind (length intervals) (k - 1) (flat_map pair_words intervals)) ∙ ap (λ i. get_or (list_block intervals) i 0) back
+    word_even intervals (k - 1) (0, 0) (interval_within intervals k within behind) even ∙ sym (word_behind (length intervals) (k - 1) (flat_map pair_words intervals)) ∙
+    ap (λ i. get_or (list_block intervals) i 0) back
 
-pub interval_word_odd : (intervals : List (ℕ × ℕ)) (k : ℕ) → k < length (list_block intervals) → (k ≡ 0 → ⊥) → ((k - 1) % 2 ≡ 0 → ⊥) → (get_or intervals ((k - 1) / 2) (0, 0)).1 ≡ get_or (list_block intervals) k 0
+pub interval_word_odd : (intervals : List (ℕ × ℕ)) (k : ℕ) → k < length (list_block intervals) → (k ≡ 0 → ⊥) → ((k - 1) % 2 ≡ 0 → ⊥) → (get_or intervals ((k - 1) / 2) (0, 0)).1 ≡ get_or
+    (list_block intervals) k 0
 interval_word_odd intervals k within behind odd =
     let back : k - 1 + 1 ≡ k = omega arith in
-    word_odd intervals (k - 1) (0, 0) (interval_within intervals k within behind) odd ∙ sym (word_behind (length intervals) (k - 1) (flat_map pair_words intervals)) ∙ ap (λ i. get_or (list_block intervals) i 0) back
+    word_odd intervals (k - 1) (0, 0) (interval_within intervals k within behind) odd ∙ sym (word_behind (length intervals) (k - 1) (flat_map pair_words intervals)) ∙
+    ap (λ i. get_or (list_block intervals) i 0) back

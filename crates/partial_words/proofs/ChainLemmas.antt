@@ -45,22 +45,26 @@ chain_cons words at prev l [] here before c = absurd c
 chain_cons words at prev l (k ∷ ls) here before c = (here, subst (λ n. IsChain words n (k ∷ ls)) (sym before) c)
 
 -- the chain with one entry more
-pub links_from-push : (found : List Link) (j : ℕ) (h : List Applied) (e : Applied) → links_from found j (h ++ e ∷ []) ≡ cond (e.component == j) (record { stamp = e.stamp; value = e.value } ∷ links_from found j h) (links_from found j h)
+pub links_from-push : (found : List Link) (j : ℕ) (h : List Applied) (e : Applied) → links_from found j (h ++ e ∷ []) ≡ cond (e.component == j)
+    (record { stamp = e.stamp; value = e.value } ∷ links_from found j h) (links_from found j h)
 unfolding links_from
 links_from-push found j [] e = refl
 links_from-push found j (x ∷ h) e = links_from-push (cond (x.component == j) (record { stamp = x.stamp; value = x.value } ∷ found) found) j h e
 
 -- what holds of each entry's stamp and of the links before holds of each link
-links_all_step : (P : ℕ → Type 0) (found : List Link) (x : Applied) (b : Bool) → P x.stamp → AllByRecursion (λ l. P l.stamp) found → AllByRecursion (λ l. P l.stamp) (cond b (record { stamp = x.stamp; value = x.value } ∷ found) found)
+links_all_step : (P : ℕ → Type 0) (found : List Link) (x : Applied) (b : Bool) → P x.stamp → AllByRecursion (λ l. P l.stamp) found →
+    AllByRecursion (λ l. P l.stamp) (cond b (record { stamp = x.stamp; value = x.value } ∷ found) found)
 links_all_step P found x true p w = (p, w)
 links_all_step P found x false p w = w
 
-pub links_all : (P : ℕ → Type 0) (found : List Link) (j : ℕ) (h : List Applied) → AllByRecursion (λ (e : Applied). P e.stamp) h → AllByRecursion (λ (l : Link). P l.stamp) found → AllByRecursion (λ (l : Link). P l.stamp) (links_from found j h)
+pub links_all : (P : ℕ → Type 0) (found : List Link) (j : ℕ) (h : List Applied) → AllByRecursion (λ (e : Applied). P e.stamp) h → AllByRecursion (λ (l : Link). P l.stamp) found →
+    AllByRecursion (λ (l : Link). P l.stamp) (links_from found j h)
 unfolding links_from
 links_all P found j [] all w = w
 links_all P found j (x ∷ h) all w = links_all P (cond (x.component == j) (record { stamp = x.stamp; value = x.value } ∷ found) found) j h all.1 (links_all_step P found x (x.component == j) all.0 w)
 
-pub chain_all : (P : ℕ → Type 0) (o : Opening) (j : ℕ) (h : List Applied) → AllByRecursion (λ (e : Applied). P e.stamp) h → P (initial_stamp o j) → AllByRecursion (λ (l : Link). P l.stamp) (chain_of o j h)
+pub chain_all : (P : ℕ → Type 0) (o : Opening) (j : ℕ) (h : List Applied) → AllByRecursion (λ (e : Applied). P e.stamp) h → P (initial_stamp o j) →
+    AllByRecursion (λ (l : Link). P l.stamp) (chain_of o j h)
 chain_all P o j h all first = links_all P (record { stamp = initial_stamp o j; value = get_or o.values j 0 } ∷ []) j h all (first, tt)
 
 -- the link is one of the links
@@ -76,7 +80,8 @@ among_step l found x false w = w
 among_kept : (l : Link) (found : List Link) (j : ℕ) (h : List Applied) → Among l found → Among l (links_from found j h)
 unfolding links_from
 among_kept l found j [] w = w
-among_kept l found j (x ∷ h) w = among_kept l (cond (x.component == j) (record { stamp = x.stamp; value = x.value } ∷ found) found) j h (among_step l found (record { stamp = x.stamp; value = x.value }) (x.component == j) w)
+among_kept l found j (x ∷ h) w = among_kept l (cond (x.component == j) (record { stamp = x.stamp; value = x.value } ∷ found) found) j h
+    (among_step l found (record { stamp = x.stamp; value = x.value }) (x.component == j) w)
 
 among_later : (l : Link) (found : List Link) (j : ℕ) (h : List Applied) (a : ℕ) → Among l (links_from found j (take a h)) → Among l (links_from found j h)
 unfolding links_from
@@ -88,15 +93,18 @@ among_later l found j (x ∷ h) (suc a) w = among_later l (cond (x.component == 
 newest : Opening → ℕ → Option Applied → Link
 newest o j found = record { stamp = option_map_or (λ (e : Applied). e.stamp) found (initial_stamp o j); value = option_map_or (λ (e : Applied). e.value) found (get_or o.values j 0) }
 
-newest_step : (o : Opening) (j : ℕ) (found : Option Applied) (links : List Link) (x : Applied) (b : Bool) → ((ls : List Link) × (links ≡ newest o j found ∷ ls)) → (ls : List Link) × (cond b (record { stamp = x.stamp; value = x.value } ∷ links) links ≡ newest o j (cond b (Some x) found) ∷ ls)
+newest_step : (o : Opening) (j : ℕ) (found : Option Applied) (links : List Link) (x : Applied) (b : Bool) → ((ls : List Link) × (links ≡ newest o j found ∷ ls)) → (ls : List Link) ×
+    (cond b (record { stamp = x.stamp; value = x.value } ∷ links) links ≡ newest o j (cond b (Some x) found) ∷ ls)
 unfolding newest
 newest_step o j found links x true w = (links, refl)
 newest_step o j found links x false w = w
 
-newest_leads : (o : Opening) (j : ℕ) (h : List Applied) (found : Option Applied) (links : List Link) → ((ls : List Link) × (links ≡ newest o j found ∷ ls)) → (ls : List Link) × (links_from links j h ≡ newest o j (last_from found j h) ∷ ls)
+newest_leads : (o : Opening) (j : ℕ) (h : List Applied) (found : Option Applied) (links : List Link) → ((ls : List Link) × (links ≡ newest o j found ∷ ls)) → (ls : List Link) ×
+    (links_from links j h ≡ newest o j (last_from found j h) ∷ ls)
 unfolding links_from last_from
 newest_leads o j [] found links w = w
-newest_leads o j (x ∷ h) found links w = newest_leads o j h (cond (x.component == j) (Some x) found) (cond (x.component == j) (record { stamp = x.stamp; value = x.value } ∷ links) links) (newest_step o j found links x (x.component == j) w)
+newest_leads o j (x ∷ h) found links w = newest_leads o j h (cond (x.component == j) (Some x) found) (cond (x.component == j) (record { stamp = x.stamp; value = x.value } ∷ links) links)
+    (newest_step o j found links x (x.component == j) w)
 
 newest_first : (o : Opening) (j : ℕ) (h : List Applied) → (ls : List Link) × (chain_of o j h ≡ newest o j (last_from None j h) ∷ ls)
 unfolding newest
@@ -142,10 +150,12 @@ link_stands words at (k ∷ m ∷ ls) l c (inl same) = own_link words at k l sam
 link_stands words at (k ∷ m ∷ ls) l c (inr w) = link_stands words (prev_of words at) (m ∷ ls) l c.1 w
 
 -- the record of each stamp that a component has had stands in the words
-stamp_stands : (o : Opening) (words : List ℕ) (h : List Applied) (j a : ℕ) → Agrees o words h → j < length o.values → IsLink words (stamp_of o (take a h) j) (record { stamp = stamp_of o (take a h) j; value = value_after o (take a h) j })
+stamp_stands : (o : Opening) (words : List ℕ) (h : List Applied) (j a : ℕ) → Agrees o words h → j < length o.values → IsLink words (stamp_of o (take a h) j)
+    (record { stamp = stamp_of o (take a h) j; value = value_after o (take a h) j })
 unfolding newest
 stamp_stands o words h j a agrees below =
-    link_stands words (get_or words j 0) (chain_of o j h) (newest o j (last_from None j (take a h))) (agrees j below).1 (among_later (newest o j (last_from None j (take a h))) (record { stamp = initial_stamp o j; value = get_or o.values j 0 } ∷ []) j h a (newest_among o j (take a h)))
+    link_stands words (get_or words j 0) (chain_of o j h) (newest o j (last_from None j (take a h))) (agrees j below).1
+    (among_later (newest o j (last_from None j (take a h))) (record { stamp = initial_stamp o j; value = get_or o.values j 0 } ∷ []) j h a (newest_among o j (take a h)))
 
 -- behind each stamp that a component has had stands the value that it had with it
 pub value_behind_stamp : (o : Opening) (words : List ℕ) (h : List Applied) (j a : ℕ) → Agrees o words h → j < length o.values → value_of words (stamp_of o (take a h) j) ≡ value_after o (take a h) j
@@ -161,12 +171,15 @@ unfolding links_from
 older_chain words at l found j [] c = (at, c)
 older_chain words at l found j (x ∷ h) c = step (x.component == j) (older_chain words at (record { stamp = x.stamp; value = x.value }) (l ∷ found) j h) (older_chain words at l found j h) c
   where
-    step : (b : Bool) → (IsChain words at (links_from (record { stamp = x.stamp; value = x.value } ∷ l ∷ found) j h) → (from : ℕ) × IsChain words from (record { stamp = x.stamp; value = x.value } ∷ l ∷ found)) → (IsChain words at (links_from (l ∷ found) j h) → (from : ℕ) × IsChain words from (l ∷ found)) → IsChain words at (links_from (cond b (record { stamp = x.stamp; value = x.value } ∷ l ∷ found) (l ∷ found)) j h) → (from : ℕ) × IsChain words from (l ∷ found)
+    step : (b : Bool) → (IsChain words at (links_from (record { stamp = x.stamp; value = x.value } ∷ l ∷ found) j h) → (from : ℕ) ×
+        IsChain words from (record { stamp = x.stamp; value = x.value } ∷ l ∷ found)) → (IsChain words at (links_from (l ∷ found) j h) → (from : ℕ) × IsChain words from (l ∷ found)) →
+        IsChain words at (links_from (cond b (record { stamp = x.stamp; value = x.value } ∷ l ∷ found) (l ∷ found)) j h) → (from : ℕ) × IsChain words from (l ∷ found)
     step true one none c = let more = one c in (prev_of words more.0, more.1.1)
     step false one none c = none c
 
 -- the chain after the first n entries is a part of the chain
-chain_then : (words : List ℕ) (at : ℕ) (l : Link) (found : List Link) (j n : ℕ) (h : List Applied) → IsChain words at (links_from (l ∷ found) j h) → (from : ℕ) × IsChain words from (links_from (l ∷ found) j (take n h))
+chain_then : (words : List ℕ) (at : ℕ) (l : Link) (found : List Link) (j n : ℕ) (h : List Applied) → IsChain words at (links_from (l ∷ found) j h) → (from : ℕ) ×
+    IsChain words from (links_from (l ∷ found) j (take n h))
 unfolding links_from
 chain_then words at l found j zero h c = older_chain words at l found j h c
 chain_then words at l found j (suc n) [] c = (at, c)
@@ -190,7 +203,8 @@ take_one (x ∷ h) zero e s = let is : x ≡ e = cc in ap (λ (y : Applied). y �
 take_one (x ∷ h) (suc k) e s = ap (λ l. x ∷ l) (take_one h k e s)
 
 -- before each entry's record stands the stamp that its component had before
-pub prev_before_entry : (o : Opening) (words : List ℕ) (h : List Applied) (k : ℕ) (e : Applied) → Agrees o words h → e.component < length o.values → slice_get h k ≡ Some e → prev_of words e.stamp ≡ stamp_of o (take k h) e.component
+pub prev_before_entry : (o : Opening) (words : List ℕ) (h : List Applied) (k : ℕ) (e : Applied) → Agrees o words h → e.component < length o.values → slice_get h k ≡ Some e →
+    prev_of words e.stamp ≡ stamp_of o (take k h) e.component
 unfolding newest
 prev_before_entry o words h k e agrees below stands =
     let j = e.component in
@@ -198,9 +212,11 @@ prev_before_entry o words h k e agrees below stands =
     let part = chain_then words (get_or words j 0) initial [] j (k + 1) h (agrees j below).1 in
     let next : k + 1 ≡ suc k = omega arith in
     let one_more : take (k + 1) h ≡ take k h ++ e ∷ [] = ap (λ n. take n h) next ∙ take_one h k e stands in
-    let links : chain_of o j (take (k + 1) h) ≡ record { stamp = e.stamp; value = e.value } ∷ chain_of o j (take k h) = ap (chain_of o j) one_more ∙ links_from-push (initial ∷ []) j (take k h) e ∙ ap (λ b. cond b (record { stamp = e.stamp; value = e.value } ∷ chain_of o j (take k h)) (chain_of o j (take k h))) (eq-eqb j j refl) in
+    let links : chain_of o j (take (k + 1) h) ≡ record { stamp = e.stamp; value = e.value } ∷ chain_of o j (take k h) = ap (chain_of o j) one_more ∙ links_from-push (initial ∷ []) j
+    (take k h) e ∙ ap (λ b. cond b (record { stamp = e.stamp; value = e.value } ∷ chain_of o j (take k h)) (chain_of o j (take k h))) (eq-eqb j j refl) in
     let first = newest_first o j (take k h) in
-    first_two words part.0 (record { stamp = e.stamp; value = e.value }) (newest o j (last_from None j (take k h))) first.0 (subst (IsChain words part.0) (links ∙ ap (λ ls. record { stamp = e.stamp; value = e.value } ∷ ls) first.1) part.1)
+    first_two words part.0 (record { stamp = e.stamp; value = e.value }) (newest o j (last_from None j (take k h))) first.0
+    (subst (IsChain words part.0) (links ∙ ap (λ ls. record { stamp = e.stamp; value = e.value } ∷ ls) first.1) part.1)
 
 -- the records of the components, of the entries, and those before them lie within the words
 pub records_within : (o : Opening) (words : List ℕ) (h : List Applied) → Agrees o words h → LieWithin o words h
@@ -212,7 +228,8 @@ records_within o words h agrees = record {
   entries = λ k e stands below.
       let next : k + 1 ≡ suc k = omega arith in
       let one_more : take (k + 1) h ≡ take k h ++ e ∷ [] = ap (λ n. take n h) next ∙ take_one h k e stands in
-      let stamp : stamp_of o (take (k + 1) h) e.component ≡ e.stamp = ap (λ (l : List Applied). stamp_of o l e.component) one_more ∙ stamp_of-push o (take k h) e e.component ∙ ap (λ b. cond b e.stamp (stamp_of o (take k h) e.component)) (eq-eqb e.component e.component refl) in
+      let stamp : stamp_of o (take (k + 1) h) e.component ≡ e.stamp = ap (λ (l : List Applied). stamp_of o l e.component) one_more ∙ stamp_of-push o
+      (take k h) e e.component ∙ ap (λ b. cond b e.stamp (stamp_of o (take k h) e.component)) (eq-eqb e.component e.component refl) in
       let within = record_within o words h e.component (k + 1) agrees below in
       omega (arith, stamp, within);
   before = λ k e stands below.

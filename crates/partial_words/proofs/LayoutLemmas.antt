@@ -104,7 +104,8 @@ opening_agrees s o words opens j below =
     let pool : 3 * s.m ≤ s.pool = opens.sizes.pool.0 in
     let named : slice_index words j ≡ pool_base s + 3 * j = opens.words.each j (omega arith) ∙ opening_component s o.values j in' in
     let prev : slice_index words (pool_base s + 3 * j) ≡ 0 = opens.words.each (pool_base s + 3 * j) (omega arith) ∙ opening_record s o.values (3 * j) (omega arith) ∙ initial_prev o.values j in
-    let value : slice_index words (pool_base s + (3 * j + 1)) ≡ slice_index o.values j = opens.words.each (pool_base s + (3 * j + 1)) (omega arith) ∙ opening_record s o.values (3 * j + 1) (omega arith) ∙ initial_value o.values j in
+    let value : slice_index words (pool_base s + (3 * j + 1)) ≡ slice_index o.values j = opens.words.each (pool_base s + (3 * j + 1)) (omega arith) ∙ opening_record s o.values (3 * j + 1)
+    (omega arith) ∙ initial_value o.values j in
     let stamp : o.first + 3 * j ≡ pool_base s + 3 * j = ap (λ n. n + 3 * j) opens.stamps in
     let next : slice_index words j + 1 ≡ pool_base s + (3 * j + 1) = omega (arith, named) in
     let count : length words ≡ total s = opens.words.count in

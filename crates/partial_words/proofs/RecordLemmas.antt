@@ -48,14 +48,16 @@ pub length-record_block : (prev value view : ℕ) (p : ℕ × ℕ) (ps : List (�
 length-record_block prev value view p ps = omega (arith, length-pairs ps)
 
 -- the first three words of a record, with a view of its own or without
-pub first_words : (words : List ℕ) (at prev value view : ℕ) (pairs : List (ℕ × ℕ)) → StandsAt words at (record_block prev value view pairs) → (get_or words at 0 ≡ prev) × (get_or words (at + 1) 0 ≡ value) × (get_or words (at + 2) 0 ≡ view)
+pub first_words : (words : List ℕ) (at prev value view : ℕ) (pairs : List (ℕ × ℕ)) → StandsAt words at (record_block prev value view pairs) → (get_or words at 0 ≡ prev) ×
+    (get_or words (at + 1) 0 ≡ value) × (get_or words (at + 2) 0 ≡ view)
 first_words words at prev value view [] stands =
     (ap (λ n. get_or words n 0) (omega arith) ∙ (stands 0 (lit< tt)).1, (stands 1 (lit< tt)).1, (stands 2 (lit< tt)).1)
 first_words words at prev value view (p ∷ ps) stands =
     (ap (λ n. get_or words n 0) (omega arith) ∙ (stands 0 (omega arith)).1, (stands 1 (omega arith)).1, (stands 2 (omega arith)).1)
 
 -- word i of the pairs of a record that stands in the words
-pair_stands : (words : List ℕ) (at prev value view : ℕ) (pairs : List (ℕ × ℕ)) (i : ℕ) → StandsAt words at (record_block prev value view pairs) → i < 2 * length pairs → get_or words (at + 4 + i) 0 ≡ get_or (flat_map pair_words pairs) i 0
+pair_stands : (words : List ℕ) (at prev value view : ℕ) (pairs : List (ℕ × ℕ)) (i : ℕ) → StandsAt words at (record_block prev value view pairs) → i < 2 * length pairs →
+    get_or words (at + 4 + i) 0 ≡ get_or (flat_map pair_words pairs) i 0
 pair_stands words at prev value view [] i stands within = absurd (omega arith)
 pair_stands words at prev value view (p ∷ ps) i stands within =
     ap (λ n. get_or words n 0) (omega arith) ∙ (stands (4 + i) (omega (arith, length-pairs ps))).1 ∙ block_word prev value view i (p ∷ ps) within
@@ -64,10 +66,13 @@ count_stands : (words : List ℕ) (at prev value view : ℕ) (pairs : List (ℕ 
 count_stands words at prev value view [] stands some = absurd (omega arith)
 count_stands words at prev value view (p ∷ ps) stands some = (stands 3 (omega arith)).1
 
-pair_read_back : (words : List ℕ) (at prev value view : ℕ) (pairs : List (ℕ × ℕ)) (k : ℕ) (d : ℕ × ℕ) → StandsAt words at (record_block prev value view pairs) → k < length pairs → view_pair words (at + 3) k ≡ get_or pairs k d
+pair_read_back : (words : List ℕ) (at prev value view : ℕ) (pairs : List (ℕ × ℕ)) (k : ℕ) (d : ℕ × ℕ) → StandsAt words at (record_block prev value view pairs) → k < length pairs →
+    view_pair words (at + 3) k ≡ get_or pairs k d
 pair_read_back words at prev value view pairs k d stands within =
-    let index : get_or words (at + 3 + 1 + 2 * k) 0 ≡ (get_or pairs k d).0 = ap (λ n. get_or words n 0) (omega arith) ∙ pair_stands words at prev value view pairs (2 * k) stands (omega arith) ∙ pairs_even pairs k d within in
-    let value' : get_or words (at + 3 + 2 + 2 * k) 0 ≡ (get_or pairs k d).1 = ap (λ n. get_or words n 0) (omega arith) ∙ pair_stands words at prev value view pairs (1 + 2 * k) stands (omega arith) ∙ pairs_odd pairs k d within in
+    let index : get_or words (at + 3 + 1 + 2 * k) 0 ≡ (get_or pairs k d).0 = ap (λ n. get_or words n 0) (omega arith) ∙ pair_stands words at prev value view pairs (2 * k) stands
+    (omega arith) ∙ pairs_even pairs k d within in
+    let value' : get_or words (at + 3 + 2 + 2 * k) 0 ≡ (get_or pairs k d).1 = ap (λ n. get_or words n 0) (omega arith) ∙ pair_stands words at prev value view pairs (1 + 2 * k) stands
+    (omega arith) ∙ pairs_odd pairs k d within in
     ap (λ n. (n, get_or words (at + 3 + 2 + 2 * k) 0)) index ∙ ap (λ n. ((get_or pairs k d).0, n)) value'
 
 pub reads_back : (words : List ℕ) (at prev value view : ℕ) (pairs : List (ℕ × ℕ)) → StandsAt words at (record_block prev value view pairs) → ReadsBackRecord words at prev value view pairs

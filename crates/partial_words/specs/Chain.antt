@@ -65,3 +65,11 @@ pub record OpensWith (s : Layout) (o : Opening) (all : List ℕ) : Type 0 where
   pub values : length o.values ≡ s.m
   pub stamps : o.first ≡ pool_base s
   pub words : AreOpeningWords s o.values all
+
+-- the words at opening agree with the empty history
+abbrev pub OpeningWordsAgree : Type 0
+OpeningWordsAgree = (s : Layout) (o : Opening) (words : List ℕ) → OpensWith s o words → Agrees o words []
+
+-- in words that agree with a history all records lie within the words
+abbrev pub RecordsLieWithin : Type 0
+RecordsLieWithin = (o : Opening) (words : List ℕ) (h : List Applied) → Agrees o words h → LieWithin o words h

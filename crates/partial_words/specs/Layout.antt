@@ -8,16 +8,19 @@ pub record Layout : Type 0 where
   pub lists : ℕ
   pub pool : ℕ
 
--- the range of each size
+-- the number of components is in its range
 abbrev pub AreComponents : Layout → Type 0
 AreComponents s = (1 ≤ s.m) × (s.m ≤ 65536)
 
+-- the number of slots is in its range
 abbrev pub AreSlots : Layout → Type 0
 AreSlots s = (1 ≤ s.slots) × (s.slots ≤ 65536)
 
+-- the number of list words is in its range
 abbrev pub AreLists : Layout → Type 0
 AreLists s = s.lists ≤ 65536
 
+-- the number of pool words is in its range, with room for the initial records
 abbrev pub ArePool : Layout → Type 0
 ArePool s = (3 * s.m ≤ s.pool) × (s.pool ≤ 4194304)
 
@@ -28,54 +31,67 @@ pub record IsLayout (s : Layout) : Type 0 where
   pub lists : AreLists s
   pub pool : ArePool s
 
--- the word numbers
+-- the word of component j
 abbrev pub component_word : Layout → ℕ → ℕ
 component_word s j = j
 
+-- the word that counts the slots that were claimed
 abbrev pub slot_counter : Layout → ℕ
 slot_counter s = s.m
 
+-- the word that refers to the published list of vacated slots
 abbrev pub list_head : Layout → ℕ
 list_head s = s.m + 1
 
+-- the word that refers to the first pool word that isn't claimed
 abbrev pub pool_counter : Layout → ℕ
 pool_counter s = s.m + 2
 
+-- the word that refers to the first list word that isn't claimed
 abbrev pub list_counter : Layout → ℕ
 list_counter s = s.m + 3
 
+-- the word of slot l
 abbrev pub slot_word : Layout → ℕ → ℕ
 slot_word s l = s.m + 4 + l
 
+-- the first list word
 abbrev pub list_base : Layout → ℕ
 list_base s = s.m + 4 + s.slots
 
+-- the word behind the list words
 abbrev pub list_end : Layout → ℕ
 list_end s = s.m + 4 + s.slots + s.lists
 
+-- the first pool word
 abbrev pub pool_base : Layout → ℕ
 pool_base s = s.m + 4 + s.slots + s.lists
 
+-- the word behind the pool
 abbrev pub pool_end : Layout → ℕ
 pool_end s = s.m + 4 + s.slots + s.lists + s.pool
 
+-- how many words there are
 abbrev pub total : Layout → ℕ
 total s = s.m + 4 + s.slots + s.lists + s.pool
 
--- the initial record of component j, how many words all of them have, and the first pool word behind them
+-- the place of the initial record of component j
 abbrev pub initial_record : Layout → ℕ → ℕ
 initial_record s j = pool_base s + 3 * j
 
+-- how many words the initial records take
 abbrev pub initial_words : Layout → ℕ
 initial_words s = 3 * s.m
 
+-- the first pool word behind the initial records
 abbrev pub first_free : Layout → ℕ
 first_free s = pool_base s + 3 * s.m
 
--- the greatest claims: of pool words a record with a view of all components, of list words a list in which every second slot stands
+-- how many words a record takes at most: one with a view of all components
 abbrev pub greatest_record : Layout → ℕ
 greatest_record s = 4 + 2 * s.m
 
+-- how many words a list takes at most: one in which every second slot stands
 abbrev pub greatest_list : Layout → ℕ
 greatest_list s = s.slots + 2
 
@@ -90,7 +106,7 @@ pub data Region : Type 0 where
   Lists : Region
   Pool : Region
 
--- the first word of a region, and the word behind its last one
+-- the first word of a region
 abbrev pub first_word : Layout → Region → ℕ
 first_word s Components = 0
 first_word s SlotCounter = slot_counter s
@@ -101,6 +117,7 @@ first_word s Slots = slot_word s 0
 first_word s Lists = list_base s
 first_word s Pool = pool_base s
 
+-- the word behind a region
 abbrev pub end_word : Layout → Region → ℕ
 end_word s Components = s.m
 end_word s SlotCounter = slot_counter s + 1
@@ -120,3 +137,7 @@ pub record AreRegionsOf (s : Layout) : Type 0 where
   pub cover : (w : ℕ) → w < total s → (region : Region) × StandsIn s w region
   pub disjoint : (w : ℕ) (a b : Region) → StandsIn s w a → StandsIn s w b → a ≡ b
   pub within : (w : ℕ) (region : Region) → StandsIn s w region → w < total s
+
+-- the same, whatever the sizes are
+abbrev pub RegionsAreApart : Type 0
+RegionsAreApart = (s : Layout) → AreRegionsOf s

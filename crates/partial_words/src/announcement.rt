@@ -1,8 +1,7 @@
 //! The words of an announcement: the indices for which a scan asks.
 
-ghost use Rattle.std.specs.Prelude.{◌≡◌, ℕ, ◌+◌, ◌^◌, ◌<◌, List, length, slice_index};
-ghost use Rattle.partial_words.specs.Record.{StandsAt};
-ghost use Rattle.partial_words.specs.Announcement.{announcement_block, announcement_size, announced_word, announced_len, announced, ReadsBackAnnouncement};
+ghost use Rattle.std.specs.Prelude.{◌≡◌, ◌+◌, ◌^◌, ◌<◌, length, slice_index};
+ghost use Rattle.partial_words.specs.Announcement.{announcement_block, announcement_size, announced_word, announced_len, announced};
 
 /// How many words an announcement of that many indices has.
 pub fn announcement_size(indices: u64) -> u64
@@ -38,12 +37,6 @@ pub fn announced(words: &[u64], at: usize, k: usize) -> u64
 {
     words[at + 1 + k]
 }
-
-/// What the writer of an announcement gave, its readers read back, for every announcement that stands
-/// in the words.
-pub fn announcements_read_back()
-    ensures { (words : List ℕ) (at : ℕ) (indices : List ℕ) → StandsAt words at (announcement_block indices) → ReadsBackAnnouncement words at indices }
-{}
 
 #[cfg(test)]
 mod tests {

@@ -3,12 +3,17 @@
 #![tactic(auto)]
 
 pub mod announcement;
+pub mod law;
 pub mod list;
 pub mod record;
 pub mod sizes;
 pub mod step;
 
 pub use announcement::{announced, announced_len, announcement_block_word, announcement_size};
+pub use law::{
+    announcements_read_back, lists_read_back, opening_words_agree, records_lie_within,
+    records_read_back, regions_are_apart,
+};
 pub use list::{interval, list_block_word, list_len, list_size};
 pub use record::{
     Link, full_record_size, own_view, plain_record_size, prev_of, record_block_word, value_of,

@@ -1,8 +1,7 @@
 //! The words of a list of vacated slots.
 
-ghost use Rattle.std.specs.Prelude.{◌≡◌, ℕ, ◌+◌, ◌*◌, ◌^◌, ◌<◌, List, length, slice_index};
-ghost use Rattle.partial_words.specs.Record.{StandsAt};
-ghost use Rattle.partial_words.specs.VacatedList.{list_block, list_size, high_word, list_len, interval, ReadsBackList};
+ghost use Rattle.std.specs.Prelude.{◌≡◌, ◌+◌, ◌*◌, ◌^◌, ◌<◌, length, slice_index};
+ghost use Rattle.partial_words.specs.VacatedList.{list_block, list_size, high_word, list_len, interval};
 
 use partial_intervals::Intervals;
 
@@ -45,11 +44,6 @@ pub fn interval(words: &[u64], at: usize, k: usize) -> (u64, u64)
 {
     (words[at + 1 + 2 * k], words[at + 2 + 2 * k])
 }
-
-/// What the writer of a list gave, its readers read back, for every list that stands in the words.
-pub fn lists_read_back()
-    ensures { (words : List ℕ) (at : ℕ) (intervals : List (ℕ × ℕ)) → StandsAt words at (list_block intervals) → ReadsBackList words at intervals }
-{}
 
 #[cfg(test)]
 mod tests {

@@ -1,11 +1,8 @@
 //! The words of a record and of its view, and their readers.
 
-ghost use Rattle.std.specs.Prelude.{◌≡◌, ℕ, ◌+◌, ◌*◌, ◌^◌, ◌<◌, List, length, slice_index};
+ghost use Rattle.std.specs.Prelude.{◌≡◌, ◌+◌, ◌*◌, ◌^◌, ◌<◌, length, slice_index};
 ghost use Rattle.std.specs.List.{flat_map};
-ghost use Rattle.partial_model.specs.declared.history.Applied.{Applied};
-ghost use Rattle.partial_model.specs.declared.history.Opening.{Opening};
-ghost use Rattle.partial_words.specs.Chain.{Agrees, LieWithin};
-ghost use Rattle.partial_words.specs.Record.{pair_words, record_block, view_size, plain_record_size, full_record_size, value_word, view_word, own_view, pair_value_word, StandsAt, ReadsBackRecord, prev_of, value_of, view_of, view_len, view_pair};
+ghost use Rattle.partial_words.specs.Record.{pair_words, record_block, view_size, plain_record_size, full_record_size, value_word, view_word, own_view, pair_value_word, prev_of, value_of, view_of, view_len, view_pair};
 
 /// A record of a component's chain: its reference, which is its stamp, and its value.
 #[derive(Clone, Copy, Debug, PartialEq, Eq)]
@@ -134,17 +131,6 @@ pub fn view_pair(words: &[u64], at: usize, k: usize) -> (u64, u64)
 {
     (words[at + 1 + 2 * k], words[at + 2 + 2 * k])
 }
-
-/// What the writer of a record gave, its readers read back, for every record that stands in the words.
-pub fn records_read_back()
-    ensures { (words : List ℕ) (at prev value view : ℕ) (pairs : List (ℕ × ℕ)) → StandsAt words at (record_block prev value view pairs) → ReadsBackRecord words at prev value view pairs }
-{}
-
-/// In words that agree with a history all records lie within the words: those of the components, those of
-/// the entries, and those before them.
-pub fn records_lie_within()
-    ensures { (o : Opening) (words : List ℕ) (h : List Applied) → Agrees o words h → LieWithin o words h }
-{}
 
 #[cfg(test)]
 mod tests {

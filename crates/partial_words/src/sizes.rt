@@ -1,9 +1,7 @@
 //! The sizes of a memory and the numbers of its words.
 
-ghost use Rattle.std.specs.Prelude.{◌≡◌, ℕ, ◌+◌, ◌*◌, ◌<◌, ◌≤◌, ◌^◌, List, [], length, IfOk, IfErr};
-ghost use Rattle.partial_model.specs.declared.history.Opening.{Opening};
-ghost use Rattle.partial_words.specs.Layout.{Layout, AreRegionsOf};
-ghost use Rattle.partial_words.specs.Chain.{OpensWith, Agrees};
+ghost use Rattle.std.specs.Prelude.{◌≡◌, ◌+◌, ◌*◌, ◌<◌, length, IfOk, IfErr};
+ghost use Rattle.partial_words.specs.Layout.{Layout};
 
 use std::marker::Model;
 use thiserror::Error;
@@ -252,16 +250,6 @@ impl Sizes {
         }
     }
 }
-
-/// Each word below the total stands in one region and in no other, whatever the sizes are.
-pub fn regions_are_apart()
-    ensures { (s : Layout) → AreRegionsOf s }
-{}
-
-/// The words at opening agree with the empty history: each component word names its initial record.
-pub fn opening_words_agree()
-    ensures { (s : Layout) (o : Opening) (words : List ℕ) → OpensWith s o words → Agrees o words [] }
-{}
 
 #[cfg(test)]
 mod tests {

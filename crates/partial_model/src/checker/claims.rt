@@ -11,7 +11,8 @@ use crate::history::Applied;
 // The first place of an entry by the port, from that place on.
 fn next_place(history: &[Applied], port: u32, from: usize) -> Option<usize>
     ensures { MatchOption result (places_from history.now port from ≡ [])
-        (λ k. (k < length history.now) × (places_from history.now port from ≡ k ∷ places_from history.now port (k + 1))) }
+        (λ k. (k < length history.now) × (places_from history.now port from ≡ k ∷
+        places_from history.now port (k + 1))) }
 {
     for place in from..history.len() {
         if history[place].port == port {

@@ -15,10 +15,14 @@ entry_stands : (h : List Applied) (began place : ℕ) → began < place → plac
 entry_stands h began place below within = slice_get-get_or h (place - 1) (record { port = 0; component = 0; value = 0; stamp = 0 }) (omega (arith, below, within))
 
 -- one step of the loop, whichever place is the least then
-stepped : (wanted : List (Option ℕ)) (first marks after : List Bool) (words : List ℕ) (h : List Applied) (began place least next : ℕ) → began < place → place ≤ length h → length wanted ≡ length first → ((k : ℕ) (e : Applied) → slice_get h k ≡ Some e → HasRecord words (length wanted) e) → after ≡ marks_before (get_or wanted (entry_before h place).component None) marks (entry_before h place).component (value_of words (prev_of words (entry_before h place).stamp)) → ((count_by (λ b. b) after ≡ 0) × (next ≡ place - 1)) ⊎ ((count_by (λ b. b) after ≢ 0) × (next ≡ least)) → IsWalked wanted first marks words h began place least → IsWalked wanted first after words h began (place - 1) next
+stepped : (wanted : List (Option ℕ)) (first marks after : List Bool) (words : List ℕ) (h : List Applied) (began place least next : ℕ) → began < place → place ≤ length h →
+    length wanted ≡ length first → ((k : ℕ) (e : Applied) → slice_get h k ≡ Some e → HasRecord words (length wanted) e) → after ≡ marks_before (get_or wanted (entry_before h place).component None)
+    marks (entry_before h place).component (value_of words (prev_of words (entry_before h place).stamp)) → ((count_by (λ b. b) after ≡ 0) × (next ≡ place - 1)) ⊎
+    ((count_by (λ b. b) after ≢ 0) × (next ≡ least)) → IsWalked wanted first marks words h began place least → IsWalked wanted first after words h began (place - 1) next
 stepped wanted first marks after words h began place least next below within rooms entries taken which walked =
     let stands = entry_stands h began place below within in
-    walked_back wanted first marks after words h began place (place - 1) least next (entry_before h place) stands (omega (arith, below)) (omega (arith, below)) rooms (entries (place - 1) (entry_before h place) stands).component taken which walked
+    walked_back wanted first marks after words h began place (place - 1) least next (entry_before h place) stands (omega (arith, below)) (omega (arith, below)) rooms
+    (entries (place - 1) (entry_before h place) stands).component taken which walked
 
 pub loop-place-init : goal.loop-place-init
 loop-place-init c = walked_at_end c.args.wanted.now c.args.differing.now c.args.words.now c.args.history.now c.args.began
@@ -31,13 +35,16 @@ take_back-requires-clause-record c =
 pub loop-place-preserved-then-are_none : goal.loop-place-preserved-then-are_none
 loop-place-preserved-then-are_none c =
     let none : count_by (λ b. b) c.take_back.new.differing ≡ 0 = eqb-true (count_by (λ b. b) c.take_back.new.differing) 0 (sym c.are_none.ensures ∙ c.if-are_none.true) in
-    stepped c.args.wanted.now c.args.differing.now c.loop-place.differing c.take_back.new.differing c.args.words.now c.args.history.now c.args.began c.loop-place.place c.loop-place.least (c.loop-place.place - 1)
+    stepped c.args.wanted.now c.args.differing.now c.loop-place.differing c.take_back.new.differing c.args.words.now c.args.history.now c.args.began c.loop-place.place c.loop-place.least
+    (c.loop-place.place - 1)
     c.loop-place-test.true c.loop-place.auto.place c.requires.room c.requires.entries c.take_back.ensures (inl (none, refl)) c.loop-place.invariant
 
 pub loop-place-preserved : goal.loop-place-preserved
 loop-place-preserved c =
-    let some : count_by (λ b. b) c.take_back.new.differing ≢ 0 = λ is. absurd (false≢true (sym (sym c.are_none.ensures ∙ c.if-are_none.false) ∙ eq-eqb (count_by (λ b. b) c.take_back.new.differing) 0 is)) in
-    stepped c.args.wanted.now c.args.differing.now c.loop-place.differing c.take_back.new.differing c.args.words.now c.args.history.now c.args.began c.loop-place.place c.loop-place.least c.loop-place.least
+    let some : count_by (λ b. b) c.take_back.new.differing ≢ 0 = λ is. absurd
+    (false≢true (sym (sym c.are_none.ensures ∙ c.if-are_none.false) ∙ eq-eqb (count_by (λ b. b) c.take_back.new.differing) 0 is)) in
+    stepped c.args.wanted.now c.args.differing.now c.loop-place.differing c.take_back.new.differing c.args.words.now c.args.history.now c.args.began c.loop-place.place
+    c.loop-place.least c.loop-place.least
     c.loop-place-test.true c.loop-place.auto.place c.requires.room c.requires.entries c.take_back.ensures (inr (some, refl)) c.loop-place.invariant
 
 pub returns-clause-least : goal.returns-clause-least

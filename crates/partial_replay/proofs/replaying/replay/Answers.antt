@@ -4,8 +4,8 @@ use Rattle.std.proofs.lemmas.List.{take_all}
 use Rattle.std.proofs.lemmas.Bool.{false≢true}
 use Rattle.partial_model.specs.declared.call.Call.{Call}
 use Rattle.partial_replay.specs.declared.run.Run.{Run}
-use Rattle.partial_replay.specs.RunState.{Tells, ArePlans, IsBetweenTurns}
-use Rattle.partial_replay.specs.TurnState.{StopAtSteps, HasMadeTurns, TurnsMade, HaveBegun}
+use Rattle.partial_replay.specs.Inner.RunState.{Tells, ArePlans, IsBetweenTurns}
+use Rattle.partial_replay.specs.Inner.TurnState.{StopAtSteps, HasMadeTurns, TurnsMade, HaveBegun}
 use Rattle.partial_replay.specs.Replayed.{IsReplayOf}
 use Rattle.partial_replay.proofs.Plans.{are_plans}
 use Rattle.partial_model.specs.declared.history.Opening.{Opening}
@@ -33,7 +33,8 @@ returns c =
     let plans = c.ports-plans.result.now in
     let outcome = c.in_ok-into_outcome.field-0 in
     let is = c.ports-plans.ensures.value in
-    let told : (run : Run) → c.if-rest.run ≡ run → IsBetweenTurns plans run → run.memory.sizes ≡ p.sizes → run.opening.values ≡ p.initial → HasMadeTurns plans (turns_of p) run → HaveBegun plans (turns_of p) run → (p.rest ≡ false → StopAtSteps p.steps run) → IsReplayOf p outcome = λ run same w sizes values f begun ends.
+    let told : (run : Run) → c.if-rest.run ≡ run → IsBetweenTurns plans run → run.memory.sizes ≡ p.sizes → run.opening.values ≡ p.initial → HasMadeTurns plans (turns_of p) run →
+    HaveBegun plans (turns_of p) run → (p.rest ≡ false → StopAtSteps p.steps run) → IsReplayOf p outcome = λ run same w sizes values f begun ends.
     replay_told p run outcome (subst (λ (l : List (List Call)). IsBetweenTurns l run) is w) sizes values
     (subst (λ (l : List (List Call)). HasMadeTurns l (turns_of p) run) is f)
     (subst (λ (l : List (List Call)). HaveBegun l (turns_of p) run) is begun) ends
@@ -45,12 +46,17 @@ returns c =
           let i = w.loop-p-then-rest.invariant in
           let all : w.loop-p-then-rest.p ≡ length p.ports = (let n = ap length is in omega (arith, n, w.loop-p-then-rest-test.false, w.loop-p-then-rest.auto.p-end)) in
           let turns : map so_many p.steps ++ map to_its_end (range_with_len 0 w.loop-p-then-rest.p) ≡ turns_of p =
-          ap (λ n. map so_many p.steps ++ map to_its_end (range_with_len 0 n)) all ∙ ap (λ (b : Bool). map so_many p.steps ++ cond b (map to_its_end (range_with_len 0 (length p.ports))) []) w.if-rest.ensures.value in
-          told w.loop-p-then-rest.run w.run-is i.between i.sizes i.values (subst (λ (es : List (ℕ × Option ℕ)). HasMadeTurns plans es w.loop-p-then-rest.run) turns i.turns) (subst (λ (es : List (ℕ × Option ℕ)). HaveBegun plans es w.loop-p-then-rest.run) turns i.begun) (λ no. absurd (false≢true (sym no ∙ sym w.if-rest.ensures.value)))
+          ap (λ n. map so_many p.steps ++ map to_its_end (range_with_len 0 n)) all ∙ ap (λ (b : Bool). map so_many p.steps ++ cond b (map to_its_end (range_with_len 0 (length p.ports))) [])
+          w.if-rest.ensures.value in
+          told w.loop-p-then-rest.run w.run-is i.between i.sizes i.values (subst (λ (es : List (ℕ × Option ℕ)). HasMadeTurns plans es w.loop-p-then-rest.run) turns i.turns)
+          (subst (λ (es : List (ℕ × Option ℕ)). HaveBegun plans es w.loop-p-then-rest.run) turns i.begun) (λ no. absurd (false≢true (sym no ∙ sym w.if-rest.ensures.value)))
       | else-rest w ↦
           let i = c.loop-p.invariant in
-          let turns : map so_many (take c.loop-p.p-index p.steps) ≡ turns_of p = front ∙ ap (λ (b : Bool). map so_many p.steps ++ cond b (map to_its_end (range_with_len 0 (length p.ports))) []) w.if-rest.ensures.value in
-          told c.loop-p.run w.run-is i.between i.sizes i.values (subst (λ (es : List (ℕ × Option ℕ)). HasMadeTurns plans es c.loop-p.run) turns i.turns) (subst (λ (es : List (ℕ × Option ℕ)). HaveBegun plans es c.loop-p.run) turns i.begun) (λ no. subst (λ (l : List (ℕ × ℕ)). StopAtSteps l c.loop-p.run) (take_all c.loop-p.p-index p.steps (omega (arith, c.loop-p-test.false, steps))) i.ending)
+          let turns : map so_many (take c.loop-p.p-index p.steps) ≡ turns_of p = front ∙ ap (λ (b : Bool). map so_many p.steps ++ cond b (map to_its_end (range_with_len 0 (length p.ports))) [])
+          w.if-rest.ensures.value in
+          told c.loop-p.run w.run-is i.between i.sizes i.values (subst (λ (es : List (ℕ × Option ℕ)). HasMadeTurns plans es c.loop-p.run) turns i.turns)
+          (subst (λ (es : List (ℕ × Option ℕ)). HaveBegun plans es c.loop-p.run) turns i.begun)
+          (λ no. subst (λ (l : List (ℕ × ℕ)). StopAtSteps l c.loop-p.run) (take_all c.loop-p.p-index p.steps (omega (arith, c.loop-p-test.false, steps))) i.ending)
     ]
 
 pub loop-p-init : goal.loop-p-init
@@ -98,7 +104,8 @@ loop-p-preserved c =
       sizes = same.sizes ∙ old.sizes;
       values = ap (λ (o : Opening). o.values) same.opening ∙ old.values;
       turns = subst (λ (es : List (ℕ × Option ℕ)). HasMadeTurns plans es new) (sym next) (followed plans (map so_many (take i p.steps)) e.0 (Some e.1) run new old.turns t);
-      begun = subst (λ (es : List (ℕ × Option ℕ)). HaveBegun plans es new) (sym next) (begun_next plans (map so_many (take i p.steps)) e.0 (Some e.1) run new old.between.replay.state same old.turns old.begun t);
+      begun = subst (λ (es : List (ℕ × Option ℕ)). HaveBegun plans es new) (sym next)
+          (begun_next plans (map so_many (take i p.steps)) e.0 (Some e.1) run new old.between.replay.state same old.turns old.begun t);
       ending = ending_next plans p.steps i run new below old.turns old.ending t;
     }
 
@@ -109,7 +116,13 @@ loop-p-then-rest-init c =
     let old = c.loop-p.invariant in
     let steps : length c.steps-p-items.result.now ≡ length p.steps = ap length c.steps-p-items.ensures.value in
     let front = all_steps p.steps c.loop-p.p-index (omega (arith, c.loop-p-test.false, steps)) in
-    record { between = old.between; sizes = old.sizes; values = old.values; turns = subst (λ (es : List (ℕ × Option ℕ)). HasMadeTurns plans es c.loop-p.run) front old.turns; begun = subst (λ (es : List (ℕ × Option ℕ)). HaveBegun plans es c.loop-p.run) front old.begun }
+    record {
+      between = old.between;
+      sizes = old.sizes;
+      values = old.values;
+      turns = subst (λ (es : List (ℕ × Option ℕ)). HasMadeTurns plans es c.loop-p.run) front old.turns;
+      begun = subst (λ (es : List (ℕ × Option ℕ)). HaveBegun plans es c.loop-p.run) front old.begun;
+    }
 
 pub loop-p-then-rest-preserved : goal.loop-p-then-rest-preserved
 loop-p-then-rest-preserved c =

@@ -8,8 +8,8 @@ use Rattle.std.specs.declared.alloc.Global.{Global}
 use Rattle.std.specs.declared.vec.Vec.{Vec}
 use Rattle.partial_model.specs.declared.call.Call.{Call}
 use Rattle.partial_model.specs.declared.call.Called.{Called}
-use Rattle.partial_replay.specs.PortState.{unfinished_call}
-use Rattle.partial_replay.specs.RunState.{calls_in}
+use Rattle.partial_replay.specs.Inner.PortState.{unfinished_call}
+use Rattle.partial_replay.specs.Inner.RunState.{calls_in}
 use Rattle.partial_replay.proofs.Opens.{pair_at, listed_at_place, length-zip, none_in, calls_more, over_is, none_over}
 use Rattle.partial_replay.proofs.PortLaws.{call_at_place}
 use Rattle.partial_replay.proofs.run.calls_of.Goals.{in-Some-under_way+in_ok-unfinished+in_ok-push, in_default}
@@ -75,13 +75,17 @@ loop-port-preserved c =
           let ended : Called = w.in_ok-unfinished.field-0 in
           let within = (listed_at_place plans ports n plan port c.requires here.1 here.0).1 (ap is_some w.in-Some-under_way.is) in
           let same : c.len-done.result ≡ length port.finished.items = omega (arith, port.finished.ok.0, c.len-done.ensures) in
-          let get = call_at_place plan port.finished.items c.len-done.result call same (omega (arith, same, within)) (w.index-as_slice-done.is ∙ ap (λ (l : List Call). get_or l c.len-done.result call) w.as_slice.ensures) in
-          let over = over_is port plan w.in-Some-under_way.way call ended w.in-Some-under_way.is get (w.in_ok-unfinished.ensures ∙ ap (λ i. unfinished_call port.number i call w.in-Some-under_way.way) same) in
-          let is : now ≡ (c.loop-port.calls.items ++ port.finished.items) ++ ended ∷ [] = ap (λ (v : Vec Called Global). v.items) w.calls-is ∙ w.in_ok-push.ensures.items ∙ ap (λ (l : List Called). l ++ ended ∷ []) c.in_ok-append.ensures.items in
+          let get = call_at_place plan port.finished.items c.len-done.result call same (omega (arith, same, within))
+          (w.index-as_slice-done.is ∙ ap (λ (l : List Call). get_or l c.len-done.result call) w.as_slice.ensures) in
+          let over = over_is port plan w.in-Some-under_way.way call ended w.in-Some-under_way.is get
+          (w.in_ok-unfinished.ensures ∙ ap (λ i. unfinished_call port.number i call w.in-Some-under_way.way) same) in
+          let is : now ≡ (c.loop-port.calls.items ++ port.finished.items) ++ ended ∷ [] = ap (λ (v : Vec Called Global). v.items) w.calls-is ∙ w.in_ok-push.ensures.items ∙
+          ap (λ (l : List Called). l ++ ended ∷ []) c.in_ok-append.ensures.items in
           calls_more plans ports n k plan port (ended ∷ []) c.loop-port.calls.items now long here.1 here.0 c.loop-port.invariant over is
       | in_default w ↦
           let over = none_over port (slice_get plan (length port.finished.items)) w.in_default.is in
-          let is : now ≡ (c.loop-port.calls.items ++ port.finished.items) ++ [] = ap (λ (v : Vec Called Global). v.items) w.calls-is ∙ c.in_ok-append.ensures.items ∙ sym (append-nil (c.loop-port.calls.items ++ port.finished.items)) in
+          let is : now ≡ (c.loop-port.calls.items ++ port.finished.items) ++ [] = ap (λ (v : Vec Called Global). v.items) w.calls-is ∙ c.in_ok-append.ensures.items ∙
+          sym (append-nil (c.loop-port.calls.items ++ port.finished.items)) in
           calls_more plans ports n k plan port [] c.loop-port.calls.items now long here.1 here.0 c.loop-port.invariant over is
     ]
 

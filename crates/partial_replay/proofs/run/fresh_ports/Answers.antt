@@ -1,7 +1,7 @@
 use Rattle.std.proofs.Common.{◌+◌, length, ap, ◌∙◌, subst, sym, arith, refl, List}
 use Rattle.std.proofs.lemmas.List.{length_push}
 use Rattle.partial_replay.specs.declared.port.Port.{Port}
-use Rattle.partial_replay.specs.RunState.{FreshFrom}
+use Rattle.partial_replay.specs.Inner.RunState.{FreshFrom}
 use Rattle.partial_replay.proofs.Opens.{fresh_push}
 use Rattle.partial_replay.proofs.run.fresh_ports.Goals as goal
 
@@ -10,5 +10,7 @@ loop-number-preserved c =
     let pushed = c.in_ok-push.ensures.items in
     record {
       count = ap length pushed ∙ length_push c.loop-number.ports.items _ ∙ ap (λ n. n + 1) c.loop-number.invariant.count;
-      fresh = subst (λ (l : List Port). FreshFrom c.args.sizes 0 l) (sym pushed) (fresh_push c.args.sizes 0 c.loop-number.ports.items _ c.loop-number.invariant.fresh (omega (arith, c.loop-number.invariant.count)) c.in_ok-new.ensures c.new-in-loop-number.ensures.items refl);
+      fresh = subst (λ (l : List Port). FreshFrom c.args.sizes 0 l) (sym pushed)
+          (fresh_push c.args.sizes 0 c.loop-number.ports.items _ c.loop-number.invariant.fresh (omega (arith, c.loop-number.invariant.count)) c.in_ok-new.ensures
+          c.new-in-loop-number.ensures.items refl);
     }

@@ -5,4 +5,5 @@ use Rattle.partial_text.proofs.outcome_text.final_values.Goals as goal
 
 pub returns : goal.returns
 returns c =
-    sym (at_drop_all (values_after c.loop-entry.values.items) c.args.history.now c.loop-entry.entry-index c.loop-entry-test.false) ∙ c.loop-entry.invariant ∙ values_after_is c.args.opening.now c.args.history.now
+    sym (at_drop_all (values_after c.loop-entry.values.items) c.args.history.now c.loop-entry.entry-index c.loop-entry-test.false) ∙ c.loop-entry.invariant ∙ values_after_is
+    c.args.opening.now c.args.history.now

@@ -2,10 +2,7 @@ use Rattle.std.proofs.Common.{ℕ, ◌≡◌, ◌≢◌, ◌==◌, Bool, true, f
 use Rattle.partial_model.specs.History.{value_of}
 use Rattle.partial_model.specs.Checks.{hold}
 use Rattle.partial_model.proofs.checker.answers.hold.Goals as goal
-
-and_false : (b : Bool) → (b && false) ≡ false
-and_false true = refl
-and_false false = refl
+use Rattle.partial_model.proofs.StampLaws.{and_false}
 
 -- lists of two lengths hold no values
 hold-lengths : (value : ℕ → ℕ) (js vs : List ℕ) → length js ≢ length vs → hold value js vs ≡ false

@@ -11,10 +11,12 @@ pub loop-place-preserved : goal.loop-place-preserved
 loop-place-preserved c =
     elim c.if-entry-greatest.branch [
       | then-entry-greatest w ↦
-          subst (AreDistinctUpTo c.args.history.now (c.loop-place.place + 1)) (sym w.greatest-is) (above_is_new c.args.history.now c.loop-place.place c.loop-place.greatest _ c.loop-place.invariant c.loop-place-test.true w.if-entry-greatest.true)
+          subst (AreDistinctUpTo c.args.history.now (c.loop-place.place + 1)) (sym w.greatest-is)
+          (above_is_new c.args.history.now c.loop-place.place c.loop-place.greatest _ c.loop-place.invariant c.loop-place-test.true w.if-entry-greatest.true)
       | else-entry-greatest+else-has_stamp w ↦
           subst (AreDistinctUpTo c.args.history.now (c.loop-place.place + 1)) (sym w.greatest-is)
-          (unseen_is_new c.args.history.now c.loop-place.place c.loop-place.greatest _ c.loop-place.invariant c.loop-place-test.true w.if-entry-greatest.false (sym w.has_stamp.ensures ∙ w.if-has_stamp.false))
+          (unseen_is_new c.args.history.now c.loop-place.place c.loop-place.greatest _ c.loop-place.invariant c.loop-place-test.true w.if-entry-greatest.false
+          (sym w.has_stamp.ensures ∙ w.if-has_stamp.false))
     ]
 
 pub returns : goal.returns

@@ -21,6 +21,8 @@ loop-call-preserved c =
     ] in
     let legal : call_is_legal c.args.opening.now c.args.history.now before c.call-item.result ≡ true = sym c.call_is_legal.ensures ∙ c.if-not-call_is_legal.false in
     record {
-      rest = ap (λ n. notes_are_legal c.args.opening.now c.args.history.now c.call-item.result.port n (drop (c.loop-call.call-index + 1) c.args.calls.now)) c.seen_behind-seen.ensures ∙ notes_more c.args.opening.now c.args.history.now c.loop-call.port seen c.args.calls.now c.loop-call.call-index c.call-item.result before c.loop-call-test.true c.call-item.is known legal ∙ c.loop-call.invariant.rest;
+      rest = ap (λ n. notes_are_legal c.args.opening.now c.args.history.now c.call-item.result.port n (drop (c.loop-call.call-index + 1) c.args.calls.now)) c.seen_behind-seen.ensures ∙ notes_more
+          c.args.opening.now c.args.history.now c.loop-call.port seen c.args.calls.now c.loop-call.call-index c.call-item.result before c.loop-call-test.true c.call-item.is known legal ∙
+          c.loop-call.invariant.rest;
       within = subst (λ (n : ℕ). n ≤ length c.args.history.now) (sym c.seen_behind-seen.ensures) (seen_within c.args.opening.now c.args.history.now before c.call-item.result legal within);
     }

@@ -4,7 +4,7 @@ use Rattle.partial_model.proofs.NotesLemmas.{AllByRecursion-get}
 use Rattle.partial_model.specs.declared.call.Called.{Called}
 use Rattle.partial_words.specs.Layout.{Layout}
 use Rattle.partial_machine.specs.Calls.{IsServed}
-use Rattle.partial_replay.specs.PortState.{IsDoneAtOnce}
+use Rattle.partial_replay.specs.Inner.PortState.{IsDoneAtOnce}
 use Rattle.partial_replay.proofs.PortLaws.{begun_fits, once_fits, once_idle, once_sizes, call_at_place, match_none, match_some}
 use Rattle.partial_replay.proofs.PortSteps.{begun_made, once_made}
 use Rattle.partial_replay.proofs.PortTurns.{turn_comes, turn_once, turn_begins}
@@ -19,7 +19,8 @@ begin_call-requires-clause-served c =
     let below : c.len-number.result < length calls = omega (arith, port.finished.ok.0) in
     let same : c.len-number.result ≡ length port.finished.items = omega (arith, port.finished.ok.0) in
     let next : slice_get calls (length port.finished.items) ≡ Some call = call_at_place calls port.finished.items c.len-number.result call same below c.index-calls-number.is in
-    subst (λ (z : Layout). IsServed z.m call) (sym c.loop-alloc.invariant.sizes) (AllByRecursion-get (IsServed c.args.self.now.core.sizes.m) calls (length port.finished.items) call c.requires.served next)
+    subst (λ (z : Layout). IsServed z.m call) (sym c.loop-alloc.invariant.sizes)
+    (AllByRecursion-get (IsServed c.args.self.now.core.sizes.m) calls (length port.finished.items) call c.requires.served next)
 
 pub returns-in-None-clause-fits : goal.returns-in-None-clause-fits
 returns-in-None-clause-fits c o log p x n w =
@@ -29,9 +30,11 @@ returns-in-None-clause-fits c o log p x n w =
     let below : c.len-number.result < length calls = omega (arith, port.finished.ok.0) in
     let same : c.len-number.result ≡ length port.finished.items = omega (arith, port.finished.ok.0) in
     let next : slice_get calls (length port.finished.items) ≡ Some call = call_at_place calls port.finished.items c.len-number.result call same below c.index-calls-number.is in
-    let served = subst (λ (z : Layout). IsServed z.m call) (sym c.loop-alloc.invariant.sizes) (AllByRecursion-get (IsServed c.args.self.now.core.sizes.m) calls (length port.finished.items) call c.requires.served next) in
+    let served = subst (λ (z : Layout). IsServed z.m call) (sym c.loop-alloc.invariant.sizes)
+    (AllByRecursion-get (IsServed c.args.self.now.core.sizes.m) calls (length port.finished.items) call c.requires.served next) in
     let begun = match_none c.in_ok-called.field-0 _ _ c.in_ok-called.ensures c.in-None.is in
-    begun_fits o log calls p x port _ call (c.loop-alloc.invariant.fits o log p x n w) c.loop-alloc.invariant.none next served begun.0 begun.1 refl begun.2 refl (ap (λ m. Some (record { began = m; steps = 0 })) (sym n))
+    begun_fits o log calls p x port _ call (c.loop-alloc.invariant.fits o log p x n w) c.loop-alloc.invariant.none next served begun.0 begun.1 refl begun.2 refl
+    (ap (λ m. Some (record { began = m; steps = 0 })) (sym n))
 
 pub returns-in-None-clause-made : goal.returns-in-None-clause-made
 returns-in-None-clause-made c z p xs m =
@@ -76,7 +79,8 @@ loop-alloc-preserved c =
     let same : c.len-number.result ≡ length port.finished.items = omega (arith, port.finished.ok.0) in
     let next : slice_get calls (length port.finished.items) ≡ Some call = call_at_place calls port.finished.items c.len-number.result call same below c.index-calls-number.is in
     let done : IsDoneAtOnce port.number c.len-number.result call c.args.seen port.core core called = match_some c.in_ok-called.field-0 _ _ called c.in_ok-called.ensures c.in-Some.is in
-    let here : IsDoneAtOnce port.number (length port.finished.items) call c.args.seen port.core core called = subst (λ (n : ℕ). IsDoneAtOnce port.number n call c.args.seen port.core core called) same done in
+    let here : IsDoneAtOnce port.number (length port.finished.items) call c.args.seen port.core core called =
+    subst (λ (n : ℕ). IsDoneAtOnce port.number n call c.args.seen port.core core called) same done in
     let pushed : c.push.new.self.items ≡ port.finished.items ++ called ∷ [] = c.in_ok-push-in-Some.ensures.items in
     let longer : length c.push.new.self.items ≡ length port.finished.items + 1 = ap length pushed ∙ length_push port.finished.items called in
     record {
@@ -85,7 +89,9 @@ loop-alloc-preserved c =
       sizes = once_sizes port.number c.len-number.result call c.args.seen port.core core called done ∙ c.loop-alloc.invariant.sizes;
       few = omega (arith, longer, below, same);
       more = let grown = c.loop-alloc.invariant.more in omega (arith, longer, grown);
-      fits = λ o log p x n w. once_fits o log calls p x port _ call called (c.loop-alloc.invariant.fits o log p x n w) c.loop-alloc.invariant.none next (subst (λ (m : ℕ). IsDoneAtOnce port.number (length port.finished.items) call m port.core core called) (sym n) here) refl pushed c.loop-alloc.invariant.none;
-      turn = λ lengths w. turn_once calls lengths c.args.seen port _ called (omega (arith, below, same)) c.loop-alloc.invariant.none c.loop-alloc.invariant.none done.began done.steps pushed (c.loop-alloc.invariant.turn lengths w);
+      fits = λ o log p x n w. once_fits o log calls p x port _ call called (c.loop-alloc.invariant.fits o log p x n w) c.loop-alloc.invariant.none next
+          (subst (λ (m : ℕ). IsDoneAtOnce port.number (length port.finished.items) call m port.core core called) (sym n) here) refl pushed c.loop-alloc.invariant.none;
+      turn = λ lengths w. turn_once calls lengths c.args.seen port _ called (omega (arith, below, same)) c.loop-alloc.invariant.none c.loop-alloc.invariant.none done.began done.steps pushed
+          (c.loop-alloc.invariant.turn lengths w);
       made = λ z p xs m. once_made z c.args.seen calls p xs port _ call called (c.loop-alloc.invariant.made z p xs m) c.loop-alloc.invariant.none here pushed c.loop-alloc.invariant.none;
     }

@@ -11,10 +11,11 @@ use Rattle.partial_replay.proofs.Opens.{some_same}
 use Rattle.partial_machine.specs.declared.stage.Stage.TheVariants.{Idle}
 use Rattle.partial_model.specs.declared.call.Answer.{Answer}
 use Rattle.partial_replay.specs.declared.memory.Memory.{Memory}
-use Rattle.partial_replay.specs.PortState.{entry_at, one_step_more, IsEndedCall}
-use Rattle.partial_replay.proofs.PortLaws.{answer_idle, step_ended, call_at_place, get_below}
+use Rattle.partial_replay.specs.Inner.PortState.{entry_at, one_step_more, IsEndedCall}
+use Rattle.partial_replay.proofs.PortLaws.{answer_idle, step_ended, call_at_place}
 use Rattle.partial_replay.proofs.port.Port.make_step.Goals as goal
 use Rattle.partial_replay.proofs.port.Port.make_step.Goals.{in-Some+in_ok-push-2, in_default}
+use Rattle.partial_model.proofs.HistoryLemmas.{place_below}
 
 pub returns-in_ok-push-in-Some-take-clause-made : goal.returns-in_ok-push-in-Some-take-clause-made
 returns-in_ok-push-in-Some-take-clause-made c =
@@ -26,9 +27,10 @@ returns-in_ok-push-in-Some-take-clause-made c =
     let new : Memory = c.ended.new.memory in
     let same : new ≡ mid = c.in_ok-called-in-Some-take.ensures.same in
     let number : c.len.result ≡ length port.finished.items = omega (arith, port.finished.ok.0) in
-    let below : c.len.result < length calls = (let n = get_below calls (length port.finished.items) c.requires.may.call c.requires.may.next in omega (arith, number, n)) in
+    let below : c.len.result < length calls = (let n = place_below calls (length port.finished.items) c.requires.may.call c.requires.may.next in omega (arith, number, n)) in
     let next : slice_get calls (length port.finished.items) ≡ Some call = call_at_place calls port.finished.items c.len.result call number below c.index-calls-len.is in
-    let kept = with_items_is memory.words c.perform-answer.new.words (let long = c.perform-answer.auto.words in let front = ap length c.deref_mut.ensures.value in omega (arith, long, front, memory.words.ok.0)) in
+    let kept = with_items_is memory.words c.perform-answer.new.words (let long = c.perform-answer.auto.words in let front =
+    ap length c.deref_mut.ensures.value in omega (arith, long, front, memory.words.ok.0)) in
     let value = c.deref_mut.ensures.value in
     let answer : c.perform-answer.result ≡ answer_of memory.words.items c.unwrap-step.result = c.perform-answer.ensures.answer ∙ ap (λ (ws : List ℕ). answer_of ws c.unwrap-step.result) value in
     let due : c.requires.may.step ≡ c.unwrap-step.result = some_same (sym c.requires.may.due ∙ sym c.step.ensures ∙ c.unwrap-step.ensures) in
@@ -44,11 +46,14 @@ returns-in_ok-push-in-Some-take-clause-made c =
       | in_default w ↦ ap (λ (v : Memory). v.trace.items) w.memory-is ∙ c.in_ok-push.ensures.items
     ] in
     let entry : option_to_list c.entry_of.result ≡ entry_at port.core.sizes.m c.perform-answer.new.words port.number c.unwrap-step.result c.perform-answer.result =
-    c.entry_of.ensures ∙ ap (λ (ws : List ℕ). entry_at memory.sizes.m ws port.number c.unwrap-step.result c.perform-answer.result) (c.deref.ensures.value ∙ kept) ∙ ap (λ m. entry_at m c.perform-answer.new.words port.number c.unwrap-step.result c.perform-answer.result) c.requires.sizes in
+    c.entry_of.ensures ∙ ap (λ (ws : List ℕ). entry_at memory.sizes.m ws port.number c.unwrap-step.result c.perform-answer.result)
+    (c.deref.ensures.value ∙ kept) ∙ ap (λ m. entry_at m c.perform-answer.new.words port.number c.unwrap-step.result c.perform-answer.result) c.requires.sizes in
     let log : mid.history.items ≡ memory.history.items ++ entry_at port.core.sizes.m c.perform-answer.new.words port.number c.unwrap-step.result c.perform-answer.result =
     elim c.match-entry_of.branch [
-      | in-Some+in_ok-push-2 w ↦ ap (λ (v : Memory). v.history.items) w.memory-is ∙ w.in_ok-push-2.ensures.items ∙ ap (λ (l : List Applied). memory.history.items ++ l) (sym (ap option_to_list w.in-Some.is) ∙ entry)
-      | in_default w ↦ ap (λ (v : Memory). v.history.items) w.memory-is ∙ sym (append-nil memory.history.items) ∙ ap (λ (l : List Applied). memory.history.items ++ l) (sym (ap option_to_list w.in_default.is) ∙ entry)
+      | in-Some+in_ok-push-2 w ↦ ap (λ (v : Memory). v.history.items) w.memory-is ∙ w.in_ok-push-2.ensures.items ∙ ap (λ (l : List Applied). memory.history.items ++ l)
+          (sym (ap option_to_list w.in-Some.is) ∙ entry)
+      | in_default w ↦ ap (λ (v : Memory). v.history.items) w.memory-is ∙ sym (append-nil memory.history.items) ∙ ap (λ (l : List Applied). memory.history.items ++ l)
+          (sym (ap option_to_list w.in_default.is) ∙ entry)
     ] in
     let new_words : new.words.items ≡ c.perform-answer.new.words = ap (λ (v : Memory). v.words.items) same ∙ words in
     let a = answer_for c.answer.new.self c.in-Some-take.reply in
@@ -56,8 +61,11 @@ returns-in_ok-push-in-Some-take-clause-made c =
     let taken : c.take.new.self ≡ at_stage c.answer.new.self Idle = c.in-Some-take.ensures.state in
     let ended_is : IsEndedCall port.number (length port.finished.items) call (one_step_more c.unwrap-way.result) new.words.items new.history.items a c.in_ok-called-in-Some-take.called =
     subst (λ (v : Memory). IsEndedCall port.number (length port.finished.items) call (one_step_more c.unwrap-way.result) v.words.items v.history.items a c.in_ok-called-in-Some-take.called) (sym same)
-    (subst (λ (v : Answer). IsEndedCall port.number (length port.finished.items) call (one_step_more c.unwrap-way.result) mid.words.items mid.history.items v c.in_ok-called-in-Some-take.called) (ap (λ (s : CoreState). answer_for s c.in-Some-take.reply) taken ∙ answer_idle c.answer.new.self c.in-Some-take.reply) ended) in
-    step_ended calls memory.words.items new.words.items memory.trace.items new.trace.items memory.history.items new.history.items port _ c.unwrap-step.result c.unwrap-way.result c.perform-answer.result c.answer.new.self c.take.new.self c.in-Some-take.reply call c.in_ok-called-in-Some-take.called
+    (subst (λ (v : Answer). IsEndedCall port.number (length port.finished.items) call (one_step_more c.unwrap-way.result) mid.words.items mid.history.items v c.in_ok-called-in-Some-take.called)
+    (ap (λ (s : CoreState). answer_for s c.in-Some-take.reply) taken ∙ answer_idle c.answer.new.self c.in-Some-take.reply) ended) in
+    step_ended calls memory.words.items new.words.items memory.trace.items new.trace.items memory.history.items new.history.items port _ c.unwrap-step.result c.unwrap-way.result
+    c.perform-answer.result c.answer.new.self c.take.new.self c.in-Some-take.reply call c.in_ok-called-in-Some-take.called
     (sym c.step.ensures ∙ c.unwrap-step.ensures) c.unwrap-way.ensures possible answer (new_words ∙ after) (ap (λ (v : Memory). v.trace.items) same ∙ trace)
-    (ap (λ (v : Memory). v.history.items) same ∙ log ∙ ap (λ (ws : List ℕ). memory.history.items ++ entry_at port.core.sizes.m ws port.number c.unwrap-step.result c.perform-answer.result) (sym new_words))
+    (ap (λ (v : Memory). v.history.items) same ∙ log ∙ ap (λ (ws : List ℕ). memory.history.items ++
+    entry_at port.core.sizes.m ws port.number c.unwrap-step.result c.perform-answer.result) (sym new_words))
     c.answer.ensures.state c.answer.ensures.falls (sym c.in-Some-take.ensures.reply) taken next ended_is refl refl refl c.in_ok-push-in-Some-take.ensures.items

@@ -3,7 +3,7 @@ use Rattle.partial_model.specs.declared.history.Applied.{Applied}
 use Rattle.partial_model.specs.declared.history.Opening.{Opening}
 use Rattle.partial_words.specs.declared.step.Event.{Event}
 use Rattle.partial_words.specs.Chain.{AreOpeningWords}
-use Rattle.partial_replay.specs.RunState.{IsRunOf}
+use Rattle.partial_replay.specs.Inner.RunState.{IsRunOf}
 use Rattle.partial_replay.proofs.Opens.{opens_run, fresh_started, fresh_turned, fresh_ending}
 use Rattle.partial_replay.proofs.run.Run.open.Goals as goal
 
@@ -13,7 +13,8 @@ returns-clause-between c =
     let values : c.from.result ≡ c.args.initial.now = c.from.ensures ∙ c.in_ok-from_slice.ensures.items in
     let words = c.in_ok-opening_words.field-0.items in
     let ports = c.in_ok-fresh_ports.field-0.items in
-    let opened = opens_run c.args.plans.now c.args.sizes o words ports c.requires.sizes (ap length values ∙ c.requires.values) (c.from-first.ensures ∙ c.pool_base.ensures) (subst (λ (l : List ℕ). AreOpeningWords c.args.sizes l words) (sym values) c.in_ok-opening_words.ensures) c.requires.ports c.in_ok-fresh_ports.ensures in
+    let opened = opens_run c.args.plans.now c.args.sizes o words ports c.requires.sizes (ap length values ∙ c.requires.values) (c.from-first.ensures ∙ c.pool_base.ensures)
+    (subst (λ (l : List ℕ). AreOpeningWords c.args.sizes l words) (sym values) c.in_ok-opening_words.ensures) c.requires.ports c.in_ok-fresh_ports.ensures in
     record {
       replay = record {
         state = subst (λ (h : List Applied). IsRunOf c.args.plans.now c.args.sizes o words ports h c.new-2.result.items) (sym c.new.ensures.items)

@@ -1,7 +1,7 @@
 use Rattle.std.proofs.Common.{Bool, subst}
 use Rattle.std.specs.Bool.{MatchBool}
-use Rattle.partial_replay.specs.RunState.{AreStarted, IsReady}
-use Rattle.partial_replay.specs.TurnState.{IsDone}
+use Rattle.partial_replay.specs.Inner.RunState.{AreStarted, IsReady}
+use Rattle.partial_replay.specs.Inner.TurnState.{IsDone}
 use Rattle.partial_replay.proofs.RunTurns.{turn_done, turn_stepped}
 use Rattle.partial_replay.proofs.run.Run.turn.Goals as goal
 
@@ -17,7 +17,8 @@ pub returns-clause-turn : goal.returns-clause-turn
 returns-clause-turn c =
     let plans = c.args.plans.now in
     let mid = c.get_ready.new.self in
-    let ready : IsReady c.args.p mid = subst (λ (b : Bool). MatchBool b (IsReady c.args.p mid) (IsDone plans mid.ports.items c.args.p × AreStarted mid.ports.items)) c.if-not-branch.false c.in_ok-get_ready.ensures.ready in
+    let ready : IsReady c.args.p mid = subst (λ (b : Bool). MatchBool b (IsReady c.args.p mid) (IsDone plans mid.ports.items c.args.p × AreStarted mid.ports.items)) c.if-not-branch.false
+    c.in_ok-get_ready.ensures.ready in
     let before = c.in_ok-get_ready.ensures in
     let behind = c.in_ok-make_step.ensures in
     turn_stepped plans c.args.p c.args.self.now mid c.make_step.new.self before.same before.begun before.done ready behind.trace behind.begun behind.done before.ending behind.ending

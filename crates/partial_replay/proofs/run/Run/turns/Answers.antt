@@ -1,5 +1,5 @@
 use Rattle.std.proofs.Common.{◌≡◌, ◌∙◌, ℕ, Bool, Some, refl, subst, arith}
-use Rattle.partial_replay.specs.TurnState.{TurnMade, TurnsMade}
+use Rattle.partial_replay.specs.Inner.TurnState.{TurnMade, TurnsMade}
 use Rattle.partial_replay.proofs.RunTurns.{no_steps, step_more, turns_all, turns_end}
 use Rattle.partial_replay.proofs.run.Run.turns.Goals as goal
 
@@ -26,10 +26,12 @@ returns-then-not-branch-clause-turns c =
     let plans = c.args.plans.now in
     let old = c.loop.invariant in
     let turn = subst (λ (b : Bool). TurnMade plans c.args.p c.loop.self b c.turn.new.self) c.if-not-branch.true c.in_ok-turn.ensures.turn in
-    turns_end plans c.args.p c.loop.counter (Some c.args.count) c.args.self.now c.loop.self c.turn.new.self c.requires.between.replay.state old.between.replay.state old.same old.steps old.ending turn (omega (arith, c.loop-test.true))
+    turns_end plans c.args.p c.loop.counter (Some c.args.count) c.args.self.now c.loop.self c.turn.new.self c.requires.between.replay.state old.between.replay.state old.same old.steps old.ending turn
+    (omega (arith, c.loop-test.true))
 
 pub returns-after-loop-clause-turns : goal.returns-after-loop-clause-turns
 returns-after-loop-clause-turns c =
     let old = c.loop.invariant in
     let all : c.loop.counter ≡ c.args.count = omega (arith, c.loop-test.false, c.loop.auto.counter-end) in
-    subst (λ (k : ℕ). TurnsMade c.args.plans.now c.args.p (Some k) c.args.self.now c.loop.self) all (turns_all c.args.plans.now c.args.p c.loop.counter c.args.self.now c.loop.self old.steps old.ending)
+    subst (λ (k : ℕ). TurnsMade c.args.plans.now c.args.p (Some k) c.args.self.now c.loop.self) all
+    (turns_all c.args.plans.now c.args.p c.loop.counter c.args.self.now c.loop.self old.steps old.ending)

@@ -1,5 +1,5 @@
 use Rattle.partial_words.proofs.LayoutLemmas.{regions_apart}
-use Rattle.partial_words.proofs.sizes.regions_are_apart.Goals as goal
+use Rattle.partial_words.proofs.law.regions_are_apart.Goals as goal
 
 pub returns : goal.returns
 returns c = regions_apart

@@ -19,7 +19,7 @@ use Rattle.partial_replay.specs.declared.port.UnderWay.{UnderWay}
 use Rattle.partial_replay.specs.declared.run.Run.{Run}
 use Rattle.partial_text.specs.declared.outcome.Outcome.{Outcome}
 use Rattle.partial_replay.specs.Trace.{entry_of, moments_by}
-use Rattle.partial_replay.specs.PortState.{PortFits, PortMade, unfinished_call}
+use Rattle.partial_replay.specs.Inner.PortState.{PortFits, PortMade, unfinished_call}
 use Rattle.partial_machine.specs.Calls.{IsServed}
 
 -- the ports from number p on, each with its calls and its part
@@ -34,21 +34,25 @@ ArePlans m plans = AllByRecursion (λ calls. (length calls < 2 ^ 32) × AllByRec
 
 -- each port's events are the steps of its calls
 abbrev pub ArePortsMade : List (List Call) → Layout → List Port → List Applied → List Event → Type 0
-ArePortsMade plans z ports log trace = (q : ℕ) (calls : List Call) (port : Port) → slice_get plans q ≡ Some calls → slice_get ports q ≡ Some port → PortMade z (length log) calls q (moments_by z.m q trace) port
+ArePortsMade plans z ports log trace = (q : ℕ) (calls : List Call) (port : Port) → slice_get plans q ≡ Some calls →
+    slice_get ports q ≡ Some port → PortMade z (length log) calls q (moments_by z.m q trace) port
 
 -- the call under way of a port has made a step
 abbrev pub AreStarted : List Port → Type 0
 AreStarted ports = (q : ℕ) (port : Port) (way : UnderWay) → slice_get ports q ≡ Some port → port.under_way ≡ Some way → 0 < way.steps
 
+-- each call under way has made a step, but perhaps that of port p
 abbrev pub AreStartedBut : ℕ → List Port → Type 0
-AreStartedBut p ports = (q : ℕ) (port : Port) (way : UnderWay) → q ≢ p → slice_get ports q ≡ Some port → port.under_way ≡ Some way → 0 < way.steps
+AreStartedBut p ports = (q : ℕ) (port : Port) (way : UnderWay) → q ≢ p → slice_get ports q ≡ Some port →
+    port.under_way ≡ Some way → 0 < way.steps
 
 -- an entry without its value, which stands in its record
 abbrev pub unvalued : Applied → Applied
 unvalued e = record { port = e.port; component = e.component; value = 0; stamp = e.stamp }
 
 -- the state of a replay of these calls is lawful, and its trace leads from the words at opening to its words
-pub record IsRunOf (plans : List (List Call)) (z : Layout) (o : Opening) (words : List ℕ) (ports : List Port) (log : List Applied) (trace : List Event) : Type 0 where
+pub record IsRunOf (plans : List (List Call)) (z : Layout) (o : Opening) (words : List ℕ) (ports : List Port) (log : List Applied)
+    (trace : List Event) : Type 0 where
   pub parts : List Part
   pub opened : List ℕ
   pub opens : AreOpeningWords z o.values opened
@@ -61,8 +65,10 @@ pub record IsRunOf (plans : List (List Call)) (z : Layout) (o : Opening) (words 
   pub senders : AllByRecursion (λ e. e.port < length plans) trace
   pub made : ArePortsMade plans z ports log trace
 
+-- the state of a replay of these plans
 abbrev pub IsRun : List (List Call) → Run → Type 0
-IsRun plans run = IsRunOf plans run.memory.sizes run.opening run.memory.words.items run.ports.items run.memory.history.items run.memory.trace.items
+IsRun plans run = IsRunOf plans run.memory.sizes run.opening run.memory.words.items run.ports.items
+    run.memory.history.items run.memory.trace.items
 
 -- there is room to find the place of a scan
 abbrev pub HasRoom : Run → Type 0
@@ -95,7 +101,8 @@ left_for z calls = (most_of_update z + 1) * calls
 
 -- how many steps a port has left at most: of the call under way, and of those behind it
 abbrev pub left_of : List Call → Port → ℕ
-left_of calls port = option_map_or (λ way. left_for port.core.sizes (length calls - length port.finished.items - 1) + steps_left port.core) port.under_way (left_for port.core.sizes (length calls - length port.finished.items))
+left_of calls port = option_map_or (λ way. left_for port.core.sizes (length calls - length port.finished.items - 1) + steps_left port.core)
+    port.under_way (left_for port.core.sizes (length calls - length port.finished.items))
 
 -- the steps left of the port with that number, where there is one
 abbrev pub left_at : ℕ → List (List Call) → List Port → ℕ
@@ -106,13 +113,16 @@ left_at (suc p) (calls ∷ plans) (port ∷ ports) = left_at p plans ports
 
 -- a call of the port with that number is under way, and any other call under way has made a step
 abbrev pub IsReady : ℕ → Run → Type 0
-IsReady p run = (port : Port) × (way : UnderWay) × (slice_get run.ports.items p ≡ Some port) × (port.under_way ≡ Some way) × AreStartedBut p run.ports.items
+IsReady p run = (port : Port) × (way : UnderWay) × (slice_get run.ports.items p ≡ Some port) × (port.under_way ≡ Some way) ×
+    AreStartedBut p run.ports.items
 
 -- so many ports from that number on that have made no call
 abbrev pub FreshFrom : Layout → ℕ → List Port → Type 0
 FreshFrom z p [] = ⊤
-FreshFrom z p (port ∷ ports) = (port.number ≡ p) × (port.core ≡ fresh z p) × (port.finished.items ≡ []) × (port.under_way ≡ None) × FreshFrom z (p + 1) ports
+FreshFrom z p (port ∷ ports) = (port.number ≡ p) × (port.core ≡ fresh z p) × (port.finished.items ≡ []) × (port.under_way ≡ None) ×
+    FreshFrom z (p + 1) ports
 
+-- n ports, numbered from 0, none of which has made a call
 abbrev pub AreFreshPorts : Layout → ℕ → List Port → Type 0
 AreFreshPorts z n ports = (length ports ≡ n) × FreshFrom z 0 ports
 
@@ -123,13 +133,15 @@ left_over port _ _ = []
 
 -- the calls that the ports have begun: of each the finished ones, and then the one that is left unfinished
 abbrev pub calls_in : List (List Call) → List Port → List Called
-calls_in (calls ∷ plans) (port ∷ ports) = port.finished.items ++ left_over port (slice_get calls (length port.finished.items)) port.under_way ++ calls_in plans ports
+calls_in (calls ∷ plans) (port ∷ ports) = port.finished.items ++
+    left_over port (slice_get calls (length port.finished.items)) port.under_way ++ calls_in plans ports
 calls_in _ _ = []
 
 -- each port has its calls, and a call under way is one of them
 abbrev pub AreListed : List (List Call) → List Port → Type 0
 AreListed [] [] = ⊤
-AreListed (calls ∷ plans) (port ∷ ports) = (length calls < 2 ^ 32) × (IsSome port.under_way → length port.finished.items < length calls) × AreListed plans ports
+AreListed (calls ∷ plans) (port ∷ ports) = (length calls < 2 ^ 32) ×
+    (IsSome port.under_way → length port.finished.items < length calls) × AreListed plans ports
 AreListed _ _ = ⊥
 
 -- what a replay has come to in the end

@@ -6,7 +6,7 @@ use Rattle.partial_replay.specs.declared.run.Run.{Run}
 use Rattle.partial_words.specs.declared.step.Event.{Event}
 use Rattle.partial_replay.specs.Trace.{Moment, ports_of, events_in, moments_from}
 use Rattle.partial_replay.specs.Turns.{turns_by, lengths_of, lengths_in}
-use Rattle.partial_replay.specs.PortState.{HasTurned}
+use Rattle.partial_replay.specs.Inner.PortState.{HasTurned}
 use Rattle.partial_replay.specs.Listed.{EndInStep}
 
 -- the port with that number has made all its calls
@@ -106,7 +106,8 @@ HasTurns D q (Some k) n behind = (n ≤ k) × (n < k → D q × (events_in q beh
 -- whose events the entries have made, one behind the other
 abbrev pub MakeTurns : (ℕ → Type 0) → List (ℕ × Option ℕ) → List ℕ → Type 0
 MakeTurns D [] ports = ports ≡ []
-MakeTurns D (e ∷ es) ports = (n : ℕ) × (behind : List ℕ) × (ports ≡ replicate n e.0 ++ behind) × HasTurns D e.0 e.1 n behind × MakeTurns D es behind
+MakeTurns D (e ∷ es) ports = (n : ℕ) × (behind : List ℕ) × (ports ≡ replicate n e.0 ++ behind) ×
+    HasTurns D e.0 e.1 n behind × MakeTurns D es behind
 
 -- where a port has made a step in each of its turns so far, it has begun no call since its last step
 abbrev pub StopAtSteps : List (ℕ × ℕ) → Run → Type 0

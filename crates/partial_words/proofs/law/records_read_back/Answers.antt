@@ -1,5 +1,5 @@
 use Rattle.partial_words.proofs.RecordLemmas.{reads_back}
-use Rattle.partial_words.proofs.record.records_read_back.Goals as goal
+use Rattle.partial_words.proofs.law.records_read_back.Goals as goal
 
 pub returns : goal.returns
 returns c = reads_back

@@ -22,15 +22,16 @@ use Rattle.partial_core.specs.Part.{Part, core_of, port_of, IsBetween, IsMachine
 use Rattle.partial_replay.specs.declared.port.Port.{Port}
 use Rattle.partial_replay.specs.declared.port.UnderWay.{UnderWay}
 use Rattle.partial_replay.specs.Place.{HasLeastPlace}
-use Rattle.partial_replay.specs.Listed.{calls_by, AreFirstOf, AreAllMade}
+use Rattle.partial_replay.specs.Listed.{calls_by, AreFirstOf, AreAllMade, AreFew}
 use Rattle.std.specs.Option.{IsSome}
 use Rattle.partial_replay.proofs.PortLaws.{take_next, same_eqb}
 use Rattle.partial_replay.proofs.Opens.{over_none, none_over}
-use Rattle.partial_replay.specs.PortState.{AreFinished, AreFew, IsUnderWay, PortFits, end_of, ends_of, notes_in, unfinished_call}
-use Rattle.partial_replay.specs.RunState.{PortsFit, IsRunOf, left_over, calls_in}
+use Rattle.partial_replay.specs.Inner.PortState.{AreFinished, IsUnderWay, PortFits, end_of, ends_of, notes_in, unfinished_call}
+use Rattle.partial_replay.specs.Inner.RunState.{PortsFit, IsRunOf, left_over, calls_in}
 
 notes_split : (p : ℕ) (xs ys : List Called) → notes_of p (xs ++ ys) ≡ notes_of p xs ++ notes_of p ys
-notes_split p xs ys = ap (filter_map noted_of) (filter-append (λ (c : Called). c.port == p) xs ys) ∙ filter_map-append noted_of (filter (λ (c : Called). c.port == p) xs) (filter (λ (c : Called). c.port == p) ys)
+notes_split p xs ys = ap (filter_map noted_of) (filter-append (λ (c : Called). c.port == p) xs ys) ∙ filter_map-append noted_of (filter (λ (c : Called). c.port == p) xs)
+    (filter (λ (c : Called). c.port == p) ys)
 
 own_filter : (n p k low : ℕ) (cs : List Called) → AreFinished n p k low cs → filter (λ (c : Called). c.port == p) cs ≡ cs
 own_filter n p k low [] w = refl
@@ -55,7 +56,9 @@ over_notes p port None way = refl
 over_notes p port (Some call) None = refl
 
 -- the calls that are listed for a port
-split_calls : (p : ℕ) (calls : List Call) (plans : List (List Call)) (port : Port) (ports : List Port) → calls_by p (calls_in (calls ∷ plans) (port ∷ ports)) ≡ (calls_by p port.finished.items ++ calls_by p (left_over port (slice_get calls (length port.finished.items)) port.under_way)) ++ calls_by p (calls_in plans ports)
+split_calls : (p : ℕ) (calls : List Call) (plans : List (List Call)) (port : Port) (ports : List Port) →
+    calls_by p (calls_in (calls ∷ plans) (port ∷ ports)) ≡ (calls_by p port.finished.items ++ calls_by p (left_over port (slice_get calls (length port.finished.items)) port.under_way)) ++
+    calls_by p (calls_in plans ports)
 split_calls p calls plans port ports =
     let over = left_over port (slice_get calls (length port.finished.items)) port.under_way in
     filter-append (λ (c : Called). c.port == p) (port.finished.items ++ over) (calls_in plans ports)
@@ -72,14 +75,17 @@ over_other p port None way h = refl
 over_other p port (Some call) None h = refl
 
 -- a port that isn't p lists no call of port p
-split_other : (o : Opening) (log : List Applied) (p q : ℕ) (calls : List Call) (plans : List (List Call)) (x : Part) (port : Port) (ports : List Port) → q ≢ p → PortFits o log calls q x port → calls_by p (calls_in (calls ∷ plans) (port ∷ ports)) ≡ calls_by p (calls_in plans ports)
+split_other : (o : Opening) (log : List Applied) (p q : ℕ) (calls : List Call) (plans : List (List Call)) (x : Part) (port : Port) (ports : List Port) → q ≢ p → PortFits o log calls q x port →
+    calls_by p (calls_in (calls ∷ plans) (port ∷ ports)) ≡ calls_by p (calls_in plans ports)
 split_other o log p q calls plans x port ports away w =
     split_calls p calls plans port ports
-    ∙ ap (λ (l : List Called). (l ++ calls_by p (left_over port (slice_get calls (length port.finished.items)) port.under_way)) ++ calls_by p (calls_in plans ports)) (other_filter (length log) q p 0 0 port.finished.items w.finished away)
+    ∙ ap (λ (l : List Called). (l ++ calls_by p (left_over port (slice_get calls (length port.finished.items)) port.under_way)) ++ calls_by p (calls_in plans ports))
+    (other_filter (length log) q p 0 0 port.finished.items w.finished away)
     ∙ ap (λ (l : List Called). l ++ calls_by p (calls_in plans ports)) (over_other p port (slice_get calls (length port.finished.items)) port.under_way (λ h. away (sym w.number ∙ h)))
 
 -- ports behind number p list no call of port p, and neither do those before it
-pub none_listed : (o : Opening) (log : List Applied) (p q : ℕ) (plans : List (List Call)) (parts : List Part) (ports : List Port) → (p < q) ⊎ (q + length plans ≤ p) → PortsFit o log q plans parts ports → calls_by p (calls_in plans ports) ≡ []
+pub none_listed : (o : Opening) (log : List Applied) (p q : ℕ) (plans : List (List Call)) (parts : List Part) (ports : List Port) → (p < q) ⊎ (q + length plans ≤ p) →
+    PortsFit o log q plans parts ports → calls_by p (calls_in plans ports) ≡ []
 none_listed o log p q [] [] [] out w = refl
 none_listed o log p q [] [] (t ∷ ports) out w = absurd w
 none_listed o log p q [] (x ∷ parts) ports out w = absurd w
@@ -94,7 +100,8 @@ none_listed o log p q (c ∷ plans) (x ∷ parts) (t ∷ ports) out w =
 abbrev pub begun_by : List Call → Port → List Called
 begun_by calls port = port.finished.items ++ left_over port (slice_get calls (length port.finished.items)) port.under_way
 
-pub listed_at : (o : Opening) (log : List Applied) (q i : ℕ) (plans : List (List Call)) (parts : List Part) (ports : List Port) (calls : List Call) (port : Port) → PortsFit o log q plans parts ports → slice_get plans i ≡ Some calls → slice_get ports i ≡ Some port → calls_by (q + i) (calls_in plans ports) ≡ begun_by calls port
+pub listed_at : (o : Opening) (log : List Applied) (q i : ℕ) (plans : List (List Call)) (parts : List Part) (ports : List Port) (calls : List Call) (port : Port) →
+    PortsFit o log q plans parts ports → slice_get plans i ≡ Some calls → slice_get ports i ≡ Some port → calls_by (q + i) (calls_in plans ports) ≡ begun_by calls port
 listed_at o log q i [] parts ports calls port w c t = let bad : None ≡ Some calls = c in cc
 listed_at o log q i (d ∷ plans) [] ports calls port w c t = absurd w
 listed_at o log q i (d ∷ plans) (x ∷ parts) [] calls port w c t = absurd w
@@ -104,7 +111,8 @@ listed_at o log q zero (d ∷ plans) (x ∷ parts) (u ∷ ports) calls port w c 
     let here : q + 0 ≡ q = omega arith in
     ap (λ n. calls_by n (calls_in (d ∷ plans) (u ∷ ports))) here
     ∙ split_calls q d plans u ports
-    ∙ ap (λ (l : List Called). (l ++ calls_by q (left_over u (slice_get d (length u.finished.items)) u.under_way)) ++ calls_by q (calls_in plans ports)) (own_filter (length log) q 0 0 u.finished.items w.0.finished)
+    ∙ ap (λ (l : List Called). (l ++ calls_by q (left_over u (slice_get d (length u.finished.items)) u.under_way)) ++ calls_by q (calls_in plans ports))
+    (own_filter (length log) q 0 0 u.finished.items w.0.finished)
     ∙ ap (λ (l : List Called). (u.finished.items ++ l) ++ calls_by q (calls_in plans ports)) (over_own q u (slice_get d (length u.finished.items)) u.under_way w.0.number)
     ∙ ap (λ (l : List Called). begun_by d u ++ l) (none_listed o log q (q + 1) plans parts ports (inl (omega arith)) w.1)
     ∙ append-nil (begun_by d u)
@@ -116,9 +124,12 @@ listed_at o log q (suc i) (d ∷ plans) (x ∷ parts) (u ∷ ports) calls port w
     ∙ listed_at o log (q + 1) i plans parts ports calls port w.1 c t
 
 -- the calls that a port has begun are the first of the plan's
-first_over : (n : ℕ) (calls : List Call) (x : Part) (port : Port) (way : Option UnderWay) → map (λ (c : Called). c.call) port.finished.items ≡ take (length port.finished.items) calls → MatchOption way (IsBetween x port.core) (IsUnderWay n calls x port.core port.finished.items) → AreFirstOf calls (port.finished.items ++ left_over port (slice_get calls (length port.finished.items)) way)
+first_over : (n : ℕ) (calls : List Call) (x : Part) (port : Port) (way : Option UnderWay) → map (λ (c : Called). c.call) port.finished.items ≡ take (length port.finished.items) calls →
+    MatchOption way (IsBetween x port.core) (IsUnderWay n calls x port.core port.finished.items) →
+    AreFirstOf calls (port.finished.items ++ left_over port (slice_get calls (length port.finished.items)) way)
 first_over n calls x port None made w =
-    let none : port.finished.items ++ left_over port (slice_get calls (length port.finished.items)) None ≡ port.finished.items = ap (λ (l : List Called). port.finished.items ++ l) (over_none port (slice_get calls (length port.finished.items))) ∙ append-nil port.finished.items in
+    let none : port.finished.items ++ left_over port (slice_get calls (length port.finished.items)) None ≡ port.finished.items = ap (λ (l : List Called). port.finished.items ++ l)
+    (over_none port (slice_get calls (length port.finished.items))) ∙ append-nil port.finished.items in
     subst (AreFirstOf calls) (sym none) made
 first_over n calls x port (Some way) made w =
     let c = unfinished_call port.number (length port.finished.items) w.call way in
@@ -140,20 +151,25 @@ ended_calls n p k low (c ∷ cs) w = (has_ended c.finish _ w.2.ended, ended_call
     has_ended None P h = absurd h
     has_ended (Some g) P h = refl
 
-pub all_made : (o : Opening) (log : List Applied) (calls : List Call) (p : ℕ) (x : Part) (port : Port) → PortFits o log calls p x port → port.under_way ≡ None → length port.finished.items ≡ length calls → AreAllMade calls (begun_by calls port)
+pub all_made : (o : Opening) (log : List Applied) (calls : List Call) (p : ℕ) (x : Part) (port : Port) → PortFits o log calls p x port → port.under_way ≡ None →
+    length port.finished.items ≡ length calls → AreAllMade calls (begun_by calls port)
 all_made o log calls p x port w none all =
-    let is : begun_by calls port ≡ port.finished.items = ap (λ (l : List Called). port.finished.items ++ l) (sym (none_over port (slice_get calls (length port.finished.items)) none)) ∙ append-nil port.finished.items in
+    let is : begun_by calls port ≡ port.finished.items = ap (λ (l : List Called). port.finished.items ++ l) (sym (none_over port (slice_get calls (length port.finished.items)) none)) ∙
+    append-nil port.finished.items in
     subst (AreAllMade calls) (sym is) (all, ended_calls (length log) p 0 0 port.finished.items w.finished)
 
 -- what is noted of one port's calls and of those behind it
-head_notes : (p : ℕ) (calls : List Call) (plans : List (List Call)) (port : Port) (ports : List Port) (own : List Noted) → notes_of p port.finished.items ≡ own → notes_of p (calls_in (calls ∷ plans) (port ∷ ports)) ≡ own ++ notes_of p (calls_in plans ports)
+head_notes : (p : ℕ) (calls : List Call) (plans : List (List Call)) (port : Port) (ports : List Port) (own : List Noted) → notes_of p port.finished.items ≡ own →
+    notes_of p (calls_in (calls ∷ plans) (port ∷ ports)) ≡ own ++ notes_of p (calls_in plans ports)
 head_notes p calls plans port ports own h =
     let over = left_over port (slice_get calls (length port.finished.items)) port.under_way in
     notes_split p (port.finished.items ++ over) (calls_in plans ports)
-    ∙ ap (λ (l : List Noted). l ++ notes_of p (calls_in plans ports)) (notes_split p port.finished.items over ∙ ap (λ (l : List Noted). notes_of p port.finished.items ++ l) (over_notes p port (slice_get calls (length port.finished.items)) port.under_way) ∙ append-nil (notes_of p port.finished.items) ∙ h)
+    ∙ ap (λ (l : List Noted). l ++ notes_of p (calls_in plans ports)) (notes_split p port.finished.items over ∙ ap (λ (l : List Noted). notes_of p port.finished.items ++ l)
+    (over_notes p port (slice_get calls (length port.finished.items)) port.under_way) ∙ append-nil (notes_of p port.finished.items) ∙ h)
 
 -- ports behind number p have no note of port p
-none_behind : (o : Opening) (log : List Applied) (p q : ℕ) (plans : List (List Call)) (parts : List Part) (ports : List Port) → p < q → PortsFit o log q plans parts ports → (notes_of p (calls_in plans ports) ≡ []) × (notes_by p parts ≡ [])
+none_behind : (o : Opening) (log : List Applied) (p q : ℕ) (plans : List (List Call)) (parts : List Part) (ports : List Port) → p < q → PortsFit o log q plans parts ports →
+    (notes_of p (calls_in plans ports) ≡ []) × (notes_by p parts ≡ [])
 none_behind o log p q [] [] [] less w = (refl, refl)
 none_behind o log p q [] [] (t ∷ ports) less w = absurd w
 none_behind o log p q [] (x ∷ parts) ports less w = absurd w
@@ -171,7 +187,8 @@ none_behind o log p q (c ∷ plans) (x ∷ parts) (t ∷ ports) less w =
 abbrev NotesTold : Opening → List Applied → ℕ → List Noted → List Noted → Type 0
 NotesTold o log p ns ms = LegalNotes o log p 0 ns × (places_written ns ≡ places_written ms)
 
-notes_told : (o : Opening) (log : List Applied) (p q : ℕ) (plans : List (List Call)) (parts : List Part) (ports : List Port) → PortsFit o log q plans parts ports → NotesTold o log p (notes_of p (calls_in plans ports)) (notes_by p parts)
+notes_told : (o : Opening) (log : List Applied) (p q : ℕ) (plans : List (List Call)) (parts : List Part) (ports : List Port) → PortsFit o log q plans parts ports →
+    NotesTold o log p (notes_of p (calls_in plans ports)) (notes_by p parts)
 notes_told o log p q [] [] [] w = (tt, refl)
 notes_told o log p q [] [] (t ∷ ports) w = absurd w
 notes_told o log p q [] (x ∷ parts) ports w = absurd w
@@ -218,12 +235,14 @@ behind_call c p k low (Some f) is port number w = λ d at num late.
 next_port : (c : Called) (p : ℕ) → c.port ≡ p → BeginsPort (Some c) (p + 1)
 next_port c p port = λ d at number. inl (omega (arith, at, port), number)
 
-finish_ends : (c : Called) (n : ℕ) (f : Option Finish) → IsSomeAnd f (λ g. (c.began ≤ g.ended) × (g.ended ≤ n) × IfSome g.note (λ note. (c.began ≤ place_of note) × (shown_by note ≤ g.ended))) → IsSomeAnd f (λ g. c.began ≤ g.ended) × IfSome f (λ g. (c.began ≤ g.ended) × (g.ended ≤ n) × IfSome g.note (λ note. (c.began ≤ place_of note) × (shown_by note ≤ g.ended))) × (c.began ≤ n)
+finish_ends : (c : Called) (n : ℕ) (f : Option Finish) → IsSomeAnd f (λ g. (c.began ≤ g.ended) × (g.ended ≤ n) × IfSome g.note (λ note. (c.began ≤ place_of note) × (shown_by note ≤ g.ended))) →
+    IsSomeAnd f (λ g. c.began ≤ g.ended) × IfSome f (λ g. (c.began ≤ g.ended) × (g.ended ≤ n) × IfSome g.note (λ note. (c.began ≤ place_of note) × (shown_by note ≤ g.ended))) × (c.began ≤ n)
 finish_ends c n None w = absurd w
 finish_ends c n (Some f) w = let a = w.0 in let b = w.1 in (w.0, w, omega (arith, a, b))
 
 -- the finished calls are in time where those behind them are
-finished_time : (n p k low : ℕ) (cs : List Called) (b : Option Called) (tail : List Called) → AreFinished n p k low cs → GoesBehind b p k low → BeginsPort b (p + 1) → ((d : Option Called) → GoesBehind d p (k + length cs) (ends_of low cs) → BeginsPort d (p + 1) → RealTime n d tail) → RealTime n b (cs ++ tail)
+finished_time : (n p k low : ℕ) (cs : List Called) (b : Option Called) (tail : List Called) → AreFinished n p k low cs → GoesBehind b p k low → BeginsPort b (p + 1) →
+    ((d : Option Called) → GoesBehind d p (k + length cs) (ends_of low cs) → BeginsPort d (p + 1) → RealTime n d tail) → RealTime n b (cs ++ tail)
 finished_time n p k low [] b tail w goes begins on = on b (subst (λ (m : ℕ). GoesBehind b p m low) (omega arith) goes) begins
 finished_time n p k low (c ∷ cs) b tail w goes begins on =
     let ends = finish_ends c n c.finish w.2.ended in (
@@ -233,14 +252,17 @@ finished_time n p k low (c ∷ cs) b tail w goes begins on =
           (λ d g n2. on d (subst (λ (m : ℕ). GoesBehind d p m (ends_of (end_of low c) cs)) (omega arith) g) n2),
     )
 
-over_time : (n p : ℕ) (calls : List Call) (x : Part) (port : Port) (call : Option Call) (way : Option UnderWay) (b : Option Called) (tail : List Called) → port.number ≡ p → MatchOption way (IsBetween x port.core) (IsUnderWay n calls x port.core port.finished.items) → GoesBehind b p (length port.finished.items) (ends_of 0 port.finished.items) → BeginsPort b (p + 1) → ((d : Option Called) → BeginsPort d (p + 1) → RealTime n d tail) → RealTime n b (left_over port call way ++ tail)
+over_time : (n p : ℕ) (calls : List Call) (x : Part) (port : Port) (call : Option Call) (way : Option UnderWay) (b : Option Called) (tail : List Called) → port.number ≡ p →
+    MatchOption way (IsBetween x port.core) (IsUnderWay n calls x port.core port.finished.items) → GoesBehind b p (length port.finished.items) (ends_of 0 port.finished.items) → BeginsPort b (p + 1) →
+    ((d : Option Called) → BeginsPort d (p + 1) → RealTime n d tail) → RealTime n b (left_over port call way ++ tail)
 over_time n p calls x port (Some call) (Some way) b tail number w goes begins on =
     let c = unfinished_call port.number (length port.finished.items) call way in
     (goes c number refl w.behind, (w.within, tt), on (Some c) (next_port c p number))
 over_time n p calls x port None way b tail number w goes begins on = on b begins
 over_time n p calls x port (Some call) None b tail number w goes begins on = on b begins
 
-time_told : (o : Opening) (log : List Applied) (q : ℕ) (plans : List (List Call)) (parts : List Part) (ports : List Port) (b : Option Called) → PortsFit o log q plans parts ports → BeginsPort b q → RealTime (length log) b (calls_in plans ports)
+time_told : (o : Opening) (log : List Applied) (q : ℕ) (plans : List (List Call)) (parts : List Part) (ports : List Port) (b : Option Called) → PortsFit o log q plans parts ports → BeginsPort b q →
+    RealTime (length log) b (calls_in plans ports)
 time_told o log q [] [] [] b w begins = tt
 time_told o log q [] [] (t ∷ ports) b w begins = absurd w
 time_told o log q [] (x ∷ parts) ports b w begins = absurd w
@@ -264,7 +286,8 @@ least_over o log port (Some call) (Some way) = (tt, tt)
 least_over o log port None way = tt
 least_over o log port (Some call) None = tt
 
-pub least_told : (o : Opening) (log : List Applied) (q : ℕ) (plans : List (List Call)) (parts : List Part) (ports : List Port) → PortsFit o log q plans parts ports → AllByRecursion (HasLeastPlace o log) (calls_in plans ports)
+pub least_told : (o : Opening) (log : List Applied) (q : ℕ) (plans : List (List Call)) (parts : List Part) (ports : List Port) → PortsFit o log q plans parts ports →
+    AllByRecursion (HasLeastPlace o log) (calls_in plans ports)
 least_told o log q [] [] [] w = tt
 least_told o log q [] [] (t ∷ ports) w = absurd w
 least_told o log q [] (x ∷ parts) ports w = absurd w
@@ -272,19 +295,23 @@ least_told o log q (c ∷ plans) [] ports w = absurd w
 least_told o log q (c ∷ plans) (x ∷ parts) [] w = absurd w
 least_told o log q (c ∷ plans) (x ∷ parts) (t ∷ ports) w =
     let over = left_over t (slice_get c (length t.finished.items)) t.under_way in
-    AllByRecursion-append (HasLeastPlace o log) (t.finished.items ++ over) (calls_in plans ports) (AllByRecursion-append (HasLeastPlace o log) t.finished.items over w.0.least (least_over o log t (slice_get c (length t.finished.items)) t.under_way)) (least_told o log (q + 1) plans parts ports w.1)
+    AllByRecursion-append (HasLeastPlace o log) (t.finished.items ++ over) (calls_in plans ports)
+    (AllByRecursion-append (HasLeastPlace o log) t.finished.items over w.0.least (least_over o log t (slice_get c (length t.finished.items)) t.under_way))
+    (least_told o log (q + 1) plans parts ports w.1)
 
 -- the machine of a port has the sizes of its part's
 sizes_at : (z : Layout) (core : CoreState) (x : Part) → (core_of x).sizes ≡ z → IsMachineOf core x → core.sizes ≡ z
 sizes_at z core x led (inl h) = ap (λ (s : CoreState). s.sizes) h.like ∙ led
 sizes_at z core x led (inr l) = ap (λ (s : CoreState). s.sizes) l.is ∙ led
 
-port_sizes : (z : Layout) (n : ℕ) (calls : List Call) (x : Part) (core : CoreState) (done : List Called) (way : Option UnderWay) → (core_of x).sizes ≡ z → MatchOption way (IsBetween x core) (IsUnderWay n calls x core done) → core.sizes ≡ z
+port_sizes : (z : Layout) (n : ℕ) (calls : List Call) (x : Part) (core : CoreState) (done : List Called) (way : Option UnderWay) → (core_of x).sizes ≡ z → MatchOption way (IsBetween x core)
+    (IsUnderWay n calls x core done) → core.sizes ≡ z
 port_sizes z n calls x core done None led w = ap (λ (s : CoreState). s.sizes) w.machine ∙ led
 port_sizes z n calls x core done (Some way) led w = sizes_at z core x led w.machine
 
 -- the call that is left unfinished has made no more steps than it may
-few_over : (z : Layout) (n : ℕ) (calls : List Call) (x : Part) (port : Port) (way : Option UnderWay) → port.core.sizes ≡ z → MatchOption way (IsBetween x port.core) (IsUnderWay n calls x port.core port.finished.items) → AreFew z (left_over port (slice_get calls (length port.finished.items)) way)
+few_over : (z : Layout) (n : ℕ) (calls : List Call) (x : Part) (port : Port) (way : Option UnderWay) → port.core.sizes ≡ z → MatchOption way (IsBetween x port.core)
+    (IsUnderWay n calls x port.core port.finished.items) → AreFew z (left_over port (slice_get calls (length port.finished.items)) way)
 few_over z n calls x port None sizes w = subst (AreFew z) (sym (over_none port (slice_get calls (length port.finished.items)))) tt
 few_over z n calls x port (Some way) sizes w =
     let most : most_steps port.core.sizes w.call ≡ most_steps z w.call = ap (λ (y : Layout). most_steps y w.call) sizes in
@@ -292,7 +319,8 @@ few_over z n calls x port (Some way) sizes w =
     subst (λ (f : Option Call). AreFew z (left_over port f (Some way))) (sym w.next) (omega (arith, steps, most), tt)
 
 -- no call that is listed has made more steps than it may
-pub few_told : (z : Layout) (o : Opening) (log : List Applied) (q : ℕ) (plans : List (List Call)) (parts : List Part) (ports : List Port) → PortsFit o log q plans parts ports → AllByRecursion (λ (x : Part). (core_of x).sizes ≡ z) parts → AreFew z (calls_in plans ports)
+pub few_told : (z : Layout) (o : Opening) (log : List Applied) (q : ℕ) (plans : List (List Call)) (parts : List Part) (ports : List Port) → PortsFit o log q plans parts ports →
+    AllByRecursion (λ (x : Part). (core_of x).sizes ≡ z) parts → AreFew z (calls_in plans ports)
 few_told z o log q [] [] [] w same = tt
 few_told z o log q [] [] (t ∷ ports) w same = absurd w
 few_told z o log q [] (x ∷ parts) ports w same = absurd w
@@ -301,10 +329,13 @@ few_told z o log q (c ∷ plans) (x ∷ parts) [] w same = absurd w
 few_told z o log q (c ∷ plans) (x ∷ parts) (t ∷ ports) w same =
     let sizes = port_sizes z (length log) c x t.core t.finished.items t.under_way same.0 w.0.way in
     let over = left_over t (slice_get c (length t.finished.items)) t.under_way in
-    AllByRecursion-append (λ (d : Called). d.steps ≤ most_steps z d.call) (t.finished.items ++ over) (calls_in plans ports) (AllByRecursion-append (λ (d : Called). d.steps ≤ most_steps z d.call) t.finished.items over (subst (λ (y : Layout). AreFew y t.finished.items) sizes w.0.bounded) (few_over z (length log) c x t t.under_way sizes w.0.way)) (few_told z o log (q + 1) plans parts ports w.1 same.1)
+    AllByRecursion-append (λ (d : Called). d.steps ≤ most_steps z d.call) (t.finished.items ++ over) (calls_in plans ports)
+    (AllByRecursion-append (λ (d : Called). d.steps ≤ most_steps z d.call) t.finished.items over (subst (λ (y : Layout). AreFew y t.finished.items) sizes w.0.bounded)
+    (few_over z (length log) c x t t.under_way sizes w.0.way)) (few_told z o log (q + 1) plans parts ports w.1 same.1)
 
 -- the calls of a replay are a legal outcome of its history
-pub run_legal : (plans : List (List Call)) (z : Layout) (o : Opening) (words : List ℕ) (ports : List Port) (log : List Applied) (trace : List Event) → IsRunOf plans z o words ports log trace → LegalOutcome o log (calls_in plans ports)
+pub run_legal : (plans : List (List Call)) (z : Layout) (o : Opening) (words : List ℕ) (ports : List Port) (log : List Applied) (trace : List Event) → IsRunOf plans z o words ports log trace →
+    LegalOutcome o log (calls_in plans ports)
 run_legal plans z o words ports log trace w = record {
   history = w.lawful.memory.history;
   notes = λ p. (notes_told o log p 0 plans w.parts ports w.fit).0;

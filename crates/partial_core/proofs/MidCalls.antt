@@ -53,7 +53,8 @@ is_finished z o words hs log indices low p = scans.knows_at z o words hs log ind
 
 -- the indices found name those of each port that had joined, and nothing is found or the embedded scan of them is finished
 abbrev pub IsViewed : Layout → Opening → List ℕ → List Holding → List Applied → ℕ → CoreState → Type 0
-IsViewed z o words hs log first s = sets.FindsJoined hs first s.found.indices × (((length s.found.indices ≡ 0) × (s.embedded.borrowed ≡ None)) ⊎ is_finished z o words hs log s.found.indices first (scanning s))
+IsViewed z o words hs log first s = sets.FindsJoined hs first s.found.indices ×
+    (((length s.found.indices ≡ 0) × (s.embedded.borrowed ≡ None)) ⊎ is_finished z o words hs log s.found.indices first (scanning s))
 
 module _ (z : Layout) (o : Opening) (words : List ℕ) (hs : List Holding) (log : List Applied) (begun : CoreState) (first : ℕ) where
   -- what is known at a stage behind the first answer, where the port joined and the last answer was given at these lengths
@@ -71,14 +72,16 @@ module _ (z : Layout) (o : Opening) (words : List ℕ) (hs : List Holding) (log 
   knows_at since high s (StoringAnnouncement at k) = KnowsScan begun s
   knows_at since high s Joining = KnowsScan begun s
   knows_at since high s Scanning = KnowsScan begun s × (first ≤ since) × (since ≤ high) × (s.embedded.shares ≡ false) × scans.Knows z o words hs log s.asked since high (scanning s)
-  knows_at since high s Leaving = KnowsScan begun s × (first ≤ since) × (since ≤ length log) × (s.embedded.shares ≡ false) × (s.embedded.collects ≤ length s.asked + 2) × is_finished z o words hs log s.asked since (scanning s)
+  knows_at since high s Leaving = KnowsScan begun s × (first ≤ since) × (since ≤ length log) × (s.embedded.shares ≡ false) × (s.embedded.collects ≤ length s.asked + 2) ×
+      is_finished z o words hs log s.asked since (scanning s)
   knows_at since high s (Finished r) = Unit {0}
 
   abbrev pub Knows : ℕ → ℕ → CoreState → Type 0
   Knows since high s = knows_at since high s s.stage
 
 -- a getSet without a due step is finished: it has found the ports that had joined
-set_finished : (z y : Layout) (words : List ℕ) (hs : List Holding) (low head : ℕ) (stage : SetStage) (p : finding.Pair) → finding.step_at y head stage ≡ None → sets.knows_at z words hs low stage p → sets.FindsJoined hs low p.1.indices
+set_finished : (z y : Layout) (words : List ℕ) (hs : List Holding) (low head : ℕ) (stage : SetStage) (p : finding.Pair) → finding.step_at y head stage ≡ None → sets.knows_at z words hs low stage p →
+    sets.FindsJoined hs low p.1.indices
 set_finished z y words hs low head Head p e knows = absurd cc
 set_finished z y words hs low head (ListLen at) p e knows = absurd cc
 set_finished z y words hs low head (ListLow at left) p e knows = absurd cc
@@ -93,14 +96,16 @@ set_finished z y words hs low head (Publish at) p e knows = absurd cc
 set_finished z y words hs low head SetDone p e knows = knows.1
 
 -- an embedded scan without a due step is finished
-pub view_finished : (z : Layout) (o : Opening) (words : List ℕ) (hs : List Holding) (log : List Applied) (indices : List ℕ) (low high : ℕ) (last : List ℕ) (y : Layout) (stage : ViewStage) (p : viewing.Pair) → high ≤ length log → viewing.step_at y indices last stage ≡ None → scans.knows_at z o words hs log indices low high stage p → is_finished z o words hs log indices low p
+pub view_finished : (z : Layout) (o : Opening) (words : List ℕ) (hs : List Holding) (log : List Applied) (indices : List ℕ) (low high : ℕ) (last : List ℕ) (y : Layout) (stage : ViewStage)
+    (p : viewing.Pair) → high ≤ length log → viewing.step_at y indices last stage ≡ None → scans.knows_at z o words hs log indices low high stage p → is_finished z o words hs log indices low p
 view_finished z o words hs log indices low high last y (Collect k) p inside e knows = absurd cc
 view_finished z o words hs log indices low high last y (View stamp) p inside e knows = absurd cc
 view_finished z o words hs log indices low high last y (Len at) p inside e knows = absurd cc
 view_finished z o words hs log indices low high last y (Index at left) p inside e knows = absurd cc
 view_finished z o words hs log indices low high last y (PairValue at left index) p inside e knows = absurd cc
 view_finished z o words hs log indices low high last y (Value k) p inside e knows = absurd cc
-view_finished z o words hs log indices low high last y Done p inside e knows = (λ none. let h = knows.0 none in (h.0, h.1, record { from = h.2.from; to = let to = h.2.to in omega (arith, to, inside); values = h.2.values }), knows.1, knows.2)
+view_finished z o words hs log indices low high last y Done p inside e knows =
+    (λ none. let h = knows.0 none in (h.0, h.1, record { from = h.2.from; to = let to = h.2.to in omega (arith, to, inside); values = h.2.values }), knows.1, knows.2)
 
 -- each step of an embedded scan is a load
 pub view_loads : (y : Layout) (indices last : List ℕ) (stage : ViewStage) → IsSome (viewing.step_at y indices last stage) → (n : ℕ) × (viewing.step_at y indices last stage ≡ Some (Load n))
@@ -113,7 +118,8 @@ view_loads y indices last (Value k) due = (slice_index last k + 1, refl)
 view_loads y indices last Done due = absurd (false≢true due)
 
 -- an embedded scan that has made no step knows nothing yet
-scan_begins : (z y : Layout) (shares : Bool) (o : Opening) (words : List ℕ) (hs : List Holding) (log : List Applied) (indices : List ℕ) (low high : ℕ) (rows : viewing.RowsState) → low ≤ high → scans.Knows z o words hs log indices low high (viewing.fresh y shares, rows)
+scan_begins : (z y : Layout) (shares : Bool) (o : Opening) (words : List ℕ) (hs : List Holding) (log : List Applied) (indices : List ℕ) (low high : ℕ) (rows : viewing.RowsState) → low ≤ high →
+    scans.Knows z o words hs log indices low high (viewing.fresh y shares, rows)
 scan_begins z y shares o words hs log indices low high rows order = record {
   none = refl;
   middle = high;
@@ -128,9 +134,12 @@ scan_begins z y shares o words hs log indices low high rows order = record {
 
 -- whether a borrowed view is shared stays what it was
 pub view_shares : (indices : List ℕ) (p : viewing.Pair) (stage : ViewStage) (x : ℕ) → (viewing.advance_at indices p stage x).0.shares ≡ p.0.shares
-view_shares indices p (Collect k) x = cond_both (viewing.differs p k x && viewing.was_changed p k) (viewing.borrow p x) (viewing.go_on (length indices) (viewing.noted p k x) k) (λ (q : viewing.Pair). q.0.shares ≡ p.0.shares) (λ e. refl)
-    (λ e. cond_both (nat_lt (k + 1) (length indices)) (viewing.at_stage (viewing.noted p k x) (Collect (k + 1))) (viewing.after_collect (viewing.noted p k x)) (λ (q : viewing.Pair). q.0.shares ≡ p.0.shares) (λ f. refl)
-    (λ f. cond_both (viewing.is_first p || (p.0.moved || viewing.differs p k x)) (record (viewing.noted p k x).0 { collects = p.0.collects + 1; moved = false; stage = Collect 0 }, (viewing.noted p k x).1) (viewing.at_stage (viewing.noted p k x) (Value 0)) (λ (q : viewing.Pair). q.0.shares ≡ p.0.shares) (λ g. refl) (λ g. refl)))
+view_shares indices p (Collect k) x = cond_both (viewing.differs p k x && viewing.was_changed p k) (viewing.borrow p x) (viewing.go_on (length indices) (viewing.noted p k x) k)
+    (λ (q : viewing.Pair). q.0.shares ≡ p.0.shares) (λ e. refl)
+    (λ e. cond_both (nat_lt (k + 1) (length indices)) (viewing.at_stage (viewing.noted p k x) (Collect (k + 1))) (viewing.after_collect (viewing.noted p k x))
+        (λ (q : viewing.Pair). q.0.shares ≡ p.0.shares) (λ f. refl)
+    (λ f. cond_both (viewing.is_first p || (p.0.moved || viewing.differs p k x)) (record (viewing.noted p k x).0 { collects = p.0.collects + 1; moved = false; stage = Collect 0 },
+        (viewing.noted p k x).1) (viewing.at_stage (viewing.noted p k x) (Value 0)) (λ (q : viewing.Pair). q.0.shares ≡ p.0.shares) (λ g. refl) (λ g. refl)))
 view_shares indices p (View stamp) x = refl
 view_shares indices p (Len at) x = refl
 view_shares indices p (Index at left) x = refl
@@ -139,21 +148,28 @@ view_shares indices p (Value k) x = refl
 view_shares indices p Done x = refl
 
 -- what a getSet knows leads on, of sizes that are known
-pub set_leads : (z : Layout) (o : Opening) (words : List ℕ) (hs : List Holding) (log : List Applied) (low : ℕ) (p : finding.Pair) → p.0.sizes ≡ z → LawfulWords z o words hs log → finding_answers.GoTogether p → sets.Knows z words hs low p → sets.KnowsOn z o words hs log low p
-set_leads z o words hs log low p e w together knows = subst (λ (y : Layout). LawfulWords y o words hs log → sets.Knows y words hs low p → sets.KnowsOn y o words hs log low p) e (λ v k. getsets_know o words hs log low p v together k) w knows
+pub set_leads : (z : Layout) (o : Opening) (words : List ℕ) (hs : List Holding) (log : List Applied) (low : ℕ) (p : finding.Pair) → p.0.sizes ≡ z → LawfulWords z o words hs log →
+    finding_answers.GoTogether p → sets.Knows z words hs low p → sets.KnowsOn z o words hs log low p
+set_leads z o words hs log low p e w together knows = subst (λ (y : Layout). LawfulWords y o words hs log → sets.Knows y words hs low p → sets.KnowsOn y o words hs log low p) e
+    (λ v k. getsets_know o words hs log low p v together k) w knows
 
-pub view_leads : (z : Layout) (o : Opening) (words : List ℕ) (hs : List Holding) (log : List Applied) (indices : List ℕ) (low high : ℕ) (p : viewing.Pair) → p.0.sizes ≡ z → LawfulWords z o words hs log → viewing.GoTogether indices p → low ≤ high → high ≤ length log → scans.Knows z o words hs log indices low high p → scans.KnowsOn z o words hs log indices low high p
-view_leads z o words hs log indices low high p e w together order inside knows = subst (λ (y : Layout). LawfulWords y o words hs log → scans.Knows y o words hs log indices low high p → scans.KnowsOn y o words hs log indices low high p) e (λ v k. embedded_scans_know o words hs log indices low high p v together order inside k) w knows
+pub view_leads : (z : Layout) (o : Opening) (words : List ℕ) (hs : List Holding) (log : List Applied) (indices : List ℕ) (low high : ℕ) (p : viewing.Pair) → p.0.sizes ≡ z →
+    LawfulWords z o words hs log → viewing.GoTogether indices p → low ≤ high → high ≤ length log → scans.Knows z o words hs log indices low high p → scans.KnowsOn z o words hs log indices low high p
+view_leads z o words hs log indices low high p e w together order inside knows =
+    subst (λ (y : Layout). LawfulWords y o words hs log → scans.Knows y o words hs log indices low high p → scans.KnowsOn y o words hs log indices low high p) e
+    (λ v k. embedded_scans_know o words hs log indices low high p v together order inside k) w knows
 
 -- what is kept of a getSet's answer
-set_answer : (z : Layout) (o : Opening) (words : List ℕ) (hs : List Holding) (log : List Applied) (low : ℕ) (p : finding.Pair) (f : Option Step) (k : Kept) → IsSome f → finding_answers.IsPossible p k.answer → low ≤ k.at → IsTrueYet z o words hs log f k → sets.IsKeptAnswer z o words hs log low p f k
+set_answer : (z : Layout) (o : Opening) (words : List ℕ) (hs : List Holding) (log : List Applied) (low : ℕ) (p : finding.Pair) (f : Option Step) (k : Kept) → IsSome f →
+    finding_answers.IsPossible p k.answer → low ≤ k.at → IsTrueYet z o words hs log f k → sets.IsKeptAnswer z o words hs log low p f k
 set_answer z o words hs log low p None k due possible after yet = absurd (false≢true due)
 set_answer z o words hs log low p (Some (Load n)) k due possible after yet = (possible, after, yet)
 set_answer z o words hs log low p (Some (Store n v)) k due possible after yet = possible
 set_answer z o words hs log low p (Some (Exchange n old new)) k due possible after yet = possible
 set_answer z o words hs log low p (Some (Add n v)) k due possible after yet = possible
 
-module _ (z : Layout) (o : Opening) (words : List ℕ) (hs : List Holding) (log : List Applied) (w : LawfulWords z o words hs log) (begun : CoreState) (first since high : ℕ) (order : first ≤ high) (s : CoreState) (sizes : s.sizes ≡ z) (sound : IsSound s) (k : Kept) (after : high ≤ k.at) (within : k.at ≤ length log) where
+module _ (z : Layout) (o : Opening) (words : List ℕ) (hs : List Holding) (log : List Applied) (w : LawfulWords z o words hs log) (begun : CoreState) (first since high : ℕ) (order : first ≤ high)
+    (s : CoreState) (sizes : s.sizes ≡ z) (sound : IsSound s) (k : Kept) (after : high ≤ k.at) (within : k.at ≤ length log) where
   -- what is known behind the answer, where the port joined at that length
   abbrev pub Then : ℕ → CoreState → Type 0
   Then n t = Knows z o words hs log begun first n k.at t
@@ -161,7 +177,8 @@ module _ (z : Layout) (o : Opening) (words : List ℕ) (hs : List Holding) (log 
   here : (t : Stage) → s.stage ≡ t → is_sound_at s t
   here t e = subst (is_sound_at s) e sound.stage
 
-  set_on : (c : Change) (old : ℕ) → s.stage ≡ GettingSet c old → knows_at z o words hs log begun first since high s (GettingSet c old) → finding_answers.IsPossible (getting s) k.answer → IsTrueYet z o words hs log (finding.step_of s.get_set) k → sets.Knows z words hs first (finding.advance (getting s) k.answer)
+  set_on : (c : Change) (old : ℕ) → s.stage ≡ GettingSet c old → knows_at z o words hs log begun first since high s (GettingSet c old) → finding_answers.IsPossible (getting s) k.answer →
+      IsTrueYet z o words hs log (finding.step_of s.get_set) k → sets.Knows z words hs first (finding.advance (getting s) k.answer)
   set_on c old e knows possible yet =
       let h = here (GettingSet c old) e in
       let leads = set_leads z o words hs log first (getting s) (h.2 ∙ sizes) w h.1 knows.1 in
@@ -175,28 +192,34 @@ module _ (z : Layout) (o : Opening) (words : List ℕ) (hs : List Holding) (log 
       ended u = record t { embedded = viewing.fresh t.sizes true; stage = u }
 
       Case : Option Step → Type 0
-      Case f = Knows z o words hs log begun first since k.at (option_map_or (λ _. t) f (record t { embedded = viewing.fresh t.sizes true; stage = cond (length t.found.indices == 0) (ClaimingRecord c old) (Viewing c old) }))
+      Case f = Knows z o words hs log begun first since k.at (option_map_or (λ _. t) f
+          (record t { embedded = viewing.fresh t.sizes true; stage = cond (length t.found.indices == 0) (ClaimingRecord c old) (Viewing c old) }))
 
       by_step : (f : Option Step) → finding.step_of t.get_set ≡ f → Case (finding.step_of t.get_set)
       by_step (Some step) is = subst Case (sym is) (subst (λ (u : Stage). knows_at z o words hs log begun first since k.at t u) (sym e) (knows, known))
       by_step None is =
           let found : sets.FindsJoined hs first t.found.indices = set_finished z t.get_set.sizes words hs first t.get_set.head t.get_set.stage (getting t) is known in
           subst Case (sym is)
-          (cond_both (length t.found.indices == 0) (ClaimingRecord c old) (Viewing c old) (λ (u : Stage). Knows z o words hs log begun first since k.at (record t { embedded = viewing.fresh t.sizes true; stage = u }))
+          (cond_both (length t.found.indices == 0) (ClaimingRecord c old) (Viewing c old)
+              (λ (u : Stage). Knows z o words hs log begun first since k.at (record t { embedded = viewing.fresh t.sizes true; stage = u }))
           (λ none. (knows, (found, inl (eqb-true (length t.found.indices) 0 none, refl))))
           (λ some. (knows, found, scan_begins z t.sizes true o words hs log t.found.indices first k.at t.rows (omega (arith, order, after)))))
 
-  getting_on : (c : Change) (old : ℕ) → s.stage ≡ GettingSet c old → knows_at z o words hs log begun first since high s (GettingSet c old) → finding_answers.IsPossible (getting s) k.answer → IsTrueYet z o words hs log (finding.step_of s.get_set) k → Then since (advance_at s (GettingSet c old) k.answer)
+  getting_on : (c : Change) (old : ℕ) → s.stage ≡ GettingSet c old → knows_at z o words hs log begun first since high s (GettingSet c old) → finding_answers.IsPossible (getting s) k.answer →
+      IsTrueYet z o words hs log (finding.step_of s.get_set) k → Then since (advance_at s (GettingSet c old) k.answer)
   getting_on c old e knows possible yet = getting_then (with_getting s (finding.advance (getting s) k.answer)) c old e knows.0 (set_on c old e knows possible yet)
 
   -- the embedded scan of the indices found goes on, or it is finished
-  view_on : (indices : List ℕ) (low : ℕ) → s.embedded.sizes ≡ s.sizes → viewing.GoTogether indices (scanning s) → IsSome (viewing.step_of indices (scanning s)) → low ≤ high → scans.Knows z o words hs log indices low high (scanning s) → IsTrueYet z o words hs log (viewing.step_of indices (scanning s)) k → scans.Knows z o words hs log indices low k.at (viewing.advance indices (scanning s) k.answer)
+  view_on : (indices : List ℕ) (low : ℕ) → s.embedded.sizes ≡ s.sizes → viewing.GoTogether indices (scanning s) → IsSome (viewing.step_of indices (scanning s)) → low ≤ high →
+      scans.Knows z o words hs log indices low high (scanning s) → IsTrueYet z o words hs log (viewing.step_of indices (scanning s)) k → scans.Knows z o words hs log indices low k.at
+      (viewing.advance indices (scanning s) k.answer)
   view_on indices low same together due from knows yet =
       let load = view_loads s.embedded.sizes indices s.rows.last s.embedded.stage due in
       let leads = view_leads z o words hs log indices low high (scanning s) (same ∙ sizes) w together from (omega (arith, after, within)) knows in
       leads.on load.0 k load.1 (subst (λ (f : Option Step). IsTrueYet z o words hs log f k) load.1 yet) after
 
-  view_then : (t : CoreState) (c : Change) (old : ℕ) → t.stage ≡ Viewing c old → KnowsOld o log begun first c old → sets.FindsJoined hs first t.found.indices → scans.Knows z o words hs log t.found.indices first k.at (scanning t) → Then since (after_scanning t t.found.indices (ClaimingRecord c old))
+  view_then : (t : CoreState) (c : Change) (old : ℕ) → t.stage ≡ Viewing c old → KnowsOld o log begun first c old → sets.FindsJoined hs first t.found.indices →
+      scans.Knows z o words hs log t.found.indices first k.at (scanning t) → Then since (after_scanning t t.found.indices (ClaimingRecord c old))
   view_then t c old e knows found known = by_step (viewing.step_of t.found.indices (scanning t)) refl
     where
       Case : Option Step → Type 0
@@ -206,12 +229,14 @@ module _ (z : Layout) (o : Opening) (words : List ℕ) (hs : List Holding) (log 
       by_step (Some step) is = subst Case (sym is) (subst (λ (u : Stage). knows_at z o words hs log begun first since k.at t u) (sym e) (knows, found, known))
       by_step None is = subst Case (sym is) (knows, (found, inr (view_finished z o words hs log t.found.indices first k.at t.rows.last t.embedded.sizes t.embedded.stage (scanning t) within is known)))
 
-  viewing_on : (c : Change) (old : ℕ) → s.stage ≡ Viewing c old → knows_at z o words hs log begun first since high s (Viewing c old) → IsTrueYet z o words hs log (viewing.step_of s.found.indices (scanning s)) k → Then since (advance_at s (Viewing c old) k.answer)
+  viewing_on : (c : Change) (old : ℕ) → s.stage ≡ Viewing c old → knows_at z o words hs log begun first since high s (Viewing c old) →
+      IsTrueYet z o words hs log (viewing.step_of s.found.indices (scanning s)) k → Then since (advance_at s (Viewing c old) k.answer)
   viewing_on c old e knows yet =
       let h = here (Viewing c old) e in
       view_then (with_scanning s (viewing.advance s.found.indices (scanning s) k.answer)) c old e knows.0 knows.1 (view_on s.found.indices first h.2 h.1 h.3 order knows.2 yet)
 
-  scan_then : (t : CoreState) → t.stage ≡ Scanning → KnowsScan begun t → first ≤ since → since ≤ k.at → t.embedded.shares ≡ false → t.embedded.collects ≤ length t.asked + 2 → scans.Knows z o words hs log t.asked since k.at (scanning t) → Then since (after_scanning t t.asked Leaving)
+  scan_then : (t : CoreState) → t.stage ≡ Scanning → KnowsScan begun t → first ≤ since → since ≤ k.at → t.embedded.shares ≡ false → t.embedded.collects ≤ length t.asked + 2 →
+      scans.Knows z o words hs log t.asked since k.at (scanning t) → Then since (after_scanning t t.asked Leaving)
   scan_then t e knows from to shares few known = by_step (viewing.step_of t.asked (scanning t)) refl
     where
       Case : Option Step → Type 0
@@ -219,14 +244,17 @@ module _ (z : Layout) (o : Opening) (words : List ℕ) (hs : List Holding) (log 
 
       by_step : (f : Option Step) → viewing.step_of t.asked (scanning t) ≡ f → Case (viewing.step_of t.asked (scanning t))
       by_step (Some step) is = subst Case (sym is) (subst (λ (u : Stage). knows_at z o words hs log begun first since k.at t u) (sym e) (knows, from, to, shares, known))
-      by_step None is = subst Case (sym is) (record { called = knows.called; asked = knows.asked }, from, omega (arith, to, within), shares, few, view_finished z o words hs log t.asked since k.at t.rows.last t.embedded.sizes t.embedded.stage (scanning t) within is known)
+      by_step None is = subst Case (sym is) (record { called = knows.called; asked = knows.asked }, from, omega (arith, to, within), shares, few,
+          view_finished z o words hs log t.asked since k.at t.rows.last t.embedded.sizes t.embedded.stage (scanning t) within is known)
 
-  scanning_on : s.stage ≡ Scanning → knows_at z o words hs log begun first since high s Scanning → viewing.IsPossible (scanning s) k.answer → IsTrueYet z o words hs log (viewing.step_of s.asked (scanning s)) k → Then since (advance_at s Scanning k.answer)
+  scanning_on : s.stage ≡ Scanning → knows_at z o words hs log begun first since high s Scanning → viewing.IsPossible (scanning s) k.answer →
+      IsTrueYet z o words hs log (viewing.step_of s.asked (scanning s)) k → Then since (advance_at s Scanning k.answer)
   scanning_on e knows possible yet =
       let h = here Scanning e in
       let kept = viewed.kept s.asked (scanning s) k.answer h.0 possible in
       let to = knows.2 in
-      scan_then (with_scanning s (viewing.advance s.asked (scanning s) k.answer)) e (record { called = knows.0.called; asked = knows.0.asked }) knows.1 (omega (arith, to, after)) (view_shares s.asked (scanning s) s.embedded.stage k.answer ∙ knows.3) kept.together.collects (view_on s.asked since h.1 h.0 h.2 to knows.4 yet)
+      scan_then (with_scanning s (viewing.advance s.asked (scanning s) k.answer)) e (record { called = knows.0.called; asked = knows.0.asked }) knows.1 (omega (arith, to, after))
+          (view_shares s.asked (scanning s) s.embedded.stage k.answer ∙ knows.3) kept.together.collects (view_on s.asked since h.1 h.0 h.2 to knows.4 yet)
 
   -- a join that has stored its announcement begins the embedded scan
   join_then : (t : CoreState) (j : JoinStage) (n : ℕ) → t.stage ≡ Joining → KnowsScan begun t → first ≤ n → n ≤ k.at → Then n (after_joining t j)
@@ -236,36 +264,46 @@ module _ (z : Layout) (o : Opening) (words : List ℕ) (hs : List Holding) (log 
   join_then t Spent n e knows from to = tt
 
   -- a claim of a join knows nothing of a length, and its store is made at the length of its answer
-  joining_on : (j : JoinStage) → s.join.stage ≡ j → s.stage ≡ Joining → knows_at z o words hs log begun first since high s Joining → Then (cond (joins_at s Joining) k.at since) (advance_at s Joining k.answer)
+  joining_on : (j : JoinStage) → s.join.stage ≡ j → s.stage ≡ Joining → knows_at z o words hs log begun first since high s Joining → Then (cond (joins_at s Joining) k.at since)
+      (advance_at s Joining k.answer)
   joining_on j at e knows = subst Case (sym at) (by_stage j (subst (λ (i : JoinStage). IsSome (join_step s.join.sizes s.join.announcement i)) at (here Joining e).4))
     where
       joined : JoinStage → CoreState
       joined i = record s { join = record s.join { stage = i } }
 
       Case : JoinStage → Type 0
-      Case i = Knows z o words hs log begun first (cond (is_storing i) k.at since) k.at (after_joining (record s { join = record s.join { stage = join_after s.join.sizes i k.answer } }) (join_after s.join.sizes i k.answer))
+      Case i = Knows z o words hs log begun first (cond (is_storing i) k.at since) k.at
+          (after_joining (record s { join = record s.join { stage = join_after s.join.sizes i k.answer } }) (join_after s.join.sizes i k.answer))
 
       by_stage : (i : JoinStage) → IsSome (join_step s.join.sizes s.join.announcement i) → Case i
-      by_stage Claiming due = cond_both (nat_lt k.answer s.join.sizes.slots) (Storing k.answer) Spent (λ (i : JoinStage). Knows z o words hs log begun first since k.at (after_joining (record s { join = record s.join { stage = i } }) i))
-          (λ claimed. subst (λ (u : Stage). knows_at z o words hs log begun first since k.at (record s { join = record s.join { stage = Storing k.answer } }) u) (sym e) (record { called = knows.called; asked = knows.asked }))
+      by_stage Claiming due = cond_both (nat_lt k.answer s.join.sizes.slots) (Storing k.answer) Spent
+          (λ (i : JoinStage). Knows z o words hs log begun first since k.at (after_joining (record s { join = record s.join { stage = i } }) i))
+          (λ claimed. subst (λ (u : Stage). knows_at z o words hs log begun first since k.at (record s { join = record s.join { stage = Storing k.answer } }) u) (sym e)
+              (record { called = knows.called; asked = knows.asked }))
           (λ refused. tt)
-      by_stage (Storing slot) due = join_then (record s { join = record s.join { stage = JoinedIn slot } }) (JoinedIn slot) k.at e (record { called = knows.called; asked = knows.asked }) (omega (arith, order, after)) (omega arith)
+      by_stage (Storing slot) due = join_then (record s { join = record s.join { stage = JoinedIn slot } }) (JoinedIn slot) k.at e (record { called = knows.called; asked = knows.asked })
+          (omega (arith, order, after)) (omega arith)
       by_stage (JoinedIn slot) due = absurd (false≢true due)
       by_stage Spent due = absurd (false≢true due)
 
   -- the first answer is an update's or a read's component, or a scan's claim
-  pub on_at : (t : Stage) → s.stage ≡ t → knows_at z o words hs log begun first since high s t → IsPossibleAt s t k.answer → IsTrueYet z o words hs log (step_at s t) k → Then (cond (joins_at s t) k.at since) (advance_at s t k.answer)
+  pub on_at : (t : Stage) → s.stage ≡ t → knows_at z o words hs log begun first since high s t → IsPossibleAt s t k.answer → IsTrueYet z o words hs log (step_at s t) k →
+      Then (cond (joins_at s t) k.at since) (advance_at s t k.answer)
   on_at Idle e knows possible yet = absurd knows
   on_at (ReadBegun j) e knows possible yet = absurd knows
   on_at (LoadingValue stamp) e knows possible yet = tt
   on_at (UpdateBegun c) e knows possible yet = absurd knows
   on_at (GettingSet c old) e knows possible yet = getting_on c old e knows possible yet
   on_at (Viewing c old) e knows possible yet = viewing_on c old e knows yet
-  on_at (ClaimingRecord c old) e knows possible yet = cond_both (fits_pool s.sizes (record_size s) k.answer) (at_stage s (StoringRecord c old k.answer 0)) (pool_refused s) (λ (t : CoreState). Knows z o words hs log begun first since k.at t) (λ fits. knows) (λ refused. tt)
-  on_at (StoringRecord c old at n) e knows possible yet = cond_both (n + 1 == record_size s) (Exchanging c old at) (StoringRecord c old at (n + 1)) (λ (u : Stage). Knows z o words hs log begun first since k.at (at_stage s u)) (λ last. knows) (λ more. knows)
+  on_at (ClaimingRecord c old) e knows possible yet = cond_both (fits_pool s.sizes (record_size s) k.answer) (at_stage s (StoringRecord c old k.answer 0)) (pool_refused s)
+      (λ (t : CoreState). Knows z o words hs log begun first since k.at t) (λ fits. knows) (λ refused. tt)
+  on_at (StoringRecord c old at n) e knows possible yet = cond_both (n + 1 == record_size s) (Exchanging c old at) (StoringRecord c old at (n + 1))
+      (λ (u : Stage). Knows z o words hs log begun first since k.at (at_stage s u)) (λ last. knows) (λ more. knows)
   on_at (Exchanging c old at) e knows possible yet = tt
   on_at ScanBegun e knows possible yet = absurd knows
-  on_at (StoringAnnouncement at n) e knows possible yet = cond_both (n == length s.asked) (begin_joining s at) (at_stage s (StoringAnnouncement at (n + 1))) (λ (t : CoreState). Knows z o words hs log begun first since k.at t) (λ last. record { called = knows.called; asked = knows.asked }) (λ more. record { called = knows.called; asked = knows.asked })
+  on_at (StoringAnnouncement at n) e knows possible yet = cond_both (n == length s.asked) (begin_joining s at) (at_stage s (StoringAnnouncement at (n + 1)))
+      (λ (t : CoreState). Knows z o words hs log begun first since k.at t) (λ last. record { called = knows.called; asked = knows.asked })
+      (λ more. record { called = knows.called; asked = knows.asked })
   on_at Joining e knows possible yet = joining_on s.join.stage refl e knows
   on_at Scanning e knows possible yet = scanning_on e knows possible yet
   on_at Leaving e knows possible yet = tt

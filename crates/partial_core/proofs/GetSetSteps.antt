@@ -28,7 +28,7 @@ use Rattle.partial_machine.specs.Sound.{is_sound_at}
 use Rattle.partial_state.specs.Holdings.{Own, Holding}
 use Rattle.partial_state.specs.Holdings.Space.{Lists}
 use Rattle.partial_state.specs.Effects.{IsKept}
-use Rattle.partial_state.proofs.Quiet.{lists_bound}
+use Rattle.partial_state.proofs.NoNewEntry.{lists_bound}
 use Rattle.partial_state.proofs.MarkLaws.{list_refusals_are_kept}
 use Rattle.partial_state.proofs.BlockLaws.{claims_are_kept, stores_are_kept, publishings_are_kept}
 use Rattle.partial_state.proofs.LoadLaw.{loads_are_true}
@@ -84,7 +84,8 @@ module _ (u : CoreState) (c : Change) (old : ℕ) (e : u.stage ≡ GettingSet c 
 
       by_step : (f : Option Step) → finding.step_of u.get_set ≡ f → Case (finding.step_of u.get_set)
       by_step (Some step) is = subst Case (sym is) goes
-      by_step None is = subst Case (sym is) (cond_both (length u.found.indices == 0) (ClaimingRecord c old) (Viewing c old) (λ (v : Stage). P (past v)) (λ none. ended (ClaimingRecord c old) is (inl refl)) (λ some. ended (Viewing c old) is (inr refl)))
+      by_step None is = subst Case (sym is) (cond_both (length u.found.indices == 0) (ClaimingRecord c old) (Viewing c old) (λ (v : Stage). P (past v))
+          (λ none. ended (ClaimingRecord c old) is (inl refl)) (λ some. ended (Viewing c old) is (inr refl)))
 
   -- behind the getSet's own answer the port holds what the getSet holds
   after_holds : (n : ℕ) → holding_at (after_getting u c old) n ≡ in_set u (own_list u.found.next u.get_set.stage) u.get_set.lists_spent
@@ -110,24 +111,32 @@ IsCalm b p = (own_list p.1.next p.0.stage ≡ None) × (p.0.lists_spent ≡ b)
 
 calm_at_slot : (p : finding.Pair) (slot : ℕ) → IsCalm p.0.lists_spent (finding.at_slot p slot)
 calm_at_slot p slot = cond_both (ltb slot p.0.end) (record p.0 { stage = Slot slot }, p.1) (finding.after_walk p) (IsCalm p.0.lists_spent) (λ f. (refl, refl))
-    (λ f. cond_both (p.0.noted && not p.0.lists_spent) (Claim (finding.next_words p.1)) Done (λ stage. IsCalm p.0.lists_spent (record p.0 { stage = stage }, p.1)) (λ g. (refl, refl)) (λ g. (refl, refl)))
+    (λ f. cond_both (p.0.noted && not p.0.lists_spent) (Claim (finding.next_words p.1)) Done (λ stage. IsCalm p.0.lists_spent (record p.0 { stage = stage }, p.1))
+        (λ g. (refl, refl)) (λ g. (refl, refl)))
 
 calm_come : (p : finding.Pair) (slot : ℕ) → IsCalm p.0.lists_spent (finding.come_to p slot)
-calm_come p slot = cond_both (begins_at p.1.read p.0.passed slot) (finding.at_slot (finding.pass_interval p) (highest p.1.read p.0.passed + 1)) (finding.at_slot p slot) (IsCalm p.0.lists_spent) (λ f. calm_at_slot (finding.pass_interval p) (highest p.1.read p.0.passed + 1)) (λ f. calm_at_slot p slot)
+calm_come p slot = cond_both (begins_at p.1.read p.0.passed slot) (finding.at_slot (finding.pass_interval p) (highest p.1.read p.0.passed + 1)) (finding.at_slot p slot) (IsCalm p.0.lists_spent)
+    (λ f. calm_at_slot (finding.pass_interval p) (highest p.1.read p.0.passed + 1)) (λ f. calm_at_slot p slot)
 
 -- a load leads to no list that is written, and marks nothing
-calm_load : (y : Layout) (head n : ℕ) (stage : SetStage) (p : finding.Pair) (a : ℕ) → finding.step_at y head stage ≡ Some (Load n) → (own_list p.1.next stage ≡ None) × IsCalm p.0.lists_spent (finding.advance_at stage p a)
-calm_load y head n Head p a e = (refl, cond_both (eqb a 0) Counter (ListLen a) (λ stage. IsCalm p.0.lists_spent (record p.0 { head = a; stage = stage }, record p.1 { indices = []; read = []; next = [] })) (λ f. (refl, refl)) (λ f. (refl, refl)))
+calm_load : (y : Layout) (head n : ℕ) (stage : SetStage) (p : finding.Pair) (a : ℕ) → finding.step_at y head stage ≡ Some (Load n) → (own_list p.1.next stage ≡ None) ×
+    IsCalm p.0.lists_spent (finding.advance_at stage p a)
+calm_load y head n Head p a e = (refl, cond_both (eqb a 0) Counter (ListLen a)
+    (λ stage. IsCalm p.0.lists_spent (record p.0 { head = a; stage = stage }, record p.1 { indices = []; read = []; next = [] })) (λ f. (refl, refl)) (λ f. (refl, refl)))
 calm_load y head n (ListLen at) p a e = (refl, cond_both (eqb a 0) Counter (ListLow (at + 1) a) (λ stage. IsCalm p.0.lists_spent (finding.in_stage p stage)) (λ f. (refl, refl)) (λ f. (refl, refl)))
 calm_load y head n (ListLow at left) p a e = (refl, (refl, refl))
-calm_load y head n (ListHigh at left lo) p a e = (refl, cond_both (eqb left 1) Counter (ListLow (at + 1) (left - 1)) (λ stage. IsCalm p.0.lists_spent (record p.0 { stage = stage }, record p.1 { read = p.1.read ++ (lo, a) ∷ [] })) (λ f. (refl, refl)) (λ f. (refl, refl)))
+calm_load y head n (ListHigh at left lo) p a e = (refl, cond_both (eqb left 1) Counter (ListLow (at + 1) (left - 1))
+    (λ stage. IsCalm p.0.lists_spent (record p.0 { stage = stage }, record p.1 { read = p.1.read ++ (lo, a) ∷ [] })) (λ f. (refl, refl)) (λ f. (refl, refl)))
 calm_load y head n Counter p a e = (refl, calm_come (record p.0 { end = min a p.0.sizes.slots; passed = 0 }, p.1) 0)
 calm_load y head n (Slot slot) p a e = (
   refl,
-  cond_both (eqb a 0) (finding.come_to p (slot + 1)) (cond (eqb a 1) (finding.come_to (finding.note_slot p slot) (slot + 1)) (finding.in_stage p (Len slot a))) (IsCalm p.0.lists_spent) (λ f. calm_come p (slot + 1))
-      (λ f. cond_both (eqb a 1) (finding.come_to (finding.note_slot p slot) (slot + 1)) (finding.in_stage p (Len slot a)) (IsCalm p.0.lists_spent) (λ g. calm_come (finding.note_slot p slot) (slot + 1)) (λ g. (refl, refl))),
+  cond_both (eqb a 0) (finding.come_to p (slot + 1)) (cond (eqb a 1) (finding.come_to (finding.note_slot p slot) (slot + 1)) (finding.in_stage p (Len slot a))) (IsCalm p.0.lists_spent)
+      (λ f. calm_come p (slot + 1))
+      (λ f. cond_both (eqb a 1) (finding.come_to (finding.note_slot p slot) (slot + 1)) (finding.in_stage p (Len slot a)) (IsCalm p.0.lists_spent)
+          (λ g. calm_come (finding.note_slot p slot) (slot + 1)) (λ g. (refl, refl))),
 )
-calm_load y head n (Len slot at) p a e = (refl, cond_both (eqb a 0) (finding.come_to p (slot + 1)) (finding.in_stage p (Index slot (at + 1) a)) (IsCalm p.0.lists_spent) (λ f. calm_come p (slot + 1)) (λ f. (refl, refl)))
+calm_load y head n (Len slot at) p a e = (refl, cond_both (eqb a 0) (finding.come_to p (slot + 1)) (finding.in_stage p (Index slot (at + 1) a)) (IsCalm p.0.lists_spent)
+    (λ f. calm_come p (slot + 1)) (λ f. (refl, refl)))
 calm_load y head n (Index slot at left) p a e =
     let q : finding.Pair = (p.0, record p.1 { indices = with_index p.1.indices a }) in
     (refl, cond_both (eqb left 1) (finding.come_to q (slot + 1)) (finding.in_stage q (Index slot (at + 1) (left - 1))) (IsCalm p.0.lists_spent) (λ f. calm_come q (slot + 1)) (λ f. (refl, refl)))
@@ -136,7 +145,8 @@ calm_load y head n (Write at k count word) p a e = absurd cc
 calm_load y head n (Publish at) p a e = absurd cc
 calm_load y head n Done p a e = absurd cc
 
-module _ (z : Layout) (o : Opening) (words : List ℕ) (before : List Part) (x : Part) (after : List Part) (log : List Applied) (w : Lawful z o words (before ++ x ∷ after) log) (c : Change) (old : ℕ) (e : (core_of x).stage ≡ GettingSet c old) where
+module _ (z : Layout) (o : Opening) (words : List ℕ) (before : List Part) (x : Part) (after : List Part) (log : List Applied) (w : Lawful z o words (before ++ x ∷ after) log) (c : Change) (old : ℕ)
+    (e : (core_of x).stage ≡ GettingSet c old) where
   gets : is_sound_at (core_of x) (GettingSet c old)
   gets = sound_at z o words before x after log w (GettingSet c old) e
 
@@ -150,7 +160,8 @@ module _ (z : Layout) (o : Opening) (words : List ℕ) (before : List Part) (x :
   leads_on : sets.KnowsOn z o words (holdings (before ++ x ∷ after)) log (first_at x.kept) (getting (core_of x))
   leads_on =
       let h = gets in
-      subst (λ (y : Layout). LawfulWords y o words (holdings (before ++ x ∷ after)) log → sets.Knows y words (holdings (before ++ x ∷ after)) (first_at x.kept) (getting (core_of x)) → sets.KnowsOn y o words (holdings (before ++ x ∷ after)) log (first_at x.kept) (getting (core_of x))) same_sizes
+      subst (λ (y : Layout). LawfulWords y o words (holdings (before ++ x ∷ after)) log → sets.Knows y words (holdings (before ++ x ∷ after)) (first_at x.kept) (getting (core_of x)) →
+          sets.KnowsOn y o words (holdings (before ++ x ∷ after)) log (first_at x.kept) (getting (core_of x))) same_sizes
       (λ v k. getsets_know o words (holdings (before ++ x ∷ after)) log (first_at x.kept) (getting (core_of x)) v h.1 k) w.memory knows
 
   -- nothing is noted
@@ -158,7 +169,8 @@ module _ (z : Layout) (o : Opening) (words : List ℕ) (before : List Part) (x :
   silent a = subst (λ (r : Option Reply). AreNotesOf (gone x log a []) r []) (sym (no_reply (with_getting (core_of x) (finding.advance (getting (core_of x)) a)) c old e)) refl
 
   -- what the port holds behind an answer
-  holds_then : (a : ℕ) (own : Option Own) (spent : Bool) → own_list (finding.advance (getting (core_of x)) a).1.next (finding.advance (getting (core_of x)) a).0.stage ≡ own → (finding.advance (getting (core_of x)) a).0.lists_spent ≡ spent → holding_at (advance_at (core_of x) (GettingSet c old) a) (joined_since x) ≡ in_set (core_of x) own spent
+  holds_then : (a : ℕ) (own : Option Own) (spent : Bool) → own_list (finding.advance (getting (core_of x)) a).1.next (finding.advance (getting (core_of x)) a).0.stage ≡ own →
+      (finding.advance (getting (core_of x)) a).0.lists_spent ≡ spent → holding_at (advance_at (core_of x) (GettingSet c old) a) (joined_since x) ≡ in_set (core_of x) own spent
   holds_then a own spent owns marks =
       let q : finding.Pair = finding.advance (getting (core_of x)) a in
       after_holds (with_getting (core_of x) q) c old e (joined_since x)
@@ -192,29 +204,41 @@ module _ (z : Layout) (o : Opening) (words : List ℕ) (before : List Part) (x :
   due_at stage step is due = ap (λ (y : Layout). finding.step_at y (core_of x).get_set.head (core_of x).get_set.stage) same_sizes ∙ ap (finding.step_at z (core_of x).get_set.head) is ∙ due
 
   -- the words with what the port holds, as it is named
-  memory_in : (own : Option Own) (spent : Bool) → own_list (core_of x).found.next (core_of x).get_set.stage ≡ own → (core_of x).get_set.lists_spent ≡ spent → LawfulWords z o words (holdings before ++ in_set (core_of x) own spent ∷ holdings after) log
+  memory_in : (own : Option Own) (spent : Bool) → own_list (core_of x).found.next (core_of x).get_set.stage ≡ own → (core_of x).get_set.lists_spent ≡ spent →
+      LawfulWords z o words (holdings before ++ in_set (core_of x) own spent ∷ holdings after) log
   memory_in own spent owns marks =
       subst (λ (b : Bool). LawfulWords z o words (holdings before ++ in_set (core_of x) own b ∷ holdings after) log) marks
-      (subst (λ (f : Option Own). LawfulWords z o words (holdings before ++ in_set (core_of x) f (core_of x).get_set.lists_spent ∷ holdings after) log) owns (memory_at z o words before x after log w (GettingSet c old) e))
+      (subst (λ (f : Option Own). LawfulWords z o words (holdings before ++ in_set (core_of x) f (core_of x).get_set.lists_spent ∷ holdings after) log) owns
+          (memory_at z o words before x after log w (GettingSet c old) e))
 
   -- a step that isn't a load, from what it does to the words and to what the port holds
-  made : (stage : SetStage) (step : Step) (own own' : Option Own) (spent spent' : Bool) → (core_of x).get_set.stage ≡ stage → finding.step_at z (core_of x).get_set.head stage ≡ Some step → word_of step < length words →
+  made : (stage : SetStage) (step : Step) (own own' : Option Own) (spent spent' : Bool) → (core_of x).get_set.stage ≡ stage → finding.step_at z (core_of x).get_set.head stage ≡ Some step →
+      word_of step < length words →
       own_list (core_of x).found.next stage ≡ own → (core_of x).get_set.lists_spent ≡ spent →
       finding_answers.is_possible_at stage (getting (core_of x)) (answer_of words step) →
-      own_list (finding.advance_at stage (getting (core_of x)) (answer_of words step)).1.next (finding.advance_at stage (getting (core_of x)) (answer_of words step)).0.stage ≡ own' → (finding.advance_at stage (getting (core_of x)) (answer_of words step)).0.lists_spent ≡ spent' →
-      (LawfulWords z o words (holdings before ++ in_set (core_of x) own spent ∷ holdings after) log → IsKept z o words (holdings before) (in_set (core_of x) own spent) (holdings after) log (words_after words step) (in_set (core_of x) own' spent') log) →
+      own_list (finding.advance_at stage (getting (core_of x)) (answer_of words step)).1.next (finding.advance_at stage (getting (core_of x)) (answer_of words step)).0.stage ≡ own' →
+          (finding.advance_at stage (getting (core_of x)) (answer_of words step)).0.lists_spent ≡ spent' →
+      (LawfulWords z o words (holdings before ++ in_set (core_of x) own spent ∷ holdings after) log → IsKept z o words (holdings before) (in_set (core_of x) own spent) (holdings after) log
+          (words_after words step) (in_set (core_of x) own' spent') log) →
       ((hs : List Holding) → IsTrueYet z o (words_after words step) hs log (Some step) (record { answer = answer_of words step; at = length log })) →
       LeadsAt z o words before x after log (core_of x) (GettingSet c old) step
   made stage step own own' spent spent' is due within owns marks possible owns' marks' kept yet =
       let a : ℕ = answer_of words step in
       let now : own_list (core_of x).found.next (core_of x).get_set.stage ≡ own = ap (own_list (core_of x).found.next) is ∙ owns in
-      let keeps : IsKept z o words (holdings before) (in_set (core_of x) own spent) (holdings after) log (words_after words step) (in_set (core_of x) own' spent') log = kept (memory_in own spent now marks) in
-      let keeps_marked = subst (λ (b : Bool). IsKept z o words (holdings before) (in_set (core_of x) own b) (holdings after) log (words_after words step) (in_set (core_of x) own' spent') log) (sym marks) keeps in
-      let keeps_owned = subst (λ (f : Option Own). IsKept z o words (holdings before) (in_set (core_of x) f (core_of x).get_set.lists_spent) (holdings after) log (words_after words step) (in_set (core_of x) own' spent') log) (sym now) keeps_marked in
-      let keeps_here : IsKept z o words (holdings before) (holding_of x) (holdings after) log (words_after words step) (in_set (core_of x) own' spent') log = subst (λ (v : Stage). IsKept z o words (holdings before) (holding_in (core_of x) v (joined_since x)) (holdings after) log (words_after words step) (in_set (core_of x) own' spent') log) (sym e) keeps_owned in
-      quiet z o words before x after log w (GettingSet c old) step (advance_at (core_of x) (GettingSet c old) (answer_of words step)) (in_set (core_of x) own' spent') e (due_at stage step is due) refl refl within
+      let keeps : IsKept z o words (holdings before) (in_set (core_of x) own spent) (holdings after) log (words_after words step) (in_set (core_of x) own' spent') log =
+          kept (memory_in own spent now marks) in
+      let keeps_marked = subst (λ (b : Bool). IsKept z o words (holdings before) (in_set (core_of x) own b) (holdings after) log (words_after words step)
+          (in_set (core_of x) own' spent') log) (sym marks) keeps in
+      let keeps_owned = subst (λ (f : Option Own). IsKept z o words (holdings before) (in_set (core_of x) f (core_of x).get_set.lists_spent) (holdings after) log (words_after words step)
+          (in_set (core_of x) own' spent') log) (sym now) keeps_marked in
+      let keeps_here : IsKept z o words (holdings before) (holding_of x) (holdings after) log (words_after words step) (in_set (core_of x) own' spent') log =
+          subst (λ (v : Stage). IsKept z o words (holdings before) (holding_in (core_of x) v (joined_since x)) (holdings after) log (words_after words step)
+          (in_set (core_of x) own' spent') log) (sym e) keeps_owned in
+      quiet z o words before x after log w (GettingSet c old) step (advance_at (core_of x) (GettingSet c old) (answer_of words step)) (in_set (core_of x) own' spent') e
+          (due_at stage step is due) refl refl within
       (subst (λ (t : SetStage). finding_answers.is_possible_at t (getting (core_of x)) (answer_of words step)) (sym is) possible)
-      (holds_then a own' spent' (ap (λ (t : SetStage). own_list (finding.advance_at t (getting (core_of x)) a).1.next (finding.advance_at t (getting (core_of x)) a).0.stage) is ∙ owns') (ap (λ (t : SetStage). (finding.advance_at t (getting (core_of x)) a).0.lists_spent) is ∙ marks'))
+      (holds_then a own' spent' (ap (λ (t : SetStage). own_list (finding.advance_at t (getting (core_of x)) a).1.next (finding.advance_at t (getting (core_of x)) a).0.stage) is ∙ owns')
+          (ap (λ (t : SetStage). (finding.advance_at t (getting (core_of x)) a).0.lists_spent) is ∙ marks'))
       keeps_here (λ hs same. yet hs) refl (silent a)
 
   -- how many words the next list has
@@ -295,8 +319,10 @@ module _ (z : Layout) (o : Opening) (words : List ℕ) (before : List Part) (x :
       (λ last. let whole = eqb-true (k + 1) count last in ap (listed at) (omega (arith, whole, length_is)))
       (λ more. refl))
       refl
-      (λ m. subst (λ v. IsKept z o words (holdings before) (in_set s (listed at k) s.get_set.lists_spent) (holdings after) log (words_after words (Store (at + k) v)) (in_set s (listed at (k + 1)) s.get_set.lists_spent) log) (sym goes.3)
-      (stores_are_kept z o words (holdings before) (in_set s (listed at k) s.get_set.lists_spent) (holdings after) log (record { space = Lists; at = at; words = list_block s.found.next; stored = k }) m refl refl (omega (arith, less, length_is))))
+      (λ m. subst (λ v. IsKept z o words (holdings before) (in_set s (listed at k) s.get_set.lists_spent) (holdings after) log (words_after words (Store (at + k) v))
+          (in_set s (listed at (k + 1)) s.get_set.lists_spent) log) (sym goes.3)
+      (stores_are_kept z o words (holdings before) (in_set s (listed at k) s.get_set.lists_spent) (holdings after) log (record { space = Lists; at = at; words = list_block s.found.next; stored = k })
+          m refl refl (omega (arith, less, length_is))))
       (λ hs. tt)
 
   -- the exchange of the list head
@@ -307,12 +333,15 @@ module _ (z : Layout) (o : Opening) (words : List ℕ) (before : List Part) (x :
       let known = known_at (Publish at) is in
       let long = w.memory.count in
       let some = w.memory.sizes.slots.0 in
-      made (Publish at) (Exchange (list_head z) s.get_set.head at) (listed at (length (list_block s.found.next))) None s.get_set.lists_spent s.get_set.lists_spent is refl (omega (arith, long, some)) refl refl tt refl refl
-      (λ m. publishings_are_kept z o words (holdings before) (in_set s (listed at (length (list_block s.found.next))) s.get_set.lists_spent) (holdings after) log s.get_set.head at s.found.next m refl refl goes.0 known.0)
+      made (Publish at) (Exchange (list_head z) s.get_set.head at) (listed at (length (list_block s.found.next))) None s.get_set.lists_spent s.get_set.lists_spent is refl
+          (omega (arith, long, some)) refl refl tt refl refl
+      (λ m. publishings_are_kept z o words (holdings before) (in_set s (listed at (length (list_block s.found.next))) s.get_set.lists_spent) (holdings after) log s.get_set.head at s.found.next m
+          refl refl goes.0 known.0)
       (λ hs. tt)
 
   -- the step that is due at a stage of the getSet
-  stage_leads : (stage : SetStage) (step : Step) → (core_of x).get_set.stage ≡ stage → finding.step_at z (core_of x).get_set.head stage ≡ Some step → LeadsAt z o words before x after log (core_of x) (GettingSet c old) step
+  stage_leads : (stage : SetStage) (step : Step) → (core_of x).get_set.stage ≡ stage → finding.step_at z (core_of x).get_set.head stage ≡ Some step → LeadsAt z o words before x after log (core_of x)
+      (GettingSet c old) step
   stage_leads stage step is due = by_step stage step is due (due_at stage step is due)
     where
       Led : Step → Type 0
@@ -327,7 +356,8 @@ module _ (z : Layout) (o : Opening) (words : List ℕ) (before : List Part) (x :
       by_step u t at due here = absurd cc
 
 -- the due step of a getSet under way in an update
-pub getting_leads : (z : Layout) (o : Opening) (words : List ℕ) (before : List Part) (x : Part) (after : List Part) (log : List Applied) (w : Lawful z o words (before ++ x ∷ after) log) (c : Change) (old : ℕ) (step : Step) → (core_of x).stage ≡ GettingSet c old → step_at (core_of x) (GettingSet c old) ≡ Some step → LeadsAt z o words before x after log (core_of x) (GettingSet c old) step
+pub getting_leads : (z : Layout) (o : Opening) (words : List ℕ) (before : List Part) (x : Part) (after : List Part) (log : List Applied) (w : Lawful z o words (before ++ x ∷ after) log) (c : Change)
+    (old : ℕ) (step : Step) → (core_of x).stage ≡ GettingSet c old → step_at (core_of x) (GettingSet c old) ≡ Some step → LeadsAt z o words before x after log (core_of x) (GettingSet c old) step
 getting_leads z o words before x after log w c old step e due =
     stage_leads z o words before x after log w c old e (core_of x).get_set.stage step refl
     (ap (λ (y : Layout). finding.step_at y (core_of x).get_set.head (core_of x).get_set.stage) (sym (same_sizes z o words before x after log w c old e)) ∙ due)

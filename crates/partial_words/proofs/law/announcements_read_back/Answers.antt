@@ -1,5 +1,5 @@
 use Rattle.partial_words.proofs.BlockLemmas.{announcement_reads_back}
-use Rattle.partial_words.proofs.announcement.announcements_read_back.Goals as goal
+use Rattle.partial_words.proofs.law.announcements_read_back.Goals as goal
 
 pub returns : goal.returns
 returns c = announcement_reads_back

@@ -30,15 +30,16 @@ use Rattle.partial_places.specs.ScanPlace.{HasRecord, HasRecords}
 use Rattle.partial_replay.specs.Trace.{Moment}
 use Rattle.partial_replay.specs.CallSteps.{Makes, IsCallOf, AreStepsOf}
 use Rattle.partial_replay.specs.Turns.{BeginInTurns}
-use Rattle.partial_replay.specs.Listed.{steps_in}
+use Rattle.partial_replay.specs.Listed.{steps_in, AreFew}
 use Rattle.partial_replay.specs.Place.{IsNoteFrom, HasLeastPlace}
 use Rattle.partial_replay.specs.declared.port.Port.{Port}
 use Rattle.partial_replay.specs.declared.port.UnderWay.{UnderWay}
 
--- how long the history was at the end of a call, and of the last of several
+-- the length of the history at the end of a call, or low where it isn't finished
 abbrev pub end_of : ℕ → Called → ℕ
 end_of low c = option_map_or (λ f. f.ended) c.finish low
 
+-- the length of the history at the end of the last of the calls, or low where there is none
 abbrev pub ends_of : ℕ → List Called → ℕ
 ends_of low [] = low
 ends_of low (c ∷ cs) = ends_of (end_of low c) cs
@@ -46,7 +47,8 @@ ends_of low (c ∷ cs) = ends_of (end_of low c) cs
 -- a call that is finished, and has its place between its begin and its end
 pub record IsFinished (n low : ℕ) (c : Called) : Type 0 where
   pub behind : low ≤ c.began
-  pub ended : IsSomeAnd c.finish (λ f. (c.began ≤ f.ended) × (f.ended ≤ n) × IfSome f.note (λ note. (c.began ≤ place_of note) × (shown_by note ≤ f.ended)))
+  pub ended : IsSomeAnd c.finish (λ f. (c.began ≤ f.ended) × (f.ended ≤ n) ×
+      IfSome f.note (λ note. (c.began ≤ place_of note) × (shown_by note ≤ f.ended)))
 
 -- the finished calls of port p from number k on, one behind the other, in a history of n entries
 abbrev pub AreFinished : ℕ → ℕ → ℕ → ℕ → List Called → Type 0
@@ -69,10 +71,6 @@ pub record IsUnderWay (n : ℕ) (calls : List Call) (x : Part) (core : CoreState
   pub due : is_at_rest core.stage ≡ false
   pub steps : way.steps + steps_left core ≤ most_steps core.sizes call
 
--- the calls have made no more steps than such calls may
-abbrev pub AreFew : Layout → List Called → Type 0
-AreFew z calls = AllByRecursion (λ c. c.steps ≤ most_steps z c.call) calls
-
 -- a port of a replay and its part of the lawful state
 pub record PortFits (o : Opening) (log : List Applied) (calls : List Call) (p : ℕ) (x : Part) (port : Port) : Type 0 where
   pub number : port.number ≡ p
@@ -93,7 +91,8 @@ pub record PortFits (o : Opening) (log : List Applied) (calls : List Call) (p : 
 
 -- the entry of a won exchange of one of the m component words, whose record stands in the words
 abbrev pub entry_at : ℕ → List ℕ → ℕ → Step → ℕ → List Applied
-entry_at m words port (Exchange j old at) a = if nat_lt j m then (if a == old then record { port = port; component = j; value = value_of words at; stamp = at } ∷ [] else []) else []
+entry_at m words port (Exchange j old at) a = if nat_lt j m then
+    (if a == old then record { port = port; component = j; value = value_of words at; stamp = at } ∷ [] else []) else []
 entry_at m words port _ a = []
 
 -- the call under way with one step more
@@ -102,7 +101,14 @@ one_step_more way = record { began = way.began; steps = way.steps + 1 }
 
 -- a call that has ended with that answer and that note
 abbrev pub ended_call : ℕ → ℕ → Call → UnderWay → ℕ → Answer → Option Note → Called
-ended_call port number call way ended a note = record { port = port; number = number; call = call; began = way.began; steps = way.steps; finish = Some (record { ended = ended; answer = a; note = note }) }
+ended_call port number call way ended a note = record {
+  port = port;
+  number = number;
+  call = call;
+  began = way.began;
+  steps = way.steps;
+  finish = Some (record { ended = ended; answer = a; note = note });
+}
 
 -- what the machine behind a step makes of its port: the call goes on, or it is finished
 pub record GoesOn (port new : Port) (way : UnderWay) (core : CoreState) : Type 0 where
@@ -110,21 +116,24 @@ pub record GoesOn (port new : Port) (way : UnderWay) (core : CoreState) : Type 0
   pub finished : new.finished.items ≡ port.finished.items
   pub way' : new.under_way ≡ Some (one_step_more way)
 
-pub record Ends (calls : List Call) (words : List ℕ) (log : List Applied) (port new : Port) (way : UnderWay) (core : CoreState) (r : Reply) : Type 0 where
+pub record Ends (calls : List Call) (words : List ℕ) (log : List Applied) (port new : Port) (way : UnderWay) (core : CoreState)
+    (r : Reply) : Type 0 where
   pub machine : new.core ≡ at_stage core Idle
   pub none : new.under_way ≡ None
   pub call : Call
   pub next : slice_get calls (length port.finished.items) ≡ Some call
   pub note : Option Note
   pub noted : IsNoteFrom words log way.began call (answer_for core r) note
-  pub finished : new.finished.items ≡ port.finished.items ++ ended_call port.number (length port.finished.items) call (one_step_more way) (length log) (answer_for core r) note ∷ []
+  pub finished : new.finished.items ≡ port.finished.items ++ ended_call port.number (length port.finished.items) call (one_step_more way)
+      (length log) (answer_for core r) note ∷ []
 
 -- the machine behind a step
 abbrev pub core_behind : List ℕ → Step → Port → CoreState
 core_behind words step port = advance port.core (answer_of words step)
 
 -- a step of a port: what became of the words, the trace, the history and the port
-pub record StepMade (calls : List Call) (words words' : List ℕ) (trace trace' : List Event) (log log' : List Applied) (port new : Port) : Type 0 where
+pub record StepMade (calls : List Call) (words words' : List ℕ) (trace trace' : List Event) (log log' : List Applied)
+    (port new : Port) : Type 0 where
   pub step : Step
   pub way : UnderWay
   pub due : step_of port.core ≡ Some step
@@ -135,7 +144,8 @@ pub record StepMade (calls : List Call) (words words' : List ℕ) (trace trace' 
   pub log_is : log' ≡ log ++ entry_at port.core.sizes.m words' port.number step (answer_of words step)
   pub number : new.number ≡ port.number
   pub falls : steps_left (core_behind words step port) < steps_left port.core
-  pub after : MatchOption (reply_of (core_behind words step port)) (GoesOn port new way (core_behind words step port)) (Ends calls words' log' port new way (core_behind words step port))
+  pub after : MatchOption (reply_of (core_behind words step port)) (GoesOn port new way (core_behind words step port))
+      (Ends calls words' log' port new way (core_behind words step port))
 
 -- a record to be exchanged lies in the words
 abbrev pub IsExchangeWithin : ℕ → List ℕ → Step → Type 0
@@ -170,12 +180,15 @@ pub record MayStep (calls : List Call) (words : List ℕ) (log : List Applied) (
   pub exchange : IsExchangeWithin port.core.sizes.m words step
   pub steps : way.steps + 1 < 2 ^ 64
   pub next : slice_get calls (length port.finished.items) ≡ Some call
-  pub ends : IfSome (reply_of (core_behind words step port)) (λ r. MayAnswer port.core.sizes.m call (answer_for (core_behind words step port) r))
-  pub places : AreWithin port.core.sizes.m (words_after words step) (log ++ entry_at port.core.sizes.m (words_after words step) port.number step (answer_of words step))
+  pub ends : IfSome (reply_of (core_behind words step port))
+      (λ r. MayAnswer port.core.sizes.m call (answer_for (core_behind words step port) r))
+  pub places : AreWithin port.core.sizes.m (words_after words step)
+      (log ++ entry_at port.core.sizes.m (words_after words step) port.number step (answer_of words step))
 
 -- a call that was finished as it was begun
 abbrev pub call_at_once : ℕ → ℕ → Call → ℕ → Answer → Option Note → Called
-call_at_once port number call seen a note = record { port = port; number = number; call = call; began = seen; steps = 0; finish = Some (record { ended = seen; answer = a; note = note }) }
+call_at_once port number call seen a note = record
+    { port = port; number = number; call = call; began = seen; steps = 0; finish = Some (record { ended = seen; answer = a; note = note }) }
 
 -- a call of port p that the machine s has finished as it was begun, and the machine behind it
 pub record IsDoneAtOnce (p number : ℕ) (call : Call) (seen : ℕ) (s t : CoreState) (c : Called) : Type 0 where
@@ -188,15 +201,24 @@ pub record IsDoneAtOnce (p number : ℕ) (call : Call) (seen : ℕ) (s t : CoreS
 
 -- a call that is left unfinished
 abbrev pub unfinished_call : ℕ → ℕ → Call → UnderWay → Called
-unfinished_call port number call way = record { port = port; number = number; call = call; began = way.began; steps = way.steps; finish = None }
+unfinished_call port number call way = record {
+  port = port;
+  number = number;
+  call = call;
+  began = way.began;
+  steps = way.steps;
+  finish = None;
+}
 
 -- a call that has ended, with its note
 abbrev pub IsEndedCall : ℕ → ℕ → Call → UnderWay → List ℕ → List Applied → Answer → Called → Type 0
-IsEndedCall port number call way words log a c = (note : Option Note) × IsNoteFrom words log way.began call a note × (c ≡ ended_call port number call way (length log) a note)
+IsEndedCall port number call way words log a c = (note : Option Note) × IsNoteFrom words log way.began call a note ×
+    (c ≡ ended_call port number call way (length log) a note)
 
 -- a port goes on as its part's port, in whatever lawful state, while the history has so many entries
 abbrev pub KeepsFit : List Call → ℕ → Port → Port → Type 0
-KeepsFit calls seen old new = (o : Opening) (log : List Applied) (p : ℕ) (x : Part) → length log ≡ seen → PortFits o log calls p x old → PortFits o log calls p x new
+KeepsFit calls seen old new = (o : Opening) (log : List Applied) (p : ℕ) (x : Part) → length log ≡ seen → PortFits o log calls p x old →
+    PortFits o log calls p x new
 
 -- how long the history was before the first of the events, or is with n entries where there is none
 abbrev pub began_at : ℕ → List Moment → ℕ
@@ -233,7 +255,8 @@ steps_under_way way = option_map_or (λ v. v.steps) way 0
 -- it has made a step in each turn, but for so many of the last.
 pub record HasTurned (idle : ℕ) (calls : List Call) (lengths : List ℕ) (port : Port) : Type 0 where
   pub finished : BeginInTurns lengths 0 port.finished.items
-  pub turns : length port.finished.items < length calls → length lengths ≡ steps_in port.finished.items + steps_under_way port.under_way + idle
+  pub turns : length port.finished.items < length calls →
+      length lengths ≡ steps_in port.finished.items + steps_under_way port.under_way + idle
   pub way : IfSome port.under_way (λ v. slice_get lengths (steps_in port.finished.items) ≡ Some v.began)
 
 -- in a turn in which the history is so long the port begins its next calls

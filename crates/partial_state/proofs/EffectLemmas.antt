@@ -15,10 +15,12 @@ use Rattle.partial_state.specs.Holdings.Space.{Pool}
 use Rattle.partial_state.specs.LawfulWords.{LawfulWords, IsOwn, IsTied, IsClaimedIn, IsClaim, CoversAll, IsDue, IsEntry}
 use Rattle.partial_state.specs.Loads.{Kept, IsLoaded}
 use Rattle.partial_state.specs.Effects.{IsKept}
-use Rattle.partial_state.proofs.ListLemmas.{all_at, all_before, all_after, all_join, all_weaker, two_before, two_after, two_join, length_same, all_of, all_found}
+use Rattle.partial_state.proofs.ListLemmas.{all_at, all_before, all_after, all_join, all_weaker, two_before, two_after, two_join, length_same}
 use Rattle.partial_state.proofs.Frames.{Frame, Grows, within_more, within_grows, published_moves, announced_moves, head_moves, slot_moves, fresh_moves, covers_moves, covers_newer}
 use Rattle.partial_state.proofs.HoldingLemmas.{own_far, if_some, if_some_at, some_found, found_some, joined_weaker, HaveOtherBlocks, blocks_turn, ports_turn, slots_turn, others_split, block_stays, three_words}
 use Rattle.partial_state.proofs.Rebuild.{Moves, frame_of, tied_moves, other_word, initial_word, entry_three, entry_prev, own_before, own_after}
+use Rattle.partial_model.proofs.NotesLemmas.{AllByRecursion-get}
+use Rattle.partial_model.proofs.StampsStay.{all_where}
 
 -- an entry of the new history that the old one hadn't
 pub record IsNew (z : Layout) (o : Opening) (words : List ℕ) (hs : List Holding) (log : List Applied) (k : ℕ) (e : Applied) : Type 0 where
@@ -38,7 +40,8 @@ pub record Changes (z : Layout) (o : Opening) (words words' : List ℕ) (before 
   pub tied : IsTied z words' h'
   pub apart : EachTwo AreApart (blocks_in z words' (before ++ h' ∷ after) log')
   pub due : IfSome h'.due (IsDue z o words' h' (others_of h'.port (before ++ h' ∷ after)) log')
-  pub taken : (l : ℕ) → l < get_or words' (slot_counter z) 0 → l < z.slots → IsSomeAnd h.claimed (λ c. c.slot ≡ l) ⊎ (get_or words (slot_counter z) 0 ≤ l) → (get_or words' (slot_word z l) 0 ≡ 1) ⊎ IsSomeAnd h'.claimed (λ c. c.slot ≡ l)
+  pub taken : (l : ℕ) → l < get_or words' (slot_counter z) 0 → l < z.slots → IsSomeAnd h.claimed (λ c. c.slot ≡ l) ⊎ (get_or words (slot_counter z) 0 ≤ l) → (get_or words' (slot_word z l) 0 ≡ 1) ⊎
+      IsSomeAnd h'.claimed (λ c. c.slot ≡ l)
   pub claim : IfSome h'.claimed (IsClaim z words' (before ++ h' ∷ after) log')
   pub owners : (v : Holding) → IfSome v.claimed (IsClaim z words (before ++ h ∷ after) log) → HaveOtherSlots h v → HaveOtherSlots h' v
   -- the port has joined just now, or it has what it had
@@ -49,12 +52,18 @@ pub record Changes (z : Layout) (o : Opening) (words words' : List ℕ) (before 
   pub lists_high : get_or words' (list_counter z) 0 ≤ list_end z + (z.slots + 2) * list_marks (before ++ h' ∷ after)
 
 -- the port joined now, or has what it had: what holds of those joined before it, and of those since
-pub joined_moves : (h h' : Holding) (n : ℕ) (P Q : ℕ → Joined → Type 0) → ((l : ℕ) (j : Joined) → P l j → Q l j) → ((l : ℕ) (j : Joined) → n ≤ j.since → Q l j) → (h'.claimed ≡ h.claimed) ⊎ IfJoined h' (λ l j. n ≤ j.since) → IfJoined h P → IfJoined h' Q
+pub joined_moves : (h h' : Holding) (n : ℕ) (P Q : ℕ → Joined → Type 0) → ((l : ℕ) (j : Joined) → P l j → Q l j) → ((l : ℕ) (j : Joined) → n ≤ j.since → Q l j) → (h'.claimed ≡ h.claimed) ⊎
+    IfJoined h' (λ l j. n ≤ j.since) → IfJoined h P → IfJoined h' Q
 joined_moves h h' n P Q f g (inl same) w = subst (λ (c : Option Claimed). IfSome c (λ c. IfSome c.joined (Q c.slot))) (sym same) (joined_weaker h P Q f w)
 joined_moves h h' n P Q f g (inr late) w = joined_weaker h' (λ l j. n ≤ j.since) Q g late
 
 -- a record that is due, where its words and what it covers stay
-pub due_moves : (z : Layout) (o : Opening) (words words' : List ℕ) (v v' : Holding) (others others' : List Holding) (log log' : List Applied) (d : Due) → Frame z words words' (unpublished others) (unpublished others') → Grows o log log' → v'.own ≡ v.own → joined_in v'.claimed ≡ None → ((j old : ℕ) → j < z.m → IsWithin o log (length log) old → get_or words' j 0 ≡ old → get_or words j 0 ≡ old) → ((n : ℕ) → n < (block_at words d.at).size → get_or words' (d.at + n) 0 ≡ get_or words (d.at + n) 0) → (prev_of words' d.at ≡ prev_of words d.at → view_of words' d.at ≡ view_of words d.at → IsWithin o log (length log) (prev_of words d.at) → CoversAll z words others log d.at → CoversAll z words' others' log' d.at) → IsDue z o words v others log d → IsDue z o words' v' others' log' d
+pub due_moves : (z : Layout) (o : Opening) (words words' : List ℕ) (v v' : Holding) (others others' : List Holding) (log log' : List Applied) (d : Due) → Frame z words words' (unpublished others)
+    (unpublished others') → Grows o log log' → v'.own ≡ v.own → joined_in v'.claimed ≡ None →
+    ((j old : ℕ) → j < z.m → IsWithin o log (length log) old → get_or words' j 0 ≡ old → get_or words j 0 ≡ old) →
+    ((n : ℕ) → n < (block_at words d.at).size → get_or words' (d.at + n) 0 ≡ get_or words (d.at + n) 0) →
+    (prev_of words' d.at ≡ prev_of words d.at → view_of words' d.at ≡ view_of words d.at → IsWithin o log (length log) (prev_of words d.at) → CoversAll z words others log d.at →
+    CoversAll z words' others' log' d.at) → IsDue z o words v others log d → IsDue z o words' v' others' log' d
 due_moves z o words words' v v' others others' log log' d f g own unjoined named same covers w =
     let size = three_words words d.at in
     let none : d.at ≡ d.at + 0 = omega arith in
@@ -78,21 +87,27 @@ due_moves z o words words' v v' others others' log log' d f g own unjoined named
     }
 
 -- a claim whose slot stays
-pub claim_moves : (z : Layout) (words words' : List ℕ) (hs hs' : List Holding) (log log' : List Applied) (d : Claimed) → Frame z words words' (unpublished hs) (unpublished hs') → length log ≤ length log' → get_or words' (slot_word z d.slot) 0 ≡ get_or words (slot_word z d.slot) 0 → IsClaim z words hs log d → IsClaim z words' hs' log' d
+pub claim_moves : (z : Layout) (words words' : List ℕ) (hs hs' : List Holding) (log log' : List Applied) (d : Claimed) → Frame z words words' (unpublished hs) (unpublished hs') →
+    length log ≤ length log' → get_or words' (slot_word z d.slot) 0 ≡ get_or words (slot_word z d.slot) 0 → IsClaim z words hs log d → IsClaim z words' hs' log' d
 claim_moves z words words' hs hs' log log' d f longer same k =
     let more = f.slots in
     let below = k.below in
     record { slot = k.slot; below = omega (arith, below, more); holds = holds z words words' hs hs' log log' f longer d.slot d.joined same k.holds }
   where
-    holds : (z : Layout) (words words' : List ℕ) (hs hs' : List Holding) (log log' : List Applied) → Frame z words words' (unpublished hs) (unpublished hs') → length log ≤ length log' → (l : ℕ) (j : Option Joined) → get_or words' (slot_word z l) 0 ≡ get_or words (slot_word z l) 0 → MatchOption j (get_or words (slot_word z l) 0 ≡ 0) (λ j. (get_or words (slot_word z l) 0 ≡ j.at) × (j.since ≤ length log) × IsAnnounced z words (unpublished hs) j.at j.indices) → MatchOption j (get_or words' (slot_word z l) 0 ≡ 0) (λ j. (get_or words' (slot_word z l) 0 ≡ j.at) × (j.since ≤ length log') × IsAnnounced z words' (unpublished hs') j.at j.indices)
+    holds : (z : Layout) (words words' : List ℕ) (hs hs' : List Holding) (log log' : List Applied) → Frame z words words' (unpublished hs) (unpublished hs') → length log ≤ length log' →
+        (l : ℕ) (j : Option Joined) → get_or words' (slot_word z l) 0 ≡ get_or words (slot_word z l) 0 → MatchOption j (get_or words (slot_word z l) 0 ≡ 0)
+        (λ j. (get_or words (slot_word z l) 0 ≡ j.at) × (j.since ≤ length log) × IsAnnounced z words (unpublished hs) j.at j.indices) → MatchOption j (get_or words' (slot_word z l) 0 ≡ 0)
+        (λ j. (get_or words' (slot_word z l) 0 ≡ j.at) × (j.since ≤ length log') × IsAnnounced z words' (unpublished hs') j.at j.indices)
     holds z words words' hs hs' log log' f longer l None same k = same ∙ k
     holds z words words' hs hs' log log' f longer l (Some j) same k =
         let since = k.1 in
         (same ∙ k.0, omega (arith, since, longer), announced_moves z words words' (unpublished hs) (unpublished hs') f j.at j.indices k.2)
 
-module _ (z : Layout) (o : Opening) (words words' : List ℕ) (before : List Holding) (h h' : Holding) (after : List Holding) (log log' : List Applied) (w : LawfulWords z o words (before ++ h ∷ after) log) (c : Changes z o words words' before h h' after log log') where
+module _ (z : Layout) (o : Opening) (words words' : List ℕ) (before : List Holding) (h h' : Holding) (after : List Holding) (log log' : List Applied)
+    (w : LawfulWords z o words (before ++ h ∷ after) log) (c : Changes z o words words' before h h' after log log') where
   -- what a record covers, whatever the others hold
-  covers_all : (front back : List Holding) (stamp n : ℕ) → prev_of words' stamp ≡ prev_of words stamp → view_of words' stamp ≡ view_of words stamp → IsWithin o log n (prev_of words stamp) → CoversAll z words (front ++ h ∷ back) log stamp → CoversAll z words' (front ++ h' ∷ back) log' stamp
+  covers_all : (front back : List Holding) (stamp n : ℕ) → prev_of words' stamp ≡ prev_of words stamp → view_of words' stamp ≡ view_of words stamp → IsWithin o log n (prev_of words stamp) →
+      CoversAll z words (front ++ h ∷ back) log stamp → CoversAll z words' (front ++ h' ∷ back) log' stamp
   covers_all front back stamp n prev view within all =
       let us = unpublished (front ++ h ∷ back) in
       let us' = unpublished (front ++ h' ∷ back) in
@@ -102,14 +117,16 @@ module _ (z : Layout) (o : Opening) (words words' : List ℕ) (before : List Hol
       let step : (j : Joined) → Covers z words us log stamp j → Covers z words' us' log' stamp j = λ j. covers_moves z words words' us us' f o log log' c.grows stamp prev view n j within in
       let each : (v : Holding) → P v → Q v = λ v. joined_weaker v (λ l j. Covers z words us log stamp j) (λ l j. Covers z words' us' log' stamp j) (λ l j. step j) in
       all_join Q front h' back (all_weaker P Q each front (all_before P front h back all))
-      (joined_moves h h' (length log) (λ l j. Covers z words us log stamp j) (λ l j. Covers z words' us' log' stamp j) (λ l j. step j) (λ l j late. covers_newer z words words' us us' f o log log' c.grows stamp prev view n j within late) c.joined (all_at P front h back all))
+      (joined_moves h h' (length log) (λ l j. Covers z words us log stamp j) (λ l j. Covers z words' us' log' stamp j) (λ l j. step j)
+          (λ l j late. covers_newer z words words' us us' f o log log' c.grows stamp prev view n j within late) c.joined (all_at P front h back all))
       (all_weaker P Q each back (all_after P front h back all))
 
   here : Frame z words words' (unpublished (before ++ h ∷ after)) (unpublished (before ++ h' ∷ after))
   here = frame_of z words words' h h' c.moves before after
 
   -- what is due of another port
-  other_due : (v : Holding) → h.port ≢ v.port → HaveOtherBlocks v h → IsTied z words v → (d : Due) → IsDue z o words v (others_of v.port (before ++ h ∷ after)) log d → IsDue z o words' v (others_of v.port (before ++ h' ∷ after)) log' d
+  other_due : (v : Holding) → h.port ≢ v.port → HaveOtherBlocks v h → IsTied z words v → (d : Due) → IsDue z o words v (others_of v.port (before ++ h ∷ after)) log d →
+      IsDue z o words' v (others_of v.port (before ++ h' ∷ after)) log' d
   other_due v port apart tied d due =
       let front = others_of v.port before in
       let back = others_of v.port after in
@@ -123,7 +140,8 @@ module _ (z : Layout) (o : Opening) (words words' : List ℕ) (before : List Hol
       let free : IfSome h.own (λ c. AreApart (block_of b) (block_of c)) = if_some_at (λ b. IfSome h.own (λ c. AreApart (block_of b) (block_of c))) v.own b found.1 apart in
       let at : b.at ≡ d.at = ap (λ (x : Block). x.at) block in
       let size : length b.words ≡ (block_at words d.at).size = ap (λ (x : Block). x.size) block in
-      let moved : IsDue z o words' v (front ++ h' ∷ back) log' d = due_moves z o words words' v v (front ++ h ∷ back) (front ++ h' ∷ back) log log' d (frame_of z words words' h h' c.moves front back) c.grows refl due'.unjoined c.named
+      let moved : IsDue z o words' v (front ++ h' ∷ back) log' d = due_moves z o words words' v v (front ++ h ∷ back) (front ++ h' ∷ back) log log' d (frame_of z words words' h h' c.moves front back)
+          c.grows refl due'.unjoined c.named
       (λ n below. subst (λ t. get_or words' (t + n) 0 ≡ get_or words (t + n) 0) at (other_word z words words' h h' c.moves b n (own_far z words b own) (omega (arith, below, size)) free))
       (λ prev view within all. covers_all front back d.at (length log) prev view within all) due' in
       subst (λ (l : List Holding). IsDue z o words' v l log' d) (sym is') moved
@@ -132,7 +150,8 @@ module _ (z : Layout) (o : Opening) (words words' : List ℕ) (before : List Hol
   other_claim : (v : Holding) → HaveOtherSlots h v → IfSome v.claimed (IsClaim z words (before ++ h ∷ after) log) → IfSome v.claimed (IsClaim z words' (before ++ h' ∷ after) log')
   other_claim v other claim =
       if_some (IsClaim z words (before ++ h ∷ after) log) (IsClaim z words' (before ++ h' ∷ after) log') v.claimed (λ d e k.
-      let free : IfSome h.claimed (λ b. b.slot ≢ d.slot) = if_some (λ b. IfSome v.claimed (λ d. b.slot ≢ d.slot)) (λ b. b.slot ≢ d.slot) h.claimed (λ b e' s. if_some_at (λ d. b.slot ≢ d.slot) v.claimed d e s) other in
+      let free : IfSome h.claimed (λ b. b.slot ≢ d.slot) = if_some (λ b. IfSome v.claimed (λ d. b.slot ≢ d.slot)) (λ b. b.slot ≢ d.slot) h.claimed
+          (λ b e' s. if_some_at (λ d. b.slot ≢ d.slot) v.claimed d e s) other in
       claim_moves z words words' (before ++ h ∷ after) (before ++ h' ∷ after) log log' d here c.grows.more (c.moves.slot d.slot k.slot free) k) claim
 
   -- the claims of slots, one holding apart
@@ -146,7 +165,8 @@ module _ (z : Layout) (o : Opening) (words words' : List ℕ) (before : List Hol
   claimed_here l [] k = inl k
   claimed_here l (b ∷ front) k = inr (claimed_here l front k)
 
-  taken_now : (l : ℕ) → l < get_or words' (slot_counter z) 0 → l < z.slots → IsSomeAnd h.claimed (λ c. c.slot ≡ l) ⊎ (get_or words (slot_counter z) 0 ≤ l) → (get_or words' (slot_word z l) 0 ≡ 1) ⊎ IsClaimedIn l (before ++ h' ∷ after)
+  taken_now : (l : ℕ) → l < get_or words' (slot_counter z) 0 → l < z.slots → IsSomeAnd h.claimed (λ c. c.slot ≡ l) ⊎ (get_or words (slot_counter z) 0 ≤ l) → (get_or words' (slot_word z l) 0 ≡ 1) ⊎
+      IsClaimedIn l (before ++ h' ∷ after)
   taken_now l below room k = elim (c.taken l below room k) [ inl t ↦ inl t | inr t ↦ inr (claimed_here l before t) ]
 
   taken_all : (l : ℕ) → l < get_or words' (slot_counter z) 0 → l < z.slots → (get_or words' (slot_word z l) 0 ≡ 1) ⊎ IsClaimedIn l (before ++ h' ∷ after)
@@ -163,14 +183,15 @@ module _ (z : Layout) (o : Opening) (words words' : List ℕ) (before : List Hol
   unclaimed_now l from room =
       let more = c.moves.slots in
       let claim = all_at (λ v. IfSome v.claimed (IsClaim z words (before ++ h ∷ after) log)) before h after w.claims in
-      c.moves.slot l room (if_some (IsClaim z words (before ++ h ∷ after) log) (λ c. c.slot ≢ l) h.claimed (λ d e k. let below = k.below in λ is. omega (arith, below, more, from, is)) claim) ∙ w.unclaimed l (omega (arith, from, more)) room
+      c.moves.slot l room (if_some (IsClaim z words (before ++ h ∷ after) log) (λ c. c.slot ≢ l) h.claimed (λ d e k. let below = k.below in λ is. omega (arith, below, more, from, is)) claim) ∙
+          w.unclaimed l (omega (arith, from, more)) room
 
   entry_within : (k : ℕ) (e : Applied) → slice_get log k ≡ Some e → IsWithin o log k (prev_of words e.stamp)
   entry_within k e s = let fresh = w.fresh k e s in within_more o log fresh.prefix k (prev_of words e.stamp) fresh.without fresh.contains
 
   old_entry : (k : ℕ) (e : Applied) → slice_get log k ≡ Some e → IsNew z o words' (before ++ h' ∷ after) log' k e
   old_entry k e s =
-      let entry : IsEntry z words e = all_found (IsEntry z words) log k e w.entries s in
+      let entry : IsEntry z words e = AllByRecursion-get (IsEntry z words) log k e w.entries s in
       let below = entry.below in
       let more = c.moves.pool in
       let prev = entry_prev z o words words' before h h' after log w c.moves k e s in
@@ -178,8 +199,9 @@ module _ (z : Layout) (o : Opening) (words words' : List ℕ) (before : List Hol
       let within = place_below log k e s in
       record {
         entry = record { above = entry.above; within = entry.within; below = omega (arith, below, more) };
-        fresh = fresh_moves z words words' (unpublished (before ++ h ∷ after)) (unpublished (before ++ h' ∷ after)) here o log log' c.grows e.stamp prev view k k (omega arith) (omega (arith, within)) (w.fresh k e s);
-        covering = covers_all before after e.stamp k prev view (entry_within k e s) (all_found (λ (e : Applied). CoversAll z words (before ++ h ∷ after) log e.stamp) log k e w.covering s);
+        fresh = fresh_moves z words words' (unpublished (before ++ h ∷ after)) (unpublished (before ++ h' ∷ after)) here o log log' c.grows e.stamp prev view k k (omega arith)
+            (omega (arith, within)) (w.fresh k e s);
+        covering = covers_all before after e.stamp k prev view (entry_within k e s) (AllByRecursion-get (λ (e : Applied). CoversAll z words (before ++ h ∷ after) log e.stamp) log k e w.covering s);
       }
 
   each_entry : (k : ℕ) (e : Applied) → slice_get log' k ≡ Some e → IsNew z o words' (before ++ h' ∷ after) log' k e
@@ -205,17 +227,24 @@ module _ (z : Layout) (o : Opening) (words words' : List ℕ) (before : List Hol
 
   -- what is to be shown of each other holding, from what is known of it
   abbrev IsOther : Holding → Type 0
-  IsOther v = HaveOtherPorts h v × HaveOtherSlots h v × HaveOtherBlocks h v × IsTied z words v × IfSome v.due (IsDue z o words v (others_of v.port (before ++ h ∷ after)) log) × IfSome v.claimed (IsClaim z words (before ++ h ∷ after) log)
+  IsOther v = HaveOtherPorts h v × HaveOtherSlots h v × HaveOtherBlocks h v × IsTied z words v × IfSome v.due (IsDue z o words v (others_of v.port (before ++ h ∷ after)) log) ×
+      IfSome v.claimed (IsClaim z words (before ++ h ∷ after) log)
 
-  five : (vs : List Holding) → AllByRecursion (HaveOtherPorts h) vs → AllByRecursion (HaveOtherSlots h) vs → AllByRecursion (HaveOtherBlocks h) vs → AllByRecursion (IsTied z words) vs → AllByRecursion (λ v. IfSome v.due (IsDue z o words v (others_of v.port (before ++ h ∷ after)) log)) vs → AllByRecursion (λ v. IfSome v.claimed (IsClaim z words (before ++ h ∷ after) log)) vs → AllByRecursion IsOther vs
+  five : (vs : List Holding) → AllByRecursion (HaveOtherPorts h) vs → AllByRecursion (HaveOtherSlots h) vs → AllByRecursion (HaveOtherBlocks h) vs → AllByRecursion (IsTied z words) vs →
+      AllByRecursion (λ v. IfSome v.due (IsDue z o words v (others_of v.port (before ++ h ∷ after)) log)) vs → AllByRecursion (λ v. IfSome v.claimed (IsClaim z words (before ++ h ∷ after) log)) vs →
+      AllByRecursion IsOther vs
   five [] p s b t d k = tt
   five (v ∷ vs) p s b t d k = ((p.0, s.0, b.0, t.0, d.0, k.0), five vs p.1 s.1 b.1 t.1 d.1 k.1)
 
   others_before : AllByRecursion IsOther before
-  others_before = five before port_b slot_b apart_b (all_before (IsTied z words) before h after w.tied) (all_before (λ v. IfSome v.due (IsDue z o words v (others_of v.port (before ++ h ∷ after)) log)) before h after w.due) (all_before (λ v. IfSome v.claimed (IsClaim z words (before ++ h ∷ after) log)) before h after w.claims)
+  others_before = five before port_b slot_b apart_b (all_before (IsTied z words) before h after w.tied)
+      (all_before (λ v. IfSome v.due (IsDue z o words v (others_of v.port (before ++ h ∷ after)) log)) before h after w.due)
+      (all_before (λ v. IfSome v.claimed (IsClaim z words (before ++ h ∷ after) log)) before h after w.claims)
 
   others_after : AllByRecursion IsOther after
-  others_after = five after port_a slot_a apart_a (all_after (IsTied z words) before h after w.tied) (all_after (λ v. IfSome v.due (IsDue z o words v (others_of v.port (before ++ h ∷ after)) log)) before h after w.due) (all_after (λ v. IfSome v.claimed (IsClaim z words (before ++ h ∷ after) log)) before h after w.claims)
+  others_after = five after port_a slot_a apart_a (all_after (IsTied z words) before h after w.tied)
+      (all_after (λ v. IfSome v.due (IsDue z o words v (others_of v.port (before ++ h ∷ after)) log)) before h after w.due)
+      (all_after (λ v. IfSome v.claimed (IsClaim z words (before ++ h ∷ after) log)) before h after w.claims)
 
   -- each other holding, and the port's new one
   each : (R : Holding → Type 0) → ((v : Holding) → IsOther v → R v) → R h' → AllByRecursion R (before ++ h' ∷ after)
@@ -232,20 +261,24 @@ module _ (z : Layout) (o : Opening) (words words' : List ℕ) (before : List Hol
         stamps = w.stamps;
         count = c.moves.count ∙ w.count;
         few = omega (arith, length_same before h h' after, w.few);
-        ports = two_join HaveOtherPorts ports_turn before h h' after w.ports (all_weaker (HaveOtherPorts h) (HaveOtherPorts h') (λ v k e. k (sym port ∙ e)) before port_b) (all_weaker (HaveOtherPorts h) (HaveOtherPorts h') (λ v k e. k (sym port ∙ e)) after port_a);
+        ports = two_join HaveOtherPorts ports_turn before h h' after w.ports (all_weaker (HaveOtherPorts h) (HaveOtherPorts h') (λ v k e. k (sym port ∙ e)) before port_b)
+            (all_weaker (HaveOtherPorts h) (HaveOtherPorts h') (λ v k e. k (sym port ∙ e)) after port_a);
         history = c.history;
         agrees = c.agrees;
         initial = λ j below. initial_word z o words words' before h h' after log w c.moves (view_word (initial_record z j)) (omega arith) (omega (arith, below)) ∙ w.initial j below;
-        entries = all_of (IsEntry z words') log' (λ k e s. (each_entry k e s).entry);
+        entries = all_where (IsEntry z words') log' (λ k e s. (each_entry k e s).entry);
         tied = each (IsTied z words') (λ v t. tied_moves z words words' h h' c.moves v t.3 (blocks_turn h v t.2)) c.tied;
         apart = c.apart;
         fresh = λ k e s. (each_entry k e s).fresh;
-        covering = all_of (λ (e : Applied). CoversAll z words' (before ++ h' ∷ after) log' e.stamp) log' (λ k e s. (each_entry k e s).covering);
-        due = each (λ v. IfSome v.due (IsDue z o words' v (others_of v.port (before ++ h' ∷ after)) log')) (λ v t. if_some (IsDue z o words v (others_of v.port (before ++ h ∷ after)) log) (IsDue z o words' v (others_of v.port (before ++ h' ∷ after)) log') v.due (λ d e due. other_due v t.0 (blocks_turn h v t.2) t.3 d due) t.4) c.due;
+        covering = all_where (λ (e : Applied). CoversAll z words' (before ++ h' ∷ after) log' e.stamp) log' (λ k e s. (each_entry k e s).covering);
+        due = each (λ v. IfSome v.due (IsDue z o words' v (others_of v.port (before ++ h' ∷ after)) log'))
+            (λ v t. if_some (IsDue z o words v (others_of v.port (before ++ h ∷ after)) log) (IsDue z o words' v (others_of v.port (before ++ h' ∷ after)) log') v.due
+            (λ d e due. other_due v t.0 (blocks_turn h v t.2) t.3 d due) t.4) c.due;
         unclaimed = unclaimed_now;
         taken = taken_all;
         claims = each (λ v. IfSome v.claimed (IsClaim z words' (before ++ h' ∷ after) log')) (λ v t. other_claim v t.1 t.5) c.claim;
-        owners = two_join HaveOtherSlots slots_turn before h h' after w.owners (all_weaker IsOther (HaveOtherSlots h') (λ v t. c.owners v t.5 t.1) before others_before) (all_weaker IsOther (HaveOtherSlots h') (λ v t. c.owners v t.5 t.1) after others_after);
+        owners = two_join HaveOtherSlots slots_turn before h h' after w.owners (all_weaker IsOther (HaveOtherSlots h') (λ v t. c.owners v t.5 t.1) before others_before)
+            (all_weaker IsOther (HaveOtherSlots h') (λ v t. c.owners v t.5 t.1) after others_after);
         head = c.head;
         pool_low = let low = w.pool_low in omega (arith, low, pool);
         pool_high = c.pool_high;
@@ -273,8 +306,10 @@ module _ (z : Layout) (o : Opening) (words words' : List ℕ) (before : List Hol
         joined = moved J (λ s j late since. absurd (omega (arith, late, since, within))) l.joined;
       }
     where
-      moved : (P : ℕ → Joined → Type 0) → ((s : ℕ) (j : Joined) → length log ≤ j.since → P s j) → AllByRecursion (λ v. IfJoined v P) (before ++ h ∷ after) → AllByRecursion (λ v. IfJoined v P) (before ++ h' ∷ after)
-      moved P late all = let Q : Holding → Type 0 = λ v. IfJoined v P in all_join Q before h' after (all_before Q before h after all) (joined_moves h h' (length log) P P (λ s j p. p) late c.joined (all_at Q before h after all)) (all_after Q before h after all)
+      moved : (P : ℕ → Joined → Type 0) → ((s : ℕ) (j : Joined) → length log ≤ j.since → P s j) → AllByRecursion (λ v. IfJoined v P) (before ++ h ∷ after) →
+          AllByRecursion (λ v. IfJoined v P) (before ++ h' ∷ after)
+      moved P late all = let Q : Holding → Type 0 = λ v. IfJoined v P in all_join Q before h' after (all_before Q before h after all)
+          (joined_moves h h' (length log) P P (λ s j p. p) late c.joined (all_at Q before h after all)) (all_after Q before h after all)
 
   pub keeps : IsKept z o words before h after log words' h' log'
   keeps = record { lawful = rebuild; loads = loads }

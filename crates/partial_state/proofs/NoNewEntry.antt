@@ -15,7 +15,7 @@ use Rattle.partial_state.proofs.ListLemmas.{all_at, all_weaker}
 use Rattle.partial_state.proofs.Frames.{Frame, stays, head_moves, covers_moves}
 use Rattle.partial_state.proofs.HoldingLemmas.{own_far, if_some, if_some_at, some_found, joined_weaker, others_gone, marks_same, marks_more, marks_few, pool_is, slots_are, lists_are}
 use Rattle.partial_state.proofs.Rebuild.{Moves, frame_of, agrees_stay, blocks_stay}
-use Rattle.partial_state.proofs.Keeping.{due_moves, claim_moves, keeps}
+use Rattle.partial_state.proofs.EffectLemmas.{due_moves, claim_moves, keeps}
 
 -- what a step changes that adds nothing to the history
 pub record Quiet (z : Layout) (o : Opening) (words words' : List ℕ) (before : List Holding) (h h' : Holding) (after : List Holding) (log : List Applied) : Type 0 where
@@ -24,7 +24,8 @@ pub record Quiet (z : Layout) (o : Opening) (words words' : List ℕ) (before : 
   pub tied : IsTied z words' h'
   pub apart : EachTwo AreApart (blocks_in z words (before ++ h' ∷ after) log)
   pub due : IfSome h'.due (IsDue z o words' h' (others_of h'.port (before ++ h' ∷ after)) log)
-  pub taken : (l : ℕ) → l < get_or words' (slot_counter z) 0 → l < z.slots → IsSomeAnd h.claimed (λ c. c.slot ≡ l) ⊎ (get_or words (slot_counter z) 0 ≤ l) → (get_or words' (slot_word z l) 0 ≡ 1) ⊎ IsSomeAnd h'.claimed (λ c. c.slot ≡ l)
+  pub taken : (l : ℕ) → l < get_or words' (slot_counter z) 0 → l < z.slots → IsSomeAnd h.claimed (λ c. c.slot ≡ l) ⊎ (get_or words (slot_counter z) 0 ≤ l) → (get_or words' (slot_word z l) 0 ≡ 1) ⊎
+      IsSomeAnd h'.claimed (λ c. c.slot ≡ l)
   pub claim : IfSome h'.claimed (IsClaim z words' (before ++ h' ∷ after) log)
   pub owners : (v : Holding) → IfSome v.claimed (IsClaim z words (before ++ h ∷ after) log) → HaveOtherSlots h v → HaveOtherSlots h' v
   pub joined : (h'.claimed ≡ h.claimed) ⊎ IfJoined h' (λ l j. length log ≤ j.since)
@@ -33,7 +34,8 @@ pub record Quiet (z : Layout) (o : Opening) (words words' : List ℕ) (before : 
   pub slots_high : get_or words' (slot_counter z) 0 ≤ z.slots + slot_marks (before ++ h' ∷ after)
   pub lists_high : get_or words' (list_counter z) 0 ≤ list_end z + (z.slots + 2) * list_marks (before ++ h' ∷ after)
 
-pub quiet : (z : Layout) (o : Opening) (words words' : List ℕ) (before : List Holding) (h h' : Holding) (after : List Holding) (log : List Applied) → LawfulWords z o words (before ++ h ∷ after) log → Quiet z o words words' before h h' after log → IsKept z o words before h after log words' h' log
+pub quiet : (z : Layout) (o : Opening) (words words' : List ℕ) (before : List Holding) (h h' : Holding) (after : List Holding) (log : List Applied) → LawfulWords z o words (before ++ h ∷ after) log →
+    Quiet z o words words' before h h' after log → IsKept z o words before h after log words' h' log
 quiet z o words words' before h h' after log w q =
     keeps z o words words' before h h' after log log w (record {
       moves = q.moves;
@@ -58,27 +60,32 @@ quiet z o words words' before h h' after log w q =
 -- the marks, with one holding in the place of another
 module _ (before : List Holding) (h h' : Holding) (after : List Holding) where
   pub pool_stays : (n e k : ℕ) → h'.pool_spent ≡ h.pool_spent → n ≤ e + k * pool_marks (before ++ h ∷ after) → n ≤ e + k * pool_marks (before ++ h' ∷ after)
-  pool_stays n e k same w = subst (λ m. n ≤ e + k * m) (pool_is (before ++ h ∷ after) ∙ sym (marks_same (λ (v : Holding). v.pool_spent) before h h' after same) ∙ sym (pool_is (before ++ h' ∷ after))) w
+  pool_stays n e k same w = subst (λ m. n ≤ e + k * m) (pool_is (before ++ h ∷ after) ∙ sym (marks_same (λ (v : Holding). v.pool_spent) before h h' after same) ∙
+      sym (pool_is (before ++ h' ∷ after))) w
 
   pub slots_stay : (n e : ℕ) → h'.slots_spent ≡ h.slots_spent → n ≤ e + slot_marks (before ++ h ∷ after) → n ≤ e + slot_marks (before ++ h' ∷ after)
   slots_stay n e same w = subst (λ m. n ≤ e + m) (slots_are (before ++ h ∷ after) ∙ sym (marks_same (λ (v : Holding). v.slots_spent) before h h' after same) ∙ sym (slots_are (before ++ h' ∷ after))) w
 
   pub lists_stay : (n e k : ℕ) → h'.lists_spent ≡ h.lists_spent → n ≤ e + k * list_marks (before ++ h ∷ after) → n ≤ e + k * list_marks (before ++ h' ∷ after)
-  lists_stay n e k same w = subst (λ m. n ≤ e + k * m) (lists_are (before ++ h ∷ after) ∙ sym (marks_same (λ (v : Holding). v.lists_spent) before h h' after same) ∙ sym (lists_are (before ++ h' ∷ after))) w
+  lists_stay n e k same w = subst (λ m. n ≤ e + k * m) (lists_are (before ++ h ∷ after) ∙ sym (marks_same (λ (v : Holding). v.lists_spent) before h h' after same) ∙
+      sym (lists_are (before ++ h' ∷ after))) w
 
   pub pool_rises : (n e k : ℕ) → h.pool_spent ≡ false → h'.pool_spent ≡ true → n ≤ e + k * pool_marks (before ++ h ∷ after) + k → n ≤ e + k * pool_marks (before ++ h' ∷ after)
   pool_rises n e k off on w =
-      let more : pool_marks (before ++ h' ∷ after) ≡ 1 + pool_marks (before ++ h ∷ after) = pool_is (before ++ h' ∷ after) ∙ marks_more (λ (v : Holding). v.pool_spent) before h h' after off on ∙ ap (λ m. 1 + m) (sym (pool_is (before ++ h ∷ after))) in
+      let more : pool_marks (before ++ h' ∷ after) ≡ 1 + pool_marks (before ++ h ∷ after) = pool_is (before ++ h' ∷ after) ∙ marks_more (λ (v : Holding). v.pool_spent) before h h' after off on ∙
+          ap (λ m. 1 + m) (sym (pool_is (before ++ h ∷ after))) in
       subst (λ m. n ≤ e + k * m) (sym more) (omega (arith, w))
 
   pub slots_rise : (n e : ℕ) → h.slots_spent ≡ false → h'.slots_spent ≡ true → n ≤ e + slot_marks (before ++ h ∷ after) + 1 → n ≤ e + slot_marks (before ++ h' ∷ after)
   slots_rise n e off on w =
-      let more : slot_marks (before ++ h' ∷ after) ≡ 1 + slot_marks (before ++ h ∷ after) = slots_are (before ++ h' ∷ after) ∙ marks_more (λ (v : Holding). v.slots_spent) before h h' after off on ∙ ap (λ m. 1 + m) (sym (slots_are (before ++ h ∷ after))) in
+      let more : slot_marks (before ++ h' ∷ after) ≡ 1 + slot_marks (before ++ h ∷ after) = slots_are (before ++ h' ∷ after) ∙ marks_more (λ (v : Holding). v.slots_spent) before h h' after off on ∙
+          ap (λ m. 1 + m) (sym (slots_are (before ++ h ∷ after))) in
       subst (λ m. n ≤ e + m) (sym more) (omega (arith, w))
 
   pub lists_rise : (n e k : ℕ) → h.lists_spent ≡ false → h'.lists_spent ≡ true → n ≤ e + k * list_marks (before ++ h ∷ after) + k → n ≤ e + k * list_marks (before ++ h' ∷ after)
   lists_rise n e k off on w =
-      let more : list_marks (before ++ h' ∷ after) ≡ 1 + list_marks (before ++ h ∷ after) = lists_are (before ++ h' ∷ after) ∙ marks_more (λ (v : Holding). v.lists_spent) before h h' after off on ∙ ap (λ m. 1 + m) (sym (lists_are (before ++ h ∷ after))) in
+      let more : list_marks (before ++ h' ∷ after) ≡ 1 + list_marks (before ++ h ∷ after) = lists_are (before ++ h' ∷ after) ∙ marks_more (λ (v : Holding). v.lists_spent) before h h' after off on ∙
+          ap (λ m. 1 + m) (sym (lists_are (before ++ h ∷ after))) in
       subst (λ m. n ≤ e + k * m) (sym more) (omega (arith, w))
 
 -- the counters stay far below 2 ^ 64
@@ -113,33 +120,44 @@ pub fits_word : (z : Layout) (n : ℕ) → IsLayout z → n ≤ pool_end z + 65 
 fits_word z n s most = let m = s.components.1 in let l = s.slots.1 in let t = s.lists in let p = s.pool.1 in omega arith
 
 -- what stays where the port's claim does
-pub taken_stays : (z : Layout) (words words' : List ℕ) (h h' : Holding) → h'.claimed ≡ h.claimed → ((l : ℕ) → l < get_or words' (slot_counter z) 0 → l < z.slots → l < get_or words (slot_counter z) 0) → (l : ℕ) → l < get_or words' (slot_counter z) 0 → l < z.slots → IsSomeAnd h.claimed (λ c. c.slot ≡ l) ⊎ (get_or words (slot_counter z) 0 ≤ l) → (get_or words' (slot_word z l) 0 ≡ 1) ⊎ IsSomeAnd h'.claimed (λ c. c.slot ≡ l)
+pub taken_stays : (z : Layout) (words words' : List ℕ) (h h' : Holding) → h'.claimed ≡ h.claimed →
+    ((l : ℕ) → l < get_or words' (slot_counter z) 0 → l < z.slots → l < get_or words (slot_counter z) 0) → (l : ℕ) → l < get_or words' (slot_counter z) 0 → l < z.slots →
+    IsSomeAnd h.claimed (λ c. c.slot ≡ l) ⊎ (get_or words (slot_counter z) 0 ≤ l) → (get_or words' (slot_word z l) 0 ≡ 1) ⊎ IsSomeAnd h'.claimed (λ c. c.slot ≡ l)
 taken_stays z words words' h h' same f l below room (inl k) = inr (subst (λ (c : Option Claimed). IsSomeAnd c (λ c. c.slot ≡ l)) (sym same) k)
 taken_stays z words words' h h' same f l below room (inr k) = let old = f l below room in absurd (omega (arith, old, k))
 
-module _ (z : Layout) (o : Opening) (words words' : List ℕ) (before : List Holding) (h h' : Holding) (after : List Holding) (log : List Applied) (w : LawfulWords z o words (before ++ h ∷ after) log) (m : Moves z words words' h h') where
+module _ (z : Layout) (o : Opening) (words words' : List ℕ) (before : List Holding) (h h' : Holding) (after : List Holding) (log : List Applied) (w : LawfulWords z o words (before ++ h ∷ after) log)
+    (m : Moves z words words' h h') where
   frame : Frame z words words' (unpublished (before ++ h ∷ after)) (unpublished (before ++ h' ∷ after))
   frame = frame_of z words words' h h' m before after
 
-  pub claim_stays : (log' : List Applied) → length log ≤ length log' → h'.claimed ≡ h.claimed → ((l : ℕ) → l < z.slots → get_or words' (slot_word z l) 0 ≡ get_or words (slot_word z l) 0) → IfSome h'.claimed (IsClaim z words' (before ++ h' ∷ after) log')
+  pub claim_stays : (log' : List Applied) → length log ≤ length log' → h'.claimed ≡ h.claimed → ((l : ℕ) → l < z.slots → get_or words' (slot_word z l) 0 ≡ get_or words (slot_word z l) 0) →
+      IfSome h'.claimed (IsClaim z words' (before ++ h' ∷ after) log')
   claim_stays log' longer same slots =
       subst (λ (c : Option Claimed). IfSome c (IsClaim z words' (before ++ h' ∷ after) log')) (sym same)
-      (if_some (IsClaim z words (before ++ h ∷ after) log) (IsClaim z words' (before ++ h' ∷ after) log') h.claimed (λ d e k. claim_moves z words words' (before ++ h ∷ after) (before ++ h' ∷ after) log log' d frame longer (slots d.slot k.slot) k) (all_at (λ v. IfSome v.claimed (IsClaim z words (before ++ h ∷ after) log)) before h after w.claims))
+      (if_some (IsClaim z words (before ++ h ∷ after) log) (IsClaim z words' (before ++ h' ∷ after) log') h.claimed
+          (λ d e k. claim_moves z words words' (before ++ h ∷ after) (before ++ h' ∷ after) log log' d frame longer (slots d.slot k.slot) k)
+          (all_at (λ v. IfSome v.claimed (IsClaim z words (before ++ h ∷ after) log)) before h after w.claims))
 
   pub owners_stay : h'.claimed ≡ h.claimed → (v : Holding) → HaveOtherSlots h v → HaveOtherSlots h' v
   owners_stay same v k = subst (λ (c : Option Claimed). IfSome c (λ c. IfSome v.claimed (λ d. c.slot ≢ d.slot))) (sym same) k
 
   pub head_stays : get_or words' (list_head z) 0 ≡ get_or words (list_head z) 0 → IsHead z words' (unpublished (before ++ h' ∷ after)) (get_or words' (list_head z) 0)
-  head_stays same = subst (IsHead z words' (unpublished (before ++ h' ∷ after))) (sym same) (head_moves z words words' (unpublished (before ++ h ∷ after)) (unpublished (before ++ h' ∷ after)) frame (get_or words (list_head z) 0) w.head)
+  head_stays same = subst (IsHead z words' (unpublished (before ++ h' ∷ after))) (sym same)
+      (head_moves z words words' (unpublished (before ++ h ∷ after)) (unpublished (before ++ h' ∷ after)) frame (get_or words (list_head z) 0) w.head)
 
   -- the port's own exchange that is due, where no word of a block changes
-  pub due_stays : h'.own ≡ h.own → h'.due ≡ h.due → (joined_in h.claimed ≡ None → joined_in h'.claimed ≡ None) → ((n : ℕ) → list_base z ≤ n → get_or words' n 0 ≡ get_or words n 0) → ((j : ℕ) → j < z.m → get_or words' j 0 ≡ get_or words j 0) → IfSome h'.due (IsDue z o words' h' (others_of h'.port (before ++ h' ∷ after)) log)
+  pub due_stays : h'.own ≡ h.own → h'.due ≡ h.due → (joined_in h.claimed ≡ None → joined_in h'.claimed ≡ None) → ((n : ℕ) → list_base z ≤ n → get_or words' n 0 ≡ get_or words n 0) →
+      ((j : ℕ) → j < z.m → get_or words' j 0 ≡ get_or words j 0) → IfSome h'.due (IsDue z o words' h' (others_of h'.port (before ++ h' ∷ after)) log)
   due_stays own due unjoined far components =
       subst (λ (d : Option Due). IfSome d (IsDue z o words' h' (others_of h'.port (before ++ h' ∷ after)) log)) (sym due)
-      (if_some (IsDue z o words h (others_of h.port (before ++ h ∷ after)) log) (IsDue z o words' h' (others_of h'.port (before ++ h' ∷ after)) log) h.due (λ d e k. subst (λ (l : List Holding). IsDue z o words' h' l log d) same (one d k)) (all_at (λ v. IfSome v.due (IsDue z o words v (others_of v.port (before ++ h ∷ after)) log)) before h after w.due))
+      (if_some (IsDue z o words h (others_of h.port (before ++ h ∷ after)) log) (IsDue z o words' h' (others_of h'.port (before ++ h' ∷ after)) log) h.due
+          (λ d e k. subst (λ (l : List Holding). IsDue z o words' h' l log d) same (one d k))
+          (all_at (λ v. IfSome v.due (IsDue z o words v (others_of v.port (before ++ h ∷ after)) log)) before h after w.due))
     where
       same : others_of h.port (before ++ h ∷ after) ≡ others_of h'.port (before ++ h' ∷ after)
-      same = others_gone h.port before h after (eq-eqb h.port h.port refl) ∙ sym (others_gone h.port before h' after (eq-eqb h'.port h.port m.port)) ∙ ap (λ p. others_of p (before ++ h' ∷ after)) (sym m.port)
+      same = others_gone h.port before h after (eq-eqb h.port h.port refl) ∙ sym (others_gone h.port before h' after (eq-eqb h'.port h.port m.port)) ∙
+          ap (λ p. others_of p (before ++ h' ∷ after)) (sym m.port)
 
       one : (d : Due) → IsDue z o words h (others_of h.port (before ++ h ∷ after)) log d → IsDue z o words' h' (others_of h.port (before ++ h ∷ after)) log d
       one d k =
@@ -151,8 +169,11 @@ module _ (z : Layout) (o : Opening) (words words' : List ℕ) (before : List Hol
           let tied = all_at (IsTied z words) before h after w.tied in
           let at : b.at ≡ d.at = ap (λ (x : Block). x.at) found.2.1 in
           let above = own_far z words b (if_some_at (IsOwn z words) h.own b found.1 tied.own) in
-          due_moves z o words words' h h' others others log log d f (stays o log) own (unjoined k.unjoined) (λ j old below within is. sym (components j below) ∙ is) (λ n below. far (d.at + n) (omega (arith, above, at)))
-          (λ prev view within all. all_weaker (λ v. IfJoined v (λ l j. Covers z words us log d.at j)) (λ v. IfJoined v (λ l j. Covers z words' us log d.at j)) (λ v. joined_weaker v (λ l j. Covers z words us log d.at j) (λ l j. Covers z words' us log d.at j) (λ l j. covers_moves z words words' us us f o log log (stays o log) d.at prev view (length log) j within)) others all) k
+          due_moves z o words words' h h' others others log log d f (stays o log) own (unjoined k.unjoined) (λ j old below within is. sym (components j below) ∙ is)
+              (λ n below. far (d.at + n) (omega (arith, above, at)))
+          (λ prev view within all. all_weaker (λ v. IfJoined v (λ l j. Covers z words us log d.at j)) (λ v. IfJoined v (λ l j. Covers z words' us log d.at j))
+              (λ v. joined_weaker v (λ l j. Covers z words us log d.at j) (λ l j. Covers z words' us log d.at j)
+              (λ l j. covers_moves z words words' us us f o log log (stays o log) d.at prev view (length log) j within)) others all) k
 
 -- what a step changes that leaves the slots and the port's claim as they were
 pub record Calm (z : Layout) (o : Opening) (words words' : List ℕ) (before : List Holding) (h h' : Holding) (after : List Holding) (log : List Applied) : Type 0 where
@@ -169,7 +190,8 @@ pub record Calm (z : Layout) (o : Opening) (words words' : List ℕ) (before : L
   pub slots_high : get_or words' (slot_counter z) 0 ≤ z.slots + slot_marks (before ++ h' ∷ after)
   pub lists_high : get_or words' (list_counter z) 0 ≤ list_end z + (z.slots + 2) * list_marks (before ++ h' ∷ after)
 
-pub calm : (z : Layout) (o : Opening) (words words' : List ℕ) (before : List Holding) (h h' : Holding) (after : List Holding) (log : List Applied) → LawfulWords z o words (before ++ h ∷ after) log → Calm z o words words' before h h' after log → IsKept z o words before h after log words' h' log
+pub calm : (z : Layout) (o : Opening) (words words' : List ℕ) (before : List Holding) (h h' : Holding) (after : List Holding) (log : List Applied) → LawfulWords z o words (before ++ h ∷ after) log →
+    Calm z o words words' before h h' after log → IsKept z o words before h after log words' h' log
 calm z o words words' before h h' after log w c =
     quiet z o words words' before h h' after log w (record {
       moves = c.moves;

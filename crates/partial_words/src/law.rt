@@ -1,0 +1,39 @@
+//! Laws about the words. The functions have no code: their contracts hold of the definitions.
+
+ghost use Rattle.partial_words.specs.Announcement.{AnnouncementsReadBack};
+ghost use Rattle.partial_words.specs.Chain.{OpeningWordsAgree, RecordsLieWithin};
+ghost use Rattle.partial_words.specs.Layout.{RegionsAreApart};
+ghost use Rattle.partial_words.specs.Record.{RecordsReadBack};
+ghost use Rattle.partial_words.specs.VacatedList.{ListsReadBack};
+
+/// Each word below the total stands in one region and in no other, whatever the sizes are.
+pub fn regions_are_apart()
+    ensures { RegionsAreApart }
+{}
+
+/// The words at opening agree with the empty history: each component word names its initial record.
+pub fn opening_words_agree()
+    ensures { OpeningWordsAgree }
+{}
+
+/// What the writer of a record gave, its readers read back, for every record that stands in the words.
+pub fn records_read_back()
+    ensures { RecordsReadBack }
+{}
+
+/// In words that agree with a history all records lie within the words: those of the components, those of
+/// the entries, and those before them.
+pub fn records_lie_within()
+    ensures { RecordsLieWithin }
+{}
+
+/// What the writer of an announcement gave, its readers read back, for every announcement that stands
+/// in the words.
+pub fn announcements_read_back()
+    ensures { AnnouncementsReadBack }
+{}
+
+/// What the writer of a list gave, its readers read back, for every list that stands in the words.
+pub fn lists_read_back()
+    ensures { ListsReadBack }
+{}
