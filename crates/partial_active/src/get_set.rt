@@ -110,6 +110,7 @@ impl GetSet {
         ensures together { (f : Buffers) → IsFor sizes f → GoTogether (result, f) }
         ensures steps { left_of result ≡ most_steps sizes }
     {
+        // The getter tells that the sizes are in their ranges.
         let _slots = sizes.slots();
         GetSet {
             sizes,

@@ -1,12 +1,12 @@
 -- The one law of steps, over all stages, and how a call begins.
-use Rattle.std.proofs.Common.{ℕ, ◌≡◌, ◌+◌, ◌<◌, ◌≤◌, ◌++◌, ◌⊎◌, Bool, true, false, cond, Some, None, List, [], ◌∷◌, length, take, get_or, refl, sym, ap, subst, ◌∙◌, inl, inr, arith}
+use Rattle.std.proofs.Common.{ℕ, ◌≡◌, ◌<◌, ◌≤◌, ◌++◌, ◌⊎◌, Bool, true, false, cond, Some, None, List, [], ◌∷◌, length, take, get_or, refl, sym, ap, subst, ◌∙◌, inl, inr, arith}
 use Rattle.std.specs.List.{IsDistinct}
 use Rattle.std.specs.Prelude.{nat_eq, IfSome}
 use Rattle.std.proofs.lemmas.Bool.{false≢true}
 use Rattle.std.proofs.lemmas.List.{append-nil, take_all}
 use Rattle.partial_model.specs.declared.history.Applied.{Applied}
 use Rattle.partial_model.specs.declared.history.Opening.{Opening}
-use Rattle.partial_model.specs.Notes.{Noted, LegalNotes, seen_by}
+use Rattle.partial_model.specs.Notes.{LegalNotes, seen_by}
 use Rattle.partial_model.specs.Outcome.{places_by}
 use Rattle.partial_words.specs.declared.step.Step.{Step}
 use Rattle.partial_words.specs.declared.step.Step.TheVariants.{Add}
@@ -19,8 +19,8 @@ use Rattle.partial_machine.specs.declared.stage.Change.{Change}
 use Rattle.partial_machine.specs.declared.stage.Stage.{Stage}
 use Rattle.partial_machine.specs.declared.stage.Stage.TheVariants.{Idle, ReadBegun, LoadingValue, UpdateBegun, GettingSet, Viewing, ClaimingRecord, StoringRecord, Exchanging, ScanBegun, StoringAnnouncement, Joining, Scanning, Leaving, Finished}
 use Rattle.partial_machine.specs.Machine.{CoreState, lists_spent, record_size, advance, step_at, step_of, reply_of}
-use Rattle.partial_machine.specs.Calls.{is_begun, is_at_rest, begun_like}
-use Rattle.partial_machine.specs.Sound.{AreComponents, is_sound_at}
+use Rattle.partial_machine.specs.Calls.{is_begun, is_at_rest}
+use Rattle.partial_machine.specs.Sound.{AreComponents}
 use Rattle.partial_machine.specs.Possible.{IsPossible}
 use Rattle.partial_machine.specs.Behind.{IsBehind}
 use Rattle.partial_machine.proofs.Sound.{size_few}

@@ -1,7 +1,6 @@
 -- The claims of pool words, and the stores of an announcement.
 use Rattle.std.proofs.Common.{ℕ, suc, ◌≡◌, ◌+◌, ◌*◌, ◌<◌, ◌≤◌, ◌==◌, ◌++◌, Bool, true, false, cond, Option, Some, None, List, [], ◌∷◌, length, map, get_or, refl, sym, ap, subst, ◌∙◌, arith}
 use Rattle.std.specs.Prelude.{slice_index}
-use Rattle.std.specs.Option.{option_map_or}
 use Rattle.std.proofs.lemmas.Bool.{ne_eqb, ltb-true, ltb-false, eqb-true}
 use Rattle.partial_model.specs.declared.history.Applied.{Applied}
 use Rattle.partial_model.specs.declared.history.Opening.{Opening}
@@ -17,7 +16,7 @@ use Rattle.partial_words.proofs.RecordLemmas.{length-record_block}
 use Rattle.partial_machine.specs.declared.stage.Change.{Change}
 use Rattle.partial_machine.specs.declared.stage.Stage.{Stage}
 use Rattle.partial_machine.specs.declared.stage.Stage.TheVariants.{ClaimingRecord, StoringRecord, ScanBegun, StoringAnnouncement}
-use Rattle.partial_machine.specs.Machine.{CoreState, at_stage, step_at, record_size, record_words, view_at, fits_pool, pool_refused, begin_joining}
+use Rattle.partial_machine.specs.Machine.{CoreState, at_stage, step_at, record_size, record_words, fits_pool, pool_refused, begin_joining}
 use Rattle.partial_machine.specs.Possible.{IsPoolCount}
 use Rattle.partial_machine.proofs.Sound.{size_few}
 use Rattle.partial_state.specs.Holdings.{Holding, Own}

@@ -1,6 +1,5 @@
 -- The exchange of a component word: won, it adds one entry to the history; lost, it changes nothing.
 use Rattle.std.proofs.Common.{ℕ, ◌≡◌, ◌≢◌, ◌+◌, ◌<◌, ◌==◌, ◌++◌, Bool, true, false, cond, Option, Some, None, List, [], ◌∷◌, length, get_or, set, slice_get, take, refl, sym, ap, subst, ◌∙◌, arith}
-use Rattle.std.specs.List.{AllByRecursion}
 use Rattle.std.specs.Option.{option_map_or}
 use Rattle.std.proofs.lemmas.Bool.{eqb-false, eqb-true}
 use Rattle.std.proofs.lemmas.List.{append-nil, set-get_or, take_at, length_push}
@@ -26,10 +25,10 @@ use Rattle.partial_machine.specs.declared.stage.Stage.TheVariants.{Exchanging, F
 use Rattle.partial_machine.specs.Machine.{CoreState, at_stage, advance_at, step_at, step_of, overtaken}
 use Rattle.partial_machine.specs.Sound.{IsRecord}
 use Rattle.partial_machine.specs.Possible.{IsPossible, IsPossibleAt}
-use Rattle.partial_state.specs.Holdings.{Holding, Due, HaveOtherPorts}
+use Rattle.partial_state.specs.Holdings.{Holding, Due}
 use Rattle.partial_state.specs.Loads.{IsLoaded}
 use Rattle.partial_state.specs.Effects.{IsKept}
-use Rattle.partial_state.proofs.ListLemmas.{all_weaker, all_unmap, all_before, all_after, two_before, two_after}
+use Rattle.partial_state.proofs.ListLemmas.{all_weaker}
 use Rattle.partial_state.proofs.MarkLaws.{drops_are_kept}
 use Rattle.partial_state.proofs.WinLaw.{wins_are_kept}
 use Rattle.partial_core.specs.Part.{Part, core_of, port_of, first_at}
@@ -40,9 +39,8 @@ use Rattle.partial_core.specs.Held.{holding_of, holdings, joined_since}
 use Rattle.partial_machine.specs.Calls.{is_at_rest, call_at, update_call}
 use Rattle.partial_core.specs.Steps.{AreNotesOf}
 use Rattle.partial_core.proofs.MidCalls.{KnowsOld}
-use Rattle.partial_core.proofs.Calls.{led}
 use Rattle.partial_core.proofs.Parts.{known_grows, known_end, gone, changed, holdings_split, once_own, once_other}
-use Rattle.partial_core.proofs.Steps.{LeadsAt, holding_in, known_here, sizes_here, sound_at, port_here, seen_here, memory_here, memory_at, holding_gone, going, ends}
+use Rattle.partial_core.proofs.Steps.{LeadsAt, holding_in, known_here, sizes_here, sound_at, port_here, seen_here, memory_at, holding_gone, going, ends}
 use Rattle.partial_core.proofs.Ports.{others}
 use Rattle.partial_core.proofs.Reading.{stamp_now, stamp_then, component_record}
 

@@ -1,15 +1,10 @@
 -- The machines of a lawful state.
-use Rattle.std.proofs.Common.{◌≡◌, ◌++◌, ◌⊎◌, List, ◌∷◌, refl, sym, ap, subst, ◌∙◌, inl, inr}
-use Rattle.partial_model.specs.declared.history.Applied.{Applied}
-use Rattle.partial_model.specs.declared.history.Opening.{Opening}
-use Rattle.std.specs.Prelude.{ℕ}
-use Rattle.partial_words.specs.Layout.{Layout}
+use Rattle.std.proofs.Common.{◌⊎◌, sym, ap, subst, ◌∙◌, inl, inr}
 use Rattle.partial_machine.specs.Machine.{CoreState}
 use Rattle.partial_machine.specs.Sound.{IsSound}
 use Rattle.partial_machine.proofs.Behind.{due_at}
-use Rattle.partial_core.specs.Part.{Part, core_of, HasBegun, IsLedTo}
+use Rattle.partial_core.specs.Part.{HasBegun, IsLedTo}
 use Rattle.partial_core.specs.Ports.{IsReady, LawfulMachinesAreReady}
-use Rattle.partial_core.specs.Lawful.{Lawful}
 use Rattle.partial_core.proofs.Steps.{known_here, sizes_here, sound_here, port_here}
 use Rattle.partial_core.proofs.AllSteps.{fresh_call, begin_lawful}
 

@@ -1,20 +1,16 @@
 -- What a lawful state says of its ports: they are distinct, fit the history, may look, and make few steps.
-use Rattle.std.proofs.Common.{ℕ, suc, ◌≡◌, ◌≢◌, ◌+◌, ◌<◌, ◌≤◌, ◌==◌, ◌++◌, ◌⊎◌, Bool, true, false, cond, Some, List, [], ◌∷◌, length, map, take, refl, sym, ap, subst, ◌∙◌, inl, inr, arith, append_assoc}
+use Rattle.std.proofs.Common.{ℕ, suc, ◌≡◌, ◌≢◌, ◌+◌, ◌<◌, ◌≤◌, ◌==◌, ◌++◌, ◌⊎◌, Bool, true, false, cond, List, [], ◌∷◌, length, map, refl, sym, ap, subst, ◌∙◌, inl, inr, arith, append_assoc}
 use Rattle.std.specs.Prelude.{Contains}
 use Rattle.std.specs.List.{AllByRecursion}
-use Rattle.std.proofs.lemmas.Bool.{ne_eqb, eq-eqb}
+use Rattle.std.proofs.lemmas.Bool.{eq-eqb}
 use Rattle.std.proofs.lemmas.Bool.Decides.{eqb_tells}
 use Rattle.std.proofs.lemmas.List.{take_all, length-map}
-use Rattle.partial_model.specs.declared.call.Call.{Call}
 use Rattle.partial_model.specs.declared.history.Applied.{Applied}
 use Rattle.partial_model.specs.declared.history.Opening.{Opening}
-use Rattle.partial_model.specs.Notes.{Noted, LegalNotes}
 use Rattle.partial_model.specs.Outcome.{places_by, places_written}
 use Rattle.partial_words.specs.Layout.{Layout, IsLayout}
 use Rattle.partial_machine.specs.Machine.{CoreState, advance}
-use Rattle.partial_machine.specs.Calls.{call_of}
-use Rattle.partial_machine.specs.Sound.{IsSound}
-use Rattle.partial_machine.specs.Bounds.{most_steps, steps_left}
+use Rattle.partial_machine.specs.Bounds.{most_steps}
 use Rattle.partial_machine.specs.Steps.{Run}
 use Rattle.partial_machine.proofs.StepCounts.{makes_few_steps}
 use Rattle.partial_state.specs.Holdings.{Holding, HaveOtherPorts}
@@ -26,9 +22,9 @@ use Rattle.partial_core.specs.Held.{holding_of, holdings}
 use Rattle.partial_core.specs.Known.{AreKept, IsKnown, notes_by}
 use Rattle.partial_core.specs.Lawful.{Lawful}
 use Rattle.partial_core.specs.Steps.{Fits}
-use Rattle.partial_core.specs.Ports.{PortsFitHistory, LawfulPortsFit, LawfulRecordsAreWithin, LooksStayLawful, MakesFewSteps, LawfulCallsAreBounded}
+use Rattle.partial_core.specs.Ports.{LawfulPortsFit, LawfulRecordsAreWithin, LooksStayLawful, MakesFewSteps, LawfulCallsAreBounded}
 use Rattle.partial_core.proofs.Calls.{led}
-use Rattle.partial_core.proofs.Parts.{seen_within, legal_on, all_at, all_changed, holdings_split, once_same, once_own}
+use Rattle.partial_core.proofs.Parts.{seen_within, legal_on, all_changed, holdings_split, once_same, once_own}
 use Rattle.partial_core.proofs.Steps.{known_here, memory_here, port_here}
 
 -- what holds of each element in two ways

@@ -1,5 +1,5 @@
 -- A whole call of a port as one relation: how it begins, each of its steps, and what it leaves.
-use Rattle.std.specs.Prelude.{ℕ, ◌≡◌, ◌+◌, ◌<◌, ◌≤◌, Bool, true, not, List, [], ◌∷◌, ◌++◌, length, take, Option, Some, None, is_some}
+use Rattle.std.specs.Prelude.{ℕ, ◌≡◌, ◌+◌, ◌<◌, ◌≤◌, true, not, List, [], ◌∷◌, ◌++◌, length, take, Option, Some, None, is_some}
 use Rattle.partial_model.specs.declared.call.Call.{Call}
 use Rattle.partial_model.specs.declared.call.Refused.{Refused}
 use Rattle.partial_model.specs.declared.history.Applied.{Applied}
@@ -15,7 +15,7 @@ use Rattle.partial_machine.specs.Sound.{IsSound}
 use Rattle.partial_machine.specs.Bounds.{most_steps, steps_left}
 use Rattle.partial_machine.specs.Behind.{IsRefusedBy, IsMarkedFor}
 use Rattle.partial_machine.specs.Steps.{Run, AreOfScan, pairs_loaded}
-use Rattle.partial_core.specs.Part.{Part, port_of, core_of, answers_of, first_at, HasBegun, IsLedTo, IsBetween, fresh_part}
+use Rattle.partial_core.specs.Part.{Part, port_of, answers_of, first_at, HasBegun, IsLedTo, IsBetween, fresh_part}
 use Rattle.partial_core.specs.Steps.{AreNotesOf, Fits, Tells}
 
 -- why a call was refused behind some steps: the last of them was its claim, which went past the end of its region

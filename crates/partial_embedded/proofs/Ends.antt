@@ -1,12 +1,11 @@
 -- How a finished scan has ended.
-use Rattle.std.proofs.Common.{ℕ, zero, suc, ◌≡◌, ◌+◌, ◌-◌, ◌<◌, ◌≤◌, ◌==◌, ◌++◌, Bool, true, false, cond, ◌||◌, ◌&&◌, Option, Some, None, List, [], ◌∷◌, length, take, get_or, set, refl, sym, ◌∙◌, ap, subst, arith, append_assoc, append-nil, length-append}
+use Rattle.std.proofs.Common.{ℕ, zero, suc, ◌≡◌, ◌+◌, ◌-◌, ◌<◌, ◌==◌, ◌++◌, Bool, true, false, cond, ◌||◌, ◌&&◌, Some, None, List, [], ◌∷◌, length, take, get_or, set, refl, sym, ◌∙◌, ap, subst, arith, append_assoc, append-nil}
 use Rattle.std.specs.Prelude.{nat_lt}
-use Rattle.std.proofs.lemmas.Bool.{ltb-false, false≢true}
-use Rattle.std.proofs.lemmas.List.{take_all, length_push}
-use Rattle.partial_words.specs.Layout.{Layout}
+use Rattle.std.proofs.lemmas.Bool.{ltb-false}
+use Rattle.std.proofs.lemmas.List.{length_push}
 use Rattle.partial_embedded.specs.declared.embedded.Stage.{Stage}
 use Rattle.partial_embedded.specs.declared.embedded.Stage.TheVariants.{Collect, View, Len, Index, PairValue, Value, Done}
-use Rattle.partial_embedded.specs.Embedded.{Pair, RowsState, GoTogether, goes_at, fresh, advance, advance_at, is_first, differs, was_changed, noted, borrow, after_load, after_view, at_stage, with_value, pairs_from, IsPossibleAt}
+use Rattle.partial_embedded.specs.Embedded.{Pair, GoTogether, goes_at, fresh, advance, advance_at, is_first, differs, was_changed, noted, borrow, after_view, at_stage, with_value, pairs_from, IsPossibleAt}
 use Rattle.partial_embedded.specs.Runs.{Run, LastTwoAreEqual, ShowsThirdRecord, written, LoadsValues, LoadsView, EndsWell, FinishedScansEndWell}
 use Rattle.partial_embedded.proofs.Keeps.{kept, fresh_together}
 use Rattle.partial_embedded.proofs.Traces.{trace_at, step_traced, fresh_traced}

@@ -75,6 +75,7 @@ impl Embedded {
         ensures steps { (indices : List ℕ) (rows : RowsState) →
             left_of indices (result, rows) ≡ most_steps sizes (length indices) }
     {
+        // The getter tells that the sizes are in their ranges.
         let _components = sizes.m();
         Embedded {
             sizes,

@@ -1,7 +1,6 @@
 -- Records of a history in lawful words: what stands before a record, and which words may be loaded.
-use Rattle.std.proofs.Common.{ℕ, zero, suc, ◌≡◌, ◌≢◌, ◌+◌, ◌*◌, ◌<◌, ◌≤◌, ◌==◌, ◌++◌, Bool, true, false, cond, List, [], ◌∷◌, length, map, take, get_or, slice_get, Option, Some, None, refl, sym, ◌∙◌, ap, subst, inl, inr, arith}
+use Rattle.std.proofs.Common.{ℕ, zero, suc, ◌≡◌, ◌≢◌, ◌+◌, ◌*◌, ◌<◌, ◌≤◌, ◌++◌, cond, List, [], ◌∷◌, length, map, take, get_or, slice_get, Some, None, refl, sym, ◌∙◌, ap, subst, inl, inr, arith}
 use Rattle.std.specs.List.{AllByRecursion}
-use Rattle.std.specs.Option.{option_map_or}
 use Rattle.std.proofs.lemmas.Bool.{cases_lt, eq-eqb}
 use Rattle.partial_model.proofs.AllLemmas.{all_back}
 use Rattle.partial_model.specs.declared.history.Applied.{Applied}
@@ -10,7 +9,7 @@ use Rattle.partial_model.specs.History.{IsHistory, initial_stamp, stamp_of, last
 use Rattle.partial_model.proofs.HistoryLemmas.{last_from-push, last_at, overtaken_at}
 use Rattle.partial_model.proofs.StampsStay.{take_within, in_whole, distinct_at, stamp_told}
 use Rattle.partial_words.specs.Layout.{Layout, pool_base, pool_end, pool_counter}
-use Rattle.partial_words.specs.Record.{prev_of, view_of, view_len}
+use Rattle.partial_words.specs.Record.{prev_of}
 use Rattle.partial_words.specs.Chain.{Agrees}
 use Rattle.partial_words.proofs.ChainLemmas.{prev_before_entry}
 use Rattle.partial_state.specs.Views.{Block, AreApart, IsApartFrom, IsWithin, IsBegunSince}

@@ -1,17 +1,13 @@
 -- What lawful words tell of a port that is joined.
-use Rattle.std.proofs.Common.{ℕ, ◌≡◌, ◌<◌, List, length, slice_index, Option, Some, IfSome, sym, ◌∙◌, subst, arith}
+use Rattle.std.proofs.Common.{ℕ, ◌≡◌, ◌<◌, List, slice_index, Option, Some, IfSome, subst, arith}
 use Rattle.std.specs.List.{AllByRecursion}
 use Rattle.partial_model.specs.declared.history.Applied.{Applied}
 use Rattle.partial_model.specs.declared.history.Opening.{Opening}
 use Rattle.partial_words.specs.Layout.{Layout, slot_word, slot_counter}
-use Rattle.partial_words.specs.Record.{StandsAt}
-use Rattle.partial_words.specs.Announcement.{announcement_block}
-use Rattle.partial_words.proofs.BlockLemmas.{announcement_reads_back}
 use Rattle.partial_state.specs.Views.{Joined, IsAnnounced}
 use Rattle.partial_state.specs.Holdings.{Claimed, Holding, IfJoined, unpublished}
 use Rattle.partial_state.specs.LawfulWords.{LawfulWords, IsClaim}
 use Rattle.partial_knowledge.specs.Joins.{Joins}
-use Rattle.partial_active.proofs.Active.{same_named}
 use Rattle.partial_model.proofs.NotesLemmas.{AllByRecursion-get}
 
 -- what holds of each announcement holds of this one

@@ -1,5 +1,5 @@
 -- How a call begins at a machine, and why one is refused at once.
-use Rattle.std.proofs.Common.{ℕ, zero, suc, ◌≡◌, ◌+◌, ◌<◌, ◌≤◌, ◌==◌, Bool, true, false, cond, Option, Some, None, List, [], ◌∷◌, length, get_or, refl, sym, ap, subst, ◌∙◌, arith}
+use Rattle.std.proofs.Common.{ℕ, zero, suc, ◌≡◌, ◌<◌, ◌≤◌, ◌==◌, Bool, true, false, cond, Option, Some, None, List, [], ◌∷◌, length, get_or, refl, sym, ap, subst, ◌∙◌, arith}
 use Rattle.std.specs.Prelude.{nat_lt}
 use Rattle.std.specs.List.{AllByRecursion, list_all}
 use Rattle.std.proofs.lemmas.Bool.{false≢true, ltb-true, ltb-false, ne_eqb}
@@ -9,12 +9,11 @@ use Rattle.partial_model.specs.declared.call.Refused.{Refused}
 use Rattle.partial_model.specs.declared.call.Refused.TheVariants as refused
 use Rattle.partial_model.specs.Notes.{MayBeRefused}
 use Rattle.partial_model.proofs.Decisions.{Decides-list_all, Decides-nat_lt}
-use Rattle.partial_words.specs.Layout.{Layout}
 use Rattle.partial_machine.specs.declared.stage.Reply.TheVariants as reply
 use Rattle.partial_machine.specs.declared.stage.Stage.{Stage}
 use Rattle.partial_machine.specs.declared.stage.Stage.TheVariants.{ReadBegun, UpdateBegun, ScanBegun, Finished}
-use Rattle.partial_machine.specs.Machine.{CoreState, at_stage, reply_at}
-use Rattle.partial_machine.specs.Calls.{call_at, is_begun, begun_like, begin_scan, begun_of, refusal_of, makes_steps, IsServed}
+use Rattle.partial_machine.specs.Machine.{CoreState, at_stage}
+use Rattle.partial_machine.specs.Calls.{call_at, is_begun, begun_like, begin_scan, begun_of, refusal_of, makes_steps}
 use Rattle.partial_machine.specs.Bounds.{most_of_update, most_steps, left_at, steps_left}
 use Rattle.partial_machine.specs.Sound.{AreComponents, IsSound, is_sound_at}
 use Rattle.partial_machine.specs.Behind.{IsBegunWith, IsOldMark, CallsBegin, RestsAreSound, CallsAreRefusedAtOnce}

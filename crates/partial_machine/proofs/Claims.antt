@@ -1,10 +1,8 @@
 -- A call makes one claim of pool words at most, and one of a slot.
-use Rattle.std.proofs.Common.{ℕ, ◌≡◌, ◌+◌, ◌<◌, ◌≤◌, ◌==◌, Bool, true, false, cond, Option, Some, None, List, [], ◌∷◌, length, refl, sym, ap, subst, ◌∙◌, arith}
+use Rattle.std.proofs.Common.{ℕ, ◌≡◌, ◌+◌, ◌≤◌, ◌==◌, Bool, true, false, cond, Some, None, List, [], ◌∷◌, length, refl, sym, ap, subst, ◌∙◌, arith}
 use Rattle.std.specs.Prelude.{nat_lt}
-use Rattle.std.specs.Option.{option_map_or}
 use Rattle.std.proofs.lemmas.Bool.{cond_both, ne_eqb}
-use Rattle.partial_words.specs.declared.step.Step.{Step}
-use Rattle.partial_words.specs.declared.step.Step.TheVariants.{Store, Add}
+use Rattle.partial_words.specs.declared.step.Step.TheVariants.{Store}
 use Rattle.partial_words.specs.Layout.{Layout, IsLayout, slot_word, slot_counter, pool_counter, list_counter}
 use Rattle.partial_words.specs.Announcement.{announcement_size}
 use Rattle.partial_active.specs.Join.{join_step, join_after, advance_join}

@@ -380,28 +380,30 @@ impl Core {
                     },
                 };
             }
-            Stage::UpdateBegun { change } => self.begun(change, answer),
-            Stage::GettingSet { change, old } => self.got(change, old, answer),
-            Stage::Viewing { change, old } => self.viewed(change, old, answer),
-            Stage::ClaimingRecord { change, old } => self.record_claimed(change, old, answer),
-            Stage::StoringRecord { change, old, at, k } => self.record_stored(change, old, at, k),
+            Stage::UpdateBegun { change } => self.after_component(change, answer),
+            Stage::GettingSet { change, old } => self.after_set(change, old, answer),
+            Stage::Viewing { change, old } => self.after_view(change, old, answer),
+            Stage::ClaimingRecord { change, old } => self.after_record_claim(change, old, answer),
+            Stage::StoringRecord { change, old, at, k } => self.after_record_store(
+                change, old, at, k,
+            ),
             Stage::Exchanging { change, old, at } => {
                 self.stage = Stage::Finished {
                     reply: exchanged(change, old, at, answer),
                 };
             }
-            Stage::ScanBegun => self.announcement_claimed(answer),
-            Stage::StoringAnnouncement { at, k } => self.announcement_stored(at, k),
-            Stage::Joining => self.joined(answer),
-            Stage::Scanning => self.collected(answer),
-            Stage::Leaving => self.left(answer),
+            Stage::ScanBegun => self.after_announcement_claim(answer),
+            Stage::StoringAnnouncement { at, k } => self.after_announcement_store(at, k),
+            Stage::Joining => self.after_join(answer),
+            Stage::Scanning => self.after_collect(answer),
+            Stage::Leaving => self.after_leave(answer),
             Stage::Idle | Stage::Finished { .. } => unreachable!(),
         }
     }
 
     // An update has loaded its component word: it goes on where that is the stamp that it expects.
     #[inline(always)]
-    fn begun(&mut self, change: Change, x: u64)
+    fn after_component(&mut self, change: Change, x: u64)
         requires stage { self.old.stage ≡ UpdateBegun change }
         requires possible { IsPossibleAt self.old (UpdateBegun change) x }
         ensures { self.new ≡ advance_at self.old (UpdateBegun change) x }
@@ -419,7 +421,7 @@ impl Core {
     // The getSet of an update takes its answer. Once it is finished, an embedded scan of what it found
     // begins, where it found anything.
     #[inline(always)]
-    fn got(&mut self, change: Change, old: u64, x: u64)
+    fn after_set(&mut self, change: Change, old: u64, x: u64)
         requires stage { self.old.stage ≡ GettingSet change old }
         requires possible { IsPossibleAt self.old (GettingSet change old) x }
         ensures { self.new ≡ advance_at self.old (GettingSet change old) x }
@@ -438,7 +440,7 @@ impl Core {
 
     // The embedded scan of an update takes its answer.
     #[inline(always)]
-    fn viewed(&mut self, change: Change, old: u64, x: u64)
+    fn after_view(&mut self, change: Change, old: u64, x: u64)
         requires stage { self.old.stage ≡ Viewing change old }
         requires possible { IsPossibleAt self.old (Viewing change old) x }
         ensures { self.new ≡ advance_at self.old (Viewing change old) x }
@@ -456,7 +458,7 @@ impl Core {
 
     // An update has claimed the words of its record.
     #[inline(always)]
-    fn record_claimed(&mut self, change: Change, old: u64, at: u64)
+    fn after_record_claim(&mut self, change: Change, old: u64, at: u64)
         requires stage { self.old.stage ≡ ClaimingRecord change old }
         requires possible { IsPossibleAt self.old (ClaimingRecord change old) at }
         ensures { self.new ≡ advance_at self.old (ClaimingRecord change old) at }
@@ -476,7 +478,7 @@ impl Core {
 
     // An update has stored word k of its record.
     #[inline(always)]
-    fn record_stored(&mut self, change: Change, old: u64, at: u64, k: u64)
+    fn after_record_store(&mut self, change: Change, old: u64, at: u64, k: u64)
         requires stage { self.old.stage ≡ StoringRecord change old at k }
         ensures { self.new ≡ advance_at self.old (StoringRecord change old at k) 0 }
     {
@@ -495,7 +497,7 @@ impl Core {
 
     // A scan has claimed the words of its announcement.
     #[inline(always)]
-    fn announcement_claimed(&mut self, at: u64)
+    fn after_announcement_claim(&mut self, at: u64)
         requires stage { self.old.stage ≡ ScanBegun }
         requires possible { IsPossibleAt self.old ScanBegun at }
         ensures { self.new ≡ advance_at self.old ScanBegun at }
@@ -520,7 +522,7 @@ impl Core {
 
     // A scan has stored word k of its announcement. Once all are stored, the join begins.
     #[inline(always)]
-    fn announcement_stored(&mut self, at: u64, k: u64)
+    fn after_announcement_store(&mut self, at: u64, k: u64)
         requires stage { self.old.stage ≡ StoringAnnouncement at k }
         ensures { self.new ≡ advance_at self.old (StoringAnnouncement at k) 0 }
     {
@@ -535,7 +537,7 @@ impl Core {
     // The join of a scan takes its answer. Once the announcement stands in a slot, the embedded scan
     // begins.
     #[inline(always)]
-    fn joined(&mut self, x: u64)
+    fn after_join(&mut self, x: u64)
         requires stage { self.old.stage ≡ Joining }
         ensures { self.new ≡ advance_at self.old Joining x }
     {
@@ -554,7 +556,7 @@ impl Core {
 
     // The embedded scan of a scan takes its answer. Once it is finished, the scan leaves.
     #[inline(always)]
-    fn collected(&mut self, x: u64)
+    fn after_collect(&mut self, x: u64)
         requires stage { self.old.stage ≡ Scanning }
         requires possible { IsPossibleAt self.old Scanning x }
         ensures { self.new ≡ advance_at self.old Scanning x }
@@ -567,7 +569,7 @@ impl Core {
 
     // The scan has left.
     #[inline(always)]
-    fn left(&mut self, x: u64)
+    fn after_leave(&mut self, x: u64)
         requires stage { self.old.stage ≡ Leaving }
         ensures { self.new ≡ advance_at self.old Leaving x }
     {

@@ -18,7 +18,7 @@ use Rattle.partial_core.specs.Steps.{Tells}
 use Rattle.partial_core.proofs.Laws.{first_steps_make_calls, further_steps_make_calls}
 use Rattle.partial_memory.specs.declared.rule.About.{About}
 use Rattle.partial_memory.specs.Rule.{Seated, AreByOpened, Told}
-use Rattle.partial_memory.specs.Steps.{Begins, CallMade}
+use Rattle.partial_memory.specs.Inner.Steps.{Begins, CallMade}
 
 -- a machine with a due step has no reply
 due_none : (s : CoreState) (t : Stage) (step : Step) → step_at s t ≡ Some step → reply_at t ≡ None

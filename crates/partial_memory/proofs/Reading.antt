@@ -18,7 +18,7 @@ use Rattle.partial_core.specs.Steps.{Fits}
 use Rattle.partial_core.proofs.Laws.{calls_begin_between, ports_come_between}
 use Rattle.partial_memory.specs.declared.rule.About.{About}
 use Rattle.partial_memory.specs.Rule.{Seated, AreByOpened, IsBadgeOfOne, IsKept, IsOne, Told, makes, one_in, one_of, reading}
-use Rattle.partial_memory.specs.Steps.{CallMade}
+use Rattle.partial_memory.specs.Inner.Steps.{CallMade}
 use Rattle.partial_memory.specs.Ports.{PortView, IsResting, port_view}
 use Rattle.partial_memory.specs.Calls.{Reads}
 use Rattle.partial_memory.proofs.Calls.{runs_machine, runs_on, runs_within}

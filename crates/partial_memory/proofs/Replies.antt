@@ -30,7 +30,7 @@ use Rattle.partial_memory.specs.declared.rule.About.{About}
 use Rattle.partial_memory.specs.declared.answers.Updated.TheVariants as updated
 use Rattle.partial_memory.specs.declared.answers.UpdatedIf.TheVariants as conditional
 use Rattle.partial_memory.specs.Rule.{Seated, one_in}
-use Rattle.partial_memory.specs.Steps.{CallMade, Ended}
+use Rattle.partial_memory.specs.Inner.Steps.{CallMade, Ended}
 use Rattle.partial_memory.specs.Ports.{PortView, port_view, IsResting, Knows, Goes, MakesSteps, Answered, RefusedLate, is_pool, is_slots}
 use Rattle.partial_memory.specs.Calls.{Updates, UpdatesIf, Reads, Scans, ScansSome}
 use Rattle.partial_memory.proofs.Resting.{CallBegins, call_begins, scan_begins}

@@ -20,7 +20,7 @@ use Rattle.partial_core.specs.Steps.{Fits}
 use Rattle.partial_core.proofs.Laws.{calls_begin_between, ports_come_between}
 use Rattle.partial_memory.specs.declared.rule.About.{About}
 use Rattle.partial_memory.specs.Rule.{Seated, IsBadgeOfOne, AreByOpened, one_in}
-use Rattle.partial_memory.specs.Steps.{Begins, Ended}
+use Rattle.partial_memory.specs.Inner.Steps.{Begins, Ended}
 use Rattle.partial_memory.specs.Ports.{IsOf, IsResting, MemoryView, PortView, port_view, refusal}
 
 and_true : (b : Bool) → (b && true) ≡ b

@@ -1,5 +1,5 @@
 pub mod Rule
-pub mod Steps
+pub mod Inner
 pub mod Ports
 pub mod Calls
 pub mod Closing

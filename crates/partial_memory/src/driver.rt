@@ -7,7 +7,7 @@ ghost use Rattle.partial_machine.specs.Machine.{advance, step_of};
 ghost use Rattle.partial_machine.specs.Bounds.{steps_left};
 ghost use Rattle.partial_core.specs.Part.{IsMachineOf};
 ghost use Rattle.partial_memory.specs.Rule.{IsOne, IsBadgeOfOne, Told, one_of, one_in};
-ghost use Rattle.partial_memory.specs.Steps.{Advances, Begins, Ended};
+ghost use Rattle.partial_memory.specs.Inner.Steps.{Advances, Begins, Ended};
 
 use crate::rule::{Makes, Moment, Place, Stores, View, Words};
 use atomic_table::Badge;

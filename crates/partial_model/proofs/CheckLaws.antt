@@ -22,7 +22,7 @@ use Rattle.partial_model.specs.declared.call.Called.{Called}
 use Rattle.partial_model.specs.History.{initial_stamp, value_of, stamp_of, HaveDistinctStamps, IsHistory}
 use Rattle.partial_model.specs.Notes.{ClaimsPool, ClaimsSlot, MayBeRefused, Fits, IsEntryFor, AreCollects, SawTogether, IsTrueOf, IsLegal, indices_of, place_of, shown_by}
 use Rattle.partial_model.specs.Outcome.{Follows, IsInTime, RealTime}
-use Rattle.partial_model.specs.Checks.{is_initial, are_distinct, is_history, names_components, claims_pool, claims_slot, may_be_refused, stands_at, is_entry_for, are_collects, hold, shows_stamp, saw_together, is_right, is_refusal, is_legal, follows, ends_in_time, is_in_time, are_in_time}
+use Rattle.partial_model.specs.Inner.Checks.{is_initial, are_distinct, is_history, names_components, claims_pool, claims_slot, may_be_refused, stands_at, is_entry_for, are_collects, hold, shows_stamp, saw_together, is_right, is_refusal, is_legal, follows, ends_in_time, is_in_time, are_in_time}
 use Rattle.partial_model.proofs.Decisions.{Decides-nat_le, Decides-nat_lt, Decides-and3, Decides-never, Decides-always, Decides-list_all, Decides-list_none, Decides-if_some}
 
 -- ---- the history

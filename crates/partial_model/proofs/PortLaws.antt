@@ -11,7 +11,7 @@ use Rattle.partial_model.specs.declared.call.Finish.{Finish}
 use Rattle.partial_model.specs.History.{IsHistory}
 use Rattle.partial_model.specs.Notes.{Noted, LegalNotes, IsLegal}
 use Rattle.partial_model.specs.Outcome.{Follows, RealTime, noted_of, notes_of, places_by, places_written, EachOnce, LegalOutcome}
-use Rattle.partial_model.specs.Checks.{call_is_legal, seen_behind, notes_are_legal, claim_of, taken, is_spent, none_between, none_above, claim_all, is_legal_outcome, is_history, are_in_time}
+use Rattle.partial_model.specs.Inner.Checks.{call_is_legal, seen_behind, notes_are_legal, claim_of, taken, is_spent, none_between, none_above, claim_all, is_legal_outcome, is_history, are_in_time}
 use Rattle.partial_model.proofs.Decisions.{Decides-nat_le, Decides-and3, Decides-never, Decides-always}
 use Rattle.partial_model.proofs.CheckLaws.{Decides-is_legal, Decides-is_history, Decides-are_in_time}
 

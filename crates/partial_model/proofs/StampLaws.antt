@@ -8,7 +8,7 @@ use Rattle.std.proofs.lemmas.Option.{slice_get-get_or}
 use Rattle.std.proofs.lemmas.Bool.Decides.{Decides-eqb}
 use Rattle.partial_model.specs.declared.history.Applied.{Applied}
 use Rattle.partial_model.specs.History.{HaveDistinctStamps}
-use Rattle.partial_model.specs.Checks.{are_distinct}
+use Rattle.partial_model.specs.Inner.Checks.{are_distinct}
 use Rattle.partial_model.proofs.CheckLaws.{Decides-are_distinct}
 use Rattle.partial_model.proofs.Decisions.{Decides-list_none}
 use Rattle.partial_model.proofs.NotesLemmas.{AllByRecursion-push, AllByRecursion-weaker, distinct_push}

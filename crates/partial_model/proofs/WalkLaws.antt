@@ -13,7 +13,7 @@ use Rattle.partial_model.specs.declared.call.Note.TheVariants as note
 use Rattle.partial_model.specs.declared.call.Finish.{Finish}
 use Rattle.partial_model.specs.declared.call.Called.{Called}
 use Rattle.partial_model.specs.Notes.{IsTrueOf, shown_by, seen_after, place_of}
-use Rattle.partial_model.specs.Checks.{call_is_legal, seen_behind, notes_are_legal}
+use Rattle.partial_model.specs.Inner.Checks.{call_is_legal, seen_behind, notes_are_legal}
 use Rattle.partial_model.proofs.PortLaws.{CallIsLegal, Decides-call_is_legal}
 
 -- ---- what a legal call has seen

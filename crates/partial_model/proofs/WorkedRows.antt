@@ -13,7 +13,7 @@ use Rattle.partial_model.specs.declared.call.Note.TheVariants as note
 use Rattle.partial_model.specs.declared.call.Called.{Called}
 use Rattle.partial_model.specs.History.{last_from}
 use Rattle.partial_model.specs.Outcome.{LegalOutcome}
-use Rattle.partial_model.specs.Checks.{is_legal_outcome}
+use Rattle.partial_model.specs.Inner.Checks.{is_legal_outcome}
 use Rattle.partial_model.proofs.PortLaws.{Decides-is_legal_outcome}
 
 abbrev Unlawful : Opening → List Applied → List Called → Type 0

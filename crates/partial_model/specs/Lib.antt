@@ -1,4 +1,4 @@
-pub mod Checks
+pub mod Inner
 pub mod History
 pub mod Stamps
 pub mod Notes

@@ -3,7 +3,7 @@
 ghost use Rattle.std.specs.Prelude.{◌≡◌};
 ghost use Rattle.std.specs.Bool.{Decides};
 ghost use Rattle.partial_model.specs.Outcome.{LegalOutcome};
-ghost use Rattle.partial_model.specs.Checks.{is_legal_outcome};
+ghost use Rattle.partial_model.specs.Inner.Checks.{is_legal_outcome};
 
 mod answers;
 mod claims;
@@ -22,7 +22,8 @@ use crate::history::{Applied, Opening};
 /// its note names, or that place lies outside the call; and where an entry isn't claimed by exactly one
 /// call, in the order of its port's calls.
 ///
-/// It takes no memory. For each port that has calls it walks the history once.
+/// It takes no memory. It walks the history some times for each port that has calls, and for each value and
+/// stamp that an answer tells a part of it again.
 pub fn check_outcome(opening: &Opening, history: &[Applied], calls: &[Called]) -> bool
     ensures { Decides result (LegalOutcome opening.now history.now calls.now) }
 {

@@ -10,5 +10,6 @@ pub mod CallLaws
 pub mod LineLaws
 pub mod PlanLaws
 pub mod ReaderLaws
+pub mod CallNumbers
 pub mod AgainLaws
 pub mod Laws

@@ -88,3 +88,7 @@ pub record IsPlan (p : PlanView) : Type 0 where
   pub calls : AllByRecursion (λ cs. AllByRecursion (IsCall p.sizes.m) cs) p.ports
   pub steps : AllByRecursion (IsEntry (length p.ports)) p.steps
   pub short : length (plan_text p) ≤ 4194304
+
+-- the text of a plan has room for fewer than 2^32 calls of a port
+abbrev pub PlansHaveFewCalls : Type 0
+PlansHaveFewCalls = (p : PlanView) → IsPlan p → AllByRecursion (λ cs. length cs < 2 ^ 32) p.ports

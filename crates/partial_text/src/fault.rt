@@ -32,7 +32,7 @@ pub enum Cause {
     Extra,
 }
 
-/// Why a plan wasn't read. Nothing is left of it, and the reader has given what it was asked for.
+/// Why a plan wasn't read. Nothing is left of it, nor of what the reader had given.
 #[derive(Clone, Copy, Debug, PartialEq, Eq, Error)]
 pub enum PlanError {
     /// A size is out of its range.

@@ -1,7 +1,7 @@
 //! The laws of plan texts.
 
 ghost use Rattle.std.specs.Prelude.{◌≡◌, List, ℕ, Ok};
-ghost use Rattle.partial_text.specs.PlanText.{PlanView, IsPlan, plan_text};
+ghost use Rattle.partial_text.specs.PlanText.{PlanView, IsPlan, PlansHaveFewCalls, plan_text};
 ghost use Rattle.partial_text.specs.Judging.{judged};
 
 /// The text of a plan is judged as the plan, and what is judged as a plan is the text of it, so two
@@ -11,4 +11,9 @@ pub fn texts_tell_plans()
     ensures text { (text : List ℕ) → (p : PlanView) → judged text ≡ Ok p
         → IsPlan p × (text ≡ plan_text p) }
     ensures one { (a b : List ℕ) → (p : PlanView) → judged a ≡ Ok p → judged b ≡ Ok p → a ≡ b }
+{}
+
+/// The calls of each port of a plan can be numbered in 32 bits, since the plan's text is short.
+pub fn plans_have_few_calls()
+    ensures { PlansHaveFewCalls }
 {}

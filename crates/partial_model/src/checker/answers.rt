@@ -4,7 +4,7 @@ ghost use Rattle.std.specs.Prelude.{◌≡◌, ◌==◌, ◌&&◌, ◌<◌, not,
 ghost use Rattle.std.specs.List.{AllByRecursion};
 ghost use Rattle.partial_model.specs.History.{initial_stamp, value_of, stamp_of};
 ghost use Rattle.partial_model.specs.Notes.{indices_of, place_of};
-ghost use Rattle.partial_model.specs.Checks.{names_components, claims_pool, claims_slot, may_be_refused, stands_at, is_entry_for, are_collects, hold, shows_stamp, saw_together, is_right, is_legal};
+ghost use Rattle.partial_model.specs.Inner.Checks.{names_components, claims_pool, claims_slot, may_be_refused, stands_at, is_entry_for, are_collects, hold, shows_stamp, saw_together, is_right, is_legal};
 
 use crate::call::{Answer, Call, Finish, Note, Refused};
 use crate::history::{Applied, Opening, last_entry, value_at};

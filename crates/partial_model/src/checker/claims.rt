@@ -3,7 +3,7 @@
 ghost use Rattle.std.specs.Prelude.{◌≡◌, ◌+◌, ◌∷◌, ◌<◌, [], length, MatchOption};
 ghost use Rattle.std.specs.Option.{option_map};
 ghost use Rattle.partial_model.specs.Outcome.{places_by};
-ghost use Rattle.partial_model.specs.Checks.{claim_of, taken, places_from, none_between, none_above, may_go_on, claim_all};
+ghost use Rattle.partial_model.specs.Inner.Checks.{claim_of, taken, places_from, none_between, none_above, may_go_on, claim_all};
 
 use crate::call::{Called, Finish, Note};
 use crate::history::Applied;

@@ -2,7 +2,7 @@
 
 ghost use Rattle.std.specs.Prelude.{◌≡◌, ◌==◌, nat_lt, length};
 ghost use Rattle.std.specs.List.{list_all, list_any};
-ghost use Rattle.partial_model.specs.Checks.{is_initial, are_distinct, is_history};
+ghost use Rattle.partial_model.specs.Inner.Checks.{is_initial, are_distinct, is_history};
 
 use crate::history::{Applied, Opening};
 

@@ -1,7 +1,7 @@
 //! Whether the notes of each port are legal.
 
 ghost use Rattle.std.specs.Prelude.{◌≡◌, ◌≤◌};
-ghost use Rattle.partial_model.specs.Checks.{call_is_legal, seen_behind, notes_are_legal};
+ghost use Rattle.partial_model.specs.Inner.Checks.{call_is_legal, seen_behind, notes_are_legal};
 
 use crate::call::{Called, Finish, Note};
 use crate::checker::answers::is_legal;

@@ -3,7 +3,7 @@
 ghost use Rattle.std.specs.Prelude.{◌≡◌, ◌&&◌, None, Some, nat_le, false};
 ghost use Rattle.std.specs.Option.{option_map_or};
 ghost use Rattle.partial_model.specs.Notes.{place_of, shown_by};
-ghost use Rattle.partial_model.specs.Checks.{follows, ends_in_time, is_in_time, are_in_time};
+ghost use Rattle.partial_model.specs.Inner.Checks.{follows, ends_in_time, is_in_time, are_in_time};
 
 use crate::call::{Called, Finish, Note};
 

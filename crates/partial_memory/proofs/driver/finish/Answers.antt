@@ -1,7 +1,7 @@
 use Rattle.std.proofs.Common.{sym, ◌∙◌, subst, inr}
 use Rattle.partial_machine.specs.Machine.{CoreState}
 use Rattle.partial_memory.specs.Rule.{one_of, one_in}
-use Rattle.partial_memory.specs.Steps.{CallMade}
+use Rattle.partial_memory.specs.Inner.Steps.{CallMade}
 use Rattle.partial_memory.proofs.Calls.{runs_on}
 use Rattle.partial_memory.proofs.driver.finish.Goals as goal
 

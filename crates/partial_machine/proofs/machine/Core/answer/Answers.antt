@@ -11,24 +11,24 @@ pub returns-in-GettingSet-clause-falls : goal.returns-in-GettingSet-clause-falls
 returns-in-GettingSet-clause-falls c =
     let machine = subst (λ (s : CoreState). IsMachine s (vec_capacity c.self.inside.asked)) c.self.view_is c.self.invariant in
     let stage = sym (ap (λ (s : CoreState). s.stage) c.self.view_is) ∙ c.in-GettingSet.is in
-    fewer_on c.args.self.now c.got.new.self _ c.args.answer (GettingSet c.in-GettingSet.change c.in-GettingSet.old) machine stage
-    (subst (λ t. IsPossibleAt c.args.self.now t c.args.answer) stage c.requires) c.got.ensures
+    fewer_on c.args.self.now c.after_set.new.self _ c.args.answer (GettingSet c.in-GettingSet.change c.in-GettingSet.old) machine stage
+    (subst (λ t. IsPossibleAt c.args.self.now t c.args.answer) stage c.requires) c.after_set.ensures
 
 pub returns-in-Viewing-clause-falls : goal.returns-in-Viewing-clause-falls
 returns-in-Viewing-clause-falls c =
     let machine = subst (λ (s : CoreState). IsMachine s (vec_capacity c.self.inside.asked)) c.self.view_is c.self.invariant in
     let stage = sym (ap (λ (s : CoreState). s.stage) c.self.view_is) ∙ c.in-Viewing.is in
-    fewer_on c.args.self.now c.viewed.new.self _ c.args.answer (Viewing c.in-Viewing.change c.in-Viewing.old) machine stage
-    (subst (λ t. IsPossibleAt c.args.self.now t c.args.answer) stage c.requires) c.viewed.ensures
+    fewer_on c.args.self.now c.after_view.new.self _ c.args.answer (Viewing c.in-Viewing.change c.in-Viewing.old) machine stage
+    (subst (λ t. IsPossibleAt c.args.self.now t c.args.answer) stage c.requires) c.after_view.ensures
 
 pub returns-in-Joining-clause-falls : goal.returns-in-Joining-clause-falls
 returns-in-Joining-clause-falls c =
     let machine = subst (λ (s : CoreState). IsMachine s (vec_capacity c.self.inside.asked)) c.self.view_is c.self.invariant in
     let stage = sym (ap (λ (s : CoreState). s.stage) c.self.view_is) ∙ c.in-Joining.is in
-    fewer_on c.args.self.now c.joined.new.self _ c.args.answer Joining machine stage (subst (λ t. IsPossibleAt c.args.self.now t c.args.answer) stage c.requires) c.joined.ensures
+    fewer_on c.args.self.now c.after_join.new.self _ c.args.answer Joining machine stage (subst (λ t. IsPossibleAt c.args.self.now t c.args.answer) stage c.requires) c.after_join.ensures
 
 pub returns-in-Scanning-clause-falls : goal.returns-in-Scanning-clause-falls
 returns-in-Scanning-clause-falls c =
     let machine = subst (λ (s : CoreState). IsMachine s (vec_capacity c.self.inside.asked)) c.self.view_is c.self.invariant in
     let stage = sym (ap (λ (s : CoreState). s.stage) c.self.view_is) ∙ c.in-Scanning.is in
-    fewer_on c.args.self.now c.collected.new.self _ c.args.answer Scanning machine stage (subst (λ t. IsPossibleAt c.args.self.now t c.args.answer) stage c.requires) c.collected.ensures
+    fewer_on c.args.self.now c.after_collect.new.self _ c.args.answer Scanning machine stage (subst (λ t. IsPossibleAt c.args.self.now t c.args.answer) stage c.requires) c.after_collect.ensures

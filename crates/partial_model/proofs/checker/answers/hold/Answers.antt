@@ -1,6 +1,6 @@
-use Rattle.std.proofs.Common.{ℕ, ◌≡◌, ◌≢◌, ◌==◌, Bool, true, false, ◌&&◌, List, [], ◌∷◌, length, refl, sym, ap, ◌∙◌, arith}
+use Rattle.std.proofs.Common.{ℕ, ◌≡◌, ◌≢◌, ◌==◌, false, ◌&&◌, List, [], ◌∷◌, length, refl, sym, ap, ◌∙◌, arith}
 use Rattle.partial_model.specs.History.{value_of}
-use Rattle.partial_model.specs.Checks.{hold}
+use Rattle.partial_model.specs.Inner.Checks.{hold}
 use Rattle.partial_model.proofs.checker.answers.hold.Goals as goal
 use Rattle.partial_model.proofs.StampLaws.{and_false}
 

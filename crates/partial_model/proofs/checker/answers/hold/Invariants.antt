@@ -1,6 +1,6 @@
 use Rattle.std.proofs.Common.{◌≡◌, drop}
 use Rattle.partial_model.specs.History.{value_of}
-use Rattle.partial_model.specs.Checks.{hold}
+use Rattle.partial_model.specs.Inner.Checks.{hold}
 use Rattle.partial_model.proofs.checker.answers.hold.Given as goal
 
 -- the positions from here on decide

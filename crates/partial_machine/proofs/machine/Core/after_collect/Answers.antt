@@ -1,6 +1,6 @@
 use Rattle.std.proofs.Common.{not, ◌∙◌, ap}
 use Rattle.partial_machine.proofs.Submachines.{scanned_more}
-use Rattle.partial_machine.proofs.machine.Core.collected.Goals as goal
+use Rattle.partial_machine.proofs.machine.Core.after_collect.Goals as goal
 
 pub invariant_of-self-else-is_none : goal.invariant_of-self-else-is_none
 invariant_of-self-else-is_none c =

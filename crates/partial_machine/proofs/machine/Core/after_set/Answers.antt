@@ -1,8 +1,8 @@
 use Rattle.std.proofs.Common.{ℕ, ◌==◌, cond, List, length, sym, ◌∙◌, ap}
 use Rattle.partial_machine.specs.declared.stage.Stage.TheVariants.{Viewing, ClaimingRecord}
 use Rattle.partial_machine.proofs.Submachines.{got_more, got_all}
-use Rattle.partial_machine.proofs.machine.Core.got.Goals as goal
-use Rattle.partial_machine.proofs.machine.Core.got.Goals.{then-is_empty, else-is_empty}
+use Rattle.partial_machine.proofs.machine.Core.after_set.Goals as goal
+use Rattle.partial_machine.proofs.machine.Core.after_set.Goals.{then-is_empty, else-is_empty}
 
 pub invariant_of-self : goal.invariant_of-self
 invariant_of-self c =

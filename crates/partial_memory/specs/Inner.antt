@@ -1,0 +1,2 @@
+-- The steps of a call under way, for contracts of private functions.
+pub mod Steps

@@ -1,0 +1,2 @@
+-- The tests of the slow check, for contracts of private functions: each of them computes one clause of a legal outcome.
+pub mod Checks
