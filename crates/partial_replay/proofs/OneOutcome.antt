@@ -1,7 +1,7 @@
 -- Two outcomes of one plan tell the same.
-use Rattle.std.proofs.Common.{ℕ, ◌≡◌, ◌≢◌, ◌<◌, ◌≤◌, ◌==◌, Bool, true, false, cond, List, [], ◌∷◌, length, map, get_or, Option, Some, None, refl, sym, ◌∙◌, ap, subst, inl, inr, arith}
+use Rattle.std.proofs.Common.{ℕ, ◌≡◌, ◌<◌, ◌≤◌, ◌==◌, Bool, true, false, cond, List, [], ◌∷◌, length, map, get_or, Option, Some, None, refl, sym, ◌∙◌, ap, subst, inl, inr, arith}
 use Rattle.std.specs.List.{AllByRecursion, filter_map}
-use Rattle.std.proofs.lemmas.Bool.{cases_lt, ne_eqb}
+use Rattle.std.proofs.lemmas.Bool.{cases_lt}
 use Rattle.std.proofs.lemmas.Bool.Decides.{eqb_tells}
 use Rattle.std.proofs.lemmas.List.{ext_get_or}
 use Rattle.partial_model.specs.declared.history.Applied.{Applied}
@@ -27,7 +27,6 @@ use Rattle.partial_replay.specs.Listed.{calls_by, steps_by, AreAllMade, HaveMade
 use Rattle.partial_replay.proofs.OneList.{AreListedFrom, calls_listed, finished_but, AreMade, EndAlike, calls_same, own_call, other_call}
 use Rattle.partial_replay.proofs.OneNote.{notes_right}
 use Rattle.partial_replay.proofs.OneTrace.{moments_events, Goes, traces_same, plan_turns}
-use Rattle.partial_replay.proofs.PortLaws.{same_eqb}
 use Rattle.partial_replay.proofs.PortRuns.{PortAt, PortRun, next_at, RunOf, runs_of}
 use Rattle.partial_replay.proofs.PortSteps.{events_steps}
 use Rattle.partial_replay.proofs.TurnLengths.{lengths_same}

@@ -11,7 +11,7 @@ use Rattle.partial_model.specs.declared.call.Call.TheVariants as call
 use Rattle.partial_model.specs.declared.call.Note.{Note}
 use Rattle.partial_model.specs.declared.call.Note.TheVariants as note
 use Rattle.partial_model.specs.declared.call.Called.{Called}
-use Rattle.partial_model.specs.Notes.{Noted, LegalNotes, IsLegal, MayBeRefused, seen_by, seen_after, shown_by, place_of, Fits, IsTrueOf}
+use Rattle.partial_model.specs.Notes.{Noted, LegalNotes, IsLegal, MayBeRefused, seen_by, shown_by, place_of, Fits, IsTrueOf}
 use Rattle.partial_model.specs.Outcome.{places_written, wrote}
 use Rattle.partial_model.proofs.NotesLemmas.{places_written-append, AllByRecursion-push, AllByRecursion-weaker, LegalNotes-last}
 use Rattle.partial_words.specs.declared.step.Step.{Step}

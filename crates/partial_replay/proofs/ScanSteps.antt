@@ -9,13 +9,11 @@ use Rattle.partial_model.specs.declared.call.Call.TheVariants as call
 use Rattle.partial_model.specs.declared.call.Answer.TheVariants as answer
 use Rattle.partial_model.specs.declared.call.Called.{Called}
 use Rattle.partial_model.specs.declared.call.Finish.{Finish}
-use Rattle.partial_words.specs.declared.step.Step.{Step}
 use Rattle.partial_words.specs.Layout.{Layout, IsLayout}
 use Rattle.partial_machine.specs.declared.stage.Reply.{Reply}
 use Rattle.partial_machine.specs.declared.stage.Reply.TheVariants as reply
-use Rattle.partial_machine.specs.declared.stage.Stage.{Stage}
 use Rattle.partial_machine.specs.declared.stage.Stage.TheVariants.{Idle, ScanBegun, Finished}
-use Rattle.partial_machine.specs.Machine.{CoreState, at_stage, advance, step_at, reply_at, reply_of, fresh}
+use Rattle.partial_machine.specs.Machine.{CoreState, at_stage, advance, reply_of, fresh}
 use Rattle.partial_machine.specs.Sound.{IsSound}
 use Rattle.partial_machine.specs.Calls.{begin_scan, answer_for, begun_of, IsServed}
 use Rattle.partial_machine.specs.Steps.{Run, AreOfScan, pairs_loaded}
