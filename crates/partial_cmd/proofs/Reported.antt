@@ -1,130 +1,19 @@
--- A report of workers that have ended is right in the history of the memory that was closed with their ports.
-use Rattle.std.proofs.Common.{ℕ, ◌≡◌, ◌+◌, ◌<◌, ◌≤◌, ◌^◌, ◌++◌, Option, Some, None, List, [], ◌∷◌, length, map, refl, sym, ap, subst, ◌∙◌, inl, inr, arith}
-use Rattle.std.specs.Prelude.{IfSome}
+-- The calls of a plan, and the report of the workers that made them.
+use Rattle.std.proofs.Common.{ℕ, ◌≡◌, ◌<◌, ◌^◌, Result, Ok, Err, List, [], ◌∷◌, length, refl, sym, ap, subst, ◌∙◌}
+use Rattle.std.specs.Prelude.{IfOk}
 use Rattle.std.specs.List.{AllByRecursion}
-use Rattle.std.proofs.lemmas.List.{length-map}
-use Rattle.partial_model.specs.declared.history.Applied.{Applied}
 use Rattle.partial_model.specs.declared.history.Opening.{Opening}
 use Rattle.partial_model.specs.declared.call.Call.{Call}
 use Rattle.partial_model.specs.declared.call.Call.TheVariants as call
-use Rattle.partial_model.specs.declared.call.Answer.{Answer}
-use Rattle.partial_model.specs.declared.call.Answer.TheVariants as answer
-use Rattle.partial_model.specs.declared.call.Note.{Note}
-use Rattle.partial_model.specs.declared.call.Note.TheVariants as note
-use Rattle.partial_model.specs.Notes.{Noted, LegalNotes, IsLegal, IsTrueOf, place_of, seen_after}
-use Rattle.partial_model.specs.Outcome.{EachOnce, places_written, wrote}
-use Rattle.partial_model.proofs.AllLemmas.{all_append, all_back, all_front}
-use Rattle.partial_model.proofs.WalkLaws.{true_within}
 use Rattle.partial_words.specs.Layout.{Layout}
 use Rattle.partial_text.specs.PlanText.{IsCall, IsPlan, PlanView}
 use Rattle.partial_text.specs.declared.report.RunReport.{RunReport}
 use Rattle.partial_replay.proofs.Plans.{are_plans}
-use Rattle.partial_memory.specs.Ports.{IsOf, MemoryView, PortView, new_ports}
-use Rattle.partial_memory.specs.Rule.{newcomers}
-use Rattle.partial_memory.specs.Closing.{Closes, IsPortOf}
-use Rattle.partial_memory.specs.declared.closed.Closed.{Closed}
-use Rattle.partial_cmd.specs.declared.worker.Worked.{Worked}
-use Rattle.partial_cmd.specs.declared.workers.Results.{Results}
-use Rattle.partial_cmd.specs.Reports.{AreAnswered, AreEach, IsReportFrom, IsReportOf, opening_of}
-use Rattle.partial_cmd.specs.Work.{Fills, HaveCome, IsDone, IsNew, IsUnnoted, WasEmpty, WasRefused}
-use Rattle.partial_cmd.proofs.Made.{unnoted_seen}
-use Rattle.partial_cmd.proofs.Pairs.{each_length}
-
--- ---- calls that a port doesn't note are legal wherever they stand
-
-refused_legal : (o : Opening) (h : List Applied) (p seen : ℕ) (n : Noted) → WasRefused (length o.values) n → IsLegal o h p seen n
-refused_legal o h p seen n w =
-    let is : n ≡ record { call = n.call; answer = answer.Refused w.0; note = None } = ap (λ (a : Answer). record n { answer = a }) w.1 ∙ ap (λ (t : Option Note). record { call = n.call; answer = answer.Refused w.0; note = t }) w.2 in
-    subst (IsLegal o h p seen) (sym is) (w.3, tt)
-
-empty_legal : (o : Opening) (h : List Applied) (p seen : ℕ) (n : Noted) → seen ≤ length h → WasEmpty seen n → IsLegal o h p seen n
-empty_legal o h p seen n within w =
-    let is : n ≡ record { call = call.Scan []; answer = answer.Scanned [] 0 None; note = Some (note.Saw seen) } =
-    ap (λ (c : Call). record n { call = c }) w.0 ∙ ap (λ (a : Answer). record { call = call.Scan []; answer = a; note = n.note }) w.1 ∙ ap (λ (t : Option Note). record { call = call.Scan []; answer = answer.Scanned [] 0 None; note = t }) w.2 in
-    subst (IsLegal o h p seen) (sym is) (tt, (record { within = within; values = refl; collects = (refl, refl); borrowed = tt }, omega arith))
-
-unnoted_legal : (o : Opening) (h : List Applied) (p seen : ℕ) (n : Noted) → seen ≤ length h → IsUnnoted (length o.values) seen n → IsLegal o h p seen n
-unnoted_legal o h p seen n within (inl w) = refused_legal o h p seen n w
-unnoted_legal o h p seen n within (inr w) = empty_legal o h p seen n within w
-
-noted_within : (o : Opening) (h : List Applied) (p seen : ℕ) (c : Call) (a : Answer) (t : Option Note) → seen ≤ length h → IfSome t (λ note. IsTrueOf o h p c a note × (seen ≤ place_of note)) → seen_after seen t ≤ length h
-noted_within o h p seen c a None within w = within
-noted_within o h p seen c a (Some t) within w = true_within o h p c a t w.0
-
-fills_legal : (o : Opening) (h : List Applied) (p seen : ℕ) (kept ns : List Noted) → seen ≤ length h → Fills (length o.values) seen kept ns → LegalNotes o h p seen kept → LegalNotes o h p seen ns
-fills_legal o h p seen kept [] within f w = tt
-fills_legal o h p seen kept (n ∷ ns) within (inl f) w =
-    let same = unnoted_seen (length o.values) seen n f.0 in
-    (unnoted_legal o h p seen n within f.0, fills_legal o h p (seen_after seen n.note) kept ns (subst (λ k. k ≤ length h) (sym same) within) f.1 (subst (λ k. LegalNotes o h p k kept) (sym same) w))
-fills_legal o h p seen kept (n ∷ ns) within (inr f) w =
-    let both : LegalNotes o h p seen (n ∷ f.0) = subst (LegalNotes o h p seen) f.1 w in
-    (both.0, fills_legal o h p (seen_after seen n.note) f.0 ns (noted_within o h p seen n.call n.answer n.note within both.0.1) f.2 both.1)
-
-unnoted_writes : (m seen : ℕ) (n : Noted) → IsUnnoted m seen n → wrote n.note ≡ []
-unnoted_writes m seen n (inl w) = ap wrote w.2
-unnoted_writes m seen n (inr w) = ap wrote w.2
-
-fills_written : (m seen : ℕ) (kept ns : List Noted) → Fills m seen kept ns → places_written ns ≡ places_written kept
-fills_written m seen kept [] f = ap places_written (sym f)
-fills_written m seen kept (n ∷ ns) (inl f) = ap (λ l. l ++ places_written ns) (unnoted_writes m seen n f.0) ∙ fills_written m (seen_after seen n.note) kept ns f.1
-fills_written m seen kept (n ∷ ns) (inr f) = ap (λ l. wrote n.note ++ l) (fills_written m (seen_after seen n.note) f.0 ns f.2) ∙ ap places_written (sym f.1)
-
--- ---- the report
-
--- what the history tells of a port that has made its calls
-answered_in : (m : MemoryView) (o : Opening) (log : List Applied) (port : ℕ) (calls : List Call) (w : Worked) → m.about.opening ≡ o → m.about.sizes.m ≡ length o.values → IsDone m port calls w → IsPortOf log w.port → AreAnswered o log port calls w.answers
-answered_in m o log port calls w opening sizes done told =
-    let from : w.port.memory.about.opening ≡ o = ap (λ (v : MemoryView). v.about.opening) done.own ∙ opening in
-    let legal : LegalNotes o log port 0 w.port.notes = subst (λ k. LegalNotes o log k 0 w.port.notes) done.number (subst (λ (x : Opening). LegalNotes x log w.port.number 0 w.port.notes) from told.legal) in
-    let fills : Fills (length o.values) 0 w.port.notes done.made.all = subst (λ k. Fills k 0 w.port.notes done.made.all) sizes done.made.fills in
-    record {
-      notes = done.made.all;
-      calls = done.made.calls;
-      answers = done.made.answers;
-      legal = fills_legal o log port 0 w.port.notes done.made.all (omega arith) fills legal;
-      once = subst (λ k. EachOnce log k w.port.notes) done.number told.once ∙ sym (fills_written (length o.values) 0 w.port.notes done.made.all fills);
-    }
-
-each_answered : (m : MemoryView) (o : Opening) (log : List Applied) (port : ℕ) (plan : List (List Call)) (done : List Worked) → m.about.opening ≡ o → m.about.sizes.m ≡ length o.values → AreEach (IsDone m) port plan done → AllByRecursion (IsPortOf log) (map (λ (w : Worked). w.port) done) → AreEach (AreAnswered o log) port plan (map (λ (w : Worked). w.answers) done)
-each_answered m o log port [] [] opening sizes each all = tt
-each_answered m o log port [] (w ∷ done) opening sizes each all = absurd each
-each_answered m o log port (calls ∷ plan) [] opening sizes each all = absurd each
-each_answered m o log port (calls ∷ plan) (w ∷ done) opening sizes each all =
-    (answered_in m o log port calls w opening sizes each.0 all.0, each_answered m o log (port + 1) plan done opening sizes each.1 all.1)
-
-each_own : (m : MemoryView) (port : ℕ) (plan : List (List Call)) (done : List Worked) → AreEach (IsDone m) port plan done → AllByRecursion (IsOf m) (map (λ (w : Worked). w.port) done)
-each_own m port [] [] each = tt
-each_own m port [] (w ∷ done) each = absurd each
-each_own m port (calls ∷ plan) [] each = absurd each
-each_own m port (calls ∷ plan) (w ∷ done) each = (each.0.own, each_own m (port + 1) plan done each.1)
-
-pub come_own : (m : MemoryView) (plan : List (List Call)) (r : Results) → HaveCome m plan r → AllByRecursion (IsOf m) r.ports.items
-come_own m plan r w = subst (AllByRecursion (IsOf m)) w.ports (each_own m 0 plan w.done w.each)
-
-pub come_many : (m : MemoryView) (plan : List (List Call)) (r : Results) → HaveCome m plan r → length r.ports.items ≡ length plan
-come_many m plan r w = ap length (sym w.ports) ∙ length-map w.done (λ (v : Worked). v.port) ∙ sym (each_length (IsDone m) 0 plan w.done w.each)
-
-pub last_own : (m : MemoryView) (plan : List (List Call)) (r : Results) (rest : List PortView) (last : PortView) → HaveCome m plan r → r.ports.items ≡ rest ++ last ∷ [] → AllByRecursion (IsOf m) rest × IsOf m last
-last_own m plan r rest last w is =
-    let all : AllByRecursion (IsOf m) (rest ++ last ∷ []) = subst (AllByRecursion (IsOf m)) is (come_own m plan r w) in
-    let one = all_back (IsOf m) rest (last ∷ []) all in
-    (all_front (IsOf m) rest (last ∷ []) all, one.0)
-
-pub reported : (m : MemoryView) (p : PlanView) (r : Results) (rest : List PortView) (last : PortView) (closed : Closed) → length m.about.opening.values ≡ p.sizes.m → m.about.ports ≡ length p.ports → m.about.sizes ≡ p.sizes → HaveCome m p.ports r → r.ports.items ≡ rest ++ last ∷ [] → Closes m (last ∷ rest) closed → IsReportFrom m.about.opening p (record { answers = r.answers; values = closed.values })
-reported m p r rest last closed values ports sizes come is w =
-    let o = m.about.opening in
-    let all : AllByRecursion (IsPortOf w.log) (rest ++ last ∷ []) = all_append (IsPortOf w.log) rest (last ∷ []) w.each.1 (w.each.0, tt) in
-    let told : AllByRecursion (IsPortOf w.log) (map (λ (v : Worked). v.port) come.done) = subst (AllByRecursion (IsPortOf w.log)) (sym (come.ports ∙ is)) all in
-    let many : m.about.sizes.m ≡ length o.values = ap (λ (z : Layout). z.m) sizes ∙ sym values in
-    record {
-      log = w.log;
-      history = w.history;
-      ports = subst (AreEach (AreAnswered o w.log) 0 p.ports) come.answers (each_answered m o w.log 0 p.ports come.done refl many come.each told);
-      others = subst (λ n. AllByRecursion (λ (e : Applied). e.port < n) w.log) ports w.others;
-      values = w.values;
-    }
-
--- ---- the ports of a memory that was opened for a plan
+use Rattle.partial_workers.specs.declared.end.Until.TheVariants.{Made}
+use Rattle.partial_workers.specs.declared.error.RunError.{RunError}
+use Rattle.partial_workers.specs.declared.workers.Ran.{Ran}
+use Rattle.partial_workers.specs.Answered.{AreMakable, AreRight, IsRun, IsWithin}
+use Rattle.partial_cmd.specs.Reports.{IsReportFrom, IsReportOf, opening_of, report_of}
 
 -- a report over the opening's values is one over the same by another name
 pub reported_of : (o : Opening) (p : PlanView) (report : RunReport) → o ≡ opening_of p → IsReportFrom o p report → IsReportOf p report
@@ -133,16 +22,30 @@ reported_of o p report is w = subst (λ (x : Opening). IsReportFrom x p report) 
 pub opening_is : (o : Opening) (values : List ℕ) (first : ℕ) → o.values ≡ values → o.first ≡ first → o ≡ record { values = values; first = first }
 opening_is o values first a b = ap (λ (l : List ℕ). record { values = l; first = o.first }) a ∙ ap (λ n. record { values = values; first = n }) b
 
-pub new_each : (m : MemoryView) (k : ℕ) (plan : List (List Call)) → AllByRecursion (λ cs. (length cs < 2 ^ 32) × AllByRecursion (IsCall m.about.sizes.m) cs) plan → AreEach (IsNew m) k plan (new_ports m.table (newcomers m.about k (length plan)))
-new_each m k [] w = tt
-new_each m k (cs ∷ plan) w = (record { own = refl; number = refl; fresh = refl; lawful = w.0.1; few = w.0.0 }, new_each m (k + 1) plan w.1)
+-- a memory of the plan's sizes can be asked for its calls
+call_within : (m : ℕ) (c : Call) → IsCall m c → IsWithin m c
+call_within m (call.Update j v) w = tt
+call_within m (call.Scan js) w = w.0
+call_within m (call.Read j) w = tt
+call_within m (call.UpdateIf j s v) w = tt
 
-few_calls : (Q : Call → Type 0) (m : ℕ) (plan : List (List Call)) → AllByRecursion (λ cs. (length cs < 2 ^ 32) × AllByRecursion Q cs) plan → AllByRecursion (λ cs. AllByRecursion (IsCall m) cs) plan → AllByRecursion (λ cs. (length cs < 2 ^ 32) × AllByRecursion (IsCall m) cs) plan
-few_calls Q m [] few w = tt
-few_calls Q m (cs ∷ plan) few w = ((few.0.0, w.0), few_calls Q m plan few.1 w.1)
+calls_within : (m : ℕ) (cs : List Call) → AllByRecursion (IsCall m) cs → AllByRecursion (IsWithin m) cs
+calls_within m [] w = tt
+calls_within m (c ∷ cs) w = (call_within m c w.0, calls_within m cs w.1)
 
-pub plan_new : (m : MemoryView) (p : PlanView) (ports : List PortView) → IsPlan p → m.about.sizes ≡ p.sizes → ports ≡ new_ports m.table (newcomers m.about 0 (length p.ports)) → AreEach (IsNew m) 0 p.ports ports
-plan_new m p ports lawful sizes is =
-    let few = few_calls _ p.sizes.m p.ports (are_plans p lawful) lawful.calls in
-    let here : AllByRecursion (λ cs. (length cs < 2 ^ 32) × AllByRecursion (IsCall m.about.sizes.m) cs) p.ports = subst (λ (z : Layout). AllByRecursion (λ cs. (length cs < 2 ^ 32) × AllByRecursion (IsCall z.m) cs) p.ports) (sym sizes) few in
-    subst (AreEach (IsNew m) 0 p.ports) (sym is) (new_each m 0 p.ports here)
+calls_makable : (Q : Call → Type 0) (m : ℕ) (plan : List (List Call)) → AllByRecursion (λ cs. (length cs < 2 ^ 32) × AllByRecursion Q cs) plan → AllByRecursion (λ cs. AllByRecursion (IsCall m) cs) plan → AreMakable m plan
+calls_makable Q m [] few w = tt
+calls_makable Q m (cs ∷ plan) few w = ((few.0.0, calls_within m cs w.0), calls_makable Q m plan few.1 w.1)
+
+pub plan_makable : (m : ℕ) (p : PlanView) (plan : List (List Call)) → IsPlan p → m ≡ p.sizes.m → plan ≡ p.ports → AreMakable m plan
+plan_makable m p plan lawful sizes is =
+    subst (λ k. AreMakable k plan) (sym sizes) (subst (AreMakable p.sizes.m) (sym is) (calls_makable _ p.sizes.m p.ports (are_plans p lawful) lawful.calls))
+
+-- workers that made all calls of the plan
+plan_right : (o : Opening) (p : PlanView) (plan : List (List Call)) (ran : Ran) → plan ≡ p.ports → IsRun Made o plan ran.answers.items ran.closed.values.items → IsReportFrom o p (report_of ran)
+plan_right o p plan ran is w =
+    subst (λ (l : List (List Call)). AreRight o l ran.answers.items ran.closed.values.items) (w.whole refl ∙ is) w.right
+
+pub plan_ran : (o : Opening) (p : PlanView) (plan : List (List Call)) (r : Result Ran RunError) → plan ≡ p.ports → IfOk r (λ ran. IsRun Made o plan ran.answers.items ran.closed.values.items) → IfOk r (λ ran. IsReportFrom o p (report_of ran))
+plan_ran o p plan (Ok ran) is w = plan_right o p plan ran is w
+plan_ran o p plan (Err e) is w = tt

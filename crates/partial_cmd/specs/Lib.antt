@@ -1,4 +1,3 @@
 pub mod Execution
 pub mod Next
 pub mod Reports
-pub mod Work

@@ -6,11 +6,11 @@ ghost use Rattle.partial_text.specs.Judging.{judged};
 ghost use Rattle.partial_cmd.specs.Execution.{Answers, IsBehindReading, IsJudged, WritesOutcome, WritesPart, reader_fault, verdict_of, writer_fault};
 
 use crate::fault::Fault;
-use crate::gate::NoGate;
 use crate::workers::run_workers;
 use partial_model::check_outcome;
 use partial_replay::{Device, Plan, replay, write_outcome};
 use partial_text::{write_report, write_text};
+use partial_workers::NoGate;
 use std::alloc::Global;
 use std::io::{Read, Write};
 use std::sync::Wait;

@@ -2,8 +2,8 @@
 
 ghost use Rattle.std.specs.Prelude.{◌≡◌};
 
-use crate::workers::RunError;
 use partial_replay::{Cause, OutcomeError, PlanError, ReplayError};
+use partial_workers::RunError;
 use thiserror::Error;
 
 /// Why a command was refused.

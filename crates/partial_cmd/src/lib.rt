@@ -3,18 +3,16 @@
 
 mod command;
 mod fault;
-mod gate;
 mod law;
 mod next;
 #[cfg(test)]
 mod tests;
-mod worker;
 mod workers;
 
 pub use command::{Verb, Verdict, execute};
 pub use fault::Fault;
-pub use gate::{Gate, NoGate};
 pub use law::plans_have_one_answer;
 pub use next::execute_next;
 pub use partial_text::RunReport;
-pub use workers::{RunError, run_workers};
+pub use partial_workers::{Gate, NoGate, RunError};
+pub use workers::run_workers;

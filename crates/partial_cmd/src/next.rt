@@ -8,11 +8,11 @@ ghost use Rattle.partial_cmd.specs.Next.{AreJudged, AreReports, WritesReports, W
 
 use crate::command::Verdict;
 use crate::fault::Fault;
-use crate::gate::NoGate;
-use crate::workers::{RunError, run_on};
+use crate::workers::{into_report, run_plan};
 use partial_memory::Memory;
 use partial_replay::{Device, Plan};
 use partial_text::{RunReport, write_reports};
+use partial_workers::{NoGate, RunError};
 use std::alloc::Global;
 use std::io::{Read, Write};
 use std::sync::Wait;
@@ -72,9 +72,9 @@ fn run_both<H: Threads + Wait + Sync>(
 {
     let count = plan.ports().len() as u32;
     let (memory, ports) = Memory::open(alloc, plan.sizes(), plan.initial(), count)?;
-    let first = run_on(rt, alloc, memory, ports, plan, &NoGate)?;
+    let first = run_plan(rt, alloc, memory, ports, plan, &NoGate)?;
     let count = next.ports().len() as u32;
     let (memory, ports) = Memory::reopen(alloc, &first.closed, next.sizes(), count)?;
-    let second = run_on(rt, alloc, memory, ports, next, &NoGate)?;
-    Ok((first.into_report(), second.into_report()))
+    let second = run_plan(rt, alloc, memory, ports, next, &NoGate)?;
+    Ok((into_report(first), into_report(second)))
 }

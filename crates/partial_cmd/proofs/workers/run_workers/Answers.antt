@@ -1,10 +1,13 @@
 use Rattle.std.proofs.Common.{ap, sym, subst, ◌∙◌}
 use Rattle.partial_words.specs.Layout.{pool_base}
-use Rattle.partial_cmd.specs.Reports.{IsReportFrom}
+use Rattle.partial_cmd.specs.Reports.{IsReportFrom, opening_of, report_of}
 use Rattle.partial_cmd.proofs.Reported.{opening_is, reported_of}
 use Rattle.partial_cmd.proofs.workers.run_workers.Goals as goal
 
 pub returns : goal.returns
 returns g c =
+    let p = c.args.plan.now in
+    let o = c.in_ok-memory.memory.about.opening in
     let made = c.in_ok-memory.ensures in
-    reported_of _ _ _ (opening_is _ _ _ (made.values ∙ c.initial.ensures.value) (made.first ∙ ap pool_base c.sizes.ensures.value)) (subst (IsReportFrom c.in_ok-memory.memory.about.opening c.args.plan.now) (sym c.into_report.ensures) c.in_ok-run_on.ensures)
+    let report = c.into_report.result in
+    reported_of o p report (opening_is o _ _ (made.values ∙ c.initial.ensures.value) (made.first ∙ ap pool_base c.sizes.ensures.value)) (subst (IsReportFrom o p) (sym c.into_report.ensures) c.in_ok-run_plan.ensures)

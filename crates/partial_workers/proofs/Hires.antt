@@ -1,0 +1,83 @@
+-- Workers for the ports of a memory, and what their threads come to.
+use Rattle.std.proofs.Common.{ℕ, suc, ◌≡◌, ◌+◌, ◌<◌, ◌≤◌, ◌++◌, List, [], ◌∷◌, length, take, get_or, sym, ap, subst, ◌∙◌, arith}
+use Rattle.std.specs.List.{AllByRecursion}
+use Rattle.std.specs.Vec.{vec_capacity}
+use Rattle.std.proofs.Math.Seq.{take-suc}
+use Rattle.std.proofs.lemmas.List.{get_or_default, length-map, map-append}
+use Rattle.partial_model.specs.declared.call.Call.{Call}
+use Rattle.partial_model.proofs.AllLemmas.{all_append, all_back, all_front}
+use Rattle.partial_memory.specs.Ports.{MemoryView, PortView}
+use Rattle.partial_workers.specs.declared.worker.Job.{Job}
+use Rattle.partial_workers.specs.declared.worker.Worked.{Worked}
+use Rattle.partial_workers.specs.declared.worker.Worker.{Worker}
+use Rattle.partial_workers.specs.declared.workers.Results.{Results}
+use Rattle.partial_workers.specs.Answered.{AreEach, IsWithin}
+use Rattle.partial_workers.specs.declared.end.Until.{Until}
+use Rattle.std.specs.declared.thread.PromisedHandle.{PromisedHandle}
+use Rattle.partial_workers.specs.declared.workers.Works.{Works}
+use Rattle.partial_workers.specs.Work.{HasRoom, HaveCome, HaveRooms, IsDone, IsHired, IsNew, IsStarted, calls_of}
+use Rattle.partial_workers.proofs.Pairs.{each_at, each_length, each_push}
+
+-- one call more of a port
+pub calls_more : (before after : List Job) (job : Job) (calls : List Call) (n : ℕ) → after ≡ before ++ job ∷ [] → calls_of before ≡ take n calls → n < length calls → job.call.now ≡ get_or calls n job.call.now → calls_of after ≡ take (n + 1) calls
+calls_more before after job calls n is had within at =
+    let next : n + 1 ≡ suc n = omega arith in
+    let taken : take (n + 1) calls ≡ take n calls ++ job.call.now ∷ [] = ap (λ i. take i calls) next ∙ take-suc calls n job.call.now within ∙ ap (λ (c : Call). take n calls ++ c ∷ []) (sym at) in
+    ap calls_of is ∙ map-append (λ (j : Job). j.call.now) before (job ∷ []) ∙ ap (λ (l : List Call). l ++ job.call.now ∷ []) had ∙ sym taken
+
+pub rooms_more : (before after : List Job) (job : Job) → after ≡ before ++ job ∷ [] → HaveRooms before → ((m : ℕ) → IsWithin m job.call.now → HasRoom m job.call.now job.room.items) → HaveRooms after
+rooms_more before after job is had new m lawful =
+    let calls : calls_of after ≡ calls_of before ++ job.call.now ∷ [] = ap calls_of is ∙ map-append (λ (j : Job). j.call.now) before (job ∷ []) in
+    let all : AllByRecursion (IsWithin m) (calls_of before ++ job.call.now ∷ []) = subst (AllByRecursion (IsWithin m)) calls lawful in
+    let one = all_back (IsWithin m) (calls_of before) (job.call.now ∷ []) all in
+    let P : Job → Type 0 = λ j. HasRoom m j.call.now j.room.items in
+    subst (AllByRecursion P) (sym is) (all_append P before (job ∷ []) (had m (all_front (IsWithin m) (calls_of before) (job.call.now ∷ []) all)) (new m one.0, tt))
+
+-- a worker for a new port
+pub hired : (m : MemoryView) (n : ℕ) (calls : List Call) (w : Worker) → IsNew m n calls w.port → calls_of w.jobs.items ≡ calls → HaveRooms w.jobs.items → w.answers.items ≡ [] → length calls ≤ vec_capacity w.answers → length w.jobs.items ≡ length calls → IsHired m n calls w
+hired m n calls w new jobs rooms empty room many =
+    record {
+      own = new.own;
+      number = new.number;
+      ready = record {
+        fresh = new.fresh;
+        rooms = rooms m.about.sizes.m (subst (AllByRecursion (IsWithin m.about.sizes.m)) (sym jobs) new.within);
+        empty = empty;
+        room = omega (arith, room, many);
+        few = omega (arith, many, new.few);
+      };
+      jobs = jobs;
+    }
+
+-- one worker more
+pub hire_more : (m : MemoryView) (n next : ℕ) (plan : List (List Call)) (before after : List Worker) (calls : List Call) (w : Worker) → AreEach (IsHired m) 0 (take n plan) before → n < length plan → calls ≡ get_or plan n calls → IsHired m n calls w → next ≡ n + 1 → after ≡ before ++ w ∷ [] → AreEach (IsHired m) 0 (take next plan) after
+hire_more m n next plan before after calls w had within at new is now =
+    let zero_more : n ≡ 0 + n = omega arith in
+    subst (AreEach (IsHired m) 0 (take next plan)) (sym now) (each_push (IsHired m) 0 n next plan before calls w had within at (subst (λ i. IsHired m i calls w) zero_more new) is)
+
+-- one thread more has ended
+pub come_more : (m : MemoryView) (u : Until) (n next : ℕ) (plan : List (List Call)) (before after : Results) (calls : List Call) (w : Worked) → HaveCome m u (take n plan) before → n < length plan → calls ≡ get_or plan n calls → IsDone m u n calls w → next ≡ n + 1 → after.ports.items ≡ before.ports.items ++ w.port ∷ [] → after.answers.items ≡ before.answers.items ++ w.answers ∷ [] → HaveCome m u (take next plan) after
+come_more m u n next plan before after calls w had within at new is ports answers =
+    let zero_more : n ≡ 0 + n = omega arith in
+    record {
+      done = had.done ++ w ∷ [];
+      each = each_push (IsDone m u) 0 n next plan had.done calls w had.each within at (subst (λ i. IsDone m u i calls w) zero_more new) is;
+      ports = map-append (λ (v : Worked). v.port) had.done (w ∷ []) ∙ ap (λ (l : List PortView). l ++ w.port ∷ []) had.ports ∙ sym ports;
+      answers = map-append (λ (v : Worked). v.answers) had.done (w ∷ []) ∙ ap (λ l. l ++ w.answers ∷ []) had.answers ∙ sym answers;
+    }
+
+pub as_many : (jobs : List Job) (calls : List Call) → calls_of jobs ≡ calls → length jobs ≡ length calls
+as_many jobs calls is = sym (length-map jobs (λ (j : Job). j.call.now)) ∙ ap length is
+
+-- the same by other names
+pub done_alike : (m v : MemoryView) (u t : Until) (n k : ℕ) (calls given : List Call) (w : Worked) → IsDone m u n calls w → v ≡ m → t ≡ u → k ≡ n → given ≡ calls → IsDone v t k given w
+done_alike m v u t n k calls given w done memory until number same = subst (λ x. IsDone x t k given w) (sym memory) (subst (λ y. IsDone m y k given w) (sym until) (subst (λ i. IsDone m u i given w) (sym number) (subst (λ l. IsDone m u n l w) (sym same) done)))
+
+-- a thread that was started for a port's calls has made the first ones of them once it has kept its promise
+pub done_as_started : (m : MemoryView) (u : Until) (n : ℕ) (plan : List (List Call)) (all : List (PromisedHandle Worked Works)) (h : PromisedHandle Worked Works) (w : Worked) → AreEach (IsStarted m u) 0 plan all → n < length all → h ≡ get_or all n h → IsDone h.promise.memory.value h.promise.until h.promise.port h.promise.calls.value.now w → (calls : List Call) × (calls ≡ get_or plan n calls) × IsDone m u n calls w
+done_as_started m u n plan all h w started within is kept =
+    let calls : List Call = get_or plan n [] in
+    let at : calls ≡ get_or plan n calls = get_or_default plan n [] calls (omega (arith, within, each_length (IsStarted m u) 0 plan all started)) in
+    let s = each_at (IsStarted m u) 0 n plan all calls h started within at is in
+    let zero_more : 0 + n ≡ n = omega arith in
+    (calls, at, done_alike h.promise.memory.value m h.promise.until u h.promise.port n h.promise.calls.value.now calls w kept (sym s.memory) (sym s.until') (sym (s.number ∙ zero_more)) (sym s.calls))

@@ -1,0 +1,4 @@
+pub mod Hires
+pub mod Made
+pub mod Pairs
+pub mod Reported

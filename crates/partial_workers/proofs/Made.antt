@@ -1,0 +1,162 @@
+-- The calls of a port, one after the other: what is known of those that it doesn't note.
+use Rattle.std.proofs.Common.{ℕ, suc, ◌≡◌, ◌+◌, ◌<◌, ◌++◌, ◌⊎◌, Bool, true, false, cond, Some, None, List, [], ◌∷◌, length, take, drop, get_or, refl, sym, ap, subst, ◌∙◌, inl, inr, arith}
+use Rattle.std.specs.Prelude.{nat_lt}
+use Rattle.std.specs.List.{list_all}
+use Rattle.std.proofs.lemmas.Bool.{false≢true}
+use Rattle.std.proofs.Math.Seq.{take-append_seam, take-suc}
+use Rattle.std.proofs.lemmas.List.{map-append, append-nil}
+use Rattle.partial_model.specs.declared.call.Call.{Call}
+use Rattle.partial_model.specs.declared.call.Call.TheVariants as call
+use Rattle.partial_model.specs.declared.call.Answer.{Answer}
+use Rattle.partial_model.specs.declared.call.Answer.TheVariants as answer
+use Rattle.partial_model.specs.declared.call.Note.{Note}
+use Rattle.partial_model.specs.declared.call.Note.TheVariants as note
+use Rattle.partial_model.specs.declared.call.Refused.{Refused}
+use Rattle.partial_model.specs.declared.call.Refused.TheVariants as refused
+use Rattle.partial_model.specs.Notes.{Noted, MayBeRefused, NamesComponents, indices_of, seen_after, seen_by}
+use Rattle.partial_model.proofs.Decisions.{Decides-list_all, Decides-nat_lt}
+use Rattle.partial_memory.specs.declared.answers.Scanned.{Scanned}
+use Rattle.partial_memory.specs.Ports.{IsOf, MemoryView, PortView, Answered, IsRefused, marks_refusal}
+use Rattle.partial_memory.specs.Calls.{Scans}
+use Rattle.partial_workers.specs.declared.end.Until.{Until}
+use Rattle.partial_workers.specs.declared.end.Until.TheVariants.{Made, Spent}
+use Rattle.partial_workers.specs.Answered.{AreUnspent}
+use Rattle.partial_workers.specs.Work.{AreMade, Fills, HasMade, IsMade, IsUnnoted}
+
+-- the causes of a mark
+pool_alone : (b : Bool) (cause : Refused) → cond b (Some refused.PoolSpent) None ≡ Some cause → cause ≡ refused.PoolSpent
+pool_alone true cause e = cc
+pool_alone false cause e = cc
+
+pool_or_slots : (a b : Bool) (cause : Refused) → cond a (Some refused.PoolSpent) (cond b (Some refused.SlotsSpent) None) ≡ Some cause → (cause ≡ refused.PoolSpent) ⊎ (cause ≡ refused.SlotsSpent)
+pool_or_slots true b cause e = inl cc
+pool_or_slots false true cause e = inr cc
+pool_or_slots false false cause e = cc
+
+marks_may : (p : PortView) (m : ℕ) (c : Call) (cause : Refused) → NamesComponents m c → marks_refusal p c ≡ Some cause → MayBeRefused m c cause
+marks_may p m (call.Update j v) cause names e = subst (MayBeRefused m (call.Update j v)) (sym (pool_alone p.pool_spent cause e)) (names, tt)
+marks_may p m (call.UpdateIf j s v) cause names e = subst (MayBeRefused m (call.UpdateIf j s v)) (sym (pool_alone p.pool_spent cause e)) (names, tt)
+marks_may p m (call.Scan []) cause names e = cc
+marks_may p m (call.Scan (j ∷ js)) cause names e = elim (pool_or_slots p.pool_spent p.slots_spent cause e) [
+  | inl is ↦ subst (MayBeRefused m (call.Scan (j ∷ js))) (sym is) (names, omega arith)
+  | inr is ↦ subst (MayBeRefused m (call.Scan (j ∷ js))) (sym is) (names, omega arith)
+]
+marks_may p m (call.Read j) cause names e = cc
+
+refused_may : (p : PortView) (c : Call) (cause : Refused) (b : Bool) → list_all (λ j. nat_lt j p.memory.about.sizes.m) (indices_of c) ≡ b → cond b (marks_refusal p c) (Some refused.Component) ≡ Some cause → MayBeRefused p.memory.about.sizes.m c cause
+refused_may p c cause true e is = marks_may p p.memory.about.sizes.m c cause ((Decides-list_all (λ i. nat_lt i p.memory.about.sizes.m) (λ j. j < p.memory.about.sizes.m) (λ i. Decides-nat_lt i p.memory.about.sizes.m) (indices_of c)).0 e) is
+refused_may p c cause false e is =
+    let same : refused.Component ≡ cause = cc in
+    subst (MayBeRefused p.memory.about.sizes.m c) same (λ all. false≢true (sym e ∙ (Decides-list_all (λ i. nat_lt i p.memory.about.sizes.m) (λ j. j < p.memory.about.sizes.m) (λ i. Decides-nat_lt i p.memory.about.sizes.m) (indices_of c)).1 all))
+
+-- a call that was refused may have been, and the port's notes are the same
+pub made_refused : (p q : PortView) (c : Call) (cause : Refused) → IsRefused p c cause q → IsMade p.memory.about.sizes.m p c (answer.Refused cause) q
+made_refused p q c cause (inl now) =
+    record {
+      noted = record { call = c; answer = answer.Refused cause; note = None };
+      call = refl;
+      answer = refl;
+      notes = inr (inl (cause, refl, refl, refused_may p c cause (list_all (λ j. nat_lt j p.memory.about.sizes.m) (indices_of c)) refl now.0), ap (λ (v : PortView). v.notes) now.1);
+    }
+made_refused p q c cause (inr late) =
+    record {
+      noted = record { call = c; answer = answer.Refused cause; note = None };
+      call = refl;
+      answer = refl;
+      notes = inr (inl (cause, refl, refl, late.may), late.goes.notes ∙ append-nil p.notes);
+    }
+
+-- a call that was answered is noted
+pub made_answered : (m : ℕ) (p q : PortView) (c : Call) (a : Answer) (n : Note) → Answered p q c a n → IsMade m p c a q
+made_answered m p q c a n w =
+    record {
+      noted = record { call = c; answer = a; note = Some n };
+      call = refl;
+      answer = refl;
+      notes = inl w.goes.notes;
+    }
+
+-- a scan is noted, or it is one of no position
+pub made_scan : (m : ℕ) (p q : PortView) (js vs : List ℕ) (s : Scanned) → Scans p js vs s q → IsMade m p (call.Scan js) (answer.Scanned vs s.collects s.borrowed) q
+made_scan m p q [] vs s w =
+    record {
+      noted = record { call = call.Scan []; answer = answer.Scanned [] 0 None; note = Some (note.Saw (seen_by 0 p.notes)) };
+      call = refl;
+      answer = ap (λ (l : List ℕ). answer.Scanned l 0 None) (sym w.0) ∙ ap (λ k. answer.Scanned vs k None) (sym w.1) ∙ ap (answer.Scanned vs s.collects) (sym w.2);
+      notes = inr (inr (refl, refl, refl), ap (λ (v : PortView). v.notes) w.3);
+    }
+made_scan m p q (j ∷ js) vs s w = made_answered m p q (call.Scan (j ∷ js)) (answer.Scanned vs s.collects s.borrowed) (note.Saw w.n) w.answered
+
+-- calls that a port doesn't note leave unchanged what it has seen
+pub unnoted_seen : (m seen : ℕ) (n : Noted) → IsUnnoted m seen n → seen_after seen n.note ≡ seen
+unnoted_seen m seen n (inl w) = ap (seen_after seen) w.2
+unnoted_seen m seen n (inr w) = ap (seen_after seen) w.2
+
+fills_seen : (m seen : ℕ) (kept ns : List Noted) → Fills m seen kept ns → seen_by seen ns ≡ seen_by seen kept
+fills_seen m seen kept [] w = ap (seen_by seen) (sym w)
+fills_seen m seen kept (n ∷ ns) (inl w) = fills_seen m (seen_after seen n.note) kept ns w.1 ∙ ap (λ k. seen_by k kept) (unnoted_seen m seen n w.0)
+fills_seen m seen kept (n ∷ ns) (inr w) = fills_seen m (seen_after seen n.note) w.0 ns w.2 ∙ ap (seen_by seen) (sym w.1)
+
+-- one call more, noted or not
+pub fills_noted : (m seen : ℕ) (kept ns : List Noted) (n : Noted) → Fills m seen kept ns → Fills m seen (kept ++ n ∷ []) (ns ++ n ∷ [])
+fills_noted m seen kept [] n w = inr ([], ap (λ (l : List Noted). l ++ n ∷ []) w, refl)
+fills_noted m seen kept (x ∷ ns) n (inl w) = inl (w.0, fills_noted m (seen_after seen x.note) kept ns n w.1)
+fills_noted m seen kept (x ∷ ns) n (inr w) = inr (w.0 ++ n ∷ [], ap (λ (l : List Noted). l ++ n ∷ []) w.1, fills_noted m (seen_after seen x.note) w.0 ns n w.2)
+
+pub fills_unnoted : (m seen : ℕ) (kept ns : List Noted) (n : Noted) → Fills m seen kept ns → IsUnnoted m (seen_by seen ns) n → Fills m seen kept (ns ++ n ∷ [])
+fills_unnoted m seen kept [] n w new = inl (new, w)
+fills_unnoted m seen kept (x ∷ ns) n (inl w) new = inl (w.0, fills_unnoted m (seen_after seen x.note) kept ns n w.1 new)
+fills_unnoted m seen kept (x ∷ ns) n (inr w) new = inr (w.0, w.1, fills_unnoted m (seen_after seen x.note) w.0 ns n w.2 new)
+
+fills_made : (m : ℕ) (p q : PortView) (all : List Noted) (n : Noted) → Fills m 0 p.notes all → (q.notes ≡ p.notes ++ n ∷ []) ⊎ (IsUnnoted m (seen_by 0 p.notes) n × (q.notes ≡ p.notes)) → Fills m 0 q.notes (all ++ n ∷ [])
+fills_made m p q all n w (inl is) = subst (λ (l : List Noted). Fills m 0 l (all ++ n ∷ [])) (sym is) (fills_noted m 0 p.notes all n w)
+fills_made m p q all n w (inr new) =
+    subst (λ (l : List Noted). Fills m 0 l (all ++ n ∷ [])) (sym new.1) (fills_unnoted m 0 p.notes all n w (subst (λ k. IsUnnoted m k n) (sym (fills_seen m 0 p.notes all w)) new.0))
+
+-- a port that has made no call, and one call more
+pub made_none : (m : ℕ) (q : PortView) → q.notes ≡ [] → AreMade m [] [] q
+made_none m q none = record { all = []; calls = refl; answers = refl; fills = none }
+
+pub made_more : (m : ℕ) (cs : List Call) (given : List Answer) (c : Call) (a : Answer) (p q : PortView) → AreMade m cs given p → IsMade m p c a q → AreMade m (cs ++ c ∷ []) (given ++ a ∷ []) q
+made_more m cs given c a p q had new =
+    record {
+      all = had.all ++ new.noted ∷ [];
+      calls = map-append (λ (n : Noted). n.call) had.all (new.noted ∷ []) ∙ ap (λ (l : List Call). l ++ new.noted.call ∷ []) had.calls ∙ ap (λ (x : Call). cs ++ x ∷ []) new.call;
+      answers = map-append (λ (n : Noted). n.answer) had.all (new.noted ∷ []) ∙ ap (λ (l : List Answer). l ++ new.noted.answer ∷ []) had.answers ∙ ap (λ (x : Answer). given ++ x ∷ []) new.answer;
+      fills = fills_made m p q had.all new.noted had.fills new.notes;
+    }
+
+-- the same of a port that has noted the same
+pub made_same : (m : ℕ) (cs : List Call) (given : List Answer) (p q : PortView) → AreMade m cs given p → q.notes ≡ p.notes → AreMade m cs given q
+made_same m cs given p q had same =
+    record { all = had.all; calls = had.calls; answers = had.answers; fills = subst (λ (l : List Noted). Fills m 0 l had.all) (sym same) had.fills }
+
+-- a port that has made the first ones of its calls
+pub has_made : (m : ℕ) (u : Until) (calls : List Call) (given : List Answer) (p q : PortView) → AreMade m (take (length given) calls) given p → q.notes ≡ p.notes → (u ≡ Made → length given ≡ length calls) → (u ≡ Spent → AreUnspent given) → HasMade m u calls given q
+has_made m u calls given p q had same whole unspent =
+    record { firsts = made_same m (take (length given) calls) given p q had same; whole = whole; unspent = unspent }
+
+pub not_both : (u : Until) (n k : ℕ) → u ≡ Spent → u ≡ Made → n ≡ k
+not_both u n k spent made = cc
+
+-- one more of the first calls
+pub made_next : (m n next : ℕ) (cs : List Call) (given : List Answer) (c : Call) (a : Answer) (p q : PortView) → AreMade m (take n cs) given p → n < length cs → c ≡ get_or cs n c → next ≡ n + 1 → IsMade m p c a q → AreMade m (take next cs) (given ++ a ∷ []) q
+made_next m n next cs given c a p q had within at is new =
+    let one : next ≡ suc n = is ∙ omega arith in
+    let taken : take next cs ≡ take n cs ++ c ∷ [] = ap (λ i. take i cs) one ∙ take-suc cs n c within ∙ ap (λ (x : Call). take n cs ++ x ∷ []) (sym at) in
+    subst (λ (l : List Call). AreMade m l (given ++ a ∷ []) q) (sym taken) (made_more m (take n cs) given c a p q had new)
+
+-- the same of a port of a memory
+pub refused_at : (m : MemoryView) (p q : PortView) (c d : Call) (cause : Refused) → IsOf m p → d ≡ c → IsRefused p c cause q → IsMade m.about.sizes.m p d (answer.Refused cause) q
+refused_at m p q c d cause of same w =
+    let now : IsMade m.about.sizes.m p c (answer.Refused cause) q = subst (λ (v : MemoryView). IsMade v.about.sizes.m p c (answer.Refused cause) q) of (made_refused p q c cause w) in
+    subst (λ (x : Call). IsMade m.about.sizes.m p x (answer.Refused cause) q) (sym same) now
+
+pub scanned_at : (m : ℕ) (p q : PortView) (d : Call) (js vs values : List ℕ) (s : Scanned) → d ≡ call.Scan js → values ≡ vs → Scans p js vs s q → IsMade m p d (answer.Scanned values s.collects s.borrowed) q
+scanned_at m p q d js vs values s same told w =
+    let now : IsMade m p (call.Scan js) (answer.Scanned values s.collects s.borrowed) q = subst (λ (l : List ℕ). IsMade m p (call.Scan js) (answer.Scanned l s.collects s.borrowed) q) (sym told) (made_scan m p q js vs s w) in
+    subst (λ (x : Call). IsMade m p x (answer.Scanned values s.collects s.borrowed) q) (sym same) now
+
+-- what is taken of a list that was written whole into another of the same length is the list
+pub written_whole : (n : ℕ) (xs ys : List ℕ) → length xs ≡ length ys → n ≡ length ys → take n (xs ++ drop (length xs) ys) ≡ xs
+written_whole n xs ys same is = ap (λ k. take k (xs ++ drop (length xs) ys)) (is ∙ sym same) ∙ take-append_seam xs (drop (length xs) ys)

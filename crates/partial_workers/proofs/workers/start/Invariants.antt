@@ -1,0 +1,13 @@
+use Rattle.std.proofs.Common.{◌≡◌, ◌≤◌, length, map, take}
+use Rattle.std.specs.Vec.{vec_capacity}
+use Rattle.partial_workers.specs.Answered.{AreEach}
+use Rattle.partial_workers.specs.Work.{IsStarted}
+use Rattle.partial_workers.proofs.workers.start.Given as goal
+
+-- the threads so far
+abbrev pub invariant-loop-worker : goal.invariant-loop-worker
+invariant-loop-worker g l = record {
+  each : AreEach (IsStarted l.memory l.end.until) 0 (take (length l.yielded) (map (λ c. c.now) l.calls)) l.started.items;
+  count : length l.started.items ≡ length l.yielded;
+  room : length l.calls ≤ vec_capacity l.started;
+}

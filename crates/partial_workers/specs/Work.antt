@@ -1,0 +1,125 @@
+-- What is known of the calls of one port: those that it has noted, and those between them that were refused or asked for nothing.
+use Rattle.std.specs.Prelude.{ℕ, ◌≡◌, ◌++◌, ◌<◌, ◌≤◌, ◌^◌, ◌⊎◌, List, [], ◌∷◌, length, map, take, Some, None}
+use Rattle.std.specs.List.{AllByRecursion}
+use Rattle.std.specs.Vec.{vec_capacity}
+use Rattle.std.specs.declared.thread.PromisedHandle.{PromisedHandle}
+use Rattle.partial_model.specs.declared.call.Call.{Call}
+use Rattle.partial_model.specs.declared.call.Call.TheVariants as call
+use Rattle.partial_model.specs.declared.call.Answer.{Answer}
+use Rattle.partial_model.specs.declared.call.Answer.TheVariants as answer
+use Rattle.partial_model.specs.declared.call.Note.TheVariants as note
+use Rattle.partial_model.specs.declared.call.Refused.{Refused}
+use Rattle.partial_model.specs.Notes.{Noted, MayBeRefused, seen_after, seen_by}
+use Rattle.partial_memory.specs.Ports.{IsOf, MemoryView, PortView, new_ports}
+use Rattle.partial_memory.specs.Rule.{newcomers}
+use Rattle.partial_workers.specs.declared.worker.Job.{Job}
+use Rattle.partial_workers.specs.declared.worker.Worked.{Worked}
+use Rattle.partial_workers.specs.declared.worker.Worker.{Worker}
+use Rattle.partial_workers.specs.declared.workers.Works.{Works}
+use Rattle.partial_workers.specs.declared.workers.Results.{Results}
+use Rattle.partial_workers.specs.declared.end.Until.{Until}
+use Rattle.partial_workers.specs.declared.end.Until.TheVariants.{Made, Spent}
+use Rattle.partial_workers.specs.Answered.{AreEach, AreUnspent, IsWithin}
+
+-- the call was refused for a cause for which it may be
+abbrev pub WasRefused : ℕ → Noted → Type 0
+WasRefused m n = (cause : Refused) × (n.answer ≡ answer.Refused cause) × (n.note ≡ None) × MayBeRefused m n.call cause
+
+-- a scan of no position, which saw nothing more than the calls before it
+abbrev pub WasEmpty : ℕ → Noted → Type 0
+WasEmpty seen n = (n.call ≡ call.Scan []) × (n.answer ≡ answer.Scanned [] 0 None) × (n.note ≡ Some (note.Saw seen))
+
+-- a port doesn't note the call
+abbrev pub IsUnnoted : ℕ → ℕ → Noted → Type 0
+IsUnnoted m seen n = WasRefused m n ⊎ WasEmpty seen n
+
+-- the second list has the notes of the first in their order, and between them those of calls that the port doesn't note
+abbrev pub Fills : ℕ → ℕ → List Noted → List Noted → Type 0
+Fills m seen kept [] = kept ≡ []
+Fills m seen kept (n ∷ ns) =
+    (IsUnnoted m seen n × Fills m (seen_after seen n.note) kept ns)
+    ⊎ ((rest : List Noted) × (kept ≡ n ∷ rest) × Fills m (seen_after seen n.note) rest ns)
+
+-- a call was made: the port has noted it, or it is one that no port notes
+pub record IsMade (m : ℕ) (p : PortView) (c : Call) (a : Answer) (q : PortView) : Type 0 where
+  pub noted : Noted
+  pub call : noted.call ≡ c
+  pub answer : noted.answer ≡ a
+  pub notes : (q.notes ≡ p.notes ++ noted ∷ []) ⊎ (IsUnnoted m (seen_by 0 p.notes) noted × (q.notes ≡ p.notes))
+
+-- these calls were made and had these answers, and the port has noted no others
+pub record AreMade (m : ℕ) (made : List Call) (given : List Answer) (q : PortView) : Type 0 where
+  pub all : List Noted
+  pub calls : map (λ n. n.call) all ≡ made
+  pub answers : map (λ n. n.answer) all ≡ given
+  pub fills : Fills m 0 q.notes all
+
+-- A port has made the first ones of these calls, as many as there are answers: all of them where they were to be made, and none that was
+-- refused for the pool or the slots where it was to end with one.
+pub record HasMade (m : ℕ) (until : Until) (calls : List Call) (given : List Answer) (q : PortView) : Type 0 where
+  pub firsts : AreMade m (take (length given) calls) given q
+  pub whole : until ≡ Made → length given ≡ length calls
+  pub unspent : until ≡ Spent → AreUnspent given
+
+-- the values of a scan have room
+abbrev pub HasRoom : ℕ → Call → List ℕ → Type 0
+HasRoom m (call.Scan js) room = (length room ≡ length js) × (length js ≤ m)
+HasRoom m _ room = Unit {0}
+
+-- the calls of a worker
+abbrev pub calls_of : List Job → List Call
+calls_of jobs = map (λ j. j.call.now) jobs
+
+-- each call that a memory can be asked for has its room
+abbrev pub HaveRooms : List Job → Type 0
+HaveRooms jobs = (m : ℕ) → AllByRecursion (IsWithin m) (calls_of jobs) → AllByRecursion (λ j. HasRoom m j.call.now j.room.items) jobs
+
+-- a worker whose port has made no call, with room for its answers and their values
+pub record IsReady (m : ℕ) (w : Worker) : Type 0 where
+  pub fresh : w.port.notes ≡ []
+  pub rooms : AllByRecursion (λ j. HasRoom m j.call.now j.room.items) w.jobs.items
+  pub empty : w.answers.items ≡ []
+  pub room : length w.jobs.items ≤ vec_capacity w.answers
+  pub few : length w.jobs.items < 2 ^ 32
+
+-- a port that has made no call, and the calls that it is to make
+pub record IsNew (m : MemoryView) (port : ℕ) (calls : List Call) (p : PortView) : Type 0 where
+  pub own : IsOf m p
+  pub number : p.number ≡ port
+  pub fresh : p.notes ≡ []
+  pub within : AllByRecursion (IsWithin m.about.sizes.m) calls
+  pub few : length calls < 2 ^ 32
+
+-- the worker of the port with this number, for these calls
+pub record IsHired (m : MemoryView) (port : ℕ) (calls : List Call) (w : Worker) : Type 0 where
+  pub own : IsOf m w.port
+  pub number : w.port.number ≡ port
+  pub ready : IsReady m.about.sizes.m w
+  pub jobs : calls_of w.jobs.items ≡ calls
+
+-- a thread was started for the calls of the port with this number
+pub record IsStarted (m : MemoryView) (until : Until) (port : ℕ) (called : List Call) (h : PromisedHandle Worked Works) : Type 0 where
+  pub memory : h.promise.memory.value ≡ m
+  pub number : h.promise.port ≡ port
+  pub until' : h.promise.until ≡ until
+  pub calls : h.promise.calls.value.now ≡ called
+
+-- the port with this number has made the first ones of these calls
+pub record IsDone (m : MemoryView) (until : Until) (port : ℕ) (calls : List Call) (w : Worked) : Type 0 where
+  pub own : IsOf m w.port
+  pub number : w.port.number ≡ port
+  pub made : HasMade m.about.sizes.m until calls w.answers.items w.port
+
+-- the ports, and the answers of their calls, of threads that have ended
+pub record HaveCome (m : MemoryView) (until : Until) (calls : List (List Call)) (r : Results) : Type 0 where
+  pub done : List Worked
+  pub each : AreEach (IsDone m until) 0 calls done
+  pub ports : map (λ w. w.port) done ≡ r.ports.items
+  pub answers : map (λ w. w.answers) done ≡ r.answers.items
+
+-- the memory was opened for these calls: with these ports, one for each list of calls, and with a value for each component
+pub record IsOpenedFor (m : MemoryView) (calls : List (List Call)) (fresh : List PortView) : Type 0 where
+  pub some_port : 1 ≤ length calls
+  pub values : length m.about.opening.values ≡ m.about.sizes.m
+  pub count : m.about.ports ≡ length calls
+  pub ports : fresh ≡ new_ports m.table (newcomers m.about 0 (length calls))

@@ -1,0 +1,45 @@
+//! Why workers came to no end.
+
+ghost use Rattle.std.specs.Prelude.{◌≡◌};
+
+use partial_memory::{CloseError, OpenError};
+use std::alloc::AllocError;
+use thiserror::Error;
+
+/// Why calls weren't run. Nothing is left of the run, and no thread of it runs on.
+#[derive(Clone, Copy, Debug, PartialEq, Eq, Error)]
+pub enum RunError {
+    /// A growth was refused, or a worker couldn't be started.
+    #[error("out of memory")]
+    Memory,
+}
+
+impl RunError {
+    /// The number of the refusal: 6.
+    pub fn code(&self) -> u8
+        ensures { result ≡ 6 }
+    {
+        match self {
+            RunError::Memory => 6,
+        }
+    }
+}
+
+impl From<AllocError> for RunError {
+    fn from(_error: AllocError) -> RunError {
+        RunError::Memory
+    }
+}
+
+// A run has 1 to 64 ports, and as many components as its memory, so only a growth can be refused.
+impl From<OpenError> for RunError {
+    fn from(_error: OpenError) -> RunError {
+        RunError::Memory
+    }
+}
+
+impl From<CloseError> for RunError {
+    fn from(_error: CloseError) -> RunError {
+        RunError::Memory
+    }
+}
