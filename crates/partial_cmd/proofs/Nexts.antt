@@ -8,7 +8,8 @@ use Rattle.partial_cmd.specs.Next.{AreReports, next_opening}
 use Rattle.partial_cmd.specs.Reports.{IsReportFrom, IsReportOf, opening_of}
 use Rattle.partial_cmd.proofs.Reported.{reported_of}
 
-pub both_reported : (p q : PlanView) (o next : Opening) (first second : RunReport) → o ≡ opening_of p → IsPlan p → IsReportFrom o p first → length first.values.items ≤ q.sizes.m → next ≡ next_opening q first.values.items → ContinuesAll first.values.items next → IsReportFrom next q second → AreReports p q first second
+pub both_reported : (p q : PlanView) (o next : Opening) (first second : RunReport) → o ≡ opening_of p → IsPlan p → IsReportFrom o p first → length first.values.items ≤ q.sizes.m →
+    next ≡ next_opening q first.values.items → ContinuesAll first.values.items next → IsReportFrom next q second → AreReports p q first second
 both_reported p q o next first second opening lawful one fits goes continues other =
     let here : IsReportOf p first = reported_of o p first opening one in
     record {

@@ -8,7 +8,7 @@ use Rattle.partial_model.specs.declared.call.Call.TheVariants as call
 use Rattle.partial_words.specs.Layout.{Layout}
 use Rattle.partial_text.specs.PlanText.{IsCall, IsPlan, PlanView}
 use Rattle.partial_text.specs.declared.report.RunReport.{RunReport}
-use Rattle.partial_replay.proofs.Plans.{are_plans}
+use Rattle.partial_text.proofs.Laws.{plans_have_few_calls}
 use Rattle.partial_workers.specs.declared.end.Until.TheVariants.{Made}
 use Rattle.partial_workers.specs.declared.error.RunError.{RunError}
 use Rattle.partial_workers.specs.declared.workers.Ran.{Ran}
@@ -33,19 +33,21 @@ calls_within : (m : ℕ) (cs : List Call) → AllByRecursion (IsCall m) cs → A
 calls_within m [] w = tt
 calls_within m (c ∷ cs) w = (call_within m c w.0, calls_within m cs w.1)
 
-calls_makable : (Q : Call → Type 0) (m : ℕ) (plan : List (List Call)) → AllByRecursion (λ cs. (length cs < 2 ^ 32) × AllByRecursion Q cs) plan → AllByRecursion (λ cs. AllByRecursion (IsCall m) cs) plan → AreMakable m plan
-calls_makable Q m [] few w = tt
-calls_makable Q m (cs ∷ plan) few w = ((few.0.0, calls_within m cs w.0), calls_makable Q m plan few.1 w.1)
+calls_makable : (m : ℕ) (plan : List (List Call)) → AllByRecursion (λ cs. length cs < 2 ^ 32) plan →
+    AllByRecursion (λ cs. AllByRecursion (IsCall m) cs) plan → AreMakable m plan
+calls_makable m [] few w = tt
+calls_makable m (cs ∷ plan) few w = ((few.0, calls_within m cs w.0), calls_makable m plan few.1 w.1)
 
 pub plan_makable : (m : ℕ) (p : PlanView) (plan : List (List Call)) → IsPlan p → m ≡ p.sizes.m → plan ≡ p.ports → AreMakable m plan
 plan_makable m p plan lawful sizes is =
-    subst (λ k. AreMakable k plan) (sym sizes) (subst (AreMakable p.sizes.m) (sym is) (calls_makable _ p.sizes.m p.ports (are_plans p lawful) lawful.calls))
+    subst (λ k. AreMakable k plan) (sym sizes) (subst (AreMakable p.sizes.m) (sym is) (calls_makable p.sizes.m p.ports (plans_have_few_calls p lawful) lawful.calls))
 
 -- workers that made all calls of the plan
 plan_right : (o : Opening) (p : PlanView) (plan : List (List Call)) (ran : Ran) → plan ≡ p.ports → IsRun Made o plan ran.answers.items ran.closed.values.items → IsReportFrom o p (report_of ran)
 plan_right o p plan ran is w =
     subst (λ (l : List (List Call)). AreRight o l ran.answers.items ran.closed.values.items) (w.whole refl ∙ is) w.right
 
-pub plan_ran : (o : Opening) (p : PlanView) (plan : List (List Call)) (r : Result Ran RunError) → plan ≡ p.ports → IfOk r (λ ran. IsRun Made o plan ran.answers.items ran.closed.values.items) → IfOk r (λ ran. IsReportFrom o p (report_of ran))
+pub plan_ran : (o : Opening) (p : PlanView) (plan : List (List Call)) (r : Result Ran RunError) → plan ≡ p.ports → IfOk r (λ ran. IsRun Made o plan ran.answers.items ran.closed.values.items) →
+    IfOk r (λ ran. IsReportFrom o p (report_of ran))
 plan_ran o p plan (Ok ran) is w = plan_right o p plan ran is w
 plan_ran o p plan (Err e) is w = tt

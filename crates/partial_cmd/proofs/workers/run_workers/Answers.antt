@@ -10,4 +10,5 @@ returns g c =
     let o = c.in_ok-memory.memory.about.opening in
     let made = c.in_ok-memory.ensures in
     let report = c.into_report.result in
-    reported_of o p report (opening_is o _ _ (made.values ∙ c.initial.ensures.value) (made.first ∙ ap pool_base c.sizes.ensures.value)) (subst (IsReportFrom o p) (sym c.into_report.ensures) c.in_ok-run_plan.ensures)
+    reported_of o p report (opening_is o _ _ (made.values ∙ c.initial.ensures.value) (made.first ∙ ap pool_base c.sizes.ensures.value))
+        (subst (IsReportFrom o p) (sym c.into_report.ensures) c.in_ok-run_plan.ensures)
