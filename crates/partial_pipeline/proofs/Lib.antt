@@ -1,0 +1,5 @@
+pub mod Pipes
+pub mod Reports
+pub mod Rooms
+pub mod Stages
+pub mod Watching

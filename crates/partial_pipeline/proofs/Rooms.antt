@@ -1,0 +1,33 @@
+-- Room for the monitor's scans, and the numbers of the stages.
+use Rattle.std.proofs.Common.{ℕ, zero, suc, ◌≡◌, ◌+◌, ◌<◌, ◌≤◌, ◌++◌, ◌⊎◌, List, [], ◌∷◌, length, take, drop, slice_index, refl, sym, ◌∙◌, ap, subst, inl, inr, arith}
+use Rattle.std.proofs.Math.Seq.{take-append_seam}
+use Rattle.std.proofs.lemmas.List.{length_push}
+use Rattle.std.proofs.lemmas.Bool.{cases_lt}
+use Rattle.partial_pipeline.specs.Stages.{IsEachStage}
+
+index_front : (xs : List ℕ) (x k : ℕ) → k < length xs → slice_index (xs ++ x ∷ []) k ≡ slice_index xs k
+index_front [] x k within = absurd (omega arith)
+index_front (y ∷ xs) x zero within = refl
+index_front (y ∷ xs) x (suc k) within = index_front xs x k (omega arith)
+
+index_last : (xs : List ℕ) (x : ℕ) → slice_index (xs ++ x ∷ []) (length xs) ≡ x
+index_last [] x = refl
+index_last (y ∷ xs) x = index_last xs x
+
+-- one number more
+pub numbers_more : (n : ℕ) (all : List ℕ) → IsEachStage n all → IsEachStage (n + 1) (all ++ n ∷ [])
+numbers_more n all w =
+    record {
+      count = length_push all n ∙ ap (λ k. k + 1) w.count;
+      each = λ k below. elim (cases_lt k n) [
+        | inl sooner ↦ index_front all n k (omega (arith, w.count)) ∙ w.each k sooner
+        | inr last ↦
+            let at : k ≡ length all = omega (arith, w.count) in
+            let is : k ≡ n = omega arith in
+            ap (slice_index (all ++ n ∷ [])) at ∙ index_last all n ∙ sym is
+      ];
+    }
+
+-- what is taken of a list that was written whole into another of the same length is the list
+pub written_whole : (n : ℕ) (xs ys : List ℕ) → length xs ≡ length ys → n ≡ length ys → take n (xs ++ drop (length xs) ys) ≡ xs
+written_whole n xs ys same is = ap (λ k. take k (xs ++ drop (length xs) ys)) (is ∙ sym same) ∙ take-append_seam xs (drop (length xs) ys)

@@ -1,0 +1,231 @@
+-- One call more of a stage, of the monitor, and a meeting.
+use Rattle.std.proofs.Common.{ℕ, zero, suc, ◌≡◌, ◌+◌, ◌<◌, ◌≤◌, ◌++◌, ◌⊎◌, List, [], ◌∷◌, length, map, take, get_or, refl, sym, ◌∙◌, ap, subst, inl, inr, Option, Some, None, append-nil, arith}
+use Rattle.std.specs.Prelude.{Result, Ok, Err, IfOk, IfErr}
+use Rattle.std.specs.List.{AllByRecursion}
+use Rattle.std.specs.declared.alloc.Global.{Global}
+use Rattle.std.specs.declared.vec.Vec.{Vec}
+use Rattle.partial_model.specs.declared.history.Applied.{Applied}
+use Rattle.partial_model.specs.declared.history.Opening.{Opening}
+use Rattle.partial_model.specs.declared.call.Call.{Call}
+use Rattle.partial_model.specs.declared.call.Call.TheVariants as call
+use Rattle.partial_model.specs.declared.call.Answer.{Answer}
+use Rattle.partial_model.specs.declared.call.Answer.TheVariants as answer
+use Rattle.partial_model.specs.declared.call.Note.{Note}
+use Rattle.partial_model.specs.declared.call.Note.TheVariants as note
+use Rattle.partial_model.specs.declared.call.Refused.{Refused}
+use Rattle.partial_model.specs.Notes.{Noted, LegalNotes, IsTrueOf, shown_by, seen_after, place_of}
+use Rattle.partial_model.specs.Outcome.{places_written, wrote}
+use Rattle.partial_model.proofs.AllLemmas.{all_append, all_weaker}
+use Rattle.partial_model.proofs.WalkLaws.{true_within}
+use Rattle.partial_memory.specs.declared.answers.Updated.{Updated}
+use Rattle.partial_memory.specs.declared.answers.Scanned.{Scanned}
+use Rattle.partial_memory.specs.Calls.{Updates, Reads, Scans, Meets}
+use Rattle.partial_memory.specs.Noting.{NotesCall, NotesMore, noted_update}
+use Rattle.partial_memory.specs.Ports.{IsOf, IsRefused, MemoryView, PortView}
+use Rattle.partial_memory.proofs.Laws.{calls_note_once}
+use Rattle.partial_pipeline.specs.Pipeline.{AreFrom, HasWorked, Works}
+use Rattle.partial_pipeline.specs.Stages.{HasMet, IsDone, IsEachStage, IsWatching, IsWorking, Sees, Watched}
+use Rattle.partial_pipeline.specs.declared.monitor.Monitor.{Monitor}
+use Rattle.partial_pipeline.specs.declared.stage.Stage.{Stage}
+use Rattle.partial_pipeline.specs.declared.stage.Worked.{Worked}
+
+-- ---- the notes of a stage
+
+-- a call that notes nothing
+pub none_more : (P : List Noted → Type 0) (p q : PortView) → NotesMore p q [] → P p.notes → P q.notes
+none_more P p q n w = subst P (sym (n.notes ∙ append-nil p.notes)) w
+
+works_read : (k r c : ℕ) (ns : List Noted) (r' c' j v s : ℕ) (n : Noted) → Works k r c ns r' c' → k ≡ j + 1 → n.call ≡ call.Read j → n.answer ≡ answer.Read v s → Works k r c (ns ++ n ∷ []) v c'
+works_read k r c [] r' c' j v s n w is read ans = inl (j, v, s, is, read, ans, (refl, w.1))
+works_read k r c (m ∷ ns) r' c' j v s n w is read ans =
+    elim w [
+      | inl t ↦ inl (t.0, t.1, t.2, t.3, t.4, t.5, works_read k t.1 c ns r' c' j v s n t.6 is read ans)
+      | inr t ↦ inr (t.0, t.1, t.2, t.3, works_read k r t.0 ns r' c' j v s n t.4 is read ans)
+    ]
+
+works_set : (k r c : ℕ) (ns : List Noted) (r' c' v : ℕ) (n : Noted) → Works k r c ns r' c' → n.call ≡ call.Update k v → c' ≤ v → v ≤ r' → Works k r c (ns ++ n ∷ []) r' v
+works_set k r c [] r' c' v n w set more most = inr (v, set, subst (λ i. i ≤ v) (sym w.1) more, subst (λ i. v ≤ i) (sym w.0) most, (w.0, refl))
+works_set k r c (m ∷ ns) r' c' v n w set more most =
+    elim w [
+      | inl t ↦ inl (t.0, t.1, t.2, t.3, t.4, t.5, works_set k t.1 c ns r' c' v n t.6 set more most)
+      | inr t ↦ inr (t.0, t.1, t.2, t.3, works_set k r t.0 ns r' c' v n t.4 set more most)
+    ]
+
+-- a stage whose call noted nothing
+pub works_on : (m : MemoryView) (x : Stage) (q : PortView) → IsWorking m x → IsOf m q → NotesMore x.port q [] → IsWorking m (record { port = q; seen = x.seen; count = x.count })
+works_on m x q w own n =
+    record {
+      own = own;
+      from = w.from;
+      none = λ some. w.none (subst (λ i. 0 < i) n.number some);
+      works = none_more (λ ns. Works q.number w.from 0 ns x.seen x.count) x.port q n (subst (λ i. Works i w.from 0 x.port.notes x.seen x.count) (sym n.number) w.works);
+    }
+
+pub works_refused : (m : MemoryView) (x : Stage) (q : PortView) (c : Call) (cause : Refused) → IsWorking m x → IsOf m q → IsRefused x.port c cause q → IsWorking m (record { port = q; seen = x.seen; count = x.count })
+works_refused m x q c cause w own refused = works_on m x q w own (calls_note_once.refused x.port q c cause refused)
+
+-- a stage that has read the count of the stage before
+pub works_look : (m : MemoryView) (x : Stage) (q : PortView) (j v s : ℕ) → IsWorking m x → IsOf m q → x.port.number ≡ j + 1 → Reads x.port j v s q → IsWorking m (record { port = q; seen = v; count = x.count })
+works_look m x q j v s w own is reads =
+    let n = calls_note_once.read x.port q j v s reads in
+    let before : Works q.number w.from 0 x.port.notes x.seen x.count = subst (λ i. Works i w.from 0 x.port.notes x.seen x.count) (sym n.1.number) w.works in
+    let noted : Noted = record { call = call.Read j; answer = answer.Read v s; note = Some n.0 } in
+    record {
+      own = own;
+      from = w.from;
+      none = λ some. w.none (subst (λ i. 0 < i) n.1.number some);
+      works = subst (λ ns. Works q.number w.from 0 ns v x.count) (sym n.1.notes) (works_read q.number w.from 0 x.port.notes x.seen x.count j v s noted before (n.1.number ∙ is) refl refl);
+    }
+
+-- a stage that has set its count to the next number
+pub works_advance : (m : MemoryView) (x : Stage) (q : PortView) (v : ℕ) (u : Updated) → IsWorking m x → IsOf m q → x.count ≤ v → v ≤ x.seen → Updates x.port x.port.number v u q → IsWorking m (record { port = q; seen = x.seen; count = v })
+works_advance m x q v u w own more most updates =
+    let n = calls_note_once.update x.port q x.port.number v u updates in
+    let noted : Noted = record { call = call.Update x.port.number v; answer = noted_update u; note = Some n.0 } in
+    let one : Works x.port.number w.from 0 (x.port.notes ++ noted ∷ []) x.seen v = works_set x.port.number w.from 0 x.port.notes x.seen x.count v noted w.works refl more most in
+    record {
+      own = own;
+      from = w.from;
+      none = λ some. w.none (subst (λ i. 0 < i) n.1.number some);
+      works = subst (λ ns. Works q.number w.from 0 ns x.seen v) (sym n.1.notes) (subst (λ i. Works i w.from 0 (x.port.notes ++ noted ∷ []) x.seen v) (sym n.1.number) one);
+    }
+
+pub number_read : (p q : PortView) (j v s : ℕ) → Reads p j v s q → q.number ≡ p.number
+number_read p q j v s w = (calls_note_once.read p q j v s w).1.number
+
+pub number_update : (p q : PortView) (j v : ℕ) (u : Updated) → Updates p j v u q → q.number ≡ p.number
+number_update p q j v u w = (calls_note_once.update p q j v u w).1.number
+
+pub number_refused : (p q : PortView) (c : Call) (cause : Refused) → IsRefused p c cause q → q.number ≡ p.number
+number_refused p q c cause w = (calls_note_once.refused p q c cause w).number
+
+-- a stage that has ended
+pub is_done : (m : MemoryView) (x : Stage) (k : ℕ) (w : Worked) → IsWorking m x → x.port.number ≡ k → w.port ≡ x.port → IsDone m k w
+is_done m x k w working number same =
+    let worked : HasWorked k x.port.notes = subst (λ i. HasWorked i x.port.notes) number (record { from = working.from; read = x.seen; count = x.count; none = working.none; works = working.works }) in
+    record {
+      own = subst (IsOf m) (sym same) working.own;
+      number = ap (λ (p : PortView). p.number) same ∙ number;
+      worked = subst (λ (p : PortView). HasWorked k p.notes) (sym same) worked;
+    }
+
+-- the same by other names
+pub done_alike : (m v : MemoryView) (k i : ℕ) (w : Worked) → IsDone m k w → v ≡ m → i ≡ k → IsDone v i w
+done_alike m v k i w done memory number = subst (λ (x : MemoryView). IsDone x i w) (sym memory) (subst (λ j. IsDone m j w) (sym number) done)
+
+-- ---- the notes of the monitor
+
+pub watched_push : (stages : List ℕ) (ns : List Noted) (ss : List (List ℕ)) (n : Noted) (counts : List ℕ) (c : ℕ) (b : Option ℕ) → Watched stages ns ss → n.call ≡ call.Scan stages → n.answer ≡ answer.Scanned counts c b → Watched stages (ns ++ n ∷ []) (ss ++ counts ∷ [])
+watched_push stages [] [] n counts c b w is ans = (c, b, is, ans, tt)
+watched_push stages [] (s ∷ ss) n counts c b w is ans = absurd w
+watched_push stages (m ∷ ns) [] n counts c b w is ans = absurd w
+watched_push stages (m ∷ ns) (s ∷ ss) n counts c b w is ans = (w.0, w.1, w.2, w.3, watched_push stages ns ss n counts c b w.4 is ans)
+
+pub watched_sees : (p q : PortView) (stages counts : List ℕ) (ss : List (List ℕ)) → Watched stages p.notes ss → Sees p stages counts q → Watched stages q.notes (ss ++ counts ∷ [])
+watched_sees p q stages counts ss w s =
+    let n : Noted = record { call = call.Scan stages; answer = answer.Scanned counts s.collects s.borrowed; note = Some (note.Saw s.place) } in
+    subst (λ ns. Watched stages ns (ss ++ counts ∷ [])) (sym s.goes.notes) (watched_push stages p.notes ss n counts s.collects s.borrowed w refl refl)
+
+-- a scan of some stages that was answered
+pub sees_scan : (p q : PortView) (stages counts : List ℕ) (s : Scanned) → 0 < length stages → length counts ≡ length stages → Scans p stages counts s q → Sees p stages counts q
+sees_scan p q [] counts s some each w = absurd (omega arith)
+sees_scan p q (j ∷ js) counts s some each w =
+    record {
+      place = w.n;
+      collects = s.collects;
+      borrowed = s.borrowed;
+      goes = record { memory = w.answered.goes.memory; number = w.answered.goes.number; notes = w.answered.goes.notes };
+      behind = w.answered.new;
+      each = each;
+    }
+
+-- ---- meetings
+
+-- a port's entries lie within the history in which its notes are legal
+note_within : (o : Opening) (h : List Applied) (p : ℕ) (c : Call) (a : Answer) (n : Option Note) (seen : ℕ) → LegalNotes o h p seen (record { call = c; answer = a; note = n } ∷ []) → AllByRecursion (λ i. i < length h) (wrote n)
+note_within o h p c a (Some (note.Wrote i)) seen w =
+    let within = true_within o h p c a (note.Wrote i) w.0.1.0 in
+    (omega (arith, within), tt)
+note_within o h p c a _ seen w = tt
+
+written_within : (o : Opening) (h : List Applied) (p seen : ℕ) (ns : List Noted) → LegalNotes o h p seen ns → AllByRecursion (λ i. i < length h) (places_written ns)
+written_within o h p seen [] w = tt
+written_within o h p seen (n ∷ ns) w =
+    all_append (λ i. i < length h) (wrote n.note) (places_written ns) (note_within o h p n.call n.answer n.note seen (w.0, tt)) (written_within o h p (seen_after seen n.note) ns w.1)
+
+take_within : {A : Type 0} (n : ℕ) (xs : List A) → length (take n xs) ≤ length xs
+take_within zero xs = omega arith
+take_within (suc n) [] = omega arith
+take_within (suc n) (x ∷ xs) = let rest = take_within n xs in omega arith
+
+pub seen_grows : (a b c d : PortView) → Meets a b c d → length a.seen ≤ length c.seen
+seen_grows a b c d w =
+    let seen : length c.seen ≡ length w.log = ap (λ (p : PortView). length p.seen) w.first in
+    let short = take_within (length a.seen) w.log in
+    omega (arith, ap length w.first_seen)
+
+both_seen : (a b c d : PortView) → Meets a b c d → length d.seen ≡ length c.seen
+both_seen a b c d w = ap (λ (p : PortView). length p.seen) w.second ∙ sym (ap (λ (p : PortView). length p.seen) w.first)
+
+-- a stage that has ended meets the monitor
+pub has_met : (m : MemoryView) (k : ℕ) (a b c d : PortView) → IsOf m d → b.number ≡ k → HasWorked k b.notes → Meets a b c d → HasMet m (length c.seen) k d
+has_met m k a b c d own number worked w =
+    let n = (calls_note_once.meet a b c d w).1 in
+    record {
+      own = own;
+      number = n.number ∙ number;
+      worked = none_more (HasWorked k) b d n worked;
+      within = subst (λ l. AllByRecursion (λ i. i < l) (places_written d.notes)) (both_seen a b c d w) (written_within d.memory.about.opening d.seen d.number 0 d.notes w.second_knows.legal);
+    }
+
+met_still : (m : MemoryView) (s t k : ℕ) (p : PortView) → s ≤ t → HasMet m s k p → HasMet m t k p
+met_still m s t k p more w =
+    record {
+      own = w.own;
+      number = w.number;
+      worked = w.worked;
+      within = all_weaker (λ i. i < s) (λ i. i < t) (λ i below. omega arith) (places_written p.notes) w.within;
+    }
+
+-- ---- lists whose elements are numbered
+
+pub from_weaker : {A : Type 0} (P Q : ℕ → A → Type 0) → ((i : ℕ) (x : A) → P i x → Q i x) → (k : ℕ) (xs : List A) → AreFrom P k xs → AreFrom Q k xs
+from_weaker P Q f k [] w = tt
+from_weaker P Q f k (x ∷ xs) w = (f k x w.0, from_weaker P Q f (k + 1) xs w.1)
+
+pub from_push : {A : Type 0} (P : ℕ → A → Type 0) (k : ℕ) (xs : List A) (x : A) → AreFrom P k xs → P (k + length xs) x → AreFrom P k (xs ++ x ∷ [])
+from_push P k [] x w p = let same : k + 0 ≡ k = omega arith in (subst (λ i. P i x) same p, tt)
+from_push P k (y ∷ xs) x w p =
+    let same : k + suc (length xs) ≡ k + 1 + length xs = omega arith in
+    (w.0, from_push P (k + 1) xs x w.1 (subst (λ i. P i x) same p))
+
+pub from_front : {A : Type 0} (P : ℕ → A → Type 0) (k : ℕ) (xs : List A) (x : A) → AreFrom P k (xs ++ x ∷ []) → AreFrom P k xs × P (k + length xs) x
+from_front P k [] x w = let same : k ≡ k + 0 = omega arith in (tt, subst (λ i. P i x) same w.0)
+from_front P k (y ∷ xs) x w =
+    let rest = from_front P (k + 1) xs x w.1 in
+    let same : k + 1 + length xs ≡ k + suc (length xs) = omega arith in
+    ((w.0, rest.0), subst (λ i. P i x) same rest.1)
+
+pub from_all : {A : Type 0} (P : ℕ → A → Type 0) (Q : A → Type 0) → ((i : ℕ) (x : A) → P i x → Q x) → (k : ℕ) (xs : List A) → AreFrom P k xs → AllByRecursion Q xs
+from_all P Q f k [] w = tt
+from_all P Q f k (x ∷ xs) w = (f k x w.0, from_all P Q f (k + 1) xs w.1)
+
+pub from_map : {A B : Type 0} (P : ℕ → A → Type 0) (Q : ℕ → B → Type 0) (g : A → B) → ((i : ℕ) (x : A) → P i x → Q i (g x)) → (k : ℕ) (xs : List A) → AreFrom P k xs → AreFrom Q k (map g xs)
+from_map P Q g f k [] w = tt
+from_map P Q g f k (x ∷ xs) w = (f k x w.0, from_map P Q g f (k + 1) xs w.1)
+
+-- the element at a place
+pub from_get : {A : Type 0} (P : ℕ → A → Type 0) (k i : ℕ) (xs : List A) (x : A) → AreFrom P k xs → i < length xs → x ≡ get_or xs i x → P (k + i) x
+from_get P k i [] x w within is = absurd (omega arith)
+from_get P k zero (y ∷ xs) x w within is =
+    let same : k ≡ k + 0 = omega arith in
+    subst (λ n. P n x) same (subst (P k) (sym is) w.0)
+from_get P k (suc i) (y ∷ xs) x w within is =
+    let same : k + 1 + i ≡ k + suc i = omega arith in
+    subst (λ n. P n x) same (from_get P (k + 1) i xs x w.1 (omega arith) is)
+
+-- one stage more has met the monitor, which has seen more since
+pub met_more : (m : MemoryView) (s t : ℕ) (ports : List PortView) (p : PortView) → s ≤ t → AreFrom (HasMet m s) 0 ports → HasMet m t (length ports) p → AreFrom (HasMet m t) 0 (ports ++ p ∷ [])
+met_more m s t ports p more w new =
+    let same : length ports ≡ 0 + length ports = omega arith in
+    from_push (HasMet m t) 0 ports p (from_weaker (HasMet m s) (HasMet m t) (λ k q. met_still m s t k q more) 0 ports w) (subst (λ i. HasMet m t i p) same new)

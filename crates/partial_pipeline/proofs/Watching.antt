@@ -1,0 +1,119 @@
+-- The monitor: one scan more, and a meeting. And the threads of the stages.
+use Rattle.std.proofs.Common.{ℕ, zero, suc, ◌≡◌, ◌+◌, ◌<◌, ◌≤◌, ◌++◌, List, [], ◌∷◌, length, map, get_or, refl, sym, ◌∙◌, ap, subst, arith}
+use Rattle.std.specs.List.{AllByRecursion}
+use Rattle.std.specs.Vec.{vec_capacity}
+use Rattle.std.specs.declared.alloc.Global.{Global}
+use Rattle.std.specs.declared.vec.Vec.{Vec}
+use Rattle.std.specs.declared.thread.PromisedHandle.{PromisedHandle}
+use Rattle.std.proofs.lemmas.List.{length_push, map-append}
+use Rattle.partial_model.specs.Notes.{Noted}
+use Rattle.partial_model.proofs.AllLemmas.{all_append, all_back, all_front}
+use Rattle.partial_memory.specs.Calls.{Meets}
+use Rattle.partial_memory.specs.Noting.{NotesMore}
+use Rattle.partial_memory.specs.Ports.{IsOf, MemoryView, PortView, new_ports}
+use Rattle.partial_memory.specs.Rule.{newcomers}
+use Rattle.partial_memory.proofs.Laws.{calls_note_once}
+use Rattle.partial_pipeline.specs.Pipeline.{AreFrom, HasWorked}
+use Rattle.partial_pipeline.specs.Stages.{HasMet, IsDone, IsNew, IsOpened, IsStarted, IsWatching, Sees, Watched}
+use Rattle.partial_pipeline.specs.declared.monitor.Monitor.{Monitor}
+use Rattle.partial_pipeline.specs.declared.run.Works.{Works as Promised}
+use Rattle.partial_pipeline.specs.declared.stage.Worked.{Worked}
+use Rattle.partial_pipeline.proofs.Stages.{done_alike, from_front, from_get, has_met, met_more, none_more, seen_grows, watched_sees}
+
+-- ---- the monitor
+
+-- the monitor has made a scan in a room that it had
+pub watching_more : (m : MemoryView) (x : Monitor) (q : PortView) (rooms scans : Vec (Vec ℕ Global) Global) (room counts : Vec ℕ Global) (stages : List ℕ) → IsWatching m x → x.rooms.items ≡ rooms.items ++ room ∷ [] → stages ≡ x.stages.items → IsOf m q → Sees x.port stages counts.items q → scans.items ≡ x.scans.items ++ counts ∷ [] → vec_capacity x.scans ≤ vec_capacity scans → IsWatching m (record { port = q; stages = x.stages; rooms = rooms; scans = scans; room = x.room })
+watching_more m x q rooms scans room counts stages w popped same own sees pushed capacity =
+    let s : Sees x.port x.stages.items counts.items q = subst (λ (l : List ℕ). Sees x.port l counts.items q) same sees in
+    let Fits : Vec ℕ Global → Type 0 = λ v. length v.items ≡ m.about.sizes.m in
+    let many : map (λ (v : Vec ℕ Global). v.items) scans.items ≡ map (λ (v : Vec ℕ Global). v.items) x.scans.items ++ counts.items ∷ [] = ap (map (λ (v : Vec ℕ Global). v.items)) pushed ∙ map-append (λ (v : Vec ℕ Global). v.items) x.scans.items (counts ∷ []) in
+    let more = ap length pushed ∙ length_push x.scans.items counts in
+    let less = ap length popped ∙ length_push rooms.items room in
+    record {
+      own = own;
+      number = s.goes.number ∙ w.number;
+      each = w.each;
+      rooms = all_front Fits rooms.items (room ∷ []) (subst (λ (l : List (Vec ℕ Global)). AllByRecursion Fits l) popped w.rooms);
+      last = w.last;
+      room = omega (arith, more, less, capacity, w.room);
+      wide = subst (λ (l : List (Vec ℕ Global)). AllByRecursion Fits l) (sym pushed) (all_append Fits x.scans.items (counts ∷ []) w.wide (s.each ∙ w.each.count, tt));
+      watched = subst (Watched x.stages.items q.notes) (sym many) (watched_sees x.port q x.stages.items counts.items (map (λ (v : Vec ℕ Global). v.items) x.scans.items) w.watched s);
+    }
+
+-- a scan of the monitor was refused
+pub watching_refused : (m : MemoryView) (x : Monitor) (q : PortView) (rooms : Vec (Vec ℕ Global) Global) (room : Vec ℕ Global) → IsWatching m x → x.rooms.items ≡ rooms.items ++ room ∷ [] → IsOf m q → NotesMore x.port q [] → IsWatching m (record { port = q; stages = x.stages; rooms = rooms; scans = x.scans; room = x.room })
+watching_refused m x q rooms room w popped own n =
+    let Fits : Vec ℕ Global → Type 0 = λ v. length v.items ≡ m.about.sizes.m in
+    let less = ap length popped ∙ length_push rooms.items room in
+    record {
+      own = own;
+      number = n.number ∙ w.number;
+      each = w.each;
+      rooms = all_front Fits rooms.items (room ∷ []) (subst (λ (l : List (Vec ℕ Global)). AllByRecursion Fits l) popped w.rooms);
+      last = w.last;
+      room = omega (arith, less, w.room);
+      wide = w.wide;
+      watched = none_more (λ ns. Watched x.stages.items ns (map (λ (v : Vec ℕ Global). v.items) x.scans.items)) x.port q n w.watched;
+    }
+
+-- the monitor has met another port
+pub watching_met : (m : MemoryView) (x : Monitor) (b c d : PortView) → IsWatching m x → IsOf m c → Meets x.port b c d → IsWatching m (record { port = c; stages = x.stages; rooms = x.rooms; scans = x.scans; room = x.room })
+watching_met m x b c d w own meets =
+    let n = (calls_note_once.meet x.port b c d meets).0 in
+    record {
+      own = own;
+      number = n.number ∙ w.number;
+      each = w.each;
+      rooms = w.rooms;
+      last = w.last;
+      room = w.room;
+      wide = w.wide;
+      watched = none_more (λ ns. Watched x.stages.items ns (map (λ (v : Vec ℕ Global). v.items) x.scans.items)) x.port c n w.watched;
+    }
+
+-- ---- the threads
+
+-- a thread that was started for a stage has come to its end
+pub started_done : (m : MemoryView) (n : ℕ) (all : List (PromisedHandle Worked Promised)) (h : PromisedHandle Worked Promised) (w : Worked) → AreFrom (IsStarted m) 0 all → n < length all → h ≡ get_or all n h → IsDone h.promise.memory.value h.promise.stage w → IsDone m n w
+started_done m n all h w started within is kept =
+    let s = from_get (IsStarted m) 0 n all h started within is in
+    let number : n ≡ h.promise.stage = omega (arith, s.number) in
+    done_alike h.promise.memory.value m h.promise.stage n w kept (sym s.memory) number
+
+-- one stage more has ended and met the monitor
+pub joined_more : (m : MemoryView) (x : Monitor) (ports after : List PortView) (b c d : PortView) (n : ℕ) (w : Worked) → AreFrom (HasMet m (length x.port.seen)) 0 ports → length ports ≡ n → IsDone m n w → b ≡ w.port → IsOf m d → Meets x.port b c d → after ≡ ports ++ d ∷ [] → AreFrom (HasMet m (length c.seen)) 0 after
+joined_more m x ports after b c d n w had many done same own meets is =
+    let number : b.number ≡ length ports = ap (λ (p : PortView). p.number) same ∙ done.number ∙ sym many in
+    let worked = subst (λ (p : PortView). HasWorked n p.notes) (sym same) done.worked in
+    let new = has_met m (length ports) x.port b c d own number (subst (λ i. HasWorked i b.notes) (sym many) worked) meets in
+    subst (AreFrom (HasMet m (length c.seen)) 0) (sym is) (met_more m (length x.port.seen) (length c.seen) ports d (seen_grows x.port b c d meets) had new)
+
+-- a new port at a place
+pub new_at : (m : MemoryView) (n : ℕ) (all : List PortView) (p : PortView) → AreFrom (IsNew m) 0 all → n < length all → p ≡ get_or all n p → IsNew m n p
+new_at m n all p new within is =
+    let same : 0 + n ≡ n = omega arith in
+    subst (λ i. IsNew m i p) same (from_get (IsNew m) 0 n all p new within is)
+
+pub new_self : (m : MemoryView) (n : ℕ) (p : PortView) → IsNew m n p → IsNew m p.number p
+new_self m n p w = record { own = w.own; number = refl; fresh = w.fresh }
+
+-- ---- the ports of a memory that was opened
+
+new_from : (m : MemoryView) (k n : ℕ) → AreFrom (IsNew m) k (new_ports m.table (newcomers m.about k n))
+new_from m k zero = tt
+new_from m k (suc n) = (record { own = refl; number = refl; fresh = refl }, new_from m (k + 1) n)
+
+new_count : (m : MemoryView) (k n : ℕ) → length (new_ports m.table (newcomers m.about k n)) ≡ n
+new_count m k zero = refl
+new_count m k (suc n) = ap suc (new_count m (k + 1) n)
+
+-- the stages' ports, and the monitor's behind them
+pub opened_stages : (m : MemoryView) (all rest : List PortView) (last : PortView) → IsOpened m all → all ≡ rest ++ last ∷ [] → AreFrom (IsNew m) 0 rest × (length rest ≡ m.about.sizes.m) × IsNew m m.about.sizes.m last
+opened_stages m all rest last w is =
+    let new : AreFrom (IsNew m) 0 (rest ++ last ∷ []) = subst (AreFrom (IsNew m) 0) (sym w.ports ∙ is) (new_from m 0 (m.about.sizes.m + 1)) in
+    let count : length rest + 1 ≡ m.about.sizes.m + 1 = sym (length_push rest last) ∙ sym (ap length is) ∙ ap length w.ports ∙ new_count m 0 (m.about.sizes.m + 1) in
+    let long : length rest ≡ m.about.sizes.m = omega arith in
+    let both = from_front (IsNew m) 0 rest last new in
+    let same : 0 + length rest ≡ m.about.sizes.m = omega arith in
+    (both.0, long, subst (λ i. IsNew m i last) same both.1)

@@ -1,0 +1,10 @@
+use Rattle.std.proofs.Common.{rules, ◌+◌, sym, subst}
+use Rattle.partial_pipeline.proofs.Rooms.{numbers_more}
+use Rattle.partial_pipeline.specs.Stages.{IsEachStage}
+use Rattle.partial_pipeline.proofs.monitor.numbers.Goals as goal
+
+pub loop-stage-preserved : goal.loop-stage-preserved
+loop-stage-preserved c = record {
+  each = subst (IsEachStage (c.loop-stage.stage + 1)) (sym c.push_reserved.ensures.items) (numbers_more c.loop-stage.stage c.loop-stage.all.items c.loop-stage.invariant.each);
+  room = search rules;
+}

@@ -1,0 +1,23 @@
+use Rattle.std.proofs.Common.{◌≡◌, ◌∙◌, ℕ, List, length, subst}
+use Rattle.partial_memory.specs.Ports.{IsOf}
+use Rattle.partial_pipeline.specs.Stages.{HasMet}
+use Rattle.partial_pipeline.proofs.Stages.{from_all}
+use Rattle.partial_pipeline.proofs.Reports.{LastSees, last_number, last_sees, orderly}
+use Rattle.partial_pipeline.proofs.run.close.Goals as goal
+
+pub close-requires-clause-rest : goal.close-requires-clause-rest
+close-requires-clause-rest c =
+    let m = c.args.memory in
+    let seen = length c.args.joined.monitor.port.seen in
+    from_all (HasMet m seen) (IsOf m) (λ k p w. w.own) 0 c.args.joined.ports.items c.requires.met.each
+
+pub returns : goal.returns
+returns c =
+    let m = c.args.memory in
+    let x = c.args.joined.monitor in
+    let q = c.scan_into-last.new.port in
+    let last = c.scan_into-last.result in
+    let watching = c.requires.met.watching in
+    let same : c.deref.result.now ≡ x.stages.items = c.deref.ensures.value in
+    let sees : LastSees x.port x.stages.items q last = subst (λ (l : List ℕ). LastSees x.port l q last) same (last_sees x.port q c.deref.result.now last c.scan_into-last.ensures.some c.scan_into-last.ensures.none) in
+    orderly m x.port q c.args.joined.ports.items x.stages.items x.scans last c.in-Ok.closed c.args.joined.ends c.requires.opens c.requires.met.each c.requires.met.count c.scan_into-last.ensures.own (last_number x.port q x.stages.items last sees ∙ watching.number) watching.each watching.watched sees c.in-Ok.ensures

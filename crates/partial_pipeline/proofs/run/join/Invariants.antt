@@ -1,0 +1,16 @@
+use Rattle.std.proofs.Common.{◌≡◌, ◌≤◌, length}
+use Rattle.std.specs.Vec.{vec_capacity}
+use Rattle.partial_pipeline.specs.Pipeline.{AreFrom}
+use Rattle.partial_pipeline.specs.Stages.{HasMet, IsWatching}
+use Rattle.partial_pipeline.proofs.run.join.Given as goal
+
+-- the stages that have ended so far
+abbrev pub invariant-loop-handle : goal.invariant-loop-handle
+invariant-loop-handle g l = record {
+  watching : IsWatching l.memory l.joined.monitor;
+  each : AreFrom (HasMet l.memory (length l.joined.monitor.port.seen)) 0 l.joined.ports.items;
+  ports : length l.joined.ports.items ≡ length l.yielded;
+  ends : length l.joined.ends.items ≡ length l.yielded;
+  ports_room : length l.fn.started.items ≤ vec_capacity l.joined.ports;
+  ends_room : length l.fn.started.items ≤ vec_capacity l.joined.ends;
+}

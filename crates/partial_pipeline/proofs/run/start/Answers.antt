@@ -1,0 +1,38 @@
+use Rattle.std.proofs.Common.{rules, ◌≡◌, ◌+◌, ◌++◌, [], ◌∷◌, length, sym, ap, subst, ◌∙◌, arith}
+use Rattle.std.proofs.lemmas.Iterator.Adapters.{YieldsList-from_vec}
+use Rattle.std.proofs.lemmas.Iterator.Consumers.{YieldsList-turn, YieldsList-end}
+use Rattle.std.proofs.lemmas.List.{length_push}
+use Rattle.partial_pipeline.specs.Pipeline.{AreFrom}
+use Rattle.partial_pipeline.specs.Stages.{IsStarted}
+use Rattle.partial_pipeline.specs.declared.run.Works.{Works}
+use Rattle.partial_pipeline.proofs.Stages.{done_alike, from_push}
+use Rattle.partial_pipeline.proofs.Watching.{new_at, new_self}
+use Rattle.partial_pipeline.proofs.run.start.Goals as goal
+
+pub new-stage-requires : goal.new-stage-requires
+new-stage-requires g c =
+    let m = c.args.memory.now in
+    let all = c.args.ports.items in
+    let n = length c.loop-port.yielded in
+    let turn = YieldsList-turn (YieldsList-from_vec {s = c.into_iter-port-iterator.result} all (search rules) (search rules)) c.loop-port.yielded _ c.loop-port.yielded_by _ c.next.new.self c.in-Some.port c.in-Some.is c.next.ensures.steps in
+    new_self m n c.in-Some.port (new_at m n all c.in-Some.port c.requires.new turn.0 turn.1)
+
+pub loop-port-preserved : goal.loop-port-preserved
+loop-port-preserved g c =
+    let m = c.args.memory.now in
+    let all = c.args.ports.items in
+    let n = length c.loop-port.yielded in
+    let turn = YieldsList-turn (YieldsList-from_vec {s = c.into_iter-port-iterator.result} all (search rules) (search rules)) c.loop-port.yielded _ c.loop-port.yielded_by _ c.next.new.self c.in-Some.port c.in-Some.is c.next.ensures.steps in
+    let new = new_at m n all c.in-Some.port c.requires.new turn.0 turn.1 in
+    let h = c.in_ok-spawn_with.field-0 in
+    let promised = c.in_ok-spawn_with.ensures.ok in
+    let started : IsStarted m (0 + length c.loop-port.started.items) h = record {
+      memory = ap (λ (p : Works). p.memory.value) promised ∙ c.of.ensures;
+      number = ap (λ (p : Works). p.stage) promised ∙ c.number.ensures ∙ new.number ∙ omega (arith, c.loop-port.invariant.count);
+    } in
+    let more = length_push c.loop-port.yielded c.in-Some.port in
+    record {
+      each = subst (AreFrom (IsStarted m) 0) (sym c.push_reserved.ensures.items) (from_push (IsStarted m) 0 c.loop-port.started.items h c.loop-port.invariant.each started);
+      count = ap length c.push_reserved.ensures.items ∙ length_push c.loop-port.started.items h ∙ ap (λ k. k + 1) c.loop-port.invariant.count ∙ sym more;
+      room = search rules;
+    }

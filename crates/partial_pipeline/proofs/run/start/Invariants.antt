@@ -1,0 +1,13 @@
+use Rattle.std.proofs.Common.{◌≡◌, ◌≤◌, length}
+use Rattle.std.specs.Vec.{vec_capacity}
+use Rattle.partial_pipeline.specs.Pipeline.{AreFrom}
+use Rattle.partial_pipeline.specs.Stages.{IsStarted}
+use Rattle.partial_pipeline.proofs.run.start.Given as goal
+
+-- the threads so far
+abbrev pub invariant-loop-port : goal.invariant-loop-port
+invariant-loop-port g l = record {
+  each : AreFrom (IsStarted l.memory) 0 l.started.items;
+  count : length l.started.items ≡ length l.yielded;
+  room : length l.fn.ports.items ≤ vec_capacity l.started;
+}

@@ -1,0 +1,10 @@
+use Rattle.std.proofs.Common.{◌≡◌}
+use Rattle.partial_pipeline.specs.Stages.{IsWorking}
+use Rattle.partial_pipeline.proofs.stage.Stage.run.Given as goal
+
+-- the stage between two turns
+abbrev pub invariant-loop-turn : goal.invariant-loop-turn
+invariant-loop-turn g l = record {
+  working : IsWorking l.memory l.self;
+  number : l.self.port.number ≡ l.fn.self.port.number;
+}

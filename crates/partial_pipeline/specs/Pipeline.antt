@@ -1,0 +1,100 @@
+-- What a pipeline promises of its counts, and why: what each stage notes, and what then holds in the history that all ports share.
+use Rattle.std.specs.Prelude.{ℕ, ◌≡◌, ◌+◌, ◌<◌, ◌≤◌, ◌⊎◌, ⊤, List, [], ◌∷◌, ◌++◌, length, map, take, slice_index, Option, Some, None, IfSome}
+use Rattle.std.specs.List.{AllByRecursion}
+use Rattle.std.specs.declared.alloc.Global.{Global}
+use Rattle.std.specs.declared.vec.Vec.{Vec}
+use Rattle.partial_model.specs.declared.history.Applied.{Applied}
+use Rattle.partial_model.specs.declared.history.Opening.{Opening}
+use Rattle.partial_model.specs.declared.call.Call.TheVariants as call
+use Rattle.partial_model.specs.declared.call.Answer.TheVariants as answer
+use Rattle.partial_model.specs.History.{value_of}
+use Rattle.partial_model.specs.Notes.{Noted, LegalNotes}
+use Rattle.partial_model.specs.Outcome.{EachOnce}
+use Rattle.partial_pipeline.specs.declared.error.PipelineError.{PipelineError}
+use Rattle.partial_pipeline.specs.declared.error.PipelineError.TheVariants.{Ports, Memory}
+use Rattle.partial_pipeline.specs.declared.report.PipelineReport.{PipelineReport}
+
+-- each count is at most that of the stage before it
+abbrev pub AreOrdered : List ℕ → Type 0
+AreOrdered counts = (k : ℕ) → k + 1 < length counts → slice_index counts (k + 1) ≤ slice_index counts k
+
+-- no count is less than it was
+abbrev pub HaveRisen : List ℕ → List ℕ → Type 0
+HaveRisen before after = (k : ℕ) → k < length before → slice_index before k ≤ slice_index after k
+
+-- from each of these lists to each later one no count falls
+abbrev pub NeverFall : List (List ℕ) → Type 0
+NeverFall [] = ⊤
+NeverFall (counts ∷ later) = AllByRecursion (HaveRisen counts) later × NeverFall later
+
+-- the last scan, if there is one
+abbrev pub last_of : Option (Vec ℕ Global) → List (List ℕ)
+last_of None = []
+last_of (Some counts) = counts.items ∷ []
+
+-- all counts of a report, in order: the scans, the last scan, and what the memory held when it was closed
+abbrev pub all_counts : PipelineReport → List (List ℕ)
+all_counts r = (map (λ v. v.items) r.scans.items ++ last_of r.last) ++ r.counts.items ∷ []
+
+-- The report of a pipeline of so many stages: everywhere there is a count for each stage, each is at most that of the stage before it,
+-- and none ever falls; the last scan gives the counts with which the memory was closed.
+pub record IsOrderly (stages : ℕ) (r : PipelineReport) : Type 0 where
+  pub each : AllByRecursion (λ counts. length counts ≡ stages) (all_counts r)
+  pub ordered : AllByRecursion AreOrdered (all_counts r)
+  pub rising : NeverFall (all_counts r)
+  pub last : IfSome r.last (λ counts. counts.items ≡ r.counts.items)
+
+-- why a pipeline of so many stages may not run: Ports where there are more than 63, and Memory only where there aren't
+abbrev pub MayNotRun : ℕ → PipelineError → Type 0
+MayNotRun stages Ports = 63 < stages
+MayNotRun stages Memory = stages ≤ 63
+
+-- the numbers of the refusals
+abbrev pub error_code : PipelineError → ℕ
+error_code Ports = 5
+error_code Memory = 6
+
+-- Each of the list holds what is said of its number, where the first has number k.
+abbrev pub AreFrom : {A : Type 0} → (ℕ → A → Type 0) → ℕ → List A → Type 0
+AreFrom P k [] = ⊤
+AreFrom P k (x ∷ xs) = P k x × AreFrom P (k + 1) xs
+
+-- What stage k notes, where it has read that many items of the stage before and its count is `count`: it reads the count of the stage
+-- before, or sets its own, which never falls and never passes what was read last. It ends with these two.
+abbrev pub Works : ℕ → ℕ → ℕ → List Noted → ℕ → ℕ → Type 0
+Works k read count [] read' count' = (read ≡ read') × (count ≡ count')
+Works k read count (n ∷ ns) read' count' =
+    ((j v s : ℕ) × (k ≡ j + 1) × (n.call ≡ call.Read j) × (n.answer ≡ answer.Read v s) × Works k v count ns read' count')
+    ⊎ ((v : ℕ) × (n.call ≡ call.Update k v) × (count ≤ v) × (v ≤ read) × Works k read v ns read' count')
+
+-- what stage k has noted; but for the first stage none has read anything at its begin
+pub record HasWorked (k : ℕ) (ns : List Noted) : Type 0 where
+  pub from : ℕ
+  pub read : ℕ
+  pub count : ℕ
+  pub none : 0 < k → from ≡ 0
+  pub works : Works k from 0 ns read count
+
+-- the notes of stage k, whose port has its number, in the history
+pub record IsStageIn (o : Opening) (h : List Applied) (k : ℕ) (ns : List Noted) : Type 0 where
+  pub legal : LegalNotes o h k 0 ns
+  pub once : EachOnce h k ns
+  pub worked : HasWorked k ns
+
+-- the history of a pipeline: all counts begin at 0, and each entry is by one of the stages that noted these calls
+pub record IsPipeline (o : Opening) (h : List Applied) (stages : List (List Noted)) : Type 0 where
+  pub zero : (k : ℕ) → slice_index o.values k ≡ 0
+  pub each : AreFrom (IsStageIn o h) 0 stages
+  pub below : AllByRecursion (λ e. e.port < length stages) h
+
+-- at each length of a pipeline's history each stage's count is at most that of the stage before it
+abbrev pub CountsStayOrdered : Type 0
+CountsStayOrdered =
+    (o : Opening) (h : List Applied) (stages : List (List Noted)) → IsPipeline o h stages
+    → (n k : ℕ) → n ≤ length h → k + 1 < length stages → value_of o (take n h) (k + 1) ≤ value_of o (take n h) k
+
+-- from one length of a pipeline's history to a later one no stage's count falls
+abbrev pub CountsNeverFall : Type 0
+CountsNeverFall =
+    (o : Opening) (h : List Applied) (stages : List (List Noted)) → IsPipeline o h stages
+    → (m n k : ℕ) → m ≤ n → n ≤ length h → k < length stages → value_of o (take m h) k ≤ value_of o (take n h) k

@@ -1,0 +1,107 @@
+-- What is known of the stages and the monitor as they work, and of their ports when they have ended.
+use Rattle.std.specs.Prelude.{ℕ, ◌≡◌, ◌+◌, ◌<◌, ◌≤◌, ⊤, List, [], ◌∷◌, length, map, slice_index, Option, Some}
+use Rattle.std.specs.List.{AllByRecursion}
+use Rattle.std.specs.Vec.{vec_capacity}
+use Rattle.std.specs.declared.alloc.Global.{Global}
+use Rattle.std.specs.declared.vec.Vec.{Vec}
+use Rattle.std.specs.declared.thread.PromisedHandle.{PromisedHandle}
+use Rattle.partial_model.specs.declared.call.Call.TheVariants as call
+use Rattle.partial_model.specs.declared.call.Answer.TheVariants as answer
+use Rattle.partial_model.specs.declared.call.Note.TheVariants as note
+use Rattle.partial_model.specs.Notes.{Noted}
+use Rattle.partial_model.specs.Outcome.{places_written}
+use Rattle.partial_memory.specs.Noting.{NotesMore}
+use Rattle.partial_memory.specs.Ports.{IsOf, MemoryView, PortView, new_ports}
+use Rattle.partial_memory.specs.Rule.{newcomers}
+use Rattle.partial_pipeline.specs.Pipeline.{AreFrom, HasWorked, Works}
+use Rattle.partial_pipeline.specs.declared.monitor.Monitor.{Monitor}
+use Rattle.partial_pipeline.specs.declared.run.Joined.{Joined}
+use Rattle.partial_pipeline.specs.declared.run.Works.{Works as Promised}
+use Rattle.partial_pipeline.specs.declared.stage.Stage.{Stage}
+use Rattle.partial_pipeline.specs.declared.stage.Worked.{Worked}
+
+-- the port of number k, which has made no call
+pub record IsNew (m : MemoryView) (k : ℕ) (p : PortView) : Type 0 where
+  pub own : IsOf m p
+  pub number : p.number ≡ k
+  pub fresh : p.notes ≡ []
+
+-- a memory of as many stages as components, whose counts begin at 0, with a port for each and one more
+pub record Opens (m : MemoryView) : Type 0 where
+  pub zero : (k : ℕ) → slice_index m.about.opening.values k ≡ 0
+  pub values : length m.about.opening.values ≡ m.about.sizes.m
+  pub some : 0 < m.about.sizes.m
+  pub few : m.about.sizes.m ≤ 63
+  pub count : m.about.ports ≡ m.about.sizes.m + 1
+
+-- such a memory with its ports
+pub record IsOpened (m : MemoryView) (all : List PortView) : Type 0 where
+  pub opens : Opens m
+  pub ports : all ≡ new_ports m.table (newcomers m.about 0 (m.about.sizes.m + 1))
+
+-- a stage at work
+pub record IsWorking (m : MemoryView) (s : Stage) : Type 0 where
+  pub own : IsOf m s.port
+  pub from : ℕ
+  pub none : 0 < s.port.number → from ≡ 0
+  pub works : Works s.port.number from 0 s.port.notes s.seen s.count
+
+-- stage k has ended
+pub record IsDone (m : MemoryView) (k : ℕ) (w : Worked) : Type 0 where
+  pub own : IsOf m w.port
+  pub number : w.port.number ≡ k
+  pub worked : HasWorked k w.port.notes
+
+-- a thread was started for stage k
+pub record IsStarted (m : MemoryView) (k : ℕ) (h : PromisedHandle Worked Promised) : Type 0 where
+  pub memory : h.promise.memory.value ≡ m
+  pub number : h.promise.stage ≡ k
+
+-- the numbers of so many stages, in order
+pub record IsEachStage (stages : ℕ) (numbers : List ℕ) : Type 0 where
+  pub count : length numbers ≡ stages
+  pub each : (k : ℕ) → k < stages → slice_index numbers k ≡ k
+
+-- each has room for the counts of so many stages
+abbrev pub AreRooms : ℕ → List (Vec ℕ Global) → Type 0
+AreRooms stages rooms = AllByRecursion (λ room. length room.items ≡ stages) rooms
+
+-- the calls are scans of these stages, and gave these counts
+abbrev pub Watched : List ℕ → List Noted → List (List ℕ) → Type 0
+Watched stages [] [] = ⊤
+Watched stages (n ∷ ns) (counts ∷ more) =
+    (c : ℕ) × (b : Option ℕ) × (n.call ≡ call.Scan stages) × (n.answer ≡ answer.Scanned counts c b) × Watched stages ns more
+Watched stages _ _ = ⊥
+
+-- the port has noted a scan of these stages, which gave these counts, at a place behind all that it had seen before
+pub record Sees (p : PortView) (stages counts : List ℕ) (q : PortView) : Type 0 where
+  pub place : ℕ
+  pub collects : ℕ
+  pub borrowed : Option ℕ
+  pub goes : NotesMore p q (record { call = call.Scan stages; answer = answer.Scanned counts collects borrowed; note = Some (note.Saw place) } ∷ [])
+  pub behind : length p.seen ≤ place
+  pub each : length counts ≡ length stages
+
+-- the monitor between two scans, with room for those to come
+pub record IsWatching (m : MemoryView) (x : Monitor) : Type 0 where
+  pub own : IsOf m x.port
+  pub number : x.port.number ≡ m.about.sizes.m
+  pub each : IsEachStage m.about.sizes.m x.stages.items
+  pub rooms : AreRooms m.about.sizes.m x.rooms.items
+  pub last : length x.room.items ≡ m.about.sizes.m
+  pub room : length x.scans.items + length x.rooms.items ≤ vec_capacity x.scans
+  pub wide : AreRooms m.about.sizes.m x.scans.items
+  pub watched : Watched x.stages.items x.port.notes (map (λ v. v.items) x.scans.items)
+
+-- the port of stage k, which has ended and met the monitor: its entries lie within what the monitor has seen
+pub record HasMet (m : MemoryView) (seen k : ℕ) (p : PortView) : Type 0 where
+  pub own : IsOf m p
+  pub number : p.number ≡ k
+  pub worked : HasWorked k p.notes
+  pub within : AllByRecursion (λ i. i < seen) (places_written p.notes)
+
+-- so many stages have ended and met the monitor
+pub record HaveMet (m : MemoryView) (stages : ℕ) (r : Joined) : Type 0 where
+  pub watching : IsWatching m r.monitor
+  pub each : AreFrom (HasMet m (length r.monitor.port.seen)) 0 r.ports.items
+  pub count : length r.ports.items ≡ stages

@@ -1,0 +1,120 @@
+//! The monitor: it scans the counts of all stages.
+
+ghost use Rattle.std.specs.Prelude.{◌≡◌, ◌+◌, ◌<◌, ◌≤◌, [], length, None, IfOk, IfSome};
+ghost use Rattle.std.specs.Vec.{vec_capacity};
+ghost use Rattle.partial_memory.specs.Noting.{NotesMore};
+ghost use Rattle.partial_memory.specs.Ports.{IsOf};
+ghost use Rattle.partial_pipeline.specs.Stages.{AreRooms, IsEachStage, IsNew, IsWatching, Sees};
+
+use crate::work::Watch;
+use partial_memory::{Memory, Port};
+use std::alloc::{AllocError, Global};
+use std::sync::atomic::{AtomicBool, Ordering};
+
+/// The monitor, with room for all its scans: while it looks it takes no memory.
+#[derive(Drop)]
+pub struct Monitor {
+    pub port: Port,
+    /// The components of all stages.
+    pub stages: Vec<u32>,
+    /// Room for the scans to come while the stages work.
+    pub rooms: Vec<Vec<u64>>,
+    /// The scans so far.
+    pub scans: Vec<Vec<u64>>,
+    /// Room for the last scan.
+    pub room: Vec<u64>,
+}
+
+// The numbers of so many stages, in order.
+fn numbers(alloc: Global, stages: u32) -> Result<Vec<u32>, AllocError>
+    ensures { IfOk result (λ all. IsEachStage stages all.items) }
+{
+    let mut all = Vec::with_capacity(alloc, stages as usize)?;
+    for stage in 0..stages {
+        all.push_reserved(stage);
+    }
+    Ok(all)
+}
+
+// Room for so many scans of so many stages.
+fn rooms_for(alloc: Global, stages: u32, scans: usize) -> Result<Vec<Vec<u64>>, AllocError>
+    ensures rooms { IfOk result (λ rooms. AreRooms stages rooms.items) }
+    ensures count { IfOk result (λ rooms. length rooms.items ≡ scans) }
+{
+    let mut rooms = Vec::with_capacity(alloc, scans)?;
+    for _scan in 0..scans {
+        rooms.push_reserved(vec![in alloc; 0; stages as usize]?);
+    }
+    Ok(rooms)
+}
+
+/// Scans the counts of these stages, and gives them in the room. Nothing where the scan is refused.
+pub fn scan_into(
+    memory: &Memory,
+    port: &mut Port,
+    stages: &[u32],
+    mut room: Vec<u64>,
+) -> Option<Vec<u64>>
+    requires own { IsOf memory.now port.old }
+    requires stages { IsEachStage memory.now.about.sizes.m stages.now }
+    requires some { 0 < memory.now.about.sizes.m }
+    requires room { length room.items ≡ memory.now.about.sizes.m }
+    ensures own { IsOf memory.now port.new }
+    ensures some { IfSome result (λ counts. Sees port.old stages.now counts.items port.new) }
+    ensures none { result ≡ None → NotesMore port.old port.new [] }
+{
+    match memory.scan(port, stages, room.as_mut_slice()) {
+        Ok(_scanned) => Some(room),
+        Err(_cause) => None,
+    }
+}
+
+impl Monitor {
+    /// A monitor of so many stages, with room for so many scans and for the last one.
+    pub fn new(
+        alloc: Global,
+        memory: &Memory,
+        port: Port,
+        stages: u32,
+        looks: usize,
+    ) -> Result<Monitor, AllocError>
+        requires new { IsNew memory.now stages port }
+        requires stages { stages ≡ memory.now.about.sizes.m }
+        ensures { IfOk result (IsWatching memory.now) }
+    {
+        let _of = memory;
+        Ok(Monitor {
+            port,
+            stages: numbers(alloc, stages)?,
+            rooms: rooms_for(alloc, stages, looks)?,
+            scans: Vec::with_capacity(alloc, looks)?,
+            room: vec![in alloc; 0; stages as usize]?,
+        })
+    }
+
+    /// Scans again and again, and hands each scan to the watch. It ends when there is no more room, when a
+    /// scan is refused, or with a scan that began when all stages had ended.
+    pub fn watch<V: Watch>(
+        mut self,
+        memory: &Memory,
+        ended: &[AtomicBool],
+        watch: &mut V,
+    ) -> Monitor
+        requires watching { IsWatching memory.now self }
+        requires some { 0 < memory.now.about.sizes.m }
+        ensures { IsWatching memory.now result }
+    {
+        while let Some(room) = self.rooms.pop() {
+            let are_over = ended.iter().all(|flag| flag.load(Ordering::SeqCst));
+            let Some(counts) = scan_into(memory, &mut self.port, &self.stages, room) else {
+                break;
+            };
+            watch.see(&counts);
+            self.scans.push_reserved(counts);
+            if are_over {
+                break;
+            }
+        }
+        self
+    }
+}

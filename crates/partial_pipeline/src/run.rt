@@ -1,0 +1,221 @@
+//! The pipeline: each stage in a thread of its own, and the monitor beside them.
+
+ghost use Rattle.std.specs.Prelude.{◌≡◌, ◌<◌, ◌≤◌, ◌+◌, [], length, IfOk, IfErr};
+ghost use Rattle.std.specs.Vec.{vec_capacity};
+ghost use Rattle.partial_pipeline.specs.Pipeline.{AreFrom, IsOrderly, MayNotRun};
+ghost use Rattle.partial_pipeline.specs.Stages.{HaveMet, IsDone, IsNew, IsOpened, IsStarted, IsWatching, IsWorking, Opens};
+
+use crate::error::PipelineError;
+use crate::monitor::{Monitor, scan_into};
+use crate::report::PipelineReport;
+use crate::stage::{Stage, StageEnd, Worked};
+use crate::work::{Watch, Work};
+use partial_memory::{Memory, Port};
+use partial_words::Sizes;
+use std::alloc::{AllocError, Global};
+use std::snapshot::Snapshot;
+use std::sync::Wait;
+use std::sync::atomic::AtomicBool;
+use std::thread;
+use std::thread::{Promise, PromisedHandle, Scope, Threads};
+
+// What a stage's thread promises of its port.
+#[derive(Drop)]
+struct Works {
+    memory: Snapshot<Memory>,
+    stage: u32,
+}
+
+impl Promise<Worked> for Works {
+    ghost use Rattle.partial_pipeline.specs.Stages.{IsDone};
+
+    ghost kept_by = { λ p w. IsDone p.memory.value p.stage w };
+}
+
+// The monitor, and the ports of stages that have ended, which have met it.
+#[derive(Drop)]
+struct Joined {
+    monitor: Monitor,
+    ports: Vec<Port>,
+    ends: Vec<StageEnd>,
+}
+
+// For each stage, that it hasn't ended.
+fn flags(alloc: Global, stages: usize) -> Result<Vec<AtomicBool>, AllocError> {
+    let mut ended = Vec::with_capacity(alloc, stages)?;
+    for _stage in 0..stages {
+        ended.push_reserved(AtomicBool::new(false));
+    }
+    Ok(ended)
+}
+
+// Starts the stages of these ports, each in a thread of its own.
+fn start<'s, 'e, W: Work>(
+    scope: &'s Scope<'s, &'e ()>,
+    memory: &'s Memory,
+    items: u64,
+    ended: &'s [AtomicBool],
+    work: &'s W,
+    ports: Vec<Port>,
+    mut started: Vec<PromisedHandle<Worked, Works>>,
+) -> Result<Vec<PromisedHandle<Worked, Works>>, AllocError>
+    requires new { AreFrom (IsNew memory.now) 0 ports.items }
+    requires room { (started.items ≡ []) × (length ports.items ≤ vec_capacity started) }
+    ensures started { IfOk result (λ handles. AreFrom (IsStarted memory.now) 0 handles.items) }
+    ensures count { IfOk result (λ handles. length handles.items ≡ length ports.items) }
+{
+    for port in ports {
+        let promise = Works {
+            memory: Snapshot::of(memory),
+            stage: port.number(),
+        };
+        let stage = Stage::new(memory, port, items);
+        let run = move || -> Worked
+            requires { IsWorking memory.now stage }
+            ensures { IsDone memory.entry.now stage.port.number result }
+        { stage.run(memory, items, ended, work) };
+        started.push_reserved(scope.spawn_with(promise, run)?);
+    }
+    Ok(started)
+}
+
+// Waits for the stages to end, in order. The port of each that has ended meets the monitor's.
+fn join<R: Threads>(
+    rt: &R,
+    memory: &Memory,
+    started: Vec<PromisedHandle<Worked, Works>>,
+    mut joined: Joined,
+) -> Joined
+    requires started { AreFrom (IsStarted memory.now) 0 started.items }
+    requires watching { IsWatching memory.now joined.monitor }
+    requires empty { (joined.ports.items ≡ []) × (joined.ends.items ≡ []) }
+    requires room { (length started.items ≤ vec_capacity joined.ports) × (length started.items ≤ vec_capacity joined.ends) }
+    ensures { HaveMet memory.now (length started.items) result }
+{
+    for handle in started {
+        let Worked { mut port, end } = handle.join(rt);
+        memory.meet(&mut joined.monitor.port, &mut port);
+        joined.ports.push_reserved(port);
+        joined.ends.push_reserved(end);
+    }
+    joined
+}
+
+// Scans once more, and closes the memory with all ports.
+fn close(alloc: Global, memory: Memory, joined: Joined) -> Result<PipelineReport, AllocError>
+    requires opens { Opens memory }
+    requires met { HaveMet memory memory.about.sizes.m joined }
+    ensures { IfOk result (IsOrderly memory.about.sizes.m) }
+{
+    let Joined {
+        monitor,
+        ports,
+        ends,
+    } = joined;
+    let Monitor {
+        mut port,
+        stages,
+        rooms: _,
+        scans,
+        room,
+    } = monitor;
+    let last = scan_into(&memory, &mut port, &stages, room);
+    let Ok(closed) = memory.close(alloc, port, ports) else {
+        return Err(AllocError);
+    };
+    Ok(PipelineReport {
+        scans,
+        last,
+        counts: closed.values,
+        ends,
+    })
+}
+
+// Runs the stages and the monitor on a memory that was opened for them, whose last port is the monitor's.
+fn run_on<R: Threads + Wait + Sync, W: Work, V: Watch>(
+    rt: &R,
+    alloc: Global,
+    memory: Memory,
+    mut ports: Vec<Port>,
+    items: u64,
+    looks: usize,
+    work: &W,
+    watch: &mut V,
+) -> Result<PipelineReport, AllocError>
+    requires { IsOpened memory ports.items }
+    ensures { IfOk result (IsOrderly memory.about.sizes.m) }
+{
+    let Some(port) = ports.pop() else {
+        unreachable!();
+    };
+    let stages = ports.len();
+    let monitor = Monitor::new(alloc, &memory, port, stages as u32, looks)?;
+    let ended = flags(alloc, stages)?;
+    let started = Vec::with_capacity(alloc, stages)?;
+    let mut joined = Joined {
+        monitor,
+        ports: Vec::with_capacity(alloc, stages)?,
+        ends: Vec::with_capacity(alloc, stages)?,
+    };
+    let lent = &memory;
+    let over = ended.as_slice();
+    let joined = thread::scope(
+        thread::scope_env(),
+        rt,
+        |scope| -> Result<Joined, AllocError>
+            requires new { AreFrom (IsNew lent.now) 0 ports.items }
+            requires some { (0 < lent.now.about.sizes.m) × (length ports.items ≡ lent.now.about.sizes.m) }
+            requires started { (started.items ≡ []) × (length ports.items ≤ vec_capacity started) }
+            requires watching { IsWatching lent.now joined.monitor }
+            requires empty { (joined.ports.items ≡ []) × (joined.ends.items ≡ []) }
+            requires ports { length ports.items ≤ vec_capacity joined.ports }
+            requires ends { length ports.items ≤ vec_capacity joined.ends }
+            ensures { IfOk result (HaveMet lent.entry.now lent.entry.now.about.sizes.m) }
+        {
+            let started = start(scope, lent, items, over, work, ports, started)?;
+            joined.monitor = joined.monitor.watch(lent, over, watch);
+            Ok(join(rt, lent, started, joined))
+        },
+    )?;
+    close(alloc, memory, joined)
+}
+
+/// Runs a pipeline of as many stages as `sizes` has components, each in a thread of its own, over a memory
+/// of these sizes. Component k holds the count of stage k: how many items it has worked on. The first stage
+/// works on the items 1 to `items`, and each further one on those that the stage before it has worked on; a
+/// stage publishes its count behind each item. Beside them, in the caller's thread, a monitor scans all
+/// counts up to `looks` times and hands each scan to the watch. It ends early once all stages have ended.
+///
+/// In each scan the count of each stage is at most that of the stage before it, and from one scan to the next
+/// no count falls. When all stages have ended their ports meet the monitor's, which scans once more, and the
+/// memory is closed with all ports. That last scan, unless it is refused, gives the very counts with which the
+/// memory is closed.
+///
+/// A stage whose update is refused, since the pool is spent, ends, and the stages behind it end when they have
+/// worked on what was left. All memory but that of closing is taken before the first thread starts.
+///
+/// # Errors
+///
+/// [`PipelineError::Ports`] exactly where there are more than 63 stages. Otherwise [`PipelineError::Memory`]
+/// where a growth was refused or a thread couldn't be started. It comes once all threads that were started
+/// have ended, and nothing is left of the pipeline.
+pub fn run_pipeline<R: Threads + Wait + Sync, W: Work, V: Watch>(
+    rt: &R,
+    alloc: Global,
+    sizes: Sizes,
+    items: u64,
+    looks: usize,
+    work: &W,
+    watch: &mut V,
+) -> Result<PipelineReport, PipelineError>
+    ensures ok { IfOk result (IsOrderly sizes.m) }
+    ensures many { IfOk result (λ _. sizes.m ≤ 63) }
+    ensures err { IfErr result (MayNotRun sizes.m) }
+{
+    if sizes.m() > 63 {
+        return Err(PipelineError::Ports);
+    }
+    let zeros = vec![in alloc; 0; sizes.m() as usize]?;
+    let (memory, ports) = Memory::open(alloc, sizes, &zeros, sizes.m() + 1)?;
+    Ok(run_on(rt, alloc, memory, ports, items, looks, work, watch)?)
+}

@@ -1,0 +1,153 @@
+//! One stage at work, in a thread of its own.
+
+ghost use Rattle.std.specs.Prelude.{◌≡◌, ◌+◌, ◌<◌};
+ghost use Rattle.partial_memory.specs.Ports.{IsOf};
+ghost use Rattle.partial_pipeline.specs.Stages.{IsDone, IsNew, IsWorking};
+
+use crate::work::Work;
+use partial_memory::{Memory, Port};
+use partial_model::Refused;
+use std::sync::atomic::{AtomicBool, Ordering};
+use std::thread;
+
+/// Why a stage ended.
+#[derive(Clone, Copy, Debug, PartialEq, Eq)]
+pub enum StageEnd {
+    /// It has worked on all items.
+    Finished,
+    /// The stage before it has ended, and it has worked on all that came from there.
+    Stopped,
+    /// Its update was refused, since the memory's pool is spent.
+    Refused,
+}
+
+/// A stage that has ended.
+#[derive(Drop)]
+pub struct Worked {
+    pub port: Port,
+    pub end: StageEnd,
+}
+
+/// A stage: its port, how far it has read that the stage before it has come, and how far it has come.
+#[derive(Drop)]
+pub struct Stage {
+    pub port: Port,
+    pub seen: u64,
+    pub count: u64,
+}
+
+impl Stage {
+    /// A stage at its begin. All items lie before the first one.
+    pub fn new(memory: &Memory, port: Port, items: u64) -> Stage
+        requires { IsNew memory.now port.number port }
+        ensures working { IsWorking memory.now result }
+        ensures number { result.port.number ≡ port.number }
+    {
+        let _of = memory;
+        let seen = if port.number() == 0 { items } else { 0 };
+        Stage {
+            port,
+            seen,
+            count: 0,
+        }
+    }
+
+    /// Works on all items, as far as they come from the stage before, and says that it has ended.
+    pub fn run<W: Work>(
+        mut self,
+        memory: &Memory,
+        items: u64,
+        ended: &[AtomicBool],
+        work: &W,
+    ) -> Worked
+        requires { IsWorking memory.now self }
+        ensures { IsDone memory.now self.port.number result }
+    {
+        let mut end = StageEnd::Stopped;
+        for _turn in 0..u64::MAX {
+            if let Some(reason) = self.turn(memory, items, ended, work) {
+                end = reason;
+                break;
+            }
+        }
+        if let Some(flag) = ended.get(self.port.number() as usize) {
+            flag.store(true, Ordering::SeqCst);
+        }
+        Worked {
+            port: self.port,
+            end,
+        }
+    }
+
+    // One turn: the next item, or a look at the stage before where there is none. Why the stage ends, if it
+    // does.
+    fn turn<W: Work>(
+        &mut self,
+        memory: &Memory,
+        items: u64,
+        ended: &[AtomicBool],
+        work: &W,
+    ) -> Option<StageEnd>
+        requires { IsWorking memory.now self.old }
+        ensures working { IsWorking memory.now self.new }
+        ensures number { self.new.port.number ≡ self.old.port.number }
+    {
+        if self.count >= items {
+            return Some(StageEnd::Finished);
+        }
+        if self.count < self.seen {
+            return match self.advance(memory, work) {
+                Ok(()) => None,
+                Err(_cause) => Some(StageEnd::Refused),
+            };
+        }
+        let Some(before) = self.port.number().checked_sub(1) else {
+            return Some(StageEnd::Finished);
+        };
+        let is_over = has_ended(ended, before);
+        self.look(memory, before);
+        if self.count < self.seen {
+            return None;
+        }
+        if is_over {
+            return Some(StageEnd::Stopped);
+        }
+        thread::yield_now();
+        None
+    }
+
+    // Works on the next item, and publishes the count then.
+    fn advance<W: Work>(&mut self, memory: &Memory, work: &W) -> Result<(), Refused>
+        requires working { IsWorking memory.now self.old }
+        requires next { self.old.count < self.old.seen }
+        ensures working { IsWorking memory.now self.new }
+        ensures number { self.new.port.number ≡ self.old.port.number }
+    {
+        let stage = self.port.number();
+        let next = self.count + 1;
+        work.work(stage, next);
+        memory.update(&mut self.port, stage, next)?;
+        self.count = next;
+        Ok(())
+    }
+
+    // Reads how far the stage before has come.
+    fn look(&mut self, memory: &Memory, before: u32)
+        requires working { IsWorking memory.now self.old }
+        requires before { self.old.port.number ≡ before + 1 }
+        ensures working { IsWorking memory.now self.new }
+        ensures number { self.new.port.number ≡ self.old.port.number }
+    {
+        if let Ok((count, _stamp)) = memory.read(&mut self.port, before) {
+            self.seen = count;
+        }
+    }
+}
+
+/// Whether that stage has said that it has ended.
+pub fn has_ended(ended: &[AtomicBool], stage: u32) -> bool {
+    match ended.get(stage as usize) {
+        Some(flag) => flag.load(Ordering::SeqCst),
+        None => false,
+    }
+}

@@ -1,0 +1,54 @@
+//! The program `pipeline`: a pipeline of stages runs in threads, and its counts are shown as it goes.
+#![tactic(auto)]
+
+mod request;
+mod screen;
+mod stop;
+
+use partial_pipeline::{NoWork, PipelineReport, StageEnd, run_pipeline};
+use request::{Request, request_of};
+use screen::Screen;
+use std::env;
+use std::env::Env;
+use std::io::IsTerminal;
+use std::process::ExitCode;
+use std::sync::Wait;
+use std::thread::Threads;
+use std::time::Clock;
+use stop::Stop;
+
+fn main(rt: HostRuntime) -> ExitCode {
+    let has_bars = rt.stdout().is_terminal();
+    match run(&rt, has_bars) {
+        Ok(()) => ExitCode::SUCCESS,
+        Err(stop) => {
+            let _unwritten = eprintln!(rt; "pipeline: {stop}");
+            ExitCode::from(stop.status())
+        }
+    }
+}
+
+/// Runs the pipeline that the program's words ask for, and writes its counts.
+fn run<R: Env + Clock + Print + AllocGlobal + Threads + Wait + Sync>(
+    rt: &R,
+    has_bars: bool,
+) -> Result<(), Stop> {
+    let words: Vec<String> = env::args(rt)?.collect(rt.alloc())?;
+    let Request {
+        sizes,
+        items,
+        looks,
+    } = request_of(rt.alloc(), &words)?;
+    let mut screen = Screen::new(rt, has_bars, items);
+    let report = run_pipeline(rt, rt.alloc(), sizes, items, looks, &NoWork, &mut screen)?;
+    screen.end(&report.counts)?;
+    judge(&report)
+}
+
+/// A stage that didn't come to the last item was ended by a spent pool, its own or one before it.
+fn judge(report: &PipelineReport) -> Result<(), Stop> {
+    match report.ends.iter().all(|end| *end == StageEnd::Finished) {
+        true => Ok(()),
+        false => Err(Stop::PoolSpent),
+    }
+}

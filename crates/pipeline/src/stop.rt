@@ -1,0 +1,72 @@
+//! Why the program ends before its pipeline has worked on all items.
+
+use clap::Error;
+use clap::error::ErrorKind;
+use partial_pipeline::PipelineError;
+use std::alloc::AllocError;
+use std::{fmt, io};
+
+/// Why the program ends before its pipeline has worked on all items.
+#[derive(Debug, Drop)]
+pub enum Stop {
+    /// The words aren't those of the program, or ask for help.
+    Usage,
+    /// The pipeline didn't run.
+    Refused(PipelineError),
+    /// The memory had no room for more counts. The last line is written.
+    PoolSpent,
+    /// A line couldn't be written.
+    Write,
+}
+
+impl Stop {
+    /// The exit status.
+    pub fn status(&self) -> u8 {
+        match self {
+            Stop::Usage => 2,
+            Stop::Refused(_) | Stop::PoolSpent | Stop::Write => 1,
+        }
+    }
+}
+
+impl fmt::Display for Stop {
+    fn fmt<W: fmt::Write>(&self, f: &mut fmt::Formatter<W>) -> fmt::Result {
+        match self {
+            Stop::Usage => write!(f, "usage"),
+            Stop::Refused(error) => write!(f, "refused {}: {error}", error.code()),
+            Stop::PoolSpent => write!(f, "pool spent"),
+            Stop::Write => write!(f, "not written"),
+        }
+    }
+}
+
+impl From<PipelineError> for Stop {
+    fn from(error: PipelineError) -> Stop {
+        Stop::Refused(error)
+    }
+}
+
+impl From<AllocError> for Stop {
+    fn from(_error: AllocError) -> Stop {
+        Stop::Refused(PipelineError::Memory)
+    }
+}
+
+// The words that can't be had are those that aren't text.
+impl From<io::Error> for Stop {
+    fn from(error: io::Error) -> Stop {
+        match error.kind() {
+            io::ErrorKind::OutOfMemory => Stop::Refused(PipelineError::Memory),
+            _ => Stop::Usage,
+        }
+    }
+}
+
+impl From<Error> for Stop {
+    fn from(error: Error) -> Stop {
+        match error.kind() {
+            ErrorKind::OutOfMemory => Stop::Refused(PipelineError::Memory),
+            _ => Stop::Usage,
+        }
+    }
+}

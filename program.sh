@@ -1,0 +1,26 @@
+# For the scripts ./partial and ./pipeline, which set `top` to this folder, `name` to the program's name, and
+# define `build_unproved`.
+
+. "$top/fresh.sh" || exit 2
+out=$top/crates/$name/out
+
+# keep_unproved ROOM: keeps the program that `rt try` has built in this room and runs now. Sources that are
+# newer than the room's file `start` are newer than what is kept.
+keep_unproved() {
+    local built
+    built=$(find "$1" -type f -name program -perm -u+x -print -quit)
+    [ -n "$built" ] || return 1
+    cp "$built" "$1/kept" && touch -r "$1/start" "$1/kept" && mv "$1/kept" "$out/${name}_unproved"
+}
+
+# run_program WORD..: runs the proved program that an earlier build left, where no source is newer. Without one
+# it runs a program that is built from the sources with no proof, says so on standard error, and keeps it for
+# later runs.
+run_program() {
+    if is_fresh "$out/$name"; then
+        exec "$out/$name" "$@"
+    fi
+    echo "This run is of the sources, with no proof: no proved program is there." >&2
+    is_fresh "$out/${name}_unproved" || build_unproved || exit 2
+    exec "$out/${name}_unproved" "$@"
+}
