@@ -69,6 +69,7 @@ refuse_all partial_machine '.*'
 refuse_all partial_places '.*'
 refuse_all partial_text 'tests::growths::.*'
 refuse_all partial_replay 'tests::growths::.*'
+refuse_all partial_rounds 'tests::growths::.*'
 refuse_all partial_cmd 'tests::growths::.*'
 refuse_all partial_memory 'tests::growths::.*'
 

@@ -1,6 +1,8 @@
 -- Two lists whose elements at each place belong together.
 use Rattle.std.proofs.Common.{ℕ, zero, suc, ◌≡◌, ◌+◌, ◌<◌, ◌++◌, List, [], ◌∷◌, length, map, take, get_or, refl, sym, ap, subst, ◌∙◌, arith}
+use Rattle.std.specs.List.{AllByRecursion}
 use Rattle.std.proofs.Math.Seq.{take-suc}
+use Rattle.partial_model.proofs.AllLemmas.{all_append}
 use Rattle.std.proofs.lemmas.List.{length-take-le}
 use Rattle.partial_workers.specs.Answered.{AreEach}
 
@@ -54,6 +56,13 @@ each_some P k zero (a ∷ xs) (b ∷ ys) y w within is = (a, subst (λ i. P i a 
 each_some P k (suc n) (a ∷ xs) (b ∷ ys) y w within is =
     let rest = each_some P (k + 1) n xs ys y w.1 (omega (arith, within)) is in
     (rest.0, subst (λ i. P i rest.0 y) (omega arith) rest.1)
+
+-- what holds of the elements so far and of the next one
+pub all_next : {A : Type 0} (P : A → Type 0) (k next : ℕ) (xs : List A) (x : A) → k < length xs → x ≡ get_or xs k x → next ≡ k + 1 → AllByRecursion P (take k xs) → P x → AllByRecursion P (take next xs)
+all_next {A} P k next xs x within at is had new =
+    let one : next ≡ suc k = is ∙ omega arith in
+    let taken : take next xs ≡ take k xs ++ x ∷ [] = ap (λ i. take i xs) one ∙ take-suc xs k x within ∙ ap (λ (v : A). take k xs ++ v ∷ []) (sym at) in
+    subst (AllByRecursion P) (sym taken) (all_append P (take k xs) (x ∷ []) had (new, tt))
 
 -- what stands at a place of a list, seen by a function
 pub map_at : {A B : Type 0} (f : A → B) (n : ℕ) (xs : List A) (x : A) → n < length xs → x ≡ get_or xs n x → f x ≡ get_or (map f xs) n (f x)

@@ -1,0 +1,11 @@
+//! Components whose values outlive each opening of their memory: calls run over as many openings as it takes.
+#![tactic(auto)]
+
+mod error;
+mod progress;
+mod rounds;
+#[cfg(test)]
+mod tests;
+
+pub use error::RoundsError;
+pub use rounds::{Round, Rounds, RoundsReport};

@@ -1,0 +1,9 @@
+use Rattle.std.proofs.Common.{take}
+use Rattle.partial_workers.specs.Answered.{AreMakable}
+use Rattle.partial_workers.proofs.makable.are_makable.Given as goal
+
+-- the ports so far
+abbrev pub invariant-loop-calls : goal.invariant-loop-calls
+invariant-loop-calls l = record {
+  makable : AreMakable l.m (take l.calls-index l.ports);
+}

@@ -1,0 +1,10 @@
+use Rattle.std.proofs.Common.{take}
+use Rattle.std.specs.List.{AllByRecursion}
+use Rattle.partial_workers.specs.Answered.{IsWithin}
+use Rattle.partial_workers.proofs.makable.are_within.Given as goal
+
+-- the calls so far
+abbrev pub invariant-loop-call : goal.invariant-loop-call
+invariant-loop-call l = record {
+  within : AllByRecursion (IsWithin l.m) (take l.call-index l.calls);
+}
