@@ -63,7 +63,8 @@ head_rises : (p : ℕ) (x : Applied) (b : Bool) (a : ℕ) (es : List Applied) �
 head_rises p x true a es is w = w.1
 head_rises p x false a es is w = absurd cc
 
-risen : (p d k : ℕ) (h : List Applied) (found : Option Applied) (e : Applied) → ((i : ℕ) (x : Applied) → slice_get h i ≡ Some x → x.component ≡ x.port) → Rising p (held d found) (entries_by p h) → slice_get h k ≡ Some e → e.port ≡ p → held d (last_from found p (take k h)) ≤ e.value
+risen : (p d k : ℕ) (h : List Applied) (found : Option Applied) (e : Applied) → ((i : ℕ) (x : Applied) → slice_get h i ≡ Some x → x.component ≡ x.port) → Rising p (held d found) (entries_by p h) →
+    slice_get h k ≡ Some e → e.port ≡ p → held d (last_from found p (take k h)) ≤ e.value
 unfolding last_from
 risen p d k [] found e kinds w s by = let bad : None ≡ Some e = s in cc
 risen p d zero (x ∷ h) found e kinds w s by =
@@ -99,7 +100,8 @@ Reached o h j seen n a = AllByRecursion (IsReached o h j) (wrote n) × HasRead o
 one_of : (f : Option Applied) (x y : Applied) → f ≡ Some x → f ≡ Some y → x ≡ y
 one_of f x y a b = cc
 
-set_reached : (o : Opening) (h : List Applied) (k j seen a v : ℕ) (x : Answer) (n : Option Note) → v ≤ a → HasRead o h j seen a → IsLegal o h k seen (record { call = call.Update k v; answer = x; note = n }) → Reached o h j seen n a
+set_reached : (o : Opening) (h : List Applied) (k j seen a v : ℕ) (x : Answer) (n : Option Note) → v ≤ a → HasRead o h j seen a →
+    IsLegal o h k seen (record { call = call.Update k v; answer = x; note = n }) → Reached o h j seen n a
 set_reached o h k j seen a v (answer.Applied s) (Some (note.Wrote i)) le r w =
     let before : seen ≤ i = w.1.1 in
     let at = w.1.0 in (
@@ -124,17 +126,21 @@ read_reached o h k j seen x s _ w = absurd w.0
 before_is : (k i j : ℕ) → k ≡ i + 1 → k ≡ j + 1 → i ≡ j
 before_is k i j a b = omega arith
 
-reached : (o : Opening) (h : List Applied) (k j seen r c : ℕ) (ns : List Noted) (r' c' : ℕ) → k ≡ j + 1 → LegalNotes o h k seen ns → Works k r c ns r' c' → HasRead o h j seen r → AllByRecursion (IsReached o h j) (places_written ns)
+reached : (o : Opening) (h : List Applied) (k j seen r c : ℕ) (ns : List Noted) (r' c' : ℕ) → k ≡ j + 1 → LegalNotes o h k seen ns → Works k r c ns r' c' → HasRead o h j seen r →
+    AllByRecursion (IsReached o h j) (places_written ns)
 reached o h k j seen r c [] r' c' is legal w had = tt
 reached o h k j seen r c (n ∷ ns) r' c' is legal w had =
     elim w [
       | inl t ↦
           let read : n.call ≡ call.Read j = t.4 ∙ ap call.Read (before_is k t.0 j t.3 is) in
-          let one : IsLegal o h k seen (record { call = call.Read j; answer = answer.Read t.1 t.2; note = n.note }) = subst (λ (y : Answer). IsLegal o h k seen (record { call = call.Read j; answer = y; note = n.note })) t.5 (subst (λ (y : Call). IsLegal o h k seen (record { call = y; answer = n.answer; note = n.note })) read legal.0) in
+          let one : IsLegal o h k seen (record { call = call.Read j; answer = answer.Read t.1 t.2; note = n.note }) =
+          subst (λ (y : Answer). IsLegal o h k seen (record { call = call.Read j; answer = y; note = n.note })) t.5
+          (subst (λ (y : Call). IsLegal o h k seen (record { call = y; answer = n.answer; note = n.note })) read legal.0) in
           let got = read_reached o h k j seen t.1 t.2 n.note one in
           all_append (IsReached o h j) (wrote n.note) (places_written ns) got.0 (reached o h k j (seen_after seen n.note) t.1 c ns r' c' is legal.1 t.6 got.1)
       | inr t ↦
-          let one : IsLegal o h k seen (record { call = call.Update k t.0; answer = n.answer; note = n.note }) = subst (λ (y : Call). IsLegal o h k seen (record { call = y; answer = n.answer; note = n.note })) t.1 legal.0 in
+          let one : IsLegal o h k seen (record { call = call.Update k t.0; answer = n.answer; note = n.note }) =
+          subst (λ (y : Call). IsLegal o h k seen (record { call = y; answer = n.answer; note = n.note })) t.1 legal.0 in
           let got = set_reached o h k j seen r t.0 n.answer n.note t.3 had one in
           all_append (IsReached o h j) (wrote n.note) (places_written ns) got.0 (reached o h k j (seen_after seen n.note) r t.0 ns r' c' is legal.1 t.4 got.1)
     ]

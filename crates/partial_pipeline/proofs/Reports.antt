@@ -93,16 +93,21 @@ scan_counts o h n at stages s all is =
     }
 
 -- a scan that was noted saw the counts behind some entries, at least as many as had been seen before
-scan_saw : (o : Opening) (h : List Applied) (p n seen : ℕ) (stages s : List ℕ) (c : ℕ) (b : Option ℕ) (t : Option Note) → IsEachStage n stages → IsLegal o h p seen (record { call = call.Scan stages; answer = answer.Scanned s c b; note = t }) → (at : ℕ) × (seen ≤ at) × (at ≤ length h) × AreCounts o h n at s × (seen_after seen t ≡ at) × (wrote t ≡ [])
+scan_saw : (o : Opening) (h : List Applied) (p n seen : ℕ) (stages s : List ℕ) (c : ℕ) (b : Option ℕ) (t : Option Note) → IsEachStage n stages →
+    IsLegal o h p seen (record { call = call.Scan stages; answer = answer.Scanned s c b; note = t }) → (at : ℕ) × (seen ≤ at) × (at ≤ length h) × AreCounts o h n at s ×
+    (seen_after seen t ≡ at) × (wrote t ≡ [])
 scan_saw o h p n seen stages s c b (Some (note.Saw at)) all w =
     (at, w.1.1, w.1.0.within, scan_counts o h n at stages s all w.1.0.values, refl, refl)
 scan_saw o h p n seen stages s c b _ all w = absurd w.0
 
-scan_legal : (o : Opening) (h : List Applied) (p seen : ℕ) (n : Noted) (stages s : List ℕ) (c : ℕ) (b : Option ℕ) → n.call ≡ call.Scan stages → n.answer ≡ answer.Scanned s c b → IsLegal o h p seen n → IsLegal o h p seen (record { call = call.Scan stages; answer = answer.Scanned s c b; note = n.note })
+scan_legal : (o : Opening) (h : List Applied) (p seen : ℕ) (n : Noted) (stages s : List ℕ) (c : ℕ) (b : Option ℕ) → n.call ≡ call.Scan stages → n.answer ≡ answer.Scanned s c b →
+    IsLegal o h p seen n → IsLegal o h p seen (record { call = call.Scan stages; answer = answer.Scanned s c b; note = n.note })
 scan_legal o h p seen n stages s c b is ans w =
-    subst (λ (y : Answer). IsLegal o h p seen (record { call = call.Scan stages; answer = y; note = n.note })) ans (subst (λ (y : Call). IsLegal o h p seen (record { call = y; answer = n.answer; note = n.note })) is w)
+    subst (λ (y : Answer). IsLegal o h p seen (record { call = call.Scan stages; answer = y; note = n.note })) ans
+    (subst (λ (y : Call). IsLegal o h p seen (record { call = y; answer = n.answer; note = n.note })) is w)
 
-watched_saw : (o : Opening) (h : List Applied) (p n seen : ℕ) (stages : List ℕ) (ns : List Noted) (ss : List (List ℕ)) → IsEachStage n stages → Watched stages ns ss → LegalNotes o h p seen ns → Saw o h n seen ss
+watched_saw : (o : Opening) (h : List Applied) (p n seen : ℕ) (stages : List ℕ) (ns : List Noted) (ss : List (List ℕ)) → IsEachStage n stages → Watched stages ns ss →
+    LegalNotes o h p seen ns → Saw o h n seen ss
 watched_saw o h p n seen stages [] [] all w legal = tt
 watched_saw o h p n seen stages [] (s ∷ ss) all w legal = absurd w
 watched_saw o h p n seen stages (x ∷ ns) [] all w legal = absurd w
@@ -111,7 +116,8 @@ watched_saw o h p n seen stages (x ∷ ns) (s ∷ ss) all w legal =
     (got.0, got.1, got.2, got.3, watched_saw o h p n got.0 stages ns ss all w.4 (subst (λ k. LegalNotes o h p k ns) got.4 legal.1))
 
 -- scans write nothing
-watched_none : (o : Opening) (h : List Applied) (p n seen : ℕ) (stages : List ℕ) (ns : List Noted) (ss : List (List ℕ)) → IsEachStage n stages → Watched stages ns ss → LegalNotes o h p seen ns → places_written ns ≡ []
+watched_none : (o : Opening) (h : List Applied) (p n seen : ℕ) (stages : List ℕ) (ns : List Noted) (ss : List (List ℕ)) → IsEachStage n stages → Watched stages ns ss →
+    LegalNotes o h p seen ns → places_written ns ≡ []
 watched_none o h p n seen stages [] [] all w legal = refl
 watched_none o h p n seen stages [] (s ∷ ss) all w legal = absurd w
 watched_none o h p n seen stages (x ∷ ns) [] all w legal = absurd w
@@ -136,7 +142,8 @@ abbrev pub LastSees : PortView → List ℕ → PortView → Option (Vec ℕ Glo
 LastSees p stages q None = NotesMore p q []
 LastSees p stages q (Some counts) = Sees p stages counts.items q
 
-pub last_sees : (p q : PortView) (stages : List ℕ) (last : Option (Vec ℕ Global)) → IfSome last (λ (v : Vec ℕ Global). Sees p stages v.items q) → (last ≡ None → NotesMore p q []) → LastSees p stages q last
+pub last_sees : (p q : PortView) (stages : List ℕ) (last : Option (Vec ℕ Global)) → IfSome last (λ (v : Vec ℕ Global). Sees p stages v.items q) → (last ≡ None → NotesMore p q []) →
+    LastSees p stages q last
 last_sees p q stages None some none = none refl
 last_sees p q stages (Some v) some none = some
 
@@ -145,7 +152,8 @@ last_number p q stages None w = w.number
 last_number p q stages (Some v) w = w.goes.number
 
 -- the scans with the last one
-last_watched : (p q : PortView) (stages : List ℕ) (ss : List (List ℕ)) (last : Option (Vec ℕ Global)) → Watched stages p.notes ss → LastSees p stages q last → Watched stages q.notes (ss ++ last_of last)
+last_watched : (p q : PortView) (stages : List ℕ) (ss : List (List ℕ)) (last : Option (Vec ℕ Global)) → Watched stages p.notes ss → LastSees p stages q last →
+    Watched stages q.notes (ss ++ last_of last)
 last_watched p q stages ss None w s =
     subst (Watched stages q.notes) (sym (append_nil ss)) (subst (λ ns. Watched stages ns ss) (sym (s.notes ∙ append_nil p.notes)) w)
   where
@@ -163,12 +171,14 @@ stage_in m log seen k p met told =
       worked = met.worked;
     }
 
-stages_in : (m : MemoryView) (log : List Applied) (seen k : ℕ) (ports : List PortView) → AreFrom (HasMet m seen) k ports → AllByRecursion (IsPortOf log) ports → AreFrom (IsStageIn m.about.opening log) k (map (λ (p : PortView). p.notes) ports)
+stages_in : (m : MemoryView) (log : List Applied) (seen k : ℕ) (ports : List PortView) → AreFrom (HasMet m seen) k ports → AllByRecursion (IsPortOf log) ports →
+    AreFrom (IsStageIn m.about.opening log) k (map (λ (p : PortView). p.notes) ports)
 stages_in m log seen k [] w told = tt
 stages_in m log seen k (p ∷ ports) w told = (stage_in m log seen k p w.0 told.0, stages_in m log seen (k + 1) ports w.1 told.1)
 
 -- each stage's entries lie within what the monitor had seen
-stages_within : (m : MemoryView) (log : List Applied) (seen k : ℕ) (ports : List PortView) (i : ℕ) (e : Applied) → AreFrom (HasMet m seen) k ports → AllByRecursion (IsPortOf log) ports → slice_get log i ≡ Some e → k ≤ e.port → e.port < k + length ports → i < seen
+stages_within : (m : MemoryView) (log : List Applied) (seen k : ℕ) (ports : List PortView) (i : ℕ) (e : Applied) → AreFrom (HasMet m seen) k ports → AllByRecursion (IsPortOf log) ports →
+    slice_get log i ≡ Some e → k ≤ e.port → e.port < k + length ports → i < seen
 stages_within m log seen k [] i e w told s from below = absurd (omega arith)
 stages_within m log seen k (p ∷ ports) i e w told s from below = elim (cases_lt k e.port) [
   | inl later ↦ stages_within m log seen (k + 1) ports i e w.1 told.1 s (omega arith) (omega arith)
@@ -178,7 +188,9 @@ stages_within m log seen k (p ∷ ports) i e w told s from below = elim (cases_l
 ]
 
 -- what is known of a closed pipeline
-module _ (m : MemoryView) (p q : PortView) (ports : List PortView) (stages : List ℕ) (scans : Vec (Vec ℕ Global) Global) (last : Option (Vec ℕ Global)) (closed : Closed) (opens : Opens m) (met : AreFrom (HasMet m (length p.seen)) 0 ports) (count : length ports ≡ m.about.sizes.m) (own : IsOf m q) (number : q.number ≡ m.about.sizes.m) (all : IsEachStage m.about.sizes.m stages) (watched : Watched stages p.notes (map (λ (v : Vec ℕ Global). v.items) scans.items)) (sees : LastSees p stages q last) (closes : Closes m (q ∷ ports) closed) where
+module _ (m : MemoryView) (p q : PortView) (ports : List PortView) (stages : List ℕ) (scans : Vec (Vec ℕ Global) Global) (last : Option (Vec ℕ Global)) (closed : Closed) (opens : Opens m)
+    (met : AreFrom (HasMet m (length p.seen)) 0 ports) (count : length ports ≡ m.about.sizes.m) (own : IsOf m q) (number : q.number ≡ m.about.sizes.m) (all : IsEachStage m.about.sizes.m stages)
+    (watched : Watched stages p.notes (map (λ (v : Vec ℕ Global). v.items) scans.items)) (sees : LastSees p stages q last) (closes : Closes m (q ∷ ports) closed) where
   abbrev o : Opening
   o = m.about.opening
 
@@ -246,21 +258,28 @@ module _ (m : MemoryView) (p q : PortView) (ports : List PortView) (stages : Lis
       same_counts o log m.about.sizes.m (length log) counts.items closed.values.items (subst (λ i. AreCounts o log m.about.sizes.m i counts.items) end got.3) closed_counts
 
   saw : Saw o log m.about.sizes.m 0 ((ss ++ last_of last) ++ closed.values.items ∷ [])
-  saw = saw_push o log m.about.sizes.m 0 (ss ++ last_of last) closed.values.items (omega arith) (watched_saw o log m.about.sizes.m m.about.sizes.m 0 stages q.notes (ss ++ last_of last) all all_watched legal) closed_counts
+  saw = saw_push o log m.about.sizes.m 0 (ss ++ last_of last) closed.values.items (omega arith)
+      (watched_saw o log m.about.sizes.m m.about.sizes.m 0 stages q.notes (ss ++ last_of last) all all_watched legal) closed_counts
 
-last_is : (p q : PortView) (stages counts : List ℕ) (last : Option (Vec ℕ Global)) → ((v : Vec ℕ Global) → Sees p stages v.items q → v.items ≡ counts) → LastSees p stages q last → IfSome last (λ v. v.items ≡ counts)
+last_is : (p q : PortView) (stages counts : List ℕ) (last : Option (Vec ℕ Global)) → ((v : Vec ℕ Global) → Sees p stages v.items q → v.items ≡ counts) → LastSees p stages q last →
+    IfSome last (λ v. v.items ≡ counts)
 last_is p q stages counts None f w = tt
 last_is p q stages counts (Some v) f w = f v w
 
-pub orderly : (m : MemoryView) (p q : PortView) (ports : List PortView) (stages : List ℕ) (scans : Vec (Vec ℕ Global) Global) (last : Option (Vec ℕ Global)) (closed : Closed) (ends : Vec StageEnd Global) → Opens m → AreFrom (HasMet m (length p.seen)) 0 ports → length ports ≡ m.about.sizes.m → IsOf m q → q.number ≡ m.about.sizes.m → IsEachStage m.about.sizes.m stages → Watched stages p.notes (map (λ (v : Vec ℕ Global). v.items) scans.items) → LastSees p stages q last → Closes m (q ∷ ports) closed → IsOrderly m.about.sizes.m (record { scans = scans; last = last; counts = closed.values; ends = ends })
+pub orderly : (m : MemoryView) (p q : PortView) (ports : List PortView) (stages : List ℕ) (scans : Vec (Vec ℕ Global) Global) (last : Option (Vec ℕ Global)) (closed : Closed)
+    (ends : Vec StageEnd Global) → Opens m → AreFrom (HasMet m (length p.seen)) 0 ports → length ports ≡ m.about.sizes.m → IsOf m q → q.number ≡ m.about.sizes.m → IsEachStage m.about.sizes.m stages →
+    Watched stages p.notes (map (λ (v : Vec ℕ Global). v.items) scans.items) → LastSees p stages q last → Closes m (q ∷ ports) closed →
+    IsOrderly m.about.sizes.m (record { scans = scans; last = last; counts = closed.values; ends = ends })
 orderly m p q ports stages scans last closed ends opens met count own number all watched sees closes =
     let o = m.about.opening in
     let log = closes.log in
-    let seen : Saw o log m.about.sizes.m 0 ((map (λ (v : Vec ℕ Global). v.items) scans.items ++ last_of last) ++ closed.values.items ∷ []) = saw m p q ports stages scans last closed opens met count own number all watched sees closes in
+    let seen : Saw o log m.about.sizes.m 0 ((map (λ (v : Vec ℕ Global). v.items) scans.items ++ last_of last) ++ closed.values.items ∷ []) =
+    saw m p q ports stages scans last closed opens met count own number all watched sees closes in
     let line = pipeline m p q ports stages scans last closed opens met count own number all watched sees closes in
     let notes : List (List Noted) = map (λ (x : PortView). x.notes) ports in
     let many : m.about.sizes.m ≡ length notes = sym (length-map ports (λ (x : PortView). x.notes) ∙ count) in
-    let here : Saw o log (length notes) 0 ((map (λ (v : Vec ℕ Global). v.items) scans.items ++ last_of last) ++ closed.values.items ∷ []) = subst (λ n. Saw o log n 0 ((map (λ (v : Vec ℕ Global). v.items) scans.items ++ last_of last) ++ closed.values.items ∷ [])) many seen in
+    let here : Saw o log (length notes) 0 ((map (λ (v : Vec ℕ Global). v.items) scans.items ++ last_of last) ++ closed.values.items ∷ []) =
+    subst (λ n. Saw o log n 0 ((map (λ (v : Vec ℕ Global). v.items) scans.items ++ last_of last) ++ closed.values.items ∷ [])) many seen in
     record {
       each = saw_many o log m.about.sizes.m 0 ((map (λ (v : Vec ℕ Global). v.items) scans.items ++ last_of last) ++ closed.values.items ∷ []) seen;
       ordered = saw_ordered o log notes line 0 ((map (λ (v : Vec ℕ Global). v.items) scans.items ++ last_of last) ++ closed.values.items ∷ []) here;

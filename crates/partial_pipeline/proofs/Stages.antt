@@ -61,11 +61,13 @@ works_on m x q w own n =
       works = none_more (λ ns. Works q.number w.from 0 ns x.seen x.count) x.port q n (subst (λ i. Works i w.from 0 x.port.notes x.seen x.count) (sym n.number) w.works);
     }
 
-pub works_refused : (m : MemoryView) (x : Stage) (q : PortView) (c : Call) (cause : Refused) → IsWorking m x → IsOf m q → IsRefused x.port c cause q → IsWorking m (record { port = q; seen = x.seen; count = x.count })
+pub works_refused : (m : MemoryView) (x : Stage) (q : PortView) (c : Call) (cause : Refused) → IsWorking m x → IsOf m q → IsRefused x.port c cause q →
+    IsWorking m (record { port = q; seen = x.seen; count = x.count })
 works_refused m x q c cause w own refused = works_on m x q w own (calls_note_once.refused x.port q c cause refused)
 
 -- a stage that has read the count of the stage before
-pub works_look : (m : MemoryView) (x : Stage) (q : PortView) (j v s : ℕ) → IsWorking m x → IsOf m q → x.port.number ≡ j + 1 → Reads x.port j v s q → IsWorking m (record { port = q; seen = v; count = x.count })
+pub works_look : (m : MemoryView) (x : Stage) (q : PortView) (j v s : ℕ) → IsWorking m x → IsOf m q → x.port.number ≡ j + 1 → Reads x.port j v s q →
+    IsWorking m (record { port = q; seen = v; count = x.count })
 works_look m x q j v s w own is reads =
     let n = calls_note_once.read x.port q j v s reads in
     let before : Works q.number w.from 0 x.port.notes x.seen x.count = subst (λ i. Works i w.from 0 x.port.notes x.seen x.count) (sym n.1.number) w.works in
@@ -78,7 +80,8 @@ works_look m x q j v s w own is reads =
     }
 
 -- a stage that has set its count to the next number
-pub works_advance : (m : MemoryView) (x : Stage) (q : PortView) (v : ℕ) (u : Updated) → IsWorking m x → IsOf m q → x.count ≤ v → v ≤ x.seen → Updates x.port x.port.number v u q → IsWorking m (record { port = q; seen = x.seen; count = v })
+pub works_advance : (m : MemoryView) (x : Stage) (q : PortView) (v : ℕ) (u : Updated) → IsWorking m x → IsOf m q → x.count ≤ v → v ≤ x.seen → Updates x.port x.port.number v u q →
+    IsWorking m (record { port = q; seen = x.seen; count = v })
 works_advance m x q v u w own more most updates =
     let n = calls_note_once.update x.port q x.port.number v u updates in
     let noted : Noted = record { call = call.Update x.port.number v; answer = noted_update u; note = Some n.0 } in
@@ -115,7 +118,8 @@ done_alike m v k i w done memory number = subst (λ (x : MemoryView). IsDone x i
 
 -- ---- the notes of the monitor
 
-pub watched_push : (stages : List ℕ) (ns : List Noted) (ss : List (List ℕ)) (n : Noted) (counts : List ℕ) (c : ℕ) (b : Option ℕ) → Watched stages ns ss → n.call ≡ call.Scan stages → n.answer ≡ answer.Scanned counts c b → Watched stages (ns ++ n ∷ []) (ss ++ counts ∷ [])
+pub watched_push : (stages : List ℕ) (ns : List Noted) (ss : List (List ℕ)) (n : Noted) (counts : List ℕ) (c : ℕ) (b : Option ℕ) → Watched stages ns ss → n.call ≡ call.Scan stages →
+    n.answer ≡ answer.Scanned counts c b → Watched stages (ns ++ n ∷ []) (ss ++ counts ∷ [])
 watched_push stages [] [] n counts c b w is ans = (c, b, is, ans, tt)
 watched_push stages [] (s ∷ ss) n counts c b w is ans = absurd w
 watched_push stages (m ∷ ns) [] n counts c b w is ans = absurd w
@@ -142,7 +146,8 @@ sees_scan p q (j ∷ js) counts s some each w =
 -- ---- meetings
 
 -- a port's entries lie within the history in which its notes are legal
-note_within : (o : Opening) (h : List Applied) (p : ℕ) (c : Call) (a : Answer) (n : Option Note) (seen : ℕ) → LegalNotes o h p seen (record { call = c; answer = a; note = n } ∷ []) → AllByRecursion (λ i. i < length h) (wrote n)
+note_within : (o : Opening) (h : List Applied) (p : ℕ) (c : Call) (a : Answer) (n : Option Note) (seen : ℕ) → LegalNotes o h p seen (record { call = c; answer = a; note = n } ∷ []) →
+    AllByRecursion (λ i. i < length h) (wrote n)
 note_within o h p c a (Some (note.Wrote i)) seen w =
     let within = true_within o h p c a (note.Wrote i) w.0.1.0 in
     (omega (arith, within), tt)

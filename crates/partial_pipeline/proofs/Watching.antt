@@ -23,11 +23,14 @@ use Rattle.partial_pipeline.proofs.Stages.{done_alike, from_front, from_get, has
 -- ---- the monitor
 
 -- the monitor has made a scan in a room that it had
-pub watching_more : (m : MemoryView) (x : Monitor) (q : PortView) (rooms scans : Vec (Vec ℕ Global) Global) (room counts : Vec ℕ Global) (stages : List ℕ) → IsWatching m x → x.rooms.items ≡ rooms.items ++ room ∷ [] → stages ≡ x.stages.items → IsOf m q → Sees x.port stages counts.items q → scans.items ≡ x.scans.items ++ counts ∷ [] → vec_capacity x.scans ≤ vec_capacity scans → IsWatching m (record { port = q; stages = x.stages; rooms = rooms; scans = scans; room = x.room })
+pub watching_more : (m : MemoryView) (x : Monitor) (q : PortView) (rooms scans : Vec (Vec ℕ Global) Global) (room counts : Vec ℕ Global) (stages : List ℕ) → IsWatching m x →
+    x.rooms.items ≡ rooms.items ++ room ∷ [] → stages ≡ x.stages.items → IsOf m q → Sees x.port stages counts.items q → scans.items ≡ x.scans.items ++ counts ∷ [] →
+    vec_capacity x.scans ≤ vec_capacity scans → IsWatching m (record { port = q; stages = x.stages; rooms = rooms; scans = scans; room = x.room })
 watching_more m x q rooms scans room counts stages w popped same own sees pushed capacity =
     let s : Sees x.port x.stages.items counts.items q = subst (λ (l : List ℕ). Sees x.port l counts.items q) same sees in
     let Fits : Vec ℕ Global → Type 0 = λ v. length v.items ≡ m.about.sizes.m in
-    let many : map (λ (v : Vec ℕ Global). v.items) scans.items ≡ map (λ (v : Vec ℕ Global). v.items) x.scans.items ++ counts.items ∷ [] = ap (map (λ (v : Vec ℕ Global). v.items)) pushed ∙ map-append (λ (v : Vec ℕ Global). v.items) x.scans.items (counts ∷ []) in
+    let many : map (λ (v : Vec ℕ Global). v.items) scans.items ≡ map (λ (v : Vec ℕ Global). v.items) x.scans.items ++ counts.items ∷ [] = ap (map (λ (v : Vec ℕ Global). v.items)) pushed ∙ map-append
+    (λ (v : Vec ℕ Global). v.items) x.scans.items (counts ∷ []) in
     let more = ap length pushed ∙ length_push x.scans.items counts in
     let less = ap length popped ∙ length_push rooms.items room in
     record {
@@ -42,7 +45,8 @@ watching_more m x q rooms scans room counts stages w popped same own sees pushed
     }
 
 -- a scan of the monitor was refused
-pub watching_refused : (m : MemoryView) (x : Monitor) (q : PortView) (rooms : Vec (Vec ℕ Global) Global) (room : Vec ℕ Global) → IsWatching m x → x.rooms.items ≡ rooms.items ++ room ∷ [] → IsOf m q → NotesMore x.port q [] → IsWatching m (record { port = q; stages = x.stages; rooms = rooms; scans = x.scans; room = x.room })
+pub watching_refused : (m : MemoryView) (x : Monitor) (q : PortView) (rooms : Vec (Vec ℕ Global) Global) (room : Vec ℕ Global) → IsWatching m x → x.rooms.items ≡ rooms.items ++ room ∷ [] → IsOf m q →
+    NotesMore x.port q [] → IsWatching m (record { port = q; stages = x.stages; rooms = rooms; scans = x.scans; room = x.room })
 watching_refused m x q rooms room w popped own n =
     let Fits : Vec ℕ Global → Type 0 = λ v. length v.items ≡ m.about.sizes.m in
     let less = ap length popped ∙ length_push rooms.items room in
@@ -58,7 +62,8 @@ watching_refused m x q rooms room w popped own n =
     }
 
 -- the monitor has met another port
-pub watching_met : (m : MemoryView) (x : Monitor) (b c d : PortView) → IsWatching m x → IsOf m c → Meets x.port b c d → IsWatching m (record { port = c; stages = x.stages; rooms = x.rooms; scans = x.scans; room = x.room })
+pub watching_met : (m : MemoryView) (x : Monitor) (b c d : PortView) → IsWatching m x → IsOf m c → Meets x.port b c d →
+    IsWatching m (record { port = c; stages = x.stages; rooms = x.rooms; scans = x.scans; room = x.room })
 watching_met m x b c d w own meets =
     let n = (calls_note_once.meet x.port b c d meets).0 in
     record {
@@ -75,14 +80,16 @@ watching_met m x b c d w own meets =
 -- ---- the threads
 
 -- a thread that was started for a stage has come to its end
-pub started_done : (m : MemoryView) (n : ℕ) (all : List (PromisedHandle Worked Promised)) (h : PromisedHandle Worked Promised) (w : Worked) → AreFrom (IsStarted m) 0 all → n < length all → h ≡ get_or all n h → IsDone h.promise.memory.value h.promise.stage w → IsDone m n w
+pub started_done : (m : MemoryView) (n : ℕ) (all : List (PromisedHandle Worked Promised)) (h : PromisedHandle Worked Promised) (w : Worked) → AreFrom (IsStarted m) 0 all → n < length all →
+    h ≡ get_or all n h → IsDone h.promise.memory.value h.promise.stage w → IsDone m n w
 started_done m n all h w started within is kept =
     let s = from_get (IsStarted m) 0 n all h started within is in
     let number : n ≡ h.promise.stage = omega (arith, s.number) in
     done_alike h.promise.memory.value m h.promise.stage n w kept (sym s.memory) number
 
 -- one stage more has ended and met the monitor
-pub joined_more : (m : MemoryView) (x : Monitor) (ports after : List PortView) (b c d : PortView) (n : ℕ) (w : Worked) → AreFrom (HasMet m (length x.port.seen)) 0 ports → length ports ≡ n → IsDone m n w → b ≡ w.port → IsOf m d → Meets x.port b c d → after ≡ ports ++ d ∷ [] → AreFrom (HasMet m (length c.seen)) 0 after
+pub joined_more : (m : MemoryView) (x : Monitor) (ports after : List PortView) (b c d : PortView) (n : ℕ) (w : Worked) → AreFrom (HasMet m (length x.port.seen)) 0 ports → length ports ≡ n →
+    IsDone m n w → b ≡ w.port → IsOf m d → Meets x.port b c d → after ≡ ports ++ d ∷ [] → AreFrom (HasMet m (length c.seen)) 0 after
 joined_more m x ports after b c d n w had many done same own meets is =
     let number : b.number ≡ length ports = ap (λ (p : PortView). p.number) same ∙ done.number ∙ sym many in
     let worked = subst (λ (p : PortView). HasWorked n p.notes) (sym same) done.worked in
@@ -109,7 +116,8 @@ new_count m k zero = refl
 new_count m k (suc n) = ap suc (new_count m (k + 1) n)
 
 -- the stages' ports, and the monitor's behind them
-pub opened_stages : (m : MemoryView) (all rest : List PortView) (last : PortView) → IsOpened m all → all ≡ rest ++ last ∷ [] → AreFrom (IsNew m) 0 rest × (length rest ≡ m.about.sizes.m) × IsNew m m.about.sizes.m last
+pub opened_stages : (m : MemoryView) (all rest : List PortView) (last : PortView) → IsOpened m all → all ≡ rest ++ last ∷ [] → AreFrom (IsNew m) 0 rest × (length rest ≡ m.about.sizes.m) ×
+    IsNew m m.about.sizes.m last
 opened_stages m all rest last w is =
     let new : AreFrom (IsNew m) 0 (rest ++ last ∷ []) = subst (AreFrom (IsNew m) 0) (sym w.ports ∙ is) (new_from m 0 (m.about.sizes.m + 1)) in
     let count : length rest + 1 ≡ m.about.sizes.m + 1 = sym (length_push rest last) ∙ sym (ap length is) ∙ ap length w.ports ∙ new_count m 0 (m.about.sizes.m + 1) in

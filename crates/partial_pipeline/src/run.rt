@@ -89,7 +89,8 @@ fn join<R: Threads>(
     requires started { AreFrom (IsStarted memory.now) 0 started.items }
     requires watching { IsWatching memory.now joined.monitor }
     requires empty { (joined.ports.items ≡ []) × (joined.ends.items ≡ []) }
-    requires room { (length started.items ≤ vec_capacity joined.ports) × (length started.items ≤ vec_capacity joined.ends) }
+    requires room { (length started.items ≤ vec_capacity joined.ports) ×
+        (length started.items ≤ vec_capacity joined.ends) }
     ensures { HaveMet memory.now (length started.items) result }
 {
     for handle in started {

@@ -21,7 +21,8 @@ not_extended m values same =
     ap (λ k. values ++ replicate k 0) none ∙ append-nil values
 
 -- a component behind a round and a history of the next ones
-round_goes_on : (z : Layout) (s t : Standing) (r : Answered) (h : List Applied) (j : ℕ) → IsRound z s r t → j < length s.values → value_of (opening_of z t.values) h j ≡ value_of (opening_of z s.values) (r.log ++ h) j
+round_goes_on : (z : Layout) (s t : Standing) (r : Answered) (h : List Applied) (j : ℕ) → IsRound z s r t → j < length s.values → value_of (opening_of z t.values) h j ≡ value_of
+    (opening_of z s.values) (r.log ++ h) j
 round_goes_on z s t r h j round within =
     let o = opening_of z s.values in
     let next = opening_of z t.values in
@@ -43,7 +44,8 @@ rounds_go_on z s t (r ∷ rs) j each within =
     rounds_go_on z u t rs j each.2 (omega (arith, round.right.values.count, within)) ∙ round_goes_on z s u r (whole_log rs) j round within
 
 -- the report of rounds
-pub reported : (z : Layout) (before : List ℕ) (calls left : List (List Call)) (report : RoundsReport) (now : List ℕ) → SoFar z before calls report.rounds.items left now → IfOk report.ended (λ x. are_left left ≡ false) → IsReport z before calls report now
+pub reported : (z : Layout) (before : List ℕ) (calls left : List (List Call)) (report : RoundsReport) (now : List ℕ) → SoFar z before calls report.rounds.items left now →
+    IfOk report.ended (λ x. are_left left ≡ false) → IsReport z before calls report now
 reported z before calls left report now had ended =
     record {
       rounds = had.list;

@@ -39,43 +39,53 @@ none_next k next ns n within at none is had =
 
 -- ---- one more of a list that is seen by functions
 
-pub seen_next : {A B C : Type 0} (f : B → C) (g : A → C) (k next : ℕ) (xs : List A) (x : A) (before after : List B) (y : B) → k < length xs → x ≡ get_or xs k x → next ≡ k + 1 → map f before ≡ map g (take k xs) → after ≡ before ++ y ∷ [] → f y ≡ g x → map f after ≡ map g (take next xs)
+pub seen_next : {A B C : Type 0} (f : B → C) (g : A → C) (k next : ℕ) (xs : List A) (x : A) (before after : List B) (y : B) → k < length xs → x ≡ get_or xs k x → next ≡ k + 1 →
+    map f before ≡ map g (take k xs) → after ≡ before ++ y ∷ [] → f y ≡ g x → map f after ≡ map g (take next xs)
 seen_next {A} {B} {C} f g k next xs x before after y within at is had now same =
     let one : next ≡ suc k = is ∙ omega arith in
     let taken : take next xs ≡ take k xs ++ x ∷ [] = ap (λ i. take i xs) one ∙ take-suc xs k x within ∙ ap (λ (v : A). take k xs ++ v ∷ []) (sym at) in
-    ap (map f) now ∙ map-append f before (y ∷ []) ∙ ap (λ (l : List C). l ++ f y ∷ []) had ∙ ap (λ (c : C). map g (take k xs) ++ c ∷ []) same ∙ sym (map-append g (take k xs) (x ∷ [])) ∙ ap (map g) (sym taken)
+    ap (map f) now ∙ map-append f before (y ∷ []) ∙ ap (λ (l : List C). l ++ f y ∷ []) had ∙ ap (λ (c : C). map g (take k xs) ++ c ∷ []) same ∙ sym (map-append g (take k xs) (x ∷ []))
+    ∙ ap (map g) (sym taken)
 
 -- ---- the calls behind those that have answers
 
-behind_one : (k : ℕ) (calls : List (List Call)) (given : List (Vec Answer Global)) (cs : List Call) (v : Vec Answer Global) → k < length calls → k < length given → cs ≡ get_or calls k cs → v ≡ get_or given k v → calls_behind (take (suc k) calls) (take (suc k) given) ≡ calls_behind (take k calls) (take k given) ++ drop (length v.items) cs ∷ []
+behind_one : (k : ℕ) (calls : List (List Call)) (given : List (Vec Answer Global)) (cs : List Call) (v : Vec Answer Global) → k < length calls → k < length given → cs ≡ get_or calls k cs →
+    v ≡ get_or given k v → calls_behind (take (suc k) calls) (take (suc k) given) ≡ calls_behind (take k calls) (take k given) ++ drop (length v.items) cs ∷ []
 behind_one k [] given cs v a b at is = absurd (omega (arith, a))
 behind_one k (c ∷ calls) [] cs v a b at is = absurd (omega (arith, b))
 behind_one zero (c ∷ calls) (g ∷ given) cs v a b at is = ap (λ (x : Vec Answer Global). drop (length x.items) c ∷ []) (sym is) ∙ ap (λ (l : List Call). drop (length v.items) l ∷ []) (sym at)
 behind_one (suc k) (c ∷ calls) (g ∷ given) cs v a b at is = ap (λ (l : List (List Call)). drop (length g.items) c ∷ l) (behind_one k calls given cs v (omega (arith, a)) (omega (arith, b)) at is)
 
-pub behind_next : {B : Type 0} (f : B → List Call) (k next : ℕ) (calls : List (List Call)) (given : List (Vec Answer Global)) (cs : List Call) (v : Vec Answer Global) (before after : List B) (y : B) → k < length calls → k < length given → cs ≡ get_or calls k cs → v ≡ get_or given k v → next ≡ k + 1 → map f before ≡ calls_behind (take k calls) (take k given) → after ≡ before ++ y ∷ [] → f y ≡ drop (length v.items) cs → map f after ≡ calls_behind (take next calls) (take next given)
+pub behind_next : {B : Type 0} (f : B → List Call) (k next : ℕ) (calls : List (List Call)) (given : List (Vec Answer Global)) (cs : List Call) (v : Vec Answer Global) (before after : List B)
+    (y : B) → k < length calls → k < length given → cs ≡ get_or calls k cs → v ≡ get_or given k v → next ≡ k + 1 → map f before ≡ calls_behind (take k calls) (take k given) → after ≡ before ++ y ∷
+    [] → f y ≡ drop (length v.items) cs → map f after ≡ calls_behind (take next calls) (take next given)
 behind_next f k next calls given cs v before after y a b at is one had now same =
     let more : next ≡ suc k = one ∙ omega arith in
-    ap (map f) now ∙ map-append f before (y ∷ []) ∙ ap (λ (l : List (List Call)). l ++ f y ∷ []) had ∙ ap (λ (c : List Call). calls_behind (take k calls) (take k given) ++ c ∷ []) same ∙ sym (behind_one k calls given cs v a b at is) ∙ ap (λ i. calls_behind (take i calls) (take i given)) (sym more)
+    ap (map f) now ∙ map-append f before (y ∷ []) ∙ ap (λ (l : List (List Call)). l ++ f y ∷ []) had ∙ ap (λ (c : List Call). calls_behind (take k calls) (take k given) ++ c ∷ []) same ∙
+    sym (behind_one k calls given cs v a b at is) ∙ ap (λ i. calls_behind (take i calls) (take i given)) (sym more)
 
 -- how many calls there are
 abbrev pub calls_in : List (List Call) → ℕ
 calls_in [] = 0
 calls_in (cs ∷ more) = length cs + calls_in more
 
-no_more : (p : ℕ) (calls : List (List Call)) (given : List (Vec Answer Global)) → AreEach (λ port (cs : List Call) (v : Vec Answer Global). length v.items ≤ length cs) p calls given → calls_in (calls_behind calls given) ≤ calls_in calls
+no_more : (p : ℕ) (calls : List (List Call)) (given : List (Vec Answer Global)) → AreEach (λ port (cs : List Call) (v : Vec Answer Global). length v.items ≤ length cs) p calls given →
+    calls_in (calls_behind calls given) ≤ calls_in calls
 no_more p [] [] w = omega arith
 no_more p [] (v ∷ given) w = absurd w
 no_more p (cs ∷ calls) [] w = absurd w
 no_more p (cs ∷ calls) (v ∷ given) w = omega (arith, no_more (p + 1) calls given w.1, length-drop (length v.items) cs, w.0)
 
-fewer_by : (b : Bool) (p : ℕ) (cs : List Call) (calls : List (List Call)) (v : Vec Answer Global) (given : List (Vec Answer Global)) → nat_lt 0 (length v.items) ≡ b → length v.items ≤ length cs → calls_in (calls_behind calls given) ≤ calls_in calls → (have_answers given ≡ true → calls_in (calls_behind calls given) < calls_in calls) → cond b true (have_answers given) ≡ true → length (drop (length v.items) cs) + calls_in (calls_behind calls given) < length cs + calls_in calls
+fewer_by : (b : Bool) (p : ℕ) (cs : List Call) (calls : List (List Call)) (v : Vec Answer Global) (given : List (Vec Answer Global)) → nat_lt 0 (length v.items) ≡ b → length v.items ≤ length cs →
+    calls_in (calls_behind calls given) ≤ calls_in calls → (have_answers given ≡ true → calls_in (calls_behind calls given) < calls_in calls) → cond b true (have_answers given) ≡ true →
+    length (drop (length v.items) cs) + calls_in (calls_behind calls given) < length cs + calls_in calls
 fewer_by true p cs calls v given is within most less some =
     let more : 0 < length v.items = (Decides-nat_lt 0 (length v.items)).0 is in
     omega (arith, more, within, most, length-drop (length v.items) cs)
 fewer_by false p cs calls v given is within most less some = omega (arith, less some, within, length-drop (length v.items) cs)
 
-fewer_from : (p : ℕ) (calls : List (List Call)) (given : List (Vec Answer Global)) → AreEach (λ port (cs : List Call) (v : Vec Answer Global). length v.items ≤ length cs) p calls given → have_answers given ≡ true → calls_in (calls_behind calls given) < calls_in calls
+fewer_from : (p : ℕ) (calls : List (List Call)) (given : List (Vec Answer Global)) → AreEach (λ port (cs : List Call) (v : Vec Answer Global). length v.items ≤ length cs) p calls given →
+    have_answers given ≡ true → calls_in (calls_behind calls given) < calls_in calls
 fewer_from p [] [] w some = cc
 fewer_from p [] (v ∷ given) w some = absurd w
 fewer_from p (cs ∷ calls) [] w some = absurd w
@@ -85,7 +95,8 @@ fewer_from p (cs ∷ calls) (v ∷ given) w some = fewer_by (nat_lt 0 (length v.
 pub fewer : (calls : List (List Call)) (given : List (Vec Answer Global)) → AreFirsts calls given → have_answers given ≡ true → calls_in (calls_behind calls given) < calls_in calls
 fewer calls given w some = fewer_from 0 calls given w some
 
-behind_many_from : (p : ℕ) (calls : List (List Call)) (given : List (Vec Answer Global)) → AreEach (λ port (cs : List Call) (v : Vec Answer Global). length v.items ≤ length cs) p calls given → length (calls_behind calls given) ≡ length calls
+behind_many_from : (p : ℕ) (calls : List (List Call)) (given : List (Vec Answer Global)) → AreEach (λ port (cs : List Call) (v : Vec Answer Global). length v.items ≤ length cs) p calls given →
+    length (calls_behind calls given) ≡ length calls
 behind_many_from p [] [] w = refl
 behind_many_from p [] (v ∷ given) w = absurd w
 behind_many_from p (cs ∷ calls) [] w = absurd w

@@ -23,36 +23,47 @@ answered_long o log p called v w = ap length (sym w.calls) ∙ length-map w.note
 first_long : (n : ℕ) (cs : List Call) (v : Vec Answer Global) → length (take (length v.items) (take n cs)) ≡ length v.items → (length v.items ≤ length cs) × (length v.items ≤ n)
 first_long n cs v same = (omega (arith, same, length-take (length v.items) (take n cs), length-take n cs), omega (arith, same, length-take (length v.items) (take n cs), length-take n cs))
 
-firsts_from : (o : Opening) (log : List Applied) (p n : ℕ) (left : List (List Call)) (given : List (Vec Answer Global)) → length given ≡ length left → AreEach (AreAnswered o log) p (first_calls (map (take n) left) given) given → AreEach (λ port (cs : List Call) (v : Vec Answer Global). length v.items ≤ length cs) p left given
+firsts_from : (o : Opening) (log : List Applied) (p n : ℕ) (left : List (List Call)) (given : List (Vec Answer Global)) → length given ≡ length left →
+    AreEach (AreAnswered o log) p (first_calls (map (take n) left) given) given → AreEach (λ port (cs : List Call) (v : Vec Answer Global). length v.items ≤ length cs) p left given
 firsts_from o log p n [] [] many w = tt
 firsts_from o log p n [] (v ∷ given) many w = absurd (omega (arith, many))
 firsts_from o log p n (cs ∷ left) [] many w = absurd (omega (arith, many))
-firsts_from o log p n (cs ∷ left) (v ∷ given) many w = ((first_long n cs v (answered_long o log p (take (length v.items) (take n cs)) v w.0)).0, firsts_from o log (p + 1) n left given (omega (arith, many)) w.1)
+firsts_from o log p n (cs ∷ left) (v ∷ given) many w = (
+  (first_long n cs v (answered_long o log p (take (length v.items) (take n cs)) v w.0)).0,
+  firsts_from o log (p + 1) n left given
+      (omega (arith, many)) w.1,
+)
 
-same_firsts : (o : Opening) (log : List Applied) (p n : ℕ) (left : List (List Call)) (given : List (Vec Answer Global)) → length given ≡ length left → AreEach (AreAnswered o log) p (first_calls (map (take n) left) given) given → first_calls (map (take n) left) given ≡ first_calls left given
+same_firsts : (o : Opening) (log : List Applied) (p n : ℕ) (left : List (List Call)) (given : List (Vec Answer Global)) → length given ≡ length left →
+    AreEach (AreAnswered o log) p (first_calls (map (take n) left) given) given → first_calls (map (take n) left) given ≡ first_calls left given
 same_firsts o log p n [] given many w = refl
 same_firsts o log p n (cs ∷ left) [] many w = refl
 same_firsts o log p n (cs ∷ left) (v ∷ given) many w =
     let within = (first_long n cs v (answered_long o log p (take (length v.items) (take n cs)) v w.0)).1 in
-    ap (λ (l : List Call). l ∷ first_calls (map (take n) left) given) (take-take (length v.items) n cs within) ∙ ap (λ (l : List (List Call)). take (length v.items) cs ∷ l) (same_firsts o log (p + 1) n left given (omega (arith, many)) w.1)
+    ap (λ (l : List Call). l ∷ first_calls (map (take n) left) given) (take-take (length v.items) n cs within) ∙ ap (λ (l : List (List Call)). take (length v.items) cs ∷ l)
+    (same_firsts o log (p + 1) n left given (omega (arith, many)) w.1)
 
 -- ---- a round
 
 pub opening_is : (o : Opening) (values : List ℕ) (first : ℕ) → o.values ≡ values → o.first ≡ first → o ≡ record { values = values; first = first }
 opening_is o values first a b = ap (λ (l : List ℕ). record { values = l; first = o.first }) a ∙ ap (λ n. record { values = values; first = n }) b
 
-pub run_firsts : (o : Opening) (n : ℕ) (left calls : List (List Call)) (given : List (Vec Answer Global)) (after : List ℕ) → calls ≡ map (take n) left → IsRun Spent o calls given after → AreFirsts left given
+pub run_firsts : (o : Opening) (n : ℕ) (left calls : List (List Call)) (given : List (Vec Answer Global)) (after : List ℕ) → calls ≡ map (take n) left →
+    IsRun Spent o calls given after → AreFirsts left given
 run_firsts o n left calls given after is run =
     let w : IsRun Spent o (map (take n) left) given after = subst (λ (l : List (List Call)). IsRun Spent o l given after) is run in
     firsts_from o w.right.log 0 n left given (w.many ∙ length-map left (take n)) w.right.ports
 
-pub passed : (before now : RoundsView) (o : Opening) (n : ℕ) (left calls behind : List (List Call)) (answers : Vec (Vec Answer Global) Global) (rounds more : List Round) → o ≡ opening_of before.sizes before.values → calls ≡ map (take n) left → IsRun Spent o calls answers.items now.values → behind ≡ calls_behind left answers.items → more ≡ rounds ++ record { answers = answers } ∷ [] → have_answers answers.items ≡ true → Passes before left rounds more behind now
+pub passed : (before now : RoundsView) (o : Opening) (n : ℕ) (left calls behind : List (List Call)) (answers : Vec (Vec Answer Global) Global) (rounds more : List Round) →
+    o ≡ opening_of before.sizes before.values → calls ≡ map (take n) left → IsRun Spent o calls answers.items now.values → behind ≡ calls_behind left answers.items → more ≡ rounds ++
+    record { answers = answers } ∷ [] → have_answers answers.items ≡ true → Passes before left rounds more behind now
 passed before now o n left calls behind answers rounds more opening is run rest told some =
     let given = answers.items in
     let w : IsRun Spent o (map (take n) left) given now.values = subst (λ (l : List (List Call)). IsRun Spent o l given now.values) is run in
     let many : length given ≡ length left = w.many ∙ length-map left (take n) in
     let firsts = same_firsts o w.right.log 0 n left given many w.right.ports in
-    let right : AreRight (opening_of before.sizes before.values) (first_calls left given) given now.values = subst (λ (x : Opening). AreRight x (first_calls left given) given now.values) opening (subst (λ (l : List (List Call)). AreRight o l given now.values) firsts w.right) in (
+    let right : AreRight (opening_of before.sizes before.values) (first_calls left given) given now.values = subst (λ (x : Opening). AreRight x (first_calls left given) given now.values) opening
+    (subst (λ (l : List (List Call)). AreRight o l given now.values) firsts w.right) in (
       record { given = given; log = right.log },
       answers,
       refl,
@@ -82,18 +93,23 @@ pub record SoFar (z : Layout) (before : List ℕ) (calls : List (List Call)) (ro
 pub none_so_far : (z : Layout) (before : List ℕ) (calls : List (List Call)) (rounds : List Round) → rounds ≡ [] → SoFar z before calls rounds calls before
 none_so_far z before calls rounds none = record { list = []; each = refl; told = ap (map (λ (r : Round). r.answers.items)) (sym none) }
 
-pub one_more : (z : Layout) (before : List ℕ) (calls left behind : List (List Call)) (rounds more : List Round) (now after : RoundsView) → now.sizes ≡ z → SoFar z before calls rounds left now.values → Passes now left rounds more behind after → SoFar z before calls more behind after.values
+pub one_more : (z : Layout) (before : List ℕ) (calls left behind : List (List Call)) (rounds more : List Round) (now after : RoundsView) → now.sizes ≡ z →
+    SoFar z before calls rounds left now.values → Passes now left rounds more behind after → SoFar z before calls more behind after.values
 one_more z before calls left behind rounds more now after sizes had new =
     let r = new.0 in
-    let round : IsRound z (record { values = now.values; left = left }) r (record { values = after.values; left = behind }) = subst (λ (y : Layout). IsRound y (record { values = now.values; left = left }) r (record { values = after.values; left = behind })) sizes new.5 in
+    let round : IsRound z (record { values = now.values; left = left }) r (record { values = after.values; left = behind }) =
+    subst (λ (y : Layout). IsRound y (record { values = now.values; left = left }) r (record { values = after.values; left = behind })) sizes new.5 in
     record {
       list = had.list ++ r ∷ [];
       each = rounds_more z (record { values = before; left = calls }) (record { values = now.values; left = left }) (record { values = after.values; left = behind }) had.list r had.each round;
-      told = map-append (λ (x : Answered). x.given) had.list (r ∷ []) ∙ ap (λ (l : List (List (Vec Answer Global))). l ++ r.given ∷ []) had.told ∙ ap (λ (g : List (Vec Answer Global)). map (λ (x : Round). x.answers.items) rounds ++ g ∷ []) new.2 ∙ sym (map-append (λ (x : Round). x.answers.items) rounds (record { answers = new.1 } ∷ [])) ∙ ap (map (λ (x : Round). x.answers.items)) (sym new.3);
+      told = map-append (λ (x : Answered). x.given) had.list (r ∷ []) ∙ ap (λ (l : List (List (Vec Answer Global))). l ++ r.given ∷ []) had.told ∙
+          ap (λ (g : List (Vec Answer Global)). map (λ (x : Round). x.answers.items) rounds ++ g ∷ []) new.2 ∙
+          sym (map-append (λ (x : Round). x.answers.items) rounds (record { answers = new.1 } ∷ [])) ∙ ap (map (λ (x : Round). x.answers.items)) (sym new.3);
     }
 
 -- the same by other names
-pub so_far_alike : (z : Layout) (before : List ℕ) (calls left : List (List Call)) (rounds again : List Round) (now same : RoundsView) → SoFar z before calls rounds left now.values → same ≡ now → again ≡ rounds → SoFar z before calls again left same.values
+pub so_far_alike : (z : Layout) (before : List ℕ) (calls left : List (List Call)) (rounds again : List Round) (now same : RoundsView) → SoFar z before calls rounds left now.values → same ≡ now →
+    again ≡ rounds → SoFar z before calls again left same.values
 so_far_alike z before calls left rounds again now same had is told =
     subst (λ (v : RoundsView). SoFar z before calls again left v.values) (sym is) (subst (λ (l : List Round). SoFar z before calls l left now.values) (sym told) had)
 

@@ -94,7 +94,8 @@ pub record IsReport (z : Layout) (before : List ℕ) (calls : List (List Call)) 
 -- a round passed: it is the report's last one, and some call was answered in it
 abbrev pub Passes : RoundsView → List (List Call) → List Round → List Round → List (List Call) → RoundsView → Type 0
 Passes before left rounds more behind after =
-    (r : Answered) × (answers : Vec (Vec Answer Global) Global) × (r.given ≡ answers.items) × (more ≡ rounds ++ record { answers = answers } ∷ [])
+    (r : Answered) × (answers : Vec (Vec Answer Global) Global) × (r.given ≡ answers.items) ×
+    (more ≡ rounds ++ record { answers = answers } ∷ [])
     × (have_answers r.given ≡ true)
     × IsRound before.sizes (record { values = before.values; left = left }) r (record { values = after.values; left = behind })
 

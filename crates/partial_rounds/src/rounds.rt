@@ -110,7 +110,8 @@ impl Rounds {
     ) -> Result<RoundsReport, RoundsError>
         requires { AreMakable self.old.sizes.m calls.now }
         ensures sizes { self.new.sizes ≡ self.old.sizes }
-        ensures report { IfOk result (λ report. IsReport self.old.sizes self.old.values calls.now report self.new.values) }
+        ensures report { IfOk result (λ report. IsReport self.old.sizes self.old.values calls.now
+            report self.new.values) }
         ensures many { IfOk result (λ _. (1 ≤ length calls.now) × (length calls.now ≤ 64)) }
         ensures refused { IfErr result (λ e. MayNotRun (length calls.now) e × (self.new ≡ self.old)) }
     {
@@ -131,7 +132,8 @@ impl Rounds {
         requires makable { AreMakable self.old.sizes.m (map (λ c. c.now) calls.items) }
         requires ports { (1 ≤ length calls.items) × (length calls.items ≤ 64) }
         ensures sizes { self.new.sizes ≡ self.old.sizes }
-        ensures report { IsReport self.old.sizes self.old.values (map (λ c. c.now) calls.entry.items) result self.new.values }
+        ensures report { IsReport self.old.sizes self.old.values (map (λ c. c.now) calls.entry.items)
+            result self.new.values }
     {
         let mut left = calls;
         let mut rounds = Vec::new(alloc);
@@ -163,7 +165,8 @@ impl Rounds {
         requires makable { AreMakable self.old.sizes.m (map (λ c. c.now) left.now) }
         requires ports { (1 ≤ length left.now) × (length left.now ≤ 64) }
         ensures sizes { self.new.sizes ≡ self.old.sizes }
-        ensures ok { IfOk result (λ behind. Passes self.old (map (λ c. c.now) left.now) rounds.old.items rounds.new.items (map (λ c. c.now) behind.items) self.new) }
+        ensures ok { IfOk result (λ behind. Passes self.old (map (λ c. c.now) left.now) rounds.old.items
+            rounds.new.items (map (λ c. c.now) behind.items) self.new) }
         ensures err { IfErr result (λ _. (self.new ≡ self.old) × (rounds.new.items ≡ rounds.old.items)) }
     {
         let count = left.len();

@@ -19,7 +19,8 @@ use Rattle.partial_workers.specs.Work.{HasRoom, HaveCome, HaveRooms, IsDone, IsH
 use Rattle.partial_workers.proofs.Pairs.{each_at, each_length, each_push}
 
 -- one call more of a port
-pub calls_more : (before after : List Job) (job : Job) (calls : List Call) (n : ℕ) → after ≡ before ++ job ∷ [] → calls_of before ≡ take n calls → n < length calls → job.call.now ≡ get_or calls n job.call.now → calls_of after ≡ take (n + 1) calls
+pub calls_more : (before after : List Job) (job : Job) (calls : List Call) (n : ℕ) → after ≡ before ++ job ∷ [] → calls_of before ≡ take n calls → n < length calls →
+    job.call.now ≡ get_or calls n job.call.now → calls_of after ≡ take (n + 1) calls
 calls_more before after job calls n is had within at =
     let next : n + 1 ≡ suc n = omega arith in
     let taken : take (n + 1) calls ≡ take n calls ++ job.call.now ∷ [] = ap (λ i. take i calls) next ∙ take-suc calls n job.call.now within ∙ ap (λ (c : Call). take n calls ++ c ∷ []) (sym at) in
@@ -34,7 +35,8 @@ rooms_more before after job is had new m lawful =
     subst (AllByRecursion P) (sym is) (all_append P before (job ∷ []) (had m (all_front (IsWithin m) (calls_of before) (job.call.now ∷ []) all)) (new m one.0, tt))
 
 -- a worker for a new port
-pub hired : (m : MemoryView) (n : ℕ) (calls : List Call) (w : Worker) → IsNew m n calls w.port → calls_of w.jobs.items ≡ calls → HaveRooms w.jobs.items → w.answers.items ≡ [] → length calls ≤ vec_capacity w.answers → length w.jobs.items ≡ length calls → IsHired m n calls w
+pub hired : (m : MemoryView) (n : ℕ) (calls : List Call) (w : Worker) → IsNew m n calls w.port → calls_of w.jobs.items ≡ calls → HaveRooms w.jobs.items → w.answers.items ≡ [] →
+    length calls ≤ vec_capacity w.answers → length w.jobs.items ≡ length calls → IsHired m n calls w
 hired m n calls w new jobs rooms empty room many =
     record {
       own = new.own;
@@ -50,13 +52,16 @@ hired m n calls w new jobs rooms empty room many =
     }
 
 -- one worker more
-pub hire_more : (m : MemoryView) (n next : ℕ) (plan : List (List Call)) (before after : List Worker) (calls : List Call) (w : Worker) → AreEach (IsHired m) 0 (take n plan) before → n < length plan → calls ≡ get_or plan n calls → IsHired m n calls w → next ≡ n + 1 → after ≡ before ++ w ∷ [] → AreEach (IsHired m) 0 (take next plan) after
+pub hire_more : (m : MemoryView) (n next : ℕ) (plan : List (List Call)) (before after : List Worker) (calls : List Call) (w : Worker) → AreEach (IsHired m) 0 (take n plan) before → n < length plan →
+    calls ≡ get_or plan n calls → IsHired m n calls w → next ≡ n + 1 → after ≡ before ++ w ∷ [] → AreEach (IsHired m) 0 (take next plan) after
 hire_more m n next plan before after calls w had within at new is now =
     let zero_more : n ≡ 0 + n = omega arith in
     subst (AreEach (IsHired m) 0 (take next plan)) (sym now) (each_push (IsHired m) 0 n next plan before calls w had within at (subst (λ i. IsHired m i calls w) zero_more new) is)
 
 -- one thread more has ended
-pub come_more : (m : MemoryView) (u : Until) (n next : ℕ) (plan : List (List Call)) (before after : Results) (calls : List Call) (w : Worked) → HaveCome m u (take n plan) before → n < length plan → calls ≡ get_or plan n calls → IsDone m u n calls w → next ≡ n + 1 → after.ports.items ≡ before.ports.items ++ w.port ∷ [] → after.answers.items ≡ before.answers.items ++ w.answers ∷ [] → HaveCome m u (take next plan) after
+pub come_more : (m : MemoryView) (u : Until) (n next : ℕ) (plan : List (List Call)) (before after : Results) (calls : List Call) (w : Worked) → HaveCome m u (take n plan) before → n < length plan →
+    calls ≡ get_or plan n calls → IsDone m u n calls w → next ≡ n + 1 → after.ports.items ≡ before.ports.items ++ w.port ∷ [] → after.answers.items ≡ before.answers.items ++ w.answers ∷ [] →
+    HaveCome m u (take next plan) after
 come_more m u n next plan before after calls w had within at new is ports answers =
     let zero_more : n ≡ 0 + n = omega arith in
     record {
@@ -71,10 +76,13 @@ as_many jobs calls is = sym (length-map jobs (λ (j : Job). j.call.now)) ∙ ap 
 
 -- the same by other names
 pub done_alike : (m v : MemoryView) (u t : Until) (n k : ℕ) (calls given : List Call) (w : Worked) → IsDone m u n calls w → v ≡ m → t ≡ u → k ≡ n → given ≡ calls → IsDone v t k given w
-done_alike m v u t n k calls given w done memory until number same = subst (λ x. IsDone x t k given w) (sym memory) (subst (λ y. IsDone m y k given w) (sym until) (subst (λ i. IsDone m u i given w) (sym number) (subst (λ l. IsDone m u n l w) (sym same) done)))
+done_alike m v u t n k calls given w done memory until number same = subst (λ x. IsDone x t k given w) (sym memory)
+    (subst (λ y. IsDone m y k given w) (sym until) (subst (λ i. IsDone m u i given w) (sym number) (subst (λ l. IsDone m u n l w) (sym same) done)))
 
 -- a thread that was started for a port's calls has made the first ones of them once it has kept its promise
-pub done_as_started : (m : MemoryView) (u : Until) (n : ℕ) (plan : List (List Call)) (all : List (PromisedHandle Worked Works)) (h : PromisedHandle Worked Works) (w : Worked) → AreEach (IsStarted m u) 0 plan all → n < length all → h ≡ get_or all n h → IsDone h.promise.memory.value h.promise.until h.promise.port h.promise.calls.value.now w → (calls : List Call) × (calls ≡ get_or plan n calls) × IsDone m u n calls w
+pub done_as_started : (m : MemoryView) (u : Until) (n : ℕ) (plan : List (List Call)) (all : List (PromisedHandle Worked Works)) (h : PromisedHandle Worked Works) (w : Worked) →
+    AreEach (IsStarted m u) 0 plan all → n < length all → h ≡ get_or all n h → IsDone h.promise.memory.value h.promise.until h.promise.port h.promise.calls.value.now w → (calls : List Call) ×
+    (calls ≡ get_or plan n calls) × IsDone m u n calls w
 done_as_started m u n plan all h w started within is kept =
     let calls : List Call = get_or plan n [] in
     let at : calls ≡ get_or plan n calls = get_or_default plan n [] calls (omega (arith, within, each_length (IsStarted m u) 0 plan all started)) in

@@ -43,11 +43,14 @@ marks_may p m (call.Scan (j ∷ js)) cause names e = elim (pool_or_slots p.pool_
 ]
 marks_may p m (call.Read j) cause names e = cc
 
-refused_may : (p : PortView) (c : Call) (cause : Refused) (b : Bool) → list_all (λ j. nat_lt j p.memory.about.sizes.m) (indices_of c) ≡ b → cond b (marks_refusal p c) (Some refused.Component) ≡ Some cause → MayBeRefused p.memory.about.sizes.m c cause
-refused_may p c cause true e is = marks_may p p.memory.about.sizes.m c cause ((Decides-list_all (λ i. nat_lt i p.memory.about.sizes.m) (λ j. j < p.memory.about.sizes.m) (λ i. Decides-nat_lt i p.memory.about.sizes.m) (indices_of c)).0 e) is
+refused_may : (p : PortView) (c : Call) (cause : Refused) (b : Bool) → list_all (λ j. nat_lt j p.memory.about.sizes.m) (indices_of c) ≡ b →
+    cond b (marks_refusal p c) (Some refused.Component) ≡ Some cause → MayBeRefused p.memory.about.sizes.m c cause
+refused_may p c cause true e is = marks_may p p.memory.about.sizes.m c cause
+    ((Decides-list_all (λ i. nat_lt i p.memory.about.sizes.m) (λ j. j < p.memory.about.sizes.m) (λ i. Decides-nat_lt i p.memory.about.sizes.m) (indices_of c)).0 e) is
 refused_may p c cause false e is =
     let same : refused.Component ≡ cause = cc in
-    subst (MayBeRefused p.memory.about.sizes.m c) same (λ all. false≢true (sym e ∙ (Decides-list_all (λ i. nat_lt i p.memory.about.sizes.m) (λ j. j < p.memory.about.sizes.m) (λ i. Decides-nat_lt i p.memory.about.sizes.m) (indices_of c)).1 all))
+    subst (MayBeRefused p.memory.about.sizes.m c) same (λ all. false≢true
+    (sym e ∙ (Decides-list_all (λ i. nat_lt i p.memory.about.sizes.m) (λ j. j < p.memory.about.sizes.m) (λ i. Decides-nat_lt i p.memory.about.sizes.m) (indices_of c)).1 all))
 
 -- a call that was refused may have been, and the port's notes are the same
 pub made_refused : (p q : PortView) (c : Call) (cause : Refused) → IsRefused p c cause q → IsMade p.memory.about.sizes.m p c (answer.Refused cause) q
@@ -108,7 +111,8 @@ fills_unnoted m seen kept [] n w new = inl (new, w)
 fills_unnoted m seen kept (x ∷ ns) n (inl w) new = inl (w.0, fills_unnoted m (seen_after seen x.note) kept ns n w.1 new)
 fills_unnoted m seen kept (x ∷ ns) n (inr w) new = inr (w.0, w.1, fills_unnoted m (seen_after seen x.note) w.0 ns n w.2 new)
 
-fills_made : (m : ℕ) (p q : PortView) (all : List Noted) (n : Noted) → Fills m 0 p.notes all → (q.notes ≡ p.notes ++ n ∷ []) ⊎ (IsUnnoted m (seen_by 0 p.notes) n × (q.notes ≡ p.notes)) → Fills m 0 q.notes (all ++ n ∷ [])
+fills_made : (m : ℕ) (p q : PortView) (all : List Noted) (n : Noted) → Fills m 0 p.notes all → (q.notes ≡ p.notes ++ n ∷ []) ⊎ (IsUnnoted m (seen_by 0 p.notes) n × (q.notes ≡ p.notes)) →
+    Fills m 0 q.notes (all ++ n ∷ [])
 fills_made m p q all n w (inl is) = subst (λ (l : List Noted). Fills m 0 l (all ++ n ∷ [])) (sym is) (fills_noted m 0 p.notes all n w)
 fills_made m p q all n w (inr new) =
     subst (λ (l : List Noted). Fills m 0 l (all ++ n ∷ [])) (sym new.1) (fills_unnoted m 0 p.notes all n w (subst (λ k. IsUnnoted m k n) (sym (fills_seen m 0 p.notes all w)) new.0))
@@ -132,7 +136,8 @@ made_same m cs given p q had same =
     record { all = had.all; calls = had.calls; answers = had.answers; fills = subst (λ (l : List Noted). Fills m 0 l had.all) (sym same) had.fills }
 
 -- a port that has made the first ones of its calls
-pub has_made : (m : ℕ) (u : Until) (calls : List Call) (given : List Answer) (p q : PortView) → AreMade m (take (length given) calls) given p → q.notes ≡ p.notes → (u ≡ Made → length given ≡ length calls) → (u ≡ Spent → AreUnspent given) → HasMade m u calls given q
+pub has_made : (m : ℕ) (u : Until) (calls : List Call) (given : List Answer) (p q : PortView) → AreMade m (take (length given) calls) given p → q.notes ≡ p.notes →
+    (u ≡ Made → length given ≡ length calls) → (u ≡ Spent → AreUnspent given) → HasMade m u calls given q
 has_made m u calls given p q had same whole unspent =
     record { firsts = made_same m (take (length given) calls) given p q had same; whole = whole; unspent = unspent }
 
@@ -140,7 +145,8 @@ pub not_both : (u : Until) (n k : ℕ) → u ≡ Spent → u ≡ Made → n ≡ 
 not_both u n k spent made = cc
 
 -- one more of the first calls
-pub made_next : (m n next : ℕ) (cs : List Call) (given : List Answer) (c : Call) (a : Answer) (p q : PortView) → AreMade m (take n cs) given p → n < length cs → c ≡ get_or cs n c → next ≡ n + 1 → IsMade m p c a q → AreMade m (take next cs) (given ++ a ∷ []) q
+pub made_next : (m n next : ℕ) (cs : List Call) (given : List Answer) (c : Call) (a : Answer) (p q : PortView) → AreMade m (take n cs) given p → n < length cs → c ≡ get_or cs n c → next ≡ n + 1 →
+    IsMade m p c a q → AreMade m (take next cs) (given ++ a ∷ []) q
 made_next m n next cs given c a p q had within at is new =
     let one : next ≡ suc n = is ∙ omega arith in
     let taken : take next cs ≡ take n cs ++ c ∷ [] = ap (λ i. take i cs) one ∙ take-suc cs n c within ∙ ap (λ (x : Call). take n cs ++ x ∷ []) (sym at) in
@@ -152,9 +158,11 @@ refused_at m p q c d cause of same w =
     let now : IsMade m.about.sizes.m p c (answer.Refused cause) q = subst (λ (v : MemoryView). IsMade v.about.sizes.m p c (answer.Refused cause) q) of (made_refused p q c cause w) in
     subst (λ (x : Call). IsMade m.about.sizes.m p x (answer.Refused cause) q) (sym same) now
 
-pub scanned_at : (m : ℕ) (p q : PortView) (d : Call) (js vs values : List ℕ) (s : Scanned) → d ≡ call.Scan js → values ≡ vs → Scans p js vs s q → IsMade m p d (answer.Scanned values s.collects s.borrowed) q
+pub scanned_at : (m : ℕ) (p q : PortView) (d : Call) (js vs values : List ℕ) (s : Scanned) → d ≡ call.Scan js → values ≡ vs → Scans p js vs s q →
+    IsMade m p d (answer.Scanned values s.collects s.borrowed) q
 scanned_at m p q d js vs values s same told w =
-    let now : IsMade m p (call.Scan js) (answer.Scanned values s.collects s.borrowed) q = subst (λ (l : List ℕ). IsMade m p (call.Scan js) (answer.Scanned l s.collects s.borrowed) q) (sym told) (made_scan m p q js vs s w) in
+    let now : IsMade m p (call.Scan js) (answer.Scanned values s.collects s.borrowed) q = subst (λ (l : List ℕ). IsMade m p (call.Scan js) (answer.Scanned l s.collects s.borrowed) q) (sym told)
+    (made_scan m p q js vs s w) in
     subst (λ (x : Call). IsMade m p x (answer.Scanned values s.collects s.borrowed) q) (sym same) now
 
 -- what is taken of a list that was written whole into another of the same length is the list

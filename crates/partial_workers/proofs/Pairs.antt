@@ -32,7 +32,8 @@ module _ {A B : Type 0} (P : ℕ → A → B → Type 0) where
   each_snoc k (a ∷ xs) (b ∷ ys) x y w p = (w.0, each_snoc (k + 1) xs ys x y w.1 (subst (λ i. P i x y) (omega arith) p))
 
   -- one pair more
-  pub each_push : (k n next : ℕ) (xs : List A) (ys : List B) (x : A) (y : B) → AreEach P k (take n xs) ys → n < length xs → x ≡ get_or xs n x → P (k + n) x y → next ≡ n + 1 → AreEach P k (take next xs) (ys ++ y ∷ [])
+  pub each_push : (k n next : ℕ) (xs : List A) (ys : List B) (x : A) (y : B) → AreEach P k (take n xs) ys → n < length xs → x ≡ get_or xs n x → P (k + n) x y → next ≡ n + 1 →
+      AreEach P k (take next xs) (ys ++ y ∷ [])
   each_push k n next xs ys x y w within at p is =
       let long : length (take n xs) ≡ n = length-take-le n xs (omega (arith, within)) in
       let more = each_snoc k (take n xs) ys x y w (subst (λ i. P (k + i) x y) (sym long) p) in
@@ -41,7 +42,8 @@ module _ {A B : Type 0} (P : ℕ → A → B → Type 0) where
       subst (λ (l : List A). AreEach P k l (ys ++ y ∷ [])) (sym taken) more
 
 -- what follows of each pair follows of all
-pub each_weaker : {A B C : Type 0} (P : ℕ → A → B → Type 0) (Q : ℕ → A → C → Type 0) (f : B → C) → ((k : ℕ) (a : A) (b : B) → P k a b → Q k a (f b)) → (k : ℕ) (xs : List A) (ys : List B) → AreEach P k xs ys → AreEach Q k xs (map f ys)
+pub each_weaker : {A B C : Type 0} (P : ℕ → A → B → Type 0) (Q : ℕ → A → C → Type 0) (f : B → C) → ((k : ℕ) (a : A) (b : B) → P k a b → Q k a (f b)) → (k : ℕ) (xs : List A) (ys : List B) →
+    AreEach P k xs ys → AreEach Q k xs (map f ys)
 each_weaker P Q f g k [] [] w = tt
 each_weaker P Q f g k [] (y ∷ ys) w = absurd w
 each_weaker P Q f g k (x ∷ xs) [] w = absurd w
@@ -58,7 +60,8 @@ each_some P k (suc n) (a ∷ xs) (b ∷ ys) y w within is =
     (rest.0, subst (λ i. P i rest.0 y) (omega arith) rest.1)
 
 -- what holds of the elements so far and of the next one
-pub all_next : {A : Type 0} (P : A → Type 0) (k next : ℕ) (xs : List A) (x : A) → k < length xs → x ≡ get_or xs k x → next ≡ k + 1 → AllByRecursion P (take k xs) → P x → AllByRecursion P (take next xs)
+pub all_next : {A : Type 0} (P : A → Type 0) (k next : ℕ) (xs : List A) (x : A) → k < length xs → x ≡ get_or xs k x → next ≡ k + 1 → AllByRecursion P (take k xs) → P x →
+    AllByRecursion P (take next xs)
 all_next {A} P k next xs x within at is had new =
     let one : next ≡ suc k = is ∙ omega arith in
     let taken : take next xs ≡ take k xs ++ x ∷ [] = ap (λ i. take i xs) one ∙ take-suc xs k x within ∙ ap (λ (v : A). take k xs ++ v ∷ []) (sym at) in

@@ -34,20 +34,23 @@ use Rattle.partial_workers.proofs.Pairs.{each_length}
 
 refused_legal : (o : Opening) (h : List Applied) (p seen : ℕ) (n : Noted) → WasRefused (length o.values) n → IsLegal o h p seen n
 refused_legal o h p seen n w =
-    let is : n ≡ record { call = n.call; answer = answer.Refused w.0; note = None } = ap (λ (a : Answer). record n { answer = a }) w.1 ∙ ap (λ (t : Option Note). record { call = n.call; answer = answer.Refused w.0; note = t }) w.2 in
+    let is : n ≡ record { call = n.call; answer = answer.Refused w.0; note = None } =
+    ap (λ (a : Answer). record n { answer = a }) w.1 ∙ ap (λ (t : Option Note). record { call = n.call; answer = answer.Refused w.0; note = t }) w.2 in
     subst (IsLegal o h p seen) (sym is) (w.3, tt)
 
 empty_legal : (o : Opening) (h : List Applied) (p seen : ℕ) (n : Noted) → seen ≤ length h → WasEmpty seen n → IsLegal o h p seen n
 empty_legal o h p seen n within w =
     let is : n ≡ record { call = call.Scan []; answer = answer.Scanned [] 0 None; note = Some (note.Saw seen) } =
-    ap (λ (c : Call). record n { call = c }) w.0 ∙ ap (λ (a : Answer). record { call = call.Scan []; answer = a; note = n.note }) w.1 ∙ ap (λ (t : Option Note). record { call = call.Scan []; answer = answer.Scanned [] 0 None; note = t }) w.2 in
+    ap (λ (c : Call). record n { call = c }) w.0 ∙ ap (λ (a : Answer). record { call = call.Scan []; answer = a; note = n.note }) w.1 ∙
+    ap (λ (t : Option Note). record { call = call.Scan []; answer = answer.Scanned [] 0 None; note = t }) w.2 in
     subst (IsLegal o h p seen) (sym is) (tt, (record { within = within; values = refl; collects = (refl, refl); borrowed = tt }, omega arith))
 
 unnoted_legal : (o : Opening) (h : List Applied) (p seen : ℕ) (n : Noted) → seen ≤ length h → IsUnnoted (length o.values) seen n → IsLegal o h p seen n
 unnoted_legal o h p seen n within (inl w) = refused_legal o h p seen n w
 unnoted_legal o h p seen n within (inr w) = empty_legal o h p seen n within w
 
-noted_within : (o : Opening) (h : List Applied) (p seen : ℕ) (c : Call) (a : Answer) (t : Option Note) → seen ≤ length h → IfSome t (λ note. IsTrueOf o h p c a note × (seen ≤ place_of note)) → seen_after seen t ≤ length h
+noted_within : (o : Opening) (h : List Applied) (p seen : ℕ) (c : Call) (a : Answer) (t : Option Note) → seen ≤ length h → IfSome t (λ note. IsTrueOf o h p c a note × (seen ≤ place_of note)) →
+    seen_after seen t ≤ length h
 noted_within o h p seen c a None within w = within
 noted_within o h p seen c a (Some t) within w = true_within o h p c a t w.0
 
@@ -72,11 +75,13 @@ fills_written m seen kept (n ∷ ns) (inr f) = ap (λ l. wrote n.note ++ l) (fil
 -- ---- the answers of all ports
 
 -- what the history tells of a port that has made its calls
-answered_in : (m : MemoryView) (u : Until) (o : Opening) (log : List Applied) (port : ℕ) (calls : List Call) (w : Worked) → m.about.opening ≡ o → m.about.sizes.m ≡ length o.values → IsDone m u port calls w → IsPortOf log w.port → AreAnswered o log port (take (length w.answers.items) calls) w.answers
+answered_in : (m : MemoryView) (u : Until) (o : Opening) (log : List Applied) (port : ℕ) (calls : List Call) (w : Worked) → m.about.opening ≡ o → m.about.sizes.m ≡ length o.values →
+    IsDone m u port calls w → IsPortOf log w.port → AreAnswered o log port (take (length w.answers.items) calls) w.answers
 answered_in m u o log port calls w opening sizes done told =
     let firsts = done.made.firsts in
     let from : w.port.memory.about.opening ≡ o = ap (λ (v : MemoryView). v.about.opening) done.own ∙ opening in
-    let legal : LegalNotes o log port 0 w.port.notes = subst (λ k. LegalNotes o log k 0 w.port.notes) done.number (subst (λ (x : Opening). LegalNotes x log w.port.number 0 w.port.notes) from told.legal) in
+    let legal : LegalNotes o log port 0 w.port.notes = subst (λ k. LegalNotes o log k 0 w.port.notes) done.number
+    (subst (λ (x : Opening). LegalNotes x log w.port.number 0 w.port.notes) from told.legal) in
     let fills : Fills (length o.values) 0 w.port.notes firsts.all = subst (λ k. Fills k 0 w.port.notes firsts.all) sizes firsts.fills in
     record {
       notes = firsts.all;
@@ -86,7 +91,9 @@ answered_in m u o log port calls w opening sizes done told =
       once = subst (λ k. EachOnce log k w.port.notes) done.number told.once ∙ sym (fills_written (length o.values) 0 w.port.notes firsts.all fills);
     }
 
-each_answered : (m : MemoryView) (u : Until) (o : Opening) (log : List Applied) (port : ℕ) (plan : List (List Call)) (done : List Worked) → m.about.opening ≡ o → m.about.sizes.m ≡ length o.values → AreEach (IsDone m u) port plan done → AllByRecursion (IsPortOf log) (map (λ (w : Worked). w.port) done) → AreEach (AreAnswered o log) port (first_calls plan (map (λ (w : Worked). w.answers) done)) (map (λ (w : Worked). w.answers) done)
+each_answered : (m : MemoryView) (u : Until) (o : Opening) (log : List Applied) (port : ℕ) (plan : List (List Call)) (done : List Worked) → m.about.opening ≡ o → m.about.sizes.m ≡ length o.values →
+    AreEach (IsDone m u) port plan done → AllByRecursion (IsPortOf log) (map (λ (w : Worked). w.port) done) →
+    AreEach (AreAnswered o log) port (first_calls plan (map (λ (w : Worked). w.answers) done)) (map (λ (w : Worked). w.answers) done)
 each_answered m u o log port [] [] opening sizes each all = tt
 each_answered m u o log port [] (w ∷ done) opening sizes each all = absurd each
 each_answered m u o log port (calls ∷ plan) [] opening sizes each all = absurd each
@@ -99,9 +106,11 @@ each_whole m port [] [] each = refl
 each_whole m port [] (w ∷ done) each = absurd each
 each_whole m port (calls ∷ plan) [] each = absurd each
 each_whole m port (calls ∷ plan) (w ∷ done) each =
-    ap (λ (l : List (List Call)). take (length w.answers.items) calls ∷ l) (each_whole m (port + 1) plan done each.1) ∙ ap (λ (l : List Call). l ∷ plan) (take_all (length w.answers.items) calls (omega (arith, each.0.made.whole refl)))
+    ap (λ (l : List (List Call)). take (length w.answers.items) calls ∷ l) (each_whole m (port + 1) plan done each.1) ∙ ap (λ (l : List Call). l ∷ plan)
+    (take_all (length w.answers.items) calls (omega (arith, each.0.made.whole refl)))
 
-each_unspent : (m : MemoryView) (port : ℕ) (plan : List (List Call)) (done : List Worked) → AreEach (IsDone m Spent) port plan done → AllByRecursion (λ v. AreUnspent v.items) (map (λ (w : Worked). w.answers) done)
+each_unspent : (m : MemoryView) (port : ℕ) (plan : List (List Call)) (done : List Worked) → AreEach (IsDone m Spent) port plan done → AllByRecursion (λ v. AreUnspent v.items)
+    (map (λ (w : Worked). w.answers) done)
 each_unspent m port [] [] each = tt
 each_unspent m port [] (w ∷ done) each = absurd each
 each_unspent m port (calls ∷ plan) [] each = absurd each
@@ -119,7 +128,8 @@ come_own m u plan r w = subst (AllByRecursion (IsOf m)) w.ports (each_own m u 0 
 pub come_many : (m : MemoryView) (u : Until) (plan : List (List Call)) (r : Results) → HaveCome m u plan r → length r.ports.items ≡ length plan
 come_many m u plan r w = ap length (sym w.ports) ∙ length-map w.done (λ (v : Worked). v.port) ∙ sym (each_length (IsDone m u) 0 plan w.done w.each)
 
-pub last_own : (m : MemoryView) (u : Until) (plan : List (List Call)) (r : Results) (rest : List PortView) (last : PortView) → HaveCome m u plan r → r.ports.items ≡ rest ++ last ∷ [] → AllByRecursion (IsOf m) rest × IsOf m last
+pub last_own : (m : MemoryView) (u : Until) (plan : List (List Call)) (r : Results) (rest : List PortView) (last : PortView) → HaveCome m u plan r → r.ports.items ≡ rest ++ last ∷ [] →
+    AllByRecursion (IsOf m) rest × IsOf m last
 last_own m u plan r rest last w is =
     let all : AllByRecursion (IsOf m) (rest ++ last ∷ []) = subst (AllByRecursion (IsOf m)) is (come_own m u plan r w) in
     let one = all_back (IsOf m) rest (last ∷ []) all in
@@ -132,7 +142,8 @@ firsts_many (cs ∷ plan) [] same = absurd (omega (arith, same))
 firsts_many (cs ∷ plan) (v ∷ given) same = ap suc (firsts_many plan given (omega (arith, same)))
 
 -- workers that have ended, and the memory that was closed with their ports
-pub ran : (m : MemoryView) (u : Until) (plan : List (List Call)) (fresh : List PortView) (r : Results) (rest : List PortView) (last : PortView) (closed : Closed) → IsOpenedFor m plan fresh → HaveCome m u plan r → r.ports.items ≡ rest ++ last ∷ [] → Closes m (last ∷ rest) closed → IsRun u m.about.opening plan r.answers.items closed.values.items
+pub ran : (m : MemoryView) (u : Until) (plan : List (List Call)) (fresh : List PortView) (r : Results) (rest : List PortView) (last : PortView) (closed : Closed) → IsOpenedFor m plan fresh →
+    HaveCome m u plan r → r.ports.items ≡ rest ++ last ∷ [] → Closes m (last ∷ rest) closed → IsRun u m.about.opening plan r.answers.items closed.values.items
 ran m u plan fresh r rest last closed opened come is w =
     let o = m.about.opening in
     let given : List (Vec Answer Global) = map (λ (v : Worked). v.answers) come.done in

@@ -41,7 +41,8 @@ impl Worker<'_> {
         requires ready { IsReady memory.now.about.sizes.m self }
         ensures own { IsOf memory.now result.port }
         ensures number { result.port.number ≡ self.entry.port.number }
-        ensures made { HasMade memory.now.about.sizes.m end.now.until (calls_of self.entry.jobs.items) result.answers.items result.port }
+        ensures made { HasMade memory.now.about.sizes.m end.now.until
+            (calls_of self.entry.jobs.items) result.answers.items result.port }
     {
         let Worker {
             mut port,

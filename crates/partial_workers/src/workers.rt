@@ -103,7 +103,8 @@ fn start<'s, 'e, G: Gate>(
     workers: Vec<Worker<'s>>,
 ) -> Result<Vec<PromisedHandle<Worked, Works<'s>>>, AllocError>
     requires { AreEach (IsHired memory.now) 0 (map (λ c. c.now) calls.now) workers.items }
-    ensures { IfOk result (λ handles. AreEach (IsStarted memory.now end.now.until) 0 (map (λ c. c.now) calls.now) handles.items) }
+    ensures { IfOk result (λ handles. AreEach (IsStarted memory.now end.now.until) 0
+        (map (λ c. c.now) calls.now) handles.items) }
 {
     let mut started = Vec::with_capacity(alloc, calls.len())?;
     for worker in workers {
@@ -116,7 +117,8 @@ fn start<'s, 'e, G: Gate>(
         };
         let work = move || -> Worked
             requires { IsOf memory.now worker.port × IsReady memory.now.about.sizes.m worker }
-            ensures { IsDone memory.entry.now end.entry.now.until worker.entry.port.number (calls_of worker.entry.jobs.items) result }
+            ensures { IsDone memory.entry.now end.entry.now.until worker.entry.port.number
+                (calls_of worker.entry.jobs.items) result }
         { worker.work(memory, gate, end) };
         started.push_reserved(scope.spawn_with(promise, work)?);
     }
@@ -130,8 +132,10 @@ fn join<R: Threads>(
     mut results: Results,
 ) -> Results
     requires empty { (results.ports.items ≡ []) × (results.answers.items ≡ []) }
-    requires room { (length started.items ≤ vec_capacity results.ports) × (length started.items ≤ vec_capacity results.answers) }
-    ensures { (m : MemoryView) (u : UntilType) (calls : List (List CallType)) → AreEach (IsStarted m u) 0 calls started.entry.items → HaveCome m u calls result }
+    requires room { (length started.items ≤ vec_capacity results.ports) ×
+        (length started.items ≤ vec_capacity results.answers) }
+    ensures { (m : MemoryView) (u : UntilType) (calls : List (List CallType)) →
+        AreEach (IsStarted m u) 0 calls started.entry.items → HaveCome m u calls result }
 {
     for handle in started {
         let Worked { port, answers } = handle.join(rt);
@@ -184,7 +188,8 @@ pub fn run_on<'c, R: Threads + Wait + Sync, G: Gate>(
 ) -> Result<Ran, RunError>
     requires opened { IsOpenedFor memory (map (λ c. c.now) calls.now) ports.items }
     requires makable { AreMakable memory.about.sizes.m (map (λ c. c.now) calls.now) }
-    ensures { IfOk result (λ ran. IsRun until memory.about.opening (map (λ c. c.now) calls.now) ran.answers.items ran.closed.values.items) }
+    ensures { IfOk result (λ ran. IsRun until memory.about.opening (map (λ c. c.now) calls.now) ran.answers.items
+        ran.closed.values.items) }
 {
     let count = calls.len();
     let workers = hire(alloc, &memory, calls, ports)?;

@@ -11,4 +11,4 @@ returns g c =
     let made = c.in_ok-memory.ensures in
     let report = c.into_report.result in
     reported_of o p report (opening_is o _ _ (made.values ∙ c.initial.ensures.value) (made.first ∙ ap pool_base c.sizes.ensures.value))
-        (subst (IsReportFrom o p) (sym c.into_report.ensures) c.in_ok-run_plan.ensures)
+    (subst (IsReportFrom o p) (sym c.into_report.ensures) c.in_ok-run_plan.ensures)

@@ -19,5 +19,7 @@ returns c =
     let last = c.scan_into-last.result in
     let watching = c.requires.met.watching in
     let same : c.deref.result.now ≡ x.stages.items = c.deref.ensures.value in
-    let sees : LastSees x.port x.stages.items q last = subst (λ (l : List ℕ). LastSees x.port l q last) same (last_sees x.port q c.deref.result.now last c.scan_into-last.ensures.some c.scan_into-last.ensures.none) in
-    orderly m x.port q c.args.joined.ports.items x.stages.items x.scans last c.in-Ok.closed c.args.joined.ends c.requires.opens c.requires.met.each c.requires.met.count c.scan_into-last.ensures.own (last_number x.port q x.stages.items last sees ∙ watching.number) watching.each watching.watched sees c.in-Ok.ensures
+    let sees : LastSees x.port x.stages.items q last = subst (λ (l : List ℕ). LastSees x.port l q last) same
+    (last_sees x.port q c.deref.result.now last c.scan_into-last.ensures.some c.scan_into-last.ensures.none) in
+    orderly m x.port q c.args.joined.ports.items x.stages.items x.scans last c.in-Ok.closed c.args.joined.ends c.requires.opens c.requires.met.each c.requires.met.count c.scan_into-last.ensures.own
+    (last_number x.port q x.stages.items last sees ∙ watching.number) watching.each watching.watched sees c.in-Ok.ensures

@@ -10,7 +10,8 @@ meet-requires g c =
     let m = c.args.memory.now in
     let all = c.args.started.items in
     let n = length c.loop-handle.yielded in
-    let turn = YieldsList-turn (YieldsList-from_vec {s = c.into_iter-handle-iterator.result} all (search rules) (search rules)) c.loop-handle.yielded _ c.loop-handle.yielded_by _ c.next.new.self c.in-Some.handle c.in-Some.is c.next.ensures.steps in
+    let turn = YieldsList-turn (YieldsList-from_vec {s = c.into_iter-handle-iterator.result} all (search rules) (search rules)) c.loop-handle.yielded _ c.loop-handle.yielded_by _ c.next.new.self
+    c.in-Some.handle c.in-Some.is c.next.ensures.steps in
     let done = started_done m n all c.in-Some.handle c.join-port.result c.requires.started turn.0 turn.1 c.join-port.ensures in
     (c.loop-handle.invariant.watching.own, done.own)
 
@@ -20,12 +21,14 @@ loop-handle-preserved g c =
     let all = c.args.started.items in
     let n = length c.loop-handle.yielded in
     let x = c.loop-handle.joined.monitor in
-    let turn = YieldsList-turn (YieldsList-from_vec {s = c.into_iter-handle-iterator.result} all (search rules) (search rules)) c.loop-handle.yielded _ c.loop-handle.yielded_by _ c.next.new.self c.in-Some.handle c.in-Some.is c.next.ensures.steps in
+    let turn = YieldsList-turn (YieldsList-from_vec {s = c.into_iter-handle-iterator.result} all (search rules) (search rules)) c.loop-handle.yielded _ c.loop-handle.yielded_by _ c.next.new.self
+    c.in-Some.handle c.in-Some.is c.next.ensures.steps in
     let done = started_done m n all c.in-Some.handle c.join-port.result c.requires.started turn.0 turn.1 c.join-port.ensures in
     let more = length_push c.loop-handle.yielded c.in-Some.handle in
     record {
       watching = watching_met m x c.join-port.result.port c.meet.new.first c.meet.new.second c.loop-handle.invariant.watching c.meet.ensures.same.0 c.meet.ensures.met;
-      each = joined_more m x c.loop-handle.joined.ports.items c.push_reserved.new.self.items c.join-port.result.port c.meet.new.first c.meet.new.second n c.join-port.result c.loop-handle.invariant.each c.loop-handle.invariant.ports done refl c.meet.ensures.same.1 c.meet.ensures.met c.push_reserved.ensures.items;
+      each = joined_more m x c.loop-handle.joined.ports.items c.push_reserved.new.self.items c.join-port.result.port c.meet.new.first c.meet.new.second n c.join-port.result
+          c.loop-handle.invariant.each c.loop-handle.invariant.ports done refl c.meet.ensures.same.1 c.meet.ensures.met c.push_reserved.ensures.items;
       ports = ap length c.push_reserved.ensures.items ∙ length_push c.loop-handle.joined.ports.items c.meet.new.second ∙ ap (λ k. k + 1) c.loop-handle.invariant.ports ∙ sym more;
       ends = ap length c.push_reserved-in-loop-handle.ensures.items ∙ length_push c.loop-handle.joined.ends.items c.join-port.result.end ∙ ap (λ k. k + 1) c.loop-handle.invariant.ends ∙ sym more;
       ports_room = search rules;
@@ -35,7 +38,8 @@ loop-handle-preserved g c =
 pub returns : goal.returns
 returns g c =
     let all = c.args.started.items in
-    let end = YieldsList-end (YieldsList-from_vec {s = c.into_iter-handle-iterator.result} all (search rules) (search rules)) c.loop-handle.yielded _ c.loop-handle.yielded_by _ c.next.new.self c.in-None.is c.next.ensures.steps in
+    let end = YieldsList-end (YieldsList-from_vec {s = c.into_iter-handle-iterator.result} all (search rules) (search rules)) c.loop-handle.yielded _ c.loop-handle.yielded_by _ c.next.new.self
+    c.in-None.is c.next.ensures.steps in
     record {
       watching = c.loop-handle.invariant.watching;
       each = c.loop-handle.invariant.each;

@@ -29,7 +29,8 @@ scoped-requires g c =
     let count : c.len-stages.result ≡ length ports = omega (arith, c.len-stages.ensures, c.pop.new.self.ok.0) in
     let new : AreFrom (IsNew m) 0 ports = all.0 in
     let some : (0 < m.about.sizes.m) × (length ports ≡ m.about.sizes.m) = (c.requires.opens.some, all.1) in
-    let started : (c.in_ok-started.started.items ≡ []) × (length ports ≤ vec_capacity c.in_ok-started.started) = (c.in_ok-started.ensures.items, omega (arith, count, c.in_ok-started.ensures.capacity)) in
+    let started : (c.in_ok-started.started.items ≡ []) × (length ports ≤ vec_capacity c.in_ok-started.started) =
+    (c.in_ok-started.ensures.items, omega (arith, count, c.in_ok-started.ensures.capacity)) in
     let empty : (c.in_ok-with_capacity.field-0.items ≡ []) × (c.in_ok-with_capacity-2.field-0.items ≡ []) = (c.in_ok-with_capacity.ensures.items, c.in_ok-with_capacity-2.ensures.items) in
     let room : length ports ≤ vec_capacity c.in_ok-with_capacity.field-0 = omega (arith, count, c.in_ok-with_capacity.ensures.capacity) in
     let ends : length ports ≤ vec_capacity c.in_ok-with_capacity-2.field-0 = omega (arith, count, c.in_ok-with_capacity-2.ensures.capacity) in

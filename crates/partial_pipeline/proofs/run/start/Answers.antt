@@ -14,7 +14,8 @@ new-stage-requires g c =
     let m = c.args.memory.now in
     let all = c.args.ports.items in
     let n = length c.loop-port.yielded in
-    let turn = YieldsList-turn (YieldsList-from_vec {s = c.into_iter-port-iterator.result} all (search rules) (search rules)) c.loop-port.yielded _ c.loop-port.yielded_by _ c.next.new.self c.in-Some.port c.in-Some.is c.next.ensures.steps in
+    let turn = YieldsList-turn (YieldsList-from_vec {s = c.into_iter-port-iterator.result} all (search rules) (search rules)) c.loop-port.yielded _ c.loop-port.yielded_by _ c.next.new.self
+    c.in-Some.port c.in-Some.is c.next.ensures.steps in
     new_self m n c.in-Some.port (new_at m n all c.in-Some.port c.requires.new turn.0 turn.1)
 
 pub loop-port-preserved : goal.loop-port-preserved
@@ -22,7 +23,8 @@ loop-port-preserved g c =
     let m = c.args.memory.now in
     let all = c.args.ports.items in
     let n = length c.loop-port.yielded in
-    let turn = YieldsList-turn (YieldsList-from_vec {s = c.into_iter-port-iterator.result} all (search rules) (search rules)) c.loop-port.yielded _ c.loop-port.yielded_by _ c.next.new.self c.in-Some.port c.in-Some.is c.next.ensures.steps in
+    let turn = YieldsList-turn (YieldsList-from_vec {s = c.into_iter-port-iterator.result} all (search rules) (search rules)) c.loop-port.yielded _ c.loop-port.yielded_by _ c.next.new.self
+    c.in-Some.port c.in-Some.is c.next.ensures.steps in
     let new = new_at m n all c.in-Some.port c.requires.new turn.0 turn.1 in
     let h = c.in_ok-spawn_with.field-0 in
     let promised = c.in_ok-spawn_with.ensures.ok in

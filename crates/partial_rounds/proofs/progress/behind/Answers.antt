@@ -25,7 +25,8 @@ rest-requires c =
     let v = c.index-answers-k.result in
     let long = each_length (λ port (cs : List Call) (v : Vec Answer Global). length v.items ≤ length cs) 0 (map now given) c.args.answers.now c.requires.firsts in
     let at = map_at now k given own c.loop-k-test.true c.index-left-k.is in
-    let within = each_at (λ port (cs : List Call) (v : Vec Answer Global). length v.items ≤ length cs) 0 k (map now given) c.args.answers.now own.now v c.requires.firsts (omega (arith, long, length-map given now, c.loop-k-test.true)) at c.index-answers-k.is in
+    let within = each_at (λ port (cs : List Call) (v : Vec Answer Global). length v.items ≤ length cs) 0 k (map now given) c.args.answers.now own.now v c.requires.firsts
+    (omega (arith, long, length-map given now, c.loop-k-test.true)) at c.index-answers-k.is in
     omega (arith, within, c.len.ensures)
 
 pub loop-k-preserved : goal.loop-k-preserved
@@ -40,7 +41,9 @@ loop-k-preserved c =
     let at = map_at now k given own c.loop-k-test.true c.index-left-k.is in
     let size : length v.items ≡ v.len = omega (arith, v.ok.0) in
     record {
-      calls = behind_next now k (k + 1) (map now given) c.args.answers.now own.now v c.loop-k.behind.items c.push_reserved.new.self.items c.rest.result (omega (arith, many, c.loop-k-test.true)) (omega (arith, long, many, c.loop-k-test.true)) at c.index-answers-k.is refl c.loop-k.invariant.calls c.push_reserved.ensures.items (c.rest.ensures ∙ ap (λ n. drop n own.now) (c.len.ensures ∙ sym size));
+      calls = behind_next now k (k + 1) (map now given) c.args.answers.now own.now v c.loop-k.behind.items c.push_reserved.new.self.items c.rest.result (omega (arith, many, c.loop-k-test.true))
+          (omega (arith, long, many, c.loop-k-test.true)) at c.index-answers-k.is refl c.loop-k.invariant.calls c.push_reserved.ensures.items
+          (c.rest.ensures ∙ ap (λ n. drop n own.now) (c.len.ensures ∙ sym size));
       count = search rules;
       room = search rules;
     }
@@ -53,4 +56,5 @@ returns c =
     let long = each_length (λ port (cs : List Call) (v : Vec Answer Global). length v.items ≤ length cs) 0 (map now given) c.args.answers.now c.requires.firsts in
     let k = c.loop-k.k in
     let end : length given ≤ k = search (rules, arith) in
-    c.loop-k.invariant.calls ∙ ap (λ (l : List (List Call)). calls_behind l (take k c.args.answers.now)) (take_all k (map now given) (omega (arith, many, end))) ∙ ap (λ (l : List (Vec Answer Global)). calls_behind (map now given) l) (take_all k c.args.answers.now (omega (arith, long, many, end)))
+    c.loop-k.invariant.calls ∙ ap (λ (l : List (List Call)). calls_behind l (take k c.args.answers.now)) (take_all k (map now given) (omega (arith, many, end))) ∙
+    ap (λ (l : List (Vec Answer Global)). calls_behind (map now given) l) (take_all k c.args.answers.now (omega (arith, long, many, end)))

@@ -14,7 +14,8 @@ loop-k-preserved c =
     let many = length-map given now in
     let at = map_at now k given own c.loop-k-test.true c.index-left-k.is in
     record {
-      calls = seen_next now (λ (l : List Call). take c.args.most l) k (k + 1) (map now given) own.now c.loop-k.calls.items c.push_reserved.new.self.items c.at_most.result (omega (arith, many, c.loop-k-test.true)) at refl c.loop-k.invariant.calls c.push_reserved.ensures.items c.at_most.ensures;
+      calls = seen_next now (λ (l : List Call). take c.args.most l) k (k + 1) (map now given) own.now c.loop-k.calls.items c.push_reserved.new.self.items c.at_most.result
+          (omega (arith, many, c.loop-k-test.true)) at refl c.loop-k.invariant.calls c.push_reserved.ensures.items c.at_most.ensures;
       count = search rules;
       room = search rules;
     }

@@ -16,7 +16,8 @@ bounds-calls-number c =
     let given = c.args.calls.now in
     let plan = map (λ (b : Bor (List Call)). b.now) given in
     let all = c.args.ports.items in
-    let turn = YieldsList-turn (YieldsList-from_vec {s = c.into_iter-port-iterator.result} all (search rules) (search rules)) c.loop-port.yielded _ c.loop-port.yielded_by _ c.next.new.self c.in-Some.port c.in-Some.is c.next.ensures.steps in
+    let turn = YieldsList-turn (YieldsList-from_vec {s = c.into_iter-port-iterator.result} all (search rules) (search rules)) c.loop-port.yielded _ c.loop-port.yielded_by _ c.next.new.self
+    c.in-Some.port c.in-Some.is c.next.ensures.steps in
     let new = each_some (IsNew m) 0 (length c.loop-port.yielded) plan all c.in-Some.port c.requires turn.0 turn.1 in
     let long = each_length (IsNew m) 0 plan all c.requires in
     let same = length-map given (λ (b : Bor (List Call)). b.now) in
@@ -29,7 +30,8 @@ loop-port-preserved c =
     let plan = map (λ (b : Bor (List Call)). b.now) given in
     let all = c.args.ports.items in
     let n = length c.loop-port.yielded in
-    let turn = YieldsList-turn (YieldsList-from_vec {s = c.into_iter-port-iterator.result} all (search rules) (search rules)) c.loop-port.yielded _ c.loop-port.yielded_by _ c.next.new.self c.in-Some.port c.in-Some.is c.next.ensures.steps in
+    let turn = YieldsList-turn (YieldsList-from_vec {s = c.into_iter-port-iterator.result} all (search rules) (search rules)) c.loop-port.yielded _ c.loop-port.yielded_by _ c.next.new.self
+    c.in-Some.port c.in-Some.is c.next.ensures.steps in
     let some = each_some (IsNew m) 0 n plan all c.in-Some.port c.requires turn.0 turn.1 in
     let long = each_length (IsNew m) 0 plan all c.requires in
     let place : c.number.result ≡ n = c.number.ensures ∙ some.1.number ∙ omega arith in
@@ -41,10 +43,13 @@ loop-port-preserved c =
     let zero_more : 0 + n ≡ n = omega arith in
     let worker : Worker = record { port = c.in-Some.port; jobs = c.in_ok-jobs.jobs; answers = c.in_ok-answers.answers } in
     let jobs : calls_of c.in_ok-jobs.jobs.items ≡ calls = c.in_ok-jobs.ensures.calls in
-    let hire = hired m n calls worker (subst (λ i. IsNew m i calls c.in-Some.port) zero_more new) jobs c.in_ok-jobs.ensures.rooms c.in_ok-answers.ensures.items (search rules) (as_many c.in_ok-jobs.jobs.items calls jobs) in
+    let hire = hired m n calls worker (subst (λ i. IsNew m i calls c.in-Some.port) zero_more new) jobs c.in_ok-jobs.ensures.rooms c.in_ok-answers.ensures.items (search rules)
+    (as_many c.in_ok-jobs.jobs.items calls jobs) in
     record {
-      each = hire_more m n (length (c.loop-port.yielded ++ c.in-Some.port ∷ [])) plan c.loop-port.workers.items c.push_reserved.new.self.items calls worker c.loop-port.invariant.each (omega (arith, turn.0, long)) at hire (length_push c.loop-port.yielded c.in-Some.port) c.push_reserved.ensures.items;
-      count = ap length c.push_reserved.ensures.items ∙ length_push c.loop-port.workers.items worker ∙ ap (λ k. k + 1) c.loop-port.invariant.count ∙ sym (length_push c.loop-port.yielded c.in-Some.port);
+      each = hire_more m n (length (c.loop-port.yielded ++ c.in-Some.port ∷ [])) plan c.loop-port.workers.items c.push_reserved.new.self.items calls worker c.loop-port.invariant.each
+          (omega (arith, turn.0, long)) at hire (length_push c.loop-port.yielded c.in-Some.port) c.push_reserved.ensures.items;
+      count = ap length c.push_reserved.ensures.items ∙ length_push c.loop-port.workers.items worker ∙ ap (λ k. k + 1) c.loop-port.invariant.count ∙
+          sym (length_push c.loop-port.yielded c.in-Some.port);
       room = search rules;
     }
 
@@ -53,6 +58,7 @@ returns c =
     let given = c.args.calls.now in
     let plan = map (λ (b : Bor (List Call)). b.now) given in
     let all = c.args.ports.items in
-    let end = YieldsList-end (YieldsList-from_vec {s = c.into_iter-port-iterator.result} all (search rules) (search rules)) c.loop-port.yielded _ c.loop-port.yielded_by _ c.next.new.self c.in-None.is c.next.ensures.steps in
+    let end = YieldsList-end (YieldsList-from_vec {s = c.into_iter-port-iterator.result} all (search rules) (search rules)) c.loop-port.yielded _ c.loop-port.yielded_by _ c.next.new.self c.in-None.is
+    c.next.ensures.steps in
     let long = each_length (IsNew c.args.memory.now) 0 plan all c.requires in
     subst (λ l. AreEach (IsHired c.args.memory.now) 0 l c.loop-port.workers.items) (take_all (length c.loop-port.yielded) plan (omega (arith, long, end.1))) c.loop-port.invariant.each

@@ -18,14 +18,17 @@ unreachable-requires g c =
 
 pub close-requires-clause-port : goal.close-requires-clause-port
 close-requires-clause-port g c =
-    (last_own c.args.memory c.new.result.until (map (λ (b : Bor (List Call)). b.now) c.args.calls.now) c.in_ok-ports.field-0 c.pop.new.self.items c.in-Some.last c.in_ok-ports.ensures.1 (search rules)).1
+    (last_own c.args.memory c.new.result.until (map (λ (b : Bor (List Call)). b.now) c.args.calls.now) c.in_ok-ports.field-0 c.pop.new.self.items c.in-Some.last
+    c.in_ok-ports.ensures.1 (search rules)).1
 
 pub close-requires-clause-rest : goal.close-requires-clause-rest
 close-requires-clause-rest g c =
-    (last_own c.args.memory c.new.result.until (map (λ (b : Bor (List Call)). b.now) c.args.calls.now) c.in_ok-ports.field-0 c.pop.new.self.items c.in-Some.last c.in_ok-ports.ensures.1 (search rules)).0
+    (last_own c.args.memory c.new.result.until (map (λ (b : Bor (List Call)). b.now) c.args.calls.now) c.in_ok-ports.field-0 c.pop.new.self.items c.in-Some.last
+    c.in_ok-ports.ensures.1 (search rules)).0
 
 pub returns : goal.returns
 returns g c =
     let plan : List (List Call) = map (λ (b : Bor (List Call)). b.now) c.args.calls.now in
-    let run = ran c.args.memory c.new.result.until plan c.args.ports.items c.in_ok-ports.field-0 c.pop.new.self.items c.in-Some.last c.in_ok-closed.closed c.requires.opened c.in_ok-ports.ensures.1 (search rules) c.in_ok-closed.ensures in
+    let run = ran c.args.memory c.new.result.until plan c.args.ports.items c.in_ok-ports.field-0 c.pop.new.self.items c.in-Some.last c.in_ok-closed.closed c.requires.opened c.in_ok-ports.ensures.1
+    (search rules) c.in_ok-closed.ensures in
     subst (λ (t : Until). IsRun t c.args.memory.about.opening plan c.in_ok-ports.field-0.answers.items c.in_ok-closed.closed.values.items) c.new.ensures run

@@ -16,7 +16,8 @@ bounds-calls-port g c =
     let given = c.args.calls.now in
     let plan = map (λ (b : Bor (List Call)). b.now) given in
     let all = c.args.workers.items in
-    let turn = YieldsList-turn (YieldsList-from_vec {s = c.into_iter-worker-iterator.result} all (search rules) (search rules)) c.loop-worker.yielded _ c.loop-worker.yielded_by _ c.next.new.self c.in-Some.worker c.in-Some.is c.next.ensures.steps in
+    let turn = YieldsList-turn (YieldsList-from_vec {s = c.into_iter-worker-iterator.result} all (search rules) (search rules)) c.loop-worker.yielded _ c.loop-worker.yielded_by _ c.next.new.self
+    c.in-Some.worker c.in-Some.is c.next.ensures.steps in
     let some = each_some (IsHired m) 0 (length c.loop-worker.yielded) plan all c.in-Some.worker c.requires turn.0 turn.1 in
     let long = each_length (IsHired m) 0 plan all c.requires in
     let same = length-map given (λ (b : Bor (List Call)). b.now) in
@@ -28,7 +29,8 @@ spawn_with-requires-clause-runs g c =
     let given = c.args.calls.now in
     let plan = map (λ (b : Bor (List Call)). b.now) given in
     let all = c.args.workers.items in
-    let turn = YieldsList-turn (YieldsList-from_vec {s = c.into_iter-worker-iterator.result} all (search rules) (search rules)) c.loop-worker.yielded _ c.loop-worker.yielded_by _ c.next.new.self c.in-Some.worker c.in-Some.is c.next.ensures.steps in
+    let turn = YieldsList-turn (YieldsList-from_vec {s = c.into_iter-worker-iterator.result} all (search rules) (search rules)) c.loop-worker.yielded _ c.loop-worker.yielded_by _ c.next.new.self
+    c.in-Some.worker c.in-Some.is c.next.ensures.steps in
     let some = each_some (IsHired m) 0 (length c.loop-worker.yielded) plan all c.in-Some.worker c.requires turn.0 turn.1 in
     λ κs lives. ((some.1.own, some.1.ready), search rules)
 
@@ -40,7 +42,8 @@ spawn_with-requires-clause-keeps g c =
     let all = c.args.workers.items in
     let n = length c.loop-worker.yielded in
     let worker = c.in-Some.worker in
-    let turn = YieldsList-turn (YieldsList-from_vec {s = c.into_iter-worker-iterator.result} all (search rules) (search rules)) c.loop-worker.yielded _ c.loop-worker.yielded_by _ c.next.new.self worker c.in-Some.is c.next.ensures.steps in
+    let turn = YieldsList-turn (YieldsList-from_vec {s = c.into_iter-worker-iterator.result} all (search rules) (search rules)) c.loop-worker.yielded _ c.loop-worker.yielded_by _ c.next.new.self
+    worker c.in-Some.is c.next.ensures.steps in
     let some = each_some (IsHired m) 0 n plan all worker c.requires turn.0 turn.1 in
     let place : c.number-port.result ≡ n = c.number-port.ensures ∙ some.1.number ∙ omega arith in
     let own = c.index-calls-port.result in
@@ -49,14 +52,16 @@ spawn_with-requires-clause-keeps g c =
     let long = each_length (IsHired m) 0 plan all c.requires in
     let at : calls ≡ get_or plan n calls = map_at (λ (b : Bor (List Call)). b.now) n given own (omega (arith, turn.0, long, same)) (c.index-calls-port.is ∙ ap (λ i. get_or given i own) place) in
     let mine : IsHired m (0 + n) calls worker = each_at (IsHired m) 0 n plan all calls worker c.requires turn.0 at turn.1 in
-    λ κs lives r done. done_alike m c.of.result.value c.args.end.now.until c.until.result worker.port.number c.number-port.result (calls_of worker.jobs.items) c.of-in-loop-worker.result.value.now r done c.of.ensures c.until.ensures c.number-port.ensures (ap (λ (b : Bor (List Call)). b.now) c.of-in-loop-worker.ensures ∙ sym mine.jobs)
+    λ κs lives r done. done_alike m c.of.result.value c.args.end.now.until c.until.result worker.port.number c.number-port.result (calls_of worker.jobs.items) c.of-in-loop-worker.result.value.now r
+    done c.of.ensures c.until.ensures c.number-port.ensures (ap (λ (b : Bor (List Call)). b.now) c.of-in-loop-worker.ensures ∙ sym mine.jobs)
 
 pub push_reserved-requires : goal.push_reserved-requires
 push_reserved-requires g c =
     let given = c.args.calls.now in
     let plan = map (λ (b : Bor (List Call)). b.now) given in
     let all = c.args.workers.items in
-    let turn = YieldsList-turn (YieldsList-from_vec {s = c.into_iter-worker-iterator.result} all (search rules) (search rules)) c.loop-worker.yielded _ c.loop-worker.yielded_by _ c.next.new.self c.in-Some.worker c.in-Some.is c.next.ensures.steps in
+    let turn = YieldsList-turn (YieldsList-from_vec {s = c.into_iter-worker-iterator.result} all (search rules) (search rules)) c.loop-worker.yielded _ c.loop-worker.yielded_by _ c.next.new.self
+    c.in-Some.worker c.in-Some.is c.next.ensures.steps in
     let long = each_length (IsHired c.args.memory.now) 0 plan all c.requires in
     omega (arith, turn.0, long, length-map given (λ (b : Bor (List Call)). b.now), c.loop-worker.invariant.count, c.loop-worker.invariant.room, c.loop-worker.started.ok.0)
 
@@ -69,7 +74,8 @@ loop-worker-preserved g c =
     let all = c.args.workers.items in
     let n = length c.loop-worker.yielded in
     let worker = c.in-Some.worker in
-    let turn = YieldsList-turn (YieldsList-from_vec {s = c.into_iter-worker-iterator.result} all (search rules) (search rules)) c.loop-worker.yielded _ c.loop-worker.yielded_by _ c.next.new.self worker c.in-Some.is c.next.ensures.steps in
+    let turn = YieldsList-turn (YieldsList-from_vec {s = c.into_iter-worker-iterator.result} all (search rules) (search rules)) c.loop-worker.yielded _ c.loop-worker.yielded_by _ c.next.new.self
+    worker c.in-Some.is c.next.ensures.steps in
     let some = each_some (IsHired m) 0 n plan all worker c.requires turn.0 turn.1 in
     let place : c.number-port.result ≡ n = c.number-port.ensures ∙ some.1.number ∙ omega arith in
     let own = c.index-calls-port.result in
@@ -87,7 +93,9 @@ loop-worker-preserved g c =
     } in
     let more = length_push c.loop-worker.yielded worker in
     record {
-      each = subst (AreEach (IsStarted m u) 0 (take (length (c.loop-worker.yielded ++ worker ∷ [])) plan)) (sym c.push_reserved.ensures.items) (each_push (IsStarted m u) 0 n (length (c.loop-worker.yielded ++ worker ∷ [])) plan c.loop-worker.started.items calls h c.loop-worker.invariant.each (omega (arith, turn.0, long)) at started more);
+      each = subst (AreEach (IsStarted m u) 0 (take (length (c.loop-worker.yielded ++ worker ∷ [])) plan)) (sym c.push_reserved.ensures.items)
+          (each_push (IsStarted m u) 0 n (length (c.loop-worker.yielded ++ worker ∷ [])) plan c.loop-worker.started.items calls h c.loop-worker.invariant.each
+          (omega (arith, turn.0, long)) at started more);
       count = ap length c.push_reserved.ensures.items ∙ length_push c.loop-worker.started.items h ∙ ap (λ k. k + 1) c.loop-worker.invariant.count ∙ sym more;
       room = search rules;
     }
@@ -99,6 +107,7 @@ returns g c =
     let given = c.args.calls.now in
     let plan = map (λ (b : Bor (List Call)). b.now) given in
     let all = c.args.workers.items in
-    let end = YieldsList-end (YieldsList-from_vec {s = c.into_iter-worker-iterator.result} all (search rules) (search rules)) c.loop-worker.yielded _ c.loop-worker.yielded_by _ c.next.new.self c.in-None.is c.next.ensures.steps in
+    let end = YieldsList-end (YieldsList-from_vec {s = c.into_iter-worker-iterator.result} all (search rules) (search rules)) c.loop-worker.yielded _ c.loop-worker.yielded_by _ c.next.new.self
+    c.in-None.is c.next.ensures.steps in
     let long = each_length (IsHired m) 0 plan all c.requires in
     subst (λ l. AreEach (IsStarted m u) 0 l c.loop-worker.started.items) (take_all (length c.loop-worker.yielded) plan (omega (arith, long, end.1))) c.loop-worker.invariant.each

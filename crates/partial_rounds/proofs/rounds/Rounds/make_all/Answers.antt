@@ -13,7 +13,8 @@ pub loop-alloc-smaller : goal.loop-alloc-smaller
 loop-alloc-smaller g c =
     let now : Bor (List Call) → List Call = λ b. b.now in
     let behind = map now c.in-Ok.behind.items in
-    let pass = subst (λ (l : List (Bor (List Call))). Passes c.loop-alloc.self (map now l) c.loop-alloc.rounds.items c.round.new.rounds.items behind c.round.new.self) c.deref-in-loop-alloc.ensures.value c.in-Ok.ensures.ok in
+    let pass = subst (λ (l : List (Bor (List Call))). Passes c.loop-alloc.self (map now l) c.loop-alloc.rounds.items c.round.new.rounds.items behind c.round.new.self)
+    c.deref-in-loop-alloc.ensures.value c.in-Ok.ensures.ok in
     pass_fewer c.loop-alloc.self c.round.new.self (map now c.loop-alloc.left.items) behind c.loop-alloc.rounds.items c.round.new.rounds.items pass
 
 pub loop-alloc-preserved : goal.loop-alloc-preserved
@@ -42,7 +43,8 @@ returns-in-Err-clause-report g c =
     let start = c.args.self.now in
     let calls = map now c.args.calls.items in
     let err = c.in-Err.ensures.err in
-    let here : SoFar start.sizes start.values calls c.round.new.rounds.items left c.round.new.self.values = so_far_alike start.sizes start.values calls left c.loop-alloc.rounds.items c.round.new.rounds.items c.loop-alloc.self c.round.new.self c.loop-alloc.invariant.so_far err.0 err.1 in
+    let here : SoFar start.sizes start.values calls c.round.new.rounds.items left c.round.new.self.values = so_far_alike start.sizes start.values calls left c.loop-alloc.rounds.items
+    c.round.new.rounds.items c.loop-alloc.self c.round.new.self c.loop-alloc.invariant.so_far err.0 err.1 in
     reported start.sizes start.values calls left _ c.round.new.self.values here tt
 
 pub returns-clause-report : goal.returns-clause-report

@@ -25,7 +25,8 @@ behind-behind-requires-clause-firsts g c =
     let now : Bor (List Call) → List Call = λ b. b.now in
     let left = map now c.args.left.now in
     let same = ap (map now) c.deref-2.ensures.value ∙ c.in_ok-calls.ensures in
-    let firsts = run_firsts c.in_ok-memory.memory.about.opening c.most_calls.result left (map now c.deref-2.result.now) c.in_ok-ran.ran.answers.items c.in_ok-ran.ran.closed.values.items same c.in_ok-ran.ensures in
+    let firsts = run_firsts c.in_ok-memory.memory.about.opening c.most_calls.result left (map now c.deref-2.result.now) c.in_ok-ran.ran.answers.items c.in_ok-ran.ran.closed.values.items
+    same c.in_ok-ran.ensures in
     subst (AreFirsts left) (sym c.deref-4.ensures.value) firsts
 
 pub returns-clause-ok : goal.returns-clause-ok
@@ -37,9 +38,11 @@ returns-clause-ok g c =
     let opened = c.in_ok-memory.ensures in
     let answers = c.in_ok-ran.ran.answers in
     let after : RoundsView = record { sizes = was.sizes; values = c.in_ok-ran.ran.closed.values.items } in
-    let opening = opening_is o was.values (pool_base was.sizes) (opened.values ∙ c.deref.ensures.value ∙ ap (λ (v : RoundsView). v.values) c.self.view_is) (opened.first ∙ ap (λ (v : RoundsView). pool_base v.sizes) c.self.view_is) in
+    let opening = opening_is o was.values (pool_base was.sizes) (opened.values ∙ c.deref.ensures.value ∙ ap (λ (v : RoundsView). v.values) c.self.view_is)
+    (opened.first ∙ ap (λ (v : RoundsView). pool_base v.sizes) c.self.view_is) in
     let same = ap (map now) c.deref-2.ensures.value ∙ c.in_ok-calls.ensures in
     let rest = c.behind-behind.ensures ∙ ap (calls_behind left) c.deref-4.ensures.value in
     let some = ap have_answers (sym c.deref-3.ensures.value) ∙ sym c.is_answered.ensures ∙ c.if-not-is_answered.false in
     let told = c.push_reserved.ensures.items ∙ ap (λ (l : List Round). l ++ record { answers = answers } ∷ []) c.reserve.ensures.items in
-    passed was after o c.most_calls.result left (map now c.deref-2.result.now) (map now c.behind-behind.result.items) answers c.args.rounds.now.items c.push_reserved.new.self.items opening same c.in_ok-ran.ensures rest told some
+    passed was after o c.most_calls.result left (map now c.deref-2.result.now) (map now c.behind-behind.result.items) answers c.args.rounds.now.items c.push_reserved.new.self.items opening same
+    c.in_ok-ran.ensures rest told some

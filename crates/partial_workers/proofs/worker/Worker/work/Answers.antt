@@ -23,7 +23,8 @@ loop-job-preserved g c =
     let q = c.make-answer.new.port in
     let after = c.push_reserved.new.self.items in
     let had = c.loop-job.invariant in
-    let turn = YieldsList-turn (YieldsList-from_vec {s = c.into_iter-job-iterator.result} all (search rules) (search rules)) c.loop-job.yielded _ c.loop-job.yielded_by _ c.next.new.self job c.in-Some.is c.next.ensures.steps in
+    let turn = YieldsList-turn (YieldsList-from_vec {s = c.into_iter-job-iterator.result} all (search rules) (search rules)) c.loop-job.yielded _ c.loop-job.yielded_by _ c.next.new.self job
+    c.in-Some.is c.next.ensures.steps in
     let within : length old < length all = omega (arith, had.count, turn.0) in
     let at : job ≡ get_or all (length old) job = turn.1 ∙ ap (λ k. get_or all k job) (sym had.count) in
     let place = map_at (λ (j : Job). j.call.now) (length old) all job within at in
@@ -37,7 +38,8 @@ loop-job-preserved g c =
       own = search rules;
       number = search rules;
       made = subst (λ (l : List Answer). AreMade m (take (length after) (calls_of all)) l q) (sym {A = List Answer} items) told;
-      unspent = λ spent. subst AreUnspent (sym {A = List Answer} items) (all_append (λ (a : Answer). ¬ IsSpent a) old (answer ∷ []) (had.unspent spent) (c.comes_with.ensures.goes_on c.if-comes_with.false spent, tt));
+      unspent = λ spent. subst AreUnspent (sym {A = List Answer} items)
+          (all_append (λ (a : Answer). ¬ IsSpent a) old (answer ∷ []) (had.unspent spent) (c.comes_with.ensures.goes_on c.if-comes_with.false spent, tt));
       count = more ∙ ap (λ k. k + 1) had.count ∙ sym (length_push c.loop-job.yielded job);
       room = search rules;
     }
@@ -54,12 +56,14 @@ returns-clause-made g c =
     let had = c.loop-job.invariant in
     elim c.match-next.branch [
       | in-None w ↦
-          let end = YieldsList-end (YieldsList-from_vec {s = c.into_iter-job-iterator.result} all (search rules) (search rules)) c.loop-job.yielded _ c.loop-job.yielded_by _ c.next.new.self w.in-None.is c.next.ensures.steps in
+          let end = YieldsList-end (YieldsList-from_vec {s = c.into_iter-job-iterator.result} all (search rules) (search rules)) c.loop-job.yielded _ c.loop-job.yielded_by _ c.next.new.self
+          w.in-None.is c.next.ensures.steps in
           has_made m u calls given p q had.made (ap (λ (v : PortView). v.notes) w.port-is) (λ made. had.count ∙ end.1 ∙ sym (length-map all (λ (j : Job). j.call.now))) had.unspent
       | in-Some+then-has_come w ↦
           let spent = w.has_come.ensures w.if-has_come.true in
           has_made m u calls given p q had.made (ap (λ (v : PortView). v.notes) w.port-is) (λ made. not_both u (length given) (length calls) spent made) had.unspent
       | in-Some+else-has_come+then-comes_with w ↦
           let spent = w.comes_with.ensures.ends w.if-comes_with.true in
-          has_made m u calls given p q had.made (ap (λ (v : PortView). v.notes) w.port-is ∙ w.make-answer.ensures.spent spent.1) (λ made. not_both u (length given) (length calls) spent.0 made) had.unspent
+          has_made m u calls given p q had.made (ap (λ (v : PortView). v.notes) w.port-is ∙ w.make-answer.ensures.spent spent.1)
+          (λ made. not_both u (length given) (length calls) spent.0 made) had.unspent
     ]
