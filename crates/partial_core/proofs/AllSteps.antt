@@ -56,12 +56,24 @@ abbrev pub fresh_call : CoreState → Part → Part
 fresh_call c x = record { seen = x.seen; notes = x.notes; begun = c; kept = []; since = length x.seen; past = length x.notes }
 
 pub started_fresh : (c : CoreState) (x : Part) → is_begun c.stage ≡ true → fresh_call c x ≡ started c x
-started_fresh c x begun = ap (λ (b : Bool). record { seen = x.seen; notes = x.notes; begun = cond b c x.begun; kept = cond b [] x.kept; since = cond b (length x.seen) x.since;
-    past = cond b (length x.notes) x.past }) (sym begun)
+started_fresh c x begun = ap (λ (b : Bool). record {
+  seen = x.seen;
+  notes = x.notes;
+  begun = cond b c x.begun;
+  kept = cond b [] x.kept;
+  since = cond b (length x.seen) x.since;
+  past = cond b (length x.notes) x.past;
+}) (sym begun)
 
 pub started_same : (c : CoreState) (x : Part) → is_begun c.stage ≡ false → x ≡ started c x
-started_same c x begun = ap (λ (b : Bool). record { seen = x.seen; notes = x.notes; begun = cond b c x.begun; kept = cond b [] x.kept; since = cond b (length x.seen) x.since;
-    past = cond b (length x.notes) x.past }) (sym begun)
+started_same c x begun = ap (λ (b : Bool). record {
+  seen = x.seen;
+  notes = x.notes;
+  begun = cond b c x.begun;
+  kept = cond b [] x.kept;
+  since = cond b (length x.seen) x.since;
+  past = cond b (length x.notes) x.past;
+}) (sym begun)
 
 -- what a machine holds that has no call under way, or one that has made no step
 abbrev bare : CoreState → Holding
@@ -127,14 +139,14 @@ module _ (z : Layout) (o : Opening) (words : List ℕ) (before : List Part) (x :
       } in
       let memory = memory_here z o words before x after log w in
       let keeps : Keeps z o (record { words = words; holdings = holdings before ++ holding_of x ∷ holdings after; log = log })
-          (record { words = words; holdings = holdings before ++ holding_of y ∷ holdings after; log = log ++ [] }) =
+      (record { words = words; holdings = holdings before ++ holding_of y ∷ holdings after; log = log ++ [] }) =
       subst (λ (h : Holding). Keeps z o (record { words = words; holdings = holdings before ++ holding_of x ∷ holdings after; log = log })
-          (record { words = words; holdings = holdings before ++ h ∷ holdings after; log = log ++ [] })) (sym holds)
+      (record { words = words; holdings = holdings before ++ h ∷ holdings after; log = log ++ [] })) (sym holds)
       (subst (λ (l : List Applied). Keeps z o (record { words = words; holdings = holdings before ++ holding_of x ∷ holdings after; log = log })
-          (record { words = words; holdings = holdings before ++ holding_of x ∷ holdings after; log = l })) (sym nil) (record { lawful = memory; loads = λ n k l. l })) in
+      (record { words = words; holdings = holdings before ++ holding_of x ∷ holdings after; log = l })) (sym nil) (record { lawful = memory; loads = λ n k l. l })) in
       subst (λ (l : List Applied). Lawful z o words (before ++ y ∷ after) l) nil
       (changed z o words words before x y after log [] w keeps (λ p. ap (λ (l : List Applied). places_by p 0 l) nil ∙ w.once p ∙ sym (once_same p before x y after port refl))
-          (subst (λ (l : List Applied). IsKnown z o words (holdings (before ++ y ∷ after)) l y) (sym nil) known))
+      (subst (λ (l : List Applied). IsKnown z o words (holdings (before ++ y ∷ after)) l y) (sym nil) known))
 
   -- the step that is due at a stage
   leads_stage : (s : Stage) (step : Step) → (core_of x).stage ≡ s → step_at (core_of x) s ≡ Some step → LeadsAt z o words before x after log (core_of x) s step
@@ -226,14 +238,14 @@ module _ (z : Layout) (o : Opening) (words : List ℕ) (before : List Part) (x :
   -- a published word stays
   then_keeps : (n : ℕ) → list_base z ≤ n → n < total z → IsPublished z words (unpublished (holdings (before ++ x ∷ after))) n →
       (get_or (words_after words step) n 0 ≡ get_or words n 0) × IsPublished z (words_after words step)
-          (unpublished (holdings (before ++ gone (started c x) (log ++ added_by z (port_of x) words step) (answer_of words step) leads.new ∷ after))) n
+      (unpublished (holdings (before ++ gone (started c x) (log ++ added_by z (port_of x) words step) (answer_of words step) leads.new ∷ after))) n
   then_keeps n low high published =
       let same : holdings (before ++ x ∷ after) ≡ holdings (before ++ started c x ∷ after) = holdings_split before x after ∙ ap (λ (h : Holding). holdings before ++ h ∷ holdings after)
-          (sym holds) ∙ sym (holdings_split before (started c x) after) in
+      (sym holds) ∙ sym (holdings_split before (started c x) after) in
       let here : IsPublished z words (unpublished (holdings (before ++ started c x ∷ after))) n = subst (λ (hs : List Holding). IsPublished z words (unpublished hs) n) same published in
       let loaded = leads.loads n (record { answer = get_or words n 0; at = length log }) (loads_are_true z o words (holdings (before ++ started c x ∷ after)) log n w.memory high (λ _. here)) in
       let block = (subst (λ (l : List Applied). IsLoaded z o (words_after words step) (holdings (before ++ gone (started c x) l (answer_of words step) leads.new ∷ after)) l n
-          (record { answer = get_or words n 0; at = length log })) grown loaded).block low in
+      (record { answer = get_or words n 0; at = length log })) grown loaded).block low in
       (sym block.0, block.1)
 
   pub leads_on : LeadsOn z o words before x after log c step
@@ -242,7 +254,7 @@ module _ (z : Layout) (o : Opening) (words : List ℕ) (before : List Part) (x :
       let k = known_here z o words before (started c x) after log w in
       let y = gone (started c x) (log ++ added_by z (port_of x) words step) (answer_of words step) l.new in
       let core : core_of y ≡ advance c (answer_of words step) = gone_core (started c x) (log ++ added_by z (port_of x) words step)
-          (answer_of words step) l.new ∙ ap (λ (d : CoreState). advance d (answer_of words step)) (sym mine) in
+      (answer_of words step) l.new ∙ ap (λ (d : CoreState). advance d (answer_of words step)) (sym mine) in
       let behind = then_behind in
       let lawful = then_lawful in
       record {

@@ -73,7 +73,7 @@ module _ (z : Layout) (o : Opening) (words : List ℕ) (before : List Part) (x :
       let room = ltb-true (a + size) (pool_end s.sizes + 1) fits in
       let end : pool_end s.sizes ≡ pool_end z = ap pool_end (sizes_here z o words before x after log w) in
       subst (λ n. IsKept z o words (holdings before) h (holdings after) log (words_after words (Add (pool_counter z) n))
-          (record h { own = Some (record { space = Pool; at = a; words = block; stored = 0 }) }) log) counts
+      (record h { own = Some (record { space = Pool; at = a; words = block; stored = 0 }) }) log) counts
       (claims_are_kept z o words (holdings before) h (holdings after) log Pool block memory free none (omega (arith, room, end, counts)))
 
   -- past its end: the port is marked
@@ -97,25 +97,25 @@ module _ (z : Layout) (o : Opening) (words : List ℕ) (before : List Part) (x :
       either : (b : Bool) → fits_pool s.sizes (record_size s) a ≡ b → LeadsAt z o words before x after log s (ClaimingRecord c old) (Add (pool_counter z) (record_size s))
       either true fits =
           let keeps = kept_here (ClaimingRecord c old) e (words_after words (Add (pool_counter z) (record_size s))) (holding_at (at_stage s (StoringRecord c old a 0)) (joined_since x))
-              (claim_keeps (holding_in s (ClaimingRecord c old) (joined_since x)) (record_size s) (record_words s c old a) (memory_at z o words before x after log w (ClaimingRecord c old) e) refl
-              refl (length_record s c old a) fits) in
+          (claim_keeps (holding_in s (ClaimingRecord c old) (joined_since x)) (record_size s) (record_words s c old a) (memory_at z o words before x after log w (ClaimingRecord c old) e) refl
+          refl (length_record s c old a) fits) in
           quiet z o words before x after log w (ClaimingRecord c old) (Add (pool_counter z) (record_size s)) (at_stage s (StoringRecord c old a 0))
-              (holding_at (at_stage s (StoringRecord c old a 0)) (joined_since x)) e due (ap (λ (b : Bool). cond b (at_stage s (StoringRecord c old a 0)) (pool_refused s)) fits) refl counter_inside
-              pool_possible refl keeps (λ ks is. tt) refl refl
+          (holding_at (at_stage s (StoringRecord c old a 0)) (joined_since x)) e due (ap (λ (b : Bool). cond b (at_stage s (StoringRecord c old a 0)) (pool_refused s)) fits) refl counter_inside
+          pool_possible refl keeps (λ ks is. tt) refl refl
       either false over =
           let sound = sound_at z o words before x after log w (ClaimingRecord c old) e in
           let all = sound_here z o words before x after log w in
           let sizes = sizes_here z o words before x after log w in
           let few : record_size s ≤ 4 + 2 * z.m = subst (λ (y : Layout). record_size s ≤ 4 + 2 * y.m) sizes (size_few s all.indices.few).1 in
           let keeps = kept_here (ClaimingRecord c old) e (words_after words (Add (pool_counter z) (record_size s))) (holding_at (pool_refused s) (joined_since x))
-              (refusal_keeps (holding_in s (ClaimingRecord c old) (joined_since x)) (record_size s) (memory_at z o words before x after log w (ClaimingRecord c old) e) sound.2 few over) in
+          (refusal_keeps (holding_in s (ClaimingRecord c old) (joined_since x)) (record_size s) (memory_at z o words before x after log w (ClaimingRecord c old) e) sound.2 few over) in
           let g = going z o words before x after log w (ClaimingRecord c old) e refl refl in
           let known = g.knows in
           let called = known.0.called in
           let k = known_here z o words before x after log w in
           let below : c.component < x.begun.sizes.m = (subst (is_sound_at x.begun) called k.sound.stage).0 in
           quiet z o words before x after log w (ClaimingRecord c old) (Add (pool_counter z) (record_size s)) (pool_refused s) (holding_at (pool_refused s) (joined_since x)) e due
-              (ap (λ (b : Bool). cond b (at_stage s (StoringRecord c old a 0)) (pool_refused s)) over) refl counter_inside pool_possible refl keeps (λ ks is. tt) refl
+          (ap (λ (b : Bool). cond b (at_stage s (StoringRecord c old a 0)) (pool_refused s)) over) refl counter_inside pool_possible refl keeps (λ ks is. tt) refl
           (record { none = refl; call = update_call c.component c.expected c.value; made = ap (call_at x.begun) called; may = may_refuse c.expected below })
         where
           may_refuse : (f : Option ℕ) → c.component < x.begun.sizes.m → MayBeRefused x.begun.sizes.m (update_call c.component f c.value) refused.PoolSpent
@@ -133,10 +133,10 @@ module _ (z : Layout) (o : Opening) (words : List ℕ) (before : List Part) (x :
       either true fits =
           let t = at_stage s (StoringAnnouncement a 0) in
           let keeps = kept_here ScanBegun e (words_after words (Add (pool_counter z) (1 + length s.asked))) (holding_at t (joined_since x))
-              (claim_keeps (holding_in s ScanBegun (joined_since x)) (1 + length s.asked) (announcement_block s.asked) (memory_at z o words before x after log w ScanBegun e) refl
-              refl (omega arith) fits) in
+          (claim_keeps (holding_in s ScanBegun (joined_since x)) (1 + length s.asked) (announcement_block s.asked) (memory_at z o words before x after log w ScanBegun e) refl
+          refl (omega arith) fits) in
           quiet z o words before x after log w ScanBegun (Add (pool_counter z) (1 + length s.asked)) t (holding_at t (joined_since x)) e due
-              (ap (λ (b : Bool). cond b (at_stage s (StoringAnnouncement a 0)) (pool_refused s)) fits) refl counter_inside pool_possible refl keeps (λ ks is. tt) refl refl
+          (ap (λ (b : Bool). cond b (at_stage s (StoringAnnouncement a 0)) (pool_refused s)) fits) refl counter_inside pool_possible refl keeps (λ ks is. tt) refl refl
       either false over =
           let t = pool_refused s in
           let sound = sound_at z o words before x after log w ScanBegun e in
@@ -144,13 +144,13 @@ module _ (z : Layout) (o : Opening) (words : List ℕ) (before : List Part) (x :
           let sizes = sizes_here z o words before x after log w in
           let few : length s.asked ≤ z.m = subst (λ (y : Layout). length s.asked ≤ y.m) sizes all.asked.few in
           let keeps = kept_here ScanBegun e (words_after words (Add (pool_counter z) (1 + length s.asked))) (holding_at t (joined_since x))
-              (refusal_keeps (holding_in s ScanBegun (joined_since x)) (1 + length s.asked) (memory_at z o words before x after log w ScanBegun e) sound.1 (omega (arith, few)) over) in
+          (refusal_keeps (holding_in s ScanBegun (joined_since x)) (1 + length s.asked) (memory_at z o words before x after log w ScanBegun e) sound.1 (omega (arith, few)) over) in
           let begun = begun_here z o words before x after log w ScanBegun e refl in
           let called : x.begun.stage ≡ ScanBegun = ap (λ (d : CoreState). d.stage) (sym begun) ∙ e in
           let k = known_here z o words before x after log w in
           let may = subst (is_sound_at x.begun) called k.sound.stage in
           quiet z o words before x after log w ScanBegun (Add (pool_counter z) (1 + length s.asked)) t (holding_at t (joined_since x)) e due
-              (ap (λ (b : Bool). cond b (at_stage s (StoringAnnouncement a 0)) (pool_refused s)) over) refl counter_inside pool_possible refl keeps (λ ks is. tt) refl
+          (ap (λ (b : Bool). cond b (at_stage s (StoringAnnouncement a 0)) (pool_refused s)) over) refl counter_inside pool_possible refl keeps (λ ks is. tt) refl
           (record { none = refl; call = call.Scan x.begun.asked; made = ap (call_at x.begun) called; may = (names_all x.begun.sizes.m x.begun.asked k.sound.asked.each, may.0) })
 
   -- a word of the announcement is stored
@@ -178,7 +178,7 @@ module _ (z : Layout) (o : Opening) (words : List ℕ) (before : List Part) (x :
           let sound = sound_at z o words before x after log w (StoringAnnouncement at k) e in
           let less = sound.3 in
           stores_are_kept z o words (holdings before) (holding_in s (StoringAnnouncement at k) (joined_since x)) (holdings after) log
-              (record { space = Pool; at = at; words = announcement_block s.asked; stored = k }) (memory_at z o words before x after log w (StoringAnnouncement at k) e) refl refl (omega (arith, less))
+          (record { space = Pool; at = at; words = announcement_block s.asked; stored = k }) (memory_at z o words before x after log w (StoringAnnouncement at k) e) refl refl (omega (arith, less))
 
       kept_stores : IsKept z o words (holdings before) (holding_of x) (holdings after) log (words_after words (Store (at + k) (slice_index (announcement_block s.asked) k)))
           (record (holding_in s (StoringAnnouncement at k) (joined_since x)) { own = Some (record { space = Pool; at = at; words = announcement_block s.asked; stored = k + 1 }) }) log
@@ -189,12 +189,12 @@ module _ (z : Layout) (o : Opening) (words : List ℕ) (before : List Part) (x :
       either true last =
           let all : 1 + length s.asked ≡ k + 1 = let is = eqb-true k (length s.asked) last in omega (arith, is) in
           quiet z o words before x after log w (StoringAnnouncement at k) (Store (at + k) (slice_index (announcement_block s.asked) k)) (begin_joining s at)
-              (record (holding_in s (StoringAnnouncement at k) (joined_since x)) { own = Some (record { space = Pool; at = at; words = announcement_block s.asked; stored = k + 1 }) }) e refl
-              (ap (λ (b : Bool). cond b (begin_joining s at) (at_stage s (StoringAnnouncement at (k + 1)))) last) refl inside refl
+          (record (holding_in s (StoringAnnouncement at k) (joined_since x)) { own = Some (record { space = Pool; at = at; words = announcement_block s.asked; stored = k + 1 }) }) e refl
+          (ap (λ (b : Bool). cond b (begin_joining s at) (at_stage s (StoringAnnouncement at (k + 1)))) last) refl inside refl
           (ap (λ n. record (holding_in s (StoringAnnouncement at k) (joined_since x)) { own = Some (record { space = Pool; at = at; words = announcement_block s.asked; stored = n }) }) all)
-              kept_stores (λ ks is. tt) refl refl
+          kept_stores (λ ks is. tt) refl refl
       either false more =
           quiet z o words before x after log w (StoringAnnouncement at k) (Store (at + k) (slice_index (announcement_block s.asked) k)) (at_stage s (StoringAnnouncement at (k + 1)))
-              (record (holding_in s (StoringAnnouncement at k) (joined_since x)) { own = Some (record { space = Pool; at = at; words = announcement_block s.asked; stored = k + 1 }) }) e refl
-              (ap (λ (b : Bool). cond b (begin_joining s at) (at_stage s (StoringAnnouncement at (k + 1)))) more) refl inside refl
+          (record (holding_in s (StoringAnnouncement at k) (joined_since x)) { own = Some (record { space = Pool; at = at; words = announcement_block s.asked; stored = k + 1 }) }) e refl
+          (ap (λ (b : Bool). cond b (begin_joining s at) (at_stage s (StoringAnnouncement at (k + 1)))) more) refl inside refl
           refl kept_stores (λ ks is. tt) refl refl

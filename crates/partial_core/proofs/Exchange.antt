@@ -114,12 +114,12 @@ module _ (z : Layout) (o : Opening) (words : List ℕ) (before : List Part) (x :
       let n : Noted = record { call = call.Update c.component c.value; answer = answer.Lost found; note = Some (note.Lost over.place) } in
       let reply_is : overtaken c found ≡ reply.Lost found = ap (λ (f : Option ℕ). option_map_or (λ _. reply.Changed found) f (reply.Lost found)) is in
       let leads : advance_at s (Exchanging c old at) found ≡ at_stage s (Finished (reply.Lost found)) = ap (λ (b : Bool). at_stage s (Finished (cond b (reply.Applied at) (overtaken c found)))) lost ∙
-          ap (λ (r : Reply). at_stage s (Finished r)) reply_is in
+      ap (λ (r : Reply). at_stage s (Finished r)) reply_is in
       let within = place_below log over.place over.entry over.stands in
       let low = g.low in
       let behind = over.behind in
       ends z o words before x after log w (Exchanging c old at) step (at_stage s (Finished (reply.Lost found))) dropped e refl leads (nothing_added lost) inside possible refl
-          (lost_keeps lost) (λ ks is. tt)
+      (lost_keeps lost) (λ ks is. tt)
       n refl (below_values, ((over.entry, over.stands, over.component, over.stamp ∙ sym now), omega (arith, low, behind))) (omega (arith, within)) refl
       (record {
         call = call.Update c.component c.value;
@@ -135,12 +135,12 @@ module _ (z : Layout) (o : Opening) (words : List ℕ) (before : List Part) (x :
       let n : Noted = record { call = call.UpdateIf c.component t c.value; answer = answer.Changed found; note = Some (note.Saw (length log)) } in
       let reply_is : overtaken c found ≡ reply.Changed found = ap (λ (f : Option ℕ). option_map_or (λ _. reply.Changed found) f (reply.Lost found)) is in
       let leads : advance_at s (Exchanging c old at) found ≡ at_stage s (Finished (reply.Changed found)) = ap (λ (b : Bool). at_stage s (Finished (cond b (reply.Applied at) (overtaken c found))))
-          lost ∙ ap (λ (r : Reply). at_stage s (Finished r)) reply_is in
+      lost ∙ ap (λ (r : Reply). at_stage s (Finished r)) reply_is in
       let other : found ≢ t = λ same. eqb-false found old lost (same ∙ expected_old t is) in
       let order = g.order in
       let last = g.inside in
       ends z o words before x after log w (Exchanging c old at) step (at_stage s (Finished (reply.Changed found))) dropped e refl leads (nothing_added lost) inside possible refl
-          (lost_keeps lost) (λ ks is. tt)
+      (lost_keeps lost) (λ ks is. tt)
       n refl (below_values, ((omega arith, sym (stamp_then z o words before x after log w c.component below), other), seen_here z o words before x after log w)) (omega arith) refl
       (record {
         call = call.UpdateIf c.component t c.value;
@@ -172,15 +172,15 @@ module _ (z : Layout) (o : Opening) (words : List ℕ) (before : List Part) (x :
       either true h =
           let is : port_of x ≡ p = sym mine ∙ eqb-true s.port p h in
           let own_x : places_written (notes_by p (before ++ x ∷ after)) ≡ places_written x.notes = ap (λ n. places_written (notes_by n (before ++ x ∷ after))) (sym is) ∙ once_own before x after
-              (others z o words before x after log w).0 (others z o words before x after log w).1 in
+          (others z o words before x after log w).0 (others z o words before x after log w).1 in
           let own_y : places_written (notes_by p (before ++ y ∷ after)) ≡ places_written y.notes = ap (λ n. places_written (notes_by n (before ++ y ∷ after))) (sym (port ∙ is)) ∙ once_own before y
-              after (all_weaker (λ (v : Part). port_of x ≢ port_of v) (λ (v : Part). port_of y ≢ port_of v) away before (others z o words before x after log w).0)
-              (all_weaker (λ (v : Part). port_of x ≢ port_of v) (λ (v : Part). port_of y ≢ port_of v) away after (others z o words before x after log w).1) in
+          after (all_weaker (λ (v : Part). port_of x ≢ port_of v) (λ (v : Part). port_of y ≢ port_of v) away before (others z o words before x after log w).0)
+          (all_weaker (λ (v : Part). port_of x ≢ port_of v) (λ (v : Part). port_of y ≢ port_of v) away after (others z o words before x after log w).1) in
           places_by-push p 0 log entry ∙ ap (λ (b : Bool). places_by p 0 log ++ cond b ((0 + length log) ∷ []) []) h ∙ ap (λ n. places_by p 0 log ++ n ∷ [])
-              (omega arith) ∙ ap (λ (l : List ℕ). l ++ length log ∷ []) (w.once p ∙ own_x) ∙ sym more ∙ sym own_y
+          (omega arith) ∙ ap (λ (l : List ℕ). l ++ length log ∷ []) (w.once p ∙ own_x) ∙ sym more ∙ sym own_y
       either false h =
           places_by-push p 0 log entry ∙ ap (λ (b : Bool). places_by p 0 log ++ cond b ((0 + length log) ∷ []) []) h ∙ append-nil
-              (places_by p 0 log) ∙ w.once p ∙ sym (once_other p before x y after port (λ same. eqb-false s.port p h (mine ∙ same)))
+          (places_by p 0 log) ∙ w.once p ∙ sym (once_other p before x y after port (λ same. eqb-false s.port p h (mine ∙ same)))
 
   won_legal : (f : Option ℕ) → c.expected ≡ f → found ≡ old → IsLegal o won_log (port_of x) (seen_by 0 x.notes)
       (record { call = update_call c.component f c.value; answer = answer.Applied at; note = Some (note.Wrote (length log)) })
@@ -195,7 +195,7 @@ module _ (z : Layout) (o : Opening) (words : List ℕ) (before : List Part) (x :
       legal (Some t) is =
           let front : take (length log) won_log ≡ log = take_at log (entry ∷ []) (length log) refl in
           let stamp : stamp_of o (take (length log) won_log) c.component ≡ t =
-              ap (λ (l : List Applied). stamp_of o l c.component) front ∙ sym (stamp_now z o words before x after log w c.component below) ∙ won ∙ sym (expected_old t is) in
+          ap (λ (l : List Applied). stamp_of o l c.component) front ∙ sym (stamp_now z o words before x after log w c.component below) ∙ won ∙ sym (expected_old t is) in
           (below_values, ((stands, stamp), seen_here z o words before x after log w))
 
   abbrev won_note : Noted
@@ -211,21 +211,21 @@ module _ (z : Layout) (o : Opening) (words : List ℕ) (before : List Part) (x :
       let words' = words_after words step in
       let holds : holding_of y ≡ dropped = holding_gone z o words before x after log w (Exchanging c old at) t won_log found (won_note ∷ []) e leads in
       let keeps : IsKept z o words (holdings before) (holding_of x) (holdings after) log words' (holding_of y) won_log =
-          subst (λ (h : Holding). IsKept z o words (holdings before) (holding_of x) (holdings after) log words' h won_log) (sym holds)
-          (kept_here words' dropped won_log (wins_are_kept z o words (holdings before) held (holdings after) log due (memory_at z o words before x after log w (Exchanging c old at) e) refl is)) in
+      subst (λ (h : Holding). IsKept z o words (holdings before) (holding_of x) (holdings after) log words' h won_log) (sym holds)
+      (kept_here words' dropped won_log (wins_are_kept z o words (holdings before) held (holdings after) log due (memory_at z o words before x after log w (Exchanging c old at) e) refl is)) in
       let split = holdings_split before y after in
       let here : IsKnown z o words' (holdings (before ++ y ∷ after)) won_log x = known_grows z o words words' hs (holdings (before ++ y ∷ after)) log (entry ∷ [])
       (λ n k l. subst (λ (ks : List Holding). IsLoaded z o words' ks won_log n k) (sym split)
-          (keeps.loads n k (subst (λ (ks : List Holding). IsLoaded z o words ks log n k) (holdings_split before x after) l))) x (known_here z o words before x after log w) in
+      (keeps.loads n k (subst (λ (ks : List Holding). IsLoaded z o words ks log n k) (holdings_split before x after) l))) x (known_here z o words before x after log w) in
       let longer : length won_log ≡ length log + 1 = length_push log entry in
       let pushed = seen_by-push 0 x.notes won_note in
       let due_step : step_of s ≡ Some step = ap (λ (u : Stage). step_at s u) e in
       let possible_here : IsPossible s found = subst (λ (u : Stage). IsPossibleAt s u found) (sym e) possible in
       let known : IsKnown z o words' (holdings (before ++ y ∷ after)) won_log y = known_end z o words' (holdings (before ++ y ∷ after)) won_log x found won_note here (ap is_at_rest e) possible_here
-          (subst (λ (f : Option Step). IsTrueYet z o words' (holdings (before ++ y ∷ after)) won_log f (record { answer = found; at = length won_log })) (sym due_step) tt)
-          (won_legal c.expected refl is) (omega (arith, pushed, longer)) (ap (λ (u : Stage). is_at_rest (advance_at s u found).stage) e ∙ ap (λ (d : CoreState). is_at_rest d.stage) leads) in
+      (subst (λ (f : Option Step). IsTrueYet z o words' (holdings (before ++ y ∷ after)) won_log f (record { answer = found; at = length won_log })) (sym due_step) tt)
+      (won_legal c.expected refl is) (omega (arith, pushed, longer)) (ap (λ (u : Stage). is_at_rest (advance_at s u found).stage) e ∙ ap (λ (d : CoreState). is_at_rest d.stage) leads) in
       let lawful : Lawful z o words' (before ++ y ∷ after) won_log = changed z o words words' before x y after log (entry ∷ []) w keeps
-          (λ p. won_once p y refl (places_written-append x.notes (won_note ∷ []))) known in
+      (λ p. won_once p y refl (places_written-append x.notes (won_note ∷ []))) known in
       let g = going z o words before x after log w (Exchanging c old at) e refl refl in
       let order = g.order in
       let last = g.inside in
@@ -235,18 +235,18 @@ module _ (z : Layout) (o : Opening) (words : List ℕ) (before : List Part) (x :
         new = won_note ∷ [];
         noted = subst (λ (b : Bool). AreNotesOf (gone x (log ++ cond b (entry ∷ []) []) found (won_note ∷ [])) (Some (cond b (reply.Applied at) (overtaken c found)))
             (won_note ∷ [])) (sym same) (record {
-          call = update_call c.component c.expected c.value;
-          note = note.Wrote (length log);
-          is = refl;
-          made = call_made c.expected refl;
-          behind = let more = g.more (record { answer = found; at = length won_log }) in omega (arith, more, order, last);
-          within = omega (arith, longer);
-          placed = omega (arith, longer);
-        });
+              call = update_call c.component c.expected c.value;
+              note = note.Wrote (length log);
+              is = refl;
+              made = call_made c.expected refl;
+              behind = let more = g.more (record { answer = found; at = length won_log }) in omega (arith, more, order, last);
+              within = omega (arith, longer);
+              placed = omega (arith, longer);
+            });
         lawful = subst (λ (es : List Applied). Lawful z o words' (before ++ gone x (log ++ es) found (won_note ∷ []) ∷ after) (log ++ es)) (sym added) lawful;
         loads = λ n k l. subst (λ (es : List Applied). IsLoaded z o words' (holdings (before ++ gone x (log ++ es) found (won_note ∷ []) ∷ after)) (log ++ es) n k) (sym added)
             (subst (λ (ks : List Holding). IsLoaded z o words' ks won_log n k) (sym split)
-                (keeps.loads n k (subst (λ (ks : List Holding). IsLoaded z o words ks log n k) (holdings_split before x after) l)));
+            (keeps.loads n k (subst (λ (ks : List Holding). IsLoaded z o words ks log n k) (holdings_split before x after) l)));
       }
 
   pub record_exchanged : LeadsAt z o words before x after log s (Exchanging c old at) step

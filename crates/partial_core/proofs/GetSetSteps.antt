@@ -112,7 +112,7 @@ IsCalm b p = (own_list p.1.next p.0.stage ≡ None) × (p.0.lists_spent ≡ b)
 calm_at_slot : (p : finding.Pair) (slot : ℕ) → IsCalm p.0.lists_spent (finding.at_slot p slot)
 calm_at_slot p slot = cond_both (ltb slot p.0.end) (record p.0 { stage = Slot slot }, p.1) (finding.after_walk p) (IsCalm p.0.lists_spent) (λ f. (refl, refl))
     (λ f. cond_both (p.0.noted && not p.0.lists_spent) (Claim (finding.next_words p.1)) Done (λ stage. IsCalm p.0.lists_spent (record p.0 { stage = stage }, p.1))
-        (λ g. (refl, refl)) (λ g. (refl, refl)))
+    (λ g. (refl, refl)) (λ g. (refl, refl)))
 
 calm_come : (p : finding.Pair) (slot : ℕ) → IsCalm p.0.lists_spent (finding.come_to p slot)
 calm_come p slot = cond_both (begins_at p.1.read p.0.passed slot) (finding.at_slot (finding.pass_interval p) (highest p.1.read p.0.passed + 1)) (finding.at_slot p slot) (IsCalm p.0.lists_spent)
@@ -121,22 +121,31 @@ calm_come p slot = cond_both (begins_at p.1.read p.0.passed slot) (finding.at_sl
 -- a load leads to no list that is written, and marks nothing
 calm_load : (y : Layout) (head n : ℕ) (stage : SetStage) (p : finding.Pair) (a : ℕ) → finding.step_at y head stage ≡ Some (Load n) → (own_list p.1.next stage ≡ None) ×
     IsCalm p.0.lists_spent (finding.advance_at stage p a)
-calm_load y head n Head p a e = (refl, cond_both (eqb a 0) Counter (ListLen a)
-    (λ stage. IsCalm p.0.lists_spent (record p.0 { head = a; stage = stage }, record p.1 { indices = []; read = []; next = [] })) (λ f. (refl, refl)) (λ f. (refl, refl)))
+calm_load y head n Head p a e = (
+  refl,
+  cond_both (eqb a 0) Counter (ListLen a)
+      (λ stage. IsCalm p.0.lists_spent (record p.0 { head = a; stage = stage }, record p.1 { indices = []; read = []; next = [] })) (λ f. (refl, refl)) (λ f. (refl, refl)),
+)
 calm_load y head n (ListLen at) p a e = (refl, cond_both (eqb a 0) Counter (ListLow (at + 1) a) (λ stage. IsCalm p.0.lists_spent (finding.in_stage p stage)) (λ f. (refl, refl)) (λ f. (refl, refl)))
 calm_load y head n (ListLow at left) p a e = (refl, (refl, refl))
-calm_load y head n (ListHigh at left lo) p a e = (refl, cond_both (eqb left 1) Counter (ListLow (at + 1) (left - 1))
-    (λ stage. IsCalm p.0.lists_spent (record p.0 { stage = stage }, record p.1 { read = p.1.read ++ (lo, a) ∷ [] })) (λ f. (refl, refl)) (λ f. (refl, refl)))
+calm_load y head n (ListHigh at left lo) p a e = (
+  refl,
+  cond_both (eqb left 1) Counter (ListLow (at + 1) (left - 1))
+      (λ stage. IsCalm p.0.lists_spent (record p.0 { stage = stage }, record p.1 { read = p.1.read ++ (lo, a) ∷ [] })) (λ f. (refl, refl)) (λ f. (refl, refl)),
+)
 calm_load y head n Counter p a e = (refl, calm_come (record p.0 { end = min a p.0.sizes.slots; passed = 0 }, p.1) 0)
 calm_load y head n (Slot slot) p a e = (
   refl,
   cond_both (eqb a 0) (finding.come_to p (slot + 1)) (cond (eqb a 1) (finding.come_to (finding.note_slot p slot) (slot + 1)) (finding.in_stage p (Len slot a))) (IsCalm p.0.lists_spent)
       (λ f. calm_come p (slot + 1))
       (λ f. cond_both (eqb a 1) (finding.come_to (finding.note_slot p slot) (slot + 1)) (finding.in_stage p (Len slot a)) (IsCalm p.0.lists_spent)
-          (λ g. calm_come (finding.note_slot p slot) (slot + 1)) (λ g. (refl, refl))),
+      (λ g. calm_come (finding.note_slot p slot) (slot + 1)) (λ g. (refl, refl))),
 )
-calm_load y head n (Len slot at) p a e = (refl, cond_both (eqb a 0) (finding.come_to p (slot + 1)) (finding.in_stage p (Index slot (at + 1) a)) (IsCalm p.0.lists_spent)
-    (λ f. calm_come p (slot + 1)) (λ f. (refl, refl)))
+calm_load y head n (Len slot at) p a e = (
+  refl,
+  cond_both (eqb a 0) (finding.come_to p (slot + 1)) (finding.in_stage p (Index slot (at + 1) a)) (IsCalm p.0.lists_spent)
+      (λ f. calm_come p (slot + 1)) (λ f. (refl, refl)),
+)
 calm_load y head n (Index slot at left) p a e =
     let q : finding.Pair = (p.0, record p.1 { indices = with_index p.1.indices a }) in
     (refl, cond_both (eqb left 1) (finding.come_to q (slot + 1)) (finding.in_stage q (Index slot (at + 1) (left - 1))) (IsCalm p.0.lists_spent) (λ f. calm_come q (slot + 1)) (λ f. (refl, refl)))
@@ -161,7 +170,7 @@ module _ (z : Layout) (o : Opening) (words : List ℕ) (before : List Part) (x :
   leads_on =
       let h = gets in
       subst (λ (y : Layout). LawfulWords y o words (holdings (before ++ x ∷ after)) log → sets.Knows y words (holdings (before ++ x ∷ after)) (first_at x.kept) (getting (core_of x)) →
-          sets.KnowsOn y o words (holdings (before ++ x ∷ after)) log (first_at x.kept) (getting (core_of x))) same_sizes
+      sets.KnowsOn y o words (holdings (before ++ x ∷ after)) log (first_at x.kept) (getting (core_of x))) same_sizes
       (λ v k. getsets_know o words (holdings (before ++ x ∷ after)) log (first_at x.kept) (getting (core_of x)) v h.1 k) w.memory knows
 
   -- nothing is noted
@@ -209,7 +218,7 @@ module _ (z : Layout) (o : Opening) (words : List ℕ) (before : List Part) (x :
   memory_in own spent owns marks =
       subst (λ (b : Bool). LawfulWords z o words (holdings before ++ in_set (core_of x) own b ∷ holdings after) log) marks
       (subst (λ (f : Option Own). LawfulWords z o words (holdings before ++ in_set (core_of x) f (core_of x).get_set.lists_spent ∷ holdings after) log) owns
-          (memory_at z o words before x after log w (GettingSet c old) e))
+      (memory_at z o words before x after log w (GettingSet c old) e))
 
   -- a step that isn't a load, from what it does to the words and to what the port holds
   made : (stage : SetStage) (step : Step) (own own' : Option Own) (spent spent' : Bool) → (core_of x).get_set.stage ≡ stage → finding.step_at z (core_of x).get_set.head stage ≡ Some step →
@@ -217,28 +226,28 @@ module _ (z : Layout) (o : Opening) (words : List ℕ) (before : List Part) (x :
       own_list (core_of x).found.next stage ≡ own → (core_of x).get_set.lists_spent ≡ spent →
       finding_answers.is_possible_at stage (getting (core_of x)) (answer_of words step) →
       own_list (finding.advance_at stage (getting (core_of x)) (answer_of words step)).1.next (finding.advance_at stage (getting (core_of x)) (answer_of words step)).0.stage ≡ own' →
-          (finding.advance_at stage (getting (core_of x)) (answer_of words step)).0.lists_spent ≡ spent' →
+      (finding.advance_at stage (getting (core_of x)) (answer_of words step)).0.lists_spent ≡ spent' →
       (LawfulWords z o words (holdings before ++ in_set (core_of x) own spent ∷ holdings after) log → IsKept z o words (holdings before) (in_set (core_of x) own spent) (holdings after) log
-          (words_after words step) (in_set (core_of x) own' spent') log) →
+      (words_after words step) (in_set (core_of x) own' spent') log) →
       ((hs : List Holding) → IsTrueYet z o (words_after words step) hs log (Some step) (record { answer = answer_of words step; at = length log })) →
       LeadsAt z o words before x after log (core_of x) (GettingSet c old) step
   made stage step own own' spent spent' is due within owns marks possible owns' marks' kept yet =
       let a : ℕ = answer_of words step in
       let now : own_list (core_of x).found.next (core_of x).get_set.stage ≡ own = ap (own_list (core_of x).found.next) is ∙ owns in
       let keeps : IsKept z o words (holdings before) (in_set (core_of x) own spent) (holdings after) log (words_after words step) (in_set (core_of x) own' spent') log =
-          kept (memory_in own spent now marks) in
+      kept (memory_in own spent now marks) in
       let keeps_marked = subst (λ (b : Bool). IsKept z o words (holdings before) (in_set (core_of x) own b) (holdings after) log (words_after words step)
-          (in_set (core_of x) own' spent') log) (sym marks) keeps in
+      (in_set (core_of x) own' spent') log) (sym marks) keeps in
       let keeps_owned = subst (λ (f : Option Own). IsKept z o words (holdings before) (in_set (core_of x) f (core_of x).get_set.lists_spent) (holdings after) log (words_after words step)
-          (in_set (core_of x) own' spent') log) (sym now) keeps_marked in
+      (in_set (core_of x) own' spent') log) (sym now) keeps_marked in
       let keeps_here : IsKept z o words (holdings before) (holding_of x) (holdings after) log (words_after words step) (in_set (core_of x) own' spent') log =
-          subst (λ (v : Stage). IsKept z o words (holdings before) (holding_in (core_of x) v (joined_since x)) (holdings after) log (words_after words step)
-          (in_set (core_of x) own' spent') log) (sym e) keeps_owned in
+      subst (λ (v : Stage). IsKept z o words (holdings before) (holding_in (core_of x) v (joined_since x)) (holdings after) log (words_after words step)
+      (in_set (core_of x) own' spent') log) (sym e) keeps_owned in
       quiet z o words before x after log w (GettingSet c old) step (advance_at (core_of x) (GettingSet c old) (answer_of words step)) (in_set (core_of x) own' spent') e
-          (due_at stage step is due) refl refl within
+      (due_at stage step is due) refl refl within
       (subst (λ (t : SetStage). finding_answers.is_possible_at t (getting (core_of x)) (answer_of words step)) (sym is) possible)
       (holds_then a own' spent' (ap (λ (t : SetStage). own_list (finding.advance_at t (getting (core_of x)) a).1.next (finding.advance_at t (getting (core_of x)) a).0.stage) is ∙ owns')
-          (ap (λ (t : SetStage). (finding.advance_at t (getting (core_of x)) a).0.lists_spent) is ∙ marks'))
+      (ap (λ (t : SetStage). (finding.advance_at t (getting (core_of x)) a).0.lists_spent) is ∙ marks'))
       keeps_here (λ hs same. yet hs) refl (silent a)
 
   -- how many words the next list has
@@ -320,9 +329,9 @@ module _ (z : Layout) (o : Opening) (words : List ℕ) (before : List Part) (x :
       (λ more. refl))
       refl
       (λ m. subst (λ v. IsKept z o words (holdings before) (in_set s (listed at k) s.get_set.lists_spent) (holdings after) log (words_after words (Store (at + k) v))
-          (in_set s (listed at (k + 1)) s.get_set.lists_spent) log) (sym goes.3)
+      (in_set s (listed at (k + 1)) s.get_set.lists_spent) log) (sym goes.3)
       (stores_are_kept z o words (holdings before) (in_set s (listed at k) s.get_set.lists_spent) (holdings after) log (record { space = Lists; at = at; words = list_block s.found.next; stored = k })
-          m refl refl (omega (arith, less, length_is))))
+      m refl refl (omega (arith, less, length_is))))
       (λ hs. tt)
 
   -- the exchange of the list head
@@ -334,9 +343,9 @@ module _ (z : Layout) (o : Opening) (words : List ℕ) (before : List Part) (x :
       let long = w.memory.count in
       let some = w.memory.sizes.slots.0 in
       made (Publish at) (Exchange (list_head z) s.get_set.head at) (listed at (length (list_block s.found.next))) None s.get_set.lists_spent s.get_set.lists_spent is refl
-          (omega (arith, long, some)) refl refl tt refl refl
+      (omega (arith, long, some)) refl refl tt refl refl
       (λ m. publishings_are_kept z o words (holdings before) (in_set s (listed at (length (list_block s.found.next))) s.get_set.lists_spent) (holdings after) log s.get_set.head at s.found.next m
-          refl refl goes.0 known.0)
+      refl refl goes.0 known.0)
       (λ hs. tt)
 
   -- the step that is due at a stage of the getSet

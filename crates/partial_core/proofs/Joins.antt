@@ -95,9 +95,9 @@ module _ (z : Layout) (o : Opening) (words : List ℕ) (before : List Part) (x :
         let memory = subst (λ (h : Holding). LawfulWords z o words (holdings before ++ h ∷ holdings after) log) (ap held at) (memory_at z o words before x after log w Joining e) in
         let keeps = slot_claims_are_kept z o words (holdings before) (held Claiming) (holdings after) log memory refl below in
         let keeps_x = kept_here (words_after words (Add (slot_counter z) 1)) (held (Storing n)) log
-            (subst (λ (h : Holding). IsKept z o words (holdings before) h (holdings after) log (words_after words (Add (slot_counter z) 1)) (held (Storing n)) log) (sym (ap held at)) keeps) in
+        (subst (λ (h : Holding). IsKept z o words (holdings before) h (holdings after) log (words_after words (Add (slot_counter z) 1)) (held (Storing n)) log) (sym (ap held at)) keeps) in
         quiet z o words before x after log w Joining (Add (slot_counter z) 1) t (held (Storing n)) e due (leads true room) refl inside possible
-            (since_same t ∙ ap (λ (u : Stage). holding_in t u (joined_since x)) e) keeps_x (λ ks is. tt) refl
+        (since_same t ∙ ap (λ (u : Stage). holding_in t u (joined_since x)) e) keeps_x (λ ks is. tt) refl
         (subst (λ (u : Stage). AreNotesOf (gone x log n []) (reply_at u) []) (sym e) refl)
 
     -- all slots were claimed before
@@ -113,9 +113,9 @@ module _ (z : Layout) (o : Opening) (words : List ℕ) (before : List Part) (x :
         let marks = slot_refusals_are_kept z o words (holdings before) (held Claiming) (holdings after) log memory (sound_at z o words before x after log w Joining e).1 above in
         let drops = drops_are_kept z o words' (holdings before) marked (holdings after) log marks.lawful in
         let keeps : IsKept z o words (holdings before) (held Claiming) (holdings after) log words' dropped log =
-            keeps_then z o (record { words = words; holdings = holdings before ++ held Claiming ∷ holdings after; log = log })
-            (record { words = words'; holdings = holdings before ++ marked ∷ holdings after; log = log })
-            (record { words = words'; holdings = holdings before ++ dropped ∷ holdings after; log = log }) marks drops in
+        keeps_then z o (record { words = words; holdings = holdings before ++ held Claiming ∷ holdings after; log = log })
+        (record { words = words'; holdings = holdings before ++ marked ∷ holdings after; log = log })
+        (record { words = words'; holdings = holdings before ++ dropped ∷ holdings after; log = log }) marks drops in
         let keeps_x = kept_here words' dropped log (subst (λ (h : Holding). IsKept z o words (holdings before) h (holdings after) log words' dropped log) (sym (ap held at)) keeps) in
         let g = going z o words before x after log w Joining e refl refl in
         let known = g.knows in
@@ -144,14 +144,14 @@ module _ (z : Layout) (o : Opening) (words : List ℕ) (before : List Part) (x :
       let few : length s.asked ≤ z.m = subst (λ (y : Layout). length s.asked ≤ y.m) sizes all.asked.few in
       let words' = words_after words (Store (slot_word z slot) s.join.announcement) in
       let keeps = joins_are_kept z o words (holdings before) (held (Storing slot)) (holdings after) log slot s.join.announcement s.asked memory refl refl refl few
-          (λ i lt. subst (λ (y : Layout). get_or s.asked i 0 < y.m) sizes (all.asked.each i lt)) in
+      (λ i lt. subst (λ (y : Layout). get_or s.asked i 0 < y.m) sizes (all.asked.each i lt)) in
       let keeps_x = kept_here words' (holding_at t (length log)) log (subst (λ (h : Holding). IsKept z o words (holdings before) h (holdings after) log words' (holding_at t (length log)) log)
-          (sym (ap held at)) keeps) in
+      (sym (ap held at)) keeps) in
       let count = w.memory.count in
       let due : step_at s Joining ≡ Some (Store (slot_word z slot) s.join.announcement) = ap (λ (i : JoinStage). join_step s.join.sizes s.join.announcement i) at ∙
-          ap (λ (y : Layout). Some (Store (slot_word y slot) s.join.announcement)) join_sizes in
+      ap (λ (y : Layout). Some (Store (slot_word y slot) s.join.announcement)) join_sizes in
       quiet z o words before x after log w Joining (Store (slot_word z slot) s.join.announcement) t (holding_at t (length log)) e due
-          (ap (λ (i : JoinStage). let j = join_after s.join.sizes i 0 in after_joining (record s { join = record s.join { stage = j } }) j) at) refl (omega (arith, below, count)) (omega arith)
+      (ap (λ (i : JoinStage). let j = join_after s.join.sizes i 0 in after_joining (record s { join = record s.join { stage = j } }) j) at) refl (omega (arith, below, count)) (omega arith)
       (ap (λ (b : Bool). holding_at t (cond b (length log) (joined_since x))) (ap is_storing at)) keeps_x (λ ks is. tt) refl refl
 
   -- a join that isn't finished

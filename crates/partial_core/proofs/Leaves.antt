@@ -101,13 +101,13 @@ module _ (z : Layout) (o : Opening) (words : List ℕ) (before : List Part) (x :
   names_own stamp third =
       let covers = AllByRecursion-get (λ (d : Applied). CoversAll z words hs log d.stamp) log third.place third.entry w.memory.covering third.stands in
       let split : AllByRecursion (λ (h : Holding). IfJoined h (λ l j. Covers z words (unpublished hs) log third.entry.stamp j)) (holdings before ++ holding_of x ∷ holdings after) =
-          subst (λ (ks : List Holding). AllByRecursion (λ (h : Holding). IfJoined h (λ l j. Covers z words (unpublished hs) log third.entry.stamp j)) ks) (holdings_split before x after) covers in
+      subst (λ (ks : List Holding). AllByRecursion (λ (h : Holding). IfJoined h (λ l j. Covers z words (unpublished hs) log third.entry.stamp j)) ks) (holdings_split before x after) covers in
       let own : IfJoined (holding_of x) (λ l j. Covers z words (unpublished hs) log third.entry.stamp j) =
-          all_at (λ (h : Holding). IfJoined h (λ l j. Covers z words (unpublished hs) log third.entry.stamp j)) (holdings before) (holding_of x) (holdings after) split in
+      all_at (λ (h : Holding). IfJoined h (λ l j. Covers z words (unpublished hs) log third.entry.stamp j)) (holdings before) (holding_of x) (holdings after) split in
       let here : IfJoined (holding_in s Leaving (joined_since x)) (λ l j. Covers z words (unpublished hs) log third.entry.stamp j) =
-          subst (λ t. IfJoined (holding_in s t (joined_since x)) (λ l j. Covers z words (unpublished hs) log third.entry.stamp j)) e own in
+      subst (λ t. IfJoined (holding_in s t (joined_since x)) (λ l j. Covers z words (unpublished hs) log third.entry.stamp j)) e own in
       let at : Covers z words (unpublished hs) log stamp (record { at = s.join.announcement; indices = s.asked; since = joined_since x }) =
-          subst (λ n. Covers z words (unpublished hs) log n (record { at = s.join.announcement; indices = s.asked; since = joined_since x })) third.is here in
+      subst (λ n. Covers z words (unpublished hs) log n (record { at = s.join.announcement; indices = s.asked; since = joined_since x })) third.is here in
       at third.begun
 
   -- nothing was borrowed: two collects agreed
@@ -154,9 +154,13 @@ module _ (z : Layout) (o : Opening) (words : List ℕ) (before : List Part) (x :
               let mine = same_length z words hs l.0 named.0 l.3 named.1 loaded.shown at.0 (slice_index s.asked i) pair.0 pair.1 in
               loaded.loaded at.0 (let below = place_below l.3 at.0 (slice_index s.asked i, mine.0) mine.1 in omega (arith, all, below)) (slice_index s.asked i) mine.0 mine.1);
           collects = are_collects (length s.asked) s.embedded.collects s.embedded.borrowed some (omega (arith, three)) few (λ _. three);
-          borrowed = subst (λ (f : Option ℕ). IfSome f (λ t. (k j : ℕ) × (loaded.prefix ≤ k) × Contains s.asked j × IsEntryFor log k j t)) stamp_is
-              (third.place, slice_index s.asked third.position, to, (third.position, third.within, in_list s.asked third.position third.within),
-              (third.entry, third.stands, third.component, third.is));
+          borrowed = subst (λ (f : Option ℕ). IfSome f (λ t. (k j : ℕ) × (loaded.prefix ≤ k) × Contains s.asked j × IsEntryFor log k j t)) stamp_is (
+            third.place,
+            slice_index s.asked third.position,
+            to,
+            (third.position, third.within, in_list s.asked third.position third.within),
+            (third.entry, third.stands, third.component, third.is),
+          );
         };
       }
     where
@@ -199,10 +203,10 @@ module _ (z : Layout) (o : Opening) (words : List ℕ) (before : List Part) (x :
       let t : CoreState = record s { leave = record s.leave { left = true }; stage = Finished (scanned_reply s) } in
       let held = holding_in s Leaving (joined_since x) in
       let keeps = leaves_are_kept z o words (holdings before) held (holdings after) log s.leave.slot (record { at = s.join.announcement; indices = s.asked; since = joined_since x })
-          (memory_at z o words before x after log w Leaving e) refl in
+      (memory_at z o words before x after log w Leaving e) refl in
       let keeps_x : IsKept z o words (holdings before) (holding_of x) (holdings after) log (words_after words (Store (slot_word z s.leave.slot) 1)) (record held { claimed = None }) log =
-          subst (λ u. IsKept z o words (holdings before) (holding_in s u (joined_since x)) (holdings after) log (words_after words (Store (slot_word z s.leave.slot) 1))
-          (record held { claimed = None }) log) (sym e) keeps in
+      subst (λ u. IsKept z o words (holdings before) (holding_in s u (joined_since x)) (holdings after) log (words_after words (Store (slot_word z s.leave.slot) 1))
+      (record held { claimed = None }) log) (sym e) keeps in
       let n : Noted = record { call = call.Scan s.asked; answer = answer.Scanned (scanned_values s) s.embedded.collects s.embedded.borrowed; note = Some (note.Saw seen.prefix) } in
       let each = sound_here z o words before x after log w in
       let m_is = ap (λ (y : Layout). y.m) sizes in
@@ -214,7 +218,7 @@ module _ (z : Layout) (o : Opening) (words : List ℕ) (before : List Part) (x :
       let inside = seen.together.within in
       let count = w.memory.count in
       ends z o words before x after log w Leaving (Store (slot_word z s.leave.slot) 1) t (record held { claimed = None }) e leave_due refl refl
-          (omega (arith, slot, count)) refl refl keeps_x (λ ks is. tt)
+      (omega (arith, slot, count)) refl refl keeps_x (λ ks is. tt)
       n refl (names, (seen.together, omega (arith, low, first, from))) inside refl
       (record {
         call = call.Scan s.asked;

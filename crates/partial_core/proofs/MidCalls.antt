@@ -137,9 +137,11 @@ pub view_shares : (indices : List ℕ) (p : viewing.Pair) (stage : ViewStage) (x
 view_shares indices p (Collect k) x = cond_both (viewing.differs p k x && viewing.was_changed p k) (viewing.borrow p x) (viewing.go_on (length indices) (viewing.noted p k x) k)
     (λ (q : viewing.Pair). q.0.shares ≡ p.0.shares) (λ e. refl)
     (λ e. cond_both (nat_lt (k + 1) (length indices)) (viewing.at_stage (viewing.noted p k x) (Collect (k + 1))) (viewing.after_collect (viewing.noted p k x))
-        (λ (q : viewing.Pair). q.0.shares ≡ p.0.shares) (λ f. refl)
-    (λ f. cond_both (viewing.is_first p || (p.0.moved || viewing.differs p k x)) (record (viewing.noted p k x).0 { collects = p.0.collects + 1; moved = false; stage = Collect 0 },
-        (viewing.noted p k x).1) (viewing.at_stage (viewing.noted p k x) (Value 0)) (λ (q : viewing.Pair). q.0.shares ≡ p.0.shares) (λ g. refl) (λ g. refl)))
+    (λ (q : viewing.Pair). q.0.shares ≡ p.0.shares) (λ f. refl)
+    (λ f. cond_both (viewing.is_first p || (p.0.moved || viewing.differs p k x)) (
+      record (viewing.noted p k x).0 { collects = p.0.collects + 1; moved = false; stage = Collect 0 },
+      (viewing.noted p k x).1,
+    ) (viewing.at_stage (viewing.noted p k x) (Value 0)) (λ (q : viewing.Pair). q.0.shares ≡ p.0.shares) (λ g. refl) (λ g. refl)))
 view_shares indices p (View stamp) x = refl
 view_shares indices p (Len at) x = refl
 view_shares indices p (Index at left) x = refl
@@ -201,7 +203,7 @@ module _ (z : Layout) (o : Opening) (words : List ℕ) (hs : List Holding) (log 
           let found : sets.FindsJoined hs first t.found.indices = set_finished z t.get_set.sizes words hs first t.get_set.head t.get_set.stage (getting t) is known in
           subst Case (sym is)
           (cond_both (length t.found.indices == 0) (ClaimingRecord c old) (Viewing c old)
-              (λ (u : Stage). Knows z o words hs log begun first since k.at (record t { embedded = viewing.fresh t.sizes true; stage = u }))
+          (λ (u : Stage). Knows z o words hs log begun first since k.at (record t { embedded = viewing.fresh t.sizes true; stage = u }))
           (λ none. (knows, (found, inl (eqb-true (length t.found.indices) 0 none, refl))))
           (λ some. (knows, found, scan_begins z t.sizes true o words hs log t.found.indices first k.at t.rows (omega (arith, order, after)))))
 
@@ -244,8 +246,14 @@ module _ (z : Layout) (o : Opening) (words : List ℕ) (hs : List Holding) (log 
 
       by_step : (f : Option Step) → viewing.step_of t.asked (scanning t) ≡ f → Case (viewing.step_of t.asked (scanning t))
       by_step (Some step) is = subst Case (sym is) (subst (λ (u : Stage). knows_at z o words hs log begun first since k.at t u) (sym e) (knows, from, to, shares, known))
-      by_step None is = subst Case (sym is) (record { called = knows.called; asked = knows.asked }, from, omega (arith, to, within), shares, few,
-          view_finished z o words hs log t.asked since k.at t.rows.last t.embedded.sizes t.embedded.stage (scanning t) within is known)
+      by_step None is = subst Case (sym is) (
+        record { called = knows.called; asked = knows.asked },
+        from,
+        omega (arith, to, within),
+        shares,
+        few,
+        view_finished z o words hs log t.asked since k.at t.rows.last t.embedded.sizes t.embedded.stage (scanning t) within is known,
+      )
 
   scanning_on : s.stage ≡ Scanning → knows_at z o words hs log begun first since high s Scanning → viewing.IsPossible (scanning s) k.answer →
       IsTrueYet z o words hs log (viewing.step_of s.asked (scanning s)) k → Then since (advance_at s Scanning k.answer)
@@ -254,7 +262,7 @@ module _ (z : Layout) (o : Opening) (words : List ℕ) (hs : List Holding) (log 
       let kept = viewed.kept s.asked (scanning s) k.answer h.0 possible in
       let to = knows.2 in
       scan_then (with_scanning s (viewing.advance s.asked (scanning s) k.answer)) e (record { called = knows.0.called; asked = knows.0.asked }) knows.1 (omega (arith, to, after))
-          (view_shares s.asked (scanning s) s.embedded.stage k.answer ∙ knows.3) kept.together.collects (view_on s.asked since h.1 h.0 h.2 to knows.4 yet)
+      (view_shares s.asked (scanning s) s.embedded.stage k.answer ∙ knows.3) kept.together.collects (view_on s.asked since h.1 h.0 h.2 to knows.4 yet)
 
   -- a join that has stored its announcement begins the embedded scan
   join_then : (t : CoreState) (j : JoinStage) (n : ℕ) → t.stage ≡ Joining → KnowsScan begun t → first ≤ n → n ≤ k.at → Then n (after_joining t j)
@@ -279,7 +287,7 @@ module _ (z : Layout) (o : Opening) (words : List ℕ) (hs : List Holding) (log 
       by_stage Claiming due = cond_both (nat_lt k.answer s.join.sizes.slots) (Storing k.answer) Spent
           (λ (i : JoinStage). Knows z o words hs log begun first since k.at (after_joining (record s { join = record s.join { stage = i } }) i))
           (λ claimed. subst (λ (u : Stage). knows_at z o words hs log begun first since k.at (record s { join = record s.join { stage = Storing k.answer } }) u) (sym e)
-              (record { called = knows.called; asked = knows.asked }))
+          (record { called = knows.called; asked = knows.asked }))
           (λ refused. tt)
       by_stage (Storing slot) due = join_then (record s { join = record s.join { stage = JoinedIn slot } }) (JoinedIn slot) k.at e (record { called = knows.called; asked = knows.asked })
           (omega (arith, order, after)) (omega arith)

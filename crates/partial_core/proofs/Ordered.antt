@@ -164,7 +164,7 @@ set_touches z y words head (Write at k count word) p step e goes due =
     let total_is = goes.0.count in
     let less = goes.1 in
     touches_same z words next (Store (at + k) word) step due (inr (inr
-        (inl (record { space = Lists; at = at; words = list_block p.1.next; stored = k }, word, refl, omega (arith, size, total_is, less), refl))))
+    (inl (record { space = Lists; at = at; words = list_block p.1.next; stored = k }, word, refl, omega (arith, size, total_is, less), refl))))
 set_touches z y words head (Publish at) p step e goes due = touches_same z words (own_list p.1.next (Publish at)) (Exchange (list_head y) head at) step due
     (inr (inl (let m = ap (λ (l : Layout). l.m) e in omega (arith, m))))
 set_touches z y words head SetDone p step e goes due = let bad : None ≡ Some step = due in absurd cc
@@ -200,9 +200,9 @@ module _ (z : Layout) (o : Opening) (words : List ℕ) (before : List Part) (x :
           let memory = memory_at z o words before x after log w Joining e in
           let held = holding_in s Joining (joined_since x) in
           let claim : IfSome held.claimed (IsClaim z words (holdings before ++ held ∷ holdings after) log) =
-              all_at (λ (g : Holding). IfSome g.claimed (IsClaim z words (holdings before ++ held ∷ holdings after) log)) (holdings before) held (holdings after) memory.claims in
+          all_at (λ (g : Holding). IfSome g.claimed (IsClaim z words (holdings before ++ held ∷ holdings after) log)) (holdings before) held (holdings after) memory.claims in
           let mine : IsClaim z words (holdings before ++ held ∷ holdings after) log (record { slot = slot; joined = None }) =
-              if_some_at (IsClaim z words (holdings before ++ held ∷ holdings after) log) held.claimed (record { slot = slot; joined = None }) (ap slot_claimed is) claim in
+          if_some_at (IsClaim z words (holdings before ++ held ∷ holdings after) log) held.claimed (record { slot = slot; joined = None }) (ap slot_claimed is) claim in
           let block : Own = record { space = Pool; at = s.join.announcement; words = announcement_block s.asked; stored = announcement_size (length s.asked) } in
           let far : list_base z ≤ s.join.announcement = own_far z o words (holdings before) held (holdings after) log memory block refl in
           let is' : Store (slot_word s.join.sizes slot) s.join.announcement ≡ Store (slot_word z slot) s.join.announcement
@@ -228,7 +228,7 @@ module _ (z : Layout) (o : Opening) (words : List ℕ) (before : List Part) (x :
       let less = sound.2 in
       let size = length_record s c old at in
       touches_same z words (own_at s (StoringRecord c old at k)) (Store (at + k) (slice_index (record_words s c old at) k)) step due
-          (inr (inr (inl (record { space = Pool; at = at; words = record_words s c old at; stored = k }, slice_index (record_words s c old at) k, refl, omega (arith, size, less), refl))))
+      (inr (inr (inl (record { space = Pool; at = at; words = record_words s c old at; stored = k }, slice_index (record_words s c old at) k, refl, omega (arith, size, less), refl))))
   touches_at (Exchanging c old at) step e due =
       let below : c.component < z.m = of_size (λ (y : Layout). c.component < y.m) (sound_at z o words before x after log w (Exchanging c old at) e).0.0 in
       touches_same z words (own_at s (Exchanging c old at)) (Exchange c.component old at) step due (inr (inl (omega (arith, below))))
@@ -237,7 +237,7 @@ module _ (z : Layout) (o : Opening) (words : List ℕ) (before : List Part) (x :
       let sound = sound_at z o words before x after log w (StoringAnnouncement at k) e in
       let less = sound.3 in
       touches_same z words (own_at s (StoringAnnouncement at k)) (Store (at + k) (slice_index (announcement_block s.asked) k)) step due
-          (inr (inr (inl (record { space = Pool; at = at; words = announcement_block s.asked; stored = k }, slice_index (announcement_block s.asked) k, refl, omega (arith, less), refl))))
+      (inr (inr (inl (record { space = Pool; at = at; words = announcement_block s.asked; stored = k }, slice_index (announcement_block s.asked) k, refl, omega (arith, less), refl))))
   touches_at Joining step e due = join_touches step s.join.stage e refl due
   touches_at Scanning step e due = let load = view_loads s.embedded.sizes s.asked s.rows.last s.embedded.stage (subst (λ (f : Option Step). IsSome f) (sym due) refl) in touches_same z words None
       (Load load.0) step (sym load.1 ∙ due) (inl (load.0, refl))

@@ -42,9 +42,16 @@ kept_grows : (z : Layout) (o : Opening) (words words' : List ℕ) (hs hs' : List
     ((n : ℕ) (k : Kept) → IsLoaded z o words hs log n k → IsLoaded z o words' hs' (log ++ es) n k) → (low : ℕ) (s : CoreState) (ks : List Kept) → AreKept z o words hs log low s ks →
     AreKept z o words' hs' (log ++ es) low s ks
 kept_grows z o words words' hs hs' log es loads low s [] w = tt
-kept_grows z o words words' hs hs' log es loads low s (k ∷ ks) w =
-    (record { possible = w.0.possible; behind = w.0.behind; within = let within = w.0.within in omega (arith, length-append log es, within); true_yet = yet_grows z o words words' hs hs' log
-        (log ++ es) loads (step_of s) k w.0.true_yet }, kept_grows z o words words' hs hs' log es loads k.at (advance s k.answer) ks w.1)
+kept_grows z o words words' hs hs' log es loads low s (k ∷ ks) w = (
+  record {
+    possible = w.0.possible;
+    behind = w.0.behind;
+    within = let within = w.0.within in omega (arith, length-append log es, within);
+    true_yet = yet_grows z o words words' hs hs' log
+        (log ++ es) loads (step_of s) k w.0.true_yet;
+  },
+  kept_grows z o words words' hs hs' log es loads k.at (advance s k.answer) ks w.1,
+)
 
 -- what a port knows it goes on knowing
 pub known_grows : (z : Layout) (o : Opening) (words words' : List ℕ) (hs hs' : List Holding) (log es : List Applied) →
@@ -122,7 +129,7 @@ known_on z o words hs l x a w going possible yet =
     let shown : seen_by 0 (x.notes ++ []) ≡ seen_by 0 x.notes = ap (seen_by 0) same in
     let less = w.shown in
     known_gone z o words hs l x a [] w going possible yet (subst (LegalNotes o l (port_of x) 0) (sym same) (legal_on o x.seen l (port_of x) 0 x.notes w.seen w.notes))
-        (omega (arith, shown, less, seen)) (omega arith) (λ _. refl)
+    (omega (arith, shown, less, seen)) (omega arith) (λ _. refl)
 
 -- the call ends with a note
 pub known_end : (z : Layout) (o : Opening) (words : List ℕ) (hs : List Holding) (l : List Applied) (x : Part) (a : ℕ) (n : Noted) → IsKnown z o words hs l x → is_at_rest (core_of x).stage ≡ false →
@@ -130,7 +137,7 @@ pub known_end : (z : Layout) (o : Opening) (words : List ℕ) (hs : List Holding
     seen_by 0 (x.notes ++ n ∷ []) ≤ length l → is_at_rest (advance (core_of x) a).stage ≡ true → IsKnown z o words hs l (gone x l a (n ∷ []))
 known_end z o words hs l x a n w going possible yet legal shown rest =
     known_gone z o words hs l x a (n ∷ []) w going possible yet (LegalNotes-push o l (port_of x) 0 x.notes n (legal_on o x.seen l (port_of x) 0 x.notes w.seen w.notes) legal) shown (omega arith)
-        (λ r. absurd (false≢true (sym r ∙ rest)))
+    (λ r. absurd (false≢true (sym r ∙ rest)))
 
 -- what the ports before, here and behind hold
 pub holdings_split : (before : List Part) (x : Part) (after : List Part) → holdings (before ++ x ∷ after) ≡ holdings before ++ holding_of x ∷ holdings after
@@ -150,7 +157,7 @@ all_changed P Q f (b ∷ before) x y after w here = (f b w.0, all_changed P Q f 
 -- the state with the part y in the place of x, and with other words
 pub changed : (z : Layout) (o : Opening) (words words' : List ℕ) (before : List Part) (x y : Part) (after : List Part) (log es : List Applied) → Lawful z o words (before ++ x ∷ after) log →
     Keeps z o (record { words = words; holdings = holdings before ++ holding_of x ∷ holdings after; log = log })
-        (record { words = words'; holdings = holdings before ++ holding_of y ∷ holdings after; log = log ++ es }) →
+    (record { words = words'; holdings = holdings before ++ holding_of y ∷ holdings after; log = log ++ es }) →
     ((p : ℕ) → places_by p 0 (log ++ es) ≡ places_written (notes_by p (before ++ y ∷ after))) →
     IsKnown z o words' (holdings (before ++ y ∷ after)) (log ++ es) y →
     Lawful z o words' (before ++ y ∷ after) (log ++ es)
@@ -180,9 +187,9 @@ notes_split p (b ∷ before) x after =
     places_written-append (cond (port_of b == p) b.notes []) (notes_by p (before ++ x ∷ after))
     ∙ ap (λ (l : List ℕ). places_written (cond (port_of b == p) b.notes []) ++ l) (notes_split p before x after)
     ∙ sym (append_assoc (places_written (cond (port_of b == p) b.notes [])) (places_written (notes_by p before))
-        (places_written (cond (port_of x == p) x.notes []) ++ places_written (notes_by p after)))
+    (places_written (cond (port_of x == p) x.notes []) ++ places_written (notes_by p after)))
     ∙ ap (λ (l : List ℕ). l ++ (places_written (cond (port_of x == p) x.notes []) ++ places_written (notes_by p after)))
-        (sym (places_written-append (cond (port_of b == p) b.notes []) (notes_by p before)))
+    (sym (places_written-append (cond (port_of b == p) b.notes []) (notes_by p before)))
 
 -- the same places are written where the part's notes write the same places
 pub once_same : (p : ℕ) (before : List Part) (x y : Part) (after : List Part) → port_of y ≡ port_of x → places_written y.notes ≡ places_written x.notes →

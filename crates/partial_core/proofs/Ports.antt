@@ -67,8 +67,11 @@ module _ (z : Layout) (o : Opening) (words : List ℕ) (before : List Part) (x :
 -- each part in its place
 each_fits : (z : Layout) (o : Opening) (words : List ℕ) (before xs : List Part) (log : List Applied) → Lawful z o words (before ++ xs) log → AllByRecursion (Fits o log) xs
 each_fits z o words before [] log w = tt
-each_fits z o words before (x ∷ xs) log w = (fits_here z o words before x xs log w, each_fits z o words (before ++ x ∷ []) xs log
-    (subst (λ (l : List Part). Lawful z o words l log) (sym (append_assoc before (x ∷ []) xs)) w))
+each_fits z o words before (x ∷ xs) log w = (
+  fits_here z o words before x xs log w,
+  each_fits z o words (before ++ x ∷ []) xs log
+      (subst (λ (l : List Part). Lawful z o words l log) (sym (append_assoc before (x ∷ []) xs)) w),
+)
 
 -- a port is that of a part, or no part has its notes
 is_part : (p : ℕ) (xs : List Part) → Contains (map port_of xs) p ⊎ (notes_by p xs ≡ [])

@@ -54,7 +54,7 @@ module _ (z : Layout) (o : Opening) (words : List ℕ) (before : List Part) (x :
   component_record j below =
       let values = w.memory.values in
       let s = standing z o words hs log w.memory (length log) (get_or words j 0)
-          (subst (IsWithin o log (length log)) (sym (stamp_then j below)) (stamp_within o log (length log) j (omega (arith, values, below)))) in
+      (subst (IsWithin o log (length log)) (sym (stamp_then j below)) (stamp_within o log (length log) j (omega (arith, values, below)))) in
       (s.above, s.within)
 
   component_readable : (j : ℕ) → j < z.m → IsReadable z words hs j
@@ -78,7 +78,7 @@ module _ (z : Layout) (o : Opening) (words : List ℕ) (before : List Part) (x :
   read_begun j e =
       let below : j < z.m = of_sizes (λ y. j < y.m) (sound_at z o words before x after log w (ReadBegun j) e) in
       load_quiet z o words before x after log w (ReadBegun j) j (at_stage (core_of x) (LoadingValue (get_or words j 0))) e refl refl refl (component_readable j below)
-          (at_sizes (λ y. IsRecord y (get_or words j 0)) (component_record j below)) refl refl refl
+      (at_sizes (λ y. IsRecord y (get_or words j 0)) (component_record j below)) refl refl refl
 
   -- the value behind the stamp that a read has loaded
   pub value_loaded : (stamp : ℕ) → (core_of x).stage ≡ LoadingValue stamp → LeadsAt z o words before x after log (core_of x) (LoadingValue stamp) (Load (stamp + 1))
@@ -97,10 +97,17 @@ module _ (z : Layout) (o : Opening) (words : List ℕ) (before : List Part) (x :
       let s = standing z o words hs log w.memory first stamp (subst (IsWithin o log first) (sym known.2) (stamp_within o log first j below)) in
       let value : a ≡ value_of o (take first log) j = ap (λ m. get_or words (m + 1) 0) known.2 ∙ value_behind_stamp o words log j first w.memory.agrees below in
       load_ends z o words before x after log w (LoadingValue stamp) (stamp + 1) (at_stage (core_of x) (Finished (reply.Read a stamp))) e refl refl refl
-          (standing_word z o words hs log w.memory stamp 1 (omega arith) s) tt refl
+      (standing_word z o words hs log w.memory stamp 1 (omega arith) s) tt refl
       n refl (below, ((omega (arith, order, inside), value, known.2), g.low)) (omega (arith, order, inside)) refl
-      (record { call = call.Read j; note = note.Saw first; is = refl; made = ap (call_at x.begun) known.1; behind = let more = g.more (record { answer = a; at = length log }) in omega (arith, more);
-          within = omega (arith, order, inside); placed = omega (arith, order, inside) })
+      (record {
+        call = call.Read j;
+        note = note.Saw first;
+        is = refl;
+        made = ap (call_at x.begun) known.1;
+        behind = let more = g.more (record { answer = a; at = length log }) in omega (arith, more);
+        within = omega (arith, order, inside);
+        placed = omega (arith, order, inside);
+      })
 
   -- a call that has made no step keeps no answer, and its machine is the one that has begun it
   pub none_kept : (t : Stage) → (core_of x).stage ≡ t → is_begun t ≡ true → x.kept ≡ []
@@ -122,7 +129,7 @@ module _ (z : Layout) (o : Opening) (words : List ℕ) (before : List Part) (x :
       let begun = begun_here (UpdateBegun c) e refl in
       let kept = none_kept (UpdateBegun c) e refl in
       load_ends z o words before x after log w (UpdateBegun c) c.component (at_stage (core_of x) (Finished (reply.Changed a))) e refl
-          (ap (λ b. cond b (begin_getting (core_of x) c a) (at_stage (core_of x) (Finished (reply.Changed a)))) other) refl
+      (ap (λ b. cond b (begin_getting (core_of x) c a) (at_stage (core_of x) (Finished (reply.Changed a)))) other) refl
       (component_readable c.component below) (at_sizes (λ y. IsRecord y a) (component_record c.component below)) refl
       n refl (omega (arith, below, values), ((omega arith, sym (stamp_then c.component below), differs), seen_here z o words before x after log w)) (omega arith) refl
       (record {
@@ -145,7 +152,7 @@ module _ (z : Layout) (o : Opening) (words : List ℕ) (before : List Part) (x :
           let a = get_or words c.component 0 in
           let below : c.component < z.m = of_sizes (λ y. c.component < y.m) (sound_at z o words before x after log w (UpdateBegun c) e).0 in
           load_quiet z o words before x after log w (UpdateBegun c) c.component (begin_getting (core_of x) c a) e refl
-              (ap (λ b. cond b (begin_getting (core_of x) c a) (at_stage (core_of x) (Finished (reply.Changed a)))) is) refl
+          (ap (λ b. cond b (begin_getting (core_of x) c a) (at_stage (core_of x) (Finished (reply.Changed a)))) is) refl
           (component_readable c.component below) (at_sizes (λ y. IsRecord y a) (component_record c.component below)) refl refl refl
       by_expected false is = stamp_changed c c.expected refl e is
 
@@ -175,10 +182,10 @@ module _ (z : Layout) (o : Opening) (words : List ℕ) (before : List Part) (x :
       subst (λ (f : Step). LeadsAt z o words before x after log s (Viewing c old) f) (sym now.1)
       (load_quiet z o words before x after log w (Viewing c old) n (after_scanning t s.found.indices (ClaimingRecord c old)) e (due ∙ ap (λ (f : Step). Some f) now.1) refl refl now.2 now.3
       (either next t (at_stage t (ClaimingRecord c old)) (λ u. holding_at u (joined_since x) ≡ holding_in s (Viewing c old) (joined_since x))
-          (ap (λ (u : Stage). holding_in t u (joined_since x)) e) refl)
+      (ap (λ (u : Stage). holding_in t u (joined_since x)) e) refl)
       refl
       (either next t (at_stage t (ClaimingRecord c old)) (λ u. AreNotesOf (gone x log (get_or words n 0) []) (reply_of u) [])
-          (subst (λ (u : Stage). AreNotesOf (gone x log (get_or words n 0) []) (reply_at u) []) (sym e) refl) refl))
+      (subst (λ (u : Stage). AreNotesOf (gone x log (get_or words n 0) []) (reply_at u) []) (sym e) refl) refl))
 
   -- an embedded scan of a scan's positions
   pub scanning_leads : (step : Step) → (core_of x).stage ≡ Scanning → step_at (core_of x) Scanning ≡ Some step → LeadsAt z o words before x after log (core_of x) Scanning step
@@ -195,4 +202,4 @@ module _ (z : Layout) (o : Opening) (words : List ℕ) (before : List Part) (x :
       (either next t (at_stage t Leaving) (λ u. holding_at u (joined_since x) ≡ holding_in s Scanning (joined_since x)) (ap (λ (u : Stage). holding_in t u (joined_since x)) e) refl)
       refl
       (either next t (at_stage t Leaving) (λ u. AreNotesOf (gone x log (get_or words n 0) []) (reply_of u) [])
-          (subst (λ (u : Stage). AreNotesOf (gone x log (get_or words n 0) []) (reply_at u) []) (sym e) refl) refl))
+      (subst (λ (u : Stage). AreNotesOf (gone x log (get_or words n 0) []) (reply_at u) []) (sym e) refl) refl))

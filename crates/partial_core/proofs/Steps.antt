@@ -137,19 +137,19 @@ module _ (z : Layout) (o : Opening) (words : List ℕ) (before : List Part) (x :
         let nil = append-nil log in
         let grown = known_grows z o words (words_after words step) all_hold (holdings (before ++ y ∷ after)) log []
         (λ n k l. subst (λ (hs : List Holding). IsLoaded z o (words_after words step) hs (log ++ []) n k) (sym split)
-            (subst (λ (m : List Applied). IsLoaded z o (words_after words step) (holdings before ++ h' ∷ holdings after) m n k) (sym nil)
-            (keeps.loads n k (subst (λ (hs : List Holding). IsLoaded z o words hs log n k) (holdings_split before x after) l)))) x known_here in
+        (subst (λ (m : List Applied). IsLoaded z o (words_after words step) (holdings before ++ h' ∷ holdings after) m n k) (sym nil)
+        (keeps.loads n k (subst (λ (hs : List Holding). IsLoaded z o words hs log n k) (holdings_split before x after) l)))) x known_here in
         let here : IsKnown z o (words_after words step) (holdings (before ++ y ∷ after)) log x =
-            subst (λ (m : List Applied). IsKnown z o (words_after words step) (holdings (before ++ y ∷ after)) m x) nil grown in
+        subst (λ (m : List Applied). IsKnown z o (words_after words step) (holdings (before ++ y ∷ after)) m x) nil grown in
         let true_now : IsTrueYet z o (words_after words step) (holdings (before ++ y ∷ after)) log (step_of (core_of x)) (record { answer = answer_of words step; at = length log }) =
-            subst (λ (f : Option Step). IsTrueYet z o (words_after words step) (holdings (before ++ y ∷ after)) log f (record { answer = answer_of words step; at = length log })) (sym due_here)
-            (yet (holdings (before ++ y ∷ after)) split) in
+        subst (λ (f : Option Step). IsTrueYet z o (words_after words step) (holdings (before ++ y ∷ after)) log f (record { answer = answer_of words step; at = length log })) (sym due_here)
+        (yet (holdings (before ++ y ∷ after)) split) in
         let keeps_nil : Keeps z o (record { words = words; holdings = holdings before ++ holding_of x ∷ holdings after; log = log })
-            (record { words = words_after words step; holdings = holdings before ++ holding_of y ∷ holdings after; log = log ++ [] }) =
+        (record { words = words_after words step; holdings = holdings before ++ holding_of y ∷ holdings after; log = log ++ [] }) =
         subst (λ (h : Holding). Keeps z o (record { words = words; holdings = holdings before ++ holding_of x ∷ holdings after; log = log })
-            (record { words = words_after words step; holdings = holdings before ++ h ∷ holdings after; log = log ++ [] })) (sym (holding_then new))
+        (record { words = words_after words step; holdings = holdings before ++ h ∷ holdings after; log = log ++ [] })) (sym (holding_then new))
         (subst (λ (m : List Applied). Keeps z o (record { words = words; holdings = holdings before ++ holding_of x ∷ holdings after; log = log })
-            (record { words = words_after words step; holdings = holdings before ++ h' ∷ holdings after; log = m })) (sym nil) keeps) in
+        (record { words = words_after words step; holdings = holdings before ++ h' ∷ holdings after; log = m })) (sym nil) keeps) in
         subst (λ (m : List Applied). Lawful z o (words_after words step) (before ++ y ∷ after) m) nil
         (changed z o words (words_after words step) before x y after log [] w keeps_nil
         (λ p. ap (λ (m : List Applied). places_by p 0 m) nil ∙ w.once p ∙ sym (once_same p before x y after refl (written_same x.notes new written)))
@@ -161,7 +161,7 @@ module _ (z : Layout) (o : Opening) (words : List ℕ) (before : List Part) (x :
     loads_then new n k l =
         let split = holdings_split before (gone x log (answer_of words step) new) after ∙ ap (λ (h : Holding). holdings before ++ h ∷ holdings after) (holding_then new) in
         subst (λ (hs : List Holding). IsLoaded z o (words_after words step) hs log n k) (sym split)
-            (keeps.loads n k (subst (λ (hs : List Holding). IsLoaded z o words hs log n k) (holdings_split before x after) l))
+        (keeps.loads n k (subst (λ (hs : List Holding). IsLoaded z o words hs log n k) (holdings_split before x after) l))
 
     made : (new : List Noted) → Lawful z o (words_after words step) (before ++ gone x log (answer_of words step) new ∷ after) log → AreNotesOf (gone x log (answer_of words step) new)
         (reply_of t) new → LeadsAt z o words before x after log (core_of x) s step
@@ -189,8 +189,8 @@ module _ (z : Layout) (o : Opening) (words : List ℕ) (before : List Part) (x :
     ends n written legal shown rest noted =
         let pushed = seen_by-push 0 x.notes n in
         made (n ∷ []) (lawful_then (n ∷ []) written (λ hs here true_now. known_end z o (words_after words step) hs log x (answer_of words step) n here (ap is_at_rest e ∙ busy (core_of x) s step due)
-            possible_here true_now legal (omega (arith, pushed, shown))
-            (ap (λ (u : Stage). is_at_rest (advance_at (core_of x) u (answer_of words step)).stage) e ∙ ap (λ (c : CoreState). is_at_rest c.stage) leads ∙ rest))) noted
+        possible_here true_now legal (omega (arith, pushed, shown))
+        (ap (λ (u : Stage). is_at_rest (advance_at (core_of x) u (answer_of words step)).stage) e ∙ ap (λ (c : CoreState). is_at_rest c.stage) leads ∙ rest))) noted
 
   -- a load changes no word, and what the port holds stays
   module _ (s : Stage) (n : ℕ) (t : CoreState) (e : (core_of x).stage ≡ s) (due : step_at (core_of x) s ≡ Some (Load n)) (leads : advance_at (core_of x) s (get_or words n 0) ≡ t)
@@ -240,7 +240,7 @@ going_from : (z : Layout) (o : Opening) (words : List ℕ) (hs : List Holding) (
 going_from z o words hs log x [] s is w k e begun rest =
     let same : core_of x ≡ x.begun = ap (led_by x.begun) is in
     absurd (no_begin x.begun x.begun.stage k.begun (ap (λ (c : CoreState). is_begun c.stage) (sym same) ∙ ap is_begun e ∙ begun)
-        (ap (λ (c : CoreState). is_at_rest c.stage) (sym same) ∙ ap is_at_rest e ∙ rest))
+    (ap (λ (c : CoreState). is_at_rest c.stage) (sym same) ∙ ap is_at_rest e ∙ rest))
 going_from z o words hs log x (f ∷ ks) s is w k e begun rest =
     let kept : AreKept z o words hs log x.since x.begun (f ∷ ks) = subst (AreKept z o words hs log x.since x.begun) is k.kept in
     let first : first_at x.kept ≡ f.at = ap first_at is in
@@ -251,7 +251,7 @@ going_from z o words hs log x (f ∷ ks) s is w k e begun rest =
     let earlier : seen_by 0 x.notes ≤ x.since = subst (λ (ns : List Noted). seen_by 0 ns ≤ x.since) (take_all x.past x.notes (omega (arith, past))) k.earlier in
     let knows : Knows z o words hs log x.begun f.at (joined_from 0 x.begun (f ∷ ks)) (last_at x.since (f ∷ ks)) (led_by x.begun (f ∷ ks)) = gone_on.knows in
     let knows_x : Knows z o words hs log x.begun f.at (joined_since x) (last_at x.since (f ∷ ks)) (core_of x) =
-        subst (λ (l : List Kept). Knows z o words hs log x.begun f.at (joined_from 0 x.begun l) (last_at x.since (f ∷ ks)) (led_by x.begun l)) (sym is) knows in
+    subst (λ (l : List Kept). Knows z o words hs log x.begun f.at (joined_from 0 x.begun l) (last_at x.since (f ∷ ks)) (led_by x.begun l)) (sym is) knows in
     record {
       high = last_at x.since (f ∷ ks);
       order = omega (arith, first, order);
@@ -293,7 +293,7 @@ starting_from z o words hs log x (f ∷ ks) is w k begun =
     let kept : AreKept z o words hs log x.since x.begun (f ∷ ks) = subst (AreKept z o words hs log x.since x.begun) is k.kept in
     let gone_on = called_on z o words hs log w x.begun x.since f ks k.sizes k.sound k.begun kept in
     let no : is_begun (led_by x.begun (f ∷ ks)).stage ≡ false = not_begun z o words hs log x.begun f.at (joined_from 0 x.begun (f ∷ ks)) (last_at x.since (f ∷ ks)) (led_by x.begun (f ∷ ks))
-        (led_by x.begun (f ∷ ks)).stage gone_on.knows in
+    (led_by x.begun (f ∷ ks)).stage gone_on.knows in
     absurd (false≢true (sym no ∙ ap (λ (l : List Kept). is_begun (led_by x.begun l).stage) (sym is) ∙ begun))
 
 -- a port whose call has made no step keeps no answer

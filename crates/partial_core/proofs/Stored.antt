@@ -61,7 +61,7 @@ viewed_then z o words words' hs log first s inside same viewed = elim viewed.1 [
         let known = finished.1 stamp some in
         let third : IsThird words log s.found.indices first (scanning s) stamp = known.0 in
         let at : (n : ℕ) → n < 3 → get_or words' (stamp + n) 0 ≡ get_or words (stamp + n) 0 = λ n lt. subst (λ t. get_or words' (t + n) 0 ≡ get_or words (t + n) 0) third.is
-            (same third.place third.entry n third.stands lt) in
+        (same third.place third.entry n third.stands lt) in
         let prev : get_or words' stamp 0 ≡ get_or words stamp 0 = ap (λ n. get_or words' n 0) (omega arith) ∙ at 0 (omega arith) ∙ ap (λ n. get_or words n 0) (omega arith) in
         let now : IsThird words' log s.found.indices first (scanning s) stamp = record {
           borrowed = third.borrowed;
@@ -122,8 +122,8 @@ module _ (z : Layout) (o : Opening) (words : List ℕ) (before : List Part) (x :
   word_stored more =
       let t : CoreState = at_stage s (StoringRecord c old at (k + 1)) in
       quiet z o words before x after log w (StoringRecord c old at k) step t (record held { own = Some (block (k + 1)) }) e refl
-          (ap (λ (b : Bool). at_stage s (cond b (Exchanging c old at) (StoringRecord c old at (k + 1)))) more) refl inside refl refl (kept_here (record held { own = Some (block (k + 1)) }) stored)
-          (λ ks is. tt) refl refl
+      (ap (λ (b : Bool). at_stage s (cond b (Exchanging c old at) (StoringRecord c old at (k + 1)))) more) refl inside refl refl (kept_here (record held { own = Some (block (k + 1)) }) stored)
+      (λ ks is. tt) refl refl
 
   -- all that is held before the store
   abbrev hs : List Holding
@@ -139,7 +139,7 @@ module _ (z : Layout) (o : Opening) (words : List ℕ) (before : List Part) (x :
       let above = entry.above in
       let within = entry.within in
       let then' = stored.loads (d.stamp + n) (record { answer = get_or words (d.stamp + n) 0; at = length log })
-          (loads_are_true z o words hs log (d.stamp + n) memory (omega (arith, within, few)) (λ far. published)) in
+      (loads_are_true z o words hs log (d.stamp + n) memory (omega (arith, within, few)) (λ far. published)) in
       sym (then'.block (omega (arith, above))).0
 
   -- the last word is stored: the exchange is due
@@ -159,7 +159,7 @@ module _ (z : Layout) (o : Opening) (words : List ℕ) (before : List Part) (x :
     others_found first finds =
         let P : Holding → Type 0 = λ v. IfJoined v (λ l j. j.since < first → sets.HasAll s.found.indices j) in
         let all : AllByRecursion P (holdings before ++ holding_of x ∷ holdings after) = subst (AllByRecursion P) (holdings_split before x after)
-            (finds_all (holdings (before ++ x ∷ after)) first s.found.indices finds) in
+        (finds_all (holdings (before ++ x ∷ after)) first s.found.indices finds) in
         all_append P (holdings before) (holdings after) (all_before P (holdings before) (holding_of x) (holdings after) all) (all_after P (holdings before) (holding_of x) (holdings after) all)
 
     comes_due : IsKept z o words (holdings before) held (holdings after) log words' (record held { own = Some whole; due = Some due }) log
@@ -177,16 +177,16 @@ module _ (z : Layout) (o : Opening) (words : List ℕ) (before : List Part) (x :
         let viewed : HasViewed o words' log first s = viewed_then z o words words' (holdings (before ++ x ∷ after)) log first s inside entry_stays known.1 in
         let dues = dues_are_kept z o words' (holdings before) (record held { own = Some whole }) (holdings after) log due all_stored.lawful
         (record_due z o words' (holdings before) (record held { own = Some whole }) (holdings after) log all_stored.lawful s c old at refl first inside below known.0.stamp
-            (others_found first known.1.0) refl viewed indices sound_part.distinct) in
+        (others_found first known.1.0) refl viewed indices sound_part.distinct) in
         keeps_then z o (record { words = words; holdings = hs; log = log }) (record { words = words'; holdings = holdings before ++ record held { own = Some whole } ∷ holdings after; log = log })
-            (record { words = words'; holdings = holdings before ++ record held { own = Some whole; due = Some due } ∷ holdings after; log = log }) all_stored dues
+        (record { words = words'; holdings = holdings before ++ record held { own = Some whole; due = Some due } ∷ holdings after; log = log }) all_stored dues
 
     last_stored : LeadsAt z o words before x after log s (StoringRecord c old at k) step
     last_stored =
         let t : CoreState = at_stage s (Exchanging c old at) in
         let h' : Holding = record held { own = Some whole; due = Some due } in
         quiet z o words before x after log w (StoringRecord c old at k) step t h' e refl (ap (λ (b : Bool). at_stage s (cond b (Exchanging c old at) (StoringRecord c old at (k + 1)))) last) refl
-            inside refl refl (kept_here h' comes_due) (λ ks is. tt) refl refl
+        inside refl refl (kept_here h' comes_due) (λ ks is. tt) refl refl
 
   -- a word of the record is stored
   pub record_stored : LeadsAt z o words before x after log s (StoringRecord c old at k) step

@@ -142,9 +142,11 @@ module _ (z : Layout) (o : Opening) (words : List ℕ) (before : List Holding) (
   apart_less : (b : Block) → IsApartFrom (unpublished hs) b → IsApartFrom us b × AreApart b (block_of block)
   apart_less b apart =
       let all : AllByRecursion (AreApart b) (unpublished before ++ (block_of block ∷ unpublished after)) = subst (AllByRecursion (AreApart b)) (unpublished_is before h after (Some block) own) apart in
-      let back = all_back (AreApart b) (unpublished before) (block_of block ∷ unpublished after) all in
-      (subst (AllByRecursion (AreApart b)) (sym split_us) (all_append (AreApart b) (unpublished before) (unpublished after)
-          (all_front (AreApart b) (unpublished before) (block_of block ∷ unpublished after) all) back.1), back.0)
+      let back = all_back (AreApart b) (unpublished before) (block_of block ∷ unpublished after) all in (
+        subst (AllByRecursion (AreApart b)) (sym split_us) (all_append (AreApart b) (unpublished before) (unpublished after)
+            (all_front (AreApart b) (unpublished before) (block_of block ∷ unpublished after) all) back.1),
+        back.0,
+      )
 
   frame : Frame z words words (unpublished hs) us
   frame = record { count = refl; pool = omega arith; lists = omega arith; slots = omega arith; same = λ n far p. refl; apart = λ b claimed apart. (apart_less b apart).0; vacated = λ l room one. one }
@@ -234,24 +236,28 @@ module _ (z : Layout) (o : Opening) (words : List ℕ) (before : List Holding) (
     shown = shown_by (length s.found.indices == 0) refl
 
     names_found : (j : Joined) → HasAll s.found.indices j → Names z words us at j.indices
-    names_found j all = (pairs, shown, each_index (λ i. Contains (map (λ (q : ℕ × ℕ). q.0) pairs) i) j.indices
-        (λ k lt. subst (λ (l : List ℕ). Contains l (get_or j.indices k 0)) (sym (firsts (λ i. get_or s.rows.values i 0) s.found.indices))
-        (has_contains s.found.indices (get_or j.indices k 0) (all k lt))))
+    names_found j all = (
+      pairs,
+      shown,
+      each_index (λ i. Contains (map (λ (q : ℕ × ℕ). q.0) pairs) i) j.indices
+          (λ k lt. subst (λ (l : List ℕ). Contains l (get_or j.indices k 0)) (sym (firsts (λ i. get_or s.rows.values i 0) s.found.indices))
+          (has_contains s.found.indices (get_or j.indices k 0) (all k lt))),
+    )
 
     size_by : (b : Bool) → (length s.found.indices == 0) ≡ b → length (record_words s c old at) ≡ (block_at words at).size
     size_by true e =
         let empty = no_pairs (λ j. get_or s.rows.values j 0) s.found.indices (eqb-true (length s.found.indices) 0 e) in
         let view = view_is true e in
         length_is ∙ ap (λ (ps : List (ℕ × ℕ)). length (record_block old c.value (view_at s at) ps)) empty ∙
-            sym (ap (λ (t : Bool). cond t (4 + 2 * get_or words (at + 3) 0) 3) (ne_eqb (view_of words at) (at + 3) (λ same. omega (arith, view, same))))
+        sym (ap (λ (t : Bool). cond t (4 + 2 * get_or words (at + 3) 0) 3) (ne_eqb (view_of words at) (at + 3) (λ same. omega (arith, view, same))))
     size_by false e =
         let v = own_view e in
         let len : get_or words (at + 3) 0 ≡ length pairs = ap (λ i. get_or words i 0) (omega arith) ∙ (v.stands 0 (omega arith)).1 in
         let count = count_is in
         let not_none = eqb-false (length s.found.indices) 0 e in
         let record_is : length (record_words s c old at) ≡ 4 + 2 * length pairs =
-            length_record s c old at ∙ ap (λ (f : Option ℕ). option_map_or (λ _. 3) f (cond (length s.found.indices == 0) 3 (4 + 2 * length s.found.indices))) none ∙
-            ap (λ (t : Bool). cond t 3 (4 + 2 * length s.found.indices)) e ∙ ap (λ k. 4 + 2 * k) (sym count) in
+        length_record s c old at ∙ ap (λ (f : Option ℕ). option_map_or (λ _. 3) f (cond (length s.found.indices == 0) 3 (4 + 2 * length s.found.indices))) none ∙
+        ap (λ (t : Bool). cond t 3 (4 + 2 * length s.found.indices)) e ∙ ap (λ k. 4 + 2 * k) (sym count) in
         record_is ∙ ap (λ k. 4 + 2 * k) (sym len) ∙ sym (ap (λ (t : Bool). cond t (4 + 2 * get_or words (at + 3) 0) 3) (eq-eqb (view_of words at) (at + 3) (view_is false e)))
 
     shows_own : Shows

@@ -97,4 +97,4 @@ abbrev pub PortsComeBetween : Type 0
 PortsComeBetween =
     ((z : Layout) (port : ℕ) → IsBetween (fresh_part z port) (fresh z port))
     × ((z : Layout) (o : Opening) (b : CoreState) (x : Part) (c : CoreState) (y : Part) → Made z o b x c y → is_some (reply_of c) ≡ true →
-        IsBetween y (at_stage c Idle))
+    IsBetween y (at_stage c Idle))

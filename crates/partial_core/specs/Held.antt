@@ -41,8 +41,10 @@ slot_claimed _ = None
 
 -- the slot that a scan has claimed, and its announcement once it has joined
 abbrev pub scan_claimed : CoreState → ℕ → Option Claimed
-scan_claimed s since = Some (record { slot = s.leave.slot;
-    joined = Some (record { at = s.join.announcement; indices = s.asked; since = since }) })
+scan_claimed s since = Some (record {
+  slot = s.leave.slot;
+  joined = Some (record { at = s.join.announcement; indices = s.asked; since = since });
+})
 
 -- the slot that a machine at this stage has claimed, with what stands there
 abbrev pub claimed_at : CoreState → Stage → ℕ → Option Claimed
@@ -61,11 +63,19 @@ own_list next _ = None
 abbrev pub own_at : CoreState → Stage → Option Own
 own_at s (GettingSet c old) = own_list s.found.next s.get_set.stage
 own_at s (StoringRecord c old at k) = Some (record { space = Pool; at = at; words = record_words s c old at; stored = k })
-own_at s (Exchanging c old at) = Some (record { space = Pool; at = at; words = record_words s c old at;
-    stored = length (record_words s c old at) })
+own_at s (Exchanging c old at) = Some (record {
+  space = Pool;
+  at = at;
+  words = record_words s c old at;
+  stored = length (record_words s c old at);
+})
 own_at s (StoringAnnouncement at k) = Some (record { space = Pool; at = at; words = announcement_block s.asked; stored = k })
-own_at s Joining = Some (record { space = Pool; at = s.join.announcement; words = announcement_block s.asked;
-    stored = announcement_size (length s.asked) })
+own_at s Joining = Some (record {
+  space = Pool;
+  at = s.join.announcement;
+  words = announcement_block s.asked;
+  stored = announcement_size (length s.asked);
+})
 own_at s _ = None
 
 -- the exchange of a component that is due

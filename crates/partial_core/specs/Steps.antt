@@ -31,7 +31,7 @@ use Rattle.partial_core.specs.Lawful.{Lawful}
 abbrev pub added_by : Layout → ℕ → List ℕ → Step → List Applied
 added_by z port words (Exchange w old at) =
     if nat_lt w z.m then (if slice_index words w == old then record
-        { port = port; component = w; value = value_of words at; stamp = at } ∷ [] else []) else []
+    { port = port; component = w; value = value_of words at; stamp = at } ∷ [] else []) else []
 added_by z port words _ = []
 
 -- a record that the step would publish lies within the words

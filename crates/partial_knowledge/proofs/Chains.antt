@@ -113,8 +113,10 @@ entry_blocks f (e ∷ log) rest w = (all_back (AreApart (f e)) (map f log) rest 
 pub apart_part : (us : List Block) (at size from count : ℕ) → at ≤ from → from + count ≤ at + size → IsApartFrom us (record { at = at; size = size }) →
     IsApartFrom us (record { at = from; size = count })
 apart_part [] at size from count low high apart = tt
-apart_part (b ∷ us) at size from count low high apart = (elim apart.0 [ inl before ↦ inl (omega (arith, high, before)) | inr behind ↦ inr (omega (arith, low, behind)) ],
-    apart_part us at size from count low high apart.1)
+apart_part (b ∷ us) at size from count low high apart = (
+  elim apart.0 [ inl before ↦ inl (omega (arith, high, before)) | inr behind ↦ inr (omega (arith, low, behind)) ],
+  apart_part us at size from count low high apart.1,
+)
 
 -- a record of the history lies in the pool, below the counter, and no block that isn't published shares a word with it
 pub record IsStanding (z : Layout) (words : List ℕ) (hs : List Holding) (stamp : ℕ) : Type 0 where
@@ -135,7 +137,7 @@ module _ (z : Layout) (o : Opening) (words : List ℕ) (hs : List Holding) (log 
       let low = w.pool_low in
       let pool = w.sizes.pool.0 in
       let free : IsApartFrom (unpublished hs) (record { at = pool_base z; size = 3 * z.m }) = all_back (AreApart (record { at = pool_base z; size = 3 * z.m })) (announcements hs) (unpublished hs)
-          (all_back (AreApart (record { at = pool_base z; size = 3 * z.m })) (map (λ (e : Applied). block_at words e.stamp) log) (announcements hs ++ unpublished hs) blocks.0) in
+      (all_back (AreApart (record { at = pool_base z; size = 3 * z.m })) (map (λ (e : Applied). block_at words e.stamp) log) (announcements hs ++ unpublished hs) blocks.0) in
       record {
         above = omega (arith, is, stamps);
         within = omega (arith, is, stamps, below, values, pool);
@@ -151,7 +153,7 @@ module _ (z : Layout) (o : Opening) (words : List ℕ) (hs : List Holding) (log 
       let within = of.within in
       let below = of.below in
       let all = AllByRecursion-get (λ (f : Applied). AllByRecursion (AreApart (block_at words f.stamp)) (announcements hs ++ unpublished hs)) log entry.0 e
-          (entry_blocks (λ (f : Applied). block_at words f.stamp) log (announcements hs ++ unpublished hs) blocks.1) entry.3 in
+      (entry_blocks (λ (f : Applied). block_at words f.stamp) log (announcements hs ++ unpublished hs) blocks.1) entry.3 in
       let free : IsApartFrom (unpublished hs) (block_at words e.stamp) = all_back (AreApart (block_at words e.stamp)) (announcements hs) (unpublished hs) all in
       record {
         above = omega (arith, is, above);
@@ -165,6 +167,11 @@ module _ (z : Layout) (o : Opening) (words : List ℕ) (hs : List Holding) (log 
   standing_word stamp i lt s =
       let above = s.above in
       let within = s.within in
-      let below = s.below in
-      (omega (arith, lt, within), λ far. record { claimed = inr (omega (arith, above), omega (arith, lt, below)); apart = apart_part (unpublished hs) stamp 3 (stamp + i) 1 (omega arith)
-          (omega (arith, lt)) s.apart })
+      let below = s.below in (
+        omega (arith, lt, within),
+        λ far. record {
+          claimed = inr (omega (arith, above), omega (arith, lt, below));
+          apart = apart_part (unpublished hs) stamp 3 (stamp + i) 1 (omega arith)
+              (omega (arith, lt)) s.apart;
+        },
+      )

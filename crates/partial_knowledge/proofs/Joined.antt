@@ -15,7 +15,7 @@ pub at_joined : (P : ℕ → Joined → Type 0) (hs : List Holding) (l : ℕ) (j
 at_joined P hs l j w joins =
     let here : IfJoined joins.1 P = AllByRecursion-get (λ (h : Holding). IfJoined h P) hs joins.0 joins.1 w joins.2 in
     let some : IfSome (Some (record { slot = l; joined = Some j })) (λ (c : Claimed). IfSome c.joined (P c.slot)) =
-        subst (λ (f : Option Claimed). IfSome f (λ (c : Claimed). IfSome c.joined (P c.slot))) joins.3 here in
+    subst (λ (f : Option Claimed). IfSome f (λ (c : Claimed). IfSome c.joined (P c.slot))) joins.3 here in
     some
 
 -- its slot is one of the slots that were claimed, and shows its announcement

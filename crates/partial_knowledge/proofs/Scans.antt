@@ -44,9 +44,14 @@ view_word : (z : Layout) (words : List ℕ) (hs : List Holding) (at i : ℕ) (pa
 view_word z words hs at i pairs view lt =
     let above = view.above in
     let within = view.within in
-    let below = view.below in
-    (omega (arith, lt, within), λ far. record { claimed = inr (omega (arith, above), omega (arith, lt, below)); apart = apart_part (unpublished hs) at (length (view_block pairs)) (at + i) 1
-        (omega arith) (omega (arith, lt)) view.apart })
+    let below = view.below in (
+      omega (arith, lt, within),
+      λ far. record {
+        claimed = inr (omega (arith, above), omega (arith, lt, below));
+        apart = apart_part (unpublished hs) at (length (view_block pairs)) (at + i) 1
+            (omega arith) (omega (arith, lt)) view.apart;
+      },
+    )
 
 -- what a position's load tells where it differs from the latest one
 differs_tells : (p : Pair) (k x : ℕ) → differs p k x ≡ true → (is_first p ≡ false) × (get_or p.1.last k 0 ≢ x)
@@ -151,7 +156,7 @@ module _ (o : Opening) (words : List ℕ) (hs : List Holding) (log : List Applie
               let latest : get_or p.1.last k 0 ≡ x = agrees_tells p k x first both.1 in
               let then = stamps_never_return o log (slice_index indices k) b.0 t knows.middle w.history (there_is k here) b.2 (omega (arith, to, after)) (sym b.1.stamp ∙ latest ∙ is) in
               subst (λ n. slice_index (noted p k x).1.last n ≡ stamp_of o (take knows.middle log) (slice_index indices n)) (sym e.1)
-                  (get_or-set_same p.1.last k x 0 in_last ∙ sym latest ∙ b.1.stamp ∙ sym then.0)
+              (get_or-set_same p.1.last k x 0 in_last ∙ sym latest ∙ b.1.stamp ∙ sym then.0)
           | inr e ↦ let other = e.1 in get_or-set_other p.1.last k i x 0 other ∙ knows.same first both.0 i (omega (arith, lt, other))
         ]
 
@@ -284,8 +289,18 @@ module _ (o : Opening) (words : List ℕ) (hs : List Holding) (log : List Applie
 
   -- the third record's facts, for the machine at another stage
   abbrev third_on : (stamp : ℕ) (q : Pair) → q.0.borrowed ≡ p.0.borrowed → q.0.collects ≡ p.0.collects → IsThird words log indices low p stamp → IsThird words log indices low q stamp
-  third_on stamp q same count third = record { borrowed = same ∙ third.borrowed; three = let three = third.three in omega (arith, three, count); place = third.place; entry = third.entry;
-      stands = third.stands; is = third.is; position = third.position; within = third.within; component = third.component; begun = third.begun }
+  third_on stamp q same count third = record {
+    borrowed = same ∙ third.borrowed;
+    three = let three = third.three in omega (arith, three, count);
+    place = third.place;
+    entry = third.entry;
+    stands = third.stands;
+    is = third.is;
+    position = third.position;
+    within = third.within;
+    component = third.component;
+    begun = third.begun;
+  }
 
   -- no pair, no word
   no_pairs : (pairs : List (ℕ × ℕ)) (stamp : ℕ) → view_of words stamp ≡ 0 → HasPairs p.0.sizes words (unpublished hs) stamp pairs → length pairs ≡ 0
@@ -341,7 +356,7 @@ module _ (o : Opening) (words : List ℕ) (hs : List Holding) (log : List Applie
             (λ e.
             let none = eqb-true x 0 e in
             let all : Loads p.0.sizes o words hs log indices low (at_stage p Done) 0 =
-                (stamp, third_on stamp (at_stage p Done) refl refl third, view_is, f.pairs, 0, omega (arith, none, count), none_loaded stamp p.1 third f) in (
+            (stamp, third_on stamp (at_stage p Done) refl refl third, view_is, f.pairs, 0, omega (arith, none, count), none_loaded stamp p.1 third f) in (
               λ nothing. let bad : None ≡ Some stamp = sym nothing ∙ third.borrowed in absurd cc,
               λ s borrowed. subst (λ n. IsThird words log indices low (at_stage p Done) n × (p.0.view ≡ view_of words n)) (one_stamp stamp s third.borrowed borrowed)
                   (third_on stamp (at_stage p Done) refl refl third, view_is),
@@ -363,9 +378,13 @@ module _ (o : Opening) (words : List ℕ) (hs : List Holding) (log : List Applie
       let sum = l.5 in
       let pair = element_at l.3 l.4 (omega (arith, sum, some)) in
       let view = view_here l.0 l.3 (λ none. shown (l.2 ∙ none)) l.6.shown in
-      let read = same_pairs words p.0.sizes hs (view_of words l.0) l.3 l.4 pair.0.0 pair.0.1 view pair.1 in
-      (pair.0, pair.1, ap (λ n. get_or words (n + 1 + 2 * l.4) 0) l.2 ∙ read.0, ap (λ n. get_or words (n + 2 + 2 * l.4) 0) l.2 ∙ read.1,
-          AllByRecursion-get (λ (q : ℕ × ℕ). q.0 < p.0.sizes.m) l.3 l.4 pair.0 view.components pair.1)
+      let read = same_pairs words p.0.sizes hs (view_of words l.0) l.3 l.4 pair.0.0 pair.0.1 view pair.1 in (
+        pair.0,
+        pair.1,
+        ap (λ n. get_or words (n + 1 + 2 * l.4) 0) l.2 ∙ read.0,
+        ap (λ n. get_or words (n + 2 + 2 * l.4) 0) l.2 ∙ read.1,
+        AllByRecursion-get (λ (q : ℕ × ℕ). q.0 < p.0.sizes.m) l.3 l.4 pair.0 view.components pair.1,
+      )
 
   -- where pairs are left, the view isn't the empty one
   view_shown : (left : ℕ) (l : Loads p.0.sizes o words hs log indices low p left) → 0 < left → p.0.view ≢ 0
@@ -378,9 +397,16 @@ module _ (o : Opening) (words : List ℕ) (hs : List Holding) (log : List Applie
       let l = knows.1 in
       let at_is = knows.2 in
       let next = next_pair left l knows.3 (view_shown left l knows.3) in
-      let index : x ≡ next.0.0 = is ∙ ap (λ n. get_or words n 0) at_is ∙ next.2 in
-      (subst (λ n. n < p.0.sizes.m) (sym index) next.4, (knows.0, (l.0, third_on l.0 (at_stage p (PairValue (at + 1) left x)) refl refl l.1, l.2, l.3, l.4, l.5, l.6), omega (arith, at_is), knows.3,
-          (next.0.1, next.1 ∙ ap (λ n. Some (n, next.0.1)) (sym index))))
+      let index : x ≡ next.0.0 = is ∙ ap (λ n. get_or words n 0) at_is ∙ next.2 in (
+        subst (λ n. n < p.0.sizes.m) (sym index) next.4,
+        (
+          knows.0,
+          (l.0, third_on l.0 (at_stage p (PairValue (at + 1) left x)) refl refl l.1, l.2, l.3, l.4, l.5, l.6),
+          omega (arith, at_is),
+          knows.3,
+          (next.0.1, next.1 ∙ ap (λ n. Some (n, next.0.1)) (sym index)),
+        ),
+      )
 
   pub step_pair : (at left index t x : ℕ) → index < length p.1.values → knows_at p.0.sizes o words hs log indices low high (PairValue at left index) p → x ≡ get_or words at 0 →
       Knows_at t (at_stage (with_value p index x) (pairs_from (at + 1) (left - 1)))
@@ -480,7 +506,7 @@ module _ (o : Opening) (words : List ℕ) (hs : List Holding) (log : List Applie
       let view_is = l.2 in
       let view = view_here o words hs log indices low high p w together order l.0 l.3 (λ none. view_shown o words hs log indices low high p w together order left l some (view_is ∙ none)) l.6.shown in
       subst (IsReadable p.0.sizes words hs) (omega (arith, is, at_is, view_is))
-          (view_word p.0.sizes words hs (view_of words l.0) (1 + 2 * l.4) l.3 view (let size = length-pairs l.3 in omega (arith, sum, some, size)))
+      (view_word p.0.sizes words hs (view_of words l.0) (1 + 2 * l.4) l.3 view (let size = length-pairs l.3 in omega (arith, sum, some, size)))
   readable_at (PairValue at left index) n e goes knows =
       let is : at ≡ n = cc in
       let l = knows.1 in
@@ -490,15 +516,15 @@ module _ (o : Opening) (words : List ℕ) (hs : List Holding) (log : List Applie
       let view_is = l.2 in
       let view = view_here o words hs log indices low high p w together order l.0 l.3 (λ none. view_shown o words hs log indices low high p w together order left l some (view_is ∙ none)) l.6.shown in
       subst (IsReadable p.0.sizes words hs) (omega (arith, is, at_is, view_is))
-          (view_word p.0.sizes words hs (view_of words l.0) (2 + 2 * l.4) l.3 view (let size = length-pairs l.3 in omega (arith, sum, some, size)))
+      (view_word p.0.sizes words hs (view_of words l.0) (2 + 2 * l.4) l.3 view (let size = length-pairs l.3 in omega (arith, sum, some, size)))
   readable_at (Value k) n e goes knows =
       let is : slice_index p.1.last k + 1 ≡ n = cc in
       let here = goes.0 in
       let below : slice_index indices k < length o.values = let b = together.positions.components k here in let values = w.values in omega (arith, b, values) in
       let within : IsWithin o log knows.prefix (slice_index p.1.last k) = subst (IsWithin o log knows.prefix) (sym (knows.stamps k here))
-          (stamp_within o log knows.prefix (slice_index indices k) below) in
+      (stamp_within o log knows.prefix (slice_index indices k) below) in
       subst (IsReadable p.0.sizes words hs) is (standing_word p.0.sizes o words hs log w (slice_index p.1.last k) 1 (omega arith)
-          (standing p.0.sizes o words hs log w knows.prefix (slice_index p.1.last k) within))
+      (standing p.0.sizes o words hs log w knows.prefix (slice_index p.1.last k) within))
   readable_at Done n e goes knows = absurd cc
 
   -- what a load of a block's word answered stands element_at
@@ -519,9 +545,9 @@ module _ (o : Opening) (words : List ℕ) (hs : List Holding) (log : List Applie
       let component = together.positions.components k here in
       let below : slice_index indices k < length o.values = let values = w.values in omega (arith, component, values) in
       let stamp : slice_index words n ≡ stamp_of o (take (length log) log) (slice_index indices k) = subst (λ m. slice_index words n ≡ stamp_of o (take (length log) log) m) (sym is)
-          (l.component (omega (arith, is, component))) in
+      (l.component (omega (arith, is, component))) in
       let s = standing p.0.sizes o words hs log w (length log) (slice_index words n)
-          (subst (IsWithin o log (length log)) (sym stamp) (stamp_within o log (length log) (slice_index indices k) below)) in
+      (subst (IsWithin o log (length log)) (sym stamp) (stamp_within o log (length log) (slice_index indices k) below)) in
       (s.above, s.within)
   possible_at (View stamp) n e goes knows l =
       let is : stamp + 2 ≡ n = cc in
@@ -559,7 +585,7 @@ module _ (o : Opening) (words : List ℕ) (hs : List Holding) (log : List Applie
       let below = goes.3 in
       let room = together.rows.values in
       step_pair o words hs log indices low high p w together order at left index k.at k.answer (omega (arith, below, room)) knows
-          (still n k (omega (arith, is, above)) l ∙ ap (λ m. get_or words m 0) (sym is))
+      (still n k (omega (arith, is, above)) l ∙ ap (λ m. get_or words m 0) (sym is))
   on_at (Value i) n k stage e goes knows l after =
       let is : slice_index p.1.last i + 1 ≡ n = cc in
       let here = goes.0 in
@@ -567,7 +593,7 @@ module _ (o : Opening) (words : List ℕ) (hs : List Holding) (log : List Applie
       let room = together.rows.values in
       let above = (goes.1 i here).0 in
       step_value o words hs log indices low high p w together order i k.at k.answer here (omega (arith, component, room)) after knows
-          (still n k (omega (arith, is, above)) l ∙ ap (λ m. get_or words m 0) (sym is))
+      (still n k (omega (arith, is, above)) l ∙ ap (λ m. get_or words m 0) (sym is))
   on_at Done n k stage e goes knows l after = absurd cc
 
 pub embedded_scans_know : EmbeddedScansKnow

@@ -52,7 +52,7 @@ module _ (z : Layout) (o : Opening) (words : List ℕ) (hs : List Holding) (log 
   found_after_walk p slot over k =
       let all : FindsJoined hs low p.1.indices = λ l j joins since. k.complete l j joins since (let below = k.ended l j joins since in omega (arith, below, over)) in
       cond_both (p.0.noted && not p.0.lists_spent) (Claim (next_words p.1)) Done (λ stage. Knows z words hs low (record p.0 { stage = stage }, p.1))
-          (λ e. ((k.noted, all), unmarked p.0.lists_spent (and_parts p.0.noted (not p.0.lists_spent) e).1)) (λ e. (k.noted, all))
+      (λ e. ((k.noted, all), unmarked p.0.lists_spent (and_parts p.0.noted (not p.0.lists_spent) e).1)) (λ e. (k.noted, all))
     where
       unmarked : (b : Bool) → not b ≡ true → b ≡ false
       unmarked true e = absurd (false≢true e)
@@ -93,9 +93,13 @@ module _ (z : Layout) (o : Opening) (words : List ℕ) (hs : List Holding) (log 
       let to = p.whole.to in
       let start = p.whole.from in
       let below = p.below in
-      let size : length (list_block list) ≡ 1 + 2 * length list = let pairs = length-pairs list in omega (arith, pairs) in
-      (omega (arith, lt, to, size), λ far. record { claimed = inl (omega (arith, lt, to, size), omega (arith, lt, below));
-          apart = apart_word (unpublished hs) from (length (list_block list)) i lt p.apart })
+      let size : length (list_block list) ≡ 1 + 2 * length list = let pairs = length-pairs list in omega (arith, pairs) in (
+        omega (arith, lt, to, size),
+        λ far. record {
+          claimed = inl (omega (arith, lt, to, size), omega (arith, lt, below));
+          apart = apart_word (unpublished hs) from (length (list_block list)) i lt p.apart;
+        },
+      )
 
   announced_word : (at i : ℕ) (named : List ℕ) → IsAnnounced z words (unpublished hs) at named → i < 1 + length named → IsReadable z words hs (at + i)
   announced_word at i named p lt =
@@ -216,7 +220,7 @@ module _ (o : Opening) (words : List ℕ) (hs : List Holding) (log : List Applie
       let high : k.answer ≡ highest list i = still at k (omega (arith, place, start)) l ∙ ap (slice_index words) place ∙ high_word from list r.published i lt in
       let longer : length (p.1.read ++ (lo, highest list i) ∷ []) ≡ i + 1 = length_push p.1.read (lo, highest list i) in
       let so_far : p.1.read ++ (lo, highest list i) ∷ [] ≡ take (i + 1) list = ap (λ n. p.1.read ++ (n, highest list i) ∷ []) low_is ∙ ap (λ (m : Ranges). m ++ get_or list i (0, 0) ∷ []) r.read_is ∙
-          sym (take_more list i (0, 0) lt) in
+      sym (take_more list i (0, 0) lt) in
       rw high (
         (omega (arith, low_is, closed), whole.within (highest list i) (i, lt, closed, omega arith)),
         cond_both (eqb left 1) Counter (ListLow (at + 1) (left - 1)) (λ stage. Knows p.0.sizes words hs low (record p.0 { stage = stage }, record p.1 { read = p.1.read ++ (lo, highest list i) ∷ [] }))
@@ -269,9 +273,9 @@ module _ (o : Opening) (words : List ℕ) (hs : List Holding) (log : List Applie
       let within : slot < p.0.sizes.slots = omega (arith, less, bound) in
       let is = l.slot slot within refl in
       let here : IsInSlot hs low slot a = λ j joins since. sym (at_joined (λ n i. i.since < k.at → slot_word p.0.sizes slot ≡ slot_word p.0.sizes n → k.answer ≡ i.at) hs slot j l.joined joins
-          (omega (arith, since, after)) refl) in
+      (omega (arith, since, after)) refl) in
       let none : a ≤ 1 → (j : Joined) → Joins hs slot j → j.since < low → HasAll p.1.indices j = λ small j joins since. let s = shown p.0.sizes o words hs log w slot j joins in let above =
-          reference_above p.0.sizes words hs slot j s in let at = here j joins since in absurd (omega (arith, small, above, at)) in
+      reference_above p.0.sizes words hs slot j s in let at = here j joins since in absurd (omega (arith, small, above, at)) in
       let vacated_now : a ≡ 1 → slice_index words (slot_word p.0.sizes slot) ≡ 1 = λ one. vacated is one in
       let noted : a ≡ 1 → walks p.0.sizes words hs low (note_slot p slot) slot = λ one. record {
         listed = knows.listed;
@@ -286,10 +290,10 @@ module _ (o : Opening) (words : List ℕ) (hs : List Holding) (log : List Applie
         slot_possible slot a is,
         cond_both (eqb a 0) (come_to p (slot + 1)) (cond (eqb a 1) (come_to (note_slot p slot) (slot + 1)) (in_stage p (Len slot a))) (λ q. Knows p.0.sizes words hs low q)
             (λ e. let zero_is = eqb-true a 0 e in knows_come_to p.0.sizes o words hs log low w p (slot + 1) (walk_next p slot goes)
-                (walks_next p.0.sizes o words hs log low w p slot knows (none (omega (arith, zero_is)))))
+            (walks_next p.0.sizes o words hs log low w p slot knows (none (omega (arith, zero_is)))))
             (λ not_empty. cond_both (eqb a 1) (come_to (note_slot p slot) (slot + 1)) (in_stage p (Len slot a)) (λ q. Knows p.0.sizes words hs low q)
             (λ e. let one = eqb-true a 1 e in knows_come_to p.0.sizes o words hs log low w (note_slot p slot) (slot + 1) (walk_noted p slot layout goes)
-                (walks_next p.0.sizes o words hs log low w (note_slot p slot) slot (noted one) (none (omega (arith, one)))))
+            (walks_next p.0.sizes o words hs log low w (note_slot p slot) slot (noted one) (none (omega (arith, one)))))
             (λ not_vacated. elim is [
               | inl empty ↦ absurd (eqb-false a 0 not_empty empty)
               | inr (inl gone) ↦ absurd (eqb-false a 1 not_vacated gone.0)
@@ -315,8 +319,8 @@ module _ (o : Opening) (words : List ℕ) (hs : List Holding) (log : List Applie
         (whole.to, whole.count),
         cond_both (eqb (length named) 0) (come_to p (slot + 1)) (in_stage p (Index slot (at + 1) (length named))) (λ q. Knows p.0.sizes words hs low q)
             (λ e. let none = eqb-true (length named) 0 e in knows_come_to p.0.sizes o words hs log low w p (slot + 1) (walk_next p slot goes.0)
-                (walks_next p.0.sizes o words hs log low w p slot knows.0
-                (all_read p.0.sizes o words hs log low w slot at named p.1.indices announced here (λ i lt. absurd (omega (arith, none, lt))))))
+            (walks_next p.0.sizes o words hs log low w p slot knows.0
+            (all_read p.0.sizes o words hs log low w slot at named p.1.indices announced here (λ i lt. absurd (omega (arith, none, lt))))))
             (λ e. (
               record { listed = knows.0.listed; noted = knows.0.noted; ended = knows.0.ended; complete = knows.0.complete },
               (at, named, 0, record { announced = announced; here = here; place = omega arith; sum = omega arith; so_far = λ i lt. absurd (omega (arith, lt)) }),
@@ -354,8 +358,8 @@ module _ (o : Opening) (words : List ℕ) (hs : List Holding) (log : List Applie
         whole.each i lt,
         cond_both (eqb left 1) (come_to q (slot + 1)) (in_stage q (Index slot (at + 1) (left - 1))) (λ v. Knows p.0.sizes words hs low v)
             (λ e. let one = eqb-true left 1 e in knows_come_to p.0.sizes o words hs log low w q (slot + 1) (walk_next q slot (with_here x goes.0))
-                (walks_next p.0.sizes o words hs log low w q slot walked
-                (all_read p.0.sizes o words hs log low w slot a named (with_index p.1.indices x) r.announced r.here (λ n less. so_far n (omega (arith, sum, one, less))))))
+            (walks_next p.0.sizes o words hs log low w q slot walked
+            (all_read p.0.sizes o words hs log low w slot a named (with_index p.1.indices x) r.announced r.here (λ n less. so_far n (omega (arith, sum, one, less))))))
             (λ e. let more = eqb-false left 1 e in (
               record { listed = walked.listed; noted = walked.noted; ended = walked.ended; complete = walked.complete },
               (a, named, i + 1, record { announced = r.announced; here = r.here; place = omega (arith, place); sum = omega (arith, sum, more, some); so_far = so_far }),

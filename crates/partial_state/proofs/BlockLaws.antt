@@ -57,7 +57,7 @@ module _ (z : Layout) (o : Opening) (words : List ℕ) (before : List Holding) (
         let most = counter_high space in
         let end = end_high space in
         get_or-set_same words (counter_of z space) ((get_or words (counter_of z space) 0 + length block) % 2 ^ 64) 0 (omega (arith, count, some, most)) ∙ fits_word z
-            (get_or words (counter_of z space) 0 + length block) w.sizes (omega (arith, room, end))
+        (get_or words (counter_of z space) 0 + length block) w.sizes (omega (arith, room, end))
 
     other : (k : ℕ) → k ≢ counter_of z space → get_or claimed k 0 ≡ get_or words k 0
     unfolding claimed
@@ -85,13 +85,21 @@ module _ (z : Layout) (o : Opening) (words : List ℕ) (before : List Holding) (
         let slots : get_or claimed (slot_counter z) 0 ≡ get_or words (slot_counter z) 0 = other (slot_counter z) (λ e. omega (arith, e, least)) in
         let slot_words : (l : ℕ) → l < z.slots → get_or claimed (slot_word z l) 0 ≡ get_or words (slot_word z l) 0 = λ l inside. other (slot_word z l) (λ e. omega (arith, e, most)) in
         let far : (k : ℕ) → list_base z ≤ k → get_or claimed k 0 ≡ get_or words k 0 = λ k above. other k (λ e. omega (arith, above, e, most)) in
-        let m : Moves z words claimed h h' = record { port = refl; count = length-set words (counter_of z space) ((get_or words (counter_of z space) 0 + length block) % 2 ^ 64); pool = pool.0;
-            lists = lists.0; slots = omega (arith, slots); same = λ k above free. far k above; apart = λ x taken free. fresh_apart space (length block) room x taken;
-            slot = λ l inside free. slot_words l inside; vacated = λ l inside one. slot_words l inside ∙ one } in
+        let m : Moves z words claimed h h' = record {
+          port = refl;
+          count = length-set words (counter_of z space) ((get_or words (counter_of z space) 0 + length block) % 2 ^ 64);
+          pool = pool.0;
+          lists = lists.0;
+          slots = omega (arith, slots);
+          same = λ k above free. far k above;
+          apart = λ x taken free. fresh_apart space (length block) room x taken;
+          slot = λ l inside free. slot_words l inside;
+          vacated = λ l inside one. slot_words l inside ∙ one;
+        } in
         let tied = all_at (IsTied z words) before h after w.tied in
         let added = own_block_added z words (before ++ h' ∷ after) (before ++ h ∷ after) log (block_of b) (announced_same before h' h after refl) (own_added before h' h after b unowned refl) in
         let free = all_weaker (IsClaimedBlock z words) (AreApart (block_of b)) (λ x taken. apart_turns x (block_of b) (fresh_apart space (length block) room x taken))
-            (blocks_in z words (before ++ h ∷ after) log) (all_claimed z o words (before ++ h ∷ after) log w) in
+        (blocks_in z words (before ++ h ∷ after) log) (all_claimed z o words (before ++ h ∷ after) log w) in
         calm z o words claimed before h h' after log w (record {
           moves = m;
           components = λ j below. other j (λ e. omega (arith, below, e, least));
@@ -218,8 +226,17 @@ publishings_are_kept z o words before h after log old at list w idle is normal h
     let slots : get_or words' (slot_counter z) 0 ≡ get_or words (slot_counter z) 0 = other (slot_counter z) (λ e. omega (arith, e)) in
     let slot_words : (l : ℕ) → l < z.slots → get_or words' (slot_word z l) 0 ≡ get_or words (slot_word z l) 0 = λ l room. other (slot_word z l) (λ e. omega (arith, e)) in
     let far : (k : ℕ) → list_base z ≤ k → get_or words' k 0 ≡ get_or words k 0 = λ k above. other k (λ e. omega (arith, above, e)) in
-    let m : Moves z words words' h h' = record { port = refl; count = length-set words n v; pool = omega (arith, pool); lists = omega (arith, lists); slots = omega (arith, slots);
-        same = λ k above free. far k above; apart = λ x claimed free. tt; slot = λ l room free. slot_words l room; vacated = λ l room one. slot_words l room ∙ one } in
+    let m : Moves z words words' h h' = record {
+      port = refl;
+      count = length-set words n v;
+      pool = omega (arith, pool);
+      lists = omega (arith, lists);
+      slots = omega (arith, slots);
+      same = λ k above free. far k above;
+      apart = λ x claimed free. tt;
+      slot = λ l room free. slot_words l room;
+      vacated = λ l room one. slot_words l room ∙ one;
+    } in
     let frame = frame_of z words words' h h' m before after in
     let above = own.above in
     let within = own.within in
@@ -238,12 +255,16 @@ publishings_are_kept z o words before h after log old at list w idle is normal h
       apart = own_freed before h h' after b is refl (unpublished_two z o words (before ++ h ∷ after) log w);
     } in
     let head : IsHead z words' (unpublished (before ++ h' ∷ after)) (get_or words (list_head z) 0) = head_moves z words words' (unpublished (before ++ h ∷ after)) (unpublished (before ++ h' ∷ after))
-        frame (get_or words (list_head z) 0) w.head in
+    frame (get_or words (list_head z) 0) w.head in
     calm z o words words' before h h' after log w (record {
       moves = m;
       components = λ j inside. other j (λ e. omega (arith, inside, e));
-      tied = record { own = tt; pool_marked = λ t. let old = tied.pool_marked t in omega (arith, old, pool); slots_marked = λ t. let old = tied.slots_marked t in omega (arith, old, slots);
-          lists_marked = λ t. let old = tied.lists_marked t in omega (arith, old, lists) };
+      tied = record {
+        own = tt;
+        pool_marked = λ t. let old = tied.pool_marked t in omega (arith, old, pool);
+        slots_marked = λ t. let old = tied.slots_marked t in omega (arith, old, slots);
+        lists_marked = λ t. let old = tied.lists_marked t in omega (arith, old, lists);
+      };
       apart = block_given_up z words before h h' after log h.own refl refl refl w.apart;
       due = none_here (IsDue z o words' h' (others_of h'.port (before ++ h' ∷ after)) log) h.due idle;
       claimed = refl;

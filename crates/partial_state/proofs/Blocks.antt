@@ -51,13 +51,13 @@ module _ (z : Layout) (words : List ℕ) (hs hs' : List Holding) (log : List App
   pub own_block_added : (b : Block) → announcements hs' ≡ announcements hs → Adds b (unpublished hs') (unpublished hs) → Adds b (blocks_in z words hs' log) (blocks_in z words hs log)
   own_block_added b a w =
       let here : Adds b (initial ++ (entries ++ (announcements hs ++ unpublished hs'))) (initial ++ (entries ++ (announcements hs ++ unpublished hs))) =
-          adds_behind b initial (entries ++ (announcements hs ++ unpublished hs')) (entries ++ (announcements hs ++ unpublished hs))
-          (adds_behind b entries (announcements hs ++ unpublished hs') (announcements hs ++ unpublished hs) (adds_behind b (announcements hs) (unpublished hs') (unpublished hs) w)) in
+      adds_behind b initial (entries ++ (announcements hs ++ unpublished hs')) (entries ++ (announcements hs ++ unpublished hs))
+      (adds_behind b entries (announcements hs ++ unpublished hs') (announcements hs ++ unpublished hs) (adds_behind b (announcements hs) (unpublished hs') (unpublished hs) w)) in
       (here.0, here.1, ap (λ (l : List Block). initial ++ (entries ++ (l ++ unpublished hs'))) a ∙ here.2, here.3)
 
   pub announced_block_added : (b : Block) → unpublished hs' ≡ unpublished hs → Adds b (announcements hs') (announcements hs) → Adds b (blocks_in z words hs' log) (blocks_in z words hs log)
   announced_block_added b u w =
       let here : Adds b (initial ++ (entries ++ (announcements hs' ++ unpublished hs))) (initial ++ (entries ++ (announcements hs ++ unpublished hs))) =
-          adds_behind b initial (entries ++ (announcements hs' ++ unpublished hs)) (entries ++ (announcements hs ++ unpublished hs))
-          (adds_behind b entries (announcements hs' ++ unpublished hs) (announcements hs ++ unpublished hs) (adds_before b (unpublished hs) (announcements hs') (announcements hs) w)) in
+      adds_behind b initial (entries ++ (announcements hs' ++ unpublished hs)) (entries ++ (announcements hs ++ unpublished hs))
+      (adds_behind b entries (announcements hs' ++ unpublished hs) (announcements hs ++ unpublished hs) (adds_before b (unpublished hs) (announcements hs') (announcements hs) w)) in
       (here.0, here.1, ap (λ (l : List Block). initial ++ (entries ++ (announcements hs' ++ l))) u ∙ here.2, here.3)

@@ -76,7 +76,7 @@ module _ (z : Layout) (o : Opening) (words : List ℕ) (hs : List Holding) (log 
       let across = two_across AreApart (map (λ e. block_at words e.stamp) log) (announcements hs ++ unpublished hs) w.apart.1 in
       let each = all_unmap (λ b. AllByRecursion (AreApart b) (announcements hs ++ unpublished hs)) (λ e. block_at words e.stamp) log across in
       all_back (AreApart (block_at words e.stamp)) (announcements hs) (unpublished hs)
-          (AllByRecursion-get (λ (e : Applied). AllByRecursion (AreApart (block_at words e.stamp)) (announcements hs ++ unpublished hs)) log k e each s)
+      (AllByRecursion-get (λ (e : Applied). AllByRecursion (AreApart (block_at words e.stamp)) (announcements hs ++ unpublished hs)) log k e each s)
 
   pub initial_free : IsApartFrom (unpublished hs) (record { at = pool_base z; size = 3 * z.m })
   initial_free =
@@ -95,15 +95,15 @@ module _ (z : Layout) (o : Opening) (words : List ℕ) (hs : List Holding) (log 
   announcements_claimed =
       let P : Joined → Type 0 = λ j. IsClaimedBlock z words (announcement_of j) in
       all_announcements (IsClaimedBlock z words) hs (all_weaker (λ (h : Holding). IfSome h.claimed (IsClaim z words hs log)) (λ h. IfSome h.claimed (λ c. IfSome c.joined P))
-          (λ h k. if_some (IsClaim z words hs log) (λ c. IfSome c.joined P) h.claimed (λ c e claim. if_all P c.joined (λ j is.
+      (λ h k. if_some (IsClaim z words hs log) (λ c. IfSome c.joined P) h.claimed (λ c e claim. if_all P c.joined (λ j is.
       announcement_claimed z words (unpublished hs) j.at j.indices (match_some (get_or words (slot_word z c.slot) 0 ≡ 0)
-          (λ j. (get_or words (slot_word z c.slot) 0 ≡ j.at) × (j.since ≤ length log) × IsAnnounced z words (unpublished hs) j.at j.indices) c.joined j is claim.holds).2)) k) hs w.claims)
+      (λ j. (get_or words (slot_word z c.slot) 0 ≡ j.at) × (j.since ≤ length log) × IsAnnounced z words (unpublished hs) j.at j.indices) c.joined j is claim.holds).2)) k) hs w.claims)
 
   unpublished_claimed : AllByRecursion (IsClaimedBlock z words) (unpublished hs)
   unpublished_claimed =
       all_unpublished (IsClaimedBlock z words) hs (all_weaker (IsTied z words) (λ h. IfSome h.own (λ b. IsClaimedBlock z words (block_of b)))
-          (λ h t. if_some (IsOwn z words) (λ b. IsClaimedBlock z words (block_of b)) h.own
-          (λ b e own. own_claimed z words b.space b.at (length b.words) own.above own.within own.below) t.own) hs w.tied)
+      (λ h t. if_some (IsOwn z words) (λ b. IsClaimedBlock z words (block_of b)) h.own
+      (λ b e own. own_claimed z words b.space b.at (length b.words) own.above own.within own.below) t.own) hs w.tied)
 
   pub all_claimed : AllByRecursion (IsClaimedBlock z words) (blocks_in z words hs log)
   all_claimed = (

@@ -118,7 +118,7 @@ module _ (z : Layout) (o : Opening) (words words' : List ℕ) (before : List Hol
       let each : (v : Holding) → P v → Q v = λ v. joined_weaker v (λ l j. Covers z words us log stamp j) (λ l j. Covers z words' us' log' stamp j) (λ l j. step j) in
       all_join Q front h' back (all_weaker P Q each front (all_before P front h back all))
       (joined_moves h h' (length log) (λ l j. Covers z words us log stamp j) (λ l j. Covers z words' us' log' stamp j) (λ l j. step j)
-          (λ l j late. covers_newer z words words' us us' f o log log' c.grows stamp prev view n j within late) c.joined (all_at P front h back all))
+      (λ l j late. covers_newer z words words' us us' f o log log' c.grows stamp prev view n j within late) c.joined (all_at P front h back all))
       (all_weaker P Q each back (all_after P front h back all))
 
   here : Frame z words words' (unpublished (before ++ h ∷ after)) (unpublished (before ++ h' ∷ after))
@@ -141,7 +141,7 @@ module _ (z : Layout) (o : Opening) (words words' : List ℕ) (before : List Hol
       let at : b.at ≡ d.at = ap (λ (x : Block). x.at) block in
       let size : length b.words ≡ (block_at words d.at).size = ap (λ (x : Block). x.size) block in
       let moved : IsDue z o words' v (front ++ h' ∷ back) log' d = due_moves z o words words' v v (front ++ h ∷ back) (front ++ h' ∷ back) log log' d (frame_of z words words' h h' c.moves front back)
-          c.grows refl due'.unjoined c.named
+      c.grows refl due'.unjoined c.named
       (λ n below. subst (λ t. get_or words' (t + n) 0 ≡ get_or words (t + n) 0) at (other_word z words words' h h' c.moves b n (own_far z words b own) (omega (arith, below, size)) free))
       (λ prev view within all. covers_all front back d.at (length log) prev view within all) due' in
       subst (λ (l : List Holding). IsDue z o words' v l log' d) (sym is') moved
@@ -151,7 +151,7 @@ module _ (z : Layout) (o : Opening) (words words' : List ℕ) (before : List Hol
   other_claim v other claim =
       if_some (IsClaim z words (before ++ h ∷ after) log) (IsClaim z words' (before ++ h' ∷ after) log') v.claimed (λ d e k.
       let free : IfSome h.claimed (λ b. b.slot ≢ d.slot) = if_some (λ b. IfSome v.claimed (λ d. b.slot ≢ d.slot)) (λ b. b.slot ≢ d.slot) h.claimed
-          (λ b e' s. if_some_at (λ d. b.slot ≢ d.slot) v.claimed d e s) other in
+      (λ b e' s. if_some_at (λ d. b.slot ≢ d.slot) v.claimed d e s) other in
       claim_moves z words words' (before ++ h ∷ after) (before ++ h' ∷ after) log log' d here c.grows.more (c.moves.slot d.slot k.slot free) k) claim
 
   -- the claims of slots, one holding apart
@@ -184,7 +184,7 @@ module _ (z : Layout) (o : Opening) (words words' : List ℕ) (before : List Hol
       let more = c.moves.slots in
       let claim = all_at (λ v. IfSome v.claimed (IsClaim z words (before ++ h ∷ after) log)) before h after w.claims in
       c.moves.slot l room (if_some (IsClaim z words (before ++ h ∷ after) log) (λ c. c.slot ≢ l) h.claimed (λ d e k. let below = k.below in λ is. omega (arith, below, more, from, is)) claim) ∙
-          w.unclaimed l (omega (arith, from, more)) room
+      w.unclaimed l (omega (arith, from, more)) room
 
   entry_within : (k : ℕ) (e : Applied) → slice_get log k ≡ Some e → IsWithin o log k (prev_of words e.stamp)
   entry_within k e s = let fresh = w.fresh k e s in within_more o log fresh.prefix k (prev_of words e.stamp) fresh.without fresh.contains

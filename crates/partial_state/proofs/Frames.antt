@@ -44,8 +44,14 @@ pub record Grows (o : Opening) (log log' : List Applied) : Type 0 where
 
 -- a history that stays
 pub stays : (o : Opening) (log : List Applied) → Grows o log log
-stays o log = record { more = omega arith; longer = λ k e s. s; older = λ k e s below. s; takes = λ n below. refl; newer = λ k e s from n h. let below =
-    place_below log k e s in absurd (omega (arith, below, from)) }
+stays o log = record {
+  more = omega arith;
+  longer = λ k e s. s;
+  older = λ k e s below. s;
+  takes = λ n below. refl;
+  newer = λ k e s from n h. let below =
+      place_below log k e s in absurd (omega (arith, below, from));
+}
 
 -- a part of a block is apart from what the block is apart from
 pub part_apart : (a b c : Block) → b.at ≤ a.at → a.at + a.size ≤ b.at + b.size → AreApart b c → AreApart a c
@@ -91,8 +97,11 @@ list_claimed z words us at list w = let to = w.whole.to in let pairs = length-pa
 pub block_published : (z : Layout) (words : List ℕ) (us : List Block) (b : Block) (w : ℕ) → IsClaimedBlock z words b → IsApartFrom us b → b.at ≤ w → w < b.at + b.size → IsPublished z words us w
 block_published z words us b w claimed apart from to =
     record {
-      claimed = elim claimed [ inl h ↦ let a = h.0 in let c = h.1 in inl (omega (arith, a, to), omega (arith, c, to)) | inr h ↦ let a = h.0 in let c =
-          h.1 in inr (omega (arith, a, from), omega (arith, c, to)) ];
+      claimed = elim claimed [
+        | inl h ↦ let a = h.0 in let c = h.1 in inl (omega (arith, a, to), omega (arith, c, to))
+        | inr h ↦ let a = h.0 in let c =
+            h.1 in inr (omega (arith, a, from), omega (arith, c, to))
+      ];
       apart = parts_apart us (word_at w) b from (omega (arith, to)) apart;
     }
 
@@ -107,8 +116,11 @@ module _ (z : Layout) (words words' : List ℕ) (us us' : List Block) (f : Frame
   published_moves w p =
       let more = f.lists in
       let most = f.pool in
-      let claimed : IsClaimedBlock z words (word_at w) = elim (p.claimed) [ inl h ↦ let a = h.0 in let b = h.1 in inl (omega (arith, a), omega (arith, b)) | inr h ↦ let b =
-          h.1 in inr (h.0, omega (arith, b)) ] in
+      let claimed : IsClaimedBlock z words (word_at w) = elim (p.claimed) [
+        | inl h ↦ let a = h.0 in let b = h.1 in inl (omega (arith, a), omega (arith, b))
+        | inr h ↦ let b =
+            h.1 in inr (h.0, omega (arith, b))
+      ] in
       record {
         claimed = elim (p.claimed) [ inl h ↦ let b = h.1 in inl (h.0, omega (arith, b, more)) | inr h ↦ let b = h.1 in inr (h.0, omega (arith, b, most)) ];
         apart = f.apart (word_at w) claimed p.apart;

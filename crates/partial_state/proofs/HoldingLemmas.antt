@@ -183,7 +183,7 @@ block_stays words words' stamp same =
         ap (λ (n : ℕ). record { at = stamp; size = cond (view_of words stamp == stamp + 3) (4 + 2 * n) 3 }) (same 3 inside)
     either words words' stamp same false e =
         ap (λ (t : Bool). record { at = stamp; size = cond t (4 + 2 * view_len words' (stamp + 3)) 3 }) e ∙
-            sym (ap (λ (t : Bool). record { at = stamp; size = cond t (4 + 2 * view_len words (stamp + 3)) 3 }) e)
+        sym (ap (λ (t : Bool). record { at = stamp; size = cond t (4 + 2 * view_len words (stamp + 3)) 3 }) e)
 
 -- a port's own block lies behind the slots
 pub own_far : (z : Layout) (words : List ℕ) (b : Own) → IsOwn z words b → list_base z ≤ b.at

@@ -46,9 +46,9 @@ joined_all : (z : Layout) (o : Opening) (words : List ℕ) (hs : List Holding) (
     ((c : Claimed) (j : Joined) → IsClaim z words hs log c → get_or words (slot_word z c.slot) 0 ≡ j.at → P c.slot j) → AllByRecursion (λ h. IfJoined h P) hs
 joined_all z o words hs log P w f =
     all_weaker (λ (h : Holding). IfSome h.claimed (IsClaim z words hs log)) (λ h. IfJoined h P)
-        (λ h k. if_some (IsClaim z words hs log) (λ c. IfSome c.joined (P c.slot)) h.claimed
-        (λ c e claim. if_all (P c.slot) c.joined (λ j is. f c j claim (match_some (get_or words (slot_word z c.slot) 0 ≡ 0)
-        (λ j. (get_or words (slot_word z c.slot) 0 ≡ j.at) × (j.since ≤ length log) × IsAnnounced z words (unpublished hs) j.at j.indices) c.joined j is claim.holds).0)) k) hs w.claims
+    (λ h k. if_some (IsClaim z words hs log) (λ c. IfSome c.joined (P c.slot)) h.claimed
+    (λ c e claim. if_all (P c.slot) c.joined (λ j is. f c j claim (match_some (get_or words (slot_word z c.slot) 0 ≡ 0)
+    (λ j. (get_or words (slot_word z c.slot) 0 ≡ j.at) × (j.since ≤ length log) × IsAnnounced z words (unpublished hs) j.at j.indices) c.joined j is claim.holds).0)) k) hs w.claims
 
 pub loads_are_true : LoadsAreTrue
 loads_are_true z o words hs log n w below far =

@@ -17,18 +17,27 @@ use Rattle.partial_state.proofs.NoNewEntry.{calm, pool_stays, slots_stay, lists_
 -- the words stay
 pub still_moves : (z : Layout) (words : List ℕ) (h h' : Holding) → h'.port ≡ h.port → ((b : Block) → IfSome h.own (λ c. AreApart b (block_of c)) → IfSome h'.own (λ c. AreApart b (block_of c))) →
     Moves z words words h h'
-still_moves z words h h' port apart = record { port = port; count = refl; pool = omega arith; lists = omega arith; slots = omega arith; same = λ n far free. refl;
-    apart = λ b claimed free. apart b free; slot = λ l room free. refl; vacated = λ l room one. one }
+still_moves z words h h' port apart = record {
+  port = port;
+  count = refl;
+  pool = omega arith;
+  lists = omega arith;
+  slots = omega arith;
+  same = λ n far free. refl;
+  apart = λ b claimed free. apart b free;
+  slot = λ l room free. refl;
+  vacated = λ l room one. one;
+}
 
 -- a block fewer
 pub block_given_up : (z : Layout) (words : List ℕ) (before : List Holding) (h h' : Holding) (after : List Holding) (log : List Applied) (f : Option Own) → h.own ≡ f → h'.own ≡ None →
     h'.claimed ≡ h.claimed → EachTwo AreApart (blocks_in z words (before ++ h ∷ after) log) → EachTwo AreApart (blocks_in z words (before ++ h' ∷ after) log)
 block_given_up z words before h h' after log None e none claimed two =
     subst (EachTwo AreApart) (sym (blocks_same z words (before ++ h ∷ after) (before ++ h' ∷ after) log (announced_same before h h' after (ap joined_in claimed))
-        (unpublished_same before h h' after (none ∙ sym e)))) two
+    (unpublished_same before h h' after (none ∙ sym e)))) two
 block_given_up z words before h h' after log (Some b) e none claimed two =
     (two_take AreApart apart_turns (block_of b) (blocks_in z words (before ++ h' ∷ after) log) (blocks_in z words (before ++ h ∷ after) log)
-        (own_block_added z words (before ++ h ∷ after) (before ++ h' ∷ after) log (block_of b) (announced_same before h h' after (ap joined_in claimed)) (own_added before h h' after b none e)) two).0
+    (own_block_added z words (before ++ h ∷ after) (before ++ h' ∷ after) log (block_of b) (announced_same before h h' after (ap joined_in claimed)) (own_added before h h' after b none e)) two).0
 
 pub drops_are_kept : DropsAreKept
 drops_are_kept z o words before h after log w =
@@ -62,7 +71,7 @@ dues_are_kept z o words before h after log d w due =
     let m = still_moves z words h h' refl (λ b free. free) in
     let tied = all_at (IsTied z words) before h after w.tied in
     let same : others_of h.port (before ++ h ∷ after) ≡ others_of h.port (before ++ h' ∷ after) =
-        others_gone h.port before h after (eq-eqb h.port h.port refl) ∙ sym (others_gone h.port before h' after (eq-eqb h.port h.port refl)) in
+    others_gone h.port before h after (eq-eqb h.port h.port refl) ∙ sym (others_gone h.port before h' after (eq-eqb h.port h.port refl)) in
     let now : IsDue z o words h (others_of h.port (before ++ h' ∷ after)) log d = subst (λ (l : List Holding). IsDue z o words h l log d) same due in
     calm z o words words before h h' after log w (record {
       moves = m;
@@ -88,22 +97,36 @@ pool_refusals_are_kept z o words before h after log size w unmarked small past =
     let count = w.count in
     let bound = pool_bound z o words (before ++ h ∷ after) log w in
     let now : get_or words' (pool_counter z) 0 ≡ get_or words (pool_counter z) 0 + size = get_or-set_same words (pool_counter z) v 0 (omega (arith, count)) ∙ fits_word z
-        (get_or words (pool_counter z) 0 + size) w.sizes (omega (arith, bound, small)) in
+    (get_or words (pool_counter z) 0 + size) w.sizes (omega (arith, bound, small)) in
     let other : (k : ℕ) → k ≢ n → get_or words' k 0 ≡ get_or words k 0 = λ k differs. get_or-set_other words n k v 0 differs in
     let slots : get_or words' (slot_counter z) 0 ≡ get_or words (slot_counter z) 0 = other (slot_counter z) (λ e. omega (arith, e)) in
     let lists : get_or words' (list_counter z) 0 ≡ get_or words (list_counter z) 0 = other (list_counter z) (λ e. omega (arith, e)) in
     let slot_words : (l : ℕ) → l < z.slots → get_or words' (slot_word z l) 0 ≡ get_or words (slot_word z l) 0 = λ l room. other (slot_word z l) (λ e. omega (arith, e)) in
     let far : (k : ℕ) → list_base z ≤ k → get_or words' k 0 ≡ get_or words k 0 = λ k above. other k (λ e. omega (arith, above, e)) in
     let components : (j : ℕ) → j < z.m → get_or words' j 0 ≡ get_or words j 0 = λ j below. other j (λ e. omega (arith, below, e)) in
-    let m : Moves z words words' h h' = record { port = refl; count = length-set words n v; pool = omega (arith, now); lists = omega (arith, lists); slots = omega (arith, slots);
-        same = λ k above free. far k above; apart = λ b claimed free. free; slot = λ l room free. slot_words l room; vacated = λ l room one. slot_words l room ∙ one } in
+    let m : Moves z words words' h h' = record {
+      port = refl;
+      count = length-set words n v;
+      pool = omega (arith, now);
+      lists = omega (arith, lists);
+      slots = omega (arith, slots);
+      same = λ k above free. far k above;
+      apart = λ b claimed free. free;
+      slot = λ l room free. slot_words l room;
+      vacated = λ l room one. slot_words l room ∙ one;
+    } in
     let tied = all_at (IsTied z words) before h after w.tied in
     let high = w.pool_high in
     calm z o words words' before h h' after log w (record {
       moves = m;
       components = components;
-      tied = record { own = own_stays z words words' h h' m far h.own tied.own; pool_marked = λ t. omega (arith, now, past); slots_marked = λ t. let old =
-          tied.slots_marked t in omega (arith, old, slots); lists_marked = λ t. let old = tied.lists_marked t in omega (arith, old, lists) };
+      tied = record {
+        own = own_stays z words words' h h' m far h.own tied.own;
+        pool_marked = λ t. omega (arith, now, past);
+        slots_marked = λ t. let old =
+            tied.slots_marked t in omega (arith, old, slots);
+        lists_marked = λ t. let old = tied.lists_marked t in omega (arith, old, lists);
+      };
       apart = blocks_kept z words before h h' after log refl refl w.apart;
       due = due_stays z o words words' before h h' after log w m refl refl (λ e. e) far components;
       claimed = refl;
@@ -125,22 +148,36 @@ list_refusals_are_kept z o words before h after log size w unmarked small past =
     let some = w.sizes.slots.0 in
     let bound = lists_bound z o words (before ++ h ∷ after) log w in
     let now : get_or words' (list_counter z) 0 ≡ get_or words (list_counter z) 0 + size = get_or-set_same words (list_counter z) v 0 (omega (arith, count, some)) ∙ fits_word z
-        (get_or words (list_counter z) 0 + size) w.sizes (omega (arith, bound, small)) in
+    (get_or words (list_counter z) 0 + size) w.sizes (omega (arith, bound, small)) in
     let other : (k : ℕ) → k ≢ n → get_or words' k 0 ≡ get_or words k 0 = λ k differs. get_or-set_other words n k v 0 differs in
     let slots : get_or words' (slot_counter z) 0 ≡ get_or words (slot_counter z) 0 = other (slot_counter z) (λ e. omega (arith, e)) in
     let pool : get_or words' (pool_counter z) 0 ≡ get_or words (pool_counter z) 0 = other (pool_counter z) (λ e. omega (arith, e)) in
     let slot_words : (l : ℕ) → l < z.slots → get_or words' (slot_word z l) 0 ≡ get_or words (slot_word z l) 0 = λ l room. other (slot_word z l) (λ e. omega (arith, e)) in
     let far : (k : ℕ) → list_base z ≤ k → get_or words' k 0 ≡ get_or words k 0 = λ k above. other k (λ e. omega (arith, above, e)) in
     let components : (j : ℕ) → j < z.m → get_or words' j 0 ≡ get_or words j 0 = λ j below. other j (λ e. omega (arith, below, e)) in
-    let m : Moves z words words' h h' = record { port = refl; count = length-set words n v; pool = omega (arith, pool); lists = omega (arith, now); slots = omega (arith, slots);
-        same = λ k above free. far k above; apart = λ b claimed free. free; slot = λ l room free. slot_words l room; vacated = λ l room one. slot_words l room ∙ one } in
+    let m : Moves z words words' h h' = record {
+      port = refl;
+      count = length-set words n v;
+      pool = omega (arith, pool);
+      lists = omega (arith, now);
+      slots = omega (arith, slots);
+      same = λ k above free. far k above;
+      apart = λ b claimed free. free;
+      slot = λ l room free. slot_words l room;
+      vacated = λ l room one. slot_words l room ∙ one;
+    } in
     let tied = all_at (IsTied z words) before h after w.tied in
     let high = w.lists_high in
     calm z o words words' before h h' after log w (record {
       moves = m;
       components = components;
-      tied = record { own = own_stays z words words' h h' m far h.own tied.own; pool_marked = λ t. let old = tied.pool_marked t in omega (arith, old, pool); slots_marked = λ t. let old =
-          tied.slots_marked t in omega (arith, old, slots); lists_marked = λ t. omega (arith, now, past) };
+      tied = record {
+        own = own_stays z words words' h h' m far h.own tied.own;
+        pool_marked = λ t. let old = tied.pool_marked t in omega (arith, old, pool);
+        slots_marked = λ t. let old =
+            tied.slots_marked t in omega (arith, old, slots);
+        lists_marked = λ t. omega (arith, now, past);
+      };
       apart = blocks_kept z words before h h' after log refl refl w.apart;
       due = due_stays z o words words' before h h' after log w m refl refl (λ e. e) far components;
       claimed = refl;
@@ -162,22 +199,35 @@ slot_refusals_are_kept z o words before h after log w unmarked past =
     let some = w.sizes.slots.0 in
     let bound = slots_bound z o words (before ++ h ∷ after) log w in
     let now : get_or words' (slot_counter z) 0 ≡ get_or words (slot_counter z) 0 + 1 = get_or-set_same words (slot_counter z) v 0 (omega (arith, count, some)) ∙ fits_word z
-        (get_or words (slot_counter z) 0 + 1) w.sizes (omega (arith, bound)) in
+    (get_or words (slot_counter z) 0 + 1) w.sizes (omega (arith, bound)) in
     let other : (k : ℕ) → k ≢ n → get_or words' k 0 ≡ get_or words k 0 = λ k differs. get_or-set_other words n k v 0 differs in
     let lists : get_or words' (list_counter z) 0 ≡ get_or words (list_counter z) 0 = other (list_counter z) (λ e. omega (arith, e)) in
     let pool : get_or words' (pool_counter z) 0 ≡ get_or words (pool_counter z) 0 = other (pool_counter z) (λ e. omega (arith, e)) in
     let slot_words : (l : ℕ) → l < z.slots → get_or words' (slot_word z l) 0 ≡ get_or words (slot_word z l) 0 = λ l room. other (slot_word z l) (λ e. omega (arith, e)) in
     let far : (k : ℕ) → list_base z ≤ k → get_or words' k 0 ≡ get_or words k 0 = λ k above. other k (λ e. omega (arith, above, e)) in
     let components : (j : ℕ) → j < z.m → get_or words' j 0 ≡ get_or words j 0 = λ j below. other j (λ e. omega (arith, below, e)) in
-    let m : Moves z words words' h h' = record { port = refl; count = length-set words n v; pool = omega (arith, pool); lists = omega (arith, lists); slots = omega (arith, now);
-        same = λ k above free. far k above; apart = λ b claimed free. free; slot = λ l room free. slot_words l room; vacated = λ l room one. slot_words l room ∙ one } in
+    let m : Moves z words words' h h' = record {
+      port = refl;
+      count = length-set words n v;
+      pool = omega (arith, pool);
+      lists = omega (arith, lists);
+      slots = omega (arith, now);
+      same = λ k above free. far k above;
+      apart = λ b claimed free. free;
+      slot = λ l room free. slot_words l room;
+      vacated = λ l room one. slot_words l room ∙ one;
+    } in
     let tied = all_at (IsTied z words) before h after w.tied in
     let high = w.slots_high in
     calm z o words words' before h h' after log w (record {
       moves = m;
       components = components;
-      tied = record { own = own_stays z words words' h h' m far h.own tied.own; pool_marked = λ t. let old = tied.pool_marked t in omega (arith, old, pool);
-          slots_marked = λ t. omega (arith, now, past); lists_marked = λ t. let old = tied.lists_marked t in omega (arith, old, lists) };
+      tied = record {
+        own = own_stays z words words' h h' m far h.own tied.own;
+        pool_marked = λ t. let old = tied.pool_marked t in omega (arith, old, pool);
+        slots_marked = λ t. omega (arith, now, past);
+        lists_marked = λ t. let old = tied.lists_marked t in omega (arith, old, lists);
+      };
       apart = blocks_kept z words before h h' after log refl refl w.apart;
       due = due_stays z o words words' before h h' after log w m refl refl (λ e. e) far components;
       claimed = refl;

@@ -73,19 +73,19 @@ module _ (before : List Holding) (h h' : Holding) (after : List Holding) where
   pub pool_rises : (n e k : ℕ) → h.pool_spent ≡ false → h'.pool_spent ≡ true → n ≤ e + k * pool_marks (before ++ h ∷ after) + k → n ≤ e + k * pool_marks (before ++ h' ∷ after)
   pool_rises n e k off on w =
       let more : pool_marks (before ++ h' ∷ after) ≡ 1 + pool_marks (before ++ h ∷ after) = pool_is (before ++ h' ∷ after) ∙ marks_more (λ (v : Holding). v.pool_spent) before h h' after off on ∙
-          ap (λ m. 1 + m) (sym (pool_is (before ++ h ∷ after))) in
+      ap (λ m. 1 + m) (sym (pool_is (before ++ h ∷ after))) in
       subst (λ m. n ≤ e + k * m) (sym more) (omega (arith, w))
 
   pub slots_rise : (n e : ℕ) → h.slots_spent ≡ false → h'.slots_spent ≡ true → n ≤ e + slot_marks (before ++ h ∷ after) + 1 → n ≤ e + slot_marks (before ++ h' ∷ after)
   slots_rise n e off on w =
       let more : slot_marks (before ++ h' ∷ after) ≡ 1 + slot_marks (before ++ h ∷ after) = slots_are (before ++ h' ∷ after) ∙ marks_more (λ (v : Holding). v.slots_spent) before h h' after off on ∙
-          ap (λ m. 1 + m) (sym (slots_are (before ++ h ∷ after))) in
+      ap (λ m. 1 + m) (sym (slots_are (before ++ h ∷ after))) in
       subst (λ m. n ≤ e + m) (sym more) (omega (arith, w))
 
   pub lists_rise : (n e k : ℕ) → h.lists_spent ≡ false → h'.lists_spent ≡ true → n ≤ e + k * list_marks (before ++ h ∷ after) + k → n ≤ e + k * list_marks (before ++ h' ∷ after)
   lists_rise n e k off on w =
       let more : list_marks (before ++ h' ∷ after) ≡ 1 + list_marks (before ++ h ∷ after) = lists_are (before ++ h' ∷ after) ∙ marks_more (λ (v : Holding). v.lists_spent) before h h' after off on ∙
-          ap (λ m. 1 + m) (sym (lists_are (before ++ h ∷ after))) in
+      ap (λ m. 1 + m) (sym (lists_are (before ++ h ∷ after))) in
       subst (λ m. n ≤ e + k * m) (sym more) (omega (arith, w))
 
 -- the counters stay far below 2 ^ 64
@@ -136,8 +136,8 @@ module _ (z : Layout) (o : Opening) (words words' : List ℕ) (before : List Hol
   claim_stays log' longer same slots =
       subst (λ (c : Option Claimed). IfSome c (IsClaim z words' (before ++ h' ∷ after) log')) (sym same)
       (if_some (IsClaim z words (before ++ h ∷ after) log) (IsClaim z words' (before ++ h' ∷ after) log') h.claimed
-          (λ d e k. claim_moves z words words' (before ++ h ∷ after) (before ++ h' ∷ after) log log' d frame longer (slots d.slot k.slot) k)
-          (all_at (λ v. IfSome v.claimed (IsClaim z words (before ++ h ∷ after) log)) before h after w.claims))
+      (λ d e k. claim_moves z words words' (before ++ h ∷ after) (before ++ h' ∷ after) log log' d frame longer (slots d.slot k.slot) k)
+      (all_at (λ v. IfSome v.claimed (IsClaim z words (before ++ h ∷ after) log)) before h after w.claims))
 
   pub owners_stay : h'.claimed ≡ h.claimed → (v : Holding) → HaveOtherSlots h v → HaveOtherSlots h' v
   owners_stay same v k = subst (λ (c : Option Claimed). IfSome c (λ c. IfSome v.claimed (λ d. c.slot ≢ d.slot))) (sym same) k
@@ -152,8 +152,8 @@ module _ (z : Layout) (o : Opening) (words words' : List ℕ) (before : List Hol
   due_stays own due unjoined far components =
       subst (λ (d : Option Due). IfSome d (IsDue z o words' h' (others_of h'.port (before ++ h' ∷ after)) log)) (sym due)
       (if_some (IsDue z o words h (others_of h.port (before ++ h ∷ after)) log) (IsDue z o words' h' (others_of h'.port (before ++ h' ∷ after)) log) h.due
-          (λ d e k. subst (λ (l : List Holding). IsDue z o words' h' l log d) same (one d k))
-          (all_at (λ v. IfSome v.due (IsDue z o words v (others_of v.port (before ++ h ∷ after)) log)) before h after w.due))
+      (λ d e k. subst (λ (l : List Holding). IsDue z o words' h' l log d) same (one d k))
+      (all_at (λ v. IfSome v.due (IsDue z o words v (others_of v.port (before ++ h ∷ after)) log)) before h after w.due))
     where
       same : others_of h.port (before ++ h ∷ after) ≡ others_of h'.port (before ++ h' ∷ after)
       same = others_gone h.port before h after (eq-eqb h.port h.port refl) ∙ sym (others_gone h.port before h' after (eq-eqb h'.port h.port m.port)) ∙
@@ -170,10 +170,10 @@ module _ (z : Layout) (o : Opening) (words words' : List ℕ) (before : List Hol
           let at : b.at ≡ d.at = ap (λ (x : Block). x.at) found.2.1 in
           let above = own_far z words b (if_some_at (IsOwn z words) h.own b found.1 tied.own) in
           due_moves z o words words' h h' others others log log d f (stays o log) own (unjoined k.unjoined) (λ j old below within is. sym (components j below) ∙ is)
-              (λ n below. far (d.at + n) (omega (arith, above, at)))
+          (λ n below. far (d.at + n) (omega (arith, above, at)))
           (λ prev view within all. all_weaker (λ v. IfJoined v (λ l j. Covers z words us log d.at j)) (λ v. IfJoined v (λ l j. Covers z words' us log d.at j))
-              (λ v. joined_weaker v (λ l j. Covers z words us log d.at j) (λ l j. Covers z words' us log d.at j)
-              (λ l j. covers_moves z words words' us us f o log log (stays o log) d.at prev view (length log) j within)) others all) k
+          (λ v. joined_weaker v (λ l j. Covers z words us log d.at j) (λ l j. Covers z words' us log d.at j)
+          (λ l j. covers_moves z words words' us us f o log log (stays o log) d.at prev view (length log) j within)) others all) k
 
 -- what a step changes that leaves the slots and the port's claim as they were
 pub record Calm (z : Layout) (o : Opening) (words words' : List ℕ) (before : List Holding) (h h' : Holding) (after : List Holding) (log : List Applied) : Type 0 where

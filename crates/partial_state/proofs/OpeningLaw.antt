@@ -68,7 +68,7 @@ opening_is_lawful z o words n opens few =
     let room = opens.sizes.pool.0 in
     let count = idle_length 0 n in
     let blocks : announcements (idle_holdings 0 n) ++ unpublished (idle_holdings 0 n) ≡ [] = ap (λ (l : List Block). l ++ unpublished (idle_holdings 0 n))
-        (none_announced 0 n) ∙ none_unpublished 0 n in
+    (none_announced 0 n) ∙ none_unpublished 0 n in
     record {
       sizes = opens.sizes;
       values = opens.values;

@@ -48,7 +48,7 @@ module _ (z : Layout) (words words' : List ℕ) (h h' : Holding) (m : Moves z wo
             let P : Holding → Type 0 = λ v. IfSome v.own (λ c. AreApart b (block_of c)) in
             let all = unpublished_all (AreApart b) (before ++ h ∷ after) apart in
             all_unpublished (AreApart b) (before ++ h' ∷ after) (all_join P before h' after (all_before P before h after all) (m.apart b claimed (all_at P before h after all))
-                (all_after P before h after all));
+            (all_after P before h after all));
         vacated = m.vacated;
       }
 
@@ -56,7 +56,7 @@ module _ (z : Layout) (words words' : List ℕ) (h h' : Holding) (m : Moves z wo
   pub other_word : (b : Own) (n : ℕ) → list_base z ≤ b.at → n < length b.words → IfSome h.own (λ c. AreApart (block_of b) (block_of c)) → get_or words' (b.at + n) 0 ≡ get_or words (b.at + n) 0
   other_word b n far below apart =
       m.same (b.at + n) (omega (arith, far)) (if_some (λ c. AreApart (block_of b) (block_of c)) (λ c. AreApart (word_at (b.at + n)) (block_of c)) h.own
-          (λ c e a. part_apart (word_at (b.at + n)) (block_of b) (block_of c) (omega arith) (omega (arith, below)) a) apart)
+      (λ c e a. part_apart (word_at (b.at + n)) (block_of b) (block_of c) (omega arith) (omega (arith, below)) a) apart)
 
   counter_grows : (s : Space) → get_or words (counter_of z s) 0 ≤ get_or words' (counter_of z s) 0
   counter_grows Pool = m.pool
@@ -116,11 +116,11 @@ pub chain_stays : (words words' : List ℕ) → length words' ≡ length words �
 chain_stays words words' count at [] all c = c
 chain_stays words words' count at (l ∷ []) all c =
     let both : (get_or words' at 0 ≡ get_or words at 0) × (get_or words' (at + 1) 0 ≡ get_or words (at + 1) 0) =
-        subst (λ n. (get_or words' n 0 ≡ get_or words n 0) × (get_or words' (n + 1) 0 ≡ get_or words (n + 1) 0)) c.0.stamp all.0 in
+    subst (λ n. (get_or words' n 0 ≡ get_or words n 0) × (get_or words' (n + 1) 0 ≡ get_or words (n + 1) 0)) c.0.stamp all.0 in
     (link_stays words words' count at l both.1 c.0, both.0 ∙ c.1)
 chain_stays words words' count at (l ∷ k ∷ ls) all c =
     let both : (get_or words' at 0 ≡ get_or words at 0) × (get_or words' (at + 1) 0 ≡ get_or words (at + 1) 0) =
-        subst (λ n. (get_or words' n 0 ≡ get_or words n 0) × (get_or words' (n + 1) 0 ≡ get_or words (n + 1) 0)) c.0.stamp all.0 in
+    subst (λ n. (get_or words' n 0 ≡ get_or words n 0) × (get_or words' (n + 1) 0 ≡ get_or words (n + 1) 0)) c.0.stamp all.0 in
     (link_stays words words' count at l both.1 c.0, subst (λ n. IsChain words' n (k ∷ ls)) (sym both.0) (chain_stays words words' count (prev_of words at) (k ∷ ls) all.1 c.1))
 
 module _ (z : Layout) (o : Opening) (words words' : List ℕ) (before : List Holding) (h h' : Holding) (after : List Holding) (log : List Applied) (w : LawfulWords z o words (before ++ h ∷ after) log)
@@ -136,8 +136,8 @@ module _ (z : Layout) (o : Opening) (words words' : List ℕ) (before : List Hol
       let above = entry.above in
       let b = block_at words e.stamp in
       m.same (e.stamp + n) (omega (arith, above)) (if_some (λ c. AreApart (block_at words e.stamp) (block_of c)) (λ c. AreApart (word_at (e.stamp + n)) (block_of c)) h.own
-          (λ c is a. part_apart (word_at (e.stamp + n)) (block_at words e.stamp) (block_of c) (omega arith) (omega (arith, below)) a)
-          (from_own b (entry_free z o words (before ++ h ∷ after) log w k e s)))
+      (λ c is a. part_apart (word_at (e.stamp + n)) (block_at words e.stamp) (block_of c) (omega arith) (omega (arith, below)) a)
+      (from_own b (entry_free z o words (before ++ h ∷ after) log w k e s)))
 
   pub entry_three : (k : ℕ) (e : Applied) (n : ℕ) → slice_get log k ≡ Some e → n < 3 → get_or words' (e.stamp + n) 0 ≡ get_or words (e.stamp + n) 0
   entry_three k e n s below = let size = three_words words e.stamp in entry_word k e n s (omega (arith, size, below))
@@ -149,7 +149,7 @@ module _ (z : Layout) (o : Opening) (words words' : List ℕ) (before : List Hol
   initial_word n from to =
       let b : Block = record { at = pool_base z; size = 3 * z.m } in
       m.same n (omega (arith, from)) (if_some (λ c. AreApart (record { at = pool_base z; size = 3 * z.m }) (block_of c)) (λ c. AreApart (word_at n) (block_of c)) h.own
-          (λ c is a. part_apart (word_at n) (record { at = pool_base z; size = 3 * z.m }) (block_of c) from (omega (arith, to)) a) (from_own b (initial_free z o words (before ++ h ∷ after) log w)))
+      (λ c is a. part_apart (word_at n) (record { at = pool_base z; size = 3 * z.m }) (block_of c) from (omega (arith, to)) a) (from_own b (initial_free z o words (before ++ h ∷ after) log w)))
 
   -- the chains stay
   pub chain_moves : (j : ℕ) → j < length o.values → IsChain words' (get_or words j 0) (chain_of o j log)
@@ -158,9 +158,11 @@ module _ (z : Layout) (o : Opening) (words words' : List ℕ) (before : List Hol
       let values = w.values in
       let P : ℕ → Type 0 = λ s. (get_or words' s 0 ≡ get_or words s 0) × (get_or words' (s + 1) 0 ≡ get_or words (s + 1) 0) in
       chain_stays words words' m.count (get_or words j 0) (chain_of o j log)
-      (chain_all P o j log (all_where (λ (e : Applied). P e.stamp) log (λ k e s. (entry_prev k e s, entry_three k e 1 s (omega arith))))
-          (initial_word (initial_stamp o j) (omega (arith, base)) (omega (arith, base, values, below)), initial_word (initial_stamp o j + 1) (omega (arith, base))
-          (omega (arith, base, values, below))))
+      (chain_all P o j log (all_where (λ (e : Applied). P e.stamp) log (λ k e s. (entry_prev k e s, entry_three k e 1 s (omega arith)))) (
+        initial_word (initial_stamp o j) (omega (arith, base)) (omega (arith, base, values, below)),
+        initial_word (initial_stamp o j + 1) (omega (arith, base))
+            (omega (arith, base, values, below)),
+      ))
       (w.agrees j below).1
 
   pub agrees_stay : ((j : ℕ) → j < z.m → get_or words' j 0 ≡ get_or words j 0) → Agrees o words' log

@@ -37,25 +37,42 @@ slot_claims_are_kept z o words before h after log w unclaimed room =
     let count = w.count in
     let some = w.sizes.slots.0 in
     let now : get_or words' (slot_counter z) 0 ≡ get_or words (slot_counter z) 0 + 1 = get_or-set_same words (slot_counter z) v 0 (omega (arith, count, some)) ∙ fits_word z
-        (get_or words (slot_counter z) 0 + 1) w.sizes (omega (arith, room)) in
+    (get_or words (slot_counter z) 0 + 1) w.sizes (omega (arith, room)) in
     let other : (k : ℕ) → k ≢ n → get_or words' k 0 ≡ get_or words k 0 = λ k differs. get_or-set_other words n k v 0 differs in
     let lists : get_or words' (list_counter z) 0 ≡ get_or words (list_counter z) 0 = other (list_counter z) (λ e. omega (arith, e)) in
     let pool : get_or words' (pool_counter z) 0 ≡ get_or words (pool_counter z) 0 = other (pool_counter z) (λ e. omega (arith, e)) in
     let slot_words : (l : ℕ) → l < z.slots → get_or words' (slot_word z l) 0 ≡ get_or words (slot_word z l) 0 = λ l room. other (slot_word z l) (λ e. omega (arith, e)) in
     let far : (k : ℕ) → list_base z ≤ k → get_or words' k 0 ≡ get_or words k 0 = λ k above. other k (λ e. omega (arith, above, e)) in
     let components : (j : ℕ) → j < z.m → get_or words' j 0 ≡ get_or words j 0 = λ j below. other j (λ e. omega (arith, below, e)) in
-    let m : Moves z words words' h h' = record { port = refl; count = length-set words n v; pool = omega (arith, pool); lists = omega (arith, lists); slots = omega (arith, now);
-        same = λ k above free. far k above; apart = λ b claimed free. free; slot = λ l room free. slot_words l room; vacated = λ l room one. slot_words l room ∙ one } in
+    let m : Moves z words words' h h' = record {
+      port = refl;
+      count = length-set words n v;
+      pool = omega (arith, pool);
+      lists = omega (arith, lists);
+      slots = omega (arith, now);
+      same = λ k above free. far k above;
+      apart = λ b claimed free. free;
+      slot = λ l room free. slot_words l room;
+      vacated = λ l room one. slot_words l room ∙ one;
+    } in
     let tied = all_at (IsTied z words) before h after w.tied in
     quiet z o words words' before h h' after log w (record {
       moves = m;
       components = components;
-      tied = record { own = own_stays z words words' h h' m far h.own tied.own; pool_marked = λ t. let old = tied.pool_marked t in omega (arith, old, pool); slots_marked = λ t. let old =
-          tied.slots_marked t in omega (arith, now, old); lists_marked = λ t. let old = tied.lists_marked t in omega (arith, old, lists) };
+      tied = record {
+        own = own_stays z words words' h h' m far h.own tied.own;
+        pool_marked = λ t. let old = tied.pool_marked t in omega (arith, old, pool);
+        slots_marked = λ t. let old =
+            tied.slots_marked t in omega (arith, now, old);
+        lists_marked = λ t. let old = tied.lists_marked t in omega (arith, old, lists);
+      };
       apart = blocks_kept z words before h h' after log refl (sym (ap joined_in unclaimed)) w.apart;
       due = due_stays z o words words' before h h' after log w m refl refl (λ e. refl) far components;
-      taken = λ l below inside k. elim k [ inl t ↦ absurd (none_claimed (λ c. c.slot ≡ l) h.claimed unclaimed t) | inr from ↦ let is : get_or words (slot_counter z) 0 ≡ l =
-          omega (arith, from, below, now) in inr is ];
+      taken = λ l below inside k. elim k [
+        | inl t ↦ absurd (none_claimed (λ c. c.slot ≡ l) h.claimed unclaimed t)
+        | inr from ↦ let is : get_or words (slot_counter z) 0 ≡ l =
+            omega (arith, from, below, now) in inr is
+      ];
       claim = record { slot = room; below = omega (arith, now); holds = slot_words (get_or words (slot_counter z) 0) room ∙ w.unclaimed (get_or words (slot_counter z) 0) (omega arith) room };
       owners = λ v k other. if_some (IsClaim z words (before ++ h ∷ after) log) (λ d. get_or words (slot_counter z) 0 ≢ d.slot) v.claimed
           (λ d e claim. let below = claim.below in λ is. omega (arith, is, below)) k;
@@ -74,7 +91,7 @@ leaves_are_kept z o words before h after log slot j w is =
     let words' = set words n 1 in
     let count = w.count in
     let claim : IsClaim z words (before ++ h ∷ after) log c = if_some_at (IsClaim z words (before ++ h ∷ after) log) h.claimed c is
-        (all_at (λ v. IfSome v.claimed (IsClaim z words (before ++ h ∷ after) log)) before h after w.claims) in
+    (all_at (λ v. IfSome v.claimed (IsClaim z words (before ++ h ∷ after) log)) before h after w.claims) in
     let room : slot < z.slots = claim.slot in
     let now : get_or words' (slot_word z slot) 0 ≡ 1 = get_or-set_same words (slot_word z slot) 1 0 (omega (arith, count, room)) in
     let other : (k : ℕ) → k ≢ n → get_or words' k 0 ≡ get_or words k 0 = λ k differs. get_or-set_other words n k 1 0 differs in
@@ -99,8 +116,13 @@ leaves_are_kept z o words before h after log slot j w is =
     quiet z o words words' before h h' after log w (record {
       moves = m;
       components = components;
-      tied = record { own = own_stays z words words' h h' m far h.own tied.own; pool_marked = λ t. let old = tied.pool_marked t in omega (arith, old, pool); slots_marked = λ t. let old =
-          tied.slots_marked t in omega (arith, old, slots); lists_marked = λ t. let old = tied.lists_marked t in omega (arith, old, lists) };
+      tied = record {
+        own = own_stays z words words' h h' m far h.own tied.own;
+        pool_marked = λ t. let old = tied.pool_marked t in omega (arith, old, pool);
+        slots_marked = λ t. let old =
+            tied.slots_marked t in omega (arith, old, slots);
+        lists_marked = λ t. let old = tied.lists_marked t in omega (arith, old, lists);
+      };
       apart = (two_take AreApart apart_turns (announcement_of j) (blocks_in z words (before ++ h' ∷ after) log) (blocks_in z words (before ++ h ∷ after) log)
           (announced_block_added z words (before ++ h ∷ after) (before ++ h' ∷ after) log (announcement_of j) (unpublished_same before h h' after refl)
           (announcement_added before h h' after j refl (ap joined_in is))) w.apart).0;
@@ -126,7 +148,7 @@ joins_are_kept z o words before h after log slot at indices w is idle owned few 
     let words' = set words n at in
     let count = w.count in
     let claim : IsClaim z words (before ++ h ∷ after) log c = if_some_at (IsClaim z words (before ++ h ∷ after) log) h.claimed c is
-        (all_at (λ v. IfSome v.claimed (IsClaim z words (before ++ h ∷ after) log)) before h after w.claims) in
+    (all_at (λ v. IfSome v.claimed (IsClaim z words (before ++ h ∷ after) log)) before h after w.claims) in
     let room : slot < z.slots = claim.slot in
     let empty : get_or words (slot_word z slot) 0 ≡ 0 = claim.holds in
     let now : get_or words' (slot_word z slot) 0 ≡ at = get_or-set_same words (slot_word z slot) at 0 (omega (arith, count, room)) in
@@ -144,8 +166,11 @@ joins_are_kept z o words before h after log slot at indices w is idle owned few 
       same = λ k above free. far k above;
       apart = λ b claimed free. tt;
       slot = λ l inside free. let differs = if_some_at (λ c. c.slot ≢ l) h.claimed c is free in other (slot_word z l) (λ e. differs (omega (arith, e)));
-      vacated = λ l inside one. elim (eqb_tells slot l) [ inl t ↦ let none : get_or words (slot_word z l) 0 ≡ 0 = ap (λ t. get_or words (slot_word z t) 0) (sym t.1) ∙ empty in absurd
-          (omega (arith, none, one)) | inr t ↦ let differs : slot ≢ l = t.1 in other (slot_word z l) (λ e. differs (omega (arith, e))) ∙ one ];
+      vacated = λ l inside one. elim (eqb_tells slot l) [
+        | inl t ↦ let none : get_or words (slot_word z l) 0 ≡ 0 = ap (λ t. get_or words (slot_word z t) 0) (sym t.1) ∙ empty in absurd
+            (omega (arith, none, one))
+        | inr t ↦ let differs : slot ≢ l = t.1 in other (slot_word z l) (λ e. differs (omega (arith, e))) ∙ one
+      ];
     } in
     let tied = all_at (IsTied z words) before h after w.tied in
     let own : IsOwn z words b = if_some_at (IsOwn z words) h.own b owned tied.own in
@@ -155,12 +180,12 @@ joins_are_kept z o words before h after log slot at indices w is idle owned few 
     let size : length (announcement_block indices) ≡ 1 + length indices = omega arith in
     let same : block_of b ≡ announcement_of j = ap (λ n. record { at = at; size = n }) size in
     let taken = two_take AreApart apart_turns (block_of b) (blocks_in z words (before ++ between ∷ after) log) (blocks_in z words (before ++ h ∷ after) log)
-        (own_block_added z words (before ++ h ∷ after) (before ++ between ∷ after) log (block_of b) (announced_same before h between after refl)
-        (own_added before h between after b refl owned)) w.apart in
+    (own_block_added z words (before ++ h ∷ after) (before ++ between ∷ after) log (block_of b) (announced_same before h between after refl)
+    (own_added before h between after b refl owned)) w.apart in
     let free : AllByRecursion (AreApart (announcement_of j)) (blocks_in z words (before ++ between ∷ after) log) =
-        subst (λ (x : Block). AllByRecursion (AreApart x) (blocks_in z words (before ++ between ∷ after) log)) same taken.1 in
+    subst (λ (x : Block). AllByRecursion (AreApart x) (blocks_in z words (before ++ between ∷ after) log)) same taken.1 in
     let added = announced_block_added z words (before ++ h' ∷ after) (before ++ between ∷ after) log (announcement_of j) (unpublished_same before h' between after refl)
-        (announcement_added before h' between after j (ap joined_in is) refl) in
+    (announcement_added before h' between after j (ap joined_in is) refl) in
     let announced : IsAnnounced z words' (unpublished (before ++ h' ∷ after)) at indices = record {
       whole = record {
         from = omega (arith, above);
@@ -177,8 +202,12 @@ joins_are_kept z o words before h after log slot at indices w is idle owned few 
     quiet z o words words' before h h' after log w (record {
       moves = m;
       components = λ i below. other i (λ e. omega (arith, below, e));
-      tied = record { own = tt; pool_marked = λ t. let old = tied.pool_marked t in omega (arith, old, pool); slots_marked = λ t. let old = tied.slots_marked t in omega (arith, old, slots);
-          lists_marked = λ t. let old = tied.lists_marked t in omega (arith, old, lists) };
+      tied = record {
+        own = tt;
+        pool_marked = λ t. let old = tied.pool_marked t in omega (arith, old, pool);
+        slots_marked = λ t. let old = tied.slots_marked t in omega (arith, old, slots);
+        lists_marked = λ t. let old = tied.lists_marked t in omega (arith, old, lists);
+      };
       apart = two_put AreApart apart_turns (announcement_of j) (blocks_in z words (before ++ between ∷ after) log) (blocks_in z words (before ++ h' ∷ after) log) added taken.0 free;
       due = none_here (IsDue z o words' h' (others_of h'.port (before ++ h' ∷ after)) log) h.due idle;
       taken = λ l below room k. elim k [ inl t ↦ let e : slot ≡ l = one_claimed (λ c. c.slot ≡ l) h.claimed c is t in inr e | inr from ↦ absurd (omega (arith, from, below, slots)) ];

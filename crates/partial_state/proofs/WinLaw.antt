@@ -106,7 +106,7 @@ module _ (z : Layout) (o : Opening) (words : List ℕ) (before : List Holding) (
       let count = w.count in
       let below = inside in
       get_or-set_same words d.component (cond (get_or words d.component 0 == d.old) d.at (get_or words d.component 0)) 0
-          (omega (arith, count, below)) ∙ ap (λ (t : Bool). cond t d.at (get_or words d.component 0)) (eq-eqb (get_or words d.component 0) d.old won)
+      (omega (arith, count, below)) ∙ ap (λ (t : Bool). cond t d.at (get_or words d.component 0)) (eq-eqb (get_or words d.component 0) d.old won)
 
   other : (k : ℕ) → k ≢ d.component → get_or exchanged k 0 ≡ get_or words k 0
   other k differs = get_or-set_other words d.component k (cond (get_or words d.component 0 == d.old) d.at (get_or words d.component 0)) 0 differs
@@ -136,13 +136,13 @@ module _ (z : Layout) (o : Opening) (words : List ℕ) (before : List Holding) (
   freed =
       let b = published.own in
       let both = two_take AreApart apart_turns (block_of b) (blocks_in z words holdings_after log) (blocks_in z words (before ++ h ∷ after) log)
-          (own_block_added z words (before ++ h ∷ after) holdings_after log (block_of b) (announced_same before h behind after refl) (own_added before h behind after b refl published.here)) w.apart in
+      (own_block_added z words (before ++ h ∷ after) holdings_after log (block_of b) (announced_same before h behind after refl) (own_added before h behind after b refl published.here)) w.apart in
       (both.0, subst (λ (x : Block). AllByRecursion (AreApart x) (blocks_in z words holdings_after log)) published.block both.1)
 
   differs : (k : ℕ) (e : Applied) → slice_get log k ≡ Some e → e.stamp ≢ d.at
   differs k e s =
       let each = all_unmap (AreApart (block_at words d.at)) (λ (e : Applied). block_at words e.stamp) log
-          (all_front (AreApart (block_at words d.at)) (map (λ (e : Applied). block_at words e.stamp) log) (announcements holdings_after ++ unpublished holdings_after) freed.1.1) in
+      (all_front (AreApart (block_at words d.at)) (map (λ (e : Applied). block_at words e.stamp) log) (announcements holdings_after ++ unpublished holdings_after) freed.1.1) in
       other_stamps words d.at e.stamp (AllByRecursion-get (λ (e : Applied). AreApart (block_at words d.at) (block_at words e.stamp)) log k e each s)
 
   not_initial : (j : ℕ) → j < length o.values → d.at ≢ initial_stamp o j
@@ -184,7 +184,7 @@ module _ (z : Layout) (o : Opening) (words : List ℕ) (before : List Holding) (
       let now' : get_or exchanged i 0 ≡ at = ap (λ n. get_or exchanged n 0) (sym is') ∙ now in
       let stamp : stamp_of o longer i ≡ at = stamp_of-push o log entry i ∙ ap (λ (b : Bool). cond b at (stamp_of o log i)) same in
       let chain : chain_of o i longer ≡ record { stamp = at; value = d.value } ∷ chain_of o i log = links_from-push (record { stamp = initial_stamp o i; value = get_or o.values i 0 } ∷ []) i log
-          entry ∙ ap (λ (b : Bool). cond b (record { stamp = at; value = d.value } ∷ chain_of o i log) (chain_of o i log)) same in
+      entry ∙ ap (λ (b : Bool). cond b (record { stamp = at; value = d.value } ∷ chain_of o i log) (chain_of o i log)) same in
       let value : get_or exchanged (at + 1) 0 ≡ d.value = higher (at + 1) (omega (arith, far)) ∙ due.value in
       let prev : get_or exchanged at 0 ≡ old = higher at (omega (arith, far)) ∙ due.prev in
       let count : length exchanged ≡ length words = moves.count in
@@ -193,9 +193,11 @@ module _ (z : Layout) (o : Opening) (words : List ℕ) (before : List Holding) (
       let all = w.count in
       let here : IsLink exchanged at (record { stamp = at; value = d.value }) = record { stamp = refl; within = omega (arith, count, size, whole, all); value = value } in
       let before' : IsChain exchanged old (chain_of o i log) = subst (λ n. IsChain exchanged n (chain_of o i log)) (ap (λ n. get_or words n 0) (sym is') ∙ won)
-          (chain_moves z o words exchanged before h behind after log w moves i below) in
-      (now' ∙ sym stamp, subst (λ (n : ℕ). IsChain exchanged n (chain_of o i longer)) (sym now')
-          (subst (IsChain exchanged at) (sym chain) (chain_cons exchanged at old (record { stamp = at; value = d.value }) (chain_of o i log) here prev before')))
+      (chain_moves z o words exchanged before h behind after log w moves i below) in (
+        now' ∙ sym stamp,
+        subst (λ (n : ℕ). IsChain exchanged n (chain_of o i longer)) (sym now')
+            (subst (IsChain exchanged at) (sym chain) (chain_cons exchanged at old (record { stamp = at; value = d.value }) (chain_of o i log) here prev before')),
+      )
   agrees_at i below false same =
       let j = d.component in
       let at = d.at in
@@ -203,9 +205,11 @@ module _ (z : Layout) (o : Opening) (words : List ℕ) (before : List Holding) (
       let now' : get_or exchanged i 0 ≡ get_or words i 0 = other i (λ e. differs' (sym e)) in
       let stamp : stamp_of o longer i ≡ stamp_of o log i = stamp_of-push o log entry i ∙ ap (λ (b : Bool). cond b at (stamp_of o log i)) same in
       let chain : chain_of o i longer ≡ chain_of o i log = links_from-push (record { stamp = initial_stamp o i; value = get_or o.values i 0 } ∷ []) i log entry ∙
-          ap (λ (b : Bool). cond b (record { stamp = at; value = d.value } ∷ chain_of o i log) (chain_of o i log)) same in
-      (now' ∙ (w.agrees i below).0 ∙ sym stamp, subst (λ (n : ℕ). IsChain exchanged n (chain_of o i longer)) (sym now')
-          (subst (IsChain exchanged (get_or words i 0)) (sym chain) (chain_moves z o words exchanged before h behind after log w moves i below)))
+      ap (λ (b : Bool). cond b (record { stamp = at; value = d.value } ∷ chain_of o i log) (chain_of o i log)) same in (
+        now' ∙ (w.agrees i below).0 ∙ sym stamp,
+        subst (λ (n : ℕ). IsChain exchanged n (chain_of o i longer)) (sym now')
+            (subst (IsChain exchanged (get_or words i 0)) (sym chain) (chain_moves z o words exchanged before h behind after log w moves i below)),
+      )
 
   -- no component names the new record but the one that it is for
   named : (j old : ℕ) → j < z.m → IsWithin o log (length log) old → get_or exchanged j 0 ≡ old → get_or words j 0 ≡ old
@@ -257,7 +261,7 @@ module _ (z : Layout) (o : Opening) (words : List ℕ) (before : List Holding) (
       let Q : Holding → Type 0 = λ v. IfJoined v (λ l j. Covers z exchanged us longer d.at j) in
       let old : IsWithin o log (length log) (prev_of words d.at) = subst (IsWithin o log (length log)) (sym due.prev) due.before in
       let each : (v : Holding) → P v → Q v = λ v. joined_weaker v (λ l j. Covers z words us log d.at j) (λ l j. Covers z exchanged us longer d.at j)
-          (λ l j. covers_moves z words exchanged us us here o log longer grows d.at prev_now view_now (length log) j old) in
+      (λ l j. covers_moves z words exchanged us us here o log longer grows d.at prev_now view_now (length log) j old) in
       record {
         entry = record { above = far; within = omega (arith, within, size); below = omega (arith, below, size, pool) };
         fresh = fresh_moves z words exchanged us us here o log longer grows d.at prev_now view_now (length log) (length log) (omega arith) (omega arith) would.0;
@@ -273,12 +277,12 @@ module _ (z : Layout) (o : Opening) (words : List ℕ) (before : List Holding) (
       let rest = announcements holdings_after ++ unpublished holdings_after in
       let block : block_at exchanged d.at ≡ block_at words d.at = block_stays words exchanged d.at (λ n below. higher (d.at + n) (omega (arith, far))) in
       let entries : map (λ (e : Applied). block_at exchanged e.stamp) longer ≡ E ++ block_at words d.at ∷ [] =
-          map_push (λ (e : Applied). block_at exchanged e.stamp) log entry ∙ ap (λ (l : List Block). l ++ block_at exchanged d.at ∷ [])
-          (entries_stay z o words exchanged before h behind after log w moves) ∙ ap (λ (x : Block). E ++ x ∷ []) block in
+      map_push (λ (e : Applied). block_at exchanged e.stamp) log entry ∙ ap (λ (l : List Block). l ++ block_at exchanged d.at ∷ [])
+      (entries_stay z o words exchanged before h behind after log w moves) ∙ ap (λ (x : Block). E ++ x ∷ []) block in
       let added : Adds (block_at words d.at) (E ++ rest) ((E ++ block_at words d.at ∷ []) ++ rest) = (E, rest, refl, append_assoc E (block_at words d.at ∷ []) rest) in
       subst (λ (l : List Block). EachTwo AreApart (initial ++ (l ++ rest))) (sym entries)
       (two_put AreApart apart_turns (block_at words d.at) (initial ++ (E ++ rest)) (initial ++ ((E ++ block_at words d.at ∷ []) ++ rest))
-          (adds_behind (block_at words d.at) initial (E ++ rest) ((E ++ block_at words d.at ∷ []) ++ rest) added) freed.0 freed.1)
+      (adds_behind (block_at words d.at) initial (E ++ rest) ((E ++ block_at words d.at ∷ []) ++ rest) added) freed.0 freed.1)
 
   pub win_is_kept : IsKept z o words before h after log exchanged behind longer
   win_is_kept =
@@ -294,8 +298,12 @@ module _ (z : Layout) (o : Opening) (words : List ℕ) (before : List Holding) (
         agrees = λ i below. agrees_at i below (d.component == i) refl;
         named = named;
         newest = λ k e s from. found_last (λ k (e : Applied). IsNew z o exchanged holdings_after longer k e) log entry k e new s from;
-        tied = record { own = tt; pool_marked = λ m. let old = t.pool_marked m in omega (arith, old, pool); slots_marked = λ m. let old = t.slots_marked m in omega (arith, old, slots);
-            lists_marked = λ m. let old = t.lists_marked m in omega (arith, old, lists) };
+        tied = record {
+          own = tt;
+          pool_marked = λ m. let old = t.pool_marked m in omega (arith, old, pool);
+          slots_marked = λ m. let old = t.slots_marked m in omega (arith, old, slots);
+          lists_marked = λ m. let old = t.lists_marked m in omega (arith, old, lists);
+        };
         apart = blocks_now;
         due = tt;
         taken = taken_stays z words exchanged h behind refl (λ l below room. omega (arith, below, slots));

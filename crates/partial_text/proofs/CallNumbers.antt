@@ -18,10 +18,10 @@ line_long [] = omega arith
 line_long (c ∷ cs) =
     let rest = next_long cs in
     let behind : length (field (call_text c) ++ flat_map next_call cs) ≡ length (field (call_text c)) + length (flat_map next_call cs) =
-        length-append (field (call_text c)) (flat_map next_call cs) in
+    length-append (field (call_text c)) (flat_map next_call cs) in
     let one : length (field (call_text c)) ≡ length (call_text c) + 1 = omega arith in
     let all : length (port_line (c ∷ cs)) ≡ 4 + length (field (call_text c) ++ flat_map next_call cs) =
-        length-append (codes "port") (field (call_text c) ++ flat_map next_call cs) in
+    length-append (codes "port") (field (call_text c) ++ flat_map next_call cs) in
     omega (arith, rest, behind, one, all)
 
 lines_fit : (n : ℕ) (ports : List (List Call)) → length (flat_map (λ cs. ended (port_line cs)) ports) ≤ n → n < 2 ^ 32 → AllByRecursion (λ cs. length cs < 2 ^ 32) ports
