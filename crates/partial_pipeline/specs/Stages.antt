@@ -78,7 +78,9 @@ pub record Sees (p : PortView) (stages counts : List ℕ) (q : PortView) : Type 
   pub place : ℕ
   pub collects : ℕ
   pub borrowed : Option ℕ
-  pub goes : NotesMore p q (record { call = call.Scan stages; answer = answer.Scanned counts collects borrowed; note = Some (note.Saw place) } ∷ [])
+  pub goes :
+      NotesMore p q
+      (record { call = call.Scan stages; answer = answer.Scanned counts collects borrowed; note = Some (note.Saw place) } ∷ [])
   pub behind : length p.seen ≤ place
   pub each : length counts ≡ length stages
 
