@@ -4,13 +4,15 @@
 . "$top/fresh.sh" || exit 2
 out=$top/crates/$name/out
 
-# keep_unproved ROOM: keeps the program that `rt try` has built in this room and runs now. Sources that are
-# newer than the room's file `start` are newer than what is kept.
+# built_in ROOM: the program that `rt try` has built in this room, as long as it runs.
+built_in() {
+    find "$1" -type f -name program -perm -u+x -print -quit
+}
+
+# keep_unproved ROOM FILE: keeps a copy of this program. Sources that are newer than the room's file `start` are
+# newer than what is kept.
 keep_unproved() {
-    local built
-    built=$(find "$1" -type f -name program -perm -u+x -print -quit)
-    [ -n "$built" ] || return 1
-    cp "$built" "$1/kept" && touch -r "$1/start" "$1/kept" && mv "$1/kept" "$out/${name}_unproved"
+    [ -n "$2" ] && cp "$2" "$1/kept" && touch -r "$1/start" "$1/kept" && mv "$1/kept" "$out/${name}_unproved"
 }
 
 # run_program WORD..: runs the proved program that an earlier build left, where no source is newer. Without one

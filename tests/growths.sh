@@ -72,6 +72,7 @@ refuse_all partial_replay 'tests::growths::.*'
 refuse_all partial_rounds 'tests::growths::.*'
 refuse_all partial_cmd 'tests::growths::.*'
 refuse_all partial_memory 'tests::growths::.*'
+refuse_all partial_pipeline 'tests::growths::.*'
 
 echo "$passed passed, $failed failed"
 [ "$failed" -eq 0 ]

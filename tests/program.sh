@@ -245,10 +245,56 @@ for verb in replay run; do
     write_fault "closed_pipe of $verb" "$(cat "$room/status")"
 done
 
+# The program `pipeline`: PIPELINE may name a built one.
+partial=$program
+program=${PIPELINE:-$top/crates/pipeline/out/pipeline}
+if [ -z "${PIPELINE:-}" ] && ! is_fresh "$program"; then
+    (cd "$top/crates/pipeline" && rt run -- --items 0 --looks 0 >/dev/null)
+fi
+expect "" $'last 0 0 0 0\n' ""
+case_of "pipeline: no items" 0 --items 0 --looks 0
+expect "" $'last 300\n' ""
+case_of "pipeline: one stage" 0 --stages 1 --items 300 --looks 0
+expect "" "" $'pipeline: usage\n'
+for words in "--stages 0" "--stages 64" "--stages x" "--items -1" "--items" "--looks 65536" "--more 1" more --help; do
+    case_of "pipeline: $words" 2 $words
+done
+
+# lines STAGES ITEMS: in the given lines no count is greater than the one before it, none falls, and the last
+# line has that count for each stage, or a lower one where it is no number.
+lines() {
+    awk -v stages="$1" -v items="$2" '
+        NF != stages + 1 || ended || ($1 != "counts" && $1 != "last") { bad = 1 }
+        { for (k = 2; k <= NF; k++) { if ((k > 2 && $k > $(k - 1)) || $k < was[k]) bad = 1; was[k] = $k } }
+        $1 == "last" { ended = 1; if (items != "-") for (k = 2; k <= NF; k++) if ($k != items) bad = 1 }
+        END { exit bad || !ended }
+    ' "$room/given-out"
+}
+
+# shows NAME STATUS STAGES ITEMS TEXT WORD..: the lines of such a pipeline, with this text on standard error.
+shows() {
+    local name=$1 status=$2 stages=$3 items=$4 text=$5 given
+    shift 5
+    "$program" --stages "$stages" "$@" >"$room/given-out" 2>"$room/given-err"
+    given=$?
+    if [ "$given" -eq "$status" ] && lines "$stages" "$items" && [ "$(cat "$room/given-err")" = "$text" ]; then
+        passed=$((passed + 1))
+    else
+        failed=$((failed + 1))
+        echo "failed: $name (status $given)"
+        head -n 40 "$room/given-out" "$room/given-err"
+    fi
+}
+shows "pipeline: two stages" 0 2 3000 "" --items 3000 --looks 300
+shows "pipeline: eight stages" 0 8 2000 "" --items 2000
+shows "pipeline: 63 stages" 0 63 50 "" --items 50 --looks 100
+shows "pipeline: a spent pool" 1 2 - "pipeline: pool spent" --items 18446744073709551615 --looks 50
+program=$partial
+
 # ./partial from another folder, in a copy of the sources: first with no proved program, then with one.
 copy=$room/copy
 mkdir -p "$copy/elsewhere" "$room/bin"
-tar -C "$top" --exclude=out -cf - crates crates.txt partial fresh.sh | tar -C "$copy" -xf -
+tar -C "$top" --exclude=out -cf - crates crates.txt partial program.sh fresh.sh | tar -C "$copy" -xf -
 cp "$top/plans/lost_exchange.plan" "$copy/lost.plan"
 built=$program
 program=$copy/partial

@@ -1,5 +1,5 @@
 -- The history of a pipeline: each stage's count only rises, and never passes that of the stage before it.
-use Rattle.std.proofs.Common.{ℕ, zero, suc, ◌≡◌, ◌+◌, ◌<◌, ◌≤◌, ◌==◌, ◌++◌, ◌⊎◌, Bool, true, false, cond, List, [], ◌∷◌, length, take, slice_index, refl, sym, ◌∙◌, ap, subst, inl, inr, Option, Some, None, slice_get, arith}
+use Rattle.std.proofs.Common.{ℕ, zero, suc, ◌≡◌, ◌+◌, ◌<◌, ◌≤◌, ◌==◌, ◌++◌, Bool, true, false, cond, List, [], ◌∷◌, length, take, slice_index, refl, sym, ◌∙◌, ap, subst, inl, inr, Option, Some, None, slice_get, arith}
 use Rattle.std.specs.List.{AllByRecursion}
 use Rattle.std.specs.Option.{option_map_or}
 use Rattle.std.proofs.lemmas.Bool.{eq-eqb, ne_eqb}
@@ -20,7 +20,7 @@ use Rattle.partial_model.proofs.AllLemmas.{all_append}
 use Rattle.partial_model.proofs.Entries.{entries_are_noted, entry_holds, noted_at}
 use Rattle.partial_model.proofs.NotesLemmas.{AllByRecursion-get}
 use Rattle.partial_model.proofs.Values.{value_at_first, value_set, value_kept, element_at, rising_never_falls}
-use Rattle.partial_pipeline.specs.Pipeline.{AreFrom, HasWorked, IsPipeline, IsStageIn, Works, CountsStayOrdered, CountsNeverFall}
+use Rattle.partial_pipeline.specs.Pipeline.{AreFrom, IsPipeline, IsStageIn, Works, CountsStayOrdered, CountsNeverFall}
 
 -- ---- the entries of stage k: component k alone, to values that never fall
 

@@ -1,10 +1,10 @@
 -- What the closed memory of a pipeline tells of the monitor's scans.
-use Rattle.std.proofs.Common.{ℕ, zero, suc, inl, inr, ◌≡◌, ◌+◌, ◌<◌, ◌≤◌, ◌++◌, List, [], ◌∷◌, length, map, take, slice_index, refl, sym, ◌∙◌, ap, subst, Option, Some, None, slice_get, arith, Contains}
+use Rattle.std.proofs.Common.{ℕ, suc, inl, inr, ◌≡◌, ◌+◌, ◌<◌, ◌≤◌, ◌++◌, List, [], ◌∷◌, length, map, take, slice_index, refl, sym, ◌∙◌, ap, subst, Option, Some, None, slice_get, arith}
 use Rattle.std.specs.Prelude.{IfSome}
 use Rattle.std.specs.List.{AllByRecursion}
 use Rattle.std.specs.declared.alloc.Global.{Global}
 use Rattle.std.specs.declared.vec.Vec.{Vec}
-use Rattle.std.proofs.lemmas.List.{ext_get_or, get_or-map, length-map, take_all, map-append}
+use Rattle.std.proofs.lemmas.List.{ext_get_or, get_or-map, length-map, take_all}
 use Rattle.std.proofs.lemmas.Bool.{cases_lt}
 use Rattle.partial_model.specs.declared.history.Applied.{Applied}
 use Rattle.partial_model.specs.declared.history.Opening.{Opening}
@@ -17,20 +17,18 @@ use Rattle.partial_model.specs.declared.call.Note.TheVariants as note
 use Rattle.partial_model.specs.History.{value_of}
 use Rattle.partial_model.specs.Notes.{Noted, LegalNotes, IsLegal, seen_after, seen_by}
 use Rattle.partial_model.specs.Outcome.{EachOnce, places_written, wrote}
-use Rattle.partial_model.proofs.AllLemmas.{all_append}
 use Rattle.partial_model.proofs.Entries.{noted_at}
 use Rattle.partial_model.proofs.NotesLemmas.{AllByRecursion-get, LegalNotes-last}
 use Rattle.partial_model.proofs.Values.{element_at}
-use Rattle.partial_memory.specs.Closing.{AreValues, Closes, IsPortOf}
+use Rattle.partial_memory.specs.Closing.{Closes, IsPortOf}
 use Rattle.partial_memory.specs.Noting.{NotesMore}
 use Rattle.partial_memory.specs.Ports.{IsOf, MemoryView, PortView}
 use Rattle.partial_memory.specs.declared.closed.Closed.{Closed}
-use Rattle.partial_pipeline.specs.Pipeline.{AreFrom, AreOrdered, HaveRisen, HasWorked, IsOrderly, IsPipeline, IsStageIn, NeverFall, all_counts, last_of}
-use Rattle.partial_pipeline.specs.Stages.{AreRooms, HasMet, HaveMet, IsEachStage, Opens, Sees, Watched}
-use Rattle.partial_pipeline.specs.declared.report.PipelineReport.{PipelineReport}
+use Rattle.partial_pipeline.specs.Pipeline.{AreFrom, AreOrdered, HaveRisen, IsOrderly, IsPipeline, IsStageIn, NeverFall, last_of}
+use Rattle.partial_pipeline.specs.Stages.{HasMet, IsEachStage, Opens, Sees, Watched}
 use Rattle.partial_pipeline.specs.declared.stage.StageEnd.{StageEnd}
-use Rattle.partial_pipeline.proofs.Pipes.{counts_never_fall, counts_stay_ordered, from_at}
-use Rattle.partial_pipeline.proofs.Stages.{from_map, from_all, watched_sees}
+use Rattle.partial_pipeline.proofs.Pipes.{counts_never_fall, counts_stay_ordered}
+use Rattle.partial_pipeline.proofs.Stages.{watched_sees}
 
 -- the counts of n stages behind the first so many entries
 pub record AreCounts (o : Opening) (h : List Applied) (n at : ℕ) (counts : List ℕ) : Type 0 where

@@ -1,9 +1,6 @@
 -- One call more of a stage, of the monitor, and a meeting.
-use Rattle.std.proofs.Common.{ℕ, zero, suc, ◌≡◌, ◌+◌, ◌<◌, ◌≤◌, ◌++◌, ◌⊎◌, List, [], ◌∷◌, length, map, take, get_or, refl, sym, ◌∙◌, ap, subst, inl, inr, Option, Some, None, append-nil, arith}
-use Rattle.std.specs.Prelude.{Result, Ok, Err, IfOk, IfErr}
+use Rattle.std.proofs.Common.{ℕ, zero, suc, ◌≡◌, ◌+◌, ◌<◌, ◌≤◌, ◌++◌, List, [], ◌∷◌, length, map, take, get_or, refl, sym, ◌∙◌, ap, subst, inl, inr, Option, Some, append-nil, arith}
 use Rattle.std.specs.List.{AllByRecursion}
-use Rattle.std.specs.declared.alloc.Global.{Global}
-use Rattle.std.specs.declared.vec.Vec.{Vec}
 use Rattle.partial_model.specs.declared.history.Applied.{Applied}
 use Rattle.partial_model.specs.declared.history.Opening.{Opening}
 use Rattle.partial_model.specs.declared.call.Call.{Call}
@@ -13,19 +10,18 @@ use Rattle.partial_model.specs.declared.call.Answer.TheVariants as answer
 use Rattle.partial_model.specs.declared.call.Note.{Note}
 use Rattle.partial_model.specs.declared.call.Note.TheVariants as note
 use Rattle.partial_model.specs.declared.call.Refused.{Refused}
-use Rattle.partial_model.specs.Notes.{Noted, LegalNotes, IsTrueOf, shown_by, seen_after, place_of}
+use Rattle.partial_model.specs.Notes.{Noted, LegalNotes, seen_after}
 use Rattle.partial_model.specs.Outcome.{places_written, wrote}
 use Rattle.partial_model.proofs.AllLemmas.{all_append, all_weaker}
 use Rattle.partial_model.proofs.WalkLaws.{true_within}
 use Rattle.partial_memory.specs.declared.answers.Updated.{Updated}
 use Rattle.partial_memory.specs.declared.answers.Scanned.{Scanned}
 use Rattle.partial_memory.specs.Calls.{Updates, Reads, Scans, Meets}
-use Rattle.partial_memory.specs.Noting.{NotesCall, NotesMore, noted_update}
+use Rattle.partial_memory.specs.Noting.{NotesMore, noted_update}
 use Rattle.partial_memory.specs.Ports.{IsOf, IsRefused, MemoryView, PortView}
 use Rattle.partial_memory.proofs.Laws.{calls_note_once}
 use Rattle.partial_pipeline.specs.Pipeline.{AreFrom, HasWorked, Works}
-use Rattle.partial_pipeline.specs.Stages.{HasMet, IsDone, IsEachStage, IsWatching, IsWorking, Sees, Watched}
-use Rattle.partial_pipeline.specs.declared.monitor.Monitor.{Monitor}
+use Rattle.partial_pipeline.specs.Stages.{HasMet, IsDone, IsWorking, Sees, Watched}
 use Rattle.partial_pipeline.specs.declared.stage.Stage.{Stage}
 use Rattle.partial_pipeline.specs.declared.stage.Worked.{Worked}
 

@@ -6,8 +6,7 @@ use Rattle.std.specs.declared.alloc.Global.{Global}
 use Rattle.std.specs.declared.vec.Vec.{Vec}
 use Rattle.std.specs.declared.thread.PromisedHandle.{PromisedHandle}
 use Rattle.std.proofs.lemmas.List.{length_push, map-append}
-use Rattle.partial_model.specs.Notes.{Noted}
-use Rattle.partial_model.proofs.AllLemmas.{all_append, all_back, all_front}
+use Rattle.partial_model.proofs.AllLemmas.{all_append, all_front}
 use Rattle.partial_memory.specs.Calls.{Meets}
 use Rattle.partial_memory.specs.Noting.{NotesMore}
 use Rattle.partial_memory.specs.Ports.{IsOf, MemoryView, PortView, new_ports}

@@ -1,5 +1,7 @@
 //! The words of the program.
 
+ghost use Rattle.std.specs.Prelude.{◌≤◌};
+
 use crate::stop::Stop;
 use clap::{Arg, ArgAction, ArgMatches, Command, Error};
 use partial_words::Sizes;
@@ -8,8 +10,19 @@ use std::alloc::Global;
 /// The greatest pool that a memory may have.
 const POOL: u32 = 4_194_304;
 
-/// How many slots and list words a memory may have at most. Each scan takes a slot.
+/// How many slots a memory may have at most, and how many list words. Each scan takes a slot.
 const SLOTS: u32 = 65_536;
+
+/// Pool words for all updates and scans of a pipeline of so many stages, or as many as there may be. An update
+/// takes at most 4 words and 2 for each stage, and a scan a word and one for each stage.
+fn pool_for(stages: u64, items: u64, scans: u64) -> u32
+    requires { (stages ≤ 63) × (scans ≤ 65536) }
+{
+    let initial = 3 * u128::from(stages);
+    let updates = u128::from(stages) * u128::from(items) * (4 + 2 * u128::from(stages));
+    let words = initial + updates + u128::from(scans) * (1 + u128::from(stages));
+    words.min(u128::from(POOL)) as u32
+}
 
 /// The pipeline that is asked for.
 #[derive(Clone, Copy, Debug)]
@@ -57,7 +70,8 @@ pub fn request_of(alloc: Global, words: &[String]) -> Result<Request, Stop> {
     if stages > 63 || looks >= u64::from(SLOTS) {
         return Err(Stop::Usage);
     }
-    let sizes = Sizes::new(stages as u32, SLOTS, SLOTS, POOL).map_err(|_| Stop::Usage)?;
+    let pool = pool_for(stages, items, looks + 1);
+    let sizes = Sizes::new(stages as u32, looks as u32 + 1, SLOTS, pool).map_err(|_| Stop::Usage)?;
     Ok(Request {
         sizes,
         items,

@@ -1,4 +1,4 @@
-use Rattle.std.proofs.Common.{◌≡◌, ◌+◌, ◌≤◌, subst, arith}
+use Rattle.std.proofs.Common.{◌+◌, subst, arith}
 use Rattle.partial_memory.specs.Calls.{Updates}
 use Rattle.partial_pipeline.proofs.Stages.{works_advance}
 use Rattle.partial_pipeline.proofs.stage.Stage.advance.Goals as goal
