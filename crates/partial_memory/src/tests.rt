@@ -1,6 +1,5 @@
 //! Worked rows in one thread, and runs of many threads that are judged from outside.
 
-mod borrows;
 mod closings;
 mod growths;
 mod reopenings;
