@@ -1,6 +1,7 @@
 //! Calls of one port and of several, over small pools that are spent again and again.
 
 mod growths;
+mod long;
 mod runs;
 
 use crate::{Rounds, RoundsError, RoundsReport};
