@@ -12,7 +12,8 @@ use std::test::Fail;
 fn a_refused_growth_tells_what_was_applied(rt: HostRuntime) -> Result<(), Fail> {
     let sizes = Sizes::new(1, 1, 0, 9)?;
     let mut rounds = Rounds::new(rt.alloc(), sizes, &[0])?;
-    let calls = vec![in rt.alloc(); counting(rt.alloc(), 0, 5)?]?;
+    let mut calls = Vec::with_capacity(rt.alloc(), 1)?;
+    calls.push(counting(rt.alloc(), 0, 5)?)?;
     let report = made(&rt, rt.alloc(), &mut rounds, &calls)?;
     let mut told = 0u64;
     for round in &report.rounds {
