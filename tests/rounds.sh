@@ -1,7 +1,7 @@
 #!/usr/bin/env bash
-# Makes the runs of partial_rounds that take long, with its proved tests, and says how many seconds each took:
-# ten million updates by four ports over the greatest pool, and a thousand rounds of one update by each of four
-# ports, so a thousandth of its time is that of a change of round. It is no part of ./check.
+# Makes two proved tests of partial_rounds again and again, and says how many seconds that took: ten million
+# updates by four ports, and a thousand rounds of one update by each of four ports, so a thousandth of that time
+# is a change of round. Both are over the greatest pool. It is no part of ./check.
 set -u
 
 top=$(cd "$(dirname "${BASH_SOURCE[0]}")/.." && pwd) || exit 1
@@ -9,11 +9,18 @@ top=$(cd "$(dirname "${BASH_SOURCE[0]}")/.." && pwd) || exit 1
 tests=$top/crates/partial_rounds/out/partial_rounds_tests
 is_fresh "$tests" || (cd "$top/crates/partial_rounds" && rt test) || exit 1
 
-for name in ten_million_updates a_thousand_rounds; do
+# again NAME TIMES WHAT: runs the test so often.
+again() {
+    local said k
     SECONDS=0
-    if ! said=$("$tests" "tests::long::$name" 2>&1); then
-        printf '%s\nfailed: %s\n' "$said" "$name"
-        exit 1
-    fi
-    echo "$name: $SECONDS s"
-done
+    for ((k = 0; k < $2; k++)); do
+        if ! said=$("$tests" "tests::long::$1" 2>&1); then
+            printf '%s\nfailed: %s\n' "$said" "$1"
+            exit 1
+        fi
+    done
+    echo "$3: $SECONDS s"
+}
+
+again a_million_updates 10 "ten million updates"
+again twenty_rounds 50 "a thousand rounds"
