@@ -251,22 +251,24 @@ program=${PIPELINE:-$top/crates/pipeline/out/pipeline}
 if [ -z "${PIPELINE:-}" ] && ! is_fresh "$program"; then
     (cd "$top/crates/pipeline" && rt run -- --items 0 --looks 0 >/dev/null)
 fi
-expect "" $'last 0 0 0 0\n' ""
+expect "" $'last 0 0 0 0 lag 0 0 0\n' ""
 case_of "pipeline: no items" 0 --items 0 --looks 0
-expect "" $'last 300\n' ""
+expect "" $'last 300 lag\n' ""
 case_of "pipeline: one stage" 0 --stages 1 --items 300 --looks 0
 expect "" "" $'pipeline: usage\n'
 for words in "--stages 0" "--stages 64" "--stages x" "--items -1" "--items" "--looks 65536" "--more 1" more --help; do
     case_of "pipeline: $words" 2 $words
 done
 
-# lines STAGES ITEMS: in the given lines no count is greater than the one before it, none falls, and the last
-# line has that count for each stage, or a lower one where it is no number.
+# lines STAGES ITEMS: in the given lines no count is greater than the one before it, none falls, each lag is the
+# difference of two neighbours, and the last line has that count for each stage, or a lower one where it is no
+# number.
 lines() {
     awk -v stages="$1" -v items="$2" '
-        NF != stages + 1 || ended || ($1 != "counts" && $1 != "last") { bad = 1 }
-        { for (k = 2; k <= NF; k++) { if ((k > 2 && $k > $(k - 1)) || $k < was[k]) bad = 1; was[k] = $k } }
-        $1 == "last" { ended = 1; if (items != "-") for (k = 2; k <= NF; k++) if ($k != items) bad = 1 }
+        NF != 2 * stages + 1 || ended || ($1 != "counts" && $1 != "last") || $(stages + 2) != "lag" { bad = 1 }
+        { for (k = 2; k <= stages + 1; k++) { if ((k > 2 && $k > $(k - 1)) || $k < was[k]) bad = 1; was[k] = $k } }
+        { for (k = 3; k <= stages + 1; k++) if ($(k + stages) != $(k - 1) - $k) bad = 1 }
+        $1 == "last" { ended = 1; if (items != "-") for (k = 2; k <= stages + 1; k++) if ($k != items) bad = 1 }
         END { exit bad || !ended }
     ' "$room/given-out"
 }

@@ -19,9 +19,6 @@ use Rattle.partial_cmd.specs.Reports.{IsReportFrom, IsReportOf, opening_of, repo
 pub reported_of : (o : Opening) (p : PlanView) (report : RunReport) → o ≡ opening_of p → IsReportFrom o p report → IsReportOf p report
 reported_of o p report is w = subst (λ (x : Opening). IsReportFrom x p report) is w
 
-pub opening_is : (o : Opening) (values : List ℕ) (first : ℕ) → o.values ≡ values → o.first ≡ first → o ≡ record { values = values; first = first }
-opening_is o values first a b = ap (λ (l : List ℕ). record { values = l; first = o.first }) a ∙ ap (λ n. record { values = values; first = n }) b
-
 -- a memory of the plan's sizes can be asked for its calls
 call_within : (m : ℕ) (c : Call) → IsCall m c → IsWithin m c
 call_within m (call.Update j v) w = tt

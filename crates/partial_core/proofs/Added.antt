@@ -1,6 +1,8 @@
 -- The entry that a step adds to the history: by the stage of the machine that makes it, and by the step and the words.
 use Rattle.std.proofs.Common.{ℕ, ◌≡◌, ◌<◌, ◌≤◌, ◌==◌, Bool, true, false, cond, Some, None, List, [], ◌∷◌, length, get_or, refl, sym, ap, subst, ◌∙◌, arith}
 use Rattle.std.specs.Prelude.{⊤, nat_lt, is_some, if◌then◌else◌}
+use Rattle.std.proofs.lemmas.Bool.{lt-ltb}
+use Rattle.partial_model.proofs.ListLemmas.{some_same}
 use Rattle.partial_model.specs.declared.history.Applied.{Applied}
 use Rattle.partial_words.specs.declared.step.Step.{Step}
 use Rattle.partial_words.specs.declared.step.Step.TheVariants.{Load, Store, Exchange, Add}
@@ -27,12 +29,6 @@ use Rattle.partial_core.proofs.MidCalls.{view_loads}
 abbrev pub added_at : ℕ → Stage → ℕ → List Applied
 added_at port (Exchanging c old at) x = if x == old then record { port = port; component = c.component; value = c.value; stamp = at } ∷ [] else []
 added_at port _ x = []
-
-some_same : {A : Type 0} {a b : A} → Some a ≡ Some b → a ≡ b
-some_same e = cc
-
-is_below : (a b : ℕ) → a < b → nat_lt a b ≡ true
-is_below a b h = search (arith, h)
 
 not_below : (a b : ℕ) → b ≤ a → nat_lt a b ≡ false
 not_below a b h = search (arith, h)
@@ -97,7 +93,7 @@ exchange_adds z port words c old at x =
     let found = get_or words c.component 0 in
     record {
       entries = ap (λ (b : Bool). cond b (cond (found == old) (record { port = port; component = c.component; value = value_of words at; stamp = at } ∷ []) []) [])
-          (is_below c.component z.m x.component)
+          (lt-ltb c.component z.m x.component)
           ∙ ap (λ v. cond (found == old) (record { port = port; component = c.component; value = v; stamp = at } ∷ []) []) x.value;
       within = λ _. x.within;
     }

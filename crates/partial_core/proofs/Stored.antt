@@ -36,7 +36,7 @@ use Rattle.partial_core.proofs.Steps.{LeadsAt, holding_in, sizes_here, sound_her
 use Rattle.partial_core.proofs.Joins.{keeps_then}
 use Rattle.partial_core.proofs.StoredFacts.{HasViewed, length_record, record_due}
 use Rattle.partial_model.proofs.NotesLemmas.{AllByRecursion-get}
-use Rattle.partial_model.proofs.StampsStay.{all_where}
+use Rattle.partial_model.proofs.AllLemmas.{all_where}
 
 -- the announcement of each port that had joined was AllByRecursion-get
 finds_all : (hs : List Holding) (low : ℕ) (indices : List ℕ) → sets.FindsJoined hs low indices → AllByRecursion (λ v. IfJoined v (λ l j. j.since < low → sets.HasAll indices j)) hs

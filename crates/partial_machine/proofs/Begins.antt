@@ -1,5 +1,5 @@
 -- How a call begins at a machine, and why one is refused at once.
-use Rattle.std.proofs.Common.{ℕ, zero, suc, ◌≡◌, ◌<◌, ◌≤◌, ◌==◌, Bool, true, false, cond, Option, Some, None, List, [], ◌∷◌, length, get_or, refl, sym, ap, subst, ◌∙◌, arith}
+use Rattle.std.proofs.Common.{ℕ, ◌≡◌, ◌<◌, ◌≤◌, ◌==◌, Bool, true, false, cond, Option, Some, None, List, [], ◌∷◌, length, refl, sym, ap, subst, ◌∙◌, arith}
 use Rattle.std.specs.Prelude.{nat_lt}
 use Rattle.std.specs.List.{AllByRecursion, list_all}
 use Rattle.std.proofs.lemmas.Bool.{false≢true, ltb-true, ltb-false, ne_eqb}
@@ -9,6 +9,7 @@ use Rattle.partial_model.specs.declared.call.Refused.{Refused}
 use Rattle.partial_model.specs.declared.call.Refused.TheVariants as refused
 use Rattle.partial_model.specs.Notes.{MayBeRefused}
 use Rattle.partial_model.proofs.Decisions.{Decides-list_all, Decides-nat_lt}
+use Rattle.partial_model.proofs.AllLemmas.{position_below}
 use Rattle.partial_machine.specs.declared.stage.Reply.TheVariants as reply
 use Rattle.partial_machine.specs.declared.stage.Stage.{Stage}
 use Rattle.partial_machine.specs.declared.stage.Stage.TheVariants.{ReadBegun, UpdateBegun, ScanBegun, Finished}
@@ -26,11 +27,6 @@ all_below m js e = (Decides-list_all (λ i. nat_lt i m) (λ j. j < m) (λ i. Dec
 
 not_below : (m : ℕ) (js : List ℕ) → list_all (λ i. nat_lt i m) js ≡ false → ¬ AllByRecursion (λ j. j < m) js
 not_below m js e all = false≢true (sym e ∙ (Decides-list_all (λ i. nat_lt i m) (λ j. j < m) (λ i. Decides-nat_lt i m) js).1 all)
-
-position_below : (xs : List ℕ) (n k : ℕ) → AllByRecursion (λ j. j < n) xs → k < length xs → get_or xs k 0 < n
-position_below [] n k all within = absurd (omega arith)
-position_below (x ∷ xs) n zero all within = all.0
-position_below (x ∷ xs) n (suc k) all within = position_below xs n k all.1 (omega (arith, within))
 
 some_position : (js : List ℕ) → (length js == 0) ≡ false → 0 < length js
 some_position [] e = absurd (false≢true (sym e))

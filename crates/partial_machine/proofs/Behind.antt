@@ -6,6 +6,7 @@ use Rattle.std.proofs.lemmas.Bool.{false≢true, cond_both, ltb-true, ltb-false}
 use Rattle.partial_model.specs.declared.call.Refused.{Refused}
 use Rattle.partial_model.specs.declared.call.Refused.TheVariants as refused
 use Rattle.partial_intervals.specs.Intervals.{highest}
+use Rattle.partial_words.specs.declared.step.Step.{Step}
 use Rattle.partial_words.specs.declared.step.Step.TheVariants.{Store, Add}
 use Rattle.partial_words.specs.Layout.{Layout, IsLayout, slot_counter, slot_word, pool_counter, list_counter, list_end, pool_end}
 use Rattle.partial_words.specs.Announcement.{announcement_size}
@@ -29,7 +30,7 @@ use Rattle.partial_machine.specs.Machine.{CoreState, at_stage, getting, scanning
 use Rattle.partial_machine.specs.Calls.{is_begun, is_at_rest}
 use Rattle.partial_machine.specs.Sound.{IsSound, is_sound_at}
 use Rattle.partial_machine.specs.Possible.{IsPossibleAt}
-use Rattle.partial_machine.specs.Behind.{ClaimsPastLists, IsRefusedBy, IsMarkedFor, refuses_pool, refuses_slots, AnswersLeadOn}
+use Rattle.partial_machine.specs.Behind.{ClaimsPastLists, IsRefusedBy, IsMarkedFor, refuses_pool, refuses_slots, AnswersLeadOn, DueIsUnreplied}
 use Rattle.partial_machine.proofs.Sound.{kept, size_few}
 
 -- a call that has made a step
@@ -342,3 +343,10 @@ answers_lead_on s x layout w possible =
       lists = l.0;
       lists_by = l.1;
     }
+
+unreplied_at : (s : CoreState) (t : Stage) (step : Step) → step_at s t ≡ Some step → reply_at t ≡ None
+unreplied_at s (Finished r) step e = let bad : None ≡ Some step = e in cc
+unreplied_at s _ step e = refl
+
+pub due_is_unreplied : DueIsUnreplied
+due_is_unreplied s step e = unreplied_at s s.stage step e

@@ -1,5 +1,5 @@
 -- The public laws, for proofs of crates above: each is the contract of a function of src/law.rt, and nothing else is here.
-pub use Rattle.partial_machine.proofs.Behind.{answers_lead_on}
+pub use Rattle.partial_machine.proofs.Behind.{answers_lead_on, due_is_unreplied}
 pub use Rattle.partial_machine.proofs.Begins.{calls_begin, rests_are_sound, calls_are_refused_at_once}
 pub use Rattle.partial_machine.proofs.DueWords.{due_words_are_there}
 pub use Rattle.partial_machine.proofs.StepCounts.{stays_sound, makes_few_steps, reads_in_two}

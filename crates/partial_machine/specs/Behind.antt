@@ -87,6 +87,10 @@ AnswersLeadOn = (s : CoreState) (x : ℕ) → IsLayout s.sizes → IsSound s →
 abbrev pub DueWordsAreThere : Type 0
 DueWordsAreThere = (s : CoreState) (step : Step) → IsLayout s.sizes → IsSound s → step_of s ≡ Some step → word_of step < total s.sizes
 
+-- a machine with a due step has no reply
+abbrev pub DueIsUnreplied : Type 0
+DueIsUnreplied = (s : CoreState) (step : Step) → step_of s ≡ Some step → reply_of s ≡ None
+
 -- A call that isn't refused at once: the machine has begun it, and makes its steps; or it has none to make. But for the
 -- call the machine is as it was.
 pub record IsBegunWith (s : CoreState) (c : Call) : Type 0 where

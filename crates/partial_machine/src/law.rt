@@ -1,7 +1,7 @@
 //! Laws about whole calls. The functions have no code: their contracts hold of the definitions by
 //! which the machine's own contracts are stated.
 
-ghost use Rattle.partial_machine.specs.Behind.{AnswersLeadOn, DueWordsAreThere, CallsBegin, RestsAreSound, CallsAreRefusedAtOnce};
+ghost use Rattle.partial_machine.specs.Behind.{AnswersLeadOn, DueIsUnreplied, DueWordsAreThere, CallsBegin, RestsAreSound, CallsAreRefusedAtOnce};
 ghost use Rattle.partial_machine.specs.Claims.{CallsClaimOnce};
 ghost use Rattle.partial_machine.specs.Steps.{StaysSound, MakesFewSteps, ReadsInTwo, ScansMakeTheirSteps};
 
@@ -50,6 +50,11 @@ pub fn calls_are_refused_at_once()
 /// The word of the step that is due is one of the words, whatever was answered.
 pub fn due_words_are_there()
     ensures { DueWordsAreThere }
+{}
+
+/// A machine with a due step has no reply.
+pub fn due_is_unreplied()
+    ensures { DueIsUnreplied }
 {}
 
 /// A machine that has made no call is sound, and so is one whose reply was taken.

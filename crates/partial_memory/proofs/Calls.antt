@@ -8,22 +8,17 @@ use Rattle.partial_words.specs.Layout.{Layout, IsLayout, total}
 use Rattle.partial_words.specs.Step.{word_of}
 use Rattle.partial_machine.specs.declared.stage.Reply.{Reply}
 use Rattle.partial_machine.specs.declared.stage.Stage.{Stage}
-use Rattle.partial_machine.specs.declared.stage.Stage.TheVariants.{ReadBegun, UpdateBegun, ScanBegun, Finished}
-use Rattle.partial_machine.specs.Machine.{CoreState, advance, step_of, step_at, reply_of, reply_at}
+use Rattle.partial_machine.specs.declared.stage.Stage.TheVariants.{ReadBegun, UpdateBegun, ScanBegun}
+use Rattle.partial_machine.specs.Machine.{CoreState, advance, step_of, step_at, reply_of}
 use Rattle.partial_machine.specs.Calls.{is_begun}
 use Rattle.partial_machine.specs.Behind.{refuses_pool, refuses_slots}
-use Rattle.partial_machine.proofs.Laws.{due_words_are_there}
+use Rattle.partial_machine.proofs.Laws.{due_is_unreplied, due_words_are_there}
 use Rattle.partial_core.specs.Part.{Part, Kept, HasBegun, IsMachineOf}
 use Rattle.partial_core.specs.Steps.{Tells}
 use Rattle.partial_core.proofs.Laws.{first_steps_make_calls, further_steps_make_calls}
 use Rattle.partial_memory.specs.declared.rule.About.{About}
 use Rattle.partial_memory.specs.Rule.{Seated, AreByOpened, Told}
 use Rattle.partial_memory.specs.Inner.Steps.{Begins, CallMade}
-
--- a machine with a due step has no reply
-due_none : (s : CoreState) (t : Stage) (step : Step) → step_at s t ≡ Some step → reply_at t ≡ None
-due_none s (Finished r) step e = absurd cc
-due_none s _ step e = refl
 
 -- one that has begun a call has a due step
 begun_due : (s : CoreState) (t : Stage) → is_begun t ≡ true → step_at s t ≡ None → ⊥
@@ -86,7 +81,7 @@ pub runs_on : (b : CoreState) (x : Seated) (c : CoreState) (y : Seated) (a : ℕ
 runs_on b x c y a z s begins (inl w) due t =
     let told : Told b x a z = subst (λ (d : CoreState). Told d x a z) w.0 (subst (λ (v : Seated). Told c v a z) w.1 t) in
     subst (λ (d : CoreState). CallMade b x (advance d a) z) (sym w.0) (first_made b x a z begins told)
-runs_on b x c y a z s begins (inr m) due t = next_made b x c y a z m (due_none c c.stage s due) t
+runs_on b x c y a z s begins (inr m) due t = next_made b x c y a z m (due_is_unreplied c s due) t
 
 -- the machine of a call in the middle is its port's
 pub runs_machine : (b : CoreState) (x : Seated) (c : CoreState) (y : Seated) → Begins b x → Runs b x c y → IsMachineOf c y.part

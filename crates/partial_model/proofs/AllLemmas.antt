@@ -1,5 +1,5 @@
 -- What holds of all elements of a list.
-use Rattle.std.proofs.Common.{◌++◌, List, [], ◌∷◌, map}
+use Rattle.std.proofs.Common.{ℕ, zero, suc, ◌≡◌, ◌<◌, ◌++◌, List, [], ◌∷◌, Some, slice_get, length, map, take, get_or, refl, arith}
 use Rattle.std.specs.List.{AllByRecursion}
 
 -- one element in the middle
@@ -45,3 +45,20 @@ all_map P g (x ∷ xs) w = (w.0, all_map P g xs w.1)
 pub all_unmap : {A B : Type 0} (P : B → Type 0) (g : A → B) (xs : List A) → AllByRecursion P (map g xs) → AllByRecursion (λ x. P (g x)) xs
 all_unmap P g [] w = tt
 all_unmap P g (x ∷ xs) w = (w.0, all_unmap P g xs w.1)
+
+-- what holds of the element at each place holds of all
+pub all_where : {A : Type 0} (P : A → Type 0) (h : List A) → ((k : ℕ) (e : A) → slice_get h k ≡ Some e → P e) → AllByRecursion P h
+all_where P [] f = tt
+all_where P (x ∷ h) f = (f 0 x refl, all_where P h (λ k e s. f (suc k) e s))
+
+-- what holds of all numbers holds of each
+pub position_below : (xs : List ℕ) (n k : ℕ) → AllByRecursion (λ j. j < n) xs → k < length xs → get_or xs k 0 < n
+position_below [] n k all within = absurd (omega arith)
+position_below (x ∷ xs) n zero all within = all.0
+position_below (x ∷ xs) n (suc k) all within = position_below xs n k all.1 (omega (arith, within))
+
+-- the first of a list's elements, and those behind them
+pub all_take : {A : Type 0} (P : A → Type 0) (n : ℕ) (xs : List A) → AllByRecursion P xs → AllByRecursion P (take n xs)
+all_take P zero xs all = tt
+all_take P (suc n) [] all = tt
+all_take P (suc n) (x ∷ xs) all = (all.0, all_take P n xs all.1)

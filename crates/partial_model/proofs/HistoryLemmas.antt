@@ -144,3 +144,7 @@ stamp_all_from P first j found (x ∷ h) all w = stamp_all_from P first j (cond 
 
 pub stamp_all : (P : ℕ → Type 0) (o : Opening) (j : ℕ) (h : List Applied) → AllByRecursion (λ (e : Applied). P e.stamp) h → P (initial_stamp o j) → P (stamp_of o h j)
 stamp_all P o j h all first = stamp_all_from P (initial_stamp o j) j None h all first
+
+-- an opening is its values and its first stamp
+pub opening_is : (o : Opening) (values : List ℕ) (first : ℕ) → o.values ≡ values → o.first ≡ first → o ≡ record { values = values; first = first }
+opening_is o values first a b = ap (λ (l : List ℕ). record { values = l; first = o.first }) a ∙ ap (λ n. record { values = values; first = n }) b

@@ -1,4 +1,5 @@
 pub mod AllLemmas
+pub mod ListLemmas
 pub mod CheckLaws
 pub mod Decisions
 pub mod HistoryLemmas

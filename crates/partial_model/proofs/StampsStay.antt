@@ -7,6 +7,7 @@ use Rattle.partial_model.specs.declared.history.Applied.{Applied}
 use Rattle.partial_model.specs.declared.history.Opening.{Opening}
 use Rattle.partial_model.specs.History.{IsHistory, HaveDistinctStamps, last_entry, initial_stamp, value_of, stamp_of}
 use Rattle.partial_model.specs.Stamps.{HasThen, StampsNeverReturn, Twice, EqualCollectsStandTogether}
+use Rattle.partial_model.proofs.AllLemmas.{all_where}
 use Rattle.partial_model.proofs.HistoryLemmas.{last_at, stamp_all}
 use Rattle.partial_model.proofs.NotesLemmas.{AllByRecursion-get}
 
@@ -23,10 +24,6 @@ in_whole zero h k e s = let bad : None ≡ Some e = s in cc
 in_whole (suc n) [] k e s = let bad : None ≡ Some e = s in cc
 in_whole (suc n) (x ∷ h) zero e s = (omega arith, s)
 in_whole (suc n) (x ∷ h) (suc k) e s = let w = in_whole n h k e s in let below = w.0 in (omega (arith, below), w.1)
-
-pub all_where : {A : Type 0} (P : A → Type 0) (h : List A) → ((k : ℕ) (e : A) → slice_get h k ≡ Some e → P e) → AllByRecursion P h
-all_where P [] f = tt
-all_where P (x ∷ h) f = (f 0 x refl, all_where P h (λ k e s. f (suc k) e s))
 
 -- entries at two places have two stamps
 pub distinct_at : (h : List Applied) (k q : ℕ) (e f : Applied) → HaveDistinctStamps h → slice_get h k ≡ Some e → slice_get h q ≡ Some f → k < q → e.stamp ≢ f.stamp

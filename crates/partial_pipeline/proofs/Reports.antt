@@ -20,6 +20,7 @@ use Rattle.partial_model.specs.Outcome.{EachOnce, places_written, wrote}
 use Rattle.partial_model.proofs.Entries.{noted_at}
 use Rattle.partial_model.proofs.NotesLemmas.{AllByRecursion-get, LegalNotes-last}
 use Rattle.partial_model.proofs.Values.{element_at}
+use Rattle.partial_model.proofs.AllLemmas.{all_where}
 use Rattle.partial_memory.specs.Closing.{Closes, IsPortOf}
 use Rattle.partial_memory.specs.Noting.{NotesMore}
 use Rattle.partial_memory.specs.Ports.{IsOf, MemoryView, PortView}
@@ -125,10 +126,6 @@ watched_none o h p n seen stages (x ∷ ns) (s ∷ ss) all w legal =
 
 -- ---- the report
 
-all_from_get : {A : Type 0} (P : A → Type 0) (xs : List A) → ((i : ℕ) (x : A) → slice_get xs i ≡ Some x → P x) → AllByRecursion P xs
-all_from_get P [] f = tt
-all_from_get P (x ∷ xs) f = (f 0 x refl, all_from_get P xs (λ i y s. f (suc i) y s))
-
 same_counts : (o : Opening) (h : List Applied) (n at : ℕ) (s t : List ℕ) → AreCounts o h n at s → AreCounts o h n at t → s ≡ t
 same_counts o h n at s t x y =
     ext_get_or 0 s t (x.many ∙ sym y.many) (λ i below.
@@ -225,7 +222,7 @@ module _ (m : MemoryView) (p q : PortView) (ports : List PortView) (stages : Lis
       record {
         zero = opens.zero;
         each = stages_in m log (length p.seen) 0 ports met closes.each.1;
-        below = subst (λ n. AllByRecursion (λ (e : Applied). e.port < n) log) (sym many) (all_from_get (λ (e : Applied). e.port < m.about.sizes.m) log by_stage);
+        below = subst (λ n. AllByRecursion (λ (e : Applied). e.port < n) log) (sym many) (all_where (λ (e : Applied). e.port < m.about.sizes.m) log by_stage);
       }
 
   -- once all stages have ended, no entry comes behind what the monitor had seen

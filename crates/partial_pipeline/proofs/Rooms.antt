@@ -1,6 +1,5 @@
 -- Room for the monitor's scans, and the numbers of the stages.
-use Rattle.std.proofs.Common.{ℕ, zero, suc, ◌≡◌, ◌+◌, ◌<◌, ◌++◌, List, [], ◌∷◌, length, take, drop, slice_index, refl, sym, ◌∙◌, ap, inl, inr, arith}
-use Rattle.std.proofs.Math.Seq.{take-append_seam}
+use Rattle.std.proofs.Common.{ℕ, zero, suc, ◌≡◌, ◌+◌, ◌<◌, ◌++◌, List, [], ◌∷◌, length, slice_index, refl, sym, ap, inl, inr, arith}
 use Rattle.std.proofs.lemmas.List.{length_push}
 use Rattle.std.proofs.lemmas.Bool.{cases_lt}
 use Rattle.partial_pipeline.specs.Stages.{IsEachStage}
@@ -27,7 +26,3 @@ numbers_more n all w =
             ap (slice_index (all ++ n ∷ [])) at ∙ index_last all n ∙ sym is
       ];
     }
-
--- what is taken of a list that was written whole into another of the same length is the list
-pub written_whole : (n : ℕ) (xs ys : List ℕ) → length xs ≡ length ys → n ≡ length ys → take n (xs ++ drop (length xs) ys) ≡ xs
-written_whole n xs ys same is = ap (λ k. take k (xs ++ drop (length xs) ys)) (is ∙ sym same) ∙ take-append_seam xs (drop (length xs) ys)

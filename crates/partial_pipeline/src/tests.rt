@@ -1,5 +1,6 @@
 //! Pipelines on threads, judged from outside.
 
+mod examples;
 mod growths;
 mod pipelines;
 

@@ -13,6 +13,7 @@ use Rattle.partial_model.specs.declared.history.Opening.{Opening}
 use Rattle.partial_model.specs.History.{last_entry, initial_stamp, stamp_of}
 use Rattle.partial_model.proofs.HistoryLemmas.{last_entry-passed, stamp_all}
 use Rattle.partial_model.proofs.NotesLemmas.{AllByRecursion-get}
+use Rattle.partial_model.proofs.AllLemmas.{position_below}
 use Rattle.partial_words.specs.Chain.{Agrees}
 use Rattle.partial_words.specs.Record.{prev_of, value_of}
 use Rattle.partial_words.proofs.ChainLemmas.{value_behind_stamp, prev_before_entry}
@@ -313,12 +314,6 @@ take_front n xs ys is = ap (λ k. take k (xs ++ ys)) (sym is) ∙ front xs ys
     front : {A : Type 0} (xs ys : List A) → take (length xs) (xs ++ ys) ≡ xs
     front [] ys = refl
     front (x ∷ xs) ys = ap (λ l. x ∷ l) (front xs ys)
-
--- what holds of all positions holds of each
-pub position_below : (xs : List ℕ) (n k : ℕ) → AllByRecursion (λ j. j < n) xs → k < length xs → get_or xs k 0 < n
-position_below [] n k all within = absurd (omega arith)
-position_below (x ∷ xs) n zero all within = all.0
-position_below (x ∷ xs) n (suc k) all within = position_below xs n k all.1 (omega (arith, within))
 
 -- what is wanted are components
 pub wanted_below : (o : Opening) (wanted : List (Option ℕ)) (components values : List ℕ) → AllByRecursion (λ j. j < length o.values) components → AreWanted wanted components values

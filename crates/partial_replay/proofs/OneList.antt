@@ -23,7 +23,8 @@ use Rattle.partial_replay.specs.CallSteps.{Makes, HasSteps, IsFinishedAtOnce, Is
 use Rattle.partial_replay.specs.Listed.{calls_by, AreFirstOf, EndInStep}
 use Rattle.partial_replay.specs.Turns.{BeginInTurns}
 use Rattle.partial_replay.proofs.PortLaws.{same_eqb}
-use Rattle.partial_replay.proofs.PortRuns.{unreplied, AreFinishedBut, none_map}
+use Rattle.partial_machine.proofs.Laws.{due_is_unreplied}
+use Rattle.partial_replay.proofs.PortRuns.{AreFinishedBut, none_map}
 use Rattle.partial_replay.proofs.OneNote.{IsRightNote, AreRight, notes_same}
 
 -- ---- the calls of one port, numbered
@@ -92,11 +93,11 @@ makes_same : (s t v : CoreState) (xs ys behind behind' : List Moment) → Makes 
     (reply_of v ≡ None → behind' ≡ []) → (xs ≡ ys) × (behind ≡ behind') × (t ≡ v)
 makes_same s t v [] [] behind behind' m k all last last' = (refl, all, m ∙ sym k)
 makes_same s t v [] (y ∷ ys) behind behind' m k all last last' =
-    let empty : behind ≡ [] = last (ap reply_of m ∙ unreplied s y.event.step k.0) in
+    let empty : behind ≡ [] = last (ap reply_of m ∙ due_is_unreplied s y.event.step k.0) in
     let bad : [] ≡ y ∷ (ys ++ behind') = sym empty ∙ all in
     cc
 makes_same s t v (x ∷ xs) [] behind behind' m k all last last' =
-    let empty : behind' ≡ [] = last' (ap reply_of k ∙ unreplied s x.event.step m.0) in
+    let empty : behind' ≡ [] = last' (ap reply_of k ∙ due_is_unreplied s x.event.step m.0) in
     let bad : x ∷ (xs ++ behind) ≡ [] = all ∙ empty in
     cc
 makes_same s t v (x ∷ xs) (y ∷ ys) behind behind' m k all last last' =
@@ -173,11 +174,11 @@ module _ (s : CoreState) (c d : Called) (u v : CoreState) (behind behind' : List
   ]
   call_same [] (y ∷ ys) a b all last last' = elim a [
     | inl r ↦ let bad : Some r.cause ≡ None = sym r.refused ∙ ap (refusal_of s) same ∙ b.begins in cc
-    | inr f ↦ let bad : Some f.reply ≡ None = sym f.replied ∙ ap (λ (e : Call). reply_of (begun_of s e)) same ∙ unreplied (begun_of s d.call) y.event.step b.makes.0 in cc
+    | inr f ↦ let bad : Some f.reply ≡ None = sym f.replied ∙ ap (λ (e : Call). reply_of (begun_of s e)) same ∙ due_is_unreplied (begun_of s d.call) y.event.step b.makes.0 in cc
   ]
   call_same (x ∷ xs) [] a b all last last' = elim b [
     | inl q ↦ let bad : None ≡ Some q.cause = sym a.begins ∙ ap (refusal_of s) same ∙ q.refused in cc
-    | inr g ↦ let bad : None ≡ Some g.reply = sym (unreplied (begun_of s c.call) x.event.step a.makes.0) ∙ ap (λ (e : Call). reply_of (begun_of s e)) same ∙ g.replied in cc
+    | inr g ↦ let bad : None ≡ Some g.reply = sym (due_is_unreplied (begun_of s c.call) x.event.step a.makes.0) ∙ ap (λ (e : Call). reply_of (begun_of s e)) same ∙ g.replied in cc
   ]
   call_same (x ∷ xs) (y ∷ ys) a b all last last' = steps_same x y xs ys a b all last last'
 

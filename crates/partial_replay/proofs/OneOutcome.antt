@@ -9,6 +9,7 @@ use Rattle.partial_model.specs.declared.history.Opening.{Opening}
 use Rattle.partial_model.specs.declared.call.Call.{Call}
 use Rattle.partial_model.specs.declared.call.Called.{Called}
 use Rattle.partial_model.specs.Outcome.{IsInTime, RealTime}
+use Rattle.partial_model.proofs.HistoryLemmas.{opening_is}
 use Rattle.partial_text.specs.PlanText.{PlanView}
 use Rattle.partial_text.specs.declared.outcome.Outcome.{Outcome}
 use Rattle.partial_words.specs.declared.step.Event.{Event}
@@ -164,9 +165,6 @@ alike_of false turns steps plan cs ds a b = elim (cases_lt steps turns) [
   | inl less ↦ inl ((a.2 less).0, (b.2 less).0)
   | inr from ↦ let within = a.0 in let all : steps ≡ turns = omega (arith, from, within) in inr (a.1 all, b.1 all)
 ]
-
-opening_is : (o : Opening) (values : List ℕ) (first : ℕ) → o.values ≡ values → o.first ≡ first → o ≡ record { values = values; first = first }
-opening_is o values first v f = ap (λ (l : List ℕ). record { values = l; first = o.first }) v ∙ ap (λ k. record { values = values; first = k }) f
 
 pub plans_have_one_outcome : PlansHaveOneOutcome
 plans_have_one_outcome p a b w v =

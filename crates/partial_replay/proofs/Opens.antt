@@ -236,6 +236,3 @@ over_none port (Some c) = refl
 
 pub none_over : (port : Port) (call : Option Call) → port.under_way ≡ None → [] ≡ left_over port call port.under_way
 none_over port call none = sym (over_none port call) ∙ ap (left_over port call) (sym none)
-
-pub some_same : {A : Type 0} {a b : A} → Some a ≡ Some b → a ≡ b
-some_same h = cc

@@ -10,10 +10,10 @@ use Rattle.partial_model.specs.declared.call.Refused.{Refused}
 use Rattle.partial_words.specs.declared.step.Step.{Step}
 use Rattle.partial_words.specs.declared.step.Event.{Event}
 use Rattle.partial_machine.specs.declared.stage.Reply.{Reply}
-use Rattle.partial_machine.specs.declared.stage.Stage.{Stage}
-use Rattle.partial_machine.specs.declared.stage.Stage.TheVariants.{Idle, Finished}
-use Rattle.partial_machine.specs.Machine.{CoreState, at_stage, advance, step_at, step_of, reply_at, reply_of}
+use Rattle.partial_machine.specs.declared.stage.Stage.TheVariants.{Idle}
+use Rattle.partial_machine.specs.Machine.{CoreState, at_stage, advance, step_at, step_of, reply_of}
 use Rattle.partial_machine.specs.Calls.{answer_for, begun_of, refusal_of}
+use Rattle.partial_machine.proofs.Laws.{due_is_unreplied}
 use Rattle.partial_replay.specs.Trace.{Moment}
 use Rattle.partial_replay.specs.CallSteps.{Makes, HasSteps, IsCallOf, AreStepsOf}
 use Rattle.partial_replay.specs.Listed.{AreFirstOf, AreAllMade}
@@ -47,14 +47,6 @@ abbrev pub PortRun : PortAt → List Event → PortAt → Type 0
 PortRun p [] t = t ≡ p
 PortRun p (e ∷ es) t = (step_of p.core ≡ Some e.step) × PortRun (port_behind e.answer p) es t
 
--- a machine with a due step has no reply
-pub unreplied_at : (s : CoreState) (t : Stage) (step : Step) → step_at s t ≡ Some step → reply_at t ≡ None
-unreplied_at s (Finished r) step e = let bad : None ≡ Some step = e in cc
-unreplied_at s _ step e = refl
-
-pub unreplied : (s : CoreState) (step : Step) → step_of s ≡ Some step → reply_of s ≡ None
-unreplied s step e = unreplied_at s s.stage step e
-
 -- an idle machine has no step due
 pub idle_none : (s : CoreState) → s.stage ≡ Idle → step_of s ≡ None
 idle_none s idle = ap (step_at s) idle
@@ -83,7 +75,7 @@ makes_run : (s last : CoreState) (x : Moment) (xs : List Moment) (cs : List Call
 makes_run s last x [] cs behind t m run = (m.0, subst (λ (v : CoreState). PortRun (goes_at v cs) behind t) m.2 run)
 makes_run s last x (y ∷ ys) cs behind t m run =
     let next = advance s x.event.answer in
-    let here : goes_at next cs ≡ record { core = next; calls = cs } = goes_on next cs (unreplied next y.event.step m.2.0) in
+    let here : goes_at next cs ≡ record { core = next; calls = cs } = goes_on next cs (due_is_unreplied next y.event.step m.2.0) in
     (m.0, subst (λ (p : PortAt). PortRun p (map (λ (n : Moment). n.event) (y ∷ ys) ++ behind) t) (sym here) (makes_run next last y ys cs behind t m.2 run))
 
 -- only the last of the calls may be unfinished
@@ -131,7 +123,7 @@ module _ (s u last : CoreState) (p : Call) (plan : List Call) (c : Called) (cs :
       RunOf u plan cs (map (λ (m : Moment). m.event) behind) → RunOf s (p ∷ plan) (c ∷ cs) (map (λ (m : Moment). m.event) ((x ∷ xs) ++ behind))
   run_steps x xs h ends found is ih =
       let begun : begun_of s c.call ≡ begun_of s p = ap (begun_of s) same in
-      let none : reply_of (begun_of s p) ≡ None = ap reply_of (sym begun) ∙ unreplied (begun_of s c.call) x.event.step h.makes.0 in
+      let none : reply_of (begun_of s p) ≡ None = ap reply_of (sym begun) ∙ due_is_unreplied (begun_of s c.call) x.event.step h.makes.0 in
       let start : next_at s (p ∷ plan) ≡ record { core = begun_of s p; calls = plan } = next_chosen s p plan None (ap (refusal_of s) (sym same) ∙ h.begins) none in
       let makes : Makes (begun_of s p) (x ∷ xs) h.last = subst (λ (v : CoreState). Makes v (x ∷ xs) h.last) begun h.makes in
       let whole : (es : List Event) (t : PortAt) → PortRun (goes_at h.last plan) es t → PortRun (next_at s (p ∷ plan)) (map (λ (m : Moment). m.event) (x ∷ xs) ++ es) t = λ es t run.

@@ -151,9 +151,6 @@ pub under_way : (o : Opening) (log : List Applied) (calls : List Call) (p : ℕ)
     IsUnderWay (length log) calls x port.core port.finished.items way
 under_way o log calls p x port way w is = subst (λ (f : Option UnderWay). MatchOption f (IsBetween x port.core) (IsUnderWay (length log) calls x port.core port.finished.items)) is w.way
 
-is_below : (a b : ℕ) → a < b → nat_lt a b ≡ true
-is_below a b h = search (arith, h)
-
 -- what a step adds to the history, as it is told by the words behind it, and that the record of an exchange lies within the words
 pub record StepAdds (z : Layout) (m : ℕ) (words : List ℕ) (step : Step) (port : ℕ) : Type 0 where
   pub entry : entry_at m (words_after words step) port step (answer_of words step) ≡ added_by z port words step

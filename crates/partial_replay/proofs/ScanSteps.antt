@@ -9,6 +9,7 @@ use Rattle.partial_model.specs.declared.call.Call.TheVariants as call
 use Rattle.partial_model.specs.declared.call.Answer.TheVariants as answer
 use Rattle.partial_model.specs.declared.call.Called.{Called}
 use Rattle.partial_model.specs.declared.call.Finish.{Finish}
+use Rattle.partial_model.proofs.AllLemmas.{all_take}
 use Rattle.partial_words.specs.Layout.{Layout, IsLayout}
 use Rattle.partial_machine.specs.declared.stage.Reply.{Reply}
 use Rattle.partial_machine.specs.declared.stage.Reply.TheVariants as reply
@@ -17,7 +18,7 @@ use Rattle.partial_machine.specs.Machine.{CoreState, at_stage, advance, reply_of
 use Rattle.partial_machine.specs.Sound.{IsSound}
 use Rattle.partial_machine.specs.Calls.{begin_scan, answer_for, begun_of, IsServed}
 use Rattle.partial_machine.specs.Steps.{Run, AreOfScan, pairs_loaded}
-use Rattle.partial_machine.proofs.Laws.{answers_lead_on, rests_are_sound, stays_sound, scans_make_their_steps}
+use Rattle.partial_machine.proofs.Laws.{answers_lead_on, due_is_unreplied, rests_are_sound, stays_sound, scans_make_their_steps}
 use Rattle.partial_text.specs.PlanText.{PlanView, IsPlan, IsCall}
 use Rattle.partial_replay.specs.Trace.{Moment, moments_by}
 use Rattle.partial_replay.specs.CallSteps.{Makes, IsCallOf, HasSteps, AreStepsOf}
@@ -26,7 +27,6 @@ use Rattle.partial_replay.specs.ScanSteps.{answers_of, events_in_front, own_even
 use Rattle.partial_replay.proofs.PortLaws.{Begins, begins, begun_sizes, once_empty}
 use Rattle.partial_replay.proofs.StepsOf.{IsCut, steps_cut}
 use Rattle.partial_replay.proofs.Plans.{served}
-use Rattle.partial_replay.proofs.PortRuns.{unreplied_at}
 
 -- the events are answers that lead the machine on
 run_of : (s t : CoreState) (xs : List Moment) → Makes s xs t → Run s (answers_of xs) t
@@ -51,7 +51,7 @@ record CallRun (z : Layout) (s : CoreState) (c : Called) (own : List Moment) (la
 call_run : (z : Layout) (s t : CoreState) (c : Called) (x : Moment) (xs : List Moment) → IsLayout z → s.sizes ≡ z → IsSound s → IsServed z.m c.call → (h : HasSteps s c x xs t) →
     CallRun z s c (x ∷ xs) h.last
 call_run z s t c x xs layout sizes w served h =
-    let unreplied : reply_of (begun_of s c.call) ≡ None = unreplied_at (begun_of s c.call) (begun_of s c.call).stage x.event.step h.makes.0 in
+    let unreplied : reply_of (begun_of s c.call) ≡ None = due_is_unreplied (begun_of s c.call) x.event.step h.makes.0 in
     let b = begins s c.call w.asked (subst (λ (y : Layout). IsServed y.m c.call) (sym sizes) served) h.begins unreplied in
     let sound = b.sound w in
     let same : (begun_of s c.call).sizes ≡ z = begun_sizes s c.call ∙ sizes in
@@ -151,12 +151,6 @@ served_front : (m : ℕ) (front : List Called) (c : Called) (behind : List Calle
     AllByRecursion (IsServed m) (map (λ (d : Called). d.call) front) × IsServed m c.call
 served_front m [] c behind w = (tt, w.0)
 served_front m (d ∷ front) c behind w = let rest = served_front m front c behind w.1 in ((w.0, rest.0), rest.1)
-
--- the first of a list's elements
-all_take : {A : Type 0} (P : A → Type 0) (n : ℕ) (xs : List A) → AllByRecursion P xs → AllByRecursion P (take n xs)
-all_take P zero xs all = tt
-all_take P (suc n) [] all = tt
-all_take P (suc n) (x ∷ xs) all = (all.0, all_take P n xs all.1)
 
 -- the calls of a port of a plan are ones that its machine serves
 plan_served : (p : PlanView) (q : ℕ) → IsPlan p → AllByRecursion (IsServed p.sizes.m) (get_or p.ports q [])

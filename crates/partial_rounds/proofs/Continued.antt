@@ -1,6 +1,6 @@
 -- What the components hold behind all rounds.
-use Rattle.std.proofs.Common.{ℕ, ◌≡◌, ◌-◌, ◌<◌, ◌≤◌, ◌++◌, false, List, [], ◌∷◌, length, replicate, Result, Ok, Err, refl, sym, ap, subst, ◌∙◌, arith}
-use Rattle.std.specs.Prelude.{IfOk, slice_index}
+use Rattle.std.proofs.Common.{ℕ, ◌≡◌, ◌≢◌, ◌-◌, ◌<◌, ◌≤◌, ◌++◌, true, false, List, [], ◌∷◌, length, replicate, Result, Ok, Err, refl, sym, ap, subst, ◌∙◌, arith}
+use Rattle.std.specs.Prelude.{IfOk, IfErr, slice_index}
 use Rattle.std.proofs.lemmas.List.{append-nil}
 use Rattle.partial_model.specs.declared.history.Applied.{Applied}
 use Rattle.partial_model.specs.declared.history.Opening.{Opening}
@@ -10,6 +10,7 @@ use Rattle.partial_words.specs.Layout.{Layout}
 use Rattle.partial_memory.specs.Reopening.{Continues, extended, with_zeros}
 use Rattle.partial_memory.proofs.Laws.{closed_memories_continue}
 use Rattle.partial_rounds.specs.declared.error.RoundsError.{RoundsError}
+use Rattle.partial_rounds.specs.declared.error.RoundsError.TheVariants.{Ports}
 use Rattle.partial_rounds.specs.declared.rounds.RoundsReport.{RoundsReport}
 use Rattle.partial_rounds.specs.Rounds.{Answered, AreRounds, IsReport, IsRound, Standing, are_left, opening_of, whole_log}
 use Rattle.partial_rounds.proofs.Passing.{SoFar}
@@ -45,8 +46,8 @@ rounds_go_on z s t (r ∷ rs) j each within =
 
 -- the report of rounds
 pub reported : (z : Layout) (before : List ℕ) (calls left : List (List Call)) (report : RoundsReport) (now : List ℕ) → SoFar z before calls report.rounds.items left now →
-    IfOk report.ended (λ x. are_left left ≡ false) → IsReport z before calls report now
-reported z before calls left report now had ended =
+    IfOk report.ended (λ x. are_left left ≡ false) → IfErr report.ended (λ e. (are_left left ≡ true) × (e ≢ Ports)) → IsReport z before calls report now
+reported z before calls left report now had ended stopped =
     record {
       rounds = had.list;
       left = left;
@@ -54,4 +55,5 @@ reported z before calls left report now had ended =
       told = had.told;
       continues = λ j within. rounds_go_on z (record { values = before; left = calls }) (record { values = now; left = left }) had.list j had.each within;
       ended = ended;
+      stopped = stopped;
     }

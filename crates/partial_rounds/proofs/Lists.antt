@@ -9,6 +9,7 @@ use Rattle.std.proofs.lemmas.List.{length-drop, length-map, length-take, map-app
 use Rattle.partial_model.specs.declared.call.Call.{Call}
 use Rattle.partial_model.specs.declared.call.Answer.{Answer}
 use Rattle.partial_model.proofs.Decisions.{Decides-nat_lt}
+use Rattle.partial_model.proofs.AllLemmas.{all_take}
 use Rattle.partial_workers.specs.Answered.{AreEach, AreMakable, IsWithin}
 use Rattle.partial_rounds.specs.Rounds.{AreFirsts, calls_behind, has_positive, have_answers}
 
@@ -107,11 +108,6 @@ behind_many calls given w = behind_many_from 0 calls given w
 
 -- ---- what a memory can be asked for
 
-all_taken : {A : Type 0} (P : A → Type 0) (n : ℕ) (xs : List A) → AllByRecursion P xs → AllByRecursion P (take n xs)
-all_taken P zero xs w = tt
-all_taken P (suc n) [] w = tt
-all_taken P (suc n) (x ∷ xs) w = (w.0, all_taken P n xs w.1)
-
 all_dropped : {A : Type 0} (P : A → Type 0) (n : ℕ) (xs : List A) → AllByRecursion P xs → AllByRecursion P (drop n xs)
 all_dropped P zero xs w = w
 all_dropped P (suc n) [] w = tt
@@ -119,7 +115,7 @@ all_dropped P (suc n) (x ∷ xs) w = all_dropped P n xs w.1
 
 pub first_makable : (m n : ℕ) (calls : List (List Call)) → AreMakable m calls → AreMakable m (map (take n) calls)
 first_makable m n [] w = tt
-first_makable m n (cs ∷ calls) w = ((omega (arith, w.0.0, length-take n cs), all_taken (IsWithin m) n cs w.0.1), first_makable m n calls w.1)
+first_makable m n (cs ∷ calls) w = ((omega (arith, w.0.0, length-take n cs), all_take (IsWithin m) n cs w.0.1), first_makable m n calls w.1)
 
 pub behind_makable : (m : ℕ) (calls : List (List Call)) (given : List (Vec Answer Global)) → AreMakable m calls → AreMakable m (calls_behind calls given)
 behind_makable m [] given w = tt

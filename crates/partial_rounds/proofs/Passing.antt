@@ -45,9 +45,6 @@ same_firsts o log p n (cs ∷ left) (v ∷ given) many w =
 
 -- ---- a round
 
-pub opening_is : (o : Opening) (values : List ℕ) (first : ℕ) → o.values ≡ values → o.first ≡ first → o ≡ record { values = values; first = first }
-opening_is o values first a b = ap (λ (l : List ℕ). record { values = l; first = o.first }) a ∙ ap (λ n. record { values = values; first = n }) b
-
 pub run_firsts : (o : Opening) (n : ℕ) (left calls : List (List Call)) (given : List (Vec Answer Global)) (after : List ℕ) → calls ≡ map (take n) left →
     IsRun Spent o calls given after → AreFirsts left given
 run_firsts o n left calls given after is run =

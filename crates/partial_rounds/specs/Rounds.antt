@@ -1,5 +1,5 @@
 -- What comes of calls that are made over several openings of a memory.
-use Rattle.std.specs.Prelude.{ℕ, ◌≡◌, ◌<◌, ◌≤◌, ◌⊎◌, Bool, true, false, List, [], ◌∷◌, ◌++◌, length, map, drop, slice_index, nat_lt, IfOk, if◌then◌else◌}
+use Rattle.std.specs.Prelude.{ℕ, ◌≡◌, ◌≢◌, ◌<◌, ◌≤◌, ◌⊎◌, Bool, true, false, List, [], ◌∷◌, ◌++◌, length, map, drop, slice_index, nat_lt, IfOk, IfErr, if◌then◌else◌}
 use Rattle.std.specs.List.{AllByRecursion, flat_map}
 use Rattle.std.specs.declared.alloc.Global.{Global}
 use Rattle.std.specs.declared.vec.Vec.{Vec}
@@ -82,7 +82,7 @@ whole_log rounds = flat_map (λ r. r.log) rounds
 
 -- The report has the answers of each round. The first one began with the values before and all calls, and what the last one left are the
 -- values after: each component has the value that it has behind the history of all rounds over the values before. Nothing is left
--- where the calls came to their end.
+-- where the calls came to their end; where they didn't, a call is left, and the cause isn't the number of ports.
 pub record IsReport (z : Layout) (before : List ℕ) (calls : List (List Call)) (report : RoundsReport) (after : List ℕ) : Type 0 where
   pub rounds : List Answered
   pub left : List (List Call)
@@ -90,6 +90,7 @@ pub record IsReport (z : Layout) (before : List ℕ) (calls : List (List Call)) 
   pub told : map (λ r. r.given) rounds ≡ map (λ r. r.answers.items) report.rounds.items
   pub continues : (j : ℕ) → j < length before → slice_index after j ≡ value_of (opening_of z before) (whole_log rounds) j
   pub ended : IfOk report.ended (λ _. are_left left ≡ false)
+  pub stopped : IfErr report.ended (λ e. (are_left left ≡ true) × (e ≢ Ports))
 
 -- a round passed: it is the report's last one, and some call was answered in it
 abbrev pub Passes : RoundsView → List (List Call) → List Round → List Round → List (List Call) → RoundsView → Type 0

@@ -1,7 +1,8 @@
 //! Calls that are made over as many openings of a memory as it takes.
 
-ghost use Rattle.std.specs.Prelude.{◌≡◌, ◌≤◌, ◌<◌, ◌⊎◌, ◌++◌, ◌∷◌, [], true, length, map, IfOk, IfErr};
+ghost use Rattle.std.specs.Prelude.{◌≡◌, ◌≢◌, ◌≤◌, ◌<◌, ◌⊎◌, ◌++◌, ◌∷◌, [], true, length, map, IfOk, IfErr};
 ghost use Rattle.partial_workers.specs.Answered.{AreMakable};
+ghost use Rattle.partial_rounds.specs.declared.error.RoundsError.TheVariants.{Ports};
 ghost use Rattle.partial_rounds.specs.Rounds.{IsReport, MayNotRun, Passes};
 
 use crate::error::RoundsError;
@@ -168,6 +169,7 @@ impl Rounds {
         ensures ok { IfOk result (λ behind. Passes self.old (map (λ c. c.now) left.now) rounds.old.items
             rounds.new.items (map (λ c. c.now) behind.items) self.new) }
         ensures err { IfErr result (λ _. (self.new ≡ self.old) × (rounds.new.items ≡ rounds.old.items)) }
+        ensures cause { IfErr result (λ e. e ≢ Ports) }
     {
         let count = left.len();
         let calls = first_of(alloc, left, most_calls(self.sizes, count))?;

@@ -1,5 +1,6 @@
 //! Calls of one port and of several, over small pools that are spent again and again.
 
+mod examples;
 mod growths;
 mod long;
 mod runs;

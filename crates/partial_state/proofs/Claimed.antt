@@ -18,7 +18,7 @@ use Rattle.partial_state.proofs.Frames.{IsClaimedBlock, announcement_claimed, bl
 use Rattle.partial_state.proofs.HoldingLemmas.{if_some, if_all, all_unpublished}
 use Rattle.partial_state.proofs.Blocks.{announcement_of}
 use Rattle.partial_model.proofs.NotesLemmas.{AllByRecursion-get}
-use Rattle.partial_model.proofs.StampsStay.{all_where}
+use Rattle.partial_model.proofs.AllLemmas.{all_where}
 
 -- what holds of the value that stands there
 pub match_some : {A : Type 0} (P : Type 0) (Q : A → Type 0) (f : Option A) (a : A) → f ≡ Some a → MatchOption f P Q → Q a

@@ -20,7 +20,7 @@ use Rattle.partial_state.proofs.Frames.{Frame, Grows, within_more, within_grows,
 use Rattle.partial_state.proofs.HoldingLemmas.{own_far, if_some, if_some_at, some_found, found_some, joined_weaker, HaveOtherBlocks, blocks_turn, ports_turn, slots_turn, others_split, block_stays, three_words}
 use Rattle.partial_state.proofs.Rebuild.{Moves, frame_of, tied_moves, other_word, initial_word, entry_three, entry_prev, own_before, own_after}
 use Rattle.partial_model.proofs.NotesLemmas.{AllByRecursion-get}
-use Rattle.partial_model.proofs.StampsStay.{all_where}
+use Rattle.partial_model.proofs.AllLemmas.{all_where}
 
 -- an entry of the new history that the old one hadn't
 pub record IsNew (z : Layout) (o : Opening) (words : List ℕ) (hs : List Holding) (log : List Applied) (k : ℕ) (e : Applied) : Type 0 where

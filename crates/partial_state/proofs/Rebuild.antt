@@ -18,7 +18,7 @@ use Rattle.partial_state.proofs.Frames.{Frame, IsClaimedBlock, word_at, part_apa
 use Rattle.partial_state.proofs.Claimed.{unpublished_two, entry_free, initial_free}
 use Rattle.partial_state.proofs.HoldingLemmas.{own_far, if_some, if_some_at, all_unpublished, unpublished_all, HaveOtherBlocks, apart_others, blocks_turn, three_words, block_stays}
 use Rattle.partial_model.proofs.NotesLemmas.{AllByRecursion-get}
-use Rattle.partial_model.proofs.StampsStay.{all_where}
+use Rattle.partial_model.proofs.AllLemmas.{all_where}
 
 -- What a step does to the words of others, where its port holds h before and h' behind it.
 pub record Moves (z : Layout) (words words' : List ℕ) (h h' : Holding) : Type 0 where

@@ -26,7 +26,7 @@ use Rattle.partial_state.proofs.Blocks.{unpublished_is, announced_same, own_adde
 use Rattle.partial_state.proofs.Rebuild.{Moves, chain_moves, entries_stay}
 use Rattle.partial_state.proofs.EffectLemmas.{IsNew, keeps}
 use Rattle.partial_state.proofs.NoNewEntry.{pool_stays, slots_stay, lists_stay, taken_stays, claim_stays, head_stays}
-use Rattle.partial_model.proofs.StampsStay.{all_where}
+use Rattle.partial_model.proofs.AllLemmas.{all_where}
 
 map_push : {A B : Type 0} (f : A → B) (xs : List A) (y : A) → map f (xs ++ y ∷ []) ≡ map f xs ++ f y ∷ []
 map_push f [] y = refl

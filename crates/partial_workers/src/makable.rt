@@ -1,6 +1,6 @@
 //! Which calls a memory can be asked for.
 
-ghost use Rattle.std.specs.Prelude.{◌≡◌, true};
+ghost use Rattle.std.specs.Prelude.{◌≡◌, true, false};
 ghost use Rattle.std.specs.List.{AllByRecursion};
 ghost use Rattle.partial_workers.specs.Answered.{AreMakable, IsWithin};
 
@@ -8,7 +8,8 @@ use partial_model::{Call, Sequence};
 
 // Whether a scan has at most m positions.
 fn is_within(m: u32, call: &Call) -> bool
-    ensures { result ≡ true → IsWithin m call.now }
+    ensures yes { result ≡ true → IsWithin m call.now }
+    ensures no { result ≡ false → ¬ IsWithin m call.now }
 {
     match call {
         Call::Scan { components } => components.len() <= m as usize,
@@ -18,7 +19,8 @@ fn is_within(m: u32, call: &Call) -> bool
 
 // Whether each scan does.
 fn are_within(m: u32, calls: &[Call]) -> bool
-    ensures { result ≡ true → AllByRecursion (IsWithin m) calls.now }
+    ensures yes { result ≡ true → AllByRecursion (IsWithin m) calls.now }
+    ensures no { result ≡ false → ¬ AllByRecursion (IsWithin m) calls.now }
 {
     for call in calls {
         if !is_within(m, call) {
@@ -31,7 +33,8 @@ fn are_within(m: u32, calls: &[Call]) -> bool
 /// Whether a memory of m components can be asked for the calls of each port: each scan has at most m positions, and
 /// no port has more than 4,294,967,295 calls.
 pub fn are_makable(m: u32, ports: &[Sequence<Call>]) -> bool
-    ensures { result ≡ true → AreMakable m ports.now }
+    ensures yes { result ≡ true → AreMakable m ports.now }
+    ensures no { result ≡ false → ¬ AreMakable m ports.now }
 {
     for calls in ports {
         if calls.len() > u32::MAX as usize || !are_within(m, calls.as_slice()) {

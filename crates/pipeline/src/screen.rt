@@ -12,7 +12,7 @@ const WIDTH: u64 = 48;
 const REST: u64 = 2;
 
 /// Shows each scan in which a count has changed: on a terminal a bar for each stage, redrawn in place, and a
-/// line of all counts otherwise.
+/// line of all counts otherwise. With them it says how far each stage lags behind the one before it.
 #[derive(Drop)]
 pub struct Screen<'a, R: Print + Clock> {
     rt: &'a R,
@@ -51,27 +51,33 @@ impl<'a, R: Print + Clock> Screen<'a, R> {
         }
     }
 
-    // A line of all counts.
+    // A line of all counts, and of how far each stage but the first lags behind the one before it.
     fn line(&self, name: &str, counts: &[u64]) -> io::Result<()> {
         print!(self.rt; "{name}")?;
         for count in counts {
             print!(self.rt; " {count}")?;
         }
+        print!(self.rt; " lag")?;
+        for (before, own) in counts.iter().zip(counts.iter().skip(1)) {
+            print!(self.rt; " {}", before.saturating_sub(*own))?;
+        }
         println!(self.rt;)
     }
 
-    // A bar for each stage, in place of those that were drawn before.
+    // A bar for each stage with its count and its lag, in place of those that were drawn before.
     fn draw(&mut self, counts: &[u64]) -> io::Result<()> {
         if self.shown.is_some() {
             print!(self.rt; "\x1b[{}A", counts.len())?;
         }
+        let mut before = counts.first().copied().unwrap_or(0);
         for (stage, count) in counts.iter().enumerate() {
             let length = u128::from(*count) * u128::from(WIDTH) / u128::from(self.items.max(1));
             print!(self.rt; "\x1b[2K{stage:>2} ")?;
             for _mark in 0..length.min(u128::from(WIDTH)) {
                 print!(self.rt; "#")?;
             }
-            println!(self.rt; " {count}")?;
+            println!(self.rt; " {count} lag {}", before.saturating_sub(*count))?;
+            before = *count;
         }
         Ok(())
     }

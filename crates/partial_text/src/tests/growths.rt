@@ -14,8 +14,12 @@ use std::test::Fail;
 // passes, no growth was refused and the plan was read.
 #[test]
 fn a_refused_growth_reads_no_plan(rt: HostRuntime) -> Result<(), Fail> {
-    let text =
-        b"sizes 6 4 8 64\ninitial 10 20 30 40 50 60\nport scan 5 4 3 2 1 0; update 0 7; scan; scan 2 1; read 0; updateif 1 21 9\nport scan 1\nsteps 0*9 1*4 rest\n";
+    let text = b"sizes 6 4 8 64
+initial 10 20 30 40 50 60
+port scan 5 4 3 2 1 0; update 0 7; scan; scan 2 1; read 0; updateif 1 21 9
+port scan 1
+steps 0*9 1*4 rest
+";
     match read(rt.alloc(), text) {
         Ok(plan) => assert_eq!(rt; plan.ports().len(), 2),
         Err(error) => {

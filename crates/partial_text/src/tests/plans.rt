@@ -38,8 +38,12 @@ pub(super) fn refusal(
 
 #[test]
 fn a_plan_is_read(rt: HostRuntime) -> Result<(), Fail> {
-    let text =
-        b"sizes 3 65536 0 4194304\ninitial 0 18446744073709551615 7\nport\nport update 4294967295 18446744073709551615; read 0; updateif 1 18 9\nsteps 1*4294967295 0*1 rest\n";
+    let text = b"sizes 3 65536 0 4194304
+initial 0 18446744073709551615 7
+port
+port update 4294967295 18446744073709551615; read 0; updateif 1 18 9
+steps 1*4294967295 0*1 rest
+";
     let plan = read(rt.alloc(), text).ok().ok_or("the text is a plan")?;
     let sizes = plan.sizes();
     assert_eq!(rt; sizes.m(), 3);

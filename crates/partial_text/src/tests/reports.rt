@@ -88,8 +88,18 @@ fn report_is_written(rt: HostRuntime) -> Result<(), Fail> {
 
 #[test]
 fn each_answer_is_reported(rt: HostRuntime) -> Result<(), Fail> {
-    let expected =
-        b"call 0 0 lost 27\ncall 0 1 scanned 10 10 18446744073709551615 collects 2 borrowed -\ncall 0 2 scanned 5 collects 3 borrowed 32\ncall 0 3 scanned collects 0 borrowed -\ncall 2 0 refused 7\ncall 2 1 refused 8\ncall 2 2 refused 9\ncall 2 3 changed 24\ncall 2 4 read 0 18446744073709551615\ncall 2 5 applied 32\nvalues 6 18446744073709551615\n";
+    let expected = b"call 0 0 lost 27
+call 0 1 scanned 10 10 18446744073709551615 collects 2 borrowed -
+call 0 2 scanned 5 collects 3 borrowed 32
+call 0 3 scanned collects 0 borrowed -
+call 2 0 refused 7
+call 2 1 refused 8
+call 2 2 refused 9
+call 2 3 changed 24
+call 2 4 read 0 18446744073709551615
+call 2 5 applied 32
+values 6 18446744073709551615
+";
     let text = full_text(rt.alloc(), &each_answer(rt.alloc())?)?;
     assert_eq!(rt; text.as_slice(), expected.as_slice());
     Ok(())

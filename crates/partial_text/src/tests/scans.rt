@@ -19,8 +19,13 @@ fn positions(plan: &Plan, port: usize, number: usize) -> Option<&[u32]> {
 
 #[test]
 fn scans_are_read(rt: HostRuntime) -> Result<(), Fail> {
-    let text =
-        b"sizes 3 4 8 64\ninitial 10 20 30\nport scan\nport scan 0 0 1\nport update 0 7; scan; scan 2; read 1; scan 4294967295 3 2\nsteps 2*9 rest\n";
+    let text = b"sizes 3 4 8 64
+initial 10 20 30
+port scan
+port scan 0 0 1
+port update 0 7; scan; scan 2; read 1; scan 4294967295 3 2
+steps 2*9 rest
+";
     let plan = read(rt.alloc(), text).ok().ok_or("the text is a plan")?;
     let rows: [(usize, usize, &[u32]); 5] = [
         (0, 0, &[]),

@@ -32,8 +32,12 @@ impl Write for Sink {
     }
 }
 
-const ROW: &[u8] =
-    b"applied 0 port 0 component 0 value 7 stamp 24\ncall 0 0 applied 24 place 0 steps 8 span 0 1\ncall 0 1 read 7 24 prefix 1 steps 2 span 1 1\nvalues 7 20\ntotal 10\n";
+const ROW: &[u8] = b"applied 0 port 0 component 0 value 7 stamp 24
+call 0 0 applied 24 place 0 steps 8 span 0 1
+call 0 1 read 7 24 prefix 1 steps 2 span 1 1
+values 7 20
+total 10
+";
 
 fn finished(ended: usize, answer: Answer, note: Option<Note>) -> Option<Finish> {
     Some(Finish {
@@ -153,8 +157,18 @@ fn each_answer_is_written(rt: HostRuntime) -> Result<(), Fail> {
         trace: Vec::new(rt.alloc()),
         steps: 51,
     };
-    let expected =
-        b"call 0 0 lost 27 place 0 steps 8 span 0 1\ncall 0 1 scanned 10 10 20 prefix 0 collects 2 borrowed - steps 17 span 0 0\ncall 0 2 scanned 5 prefix 1 collects 3 borrowed 32 steps 13 span 0 2\ncall 0 3 scanned prefix 0 collects 0 borrowed - steps 0 span 0 0\ncall 1 0 refused 7 steps 0 span 1 1\ncall 1 1 refused 8 steps 4 span 1 1\ncall 1 2 refused 9 steps 4 span 1 1\ncall 1 3 changed 24 prefix 1 steps 1 span 1 1\ncall 2 0 unfinished steps 4 span 0 -\nvalues 10 20\ntotal 51\n";
+    let expected = b"call 0 0 lost 27 place 0 steps 8 span 0 1
+call 0 1 scanned 10 10 20 prefix 0 collects 2 borrowed - steps 17 span 0 0
+call 0 2 scanned 5 prefix 1 collects 3 borrowed 32 steps 13 span 0 2
+call 0 3 scanned prefix 0 collects 0 borrowed - steps 0 span 0 0
+call 1 0 refused 7 steps 0 span 1 1
+call 1 1 refused 8 steps 4 span 1 1
+call 1 2 refused 9 steps 4 span 1 1
+call 1 3 changed 24 prefix 1 steps 1 span 1 1
+call 2 0 unfinished steps 4 span 0 -
+values 10 20
+total 51
+";
     let text = full_text(rt.alloc(), &outcome)?;
     assert_eq!(rt; text.as_slice(), expected.as_slice());
     Ok(())
@@ -194,8 +208,14 @@ pub(super) fn borrowed_scan(alloc: Global) -> Result<Outcome, AllocError> {
 
 #[test]
 fn scans_are_written(rt: HostRuntime) -> Result<(), Fail> {
-    let expected =
-        b"applied 0 port 1 component 0 value 5 stamp 26\napplied 1 port 1 component 0 value 6 stamp 32\ncall 0 0 scanned 5 prefix 1 collects 3 borrowed 32 steps 13 span 0 2\ncall 1 0 applied 26 place 0 steps 17 span 0 1\ncall 1 1 applied 32 place 1 steps 17 span 1 2\nvalues 6 20\ntotal 47\n";
+    let expected = b"applied 0 port 1 component 0 value 5 stamp 26
+applied 1 port 1 component 0 value 6 stamp 32
+call 0 0 scanned 5 prefix 1 collects 3 borrowed 32 steps 13 span 0 2
+call 1 0 applied 26 place 0 steps 17 span 0 1
+call 1 1 applied 32 place 1 steps 17 span 1 2
+values 6 20
+total 47
+";
     let text = full_text(rt.alloc(), &borrowed_scan(rt.alloc())?)?;
     assert_eq!(rt; text.as_slice(), expected.as_slice());
     Ok(())
@@ -227,6 +247,10 @@ fn scan_line(
     full_text(alloc, &outcome)
 }
 
+/// A scan with the greatest numbers.
+const GREATEST_SCAN: &[u8] =
+    b"scanned 18446744073709551615 0 18446744073709551615 prefix 0 collects 4294967295 borrowed 18446744073709551615";
+
 #[test]
 fn each_scan_is_written(rt: HostRuntime) -> Result<(), Fail> {
     let alloc = rt.alloc();
@@ -254,7 +278,7 @@ fn each_scan_is_written(rt: HostRuntime) -> Result<(), Fail> {
             vec![in alloc; most, 0, most]?,
             u32::MAX,
             Some(most),
-            b"scanned 18446744073709551615 0 18446744073709551615 prefix 0 collects 4294967295 borrowed 18446744073709551615",
+            GREATEST_SCAN,
         ),
     ];
     for (values, collects, borrowed, told) in rows {

@@ -1,9 +1,9 @@
 use Rattle.std.proofs.Common.{◌≤◌, length, ap, subst, ◌∙◌}
+use Rattle.partial_model.proofs.HistoryLemmas.{opening_is}
 use Rattle.partial_words.specs.Layout.{Layout, pool_base}
 use Rattle.partial_memory.specs.Reopening.{extended}
 use Rattle.partial_cmd.specs.Reports.{report_of}
 use Rattle.partial_cmd.proofs.Nexts.{both_alike, both_reported}
-use Rattle.partial_cmd.proofs.Reported.{opening_is}
 use Rattle.partial_cmd.proofs.next.run_both.Goals as goal
 
 pub returns : goal.returns

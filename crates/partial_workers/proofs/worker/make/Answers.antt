@@ -1,6 +1,7 @@
 use Rattle.std.proofs.Common.{rules, ◌≡◌, ◌∙◌, length, inl}
 use Rattle.partial_model.specs.declared.call.Call.TheVariants as call
-use Rattle.partial_workers.proofs.Made.{refused_at, scanned_at, written_whole}
+use Rattle.partial_model.proofs.ListLemmas.{written_whole}
+use Rattle.partial_workers.proofs.Made.{refused_at, scanned_at}
 use Rattle.partial_workers.proofs.worker.make.Goals as goal
 
 pub returns-in-Update-clause-made : goal.returns-in-Update-clause-made

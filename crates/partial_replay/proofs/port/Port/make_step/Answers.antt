@@ -1,13 +1,13 @@
 use Rattle.std.proofs.Common.{◌≡◌, ◌<◌, ◌++◌, ◌∷◌, [], ℕ, List, length, Some, slice_get, sym, ◌∙◌, ap, subst, arith, refl}
 use Rattle.std.specs.Option.{option_to_list}
 use Rattle.std.proofs.lemmas.List.{append-nil, with_items_is}
+use Rattle.partial_model.proofs.ListLemmas.{some_same}
 use Rattle.partial_model.specs.declared.history.Applied.{Applied}
 use Rattle.partial_words.specs.Step.{answer_of, words_after}
 use Rattle.partial_machine.specs.Calls.{answer_for}
 use Rattle.partial_machine.specs.Machine.{CoreState, at_stage}
 use Rattle.partial_machine.specs.Possible.{IsPossible}
 use Rattle.partial_words.specs.declared.step.Step.{Step}
-use Rattle.partial_replay.proofs.Opens.{some_same}
 use Rattle.partial_machine.specs.declared.stage.Stage.TheVariants.{Idle}
 use Rattle.partial_model.specs.declared.call.Answer.{Answer}
 use Rattle.partial_replay.specs.declared.memory.Memory.{Memory}

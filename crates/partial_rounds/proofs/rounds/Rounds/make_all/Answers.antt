@@ -1,4 +1,4 @@
-use Rattle.std.proofs.Common.{rules, ◌≡◌, ◌<◌, false, List, length, map, Bor, refl, sym, ap, subst, ◌∙◌, arith}
+use Rattle.std.proofs.Common.{rules, ◌≡◌, ◌<◌, true, false, List, length, map, Bor, refl, sym, ap, subst, ◌∙◌, arith}
 use Rattle.std.proofs.lemmas.List.{length-map}
 use Rattle.partial_model.specs.declared.call.Call.{Call}
 use Rattle.partial_words.specs.Layout.{Layout}
@@ -45,7 +45,8 @@ returns-in-Err-clause-report g c =
     let err = c.in-Err.ensures.err in
     let here : SoFar start.sizes start.values calls c.round.new.rounds.items left c.round.new.self.values = so_far_alike start.sizes start.values calls left c.loop-alloc.rounds.items
     c.round.new.rounds.items c.loop-alloc.self c.round.new.self c.loop-alloc.invariant.so_far err.0 err.1 in
-    reported start.sizes start.values calls left _ c.round.new.self.values here tt
+    let some : are_left left ≡ true = ap (λ (l : List (Bor (List Call))). are_left (map now l)) (sym c.deref.ensures.value) ∙ sym c.is_left.ensures ∙ c.loop-alloc-test.true in
+    reported start.sizes start.values calls left _ c.round.new.self.values here tt (some, c.in-Err.ensures.cause)
 
 pub returns-clause-report : goal.returns-clause-report
 returns-clause-report g c =
@@ -54,4 +55,4 @@ returns-clause-report g c =
     let start = c.args.self.now in
     let calls = map now c.args.calls.items in
     let none : are_left left ≡ false = ap (λ (l : List (Bor (List Call))). are_left (map now l)) (sym c.deref.ensures.value) ∙ sym c.is_left.ensures ∙ c.loop-alloc-test.false in
-    reported start.sizes start.values calls left _ c.loop-alloc.self.values c.loop-alloc.invariant.so_far none
+    reported start.sizes start.values calls left _ c.loop-alloc.self.values c.loop-alloc.invariant.so_far none tt

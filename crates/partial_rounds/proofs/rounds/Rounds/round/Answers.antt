@@ -3,12 +3,13 @@ use Rattle.std.specs.declared.alloc.Global.{Global}
 use Rattle.std.specs.declared.vec.Vec.{Vec}
 use Rattle.partial_model.specs.declared.call.Answer.{Answer}
 use Rattle.partial_model.specs.declared.call.Call.{Call}
+use Rattle.partial_model.proofs.HistoryLemmas.{opening_is}
 use Rattle.partial_words.specs.Layout.{Layout, pool_base}
 use Rattle.partial_workers.specs.Answered.{AreMakable}
 use Rattle.partial_rounds.specs.declared.rounds.Round.{Round}
 use Rattle.partial_rounds.specs.Rounds.{AreFirsts, RoundsView, calls_behind, have_answers}
 use Rattle.partial_rounds.proofs.Lists.{first_makable}
-use Rattle.partial_rounds.proofs.Passing.{opening_is, passed, run_firsts}
+use Rattle.partial_rounds.proofs.Passing.{passed, run_firsts}
 use Rattle.partial_rounds.proofs.rounds.Rounds.round.Goals as goal
 
 pub run_on-requires-clause-makable : goal.run_on-requires-clause-makable
