@@ -1,0 +1,49 @@
+//! From the text of a plan to the text of a picture.
+
+ghost use Rattle.std.specs.Prelude.{◌≡◌, false};
+
+use crate::drawing::drawing;
+use crate::fault::Fault;
+use crate::picture::Picture;
+use crate::table::table;
+use crate::window::Window;
+use partial_replay::{Device, Plan, replay};
+use partial_text::write_text;
+use std::alloc::Global;
+use std::io::{Read, Write};
+
+/// What a picture is written as.
+#[derive(Clone, Copy, Debug, PartialEq, Eq)]
+pub enum Form {
+    /// A drawing in SVG, where asked with the words that each step has touched.
+    Drawing { has_words: bool },
+    /// Text for terminals.
+    Table,
+}
+
+/// Reads a plan, replays it, and writes a picture of a window of the replay.
+///
+/// # Errors
+///
+/// The first fault of the plan's text, where it isn't the text of a plan; code 6 where a growth was refused; code
+/// 11 where the reader failed, and code 12 where the writer failed or took 0 bytes; code 14 or 15 where the window
+/// isn't one that is drawn. Nothing is written but after code 12, and then a part of the text from its front.
+pub fn draw<R: Read, W: Write>(
+    alloc: Global,
+    form: Form,
+    window: Window,
+    plan: &mut Device<R>,
+    out: &mut Device<W>,
+) -> Result<(), Fault>
+    requires plan { plan.old.failed ≡ false }
+    requires out { out.old.failed ≡ false }
+{
+    let plan = Plan::read(alloc, plan)?;
+    let outcome = replay(alloc, &plan)?;
+    let picture = Picture::of(alloc, plan.sizes(), plan.ports().len(), &outcome, window)?;
+    let text = match form {
+        Form::Drawing { has_words } => drawing(alloc, &picture, has_words)?,
+        Form::Table => table(alloc, &picture)?,
+    };
+    Ok(write_text(text.as_bytes(), out)?)
+}
