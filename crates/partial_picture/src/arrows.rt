@@ -1,5 +1,8 @@
 //! From which exchange an arrow leaves, and to which step it comes.
 
+ghost use Rattle.std.specs.Prelude.{◌-◌, All, IfOk, IfSome};
+ghost use Rattle.partial_picture.specs.Arrows.{IsWithin};
+
 use crate::picture::{Arrow, ArrowKind};
 use crate::spans::Made;
 use crate::window::Span;
@@ -79,6 +82,29 @@ fn arrow_to(
     })
 }
 
+/// The arrow to a call, where both its ends are in the window.
+fn arrow_in<'a>(
+    m: usize,
+    window: Span,
+    trace: &[Event],
+    made: &Made<'a, '_>,
+    by_stamp: &BTreeMap<u64, usize>,
+) -> Option<Arrow<'a>>
+    ensures { IfSome result (IsWithin (window.behind - window.first)) }
+{
+    let found = arrow_to(m, trace, made, by_stamp)?;
+    if !window.contains(found.from) || !window.contains(found.to) {
+        return None;
+    }
+    Some(Arrow {
+        kind: found.kind,
+        stamp: found.stamp,
+        from: found.from - window.first,
+        to: found.to - window.first,
+        called: made.called,
+    })
+}
+
 /// The arrows whose both ends are in the window.
 pub(crate) fn arrows_of<'a>(
     alloc: Global,
@@ -87,22 +113,11 @@ pub(crate) fn arrows_of<'a>(
     outcome: &Outcome,
     made: &[Made<'a, '_>],
     entries: &[usize],
-) -> Result<Vec<Arrow<'a>>, AllocError> {
+) -> Result<Vec<Arrow<'a>>, AllocError>
+    ensures { IfOk result (λ arrows. All (IsWithin (window.behind - window.first)) arrows.items) }
+{
     let by_stamp = steps_by_stamp(alloc, &outcome.history, entries)?;
-    let mut arrows = Vec::new(alloc);
-    for call in made {
-        let Some(found) = arrow_to(m, &outcome.trace, call, &by_stamp) else {
-            continue;
-        };
-        if window.contains(found.from) && window.contains(found.to) {
-            arrows.push(Arrow {
-                kind: found.kind,
-                stamp: found.stamp,
-                from: found.from - window.first,
-                to: found.to - window.first,
-                called: call.called,
-            })?;
-        }
-    }
-    Ok(arrows)
+    made.iter()
+        .filter_map(|call| arrow_in(m, window, &outcome.trace, call, &by_stamp))
+        .collect(alloc)
 }

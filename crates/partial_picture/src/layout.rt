@@ -10,8 +10,8 @@ const LEFT: Pixels = Pixels(116);
 /// How wide the place of a call without a step is.
 const BETWEEN: Pixels = Pixels(80);
 
-/// How much is left free at the right edge.
-const RIGHT: u64 = 24;
+/// How much is left free behind the steps, for words that go on.
+const RIGHT: u64 = 120;
 
 /// How wide a drawing is at least, so that its legend has room.
 const LEAST_WIDTH: Pixels = Pixels(660);
@@ -44,6 +44,8 @@ pub(crate) struct Layout {
     edges: Vec<Pixels>,
     /// The sides of the picture's bars.
     pub(crate) bars: Vec<Sides>,
+    /// Where the steps end.
+    pub(crate) right: Pixels,
     pub(crate) width: Pixels,
     pub(crate) height: Pixels,
     /// Where the rows of words begin.
@@ -96,12 +98,14 @@ impl Layout {
             edges.push(left)?;
             left = left + step;
         }
+        let right = left - step;
         let words = LANES + (LANE * picture.ports).0;
         let legend = words + (ROW * rows).0 + 14;
         Ok(Layout {
             step,
             bars: sides_of(alloc, &picture.bars, &edges, &mut rooms, step)?,
-            width: LEAST_WIDTH.max(left + RIGHT),
+            right,
+            width: LEAST_WIDTH.max(right + RIGHT),
             height: legend + LEGEND,
             edges,
             words,
@@ -124,23 +128,18 @@ impl Layout {
         LEFT
     }
 
-    /// Where the steps end.
-    pub(crate) fn right(&self) -> Pixels {
-        self.width - RIGHT
-    }
-
     /// The line of the history.
     pub(crate) fn history(&self) -> Pixels {
         Pixels(64)
     }
 
     /// Where the lane of a port begins.
-    pub(crate) fn lane(&self, port: u32) -> Pixels {
-        LANES + (LANE * port as usize).0
+    pub(crate) fn lane(&self, port: usize) -> Pixels {
+        LANES + (LANE * port).0
     }
 
     /// The line of a port's marks.
-    pub(crate) fn line(&self, port: u32) -> Pixels {
+    pub(crate) fn line(&self, port: usize) -> Pixels {
         self.lane(port) + 46
     }
 

@@ -1,6 +1,6 @@
 //! The colours of a drawing, and what its shapes mean.
 
-use crate::drawing::{push_shape, push_words};
+use crate::svg::{push_shape, push_words};
 use crate::picture::Shape;
 use crate::pixels::Pixels;
 use std::alloc::AllocError;

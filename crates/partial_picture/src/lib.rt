@@ -2,23 +2,23 @@
 #![tactic(auto)]
 
 mod arrows;
-mod draw;
-mod drawing;
+mod columns;
+mod command;
 mod fault;
 mod layout;
 mod legend;
 mod picture;
 mod pixels;
 mod spans;
-mod table;
+mod svg;
 mod window;
 mod words;
 
-pub use draw::{Form, draw};
-pub use drawing::drawing;
+pub use columns::table;
+pub use command::{Form, draw};
 pub use fault::{Fault, PictureError};
 pub use picture::{Arrow, ArrowKind, Bar, Mark, Picture, Pin, Shape};
-pub use table::table;
+pub use svg::drawing;
 pub use window::{MOST_STEPS, Span, Window};
 
 #[cfg(test)]

@@ -1,5 +1,11 @@
 //! What is drawn of a replay.
 
+ghost use Rattle.std.specs.Prelude.{◌≡◌, ◌≢◌, ◌-◌, All, map, length, IfOk, MatchResult};
+ghost use Rattle.partial_picture.specs.Arrows.{IsWithin};
+ghost use Rattle.partial_picture.specs.Drawn.{drawn_of};
+ghost use Rattle.partial_picture.specs.Marks.{mark_of, marks_in};
+ghost use Rattle.partial_picture.specs.Pins.{pin_at, pins_at, won_steps};
+
 use crate::arrows::arrows_of;
 use crate::fault::PictureError;
 use crate::spans::{Made, adds_entry, entry_steps, made_by_calls, port_steps};
@@ -93,7 +99,9 @@ pub struct Picture<'a> {
 
 impl Mark {
     /// The mark of an event.
-    pub fn of(event: Event) -> Mark {
+    pub fn of(event: Event) -> Mark
+        ensures { result ≡ mark_of event }
+    {
         let shape = match event.step {
             Step::Load(_) => Shape::Load,
             Step::Store(..) => Shape::Store,
@@ -118,7 +126,19 @@ impl<'a> Picture<'a> {
         ports: usize,
         outcome: &'a Outcome,
         window: Window,
-    ) -> Result<Picture<'a>, PictureError> {
+    ) -> Result<Picture<'a>, PictureError>
+        // The window is the one that is asked for, and a refusal says what is wrong with it.
+        ensures window { MatchResult result
+            (λ picture. drawn_of window (length outcome.now.trace.items) ≡ Ok picture.window)
+            (λ e. e ≢ PictureError.Memory → drawn_of window (length outcome.now.trace.items) ≡ Err e) }
+        // One mark for each event of the window, in order.
+        ensures marks { IfOk result (λ picture. picture.marks.items ≡ marks_in picture.window outcome.now.trace.items) }
+        // One pin for each entry of the history whose exchange is in the window, in order and at its mark.
+        ensures pins { IfOk result (λ picture. picture.pins.items
+            ≡ pins_at picture.window outcome.now.history.items (won_steps sizes.m outcome.now.trace.items)) }
+        ensures arrows { IfOk result (λ picture.
+            All (IsWithin (picture.window.behind - picture.window.first)) picture.arrows.items) }
+    {
         let steps = outcome.trace.len();
         let window = window.drawn(steps)?;
         let m = sizes.m() as usize;
@@ -141,7 +161,9 @@ impl<'a> Picture<'a> {
 }
 
 /// A mark for each of these events, in order.
-fn marks_of(alloc: Global, events: &[Event]) -> Result<Vec<Mark>, AllocError> {
+fn marks_of(alloc: Global, events: &[Event]) -> Result<Vec<Mark>, AllocError>
+    ensures { IfOk result (λ v. v.items ≡ map mark_of events.now) }
+{
     events.iter().map(|event| Mark::of(*event)).collect(alloc)
 }
 
@@ -175,24 +197,35 @@ fn bars_of<'a>(
     Ok(bars)
 }
 
+/// The pin of an entry, where its exchange is in the window.
+fn pin_at(window: Span, place: usize, entry: Applied, step: usize) -> Option<Pin>
+    ensures { result ≡ pin_at window place entry step }
+{
+    if !window.contains(step) {
+        return None;
+    }
+    Some(Pin {
+        entry,
+        place,
+        mark: step - window.first,
+    })
+}
+
 /// A pin for each entry whose exchange is in the window.
 fn pins_of(
     alloc: Global,
     window: Span,
     history: &[Applied],
     steps: &[usize],
-) -> Result<Vec<Pin>, AllocError> {
-    let mut pins = Vec::new(alloc);
-    for (place, (entry, step)) in history.iter().zip(steps).enumerate() {
-        if window.contains(*step) {
-            pins.push(Pin {
-                entry: *entry,
-                place,
-                mark: *step - window.first,
-            })?;
-        }
-    }
-    Ok(pins)
+) -> Result<Vec<Pin>, AllocError>
+    ensures { IfOk result (λ pins. pins.items ≡ pins_at window history.now steps.now) }
+{
+    history
+        .iter()
+        .zip(steps)
+        .enumerate()
+        .filter_map(|(place, (entry, step))| pin_at(window, place, *entry, *step))
+        .collect(alloc)
 }
 
 /// The words that the marks touch.

@@ -1,5 +1,9 @@
 //! Which steps of the schedule a call has made.
 
+ghost use Rattle.std.specs.Prelude.{◌≡◌, IfOk};
+ghost use Rattle.partial_replay.specs.Trace.{is_won};
+ghost use Rattle.partial_picture.specs.Pins.{won_steps};
+
 use crate::window::Span;
 use partial_model::Called;
 use partial_replay::{Event, Outcome};
@@ -7,7 +11,9 @@ use partial_words::Step;
 use std::alloc::{AllocError, Global};
 
 /// Whether the event is a won exchange of one of m component words.
-pub(crate) fn adds_entry(m: usize, event: &Event) -> bool {
+pub(crate) fn adds_entry(m: usize, event: &Event) -> bool
+    ensures { result ≡ is_won m event.now.step event.now.answer }
+{
     match event.step {
         Step::Exchange(word, old, _) => (word as usize) < m && event.answer == old,
         _ => false,
@@ -19,14 +25,15 @@ pub(crate) fn entry_steps(
     alloc: Global,
     m: usize,
     trace: &[Event],
-) -> Result<Vec<usize>, AllocError> {
-    let mut steps = Vec::new(alloc);
-    for (step, event) in trace.iter().enumerate() {
-        if adds_entry(m, event) {
-            steps.push(step)?;
-        }
-    }
-    Ok(steps)
+) -> Result<Vec<usize>, AllocError>
+    ensures { IfOk result (λ steps. steps.items ≡ won_steps m trace.now) }
+{
+    trace
+        .iter()
+        .enumerate()
+        .filter(|(_, event)| adds_entry(m, event))
+        .map(|(step, _)| step)
+        .collect(alloc)
 }
 
 /// The steps of each of so many ports, in order.

@@ -1,6 +1,7 @@
 //! Which steps are drawn.
 
-ghost use Rattle.std.specs.Prelude.{◌≡◌, ◌≤◌, IfOk};
+ghost use Rattle.std.specs.Prelude.{◌≡◌, ◌≤◌, ◌<◌, ◌-◌, ◌+◌, ◌↔◌, IsTrue, IfOk};
+ghost use Rattle.partial_picture.specs.Drawn.{drawn_of, HasRoom};
 
 use crate::fault::PictureError;
 
@@ -25,17 +26,23 @@ pub struct Span {
 
 impl Span {
     /// How many places there are.
-    pub fn len(self) -> usize {
+    pub fn len(self) -> usize
+        ensures { result ≡ self.behind - self.first }
+    {
         self.behind.saturating_sub(self.first)
     }
 
     /// Whether there is no place.
-    pub fn is_empty(self) -> bool {
+    pub fn is_empty(self) -> bool
+        ensures { IsTrue result ↔ (self.behind ≤ self.first) }
+    {
         self.behind <= self.first
     }
 
     /// Whether the place is one of them.
-    pub fn contains(self, place: usize) -> bool {
+    pub fn contains(self, place: usize) -> bool
+        ensures { IsTrue result ↔ ((self.first ≤ place) × (place < self.behind)) }
+    {
         self.first <= place && place < self.behind
     }
 }
@@ -47,7 +54,10 @@ impl Window {
     ///
     /// `Window` where it isn't from a step of the replay to the same or a later one, and otherwise `TooMany`
     /// where it has more than 2,000 steps.
-    pub fn drawn(self, steps: usize) -> Result<Span, PictureError> {
+    pub fn drawn(self, steps: usize) -> Result<Span, PictureError>
+        ensures value { result ≡ drawn_of self steps }
+        ensures room { IfOk result (HasRoom steps) }
+    {
         let (first, behind) = match self {
             Window::Whole => (0, steps),
             Window::Steps { first, last } if first <= last && last < steps => (first, last + 1),

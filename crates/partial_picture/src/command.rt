@@ -1,11 +1,13 @@
 //! From the text of a plan to the text of a picture.
 
-ghost use Rattle.std.specs.Prelude.{◌≡◌, false};
+ghost use Rattle.std.specs.Prelude.{◌≡◌, ◌≢◌, ◌↔◌, true, false, IfErr, IfSome, IsErrOf};
+ghost use Rattle.partial_text.specs.Judging.{judged};
+ghost use Rattle.partial_picture.specs.Refusal.{IsJudged, reader_fault, writer_fault};
 
-use crate::drawing::drawing;
+use crate::svg::drawing;
 use crate::fault::Fault;
 use crate::picture::Picture;
-use crate::table::table;
+use crate::columns::table;
 use crate::window::Window;
 use partial_replay::{Device, Plan, replay};
 use partial_text::write_text;
@@ -37,6 +39,13 @@ pub fn draw<R: Read, W: Write>(
 ) -> Result<(), Fault>
     requires plan { plan.old.failed ≡ false }
     requires out { out.old.failed ≡ false }
+    ensures read_fault { IsErrOf result reader_fault ↔ (plan.new.failed ≡ true) }
+    ensures write_fault { IsErrOf result writer_fault ↔ (out.new.failed ≡ true) }
+    // Which fault of the plan it is, and that a plan without a fault isn't refused as one.
+    ensures plan { plan.new.failed ≡ false → IfSome (R.remaining plan.old.inner)
+        (λ bytes. IsJudged result (judged bytes)) }
+    // Nothing is written but after a fault of the writer.
+    ensures unwritten { IfErr result (λ fault. fault ≢ writer_fault → out.new ≡ out.old) }
 {
     let plan = Plan::read(alloc, plan)?;
     let outcome = replay(alloc, &plan)?;

@@ -61,12 +61,13 @@ fn remarks_of(alloc: Global, picture: &Picture<'_>) -> Result<Remarks, AllocErro
         beside: blanks(alloc, picture.marks.len())?,
     };
     remarks.between.push(String::new(alloc))?;
-    for bar in &picture.bars {
-        tell_bar(alloc, &mut remarks, bar)?;
-    }
+    // The exchange that adds an entry is the last step of its call, and never the first one.
     for pin in &picture.pins {
         let words = entry_words(alloc, pin.place, &pin.entry)?;
         tell(&mut remarks.beside, pin.mark, &words)?;
+    }
+    for bar in &picture.bars {
+        tell_bar(alloc, &mut remarks, bar)?;
     }
     Ok(remarks)
 }

@@ -126,12 +126,12 @@ fn push_lanes(
 ) -> Result<(), AllocError> {
     let y = layout.history();
     push_words(text, "name", Pixels(8), y + 4, "history")?;
-    push_line(text, "history", (layout.left(), y), (layout.right(), y))?;
-    for port in 0..picture.ports as u32 {
+    push_line(text, "history", (layout.left(), y), (layout.right, y))?;
+    for port in 0..picture.ports {
         let name = format!(in alloc; "port {port}")?;
         let y = layout.line(port);
         push_words(text, "name", Pixels(8), y + 4, &name)?;
-        push_line(text, "lane", (layout.left(), y), (layout.right(), y))?;
+        push_line(text, "lane", (layout.left(), y), (layout.right, y))?;
         for mark in (0..picture.marks.len()).skip(50).step_by(50) {
             push_words(text, "again", layout.edge(mark), y + 24, &name)?;
         }
@@ -216,7 +216,7 @@ fn push_pin(
 ) -> Result<(), AllocError> {
     let y = layout.history();
     let Pin { entry, place, .. } = *pin;
-    push_line(text, "stem", (x, y + 6), (x, layout.line(entry.port) - 8))?;
+    push_line(text, "stem", (x, y + 6), (x, layout.line(entry.port as usize) - 8))?;
     write!(text, "<circle class=\"entry\" cx=\"{x}\" cy=\"{y}\" r=\"5\">")?;
     push_title(text, &entry_words(alloc, place, &entry)?, "circle")?;
     let component = entry.component;
@@ -239,7 +239,7 @@ fn push_touched(
         let y = layout.row(index);
         let name = word_words(alloc, picture.sizes, *word)?;
         push_words(text, "name", Pixels(8), y + 4, &name)?;
-        push_line(text, "row", (layout.left(), y), (layout.right(), y))?;
+        push_line(text, "row", (layout.left(), y), (layout.right, y))?;
     }
     for (index, mark) in picture.marks.iter().enumerate() {
         let Ok(row) = picture.words.binary_search(&mark.event.step.word()) else {
@@ -247,7 +247,7 @@ fn push_touched(
         };
         let x = layout.middle(index);
         let y = layout.row(row);
-        push_line(text, "touch", (x, layout.line(mark.event.port) + 8), (x, y - 5))?;
+        push_line(text, "touch", (x, layout.line(mark.event.port as usize) + 8), (x, y - 5))?;
         writeln!(text, "<circle class=\"touched\" cx=\"{x}\" cy=\"{y}\" r=\"3\"/>")?;
     }
     Ok(())
@@ -272,7 +272,7 @@ fn push_bars(
 ) -> Result<(), AllocError> {
     for (index, (bar, sides)) in picture.bars.iter().zip(&layout.bars).enumerate() {
         let room = layout.room(&picture.bars, index);
-        push_bar(alloc, text, bar, sides, layout.lane(bar.called.port), room)?;
+        push_bar(alloc, text, bar, sides, layout.lane(bar.called.port as usize), room)?;
     }
     Ok(())
 }
@@ -297,7 +297,7 @@ fn push_pins(
 
 /// Where a mark stands.
 fn place_of(picture: &Picture<'_>, layout: &Layout, mark: usize) -> (Pixels, Pixels) {
-    let port = picture.marks.get(mark).map_or(0, |mark| mark.event.port);
+    let port = picture.marks.get(mark).map_or(0, |mark| mark.event.port as usize);
     (layout.middle(mark), layout.line(port))
 }
 
