@@ -1,4 +1,5 @@
 pub mod Arrows
+pub mod Bars
 pub mod Drawn
 pub mod Marks
 pub mod Pins

@@ -1,7 +1,8 @@
 //! What is drawn of a replay.
 
-ghost use Rattle.std.specs.Prelude.{◌≡◌, ◌≢◌, ◌-◌, All, map, length, IfOk, MatchResult};
+ghost use Rattle.std.specs.Prelude.{◌≡◌, ◌≢◌, ◌≤◌, ◌-◌, All, map, length, IfOk, IfSome, MatchResult};
 ghost use Rattle.partial_picture.specs.Arrows.{IsWithin};
+ghost use Rattle.partial_picture.specs.Bars.{StandsIn};
 ghost use Rattle.partial_picture.specs.Drawn.{drawn_of};
 ghost use Rattle.partial_picture.specs.Marks.{mark_of, marks_in};
 ghost use Rattle.partial_picture.specs.Pins.{pin_at, pins_at, won_steps};
@@ -136,6 +137,9 @@ impl<'a> Picture<'a> {
         // One pin for each entry of the history whose exchange is in the window, in order and at its mark.
         ensures pins { IfOk result (λ picture. picture.pins.items
             ≡ pins_at picture.window outcome.now.history.items (won_steps sizes.m outcome.now.trace.items)) }
+        // Bars and arrows stand at marks that are there.
+        ensures bars { IfOk result (λ picture.
+            All (StandsIn (picture.window.behind - picture.window.first)) picture.bars.items) }
         ensures arrows { IfOk result (λ picture.
             All (IsWithin (picture.window.behind - picture.window.first)) picture.arrows.items) }
     {
@@ -167,34 +171,41 @@ fn marks_of(alloc: Global, events: &[Event]) -> Result<Vec<Mark>, AllocError>
     events.iter().map(|event| Mark::of(*event)).collect(alloc)
 }
 
-/// A bar for each call with a step in the window or, without one, in its place there. The last window of a replay
-/// has the calls behind the last step too.
+/// The bar of a call with a step in the window or, without one, in its place there. The last window of a replay has
+/// the calls behind the last step too.
+fn bar_in<'a>(window: Span, steps: usize, made: &Made<'a, '_>) -> Option<Bar<'a>>
+    requires { window.first ≤ window.behind }
+    ensures { IfSome result (StandsIn (window.behind - window.first)) }
+{
+    let Span { first, behind } = made.span;
+    let stands = match made.span.is_empty() {
+        true => window.contains(first) || (first == steps && window.behind == steps),
+        false => first < window.behind && window.first < behind,
+    };
+    stands.then_some(Bar {
+        called: made.called,
+        marks: Span {
+            first: first.max(window.first).saturating_sub(window.first),
+            behind: behind.min(window.behind).saturating_sub(window.first),
+        },
+        begins: window.first <= first,
+        ends: made.called.finish.is_some() && behind <= window.behind,
+    })
+}
+
+/// A bar for each call that stands in the window.
 fn bars_of<'a>(
     alloc: Global,
     window: Span,
     steps: usize,
     made: &[Made<'a, '_>],
-) -> Result<Vec<Bar<'a>>, AllocError> {
-    let mut bars = Vec::new(alloc);
-    for call in made {
-        let Span { first, behind } = call.span;
-        let stands = match call.span.is_empty() {
-            true => window.contains(first) || (first == steps && window.behind == steps),
-            false => first < window.behind && window.first < behind,
-        };
-        if stands {
-            bars.push(Bar {
-                called: call.called,
-                marks: Span {
-                    first: first.max(window.first) - window.first,
-                    behind: behind.min(window.behind).saturating_sub(window.first),
-                },
-                begins: window.first <= first,
-                ends: call.called.finish.is_some() && behind <= window.behind,
-            })?;
-        }
-    }
-    Ok(bars)
+) -> Result<Vec<Bar<'a>>, AllocError>
+    requires { window.first ≤ window.behind }
+    ensures { IfOk result (λ bars. All (StandsIn (window.behind - window.first)) bars.items) }
+{
+    made.iter()
+        .filter_map(|call| bar_in(window, steps, call))
+        .collect(alloc)
 }
 
 /// The pin of an entry, where its exchange is in the window.

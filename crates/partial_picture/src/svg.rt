@@ -215,13 +215,13 @@ fn push_pin(
     room: Pixels,
 ) -> Result<(), AllocError> {
     let y = layout.history();
-    let Pin { entry, place, .. } = *pin;
-    push_line(text, "stem", (x, y + 6), (x, layout.line(entry.port as usize) - 8))?;
+    let line = layout.line(pin.entry.port as usize);
+    push_line(text, "stem", (x, y + 6), (x, line - 8))?;
     write!(text, "<circle class=\"entry\" cx=\"{x}\" cy=\"{y}\" r=\"5\">")?;
-    push_title(text, &entry_words(alloc, place, &entry)?, "circle")?;
-    let component = entry.component;
-    let value = entry.value;
-    let stamp = entry.stamp;
+    push_title(text, &entry_words(alloc, pin.place, &pin.entry)?, "circle")?;
+    let component = pin.entry.component;
+    let value = pin.entry.value;
+    let stamp = pin.entry.stamp;
     let above = format!(in alloc; "component {component} value {value}")?;
     let below = format!(in alloc; "stamp {stamp}")?;
     push_words(text, "call", x - 4, y - 24, &fitted(alloc, &above, room)?)?;
