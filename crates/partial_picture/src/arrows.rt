@@ -44,11 +44,9 @@ fn shows(m: usize, event: &Event, stamp: u64) -> bool {
 
 /// The last of these steps that shows the stamp.
 fn last_shown(m: usize, trace: &[Event], steps: &[usize], stamp: u64) -> Option<usize> {
-    steps
-        .iter()
-        .rev()
-        .copied()
-        .find(|step| trace.get(*step).is_some_and(|event| shows(m, event, stamp)))
+    steps.iter().rev().copied().find(|step| trace
+        .get(*step)
+        .is_some_and(|event| shows(m, event, stamp)))
 }
 
 /// The arrow to a call, by its answer: an update that was overtaken ends with the step that showed it, and a scan

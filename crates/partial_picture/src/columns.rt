@@ -49,7 +49,11 @@ fn tell_bar(alloc: Global, remarks: &mut Remarks, bar: &Bar<'_>) -> Result<(), A
     }
     if bar.ends {
         let words = format!(in alloc; "call {port} {number}: {finish}")?;
-        tell(&mut remarks.beside, bar.marks.behind.saturating_sub(1), &words)?;
+        tell(
+            &mut remarks.beside,
+            bar.marks.behind.saturating_sub(1),
+            &words,
+        )?;
     }
     Ok(())
 }
@@ -127,7 +131,11 @@ fn line_of(
 ) -> Result<String, AllocError> {
     let mut line = format!(in alloc; "{step:>6}  ")?;
     for (port, width) in widths.iter().enumerate() {
-        let words = if port == mark.event.port as usize { cell } else { "" };
+        let words = if port == mark.event.port as usize {
+            cell
+        } else {
+            ""
+        };
         push_cell(&mut line, words, *width)?;
     }
     line.push_str(remark)?;
@@ -158,7 +166,10 @@ pub fn table(alloc: Global, picture: &Picture<'_>) -> Result<String, AllocError>
     for (index, (mark, ((cell, remark), between))) in picture.marks.iter().zip(beside).enumerate() {
         push_between(&mut text, between)?;
         let step = picture.window.first.saturating_add(index);
-        push_line(&mut text, &line_of(alloc, step, mark, &widths, cell, remark)?)?;
+        push_line(
+            &mut text,
+            &line_of(alloc, step, mark, &widths, cell, remark)?,
+        )?;
     }
     if let Some(last) = remarks.between.last() {
         push_between(&mut text, last)?;

@@ -4,10 +4,10 @@ ghost use Rattle.std.specs.Prelude.{◌≡◌, ◌≢◌, ◌↔◌, true, false
 ghost use Rattle.partial_text.specs.Judging.{judged};
 ghost use Rattle.partial_picture.specs.Refusal.{IsJudged, reader_fault, writer_fault};
 
-use crate::svg::drawing;
+use crate::columns::table;
 use crate::fault::Fault;
 use crate::picture::Picture;
-use crate::columns::table;
+use crate::svg::drawing;
 use crate::window::Window;
 use partial_replay::{Device, Plan, replay};
 use partial_text::write_text;

@@ -64,11 +64,7 @@ fn step_width(marks: usize) -> u64 {
 }
 
 /// How many calls without a step stand before each of so many marks, and behind the last one.
-fn calls_between(
-    alloc: Global,
-    marks: usize,
-    bars: &[Bar<'_>],
-) -> Result<Vec<usize>, AllocError> {
+fn calls_between(alloc: Global, marks: usize, bars: &[Bar<'_>]) -> Result<Vec<usize>, AllocError> {
     let mut counts = vec![in alloc; 0usize; marks]?;
     counts.push(0)?;
     for bar in bars {

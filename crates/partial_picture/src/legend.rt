@@ -1,8 +1,8 @@
 //! The colours of a drawing, and what its shapes mean.
 
-use crate::svg::{push_shape, push_words};
 use crate::picture::Shape;
 use crate::pixels::Pixels;
+use crate::svg::{push_shape, push_words};
 use std::alloc::AllocError;
 
 /// The colours are those of Okabe and Ito, which the colour-blind tell apart, and each stands with a shape of its
@@ -76,14 +76,26 @@ pub(crate) fn push_legend(text: &mut String, top: Pixels) -> Result<(), AllocErr
         push_words(text, "meaning", x + 12, y + 4, words)?;
     }
     let y = top + 36;
-    writeln!(text, "<circle class=\"entry\" cx=\"14\" cy=\"{y}\" r=\"5\"/>")?;
+    writeln!(
+        text,
+        "<circle class=\"entry\" cx=\"14\" cy=\"{y}\" r=\"5\"/>"
+    )?;
     push_words(text, "meaning", Pixels(26), y + 4, "entry of the history")?;
-    writeln!(text, "<path class=\"arrow overtook\" marker-end=\"url(#overtook)\" d=\"M182 {y}H214\"/>")?;
+    writeln!(
+        text,
+        "<path class=\"arrow overtook\" marker-end=\"url(#overtook)\" d=\"M182 {y}H214\"/>"
+    )?;
     push_words(text, "meaning", Pixels(222), y + 4, "has overtaken")?;
-    writeln!(text, "<path class=\"arrow lent\" marker-end=\"url(#lent)\" d=\"M326 {y}H358\"/>")?;
+    writeln!(
+        text,
+        "<path class=\"arrow lent\" marker-end=\"url(#lent)\" d=\"M326 {y}H358\"/>"
+    )?;
     push_words(text, "meaning", Pixels(366), y + 4, "has lent its view")?;
     let box_top = top + 27;
-    writeln!(text, "<rect class=\"bar unfinished\" x=\"498\" y=\"{box_top}\" width=\"26\" height=\"18\" rx=\"5\"/>")?;
+    writeln!(
+        text,
+        "<rect class=\"bar unfinished\" x=\"498\" y=\"{box_top}\" width=\"26\" height=\"18\" rx=\"5\"/>"
+    )?;
     push_words(text, "meaning", Pixels(532), y + 4, "unfinished call")?;
     text.push_str("</g>\n")
 }

@@ -241,7 +241,10 @@ fn pins_of(
 
 /// The words that the marks touch.
 fn words_of(alloc: Global, marks: &[Mark]) -> Result<Vec<u32>, AllocError> {
-    let mut words: Vec<u32> = marks.iter().map(|mark| mark.event.step.word()).collect(alloc)?;
+    let mut words: Vec<u32> = marks
+        .iter()
+        .map(|mark| mark.event.step.word())
+        .collect(alloc)?;
     words.sort_unstable();
     words.dedup();
     Ok(words)

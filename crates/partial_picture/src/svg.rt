@@ -52,7 +52,10 @@ fn push_line(
     (x1, y1): (Pixels, Pixels),
     (x2, y2): (Pixels, Pixels),
 ) -> Result<(), AllocError> {
-    writeln!(text, "<line class=\"{class}\" x1=\"{x1}\" y1=\"{y1}\" x2=\"{x2}\" y2=\"{y2}\"/>")
+    writeln!(
+        text,
+        "<line class=\"{class}\" x1=\"{x1}\" y1=\"{y1}\" x2=\"{x2}\" y2=\"{y2}\"/>"
+    )
 }
 
 /// The words that fit into a room, cut with three dots where not all do. No words where hardly any do.
@@ -79,23 +82,35 @@ pub(crate) fn push_shape(
     let (left, right, top, bottom) = (x - 7, x + 7, y - 7, y + 7);
     match shape {
         Shape::Load => {
-            write!(text, "<circle class=\"mark load\" cx=\"{x}\" cy=\"{y}\" r=\"5\">")?;
+            write!(
+                text,
+                "<circle class=\"mark load\" cx=\"{x}\" cy=\"{y}\" r=\"5\">"
+            )?;
             Ok("circle")
         }
         Shape::Store => {
             let (x, y) = (x - 5, y - 5);
-            write!(text, "<rect class=\"mark store\" x=\"{x}\" y=\"{y}\" width=\"10\" height=\"10\">")?;
+            write!(
+                text,
+                "<rect class=\"mark store\" x=\"{x}\" y=\"{y}\" width=\"10\" height=\"10\">"
+            )?;
             Ok("rect")
         }
         Shape::Won | Shape::Lost => {
             let class = if shape == Shape::Won { "won" } else { "lost" };
-            write!(text, "<polygon class=\"mark exchange {class}\" points=\"{x},{top} {right},{y} ")?;
+            write!(
+                text,
+                "<polygon class=\"mark exchange {class}\" points=\"{x},{top} {right},{y} "
+            )?;
             write!(text, "{x},{bottom} {left},{y}\">")?;
             Ok("polygon")
         }
         Shape::Add => {
             let base = y + 5;
-            write!(text, "<polygon class=\"mark add\" points=\"{x},{top} {right},{base} {left},{base}\">")?;
+            write!(
+                text,
+                "<polygon class=\"mark add\" points=\"{x},{top} {right},{base} {left},{base}\">"
+            )?;
             Ok("polygon")
         }
     }
@@ -110,7 +125,10 @@ fn push_axis(text: &mut String, picture: &Picture<'_>, layout: &Layout) -> Resul
         if step % every == 0 {
             let x = layout.middle(mark);
             push_line(text, "grid", (x, Pixels(22)), (x, layout.bottom()))?;
-            writeln!(text, "<text class=\"number\" x=\"{x}\" y=\"16\">{step}</text>")?;
+            writeln!(
+                text,
+                "<text class=\"number\" x=\"{x}\" y=\"16\">{step}</text>"
+            )?;
         }
     }
     Ok(())
@@ -156,7 +174,10 @@ fn push_bar(
     };
     let (x, y) = (sides.left, top + 34);
     let width = sides.right - sides.left.0;
-    write!(text, "<rect class=\"{class}\" x=\"{x}\" y=\"{y}\" width=\"{width}\" height=\"24\" rx=\"5\">")?;
+    write!(
+        text,
+        "<rect class=\"{class}\" x=\"{x}\" y=\"{y}\" width=\"{width}\" height=\"24\" rx=\"5\">"
+    )?;
     let port = bar.called.port;
     let number = bar.called.number;
     let steps = bar.called.steps;
@@ -194,10 +215,20 @@ fn push_arrow(
         ArrowKind::Overtook => ("overtook", "overtook"),
         ArrowKind::Lent => ("lent", "lent its view to"),
     };
-    let (from, to) = if y1 < y2 { (y1 + 9, y2 - 14) } else { (y1 - 9, y2 + 14) };
+    let (from, to) = if y1 < y2 {
+        (y1 + 9, y2 - 14)
+    } else {
+        (y1 - 9, y2 + 14)
+    };
     let bend = Pixels(from.0 / 2 + to.0 / 2);
-    write!(text, "<path class=\"arrow {class}\" marker-end=\"url(#{class})\" ")?;
-    write!(text, "d=\"M{x1} {from} C{x1} {bend} {x2} {bend} {x2} {to}\">")?;
+    write!(
+        text,
+        "<path class=\"arrow {class}\" marker-end=\"url(#{class})\" "
+    )?;
+    write!(
+        text,
+        "d=\"M{x1} {from} C{x1} {bend} {x2} {bend} {x2} {to}\">"
+    )?;
     let port = arrow.called.port;
     let number = arrow.called.number;
     let stamp = arrow.stamp;
@@ -217,7 +248,10 @@ fn push_pin(
     let y = layout.history();
     let line = layout.line(pin.entry.port as usize);
     push_line(text, "stem", (x, y + 6), (x, line - 8))?;
-    write!(text, "<circle class=\"entry\" cx=\"{x}\" cy=\"{y}\" r=\"5\">")?;
+    write!(
+        text,
+        "<circle class=\"entry\" cx=\"{x}\" cy=\"{y}\" r=\"5\">"
+    )?;
     push_title(text, &entry_words(alloc, pin.place, &pin.entry)?, "circle")?;
     let component = pin.entry.component;
     let value = pin.entry.value;
@@ -247,8 +281,16 @@ fn push_touched(
         };
         let x = layout.middle(index);
         let y = layout.row(row);
-        push_line(text, "touch", (x, layout.line(mark.event.port as usize) + 8), (x, y - 5))?;
-        writeln!(text, "<circle class=\"touched\" cx=\"{x}\" cy=\"{y}\" r=\"3\"/>")?;
+        push_line(
+            text,
+            "touch",
+            (x, layout.line(mark.event.port as usize) + 8),
+            (x, y - 5),
+        )?;
+        writeln!(
+            text,
+            "<circle class=\"touched\" cx=\"{x}\" cy=\"{y}\" r=\"3\"/>"
+        )?;
     }
     Ok(())
 }
@@ -257,10 +299,19 @@ fn push_touched(
 fn push_front(text: &mut String, layout: &Layout) -> Result<(), AllocError> {
     let width = layout.width;
     let height = layout.height;
-    write!(text, "<svg xmlns=\"http://www.w3.org/2000/svg\" width=\"{width}\" height=\"{height}\" ")?;
-    writeln!(text, "viewBox=\"0 0 {width} {height}\" role=\"img\" aria-label=\"the replay of a plan\">")?;
+    write!(
+        text,
+        "<svg xmlns=\"http://www.w3.org/2000/svg\" width=\"{width}\" height=\"{height}\" "
+    )?;
+    writeln!(
+        text,
+        "viewBox=\"0 0 {width} {height}\" role=\"img\" aria-label=\"the replay of a plan\">"
+    )?;
     text.push_str(STYLE)?;
-    writeln!(text, "<rect class=\"paper\" width=\"{width}\" height=\"{height}\"/>")
+    writeln!(
+        text,
+        "<rect class=\"paper\" width=\"{width}\" height=\"{height}\"/>"
+    )
 }
 
 /// Writes the bars of the calls.
@@ -272,7 +323,14 @@ fn push_bars(
 ) -> Result<(), AllocError> {
     for (index, (bar, sides)) in picture.bars.iter().zip(&layout.bars).enumerate() {
         let room = layout.room(&picture.bars, index);
-        push_bar(alloc, text, bar, sides, layout.lane(bar.called.port as usize), room)?;
+        push_bar(
+            alloc,
+            text,
+            bar,
+            sides,
+            layout.lane(bar.called.port as usize),
+            room,
+        )?;
     }
     Ok(())
 }
@@ -297,7 +355,10 @@ fn push_pins(
 
 /// Where a mark stands.
 fn place_of(picture: &Picture<'_>, layout: &Layout, mark: usize) -> (Pixels, Pixels) {
-    let port = picture.marks.get(mark).map_or(0, |mark| mark.event.port as usize);
+    let port = picture
+        .marks
+        .get(mark)
+        .map_or(0, |mark| mark.event.port as usize);
     (layout.middle(mark), layout.line(port))
 }
 

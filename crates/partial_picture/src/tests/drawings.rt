@@ -1,8 +1,8 @@
 //! Drawings, and what stands in them how often.
 
 use super::{BORROWED_VIEW, LOST_EXCHANGE, REFUSED, count, drawn, replayed};
-use crate::svg::{fitted, push_escaped};
 use crate::pixels::Pixels;
+use crate::svg::{fitted, push_escaped};
 use crate::{Form, Window};
 use partial_replay::Event;
 use partial_words::Step;
@@ -21,7 +21,7 @@ fn steps_with<F: Fn(&Event) -> bool>(trace: &[Event], is_wanted: F) -> usize
     found
 }
 
-// The legend has each shape once more.
+// The legend has each shape once more, and an exchange that was lost beside one that has won.
 #[test]
 fn each_shape_is_drawn_once(rt: HostRuntime) -> Result<(), Fail> {
     for plan in [LOST_EXCHANGE, BORROWED_VIEW, REFUSED] {
@@ -30,15 +30,35 @@ fn each_shape_is_drawn_once(rt: HostRuntime) -> Result<(), Fail> {
         let text = drawn(rt.alloc(), form, Window::Whole, plan)?;
         let trace = &outcome.trace;
         let rows = [
-            ("mark load", steps_with(trace, |event| matches!(event.step, Step::Load(_)))),
-            ("mark store", steps_with(trace, |event| matches!(event.step, Step::Store(..)))),
-            ("mark add", steps_with(trace, |event| matches!(event.step, Step::Add(..)))),
-            ("mark exchange ", steps_with(trace, |event| matches!(event.step, Step::Exchange(..))) + 1),
-            ("entry", outcome.history.len()),
+            (
+                "mark load",
+                steps_with(trace, |event| matches!(event.step, Step::Load(_))),
+                1,
+            ),
+            (
+                "mark store",
+                steps_with(trace, |event| matches!(event.step, Step::Store(..))),
+                1,
+            ),
+            (
+                "mark add",
+                steps_with(trace, |event| matches!(event.step, Step::Add(..))),
+                1,
+            ),
+            (
+                "mark exchange ",
+                steps_with(trace, |event| matches!(event.step, Step::Exchange(..))),
+                2,
+            ),
+            ("entry", outcome.history.len(), 1usize),
         ];
-        for (class, wanted) in rows {
+        for (class, events, legend) in rows {
             let class = format!(in rt.alloc(); "class=\"{class}")?;
-            assert_eq!(rt; count(&text, &class), wanted + 1, "{class}");
+            assert_eq!(rt;
+                count(&text, &class),
+                events.saturating_add(legend),
+                "{class}"
+            );
         }
         assert_eq!(rt; count(&text, "class=\"touched\""), trace.len());
         assert_eq!(rt; count(&text, "class=\"touch\""), trace.len());
@@ -58,8 +78,14 @@ fn each_shape_is_drawn_once(rt: HostRuntime) -> Result<(), Fail> {
 #[test]
 fn arrows_tell_what_was_overtaken_and_lent(rt: HostRuntime) -> Result<(), Fail> {
     let rows = [
-        (LOST_EXCHANGE, Some("<title>stamp 27 overtook call 0 0</title>")),
-        (BORROWED_VIEW, Some("<title>stamp 32 lent its view to call 0 0</title>")),
+        (
+            LOST_EXCHANGE,
+            Some("<title>stamp 27 overtook call 0 0</title>"),
+        ),
+        (
+            BORROWED_VIEW,
+            Some("<title>stamp 32 lent its view to call 0 0</title>"),
+        ),
         // The second conditional update came behind the entry that it shows: it wasn't overtaken.
         (REFUSED, None),
     ];
@@ -67,7 +93,10 @@ fn arrows_tell_what_was_overtaken_and_lent(rt: HostRuntime) -> Result<(), Fail> 
         let form = Form::Drawing { has_words: false };
         let text = drawn(rt.alloc(), form, Window::Whole, plan)?;
         assert_eq!(rt; count(&text, "class=\"touch"), 0);
-        assert_eq!(rt; count(&text, "class=\"arrow"), 2 + usize::from(title.is_some()));
+        assert_eq!(rt;
+            count(&text, "class=\"arrow"),
+            2 + usize::from(title.is_some())
+        );
         if let Some(title) = title {
             assert_eq!(rt; count(&text, title), 1);
         }
@@ -80,10 +109,22 @@ fn arrows_tell_what_was_overtaken_and_lent(rt: HostRuntime) -> Result<(), Fail> 
 #[test]
 fn size_of_a_drawing(rt: HostRuntime) -> Result<(), Fail> {
     let rows = [
-        (LOST_EXCHANGE, false, "width=\"660\" height=\"298\" viewBox=\"0 0 660 298\""),
-        (BORROWED_VIEW, false, "width=\"1176\" height=\"298\" viewBox=\"0 0 1176 298\""),
+        (
+            LOST_EXCHANGE,
+            false,
+            "width=\"660\" height=\"298\" viewBox=\"0 0 660 298\"",
+        ),
+        (
+            BORROWED_VIEW,
+            false,
+            "width=\"1176\" height=\"298\" viewBox=\"0 0 1176 298\"",
+        ),
         // 10 words: component 0, three counters and six pool words, 18 high each.
-        (LOST_EXCHANGE, true, "width=\"660\" height=\"478\" viewBox=\"0 0 660 478\""),
+        (
+            LOST_EXCHANGE,
+            true,
+            "width=\"660\" height=\"478\" viewBox=\"0 0 660 478\"",
+        ),
     ];
     for (plan, has_words, size) in rows {
         let text = drawn(rt.alloc(), Form::Drawing { has_words }, Window::Whole, plan)?;
@@ -96,7 +137,10 @@ fn size_of_a_drawing(rt: HostRuntime) -> Result<(), Fail> {
 fn words_are_escaped(rt: HostRuntime) -> Result<(), Fail> {
     let mut text = String::from_str(rt.alloc(), "1")?;
     push_escaped(&mut text, "a < b & \"c\" > 'd' é")?;
-    assert_eq!(rt; text.as_str(), "1a &lt; b &amp; &quot;c&quot; &gt; &#39;d&#39; é");
+    assert_eq!(rt;
+        text.as_str(),
+        "1a &lt; b &amp; &quot;c&quot; &gt; &#39;d&#39; é"
+    );
     Ok(())
 }
 

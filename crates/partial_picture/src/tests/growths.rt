@@ -33,7 +33,13 @@ fn refuses<R: Alloc<A = Global>>(rt: &R, form: Form) -> Result<bool, Fail> {
         first: 40,
         last: 41,
     };
-    let given = draw(rt.alloc(), form, window, &mut Device::new(BORROWED_VIEW), &mut out);
+    let given = draw(
+        rt.alloc(),
+        form,
+        window,
+        &mut Device::new(BORROWED_VIEW),
+        &mut out,
+    );
     let count = out.into_inner().count;
     if let Err(fault) = given {
         if fault.code() == 6 && count == 0 {

@@ -33,7 +33,8 @@ fn lost_exchange(rt: HostRuntime) -> Result<(), Fail> {
 // window isn't told to begin or to end in it.
 #[test]
 fn calls_between_steps(rt: HostRuntime) -> Result<(), Fail> {
-    let plan = b"sizes 2 4 8 64\ninitial 10 20\nport read 1; scan; read 7; read 0; scan\nsteps rest\n";
+    let plan =
+        b"sizes 2 4 8 64\ninitial 10 20\nport read 1; scan; read 7; read 0; scan\nsteps rest\n";
     let rows = [
         (
             Window::Whole,

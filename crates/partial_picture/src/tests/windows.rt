@@ -35,7 +35,13 @@ fn refused_windows(rt: HostRuntime) -> Result<(), Fail> {
     for (first, last) in [(1, 0), (16, 16), (0, 16), (0, usize::MAX)] {
         let mut out = Device::new(Vec::new(rt.alloc()));
         let window = Window::Steps { first, last };
-        let given = draw(rt.alloc(), DRAWING, window, &mut Device::new(LOST_EXCHANGE), &mut out);
+        let given = draw(
+            rt.alloc(),
+            DRAWING,
+            window,
+            &mut Device::new(LOST_EXCHANGE),
+            &mut out,
+        );
         let wanted = Fault::Picture(PictureError::Window { steps: 16 });
         assert_eq!(rt; given.err(), Some(wanted), "{first} {last}");
         assert_eq!(rt; out.into_inner().len(), 0);
@@ -99,8 +105,18 @@ impl Write for Filling {
 fn failing_writer(rt: HostRuntime) -> Result<(), Fail> {
     for room in [0, 1, 1000] {
         let mut out = Device::new(Filling { room });
-        let given = draw(rt.alloc(), DRAWING, Window::Whole, &mut Device::new(LOST_EXCHANGE), &mut out);
-        assert_eq!(rt; given.err(), Some(Fault::Text(OutcomeError::Write)), "{room}");
+        let given = draw(
+            rt.alloc(),
+            DRAWING,
+            Window::Whole,
+            &mut Device::new(LOST_EXCHANGE),
+            &mut out,
+        );
+        assert_eq!(rt;
+            given.err(),
+            Some(Fault::Text(OutcomeError::Write)),
+            "{room}"
+        );
         assert!(rt; out.failed());
     }
     Ok(())
