@@ -73,6 +73,7 @@ refuse_all partial_rounds 'tests::growths::.*'
 refuse_all partial_cmd 'tests::growths::.*'
 refuse_all partial_memory 'tests::growths::.*'
 refuse_all partial_pipeline 'tests::growths::.*'
+refuse_all partial_picture 'tests::growths::.*'
 
 echo "$passed passed, $failed failed"
 [ "$failed" -eq 0 ]

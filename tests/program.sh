@@ -293,6 +293,112 @@ shows "pipeline: 63 stages" 0 63 50 "" --items 50 --looks 100
 shows "pipeline: a spent pool" 1 2 - "pipeline: pool spent" --items 18446744073709551615 --looks 50
 program=$partial
 
+# The program `picture`: PICTURE may name a built one.
+program=${PICTURE:-$top/crates/picture/out/picture}
+if [ -z "${PICTURE:-}" ] && ! is_fresh "$program"; then
+    (cd "$top/crates/picture" && rt run -- <stdin >/dev/null)
+fi
+
+# shapes PART: how many of these stand in the drawing, without those of the legend.
+shapes() {
+    sed '/<g class="legend">/,$d' "$room/drawn" | grep -c -- "$1"
+}
+
+# holds NAME COMMAND..: the command must succeed.
+holds() {
+    local name=$1
+    shift
+    if "$@"; then
+        passed=$((passed + 1))
+    else
+        failed=$((failed + 1))
+        echo "failed: $name"
+    fi
+}
+
+# Whether the drawing has one mark for each step of the outcome, one bar for each of its calls, and one entry for
+# each of its applied updates; whether it touches a word in each step; and whether it has an arrow for each update
+# that was lost and each view that was borrowed. An update that was changed may have one.
+draws_all() {
+    local outcome=$1 steps calls entries lost changed borrowed arrows
+    steps=$(sed -n 's/^total //p' "$outcome")
+    calls=$(grep -c '^call ' "$outcome")
+    entries=$(grep -c '^applied ' "$outcome")
+    lost=$(grep -cE '^call [0-9]+ [0-9]+ lost ' "$outcome")
+    changed=$(grep -cE '^call [0-9]+ [0-9]+ changed ' "$outcome")
+    borrowed=$(grep -cE ' borrowed [0-9]+ steps ' "$outcome")
+    arrows=$(shapes '<path class="arrow ')
+    [ "$(shapes 'class="mark ')" -eq "$steps" ] && [ "$(shapes 'class="touched"')" -eq "$steps" ] &&
+        [ "$(shapes '<rect class="bar')" -eq "$calls" ] && [ "$(shapes 'class="entry"')" -eq "$entries" ] &&
+        [ "$arrows" -ge $((lost + borrowed)) ] && [ "$arrows" -le $((lost + borrowed + changed)) ]
+}
+
+# Every plan, from a file and from standard input: the same bytes, and each shape once for its event.
+for plan in "$top"/plans/*.plan; do
+    name=$(basename "$plan" .plan)
+    "$program" --words "$plan" >"$room/drawn"
+    cp "$plan" "$room/in"
+    cp "$room/drawn" "$room/out"
+    : >"$room/err"
+    case_of "picture: $name" 0 --words
+    holds "picture: what stands in $name" draws_all "$top/plans/$name.expected"
+    holds "picture: the table of $name" test "$("$program" --text "$plan" | grep -cE '^ +[0-9]+  ')" -eq \
+        "$(sed -n 's/^total //p' "$top/plans/$name.expected")"
+done
+
+# 2,000 steps are drawn, and 2,001 by windows alone.
+reads=$(printf '; read %d' {1..999} | sed 's/ [0-9]*;/ 0;/g; s/ [0-9]*$/ 0/')
+printf '%s' "$head"$'port read 0'"$reads"$'\nsteps rest\n' >"$room/most.plan"
+printf '%s' "$head"$'port read 0'"$reads"$'\nport read 0\nsteps 0*2000 1*1\n' >"$room/long.plan"
+"$program" "$room/most.plan" >"$room/drawn"
+holds "picture: 2,000 steps" test "$(shapes 'class="mark ')" -eq 2000
+expect "" "" $'picture: refused 15: 2001 steps, of which at most 2000 are drawn: give --window A B\n'
+case_of "picture: too many steps" 1 "$room/long.plan"
+case_of "picture: too many steps in a window" 1 "$room/long.plan" --window 0 2000
+case_of "picture: too many steps for a table" 1 --text "$room/long.plan"
+expect "" "" $'picture: refused 16: window out of range of 2001 steps\n'
+for window in "5 4" "2001 2001" "0 2001" "0 18446744073709551615"; do
+    case_of "picture: a window of $window" 1 "$room/long.plan" --window $window
+done
+"$program" "$room/long.plan" --window 1 2000 >"$room/drawn"
+holds "picture: a window of 2,000 steps" test "$(shapes 'class="mark ')" -eq 2000
+expect "" $'  step  port 0       port 1\n  2000               load 0: 18  call 1 0: read 0\n' ""
+case_of "picture: a window as text" 0 --window 2000 2000 --text "$room/long.plan"
+
+# Faults are those of `partial`.
+expect "$head" "" $'picture: refused 10: line 3: end\n'
+case_of "picture: no plan" 1
+expect "" "" $'picture: refused 11: read fault\n'
+case_of "picture: a missing file" 1 "$room/missing"
+case_of "picture: an unreadable file" 1 "$room"
+expect "" "" $'picture: refused 6: out of memory\n'
+if (failed=0 && ulimit -v 400000 && case_of "picture: more steps than room" 1 "$room/walk.plan" && [ "$failed" -eq 0 ]); then
+    passed=$((passed + 1))
+else
+    failed=$((failed + 1))
+fi
+expect "$head$tail" "" $'picture: usage\n'
+for words in "one two" "--window" "--window 1" "--window 1 x" "--window -1 2" "--text --words" "--fast" "--help"; do
+    case_of "picture: $words" 2 $words
+done
+printf '%s' "$head$tail" >"$room/in"
+if [ -w /dev/full ]; then
+    "$program" <"$room/in" >/dev/full 2>"$room/given-err"
+    status=$?
+    holds "picture: a full device" test "$status: $(cat "$room/given-err")" = "1: picture: refused 12: write fault"
+fi
+
+# The pictures in docs/ are those of their plans.
+said=$(PICTURE=$program "$top/tests/pictures.sh" --check)
+echo "$said"
+if [[ $said =~ ([0-9]+)\ passed,\ ([0-9]+)\ failed$ ]]; then
+    passed=$((passed + BASH_REMATCH[1]))
+    failed=$((failed + BASH_REMATCH[2]))
+else
+    failed=$((failed + 1))
+fi
+program=$partial
+
 # ./partial from another folder, in a copy of the sources: first with no proved program, then with one.
 copy=$room/copy
 mkdir -p "$copy/elsewhere" "$room/bin"

@@ -1,0 +1,24 @@
+-- The marks of steps.
+use Rattle.std.specs.Prelude.{ℕ, ◌==◌, List, map, slice_range, if◌then◌else◌}
+use Rattle.partial_words.specs.declared.step.Event.{Event}
+use Rattle.partial_words.specs.declared.step.Step.{Step}
+use Rattle.partial_words.specs.declared.step.Step.TheVariants as step
+use Rattle.partial_picture.specs.declared.picture.Mark.{Mark}
+use Rattle.partial_picture.specs.declared.picture.Shape.{Shape}
+use Rattle.partial_picture.specs.declared.picture.Shape.TheVariants as shape
+use Rattle.partial_picture.specs.declared.window.Span.{Span}
+
+-- the shape of a step with an answer
+abbrev pub shape_of : Step → ℕ → Shape
+shape_of (step.Load w) answer = shape.Load
+shape_of (step.Store w v) answer = shape.Store
+shape_of (step.Exchange w old new) answer = if answer == old then shape.Won else shape.Lost
+shape_of (step.Add w v) answer = shape.Add
+
+-- the mark of an event
+abbrev pub mark_of : Event → Mark
+mark_of e = record { event = e; shape = shape_of e.step e.answer }
+
+-- the marks of the events at these places, in order
+abbrev pub marks_in : Span → List Event → List Mark
+marks_in window trace = map mark_of (slice_range trace window.first window.behind)

@@ -1,0 +1,45 @@
+-- The numbers of refusals, and which refusal it is.
+use Rattle.std.specs.Prelude.{ℕ, ◌≡◌, Result, Ok, Err}
+use Rattle.partial_text.specs.Fault as text
+use Rattle.partial_text.specs.PlanText.{PlanView}
+use Rattle.partial_text.specs.declared.fault.PlanError.{PlanError}
+use Rattle.partial_text.specs.declared.fault.PlanError.TheVariants as plan
+use Rattle.partial_text.specs.declared.fault.OutcomeError.TheVariants as outcome
+use Rattle.partial_picture.specs.declared.fault.PictureError.{PictureError}
+use Rattle.partial_picture.specs.declared.fault.PictureError.TheVariants as picture
+use Rattle.partial_picture.specs.declared.fault.Fault.{Fault}
+use Rattle.partial_picture.specs.declared.fault.Fault.TheVariants as fault
+
+-- the number of the refusal of a picture
+abbrev pub picture_code_of : PictureError → ℕ
+picture_code_of picture.Memory = 6
+picture_code_of (picture.TooMany steps) = 15
+picture_code_of (picture.Window steps) = 16
+
+-- the number of a refusal
+abbrev pub code_of : Fault → ℕ
+code_of (fault.Plan e) = text.code_of e
+code_of (fault.Replay e) = 6
+code_of (fault.Picture e) = picture_code_of e
+code_of (fault.Text e) = text.outcome_code_of e
+
+-- the reader of the plan failed
+abbrev pub reader_fault : Fault
+reader_fault = fault.Plan plan.Read
+
+-- the writer failed
+abbrev pub writer_fault : Fault
+writer_fault = fault.Text outcome.Write
+
+-- the text was judged to be that of a plan
+abbrev pub IsRead : Result PlanView PlanError → Type 0
+IsRead judged = (p : PlanView) × (judged ≡ Ok p)
+
+-- The plan was refused with the fault that judging its text gives, unless memory ran out, and anything else came only
+-- of what judging gives as a plan.
+abbrev pub IsJudged : {X : Type 0} → Result X Fault → Result PlanView PlanError → Type 0
+IsJudged (Ok x) judged = IsRead judged
+IsJudged (Err (fault.Plan e)) judged = text.Fails e judged
+IsJudged (Err (fault.Replay e)) judged = IsRead judged
+IsJudged (Err (fault.Picture e)) judged = IsRead judged
+IsJudged (Err (fault.Text e)) judged = IsRead judged

@@ -1,0 +1,178 @@
+//! The form of a picture for terminals: a line for each step, and a column for each port.
+
+use crate::picture::{Bar, Mark, Picture};
+use crate::words::{call_words, entry_words, finish_words, step_words};
+use std::alloc::{AllocError, Global};
+
+/// What is told beside the steps: where a call begins and ends, and where an entry is added.
+#[derive(Debug, Drop)]
+struct Remarks {
+    /// The calls without a step before each mark, and behind the last one. Each is a line.
+    between: Vec<String>,
+    /// What is told of each mark.
+    beside: Vec<String>,
+}
+
+/// So many texts without words.
+fn blanks(alloc: Global, count: usize) -> Result<Vec<String>, AllocError> {
+    let mut texts = Vec::with_capacity(alloc, count)?;
+    for _text in 0..count {
+        texts.push(String::new(alloc))?;
+    }
+    Ok(texts)
+}
+
+/// Adds words to what is told at a place.
+fn tell(texts: &mut [String], index: usize, words: &str) -> Result<(), AllocError> {
+    if let Some(text) = texts.get_mut(index) {
+        if !text.is_empty() {
+            text.push_str("; ")?;
+        }
+        text.push_str(words)?;
+    }
+    Ok(())
+}
+
+/// Adds what is told of a call.
+fn tell_bar(alloc: Global, remarks: &mut Remarks, bar: &Bar<'_>) -> Result<(), AllocError> {
+    let port = bar.called.port;
+    let number = bar.called.number;
+    let call = call_words(alloc, &bar.called.call)?;
+    let finish = finish_words(alloc, bar.called)?;
+    if bar.marks.is_empty() {
+        let words = format!(in alloc; "call {port} {number}: {call}: {finish}")?;
+        return tell(&mut remarks.between, bar.marks.first, &words);
+    }
+    if bar.begins {
+        let words = format!(in alloc; "call {port} {number}: {call}")?;
+        tell(&mut remarks.beside, bar.marks.first, &words)?;
+    }
+    if bar.ends {
+        let words = format!(in alloc; "call {port} {number}: {finish}")?;
+        tell(
+            &mut remarks.beside,
+            bar.marks.behind.saturating_sub(1),
+            &words,
+        )?;
+    }
+    Ok(())
+}
+
+/// What is told of a picture beside its steps.
+fn remarks_of(alloc: Global, picture: &Picture<'_>) -> Result<Remarks, AllocError> {
+    let mut remarks = Remarks {
+        between: blanks(alloc, picture.marks.len())?,
+        beside: blanks(alloc, picture.marks.len())?,
+    };
+    remarks.between.push(String::new(alloc))?;
+    // The exchange that adds an entry is the last step of its call, and never the first one.
+    for pin in &picture.pins {
+        let words = entry_words(alloc, pin.place, &pin.entry)?;
+        tell(&mut remarks.beside, pin.mark, &words)?;
+    }
+    for bar in &picture.bars {
+        tell_bar(alloc, &mut remarks, bar)?;
+    }
+    Ok(remarks)
+}
+
+/// How wide the column of each port is: as its longest step, or as its name.
+fn widths_of(
+    alloc: Global,
+    ports: usize,
+    marks: &[Mark],
+    cells: &[String],
+) -> Result<Vec<usize>, AllocError> {
+    let mut widths = Vec::with_capacity(alloc, ports)?;
+    for _port in 0..ports {
+        widths.push("port 63".len())?;
+    }
+    for (mark, cell) in marks.iter().zip(cells) {
+        if let Some(width) = widths.get_mut(mark.event.port as usize) {
+            *width = cell.len().max(*width);
+        }
+    }
+    Ok(widths)
+}
+
+/// Writes the words, and spaces behind them up to a width and two more.
+fn push_cell(line: &mut String, words: &str, width: usize) -> Result<(), AllocError> {
+    line.push_str(words)?;
+    for _space in words.len()..width {
+        line.push(' ')?;
+    }
+    line.push_str("  ")
+}
+
+/// Writes a line without the spaces at its end.
+fn push_line(text: &mut String, line: &str) -> Result<(), AllocError> {
+    text.push_str(line.trim_end())?;
+    text.push('\n')
+}
+
+/// The line with the names of the columns.
+fn names(alloc: Global, widths: &[usize]) -> Result<String, AllocError> {
+    let mut line = String::from_str(alloc, "  step  ")?;
+    for (port, width) in widths.iter().enumerate() {
+        let name = format!(in alloc; "port {port}")?;
+        push_cell(&mut line, &name, *width)?;
+    }
+    Ok(line)
+}
+
+/// The line of a step.
+fn line_of(
+    alloc: Global,
+    step: usize,
+    mark: &Mark,
+    widths: &[usize],
+    cell: &str,
+    remark: &str,
+) -> Result<String, AllocError> {
+    let mut line = format!(in alloc; "{step:>6}  ")?;
+    for (port, width) in widths.iter().enumerate() {
+        let words = if port == mark.event.port as usize {
+            cell
+        } else {
+            ""
+        };
+        push_cell(&mut line, words, *width)?;
+    }
+    line.push_str(remark)?;
+    Ok(line)
+}
+
+/// Writes the line of the calls that stand between two steps, where there are any.
+fn push_between(text: &mut String, words: &str) -> Result<(), AllocError> {
+    if words.is_empty() {
+        return Ok(());
+    }
+    text.push_str("     -  ")?;
+    push_line(text, words)
+}
+
+/// A picture for terminals: a line for each step with its number, in the column of its port, and behind it what
+/// it begins, adds to the history and ends.
+pub fn table(alloc: Global, picture: &Picture<'_>) -> Result<String, AllocError> {
+    let mut cells = Vec::with_capacity(alloc, picture.marks.len())?;
+    for mark in &picture.marks {
+        cells.push(step_words(alloc, mark)?)?;
+    }
+    let widths = widths_of(alloc, picture.ports, &picture.marks, &cells)?;
+    let remarks = remarks_of(alloc, picture)?;
+    let mut text = String::new(alloc);
+    push_line(&mut text, &names(alloc, &widths)?)?;
+    let beside = cells.iter().zip(&remarks.beside).zip(&remarks.between);
+    for (index, (mark, ((cell, remark), between))) in picture.marks.iter().zip(beside).enumerate() {
+        push_between(&mut text, between)?;
+        let step = picture.window.first.saturating_add(index);
+        push_line(
+            &mut text,
+            &line_of(alloc, step, mark, &widths, cell, remark)?,
+        )?;
+    }
+    if let Some(last) = remarks.between.last() {
+        push_between(&mut text, last)?;
+    }
+    Ok(text)
+}

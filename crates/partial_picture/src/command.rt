@@ -1,0 +1,58 @@
+//! From the text of a plan to the text of a picture.
+
+ghost use Rattle.std.specs.Prelude.{◌≡◌, ◌≢◌, ◌↔◌, true, false, IfErr, IfSome, IsErrOf};
+ghost use Rattle.partial_text.specs.Judging.{judged};
+ghost use Rattle.partial_picture.specs.Refusal.{IsJudged, reader_fault, writer_fault};
+
+use crate::columns::table;
+use crate::fault::Fault;
+use crate::picture::Picture;
+use crate::svg::drawing;
+use crate::window::Window;
+use partial_replay::{Device, Plan, replay};
+use partial_text::write_text;
+use std::alloc::Global;
+use std::io::{Read, Write};
+
+/// What a picture is written as.
+#[derive(Clone, Copy, Debug, PartialEq, Eq)]
+pub enum Form {
+    /// A drawing in SVG, where asked with the words that each step has touched.
+    Drawing { has_words: bool },
+    /// Text for terminals.
+    Table,
+}
+
+/// Reads a plan, replays it, and writes a picture of a window of the replay.
+///
+/// # Errors
+///
+/// The first fault of the plan's text, where it isn't the text of a plan; code 6 where a growth was refused; code
+/// 11 where the reader failed, and code 12 where the writer failed or took 0 bytes; code 15 or 16 where the window
+/// isn't one that is drawn. Nothing is written but after code 12, and then a part of the text from its front.
+pub fn draw<R: Read, W: Write>(
+    alloc: Global,
+    form: Form,
+    window: Window,
+    plan: &mut Device<R>,
+    out: &mut Device<W>,
+) -> Result<(), Fault>
+    requires plan { plan.old.failed ≡ false }
+    requires out { out.old.failed ≡ false }
+    ensures read_fault { IsErrOf result reader_fault ↔ (plan.new.failed ≡ true) }
+    ensures write_fault { IsErrOf result writer_fault ↔ (out.new.failed ≡ true) }
+    // Which fault of the plan it is, and that a plan without a fault isn't refused as one.
+    ensures plan { plan.new.failed ≡ false → IfSome (R.remaining plan.old.inner)
+        (λ bytes. IsJudged result (judged bytes)) }
+    // Nothing is written but after a fault of the writer.
+    ensures unwritten { IfErr result (λ fault. fault ≢ writer_fault → out.new ≡ out.old) }
+{
+    let plan = Plan::read(alloc, plan)?;
+    let outcome = replay(alloc, &plan)?;
+    let picture = Picture::of(alloc, plan.sizes(), plan.ports().len(), &outcome, window)?;
+    let text = match form {
+        Form::Drawing { has_words } => drawing(alloc, &picture, has_words)?,
+        Form::Table => table(alloc, &picture)?,
+    };
+    Ok(write_text(text.as_bytes(), out)?)
+}

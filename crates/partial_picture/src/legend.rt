@@ -1,0 +1,101 @@
+//! The colours of a drawing, and what its shapes mean.
+
+use crate::picture::Shape;
+use crate::pixels::Pixels;
+use crate::svg::{push_shape, push_words};
+use std::alloc::AllocError;
+
+/// The colours are those of Okabe and Ito, which the colour-blind tell apart, and each stands with a shape of its
+/// own.
+pub(crate) const STYLE: &str = "<style>
+text{font:11px ui-monospace,Menlo,Consolas,'DejaVu Sans Mono',monospace;fill:#1c2127}
+.call{font-weight:bold}
+.again,.number{font-size:9px;fill:#5b6570}
+.number{text-anchor:middle;font-size:10px}
+.paper{fill:#fff}
+.grid{stroke:#e6e9ed}
+.lane,.history{stroke:#98a2ad}
+.history{stroke-width:2}
+.row{stroke:#d5dae0}
+.bar{fill:#eaf0f6;stroke:#7f8b98}
+.unfinished{stroke-dasharray:5 3}
+.mark{stroke:#1c2127}
+.load{fill:#56b4e9}
+.store{fill:#e69f00}
+.won,.entry{fill:#d55e00}
+.lost{fill:#fff;stroke:#d55e00;stroke-width:2}
+.add{fill:#009e73}
+.stem{stroke:#d55e00;stroke-dasharray:1 3}
+.arrow{fill:none;stroke-width:2}
+.overtook{stroke:#d55e00;stroke-dasharray:7 3}
+.lent{stroke:#0072b2}
+.overtook-head{fill:#d55e00}
+.lent-head{fill:#0072b2}
+.touch{stroke:#98a2ad;stroke-dasharray:2 2}
+.touched{fill:#5b6570}
+@media (prefers-color-scheme:dark){
+text{fill:#e4e8ec}
+.again,.number{fill:#a3adb8}
+.paper{fill:#14181d}
+.grid{stroke:#262c33}
+.lane,.history{stroke:#6c7784}
+.row{stroke:#333b44}
+.bar{fill:#222a33;stroke:#8a96a3}
+.mark{stroke:#e4e8ec}
+.lost{fill:#14181d;stroke:#d55e00}
+.lent{stroke:#56b4e9}
+.lent-head{fill:#56b4e9}
+.touched{fill:#a3adb8}
+}
+</style>
+<defs>
+<marker id=\"overtook\" viewBox=\"0 0 10 10\" refX=\"8\" refY=\"5\" markerWidth=\"5\" markerHeight=\"5\" orient=\"auto\">\
+<path class=\"overtook-head\" d=\"M0 0L10 5L0 10z\"/></marker>
+<marker id=\"lent\" viewBox=\"0 0 10 10\" refX=\"8\" refY=\"5\" markerWidth=\"5\" markerHeight=\"5\" orient=\"auto\">\
+<path class=\"lent-head\" d=\"M0 0L10 5L0 10z\"/></marker>
+</defs>
+";
+
+/// The marks, with what they mean.
+const MARKS: [(Shape, &str, u64); 5] = [
+    (Shape::Load, "load", 14),
+    (Shape::Store, "store", 72),
+    (Shape::Add, "add", 137),
+    (Shape::Won, "exchange, won", 188),
+    (Shape::Lost, "exchange, lost", 310),
+];
+
+/// Writes what the shapes mean.
+pub(crate) fn push_legend(text: &mut String, top: Pixels) -> Result<(), AllocError> {
+    let y = top + 14;
+    text.push_str("<g class=\"legend\">\n")?;
+    for (shape, words, left) in MARKS {
+        let x = Pixels(left);
+        let end = push_shape(text, shape, x, y)?;
+        writeln!(text, "</{end}>")?;
+        push_words(text, "meaning", x + 12, y + 4, words)?;
+    }
+    let y = top + 36;
+    writeln!(
+        text,
+        "<circle class=\"entry\" cx=\"14\" cy=\"{y}\" r=\"5\"/>"
+    )?;
+    push_words(text, "meaning", Pixels(26), y + 4, "entry of the history")?;
+    writeln!(
+        text,
+        "<path class=\"arrow overtook\" marker-end=\"url(#overtook)\" d=\"M182 {y}H214\"/>"
+    )?;
+    push_words(text, "meaning", Pixels(222), y + 4, "has overtaken")?;
+    writeln!(
+        text,
+        "<path class=\"arrow lent\" marker-end=\"url(#lent)\" d=\"M326 {y}H358\"/>"
+    )?;
+    push_words(text, "meaning", Pixels(366), y + 4, "has lent its view")?;
+    let box_top = top + 27;
+    writeln!(
+        text,
+        "<rect class=\"bar unfinished\" x=\"498\" y=\"{box_top}\" width=\"26\" height=\"18\" rx=\"5\"/>"
+    )?;
+    push_words(text, "meaning", Pixels(532), y + 4, "unfinished call")?;
+    text.push_str("</g>\n")
+}

@@ -1,0 +1,251 @@
+//! What is drawn of a replay.
+
+ghost use Rattle.std.specs.Prelude.{◌≡◌, ◌≢◌, ◌≤◌, ◌-◌, All, map, length, IfOk, IfSome, MatchResult};
+ghost use Rattle.partial_picture.specs.Arrows.{IsWithin};
+ghost use Rattle.partial_picture.specs.Bars.{StandsIn};
+ghost use Rattle.partial_picture.specs.Drawn.{drawn_of};
+ghost use Rattle.partial_picture.specs.Marks.{mark_of, marks_in};
+ghost use Rattle.partial_picture.specs.Pins.{pin_at, pins_at, won_steps};
+
+use crate::arrows::arrows_of;
+use crate::fault::PictureError;
+use crate::spans::{Made, adds_entry, entry_steps, made_by_calls, port_steps};
+use crate::window::{Span, Window};
+use partial_model::{Applied, Called};
+use partial_replay::{Event, Outcome};
+use partial_words::{Sizes, Step};
+use std::alloc::{AllocError, Global};
+
+/// The shape of a step.
+#[derive(Clone, Copy, Debug, PartialEq, Eq)]
+pub enum Shape {
+    Load,
+    Store,
+    /// An exchange that has won.
+    Won,
+    /// An exchange that was lost.
+    Lost,
+    Add,
+}
+
+/// The mark of a step. The first mark is that of the window's first step, and each further one that of the next
+/// step.
+#[derive(Clone, Copy, Debug, PartialEq, Eq)]
+pub struct Mark {
+    pub event: Event,
+    pub shape: Shape,
+}
+
+/// The bar of a call.
+#[derive(Clone, Copy, Debug)]
+pub struct Bar<'a> {
+    pub called: &'a Called,
+    /// Its marks in the window, counted from 0. Where it has none it stands before the mark `first`.
+    pub marks: Span,
+    /// Whether it begins in the window.
+    pub begins: bool,
+    /// Whether it ends in the window.
+    pub ends: bool,
+}
+
+/// Where an entry of the history stands.
+#[derive(Clone, Copy, Debug, PartialEq, Eq)]
+pub struct Pin {
+    pub entry: Applied,
+    /// Its place in the history, counted from 0.
+    pub place: usize,
+    /// The mark of the exchange that applied it.
+    pub mark: usize,
+}
+
+/// What an arrow tells.
+#[derive(Clone, Copy, Debug, PartialEq, Eq)]
+pub enum ArrowKind {
+    /// A won exchange has overtaken an update.
+    Overtook,
+    /// A record has lent its view to a scan.
+    Lent,
+}
+
+/// An arrow from the exchange that applied an entry to the step of a call that has met it.
+#[derive(Clone, Copy, Debug)]
+pub struct Arrow<'a> {
+    pub kind: ArrowKind,
+    /// The stamp of the entry.
+    pub stamp: u64,
+    /// The mark that the arrow leaves.
+    pub from: usize,
+    /// The mark that it comes to.
+    pub to: usize,
+    pub called: &'a Called,
+}
+
+/// A picture of a replay: what is drawn of it, and nothing of where.
+#[derive(Debug, Drop)]
+pub struct Picture<'a> {
+    pub sizes: Sizes,
+    /// The steps that are drawn, counted from 0.
+    pub window: Span,
+    /// How many steps the replay has.
+    pub steps: usize,
+    /// How many ports there are. Each has a lane.
+    pub ports: usize,
+    pub marks: Vec<Mark>,
+    pub bars: Vec<Bar<'a>>,
+    pub pins: Vec<Pin>,
+    pub arrows: Vec<Arrow<'a>>,
+    /// The words that the marks touch, each once, rising.
+    pub words: Vec<u32>,
+}
+
+impl Mark {
+    /// The mark of an event.
+    pub fn of(event: Event) -> Mark
+        ensures { result ≡ mark_of event }
+    {
+        let shape = match event.step {
+            Step::Load(_) => Shape::Load,
+            Step::Store(..) => Shape::Store,
+            Step::Exchange(_, old, _) if event.answer == old => Shape::Won,
+            Step::Exchange(..) => Shape::Lost,
+            Step::Add(..) => Shape::Add,
+        };
+        Mark { event, shape }
+    }
+}
+
+impl<'a> Picture<'a> {
+    /// The picture of a window of a replay with these sizes and so many ports.
+    ///
+    /// # Errors
+    ///
+    /// `Memory` where a growth was refused. `Window` and `TooMany` where the window isn't one that is drawn, as
+    /// [`Window::drawn`] says.
+    pub fn of(
+        alloc: Global,
+        sizes: Sizes,
+        ports: usize,
+        outcome: &'a Outcome,
+        window: Window,
+    ) -> Result<Picture<'a>, PictureError>
+        // The window is the one that is asked for, and a refusal says what is wrong with it.
+        ensures window { MatchResult result
+            (λ picture. drawn_of window (length outcome.now.trace.items) ≡ Ok picture.window)
+            (λ e. e ≢ PictureError.Memory → drawn_of window (length outcome.now.trace.items) ≡ Err e) }
+        // One mark for each event of the window, in order.
+        ensures marks { IfOk result (λ picture. picture.marks.items ≡ marks_in picture.window outcome.now.trace.items) }
+        // One pin for each entry of the history whose exchange is in the window, in order and at its mark.
+        ensures pins { IfOk result (λ picture. picture.pins.items
+            ≡ pins_at picture.window outcome.now.history.items (won_steps sizes.m outcome.now.trace.items)) }
+        // Bars and arrows stand at marks that are there.
+        ensures bars { IfOk result (λ picture.
+            All (StandsIn (picture.window.behind - picture.window.first)) picture.bars.items) }
+        ensures arrows { IfOk result (λ picture.
+            All (IsWithin (picture.window.behind - picture.window.first)) picture.arrows.items) }
+    {
+        let steps = outcome.trace.len();
+        let window = window.drawn(steps)?;
+        let m = sizes.m() as usize;
+        let entries = entry_steps(alloc, m, &outcome.trace)?;
+        let own = port_steps(alloc, ports, &outcome.trace)?;
+        let made = made_by_calls(alloc, outcome, &own, &entries)?;
+        let marks = marks_of(alloc, &outcome.trace[window.first..window.behind])?;
+        Ok(Picture {
+            sizes,
+            window,
+            steps,
+            ports,
+            bars: bars_of(alloc, window, steps, &made)?,
+            pins: pins_of(alloc, window, &outcome.history, &entries)?,
+            arrows: arrows_of(alloc, m, window, outcome, &made, &entries)?,
+            words: words_of(alloc, &marks)?,
+            marks,
+        })
+    }
+}
+
+/// A mark for each of these events, in order.
+fn marks_of(alloc: Global, events: &[Event]) -> Result<Vec<Mark>, AllocError>
+    ensures { IfOk result (λ v. v.items ≡ map mark_of events.now) }
+{
+    events.iter().map(|event| Mark::of(*event)).collect(alloc)
+}
+
+/// The bar of a call with a step in the window or, without one, in its place there. The last window of a replay has
+/// the calls behind the last step too.
+fn bar_in<'a>(window: Span, steps: usize, made: &Made<'a, '_>) -> Option<Bar<'a>>
+    requires { window.first ≤ window.behind }
+    ensures { IfSome result (StandsIn (window.behind - window.first)) }
+{
+    let Span { first, behind } = made.span;
+    let stands = match made.span.is_empty() {
+        true => window.contains(first) || (first == steps && window.behind == steps),
+        false => first < window.behind && window.first < behind,
+    };
+    stands.then_some(Bar {
+        called: made.called,
+        marks: Span {
+            first: first.max(window.first).saturating_sub(window.first),
+            behind: behind.min(window.behind).saturating_sub(window.first),
+        },
+        begins: window.first <= first,
+        ends: made.called.finish.is_some() && behind <= window.behind,
+    })
+}
+
+/// A bar for each call that stands in the window.
+fn bars_of<'a>(
+    alloc: Global,
+    window: Span,
+    steps: usize,
+    made: &[Made<'a, '_>],
+) -> Result<Vec<Bar<'a>>, AllocError>
+    requires { window.first ≤ window.behind }
+    ensures { IfOk result (λ bars. All (StandsIn (window.behind - window.first)) bars.items) }
+{
+    made.iter()
+        .filter_map(|call| bar_in(window, steps, call))
+        .collect(alloc)
+}
+
+/// The pin of an entry, where its exchange is in the window.
+fn pin_at(window: Span, place: usize, entry: Applied, step: usize) -> Option<Pin>
+    ensures { result ≡ pin_at window place entry step }
+{
+    if !window.contains(step) {
+        return None;
+    }
+    Some(Pin {
+        entry,
+        place,
+        mark: step - window.first,
+    })
+}
+
+/// A pin for each entry whose exchange is in the window.
+fn pins_of(
+    alloc: Global,
+    window: Span,
+    history: &[Applied],
+    steps: &[usize],
+) -> Result<Vec<Pin>, AllocError>
+    ensures { IfOk result (λ pins. pins.items ≡ pins_at window history.now steps.now) }
+{
+    history
+        .iter()
+        .zip(steps)
+        .enumerate()
+        .filter_map(|(place, (entry, step))| pin_at(window, place, *entry, *step))
+        .collect(alloc)
+}
+
+/// The words that the marks touch.
+fn words_of(alloc: Global, marks: &[Mark]) -> Result<Vec<u32>, AllocError> {
+    let mut words: Vec<u32> = marks
+        .iter()
+        .map(|mark| mark.event.step.word())
+        .collect(alloc)?;
+    words.sort_unstable();
+    words.dedup();
+    Ok(words)
+}

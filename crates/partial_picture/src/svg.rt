@@ -1,0 +1,395 @@
+//! The drawing of a picture in SVG.
+
+use crate::layout::{Layout, Sides};
+use crate::legend::{STYLE, push_legend};
+use crate::picture::{Arrow, ArrowKind, Bar, Mark, Picture, Pin, Shape};
+use crate::pixels::Pixels;
+use crate::words::{call_words, entry_words, finish_words, step_words, word_words};
+use std::alloc::{AllocError, Global};
+
+/// How wide a letter is, with some room.
+const LETTER: u64 = 7;
+
+/// Writes words so that no reader of SVG takes any part of them for anything else.
+pub(crate) fn push_escaped(text: &mut String, words: &str) -> Result<(), AllocError> {
+    for letter in words.chars() {
+        match letter {
+            '&' => text.push_str("&amp;")?,
+            '<' => text.push_str("&lt;")?,
+            '>' => text.push_str("&gt;")?,
+            '"' => text.push_str("&quot;")?,
+            '\'' => text.push_str("&#39;")?,
+            _ => text.push(letter)?,
+        }
+    }
+    Ok(())
+}
+
+/// Writes words at a place.
+pub(crate) fn push_words(
+    text: &mut String,
+    class: &str,
+    x: Pixels,
+    y: Pixels,
+    words: &str,
+) -> Result<(), AllocError> {
+    write!(text, "<text class=\"{class}\" x=\"{x}\" y=\"{y}\">")?;
+    push_escaped(text, words)?;
+    text.push_str("</text>\n")
+}
+
+/// Writes the words that are shown where one points at a shape, and its end.
+fn push_title(text: &mut String, words: &str, end: &str) -> Result<(), AllocError> {
+    text.push_str("<title>")?;
+    push_escaped(text, words)?;
+    writeln!(text, "</title></{end}>")
+}
+
+/// Writes a line that stands or lies.
+fn push_line(
+    text: &mut String,
+    class: &str,
+    (x1, y1): (Pixels, Pixels),
+    (x2, y2): (Pixels, Pixels),
+) -> Result<(), AllocError> {
+    writeln!(
+        text,
+        "<line class=\"{class}\" x1=\"{x1}\" y1=\"{y1}\" x2=\"{x2}\" y2=\"{y2}\"/>"
+    )
+}
+
+/// The words that fit into a room, cut with three dots where not all do. No words where hardly any do.
+pub(crate) fn fitted(alloc: Global, words: &str, room: Pixels) -> Result<String, AllocError> {
+    let letters = (room.0 / LETTER) as usize;
+    if words.len() <= letters {
+        return String::from_str(alloc, words);
+    }
+    if letters < 3 {
+        return Ok(String::new(alloc));
+    }
+    let mut cut: String = words.chars().take(letters - 1).collect(alloc)?;
+    cut.push('…')?;
+    Ok(cut)
+}
+
+/// Writes the shape of a mark round a place, as a symbol without its words and its end.
+pub(crate) fn push_shape(
+    text: &mut String,
+    shape: Shape,
+    x: Pixels,
+    y: Pixels,
+) -> Result<&'static str, AllocError> {
+    let (left, right, top, bottom) = (x - 7, x + 7, y - 7, y + 7);
+    match shape {
+        Shape::Load => {
+            write!(
+                text,
+                "<circle class=\"mark load\" cx=\"{x}\" cy=\"{y}\" r=\"5\">"
+            )?;
+            Ok("circle")
+        }
+        Shape::Store => {
+            let (x, y) = (x - 5, y - 5);
+            write!(
+                text,
+                "<rect class=\"mark store\" x=\"{x}\" y=\"{y}\" width=\"10\" height=\"10\">"
+            )?;
+            Ok("rect")
+        }
+        Shape::Won | Shape::Lost => {
+            let class = if shape == Shape::Won { "won" } else { "lost" };
+            write!(
+                text,
+                "<polygon class=\"mark exchange {class}\" points=\"{x},{top} {right},{y} "
+            )?;
+            write!(text, "{x},{bottom} {left},{y}\">")?;
+            Ok("polygon")
+        }
+        Shape::Add => {
+            let base = y + 5;
+            write!(
+                text,
+                "<polygon class=\"mark add\" points=\"{x},{top} {right},{base} {left},{base}\">"
+            )?;
+            Ok("polygon")
+        }
+    }
+}
+
+/// Writes the numbers of the steps, with a line through each that has one.
+fn push_axis(text: &mut String, picture: &Picture<'_>, layout: &Layout) -> Result<(), AllocError> {
+    let every = if picture.marks.len() > 120 { 10 } else { 5 };
+    push_words(text, "name", Pixels(8), Pixels(16), "step")?;
+    for mark in 0..picture.marks.len() {
+        let step = picture.window.first.saturating_add(mark);
+        if step % every == 0 {
+            let x = layout.middle(mark);
+            push_line(text, "grid", (x, Pixels(22)), (x, layout.bottom()))?;
+            writeln!(
+                text,
+                "<text class=\"number\" x=\"{x}\" y=\"16\">{step}</text>"
+            )?;
+        }
+    }
+    Ok(())
+}
+
+/// Writes the lanes of the ports and the line of the history, with their names. The name of a port is written
+/// again behind every fifty steps.
+fn push_lanes(
+    alloc: Global,
+    text: &mut String,
+    picture: &Picture<'_>,
+    layout: &Layout,
+) -> Result<(), AllocError> {
+    let y = layout.history();
+    push_words(text, "name", Pixels(8), y + 4, "history")?;
+    push_line(text, "history", (layout.left(), y), (layout.right, y))?;
+    for port in 0..picture.ports {
+        let name = format!(in alloc; "port {port}")?;
+        let y = layout.line(port);
+        push_words(text, "name", Pixels(8), y + 4, &name)?;
+        push_line(text, "lane", (layout.left(), y), (layout.right, y))?;
+        for mark in (0..picture.marks.len()).skip(50).step_by(50) {
+            push_words(text, "again", layout.edge(mark), y + 24, &name)?;
+        }
+    }
+    Ok(())
+}
+
+/// Writes the bar of a call, and its words as far as there is room.
+fn push_bar(
+    alloc: Global,
+    text: &mut String,
+    bar: &Bar<'_>,
+    sides: &Sides,
+    top: Pixels,
+    room: Pixels,
+) -> Result<(), AllocError> {
+    let call = call_words(alloc, &bar.called.call)?;
+    let finish = finish_words(alloc, bar.called)?;
+    let class = match bar.called.finish {
+        Some(_) => "bar",
+        None => "bar unfinished",
+    };
+    let (x, y) = (sides.left, top + 34);
+    let width = sides.right - sides.left.0;
+    write!(
+        text,
+        "<rect class=\"{class}\" x=\"{x}\" y=\"{y}\" width=\"{width}\" height=\"24\" rx=\"5\">"
+    )?;
+    let port = bar.called.port;
+    let number = bar.called.number;
+    let steps = bar.called.steps;
+    let title = format!(in alloc; "call {port} {number}: {call}: {finish} steps {steps}")?;
+    push_title(text, &title, "rect")?;
+    push_words(text, "call", x, top + 15, &fitted(alloc, &call, room)?)?;
+    push_words(text, "answer", x, top + 29, &fitted(alloc, &finish, room)?)
+}
+
+/// Writes the mark of a step.
+fn push_mark(
+    alloc: Global,
+    text: &mut String,
+    mark: &Mark,
+    step: usize,
+    x: Pixels,
+    y: Pixels,
+) -> Result<(), AllocError> {
+    let end = push_shape(text, mark.shape, x, y)?;
+    let port = mark.event.port;
+    let words = step_words(alloc, mark)?;
+    let title = format!(in alloc; "step {step} of port {port}: {words}")?;
+    push_title(text, &title, end)
+}
+
+/// Writes the arrow from one place to another, as a curve that leaves and comes upright.
+fn push_arrow(
+    alloc: Global,
+    text: &mut String,
+    arrow: &Arrow<'_>,
+    (x1, y1): (Pixels, Pixels),
+    (x2, y2): (Pixels, Pixels),
+) -> Result<(), AllocError> {
+    let (class, told) = match arrow.kind {
+        ArrowKind::Overtook => ("overtook", "overtook"),
+        ArrowKind::Lent => ("lent", "lent its view to"),
+    };
+    let (from, to) = if y1 < y2 {
+        (y1 + 9, y2 - 14)
+    } else {
+        (y1 - 9, y2 + 14)
+    };
+    let bend = Pixels(from.0 / 2 + to.0 / 2);
+    write!(
+        text,
+        "<path class=\"arrow {class}\" marker-end=\"url(#{class})\" "
+    )?;
+    write!(
+        text,
+        "d=\"M{x1} {from} C{x1} {bend} {x2} {bend} {x2} {to}\">"
+    )?;
+    let port = arrow.called.port;
+    let number = arrow.called.number;
+    let stamp = arrow.stamp;
+    let title = format!(in alloc; "stamp {stamp} {told} call {port} {number}")?;
+    push_title(text, &title, "path")
+}
+
+/// Writes an entry of the history, with a line down to the exchange that applied it.
+fn push_pin(
+    alloc: Global,
+    text: &mut String,
+    pin: &Pin,
+    x: Pixels,
+    layout: &Layout,
+    room: Pixels,
+) -> Result<(), AllocError> {
+    let y = layout.history();
+    let line = layout.line(pin.entry.port as usize);
+    push_line(text, "stem", (x, y + 6), (x, line - 8))?;
+    write!(
+        text,
+        "<circle class=\"entry\" cx=\"{x}\" cy=\"{y}\" r=\"5\">"
+    )?;
+    push_title(text, &entry_words(alloc, pin.place, &pin.entry)?, "circle")?;
+    let component = pin.entry.component;
+    let value = pin.entry.value;
+    let stamp = pin.entry.stamp;
+    let above = format!(in alloc; "component {component} value {value}")?;
+    let below = format!(in alloc; "stamp {stamp}")?;
+    push_words(text, "call", x - 4, y - 24, &fitted(alloc, &above, room)?)?;
+    push_words(text, "answer", x - 4, y - 10, &fitted(alloc, &below, room)?)
+}
+
+/// Writes a row for each touched word, and an arrow from each mark to its word.
+fn push_touched(
+    alloc: Global,
+    text: &mut String,
+    picture: &Picture<'_>,
+    layout: &Layout,
+) -> Result<(), AllocError> {
+    for (index, word) in picture.words.iter().enumerate() {
+        let y = layout.row(index);
+        let name = word_words(alloc, picture.sizes, *word)?;
+        push_words(text, "name", Pixels(8), y + 4, &name)?;
+        push_line(text, "row", (layout.left(), y), (layout.right, y))?;
+    }
+    for (index, mark) in picture.marks.iter().enumerate() {
+        let Ok(row) = picture.words.binary_search(&mark.event.step.word()) else {
+            continue;
+        };
+        let x = layout.middle(index);
+        let y = layout.row(row);
+        push_line(
+            text,
+            "touch",
+            (x, layout.line(mark.event.port as usize) + 8),
+            (x, y - 5),
+        )?;
+        writeln!(
+            text,
+            "<circle class=\"touched\" cx=\"{x}\" cy=\"{y}\" r=\"3\"/>"
+        )?;
+    }
+    Ok(())
+}
+
+/// Writes the front of the drawing: its size, its colours and the heads of its arrows.
+fn push_front(text: &mut String, layout: &Layout) -> Result<(), AllocError> {
+    let width = layout.width;
+    let height = layout.height;
+    write!(
+        text,
+        "<svg xmlns=\"http://www.w3.org/2000/svg\" width=\"{width}\" height=\"{height}\" "
+    )?;
+    writeln!(
+        text,
+        "viewBox=\"0 0 {width} {height}\" role=\"img\" aria-label=\"the replay of a plan\">"
+    )?;
+    text.push_str(STYLE)?;
+    writeln!(
+        text,
+        "<rect class=\"paper\" width=\"{width}\" height=\"{height}\"/>"
+    )
+}
+
+/// Writes the bars of the calls.
+fn push_bars(
+    alloc: Global,
+    text: &mut String,
+    picture: &Picture<'_>,
+    layout: &Layout,
+) -> Result<(), AllocError> {
+    for (index, (bar, sides)) in picture.bars.iter().zip(&layout.bars).enumerate() {
+        let room = layout.room(&picture.bars, index);
+        push_bar(
+            alloc,
+            text,
+            bar,
+            sides,
+            layout.lane(bar.called.port as usize),
+            room,
+        )?;
+    }
+    Ok(())
+}
+
+/// Writes the entries of the history. The words of each go as far as the next entry.
+fn push_pins(
+    alloc: Global,
+    text: &mut String,
+    picture: &Picture<'_>,
+    layout: &Layout,
+) -> Result<(), AllocError> {
+    for (index, pin) in picture.pins.iter().enumerate() {
+        let x = layout.middle(pin.mark);
+        let end = match picture.pins.get(index.saturating_add(1)) {
+            Some(next) => layout.middle(next.mark),
+            None => layout.width,
+        };
+        push_pin(alloc, text, pin, x, layout, end - x.0)?;
+    }
+    Ok(())
+}
+
+/// Where a mark stands.
+fn place_of(picture: &Picture<'_>, layout: &Layout, mark: usize) -> (Pixels, Pixels) {
+    let port = picture
+        .marks
+        .get(mark)
+        .map_or(0, |mark| mark.event.port as usize);
+    (layout.middle(mark), layout.line(port))
+}
+
+/// The drawing of a picture in SVG, where asked with the words that each step has touched.
+pub fn drawing(
+    alloc: Global,
+    picture: &Picture<'_>,
+    has_words: bool,
+) -> Result<String, AllocError> {
+    let rows = if has_words { picture.words.len() } else { 0 };
+    let layout = Layout::of(alloc, picture, rows)?;
+    let mut text = String::new(alloc);
+    push_front(&mut text, &layout)?;
+    push_axis(&mut text, picture, &layout)?;
+    push_lanes(alloc, &mut text, picture, &layout)?;
+    push_bars(alloc, &mut text, picture, &layout)?;
+    if has_words {
+        push_touched(alloc, &mut text, picture, &layout)?;
+    }
+    push_pins(alloc, &mut text, picture, &layout)?;
+    for arrow in &picture.arrows {
+        let from = place_of(picture, &layout, arrow.from);
+        let to = place_of(picture, &layout, arrow.to);
+        push_arrow(alloc, &mut text, arrow, from, to)?;
+    }
+    for (index, mark) in picture.marks.iter().enumerate() {
+        let (x, y) = place_of(picture, &layout, index);
+        let step = picture.window.first.saturating_add(index);
+        push_mark(alloc, &mut text, mark, step, x, y)?;
+    }
+    push_legend(&mut text, layout.legend)?;
+    text.push_str("</svg>\n")?;
+    Ok(text)
+}

@@ -1,0 +1,50 @@
+//! The program `picture`: it draws the replay of a plan.
+#![tactic(auto)]
+
+mod request;
+mod stop;
+
+use partial_picture::{Fault, draw};
+use partial_replay::{Device, PlanError};
+use request::{Request, request_of};
+use std::env::Env;
+use std::io::Read;
+use std::process::ExitCode;
+use std::rt::Files;
+use std::{env, fs, io};
+use stop::Stop;
+
+fn main(rt: HostRuntime) -> ExitCode {
+    match run(&rt) {
+        Ok(()) => ExitCode::SUCCESS,
+        Err(stop) => {
+            let _unwritten = eprintln!(rt; "picture: {stop}");
+            ExitCode::from(stop.status())
+        }
+    }
+}
+
+/// Draws what the program's words ask for.
+fn run<R: Env + Files + Input + Print + AllocGlobal>(rt: &R) -> Result<(), Stop> {
+    let words: Vec<String> = env::args(rt)?.collect(rt.alloc())?;
+    let request = request_of(rt.alloc(), &words)?;
+    match request.plan {
+        None => draw_on(rt, &request, rt.reader()),
+        Some(path) => {
+            let file = fs::open(rt, path).map_err(|_| Stop::from(Fault::Plan(PlanError::Read)))?;
+            draw_on(rt, &request, file)
+        }
+    }
+}
+
+/// Draws the replay of a plan that comes from a reader. Its text is whole before the first byte is written to
+/// standard output.
+fn draw_on<R: Print + AllocGlobal, D: Read + Drop>(
+    rt: &R,
+    request: &Request<'_>,
+    reader: D,
+) -> Result<(), Stop> {
+    let mut plan = Device::new(reader);
+    let mut out = Device::new(io::writer(rt));
+    Ok(draw(rt.alloc(), request.form, request.window, &mut plan, &mut out)?)
+}

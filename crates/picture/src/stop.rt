@@ -1,0 +1,66 @@
+//! Why the program ends with nothing drawn.
+
+use clap::Error;
+use clap::error::ErrorKind;
+use partial_picture::{Fault, PictureError};
+use std::alloc::AllocError;
+use std::{fmt, io};
+
+/// Why the program ends with nothing drawn.
+#[derive(Debug, Drop)]
+pub enum Stop {
+    /// The words aren't those of the program, or ask for help.
+    Usage,
+    /// What was asked for was refused.
+    Refused(Fault),
+}
+
+impl Stop {
+    /// The exit status.
+    pub fn status(&self) -> u8 {
+        match self {
+            Stop::Usage => 2,
+            Stop::Refused(_) => 1,
+        }
+    }
+}
+
+impl fmt::Display for Stop {
+    fn fmt<W: fmt::Write>(&self, f: &mut fmt::Formatter<W>) -> fmt::Result {
+        match self {
+            Stop::Usage => write!(f, "usage"),
+            Stop::Refused(fault) => write!(f, "refused {}: {fault}", fault.code()),
+        }
+    }
+}
+
+impl From<Fault> for Stop {
+    fn from(fault: Fault) -> Stop {
+        Stop::Refused(fault)
+    }
+}
+
+impl From<AllocError> for Stop {
+    fn from(_error: AllocError) -> Stop {
+        Stop::Refused(Fault::Picture(PictureError::Memory))
+    }
+}
+
+// The words that can't be had are those that aren't text.
+impl From<io::Error> for Stop {
+    fn from(error: io::Error) -> Stop {
+        match error.kind() {
+            io::ErrorKind::OutOfMemory => Stop::Refused(Fault::Picture(PictureError::Memory)),
+            _ => Stop::Usage,
+        }
+    }
+}
+
+impl From<Error> for Stop {
+    fn from(error: Error) -> Stop {
+        match error.kind() {
+            ErrorKind::OutOfMemory => Stop::Refused(Fault::Picture(PictureError::Memory)),
+            _ => Stop::Usage,
+        }
+    }
+}
