@@ -1,5 +1,6 @@
 pub mod Indices
 pub mod Pairs
+pub mod Parts
 pub mod Sound
 pub mod StepCounts
 pub mod ScanCounts

@@ -6,3 +6,4 @@ pub mod Bounds
 pub mod Steps
 pub mod Behind
 pub mod Claims
+pub mod Lines

@@ -6,7 +6,7 @@ pub mod law;
 pub mod machine;
 pub mod stage;
 
-pub use machine::Core;
+pub use machine::{Core, exchanged};
 pub use stage::{Change, Reply, Stage};
 
 #[cfg(test)]

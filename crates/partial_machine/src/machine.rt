@@ -9,6 +9,8 @@ ghost use Rattle.partial_machine.specs.declared.stage.Reply.TheVariants as reply
 ghost use Rattle.partial_machine.specs.Machine.{overtaken, CoreState};
 ghost use Rattle.partial_machine.specs.Possible.{IsPossibleAt};
 
+mod lines;
+
 use crate::stage::{Change, Reply, Stage};
 use partial_active::{Found, GetSet, Join, Leave};
 use partial_embedded::{Embedded, Rows};
@@ -177,12 +179,7 @@ impl Core {
         ensures err { IfErr result (λ cause. (update_refusal self.old change.component ≡ Some cause) ×
             (self.new ≡ self.old)) }
     {
-        if change.component >= self.sizes.m() {
-            return Err(Refused::Component);
-        }
-        if self.pool_spent() {
-            return Err(Refused::PoolSpent);
-        }
+        self.may_update(change.component)?;
         self.stage = Stage::UpdateBegun { change };
         Ok(())
     }
@@ -306,9 +303,9 @@ impl Core {
         }
     }
 
-    // How many words the record of an update has.
+    /// How many words the record of an update has.
     #[inline(always)]
-    fn record_size(&self) -> u64
+    pub fn record_size(&self) -> u64
         ensures { result ≡ record_size self.now }
     {
         let pairs = self.found.indices().len() as u64;
@@ -319,9 +316,9 @@ impl Core {
         }
     }
 
-    // Word k of the record that an update writes at `at`.
+    /// Word `k` of the record that an update writes at `at`. `old` is the record that it replaces.
     #[inline(always)]
-    fn record_word(&self, change: Change, old: u64, at: u64, k: u64) -> u64
+    pub fn record_word(&self, change: Change, old: u64, at: u64, k: u64) -> u64
         requires place { IsInPool self.now.sizes at (record_size self.now) }
         requires within { k < record_size self.now }
         ensures { result ≡ slice_index (record_words self.now change old at) k }
@@ -659,9 +656,9 @@ fn set_asked(asked: &mut Vec<u32>, components: &[u32])
     }
 }
 
-// The reply to an update whose exchange found this record.
+/// The reply to an update whose exchange found this record.
 #[inline(always)]
-fn exchanged(change: Change, old: u64, at: u64, found: u64) -> Reply
+pub fn exchanged(change: Change, old: u64, at: u64, found: u64) -> Reply
     ensures { result ≡ (if found == old then reply.Applied at else overtaken change found) }
 {
     if found == old {

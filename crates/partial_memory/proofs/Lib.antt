@@ -5,6 +5,9 @@ mod Calls
 mod Resting
 mod Replies
 mod Reading
+mod Straight
+mod Parts
+mod Writing
 mod Opens
 mod Looks
 mod Meetings

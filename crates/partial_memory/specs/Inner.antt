@@ -1,2 +1,3 @@
 -- The steps of a call under way, for contracts of private functions.
 pub mod Steps
+pub mod Lines

@@ -101,7 +101,7 @@ reading x j = record (core_of x) { asked = []; stage = ReadBegun j }
 abbrev pub begins_read : {S : Type 0} → Step S → Me S (List Seated) → ℕ → Me S (List Seated) → Type 0
 begins_read s me = makes (reading (one_of me.0).part s.word) me
 
--- a further load of the call of a seat: of the machine to which the port's kept answers lead
+-- a further step of the call of a seat: of the machine to which the port's kept answers lead
 abbrev pub goes_on : {S : Type 0} → Step S → Me S (List Seated) → ℕ → Me S (List Seated) → Type 0
 goes_on s me = makes (core_of (one_of me.0).part) me
 

@@ -7,11 +7,13 @@ mod closed;
 mod driver;
 mod error;
 pub mod law;
+mod lines;
 mod memory;
 mod port;
 mod rule;
 #[cfg(test)]
 mod tests;
+mod update;
 
 pub use answers::{Scanned, Updated, UpdatedIf};
 pub use closed::Closed;

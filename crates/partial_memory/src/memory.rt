@@ -19,8 +19,9 @@ use crate::driver::{finish, take_seat};
 use crate::error::{CloseError, OpenError};
 use crate::port::Port;
 use crate::rule::{About, BeginsRead, Deals, Gathers, GoesOn, Lawful, Looks, Place, View};
+use crate::update::update;
 use atomic_table::Table;
-use partial_core::{Core, Reply};
+use partial_core::{Change, Core, Reply};
 use partial_model::{Opening, Refused, Sequence};
 use partial_words::{Sizes, value_word};
 use std::alloc::{AllocError, Global};
@@ -165,8 +166,13 @@ impl Memory {
         ensures ok { IfOk result (λ r. Updates me.old component value r me.new) }
         ensures err { IfErr result (λ cause. IsRefused me.old (call.Update component value) cause me.new) }
     {
-        me.core.begin_update(component, value)?;
-        match finish(&self.table.shared, &mut me.badge, &mut me.core) {
+        me.core.may_update(component)?;
+        let change = Change {
+            component,
+            expected: None,
+            value,
+        };
+        match update(&self.table.shared, &mut me.badge, &mut me.core, change) {
             Reply::Applied { stamp } => Ok(Updated::Applied { stamp }),
             Reply::Lost { by } => Ok(Updated::Lost { by }),
             Reply::Refused(cause) => Err(cause),
@@ -194,14 +200,20 @@ impl Memory {
         ensures ok { IfOk result (λ r. UpdatesIf me.old component expected value r me.new) }
         ensures err { IfErr result (λ cause. IsRefused me.old (call.UpdateIf component expected value) cause me.new) }
     {
-        me.core.begin_update_if(component, expected, value)?;
-        match finish(&self.table.shared, &mut me.badge, &mut me.core) {
+        me.core.may_update(component)?;
+        let conditional = Change {
+            component,
+            expected: Some(expected),
+            value,
+        };
+        match update(&self.table.shared, &mut me.badge, &mut me.core, conditional) {
             Reply::Applied { stamp } => Ok(UpdatedIf::Applied { stamp }),
             Reply::Changed { by } => Ok(UpdatedIf::Changed { by }),
             Reply::Refused(cause) => Err(cause),
             Reply::Scanned { .. } | Reply::Read { .. } | Reply::Lost { .. } => unreachable!(),
         }
     }
+
     /// Reads component `component`: its value and its stamp at a moment of the call, in two atomic steps.
     ///
     /// # Errors

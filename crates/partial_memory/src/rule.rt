@@ -87,13 +87,22 @@ impl Play<(), View> for BeginsRead {
     ghost then = { begins_read };
 }
 
-/// A further load of the call of the seat's port.
+/// A further step of the call of the seat's port.
 pub struct GoesOn;
 
 impl Play<(), View> for GoesOn {
     ghost use Rattle.partial_memory.specs.Rule.{goes_on};
 
     ghost then = { goes_on };
+}
+
+/// The same at a store, which is answered with 0.
+pub struct PutsOn;
+
+impl Play<(), View> for PutsOn {
+    ghost use Rattle.partial_memory.specs.Rule.{goes_on};
+
+    ghost then = { λ s me _. goes_on s me 0 };
 }
 
 /// The seat's ports see the whole history.

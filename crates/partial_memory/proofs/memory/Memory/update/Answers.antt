@@ -7,29 +7,29 @@ use Rattle.partial_memory.proofs.Replies.{update_ended, ok_ok, err_ok, err_err, 
 use Rattle.partial_memory.proofs.memory.Memory.update.Goals as goal
 use Rattle.partial_memory.proofs.memory.Memory.update.Goals.{in-Applied, in-Lost, in-Refused}
 
-pub finish-requires : goal.finish-requires
-finish-requires c =
-    let ok = c.in_ok-begin_update.ensures.ok in
-    let begins = call_begins _ _ _ c.me.invariant c.me.inside.badge.table_id _ (call.Update c.args.component c.args.value) tt ok.0 refl ok.1 in
-    record { table = search rules; words = search rules; one = c.me.invariant.one; own = search rules; begins = begins.begins }
+pub update-requires : goal.update-requires
+update-requires c =
+    let ok = c.in_ok-may_update.ensures.ok in
+    let begins = call_begins _ _ _ c.me.invariant c.me.inside.badge.table_id _ (call.Update c.args.component c.args.value) tt ok refl refl in
+    record { table = search rules; words = search rules; one = c.me.invariant.one; own = search rules; idle = c.me.invariant.between.idle; begins = begins.begins }
 
-pub invariant_of-me-2 : goal.invariant_of-me-2
-invariant_of-me-2 c =
-    let ok = c.in_ok-begin_update.ensures.ok in
-    let begins = call_begins _ _ _ c.me.invariant c.me.inside.badge.table_id _ (call.Update c.args.component c.args.value) tt ok.0 refl ok.1 in
-    rests _ _ _ _ _ _ c.finish.ensures.one begins.begins c.finish.ensures.ended c.me.invariant.number
+pub invariant_of-me : goal.invariant_of-me
+invariant_of-me c =
+    let ok = c.in_ok-may_update.ensures.ok in
+    let begins = call_begins _ _ _ c.me.invariant c.me.inside.badge.table_id _ (call.Update c.args.component c.args.value) tt ok refl refl in
+    rests _ _ _ _ _ _ c.update.ensures.one begins.begins c.update.ensures.ended c.me.invariant.number
 
 pub unreachable-requires : goal.unreachable-requires
 unreachable-requires c =
-    let ok = c.in_ok-begin_update.ensures.ok in
-    let told = update_ended _ _ _ c.me.invariant _ _ c.finish.ensures.table _ c.me.view_is _ _ _ _ c.finish.ensures.ended c.args.component c.args.value ok.0 ok.1 in
+    let ok = c.in_ok-may_update.ensures.ok in
+    let told = update_ended _ _ _ c.me.invariant _ _ c.update.ensures.table _ c.me.view_is _ _ _ _ c.update.ensures.ended c.args.component c.args.value ok refl in
     elim c.in-Scanned.is [ inl w ↦ told (reply.Scanned _ _) w.2 | inr w ↦ elim w [ inl v ↦ told (reply.Read _ _) v.2 | inr v ↦ told (reply.Changed _) v.1 ] ]
 
 pub returns-clause-ok : goal.returns-clause-ok
 returns-clause-ok c =
-    let ok = c.in_ok-begin_update.ensures.ok in
-    let told = update_ended _ _ _ c.me.invariant _ _ c.finish.ensures.table _ c.me.view_is _ _ _ _ c.finish.ensures.ended c.args.component c.args.value ok.0 ok.1 in
-    elim c.match-finish.branch [
+    let ok = c.in_ok-may_update.ensures.ok in
+    let told = update_ended _ _ _ c.me.invariant _ _ c.update.ensures.table _ c.me.view_is _ _ _ _ c.update.ensures.ended c.args.component c.args.value ok refl in
+    elim c.match-update.branch [
       | in-Applied w ↦ ok_ok _ _ _ w.result-is (told (reply.Applied _) w.in-Applied.is)
       | in-Lost w ↦ ok_ok _ _ _ w.result-is (told (reply.Lost _) w.in-Lost.is)
       | in-Refused w ↦ err_ok _ _ _ w.result-is
@@ -37,13 +37,13 @@ returns-clause-ok c =
 
 pub returns-clause-err : goal.returns-clause-err
 returns-clause-err c =
-    let ok = c.in_ok-begin_update.ensures.ok in
-    let told = update_ended _ _ _ c.me.invariant _ _ c.finish.ensures.table _ c.me.view_is _ _ _ _ c.finish.ensures.ended c.args.component c.args.value ok.0 ok.1 in
-    elim c.match-finish.branch [
+    let ok = c.in_ok-may_update.ensures.ok in
+    let told = update_ended _ _ _ c.me.invariant _ _ c.update.ensures.table _ c.me.view_is _ _ _ _ c.update.ensures.ended c.args.component c.args.value ok refl in
+    elim c.match-update.branch [
       | in-Applied w ↦ ok_err _ _ _ w.result-is
       | in-Lost w ↦ ok_err _ _ _ w.result-is
       | in-Refused w ↦ err_err _ _ _ w.result-is (inr (told (reply.Refused _) w.in-Refused.is))
     ]
 
 pub returns-clause-same : goal.returns-clause-same
-returns-clause-same c = same_memory _ _ (one_in c.me.inside.badge.views) (one_in c.finish.new.badge.views) _ _ c.me.view_is c.requires c.finish.ensures.table c.finish.ensures.ended.made.about
+returns-clause-same c = same_memory _ _ (one_in c.me.inside.badge.views) (one_in c.update.new.badge.views) _ _ c.me.view_is c.requires c.update.ensures.table c.update.ensures.ended.made.about

@@ -1,0 +1,58 @@
+-- The getSet and the embedded scan in a port's machine, one by one, for calls whose steps are made in straight lines.
+use Rattle.std.specs.Prelude.{ℕ, ◌≡◌, Bool, List, Option, IsSome}
+use Rattle.partial_words.specs.declared.step.Step.{Step}
+use Rattle.partial_active.specs.GetSet as finding
+use Rattle.partial_active.specs.GetSetAnswers as finding_answers
+use Rattle.partial_embedded.specs.Embedded as viewing
+use Rattle.partial_machine.specs.Machine.{CoreState, getting, scanning, with_getting, with_scanning}
+
+-- the machine with a getSet that has made no step
+abbrev pub set_begun : CoreState → CoreState
+set_begun s = record s { get_set = finding.fresh s.sizes s.get_set.lists_spent }
+
+-- the step that is due in the getSet
+abbrev pub set_step : CoreState → Option Step
+set_step s = finding.step_of s.get_set
+
+-- the machine once its getSet has taken in an answer
+abbrev pub set_answered : CoreState → ℕ → CoreState
+set_answered s x = with_getting s (finding.advance (getting s) x)
+
+-- how many steps are left of the getSet at most
+abbrev pub set_left : CoreState → ℕ
+set_left s = finding.left_of s.get_set
+
+-- the number may answer the due step of the getSet
+abbrev pub MayAnswerSet : CoreState → ℕ → Type 0
+MayAnswerSet s x = finding_answers.IsPossible (getting s) x
+
+-- a getSet is under way
+pub record IsGetting (s : CoreState) : Type 0 where
+  pub together : finding_answers.GoTogether (getting s)
+  pub sizes : s.get_set.sizes ≡ s.sizes
+  pub due : IsSome (set_step s)
+
+-- the machine with an embedded scan that has made no step
+abbrev pub scan_begun : CoreState → Bool → CoreState
+scan_begun s shares = record s { embedded = viewing.fresh s.sizes shares }
+
+-- the step that is due in the embedded scan of those indices
+abbrev pub scan_step : CoreState → List ℕ → Option Step
+scan_step s indices = viewing.step_of indices (scanning s)
+
+-- the machine once the embedded scan of those indices has taken in an answer
+abbrev pub scan_answered : CoreState → List ℕ → ℕ → CoreState
+scan_answered s indices x = with_scanning s (viewing.advance indices (scanning s) x)
+
+-- how many steps are left of the embedded scan at most
+abbrev pub scan_left : CoreState → List ℕ → ℕ
+scan_left s indices = viewing.left_of indices (scanning s)
+
+-- the number may answer the due step of the embedded scan
+abbrev pub MayAnswerScan : CoreState → ℕ → Type 0
+MayAnswerScan s x = viewing.IsPossible (scanning s) x
+
+-- an embedded scan of those indices is under way, or it is finished
+pub record IsScanning (s : CoreState) (indices : List ℕ) : Type 0 where
+  pub together : viewing.GoTogether indices (scanning s)
+  pub sizes : s.embedded.sizes ≡ s.sizes

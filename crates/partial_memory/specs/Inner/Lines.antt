@@ -1,0 +1,30 @@
+-- Calls that are made in straight lines: the machine of the call is a ghost, to which the kept answers of the seat's port lead.
+use Rattle.std.specs.Prelude.{◌≡◌, List}
+use Rattle.atomic_table.specs.Table.{Me}
+use Rattle.atomic_table.specs.Seated.{TableId}
+use Rattle.partial_words.specs.Layout.{total}
+use Rattle.partial_machine.specs.Machine.{CoreState}
+use Rattle.partial_core.specs.Part.{core_of}
+use Rattle.partial_memory.specs.declared.rule.About.{About}
+use Rattle.partial_memory.specs.Rule.{Seated, IsOne, one_of}
+use Rattle.partial_memory.specs.Inner.Steps.{Begins, CallMade}
+
+-- the machine of the seat's port
+abbrev pub machine_of : {S : Type 0} → Me S (List Seated) → CoreState
+machine_of me = core_of (one_of me.0).part
+
+-- the port has begun a call and made some of its steps, or all
+abbrev pub IsUnderWay : Seated → Type 0
+IsUnderWay x = (b : CoreState) × (h : Seated) × Begins b h × CallMade b h (core_of x.part) x
+
+-- each call that has come to the one port has come to the other
+abbrev pub Leads : Seated → Seated → Type 0
+Leads x y = (b : CoreState) (h : Seated) → Begins b h → CallMade b h (core_of x.part) x → CallMade b h (core_of y.part) y
+
+-- the seat is one of the table, and stands for one port of that memory, whose call is under way
+pub record IsGoing {S : Type 0} (table : TableId) (about : About) (here : TableId) (me : Me S (List Seated)) : Type 0 where
+  pub fits : here ≡ table
+  pub words : table.words ≡ total about.sizes
+  pub one : IsOne me
+  pub own : (one_of me.0).about ≡ about
+  pub under : IsUnderWay (one_of me.0)

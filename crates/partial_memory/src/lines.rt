@@ -1,0 +1,57 @@
+//! The steps of a call that is made in straight lines. Its machine is a ghost: where the kept answers of the
+//! seat's port lead.
+
+ghost use Rattle.std.specs.Prelude.{◌≡◌, Some};
+ghost use Rattle.partial_words.specs.Layout.{total};
+ghost use Rattle.partial_machine.specs.declared.stage.Stage.TheVariants.{Idle, UpdateBegun};
+ghost use Rattle.partial_machine.specs.Machine.{advance, at_stage, step_of};
+ghost use Rattle.partial_machine.specs.Possible.{IsPossible};
+ghost use Rattle.partial_memory.specs.Rule.{IsOne, one_of};
+ghost use Rattle.partial_memory.specs.Inner.Steps.{Begins, CallMade};
+ghost use Rattle.partial_memory.specs.Inner.Lines.{IsGoing, Leads, machine_of};
+
+use crate::rule::{GoesOn, Makes, Moment, Place, PutsOn, Words};
+use partial_core::{Change, Core};
+use partial_words::Step;
+
+/// Makes the first step of an update, the load of its component, and gives its answer. The machine that begins
+/// the update is G's.
+#[inline(always)]
+pub fn begin_update<G: Moment>(words: &Words, seat: &mut Place, core: &Core, change: Change) -> u64
+    requires table { seat.old.table_id ≡ words.now.table_id }
+    requires words { words.now.table_id.words ≡ total words.now.key.sizes }
+    requires one { IsOne seat.old.me }
+    requires own { (one_of seat.old.me.0).about ≡ words.now.key }
+    requires moment { G.core ≡ at_stage core.now (UpdateBegun change) }
+    requires begins { Begins G.core (one_of seat.old.me.0) }
+    ensures going { IsGoing words.now.table_id words.now.key seat.new.table_id seat.new.me }
+    ensures made { CallMade G.core (one_of seat.old.me.0) (machine_of seat.new.me) (one_of seat.new.me.0) }
+    ensures machine { machine_of seat.new.me ≡ advance G.core result }
+    ensures possible { IsPossible G.core result }
+{
+    let word = core.sizes().component_word(change.component);
+    words.load::<Makes<G>>(seat, word as usize)
+}
+
+/// Makes the step that is due in the call of the seat's port, and gives its answer.
+#[inline(always)]
+pub fn make(words: &Words, seat: &mut Place, step: Step) -> u64
+    requires going { IsGoing words.now.table_id words.now.key seat.old.table_id seat.old.me }
+    requires due { step_of (machine_of seat.old.me) ≡ Some step }
+    ensures going { IsGoing words.now.table_id words.now.key seat.new.table_id seat.new.me }
+    ensures leads { Leads (one_of seat.old.me.0) (one_of seat.new.me.0) }
+    ensures machine { machine_of seat.new.me ≡ advance (machine_of seat.old.me) result }
+    ensures possible { IsPossible (machine_of seat.old.me) result }
+{
+    match step {
+        Step::Load(word) => words.load::<GoesOn>(seat, word as usize),
+        Step::Store(word, value) => {
+            words.store::<PutsOn>(seat, word as usize, value);
+            0
+        }
+        Step::Exchange(word, old, new) => {
+            words.compare_exchange::<GoesOn>(seat, word as usize, old, new)
+        }
+        Step::Add(word, by) => words.fetch_add::<GoesOn>(seat, word as usize, by),
+    }
+}

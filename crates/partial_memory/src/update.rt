@@ -1,0 +1,95 @@
+//! An update in straight lines. Its getSet and its embedded scan are made by their machines, each in a loop of
+//! its own.
+
+ghost use Rattle.std.specs.Prelude.{◌≡◌, Some};
+ghost use Rattle.partial_words.specs.Layout.{total};
+ghost use Rattle.partial_machine.specs.declared.stage.Stage.TheVariants.{Idle, UpdateBegun, ClaimingRecord};
+ghost use Rattle.partial_machine.specs.Machine.{at_stage, reply_of};
+ghost use Rattle.partial_memory.specs.Rule.{IsBadgeOfOne, IsOne, one_in, one_of};
+ghost use Rattle.partial_memory.specs.Inner.Steps.{Begins, Ended};
+ghost use Rattle.partial_memory.specs.Inner.Lines.{IsGoing, Leads, machine_of};
+
+use crate::driver::take_seat;
+use crate::lines::{begin_update, make};
+use crate::rule::{Place, View, Words};
+use atomic_table::Badge;
+use partial_core::{Change, Core, Reply};
+use partial_machine::exchanged;
+use partial_model::Refused;
+use partial_words::Step;
+use std::marker::Brand;
+
+/// Makes the steps of an update that isn't refused at once, and gives its reply.
+pub fn update(words: &Words, badge: &mut Badge<View>, core: &mut Core, change: Change) -> Reply
+    requires table { badge.old.table_id ≡ words.now.table_id }
+    requires words { words.now.table_id.words ≡ total words.now.key.sizes }
+    requires one { IsBadgeOfOne badge.old.views }
+    requires own { (one_in badge.old.views).about ≡ words.now.key }
+    requires idle { core.old.stage ≡ Idle }
+    requires begins { Begins (at_stage core.old (UpdateBegun change)) (one_in badge.old.views) }
+    ensures table { badge.new.table_id ≡ badge.old.table_id }
+    ensures one { IsBadgeOfOne badge.new.views }
+    ensures ended { Ended (at_stage core.old (UpdateBegun change)) (one_in badge.old.views) result core.new (one_in badge.new.views) }
+{
+    let mut seat = take_seat(badge);
+    let reply = make_update(words, &mut seat, core, change);
+    *badge = seat.into_badge();
+    reply
+}
+
+// The same at a seat.
+fn make_update(words: &Words, seat: &mut Place, core: &mut Core, change: Change) -> Reply
+    requires table { seat.old.table_id ≡ words.now.table_id }
+    requires words { words.now.table_id.words ≡ total words.now.key.sizes }
+    requires one { IsOne seat.old.me }
+    requires own { (one_of seat.old.me.0).about ≡ words.now.key }
+    requires idle { core.old.stage ≡ Idle }
+    requires begins { Begins (at_stage core.old (UpdateBegun change)) (one_of seat.old.me.0) }
+    ensures table { seat.new.table_id ≡ seat.old.table_id }
+    ensures one { IsOne seat.new.me }
+    ensures ended { Ended (at_stage core.old (UpdateBegun change)) (one_of seat.old.me.0) result core.new (one_of seat.new.me.0) }
+{
+    let old = begin_update::<Brand>(words, seat, core, change);
+    if change.expected.is_some_and(|expected| expected != old) {
+        return Reply::Changed { by: old };
+    }
+    core.begin_set();
+    while let Some(step) = core.set_step() {
+        let answer = make(words, seat, step);
+        core.answer_set(answer);
+    }
+    core.begin_scanning(true);
+    if !core.found_none() {
+        while let Some(step) = core.view_step() {
+            let answer = make(words, seat, step);
+            core.answer_view(answer);
+        }
+    }
+    write_record(words, seat, core, change, old)
+}
+
+// The end of an update that has replaced `old`: its record is claimed and written, and its component exchanged.
+fn write_record(words: &Words, seat: &mut Place, core: &mut Core, change: Change, old: u64) -> Reply
+    requires going { IsGoing words.now.table_id words.now.key seat.old.table_id seat.old.me }
+    requires idle { core.old.stage ≡ Idle }
+    requires machine { machine_of seat.old.me ≡ at_stage core.old (ClaimingRecord change old) }
+    ensures going { IsGoing words.now.table_id words.now.key seat.new.table_id seat.new.me }
+    ensures leads { Leads (one_of seat.old.me.0) (one_of seat.new.me.0) }
+    ensures replies { reply_of (machine_of seat.new.me) ≡ Some result }
+    ensures core { core.new ≡ at_stage (machine_of seat.new.me) Idle }
+{
+    let sizes = core.sizes();
+    let size = core.record_size();
+    let at = make(words, seat, Step::Add(sizes.pool_counter(), size));
+    if at + size > u64::from(sizes.pool_end()) {
+        core.mark_pool();
+        return Reply::Refused(Refused::PoolSpent);
+    }
+    for k in 0..size {
+        let word = core.record_word(change, old, at, k);
+        make(words, seat, Step::Store((at + k) as u32, word));
+    }
+    let component = sizes.component_word(change.component);
+    let found = make(words, seat, Step::Exchange(component, old, at));
+    exchanged(change, old, at, found)
+}
