@@ -59,7 +59,8 @@ fn a_refused_growth_draws_nothing(rt: HostRuntime) -> Result<(), Fail> {
 #[test]
 fn a_refused_growth_writes_no_table(rt: HostRuntime) -> Result<(), Fail> {
     let wanted = b"  step  port 0      port 1
-    40              exchange 0 26 32: won  applied 1 port 1 component 0 value 6 stamp 32; call 1 1: applied 32 place 1
+    40              exchange 0 26 32: won  applied 1 port 1 component 0 value 6 stamp 32; \
+call 1 1: applied 32 place 1
     41  load 0: 32
 ";
     let length = length_of(rt.alloc(), Form::Table)?;
