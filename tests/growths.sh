@@ -16,7 +16,7 @@ failed=0
 handed_up=$'^growth refused\nerror: (AllocError|[A-Za-z]+\\(Memory\\))\nthe test failed: its result gives status 1$'
 
 # refuse TESTS NAME GROWTH: runs a test with the growth of that number refused, and judges it. Counts in `came`
-# a test that came to that growth.
+# a test that came to that growth. Where `manages` is set, it may also pass: it then says itself that all was done.
 refuse() {
     local said status
     said=$(timeout 60 env LD_PRELOAD="$room/refuse.so" REFUSED_GROWTH="$3" "$1" "$2" 2>&1)
@@ -28,12 +28,17 @@ refuse() {
     if [ "$status" -eq 101 ] && [[ $said =~ $handed_up ]]; then
         return 0
     fi
+    if [ -n "$manages" ] && [ "$status" -eq 0 ] && [ "$said" = $'growth refused\n\ntest result: ok' ]; then
+        return 0
+    fi
     printf 'failed: %s with growth %d refused (status %d)\n%s\n' "$2" "$3" "$status" "$said"
     return 1
 }
 
-# refuse_all CRATE NAMES: refuses the growths of the tests whose names fit, until no test comes to one.
+# refuse_all CRATE NAMES [manages]: refuses the growths of the tests whose names fit, until no test comes to one. The
+# third word says that a refused growth may be made up for by a smaller one, as where a list is collected.
 refuse_all() {
+    local manages=${3:-}
     local tests=$top/crates/$1/out/$1_tests names name growth came=1 well
     [ "$wanted" = "  " ] || [[ $wanted == *" $1 "* ]] || return
     if ! is_fresh "$tests" && ! (cd "$top/crates/$1" && rt test); then
@@ -73,7 +78,7 @@ refuse_all partial_rounds 'tests::growths::.*'
 refuse_all partial_cmd 'tests::growths::.*'
 refuse_all partial_memory 'tests::growths::.*'
 refuse_all partial_pipeline 'tests::growths::.*'
-refuse_all partial_picture 'tests::growths::.*'
+refuse_all partial_picture 'tests::growths::.*' manages
 
 echo "$passed passed, $failed failed"
 [ "$failed" -eq 0 ]

@@ -362,7 +362,7 @@ for window in "5 4" "2001 2001" "0 2001" "0 18446744073709551615"; do
 done
 "$program" "$room/long.plan" --window 1 2000 >"$room/drawn"
 holds "picture: a window of 2,000 steps" test "$(shapes 'class="mark ')" -eq 2000
-expect "" $'  step  port 0       port 1\n  2000               load 0: 18  call 1 0: read 0\n' ""
+expect "" $'  step  port 0   port 1\n  2000           load 0: 18  call 1 0: read 0\n' ""
 case_of "picture: a window as text" 0 --window 2000 2000 --text "$room/long.plan"
 
 # Faults are those of `partial`.

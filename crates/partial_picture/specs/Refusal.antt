@@ -1,5 +1,5 @@
 -- The numbers of refusals, and which refusal it is.
-use Rattle.std.specs.Prelude.{ℕ, ◌≡◌, Result, Ok, Err}
+use Rattle.std.specs.Prelude.{ℕ, Result, Ok, Err, IsOk}
 use Rattle.partial_text.specs.Fault as text
 use Rattle.partial_text.specs.PlanText.{PlanView}
 use Rattle.partial_text.specs.declared.fault.PlanError.{PlanError}
@@ -31,15 +31,11 @@ reader_fault = fault.Plan plan.Read
 abbrev pub writer_fault : Fault
 writer_fault = fault.Text outcome.Write
 
--- the text was judged to be that of a plan
-abbrev pub IsRead : Result PlanView PlanError → Type 0
-IsRead judged = (p : PlanView) × (judged ≡ Ok p)
-
 -- The plan was refused with the fault that judging its text gives, unless memory ran out, and anything else came only
 -- of what judging gives as a plan.
 abbrev pub IsJudged : {X : Type 0} → Result X Fault → Result PlanView PlanError → Type 0
-IsJudged (Ok x) judged = IsRead judged
+IsJudged (Ok x) judged = IsOk judged
 IsJudged (Err (fault.Plan e)) judged = text.Fails e judged
-IsJudged (Err (fault.Replay e)) judged = IsRead judged
-IsJudged (Err (fault.Picture e)) judged = IsRead judged
-IsJudged (Err (fault.Text e)) judged = IsRead judged
+IsJudged (Err (fault.Replay e)) judged = IsOk judged
+IsJudged (Err (fault.Picture e)) judged = IsOk judged
+IsJudged (Err (fault.Text e)) judged = IsOk judged

@@ -49,9 +49,11 @@ text{fill:#e4e8ec}
 }
 </style>
 <defs>
-<marker id=\"overtook\" viewBox=\"0 0 10 10\" refX=\"8\" refY=\"5\" markerWidth=\"5\" markerHeight=\"5\" orient=\"auto\">\
+<marker id=\"overtook\" viewBox=\"0 0 10 10\" refX=\"8\" refY=\"5\" \
+markerWidth=\"5\" markerHeight=\"5\" orient=\"auto\">\
 <path class=\"overtook-head\" d=\"M0 0L10 5L0 10z\"/></marker>
-<marker id=\"lent\" viewBox=\"0 0 10 10\" refX=\"8\" refY=\"5\" markerWidth=\"5\" markerHeight=\"5\" orient=\"auto\">\
+<marker id=\"lent\" viewBox=\"0 0 10 10\" refX=\"8\" refY=\"5\" \
+markerWidth=\"5\" markerHeight=\"5\" orient=\"auto\">\
 <path class=\"lent-head\" d=\"M0 0L10 5L0 10z\"/></marker>
 </defs>
 ";

@@ -21,7 +21,8 @@ fn lost_exchange(rt: HostRuntime) -> Result<(), Fail> {
     11                                store 27 18
     12                                store 28 9
     13                                store 29 0
-    14                                exchange 0 18 27: won  applied 0 port 1 component 0 value 9 stamp 27; call 1 0: applied 27 place 0
+    14                                exchange 0 18 27: won  applied 0 port 1 component 0 value 9 stamp 27; \
+call 1 0: applied 27 place 0
     15  exchange 0 18 24: lost to 27                         call 0 0: lost 27 place 0
 ";
     let text = drawn(rt.alloc(), Form::Table, Window::Whole, LOST_EXCHANGE)?;
