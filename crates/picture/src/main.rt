@@ -46,5 +46,11 @@ fn draw_on<R: Print + AllocGlobal, D: Read + Drop>(
 ) -> Result<(), Stop> {
     let mut plan = Device::new(reader);
     let mut out = Device::new(io::writer(rt));
-    Ok(draw(rt.alloc(), request.form, request.window, &mut plan, &mut out)?)
+    Ok(draw(
+        rt.alloc(),
+        request.form,
+        request.window,
+        &mut plan,
+        &mut out,
+    )?)
 }
