@@ -306,7 +306,8 @@ impl Core {
     /// How many words the record of an update has.
     #[inline(always)]
     pub fn record_size(&self) -> u64
-        ensures { result ≡ record_size self.now }
+        ensures value { result ≡ record_size self.now }
+        ensures least { 3 ≤ result }
     {
         let pairs = self.found.indices().len() as u64;
         match self.embedded.borrowed() {

@@ -1,16 +1,12 @@
 -- The end of an update in straight lines: the stores of its record.
-use Rattle.std.proofs.Common.{ℕ, ◌≡◌, ◌+◌, ◌<◌, ◌==◌, Bool, cond, Some, sym, ap, ◌∙◌, arith}
+use Rattle.std.proofs.Common.{ℕ, ◌≡◌, ◌+◌, ◌<◌, Bool, cond, Some, sym, ap, ◌∙◌, arith}
 use Rattle.std.specs.Prelude.{slice_index}
 use Rattle.std.proofs.lemmas.Bool.{ne_eqb}
 use Rattle.partial_words.specs.declared.step.Step.TheVariants.{Store}
 use Rattle.partial_machine.specs.declared.stage.Change.{Change}
-use Rattle.partial_machine.specs.declared.stage.Stage.{Stage}
 use Rattle.partial_machine.specs.declared.stage.Stage.TheVariants.{StoringRecord, Exchanging}
 use Rattle.partial_machine.specs.Machine.{CoreState, advance, at_stage, record_size, record_words, step_of}
-
--- where an update is that has stored so many words of its record
-abbrev pub writing : CoreState → Change → ℕ → ℕ → ℕ → Stage
-writing s c old at k = cond (k == record_size s) (Exchanging c old at) (StoringRecord c old at k)
+use Rattle.partial_memory.specs.Inner.Lines.{writing}
 
 module _ (s d : CoreState) (c : Change) (old at k : ℕ) (is : d ≡ at_stage s (writing s c old at k)) (less : k < record_size s) where
   pub storing : d ≡ at_stage s (StoringRecord c old at k)

@@ -1,13 +1,13 @@
 //! An update in straight lines. Its getSet and its embedded scan are made by their machines, each in a loop of
 //! its own.
 
-ghost use Rattle.std.specs.Prelude.{◌≡◌, Some};
+ghost use Rattle.std.specs.Prelude.{◌≡◌, ◌<◌, ◌+◌, Some};
 ghost use Rattle.partial_words.specs.Layout.{total};
 ghost use Rattle.partial_machine.specs.declared.stage.Stage.TheVariants.{Idle, UpdateBegun, ClaimingRecord};
-ghost use Rattle.partial_machine.specs.Machine.{at_stage, reply_of};
+ghost use Rattle.partial_machine.specs.Machine.{at_stage, record_size, reply_of};
 ghost use Rattle.partial_memory.specs.Rule.{IsBadgeOfOne, IsOne, one_in, one_of};
 ghost use Rattle.partial_memory.specs.Inner.Steps.{Begins, Ended};
-ghost use Rattle.partial_memory.specs.Inner.Lines.{IsGoing, Leads, machine_of};
+ghost use Rattle.partial_memory.specs.Inner.Lines.{IsGoing, Leads, machine_of, writing};
 
 use crate::driver::take_seat;
 use crate::lines::{begin_update, make};
@@ -85,11 +85,35 @@ fn write_record(words: &Words, seat: &mut Place, core: &mut Core, change: Change
         core.mark_pool();
         return Reply::Refused(Refused::PoolSpent);
     }
-    for k in 0..size {
-        let word = core.record_word(change, old, at, k);
-        make(words, seat, Step::Store((at + k) as u32, word));
+    store_word(words, seat, core, change, old, at, 0);
+    store_word(words, seat, core, change, old, at, 1);
+    store_word(words, seat, core, change, old, at, 2);
+    for k in 3..size {
+        store_word(words, seat, core, change, old, at, k);
     }
     let component = sizes.component_word(change.component);
     let found = make(words, seat, Step::Exchange(component, old, at));
     exchanged(change, old, at, found)
+}
+
+// Stores word `k` of the record.
+#[inline(always)]
+fn store_word(
+    words: &Words,
+    seat: &mut Place,
+    core: &Core,
+    change: Change,
+    old: u64,
+    at: u64,
+    k: u64,
+)
+    requires going { IsGoing words.now.table_id words.now.key seat.old.table_id seat.old.me }
+    requires machine { machine_of seat.old.me ≡ at_stage core.now (writing core.now change old at k) }
+    requires more { k < record_size core.now }
+    ensures going { IsGoing words.now.table_id words.now.key seat.new.table_id seat.new.me }
+    ensures leads { Leads (one_of seat.old.me.0) (one_of seat.new.me.0) }
+    ensures machine { machine_of seat.new.me ≡ at_stage core.now (writing core.now change old at (k + 1)) }
+{
+    let word = core.record_word(change, old, at, k);
+    make(words, seat, Step::Store((at + k) as u32, word));
 }

@@ -1,12 +1,15 @@
 //! The machines in a port's machine, one by one. Who makes the steps of a call in straight lines keeps the
 //! stage, and the port's machine stays idle: it keeps the marks, the positions, what was found and the rows.
 
-ghost use Rattle.std.specs.Prelude.{◌≡◌, ◌<◌, ◌==◌, length, Some, None, true, OnOk, IfErr};
-ghost use Rattle.partial_machine.specs.declared.stage.Stage.TheVariants.{Idle};
+ghost use Rattle.std.specs.Prelude.{◌≡◌, ◌<◌, ◌==◌, length, Some, None, true, IfSome, OnOk, IfErr};
+ghost use Rattle.partial_machine.specs.declared.stage.Stage.TheVariants.{Idle, Scanning};
+ghost use Rattle.partial_machine.specs.Machine.{advance, step_of};
+ghost use Rattle.partial_machine.specs.Possible.{IsPossible};
 ghost use Rattle.partial_machine.specs.Calls.{update_refusal};
 ghost use Rattle.partial_machine.specs.Lines.{IsGetting, IsScanning, MayAnswerScan, MayAnswerSet, scan_answered, scan_begun, scan_left, scan_step, set_answered, set_begun, set_left, set_step};
 
 use super::Core;
+use crate::stage::Stage;
 use partial_active::GetSet;
 use partial_embedded::Embedded;
 use partial_model::Refused;
@@ -112,5 +115,27 @@ impl Core {
         ensures { self.new ≡ record self.old { pool_spent = true } }
     {
         self.pool_spent = true;
+    }
+
+    /// The step that is due in the embedded scan of a scan, or None where the machine is at another stage.
+    #[inline(always)]
+    pub fn collect_step(&self) -> Option<Step>
+        ensures due { IfSome result (λ step. step_of self.now ≡ Some step) }
+        ensures stage { IfSome result (λ step. self.now.stage ≡ Scanning) }
+    {
+        match self.stage {
+            Stage::Scanning => self.embedded.step(&self.rows, &self.asked),
+            _ => None,
+        }
+    }
+
+    /// The embedded scan of a scan takes in the answer to the step that is due.
+    #[inline(always)]
+    pub fn answer_collect(&mut self, answer: u64)
+        requires stage { self.old.stage ≡ Scanning }
+        requires possible { IsPossible self.old answer }
+        ensures { self.new ≡ advance self.old answer }
+    {
+        self.after_collect(answer);
     }
 }

@@ -1,9 +1,12 @@
 -- Calls that are made in straight lines: the machine of the call is a ghost, to which the kept answers of the seat's port lead.
-use Rattle.std.specs.Prelude.{◌≡◌, List}
+use Rattle.std.specs.Prelude.{ℕ, ◌≡◌, ◌==◌, List, if◌then◌else◌}
 use Rattle.atomic_table.specs.Table.{Me}
 use Rattle.atomic_table.specs.Seated.{TableId}
 use Rattle.partial_words.specs.Layout.{total}
-use Rattle.partial_machine.specs.Machine.{CoreState}
+use Rattle.partial_machine.specs.declared.stage.Change.{Change}
+use Rattle.partial_machine.specs.declared.stage.Stage.{Stage}
+use Rattle.partial_machine.specs.declared.stage.Stage.TheVariants.{StoringRecord, Exchanging}
+use Rattle.partial_machine.specs.Machine.{CoreState, record_size}
 use Rattle.partial_core.specs.Part.{core_of}
 use Rattle.partial_memory.specs.declared.rule.About.{About}
 use Rattle.partial_memory.specs.Rule.{Seated, IsOne, one_of}
@@ -28,3 +31,7 @@ pub record IsGoing {S : Type 0} (table : TableId) (about : About) (here : TableI
   pub one : IsOne me
   pub own : (one_of me.0).about ≡ about
   pub under : IsUnderWay (one_of me.0)
+
+-- where an update is that has stored so many words of its record
+abbrev pub writing : CoreState → Change → ℕ → ℕ → ℕ → Stage
+writing s c old at k = if k == record_size s then Exchanging c old at else StoringRecord c old at k

@@ -222,3 +222,46 @@ fn repeated_position(rt: HostRuntime) -> Result<(), Fail> {
     assert_eq!(rt; into, [10, 10, 20]);
     Ok(())
 }
+
+// Updates of a port between its own scans: each finds the slot that a scan has left, and puts it on the list.
+fn between_scans(rt: &impl Abort, memory: &Memory, me: &mut Port)
+    requires { IsOf memory.now me.old × (2 ≤ memory.now.about.sizes.m) }
+    ensures { IsOf memory.now me.new }
+{
+    let mut into = [0u64; 2];
+    let updated = memory.update(me, 0, 7);
+    assert_eq!(rt; updated, Ok(Updated::Applied { stamp: 24 }));
+    assert_eq!(rt; memory.scan(me, &[1, 0], &mut into), Ok(COLLECTED_TWICE));
+    assert_eq!(rt; into, [20, 7]);
+    let updated = memory.update(me, 1, 8);
+    assert_eq!(rt; updated, Ok(Updated::Applied { stamp: 30 }));
+    let updated = memory.update(me, 0, 9);
+    assert_eq!(rt; updated, Ok(Updated::Applied { stamp: 33 }));
+    let updated = memory.update_if(me, 0, 33, 11);
+    assert_eq!(rt; updated, Ok(UpdatedIf::Applied { stamp: 36 }));
+    let updated = memory.update_if(me, 0, 33, 12);
+    assert_eq!(rt; updated, Ok(UpdatedIf::Changed { by: 36 }));
+    assert_eq!(rt; memory.scan(me, &[0, 1], &mut into), Ok(COLLECTED_TWICE));
+    assert_eq!(rt; into, [11, 8]);
+    let updated = memory.update(me, 1, 13);
+    assert_eq!(rt; updated, Ok(Updated::Applied { stamp: 42 }));
+}
+
+// The stamps and the chains are those of the steps by hand: a record takes 3 pool words, an announcement of two
+// positions 3, and an overtaken conditional update none.
+#[test]
+fn updates_between_scans(rt: HostRuntime) -> Result<(), Fail> {
+    let sizes = Sizes::new(2, 4, 8, 64)?;
+    let (memory, mut first, _) = pair(rt.alloc(), sizes, &[10, 20])?;
+    between_scans(&rt, &memory, &mut first);
+    let closed = memory.close(rt.alloc(), first, Vec::new(rt.alloc()))?;
+    assert_eq!(rt; closed.values.as_slice(), [11, 13].as_slice());
+    let stamps = [[36, 33, 24, 18].as_slice(), [42, 30, 21].as_slice()];
+    for (chain, expected) in closed.chains.iter().zip(stamps) {
+        assert_eq!(rt; chain.len(), expected.len());
+        for (link, stamp) in chain.iter().zip(expected) {
+            assert_eq!(rt; link.stamp, *stamp);
+        }
+    }
+    Ok(())
+}

@@ -1,8 +1,7 @@
 use Rattle.std.proofs.Common.{◌≡◌}
 use Rattle.partial_machine.specs.Machine.{at_stage}
 use Rattle.partial_memory.specs.Rule.{one_of}
-use Rattle.partial_memory.specs.Inner.Lines.{IsGoing, Leads, machine_of}
-use Rattle.partial_memory.proofs.Writing.{writing}
+use Rattle.partial_memory.specs.Inner.Lines.{IsGoing, Leads, machine_of, writing}
 use Rattle.partial_memory.proofs.update.write_record.Given as goal
 
 abbrev pub invariant-loop-k : goal.invariant-loop-k
