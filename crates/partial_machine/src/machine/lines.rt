@@ -121,6 +121,7 @@ impl Core {
     #[inline(always)]
     pub fn collect_step(&self) -> Option<Step>
         ensures due { IfSome result (λ step. step_of self.now ≡ Some step) }
+        ensures all { self.now.stage ≡ Scanning → result ≡ step_of self.now }
         ensures stage { IfSome result (λ step. self.now.stage ≡ Scanning) }
     {
         match self.stage {
