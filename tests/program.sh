@@ -301,7 +301,7 @@ fi
 
 # shapes PART: how many of these stand in the drawing, without those of the legend.
 shapes() {
-    sed '/<g class="legend">/,$d' "$room/drawn" | grep -c -- "$1"
+    sed '/<g class="legend"/,$d' "$room/drawn" | grep -c -- "$1"
 }
 
 # holds NAME COMMAND..: the command must succeed.

@@ -53,6 +53,16 @@ step_at s indices last Done = None
 abbrev pub step_of : List ℕ → Pair → Option Step
 step_of indices p = step_at p.0.sizes indices p.1.last p.0.stage
 
+-- the position whose component word is due
+abbrev pub collecting : Stage → Option ℕ
+collecting (Collect k) = Some k
+collecting _ = None
+
+-- the position whose record's value is due
+abbrev pub valuing : Stage → Option ℕ
+valuing (Value k) = Some k
+valuing _ = None
+
 -- the collect under way is the first
 abbrev pub is_first : Pair → Bool
 is_first p = p.0.collects == 1

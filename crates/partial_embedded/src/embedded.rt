@@ -2,7 +2,7 @@
 
 ghost use Rattle.std.specs.Prelude.{◌≡◌, ◌+◌, ◌*◌, ◌<◌, ℕ, List, length};
 ghost use Rattle.partial_embedded.specs.Embedded.{Pair, RowsState, GoTogether, IsPossible, pairs_from};
-ghost use Rattle.partial_embedded.specs.declared.embedded.Stage.TheVariants.{Collect};
+ghost use Rattle.partial_embedded.specs.declared.embedded.Stage.TheVariants.{Collect, Value};
 
 use crate::rows::Rows;
 use partial_words::{Sizes, Step, value_word, view_word};
@@ -63,7 +63,7 @@ impl Model for Embedded {
 impl Embedded {
     ghost use Rattle.std.specs.Prelude.{IsSome, ◌≤◌};
     ghost use Rattle.partial_words.specs.Layout.{pool_end};
-    ghost use Rattle.partial_embedded.specs.Embedded.{ArePositions, IsFor, IsRecord, fresh, step_of, advance, left_of, most_steps, after_load, after_view, at_stage, with_value, pairs_from, advance_at};
+    ghost use Rattle.partial_embedded.specs.Embedded.{ArePositions, IsFor, IsRecord, collecting, valuing, fresh, step_of, advance, left_of, most_steps, after_load, after_view, at_stage, with_value, pairs_from, advance_at};
 
     /// An embedded scan that has made no step. One that shares stops at the reference of a view that it
     /// borrows; another one loads the pairs.
@@ -147,6 +147,54 @@ impl Embedded {
         self.take_in(rows, indices, x);
     }
 
+    /// The position whose component word is due to be loaded, or None where the collects are over.
+    #[inline(always)]
+    pub fn collecting(&self) -> Option<usize>
+        ensures { result ≡ collecting self.now.stage }
+    {
+        match self.stage {
+            Stage::Collect { position } => Some(position),
+            _ => None,
+        }
+    }
+
+    /// Takes the answer of the load of this position's component word, as [`Embedded::answer`] does.
+    #[inline(always)]
+    pub fn answer_collect(&mut self, rows: &mut Rows, indices: &[u32], position: usize, x: u64)
+        requires together { GoTogether indices.now (self.old, rows.old) }
+        requires stage { self.old.stage ≡ Collect position }
+        requires possible { IsPossible (self.old, rows.old) x }
+        ensures state { (self.new, rows.new) ≡ advance indices.now (self.old, rows.old) x }
+        ensures together { GoTogether indices.now (self.new, rows.new) }
+        ensures left { left_of indices.now (self.new, rows.new) < left_of indices.now (self.old, rows.old) }
+    {
+        self.after_load(rows, indices, position, x);
+    }
+
+    /// The position whose record's value is due to be loaded, or None where no value is.
+    #[inline(always)]
+    pub fn valuing(&self) -> Option<usize>
+        ensures { result ≡ valuing self.now.stage }
+    {
+        match self.stage {
+            Stage::Value { position } => Some(position),
+            _ => None,
+        }
+    }
+
+    /// Takes the answer of the load of the value of this position's record, as [`Embedded::answer`] does.
+    #[inline(always)]
+    pub fn answer_value(&mut self, rows: &mut Rows, indices: &[u32], position: usize, x: u64)
+        requires together { GoTogether indices.now (self.old, rows.old) }
+        requires stage { self.old.stage ≡ Value position }
+        requires possible { IsPossible (self.old, rows.old) x }
+        ensures state { (self.new, rows.new) ≡ advance indices.now (self.old, rows.old) x }
+        ensures together { GoTogether indices.now (self.new, rows.new) }
+        ensures left { left_of indices.now (self.new, rows.new) < left_of indices.now (self.old, rows.old) }
+    {
+        self.after_value(rows, indices, position, x);
+    }
+
     // What the answer makes of the machine.
     #[inline(always)]
     fn take_in(&mut self, rows: &mut Rows, indices: &[u32], x: u64)
@@ -169,16 +217,7 @@ impl Embedded {
                 rows.set_value(index, x);
                 self.stage = pairs_from(at + 1, left - 1);
             }
-            Stage::Value { position } => {
-                rows.set_value(indices[position], x);
-                self.stage = if position + 1 < indices.len() {
-                    Stage::Value {
-                        position: position + 1,
-                    }
-                } else {
-                    Stage::Done
-                };
-            }
+            Stage::Value { position } => self.after_value(rows, indices, position, x),
             Stage::Done => {}
         }
     }
@@ -211,6 +250,23 @@ impl Embedded {
         } else {
             self.stage = Stage::Value { position: 0 };
         }
+    }
+
+    // The value of a position's record was loaded.
+    #[inline(always)]
+    fn after_value(&mut self, rows: &mut Rows, indices: &[u32], position: usize, x: u64)
+        requires together { GoTogether indices.now (self.old, rows.old) }
+        requires stage { self.old.stage ≡ Value position }
+        ensures { (self.new, rows.new) ≡ advance_at indices.now (self.old, rows.old) (Value position) x }
+    {
+        rows.set_value(indices[position], x);
+        self.stage = if position + 1 < indices.len() {
+            Stage::Value {
+                position: position + 1,
+            }
+        } else {
+            Stage::Done
+        };
     }
 
     // The reference of the view of the borrowed record was loaded.

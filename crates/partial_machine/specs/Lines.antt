@@ -1,9 +1,15 @@
--- The getSet and the embedded scan in a port's machine, one by one, for calls whose steps are made in straight lines.
-use Rattle.std.specs.Prelude.{ℕ, ◌≡◌, Bool, List, Option, IsSome}
+-- The parts of a port's machine, one by one, for calls whose steps are made in straight lines.
+use Rattle.std.specs.Prelude.{ℕ, ◌≡◌, Bool, true, false, List, Option, IsSome}
 use Rattle.partial_words.specs.declared.step.Step.{Step}
+use Rattle.partial_active.specs.declared.join.JoinStage.{JoinStage}
+use Rattle.partial_active.specs.declared.join.JoinStage.TheVariants.{Joined, Spent}
+use Rattle.partial_active.specs.Leave.{advance_leave}
 use Rattle.partial_active.specs.GetSet as finding
 use Rattle.partial_active.specs.GetSetAnswers as finding_answers
 use Rattle.partial_embedded.specs.Embedded as viewing
+use Rattle.partial_embedded.specs.declared.embedded.Stage.TheVariants.{Collect, Value}
+use Rattle.partial_machine.specs.declared.stage.Positions.{Positions}
+use Rattle.partial_machine.specs.declared.stage.Positions.TheVariants.{Asked, Found}
 use Rattle.partial_machine.specs.Machine.{CoreState, getting, scanning, with_getting, with_scanning}
 
 -- the machine with a getSet that has made no step
@@ -56,3 +62,36 @@ MayAnswerScan s x = viewing.IsPossible (scanning s) x
 pub record IsScanning (s : CoreState) (indices : List ℕ) : Type 0 where
   pub together : viewing.GoTogether indices (scanning s)
   pub sizes : s.embedded.sizes ≡ s.sizes
+
+-- the component word of that position is due in the embedded scan
+abbrev pub IsCollecting : CoreState → ℕ → Type 0
+IsCollecting s k = s.embedded.stage ≡ Collect k
+
+-- the value of that position's record is due in the embedded scan
+abbrev pub IsValuing : CoreState → ℕ → Type 0
+IsValuing s k = s.embedded.stage ≡ Value k
+
+-- the positions of an embedded scan: those that are asked for, or the indices found
+abbrev pub positions_of : CoreState → Positions → List ℕ
+positions_of s Asked = s.asked
+positions_of s Found = s.found.indices
+
+-- the machine with the positions of a scan
+abbrev pub asking : CoreState → List ℕ → CoreState
+asking s which = record s { asked = which }
+
+-- the machine with a join of the announcement at that place, at that stage
+abbrev pub join_at : CoreState → ℕ → JoinStage → CoreState
+join_at s at stage = record s { join = record { sizes = s.sizes; announcement = at; stage = stage } }
+
+-- the announcement stands in its slot
+abbrev pub joined : CoreState → ℕ → ℕ → CoreState
+joined s at slot = record (join_at s at (Joined slot)) { leave = record { sizes = s.sizes; slot = slot; left = false } }
+
+-- the claim of a slot was refused, and the port is marked for the slots
+abbrev pub slots_marked : CoreState → ℕ → CoreState
+slots_marked s at = record (join_at s at Spent) { slots_spent = true }
+
+-- the slot is left
+abbrev pub left : CoreState → CoreState
+left s = record s { leave = advance_leave s.leave }

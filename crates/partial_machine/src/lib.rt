@@ -7,7 +7,7 @@ pub mod machine;
 pub mod stage;
 
 pub use machine::{Core, exchanged};
-pub use stage::{Change, Reply, Stage};
+pub use stage::{Change, Positions, Reply, Stage};
 
 #[cfg(test)]
 mod tests;

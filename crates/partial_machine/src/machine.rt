@@ -210,10 +210,7 @@ impl Core {
         ensures err { IfErr result (λ cause. (scan_refusal self.old components.now ≡ Some cause) ×
             (self.new ≡ self.old)) }
     {
-        if let Some(cause) = self.scan_refusal(components) {
-            return Err(cause);
-        }
-        set_asked(&mut self.asked, components);
+        self.ask(components)?;
         self.stage = if components.is_empty() {
             Stage::Finished {
                 reply: Reply::Scanned {
@@ -571,13 +568,9 @@ impl Core {
         requires stage { self.old.stage ≡ Leaving }
         ensures { self.new ≡ advance_at self.old Leaving x }
     {
+        let reply = self.scanned_reply();
         self.leave.answer(x);
-        self.stage = Stage::Finished {
-            reply: Reply::Scanned {
-                collects: self.embedded.collects(),
-                borrowed: self.embedded.borrowed(),
-            },
-        };
+        self.stage = Stage::Finished { reply };
     }
 
     /// Takes the reply of a finished call, and the machine is idle again. There is none where no call

@@ -20,13 +20,6 @@ use Rattle.partial_memory.specs.declared.rule.About.{About}
 use Rattle.partial_memory.specs.Rule.{Seated, AreByOpened, Told}
 use Rattle.partial_memory.specs.Inner.Steps.{Begins, CallMade}
 
--- one that has begun a call has a due step
-begun_due : (s : CoreState) (t : Stage) → is_begun t ≡ true → step_at s t ≡ None → ⊥
-begun_due s (ReadBegun j) b e = absurd cc
-begun_due s (UpdateBegun c) b e = absurd cc
-begun_due s ScanBegun b e = absurd cc
-begun_due s _ b e = absurd (false≢true b)
-
 -- the machine that a step leads to, and its port
 module _ (x : Seated) (c : CoreState) (y : Seated) (a : ℕ) (z : Seated) (about : y.about ≡ x.about) (t : Told c y a z) where
   abbrev TellsFor : About → Type 0
@@ -88,10 +81,6 @@ pub runs_machine : (b : CoreState) (x : Seated) (c : CoreState) (y : Seated) →
 runs_machine b x c y begins (inl w) = inl (subst (λ (v : Seated). HasBegun c v.part) (sym w.1) (subst (λ (d : CoreState). HasBegun d x.part) (sym w.0) begins.begun))
 runs_machine b x c y begins (inr m) = inr m.made.machine
 
-pub runs_about : (b : CoreState) (x : Seated) (c : CoreState) (y : Seated) → Runs b x c y → y.about ≡ x.about
-runs_about b x c y (inl w) = ap (λ (v : Seated). v.about) w.1
-runs_about b x c y (inr m) = m.about
-
 -- the word of the step that is due is there
 pub runs_within : (b : CoreState) (x : Seated) (c : CoreState) (y : Seated) (s : Step) → Begins b x → Runs b x c y → step_of c ≡ Some s → word_of s < total x.about.sizes
 runs_within b x c y s begins (inl w) due =
@@ -99,13 +88,3 @@ runs_within b x c y s begins (inl w) due =
 runs_within b x c y s begins (inr m) due =
     let sizes : c.sizes ≡ x.about.sizes = m.made.sizes in
     subst (λ (z : Layout). word_of s < total z) sizes (due_words_are_there c s (subst IsLayout (begins.sizes ∙ sym sizes) begins.layout) m.made.sound due)
-
--- where no step is due a call has made some, and has a reply
-replied : (o : Option Reply) → not (is_some o) ≡ false → (r : Reply) × (o ≡ Some r)
-replied None e = absurd cc
-replied (Some r) e = (r, refl)
-
-pub runs_ended : (b : CoreState) (x : Seated) (c : CoreState) (y : Seated) → Begins b x → Runs b x c y → step_of c ≡ None →
-    CallMade b x c y × ((r : Reply) × (reply_of c ≡ Some r))
-runs_ended b x c y begins (inl w) over = absurd (begun_due b b.stage begins.begun.begun (ap step_of (sym w.0) ∙ over))
-runs_ended b x c y begins (inr m) over = (m, replied (reply_of c) (sym m.made.due ∙ ap is_some over))

@@ -8,6 +8,7 @@ mod Reading
 mod Straight
 mod Parts
 mod Writing
+mod Announcing
 mod Opens
 mod Looks
 mod Meetings

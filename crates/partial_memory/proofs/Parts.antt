@@ -1,11 +1,16 @@
 -- The getSet and the embedded scan of a call in straight lines: where an answer leads its machine.
-use Rattle.std.proofs.Common.{ℕ, ◌≡◌, ◌==◌, cond, length, Option, Some, true, sym, ap, ◌∙◌}
+use Rattle.std.proofs.Common.{ℕ, ◌≡◌, ◌==◌, cond, length, List, Option, Some, None, true, sym, ap, subst, ◌∙◌}
 use Rattle.std.specs.Option.{option_map_or}
 use Rattle.partial_words.specs.declared.step.Step.{Step}
 use Rattle.partial_machine.specs.declared.stage.Change.{Change}
-use Rattle.partial_machine.specs.declared.stage.Stage.TheVariants.{GettingSet, Viewing, ClaimingRecord}
-use Rattle.partial_machine.specs.Lines.{scan_answered, scan_begun, scan_step, set_answered, set_step}
-use Rattle.partial_machine.specs.Machine.{CoreState, advance, after_getting, after_scanning, at_stage}
+use Rattle.partial_machine.specs.declared.stage.Positions.{Positions}
+use Rattle.partial_machine.specs.declared.stage.Positions.TheVariants.{Asked, Found}
+use Rattle.partial_machine.specs.declared.stage.Stage.{Stage}
+use Rattle.partial_machine.specs.declared.stage.Stage.TheVariants.{GettingSet, Viewing, ClaimingRecord, Scanning, Leaving}
+use Rattle.partial_machine.specs.Lines.{MayAnswerScan, positions_of, scan_answered, scan_begun, scan_step, set_answered, set_step}
+use Rattle.partial_machine.specs.Machine.{CoreState, advance, after_getting, after_scanning, at_stage, scanning, with_scanning}
+use Rattle.partial_machine.specs.Possible.{IsPossible}
+use Rattle.partial_memory.specs.Inner.Lines.{IsAtScan, behind_scan}
 
 -- the machine whose getSet is under way, or over, and of which the caller keeps the stage
 abbrev pub set_made : CoreState → Change → ℕ → CoreState
@@ -17,12 +22,30 @@ set_then s g c old a step d v is due then state =
     is ∙ ap (λ (o : Option Step). option_map_or (λ _. at_stage s (GettingSet c old)) o (at_stage (scan_begun s true) (cond (length s.found.indices == 0) (ClaimingRecord c old) (Viewing c old)))) due in
     then ∙ ap (λ (t : CoreState). advance t a) now ∙ ap (λ (q : CoreState). set_made q c old) (sym state)
 
--- the same of the embedded scan of what the getSet has found
-abbrev pub view_made : CoreState → Change → ℕ → CoreState
-view_made s c old = after_scanning (at_stage s (Viewing c old)) s.found.indices (ClaimingRecord c old)
+-- the same of the embedded scan of those positions, at its stage
+abbrev pub scan_made : CoreState → List ℕ → Stage → CoreState
+scan_made s indices t = after_scanning (at_stage s t) indices (behind_scan t)
 
-pub view_then : (s g : CoreState) (c : Change) (old a : ℕ) (step : Step) (d v : CoreState) → g ≡ view_made s c old → scan_step s s.found.indices ≡ Some step → d ≡ advance g a →
-    v ≡ scan_answered s s.found.indices a → d ≡ view_made v c old
-view_then s g c old a step d v is due then state =
-    let now : g ≡ at_stage s (Viewing c old) = is ∙ ap (λ (o : Option Step). option_map_or (λ _. at_stage s (Viewing c old)) o (at_stage s (ClaimingRecord c old))) due in
-    then ∙ ap (λ (t : CoreState). advance t a) now ∙ ap (λ (q : CoreState). view_made q c old) (sym state)
+-- it has begun, or a step of it is due
+pub scan_due : (s g : CoreState) (indices : List ℕ) (t : Stage) (step : Step) → g ≡ scan_made s indices t → scan_step s indices ≡ Some step → g ≡ at_stage s t
+scan_due s g indices t step is due = is ∙ ap (λ (o : Option Step). option_map_or (λ _. at_stage s t) o (at_stage s (behind_scan t))) due
+
+pub scan_over : (s g : CoreState) (indices : List ℕ) (t : Stage) → g ≡ scan_made s indices t → scan_step s indices ≡ None → g ≡ at_stage s (behind_scan t)
+scan_over s g indices t is over = is ∙ ap (λ (o : Option Step). option_map_or (λ _. at_stage s t) o (at_stage s (behind_scan t))) over
+
+pub scan_then : (s g : CoreState) (positions : Positions) (t : Stage) (a : ℕ) (d v : CoreState) → IsAtScan positions t → g ≡ at_stage s t → d ≡ advance g a →
+    v ≡ scan_answered s (positions_of s positions) a → d ≡ scan_made v (positions_of v positions) t
+scan_then s g Asked Scanning a d v at now then state = then ∙ ap (λ (t : CoreState). advance t a) now ∙ ap (λ (q : CoreState). scan_made q q.asked Scanning) (sym state)
+scan_then s g Found (Viewing c old) a d v at now then state =
+    then ∙ ap (λ (t : CoreState). advance t a) now ∙ ap (λ (q : CoreState). scan_made q q.found.indices (Viewing c old)) (sym state)
+scan_then s g _ _ a d v at now then state = absurd at
+
+pub scan_possible : (s g : CoreState) (positions : Positions) (t : Stage) (a : ℕ) → IsAtScan positions t → g ≡ at_stage s t → IsPossible g a → MayAnswerScan s a
+scan_possible s g Asked Scanning a at now possible = subst (λ (q : CoreState). IsPossible q a) now possible
+scan_possible s g Found (Viewing c old) a at now possible = subst (λ (q : CoreState). IsPossible q a) now possible
+scan_possible s g _ _ a at now possible = absurd at
+
+-- nothing changes but the embedded scan
+pub scan_alone : (o s v : CoreState) (indices : List ℕ) (a : ℕ) → s ≡ with_scanning o (scanning s) → v ≡ scan_answered s indices a → v ≡ with_scanning o (scanning v)
+scan_alone o s v indices a alone state =
+    state ∙ ap (λ (q : CoreState). with_scanning q (scanning (scan_answered s indices a))) alone ∙ ap (λ (q : CoreState). with_scanning o (scanning q)) (sym state)

@@ -11,7 +11,9 @@ use Rattle.partial_model.specs.declared.call.Refused.TheVariants as refused
 use Rattle.partial_model.specs.Notes.{indices_of}
 use Rattle.partial_words.specs.Layout.{Layout, IsLayout}
 use Rattle.partial_machine.specs.declared.stage.Reply.{Reply}
-use Rattle.partial_machine.specs.declared.stage.Stage.TheVariants.{Idle}
+use Rattle.partial_machine.specs.declared.stage.Reply.TheVariants as reply
+use Rattle.partial_machine.specs.declared.stage.Stage.TheVariants.{Finished, Idle, ScanBegun}
+use Rattle.partial_machine.specs.Lines.{asking}
 use Rattle.partial_machine.specs.Machine.{CoreState, at_stage}
 use Rattle.partial_machine.specs.Calls.{IsServed, begin_scan, begun_of, call_of, makes_steps, refusal_of, scan_refusal}
 use Rattle.partial_machine.proofs.Laws.{calls_begin, rests_are_sound}
@@ -94,6 +96,11 @@ module _ (views : List (List Seated)) (core : CoreState) (number : ℕ) (w : IsR
 some_positions : (which : List ℕ) → (length which ≡ 0 → ⊥) → makes_steps (call.Scan which) ≡ true
 some_positions [] some = absurd (some refl)
 some_positions (j ∷ js) some = refl
+
+pub asked_begins : (core s : CoreState) (which : List ℕ) → (length which ≡ 0 → ⊥) → s ≡ asking core which → at_stage s ScanBegun ≡ begin_scan core which
+asked_begins core s which some is =
+    let begins : (length which == 0) ≡ false = ne_eqb (length which) 0 some in
+    ap (λ (q : CoreState). at_stage q ScanBegun) is ∙ sym (ap (λ b. at_stage (asking core which) (cond b (Finished (reply.Scanned 0 None)) ScanBegun)) begins)
 
 pub scan_begins : (views : List (List Seated)) (core : CoreState) (number : ℕ) → IsResting views core number → (t : TableId) (b : CoreState) (which : List ℕ) → length which ≤ core.sizes.m →
     (length which ≡ 0 → ⊥) →

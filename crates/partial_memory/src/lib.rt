@@ -4,13 +4,14 @@
 
 mod answers;
 mod closed;
-mod driver;
+mod embedded;
 mod error;
 pub mod law;
 mod lines;
 mod memory;
 mod port;
 mod rule;
+mod scan;
 #[cfg(test)]
 mod tests;
 mod update;

@@ -3,7 +3,7 @@
 
 ghost use Rattle.std.specs.Prelude.{◌≡◌, Some};
 ghost use Rattle.partial_words.specs.Layout.{total};
-ghost use Rattle.partial_machine.specs.declared.stage.Stage.TheVariants.{Idle, UpdateBegun};
+ghost use Rattle.partial_machine.specs.declared.stage.Stage.TheVariants.{ScanBegun, UpdateBegun};
 ghost use Rattle.partial_machine.specs.Machine.{advance, at_stage, step_of};
 ghost use Rattle.partial_machine.specs.Possible.{IsPossible};
 ghost use Rattle.partial_memory.specs.Rule.{IsOne, one_of};
@@ -31,6 +31,26 @@ pub fn begin_update<G: Moment>(words: &Words, seat: &mut Place, core: &Core, cha
 {
     let word = core.sizes().component_word(change.component);
     words.load::<Makes<G>>(seat, word as usize)
+}
+
+/// Makes the first step of a scan, the claim of its announcement, and gives its answer. The machine that begins
+/// the scan is G's.
+#[inline(always)]
+pub fn begin_scan<G: Moment>(words: &Words, seat: &mut Place, core: &Core) -> u64
+    requires table { seat.old.table_id ≡ words.now.table_id }
+    requires words { words.now.table_id.words ≡ total words.now.key.sizes }
+    requires one { IsOne seat.old.me }
+    requires own { (one_of seat.old.me.0).about ≡ words.now.key }
+    requires moment { G.core ≡ at_stage core.now ScanBegun }
+    requires begins { Begins G.core (one_of seat.old.me.0) }
+    ensures going { IsGoing words.now.table_id words.now.key seat.new.table_id seat.new.me }
+    ensures made { CallMade G.core (one_of seat.old.me.0) (machine_of seat.new.me) (one_of seat.new.me.0) }
+    ensures machine { machine_of seat.new.me ≡ advance G.core result }
+    ensures possible { IsPossible G.core result }
+{
+    let word = core.sizes().pool_counter();
+    let size = core.announcement_size();
+    words.fetch_add::<Makes<G>>(seat, word as usize, size)
 }
 
 /// Makes the step that is due in the call of the seat's port, and gives its answer.

@@ -15,10 +15,10 @@ ghost use Rattle.std.specs.List.{AllByRecursion};
 
 use crate::answers::{Scanned, Updated, UpdatedIf};
 use crate::closed::{Closed, closed_of};
-use crate::driver::{finish, take_seat};
 use crate::error::{CloseError, OpenError};
-use crate::port::Port;
+use crate::port::{Port, take_seat};
 use crate::rule::{About, BeginsRead, Deals, Gathers, GoesOn, Lawful, Looks, Place, View};
+use crate::scan::scan;
 use crate::update::update;
 use atomic_table::Table;
 use partial_core::{Change, Core, Reply};
@@ -259,8 +259,8 @@ impl Memory {
                 borrowed: None,
             });
         }
-        me.core.begin_scan(which)?;
-        match finish(&self.table.shared, &mut me.badge, &mut me.core) {
+        me.core.ask(which)?;
+        match scan(&self.table.shared, &mut me.badge, &mut me.core) {
             Reply::Scanned { collects, borrowed } => {
                 copy_values(&me.core, into);
                 Ok(Scanned { collects, borrowed })

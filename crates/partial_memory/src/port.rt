@@ -1,13 +1,14 @@
 //! What one caller holds of a memory.
 
 ghost use Rattle.std.specs.Prelude.{◌≡◌, [], ◌∷◌};
-ghost use Rattle.partial_memory.specs.Rule.{Seated};
+ghost use Rattle.partial_memory.specs.Rule.{IsBadgeOfOne, Seated, one_in};
 ghost use Rattle.partial_memory.specs.Ports.{port_view};
 
 use crate::rule::{Place, View};
 use atomic_table::Badge;
 use partial_core::Core;
 use std::marker::Model;
+use std::mem;
 
 /// A caller's token of a memory, used by one caller at a time. To contracts it is what the caller
 /// reasons about: the memory that it belongs to, its number, the history that it has seen, the notes of
@@ -68,4 +69,14 @@ impl Port {
         } = self;
         badge.into_seat()
     }
+}
+
+/// Takes the seat out of its badge, until it is put back.
+#[inline(always)]
+pub fn take_seat(badge: &mut Badge<View>) -> Place
+    requires { IsBadgeOfOne badge.old.views }
+    ensures table { result.table_id ≡ badge.old.table_id }
+    ensures one { result.me ≡ (one_in badge.old.views ∷ [], []) }
+{
+    mem::replace(badge, Badge::blank()).into_seat()
 }

@@ -67,17 +67,6 @@ impl<G: Moment> Play<(), View> for Makes<G> {
     ghost then = { λ _. makes G.core };
 }
 
-/// The same at a store, which is answered with 0.
-pub struct Stores<G> {
-    moment: PhantomData<G>,
-}
-
-impl<G: Moment> Play<(), View> for Stores<G> {
-    ghost use Rattle.partial_memory.specs.Rule.{makes};
-
-    ghost then = { λ _ me _. makes G.core me 0 };
-}
-
 /// The load of a component word, with which the seat's port begins a read.
 pub struct BeginsRead;
 

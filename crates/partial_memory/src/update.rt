@@ -9,12 +9,13 @@ ghost use Rattle.partial_memory.specs.Rule.{IsBadgeOfOne, IsOne, one_in, one_of}
 ghost use Rattle.partial_memory.specs.Inner.Steps.{Begins, Ended};
 ghost use Rattle.partial_memory.specs.Inner.Lines.{IsGoing, Leads, machine_of, writing};
 
-use crate::driver::take_seat;
+use crate::embedded::scan_positions;
 use crate::lines::{begin_update, make};
+use crate::port::take_seat;
 use crate::rule::{Place, View, Words};
 use atomic_table::Badge;
 use partial_core::{Change, Core, Reply};
-use partial_machine::exchanged;
+use partial_machine::{Positions, exchanged};
 use partial_model::Refused;
 use partial_words::Step;
 use std::marker::Brand;
@@ -60,10 +61,7 @@ fn make_update(words: &Words, seat: &mut Place, core: &mut Core, change: Change)
     }
     core.begin_scanning(true);
     if !core.found_none() {
-        while let Some(step) = core.view_step() {
-            let answer = make(words, seat, step);
-            core.answer_view(answer);
-        }
+        scan_positions(words, seat, core, Positions::Found);
     }
     write_record(words, seat, core, change, old)
 }

@@ -1,11 +1,11 @@
 //! The form of a picture for terminals: a line for each step, and a column for each port.
 
-use crate::picture::{Bar, Mark, Picture};
+use crate::picture::{Bar, Mark, Picture, Pin};
 use crate::words::{call_words, entry_words, finish_words, step_words};
 use std::alloc::{AllocError, Global};
 
 /// What is told beside the steps: where a call begins and ends, and where an entry is added.
-#[derive(Debug, Drop)]
+#[derive(Drop)]
 struct Remarks {
     /// The calls without a step before each mark, and behind the last one. Each is a line.
     between: Vec<String>,
@@ -58,22 +58,36 @@ fn tell_bar(alloc: Global, remarks: &mut Remarks, bar: &Bar<'_>) -> Result<(), A
     Ok(())
 }
 
+/// Adds what is told of the entries. The exchange that adds an entry is the last step of its call, and never the
+/// first one.
+fn tell_pins(alloc: Global, texts: &mut [String], pins: &[Pin]) -> Result<(), AllocError> {
+    for pin in pins {
+        tell(texts, pin.mark, &entry_words(alloc, pin.place, &pin.entry)?)?;
+    }
+    Ok(())
+}
+
 /// What is told of a picture beside its steps.
 fn remarks_of(alloc: Global, picture: &Picture<'_>) -> Result<Remarks, AllocError> {
-    let mut remarks = Remarks {
-        between: blanks(alloc, picture.marks.len())?,
-        beside: blanks(alloc, picture.marks.len())?,
-    };
-    remarks.between.push(String::new(alloc))?;
-    // The exchange that adds an entry is the last step of its call, and never the first one.
-    for pin in &picture.pins {
-        let words = entry_words(alloc, pin.place, &pin.entry)?;
-        tell(&mut remarks.beside, pin.mark, &words)?;
-    }
+    let marks = picture.marks.len();
+    let mut between = blanks(alloc, marks)?;
+    between.push(String::new(alloc))?;
+    let mut beside = blanks(alloc, marks)?;
+    tell_pins(alloc, &mut beside, &picture.pins)?;
+    let mut remarks = Remarks { between, beside };
     for bar in &picture.bars {
         tell_bar(alloc, &mut remarks, bar)?;
     }
     Ok(remarks)
+}
+
+/// The words of each step.
+fn cells_of(alloc: Global, marks: &[Mark]) -> Result<Vec<String>, AllocError> {
+    let mut cells = Vec::with_capacity(alloc, marks.len())?;
+    for mark in marks {
+        cells.push(step_words(alloc, mark)?)?;
+    }
+    Ok(cells)
 }
 
 /// How wide the column of each port is: as its longest step, or as its name.
@@ -151,26 +165,32 @@ fn push_between(text: &mut String, words: &str) -> Result<(), AllocError> {
     push_line(text, words)
 }
 
+/// Writes the lines of the steps, and before each of them that of the calls without a step.
+fn push_steps(
+    alloc: Global,
+    text: &mut String,
+    picture: &Picture<'_>,
+    cells: &[String],
+    remarks: &Remarks,
+) -> Result<(), AllocError> {
+    let widths = widths_of(alloc, picture.ports, &picture.marks, cells)?;
+    push_line(text, &names(alloc, &widths)?)?;
+    let told = cells.iter().zip(&remarks.beside).zip(&remarks.between);
+    for (index, (mark, ((cell, beside), between))) in picture.marks.iter().zip(told).enumerate() {
+        push_between(text, between)?;
+        let step = picture.window.first.saturating_add(index);
+        push_line(text, &line_of(alloc, step, mark, &widths, cell, beside)?)?;
+    }
+    Ok(())
+}
+
 /// A picture for terminals: a line for each step with its number, in the column of its port, and behind it what
 /// it begins, adds to the history and ends.
 pub fn table(alloc: Global, picture: &Picture<'_>) -> Result<String, AllocError> {
-    let mut cells = Vec::with_capacity(alloc, picture.marks.len())?;
-    for mark in &picture.marks {
-        cells.push(step_words(alloc, mark)?)?;
-    }
-    let widths = widths_of(alloc, picture.ports, &picture.marks, &cells)?;
+    let cells = cells_of(alloc, &picture.marks)?;
     let remarks = remarks_of(alloc, picture)?;
     let mut text = String::new(alloc);
-    push_line(&mut text, &names(alloc, &widths)?)?;
-    let beside = cells.iter().zip(&remarks.beside).zip(&remarks.between);
-    for (index, (mark, ((cell, remark), between))) in picture.marks.iter().zip(beside).enumerate() {
-        push_between(&mut text, between)?;
-        let step = picture.window.first.saturating_add(index);
-        push_line(
-            &mut text,
-            &line_of(alloc, step, mark, &widths, cell, remark)?,
-        )?;
-    }
+    push_steps(alloc, &mut text, picture, &cells, &remarks)?;
     if let Some(last) = remarks.between.last() {
         push_between(&mut text, last)?;
     }

@@ -1,6 +1,7 @@
 //! Where everything stands in a drawing: steps from left to right, lanes from top to bottom.
 
-use crate::picture::{Bar, Picture};
+use crate::entries::{Label, labels_of, raised_by};
+use crate::picture::{Bar, Picture, Pin};
 use crate::pixels::Pixels;
 use std::alloc::{AllocError, Global};
 
@@ -16,8 +17,11 @@ const RIGHT: u64 = 120;
 /// How wide a drawing is at least, so that its legend has room.
 const LEAST_WIDTH: Pixels = Pixels(660);
 
-/// Where the first lane begins: the numbers of the steps and the history stand above it.
-const LANES: Pixels = Pixels(84);
+/// The line of the history, below one tier of words.
+const HISTORY: Pixels = Pixels(64);
+
+/// How far below the line of the history the first lane begins.
+const LANES: u64 = 20;
 
 /// How high a lane is: two lines of words, the bars, and the port's name.
 const LANE: Pixels = Pixels(74);
@@ -29,14 +33,14 @@ const ROW: Pixels = Pixels(18);
 const LEGEND: u64 = 52;
 
 /// The sides of a bar.
-#[derive(Clone, Copy, Debug)]
+#[derive(Clone, Copy)]
 pub(crate) struct Sides {
     pub(crate) left: Pixels,
     pub(crate) right: Pixels,
 }
 
 /// The places of a drawing.
-#[derive(Debug, Drop)]
+#[derive(Drop)]
 pub(crate) struct Layout {
     /// How wide a step is.
     step: u64,
@@ -44,6 +48,10 @@ pub(crate) struct Layout {
     edges: Vec<Pixels>,
     /// The sides of the picture's bars.
     pub(crate) bars: Vec<Sides>,
+    /// Where the words of the picture's entries stand.
+    pub(crate) labels: Vec<Label>,
+    /// The line of the history.
+    pub(crate) history: Pixels,
     /// Where the steps end.
     pub(crate) right: Pixels,
     pub(crate) width: Pixels,
@@ -95,13 +103,18 @@ impl Layout {
             left = left + step;
         }
         let right = left - step;
-        let words = LANES + (LANE * picture.ports).0;
+        let width = LEAST_WIDTH.max(right + RIGHT);
+        let labels = labels_at(alloc, &picture.pins, &edges, step, width)?;
+        let history = HISTORY + raised_by(&labels);
+        let words = history + LANES + (LANE * picture.ports).0;
         let legend = words + (ROW * rows).0 + 14;
         Ok(Layout {
             step,
             bars: sides_of(alloc, &picture.bars, &edges, &mut rooms, step)?,
+            labels,
+            history,
             right,
-            width: LEAST_WIDTH.max(right + RIGHT),
+            width,
             height: legend + LEGEND,
             edges,
             words,
@@ -124,14 +137,9 @@ impl Layout {
         LEFT
     }
 
-    /// The line of the history.
-    pub(crate) fn history(&self) -> Pixels {
-        Pixels(64)
-    }
-
     /// Where the lane of a port begins.
     pub(crate) fn lane(&self, port: usize) -> Pixels {
-        LANES + (LANE * port).0
+        self.history + LANES + (LANE * port).0
     }
 
     /// The line of a port's marks.
@@ -163,6 +171,21 @@ impl Layout {
         };
         end - sides.left.0
     }
+}
+
+/// Where the words of these entries stand, over the middles of their marks.
+fn labels_at(
+    alloc: Global,
+    pins: &[Pin],
+    edges: &[Pixels],
+    step: u64,
+    width: Pixels,
+) -> Result<Vec<Label>, AllocError> {
+    let places: Vec<Pixels> = pins
+        .iter()
+        .map(|pin| edges.get(pin.mark).copied().unwrap_or(LEFT) + step / 2)
+        .collect(alloc)?;
+    labels_of(alloc, &places, width)
 }
 
 /// The sides of each bar. Calls without a step stand side by side in the room before their mark.

@@ -67,37 +67,30 @@ const MARKS: [(Shape, &str, u64); 5] = [
     (Shape::Lost, "exchange, lost", 310),
 ];
 
+/// What else is drawn, with what it means, and the end of the legend.
+const REST: &str = "\
+<circle class=\"entry\" cx=\"14\" cy=\"36\" r=\"5\"/>
+<text class=\"meaning\" x=\"26\" y=\"40\">entry of the history</text>
+<path class=\"arrow overtook\" marker-end=\"url(#overtook)\" d=\"M182 36H214\"/>
+<text class=\"meaning\" x=\"222\" y=\"40\">has overtaken</text>
+<path class=\"arrow lent\" marker-end=\"url(#lent)\" d=\"M326 36H358\"/>
+<text class=\"meaning\" x=\"366\" y=\"40\">has lent its view</text>
+<rect class=\"bar unfinished\" x=\"498\" y=\"27\" width=\"26\" height=\"18\" rx=\"5\"/>
+<text class=\"meaning\" x=\"532\" y=\"40\">unfinished call</text>
+</g>
+";
+
 /// Writes what the shapes mean.
 pub(crate) fn push_legend(text: &mut String, top: Pixels) -> Result<(), AllocError> {
-    let y = top + 14;
-    text.push_str("<g class=\"legend\">\n")?;
+    writeln!(
+        text,
+        "<g class=\"legend\" transform=\"translate(0 {top})\">"
+    )?;
     for (shape, words, left) in MARKS {
         let x = Pixels(left);
-        let end = push_shape(text, shape, x, y)?;
+        let end = push_shape(text, shape, x, Pixels(14))?;
         writeln!(text, "</{end}>")?;
-        push_words(text, "meaning", x + 12, y + 4, words)?;
+        push_words(text, "meaning", x + 12, Pixels(18), words)?;
     }
-    let y = top + 36;
-    writeln!(
-        text,
-        "<circle class=\"entry\" cx=\"14\" cy=\"{y}\" r=\"5\"/>"
-    )?;
-    push_words(text, "meaning", Pixels(26), y + 4, "entry of the history")?;
-    writeln!(
-        text,
-        "<path class=\"arrow overtook\" marker-end=\"url(#overtook)\" d=\"M182 {y}H214\"/>"
-    )?;
-    push_words(text, "meaning", Pixels(222), y + 4, "has overtaken")?;
-    writeln!(
-        text,
-        "<path class=\"arrow lent\" marker-end=\"url(#lent)\" d=\"M326 {y}H358\"/>"
-    )?;
-    push_words(text, "meaning", Pixels(366), y + 4, "has lent its view")?;
-    let box_top = top + 27;
-    writeln!(
-        text,
-        "<rect class=\"bar unfinished\" x=\"498\" y=\"{box_top}\" width=\"26\" height=\"18\" rx=\"5\"/>"
-    )?;
-    push_words(text, "meaning", Pixels(532), y + 4, "unfinished call")?;
-    text.push_str("</g>\n")
+    text.push_str(REST)
 }

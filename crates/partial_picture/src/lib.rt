@@ -4,6 +4,7 @@
 mod arrows;
 mod columns;
 mod command;
+mod entries;
 mod fault;
 mod layout;
 mod legend;

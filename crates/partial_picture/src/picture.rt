@@ -3,7 +3,7 @@
 ghost use Rattle.std.specs.Prelude.{◌≡◌, ◌≢◌, ◌≤◌, ◌-◌, All, map, length, IfOk, IfSome, MatchResult};
 ghost use Rattle.partial_picture.specs.Arrows.{IsWithin};
 ghost use Rattle.partial_picture.specs.Bars.{StandsIn};
-ghost use Rattle.partial_picture.specs.Drawn.{drawn_of};
+ghost use Rattle.partial_picture.specs.Drawn.{HasRoom, drawn_of};
 ghost use Rattle.partial_picture.specs.Marks.{mark_of, marks_in};
 ghost use Rattle.partial_picture.specs.Pins.{pin_at, pins_at, won_steps};
 
@@ -143,8 +143,27 @@ impl<'a> Picture<'a> {
         ensures arrows { IfOk result (λ picture.
             All (IsWithin (picture.window.behind - picture.window.first)) picture.arrows.items) }
     {
+        let span = window.drawn(outcome.trace.len())?;
+        Ok(Picture::of_span(alloc, sizes, ports, outcome, span)?)
+    }
+
+    /// The picture of these steps of a replay.
+    fn of_span(
+        alloc: Global,
+        sizes: Sizes,
+        ports: usize,
+        outcome: &'a Outcome,
+        window: Span,
+    ) -> Result<Picture<'a>, AllocError>
+        requires { HasRoom (length outcome.now.trace.items) window }
+        ensures window { IfOk result (λ picture. picture.window ≡ window) }
+        ensures marks { IfOk result (λ picture. picture.marks.items ≡ marks_in window outcome.now.trace.items) }
+        ensures pins { IfOk result (λ picture. picture.pins.items
+            ≡ pins_at window outcome.now.history.items (won_steps sizes.m outcome.now.trace.items)) }
+        ensures bars { IfOk result (λ picture. All (StandsIn (window.behind - window.first)) picture.bars.items) }
+        ensures arrows { IfOk result (λ picture. All (IsWithin (window.behind - window.first)) picture.arrows.items) }
+    {
         let steps = outcome.trace.len();
-        let window = window.drawn(steps)?;
         let m = sizes.m() as usize;
         let entries = entry_steps(alloc, m, &outcome.trace)?;
         let own = port_steps(alloc, ports, &outcome.trace)?;

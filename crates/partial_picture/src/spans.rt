@@ -55,7 +55,7 @@ pub(crate) fn port_steps(
 }
 
 /// A port whose calls are gone through in order.
-#[derive(Clone, Copy, Debug)]
+#[derive(Clone, Copy)]
 struct Walker<'s> {
     /// Its steps that no call has had yet.
     left: &'s [usize],
@@ -86,7 +86,7 @@ impl<'s> Walker<'s> {
 }
 
 /// The steps that a call has made.
-#[derive(Clone, Copy, Debug)]
+#[derive(Clone, Copy)]
 pub(crate) struct Made<'o, 's> {
     pub(crate) called: &'o Called,
     /// From its first step to its last one. A call without a step stands before the step `first`.

@@ -1,5 +1,6 @@
 //! The drawing of a picture in SVG.
 
+use crate::entries::Label;
 use crate::layout::{Layout, Sides};
 use crate::legend::{STYLE, push_legend};
 use crate::picture::{Arrow, ArrowKind, Bar, Mark, Picture, Pin, Shape};
@@ -142,7 +143,7 @@ fn push_lanes(
     picture: &Picture<'_>,
     layout: &Layout,
 ) -> Result<(), AllocError> {
-    let y = layout.history();
+    let y = layout.history;
     push_words(text, "name", Pixels(8), y + 4, "history")?;
     push_line(text, "history", (layout.left(), y), (layout.right, y))?;
     for port in 0..picture.ports {
@@ -243,9 +244,9 @@ fn push_pin(
     pin: &Pin,
     x: Pixels,
     layout: &Layout,
-    room: Pixels,
+    label: &Label,
 ) -> Result<(), AllocError> {
-    let y = layout.history();
+    let y = layout.history;
     let line = layout.line(pin.entry.port as usize);
     push_line(text, "stem", (x, y + 6), (x, line - 8))?;
     write!(
@@ -258,8 +259,15 @@ fn push_pin(
     let stamp = pin.entry.stamp;
     let above = format!(in alloc; "component {component} value {value}")?;
     let below = format!(in alloc; "stamp {stamp}")?;
-    push_words(text, "call", x - 4, y - 24, &fitted(alloc, &above, room)?)?;
-    push_words(text, "answer", x - 4, y - 10, &fitted(alloc, &below, room)?)
+    let (x, y) = (x - 4, y - label.raised());
+    push_words(text, "call", x, y - 24, &fitted(alloc, &above, label.room)?)?;
+    push_words(
+        text,
+        "answer",
+        x,
+        y - 10,
+        &fitted(alloc, &below, label.room)?,
+    )
 }
 
 /// Writes a row for each touched word, and an arrow from each mark to its word.
@@ -335,20 +343,15 @@ fn push_bars(
     Ok(())
 }
 
-/// Writes the entries of the history. The words of each go as far as the next entry.
+/// Writes the entries of the history.
 fn push_pins(
     alloc: Global,
     text: &mut String,
     picture: &Picture<'_>,
     layout: &Layout,
 ) -> Result<(), AllocError> {
-    for (index, pin) in picture.pins.iter().enumerate() {
-        let x = layout.middle(pin.mark);
-        let end = match picture.pins.get(index.saturating_add(1)) {
-            Some(next) => layout.middle(next.mark),
-            None => layout.width,
-        };
-        push_pin(alloc, text, pin, x, layout, end - x.0)?;
+    for (pin, label) in picture.pins.iter().zip(&layout.labels) {
+        push_pin(alloc, text, pin, layout.middle(pin.mark), layout, label)?;
     }
     Ok(())
 }

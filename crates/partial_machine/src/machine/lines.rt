@@ -1,19 +1,21 @@
 //! The machines in a port's machine, one by one. Who makes the steps of a call in straight lines keeps the
 //! stage, and the port's machine stays idle: it keeps the marks, the positions, what was found and the rows.
 
-ghost use Rattle.std.specs.Prelude.{◌≡◌, ◌<◌, ◌==◌, length, Some, None, true, IfSome, OnOk, IfErr};
-ghost use Rattle.partial_machine.specs.declared.stage.Stage.TheVariants.{Idle, Scanning};
-ghost use Rattle.partial_machine.specs.Machine.{advance, step_of};
-ghost use Rattle.partial_machine.specs.Possible.{IsPossible};
-ghost use Rattle.partial_machine.specs.Calls.{update_refusal};
-ghost use Rattle.partial_machine.specs.Lines.{IsGetting, IsScanning, MayAnswerScan, MayAnswerSet, scan_answered, scan_begun, scan_left, scan_step, set_answered, set_begun, set_left, set_step};
+ghost use Rattle.std.specs.Prelude.{◌≡◌, ◌<◌, ◌≤◌, ◌==◌, ℕ, List, length, slice_index, Some, None, true, IsSome, IfSome, OnOk, IfErr};
+ghost use Rattle.partial_words.specs.Announcement.{announcement_block, announcement_size};
+ghost use Rattle.partial_active.specs.Leave.{step_of_leave};
+ghost use Rattle.partial_embedded.specs.Embedded.{collecting, valuing};
+ghost use Rattle.partial_machine.specs.declared.stage.Stage.TheVariants.{Idle};
+ghost use Rattle.partial_machine.specs.Machine.{scanned_reply};
+ghost use Rattle.partial_machine.specs.Calls.{scan_refusal, update_refusal};
+ghost use Rattle.partial_machine.specs.Lines.{IsCollecting, IsGetting, IsScanning, IsValuing, MayAnswerScan, MayAnswerSet, asking, joined, left, positions_of, scan_answered, scan_begun, scan_left, scan_step, set_answered, set_begun, set_left, set_step, slots_marked};
 
-use super::Core;
-use crate::stage::Stage;
-use partial_active::GetSet;
+use super::{Core, set_asked};
+use crate::stage::{Positions, Reply};
+use partial_active::{GetSet, Join, Leave};
 use partial_embedded::Embedded;
 use partial_model::Refused;
-use partial_words::{Sizes, Step};
+use partial_words::{Sizes, Step, announcement_block_word, announcement_size};
 
 impl Core {
     /// The sizes of the memory.
@@ -85,27 +87,191 @@ impl Core {
         self.embedded = Embedded::new(self.sizes, shares);
     }
 
-    /// The step that is due in an embedded scan of the indices found, or None once that is finished.
+    /// The step that is due in an embedded scan of these positions, or None once that is finished.
     #[inline(always)]
-    pub fn view_step(&self) -> Option<Step>
-        requires { IsScanning self.now self.now.found.indices }
-        ensures { result ≡ scan_step self.now self.now.found.indices }
+    pub fn scan_step(&self, positions: Positions) -> Option<Step>
+        requires { IsScanning self.now (positions_of self.now positions) }
+        ensures { result ≡ scan_step self.now (positions_of self.now positions) }
     {
-        self.embedded.step(&self.rows, self.found.indices())
+        match positions {
+            Positions::Asked => self.embedded.step(&self.rows, &self.asked),
+            Positions::Found => self.embedded.step(&self.rows, self.found.indices()),
+        }
     }
 
-    /// An embedded scan of the indices found takes in the answer to the step that is due.
+    /// An embedded scan of these positions takes in the answer to the step that is due.
     #[inline(always)]
-    pub fn answer_view(&mut self, x: u64)
+    pub fn answer_scan(&mut self, positions: Positions, x: u64)
         requires idle { self.old.stage ≡ Idle }
-        requires scanning { IsScanning self.old self.old.found.indices }
+        requires scanning { IsScanning self.old (positions_of self.old positions) }
         requires possible { MayAnswerScan self.old x }
-        ensures state { self.new ≡ scan_answered self.old self.old.found.indices x }
-        ensures scanning { IsScanning self.new self.new.found.indices }
-        ensures falls { scan_left self.new self.new.found.indices < scan_left self.old self.old.found.indices }
+        ensures state { self.new ≡ scan_answered self.old (positions_of self.old positions) x }
+        ensures scanning { IsScanning self.new (positions_of self.new positions) }
+        ensures falls { scan_left self.new (positions_of self.new positions) <
+            scan_left self.old (positions_of self.old positions) }
     {
-        self.embedded
-            .answer(&mut self.rows, self.found.indices(), x);
+        match positions {
+            Positions::Asked => self.embedded.answer(&mut self.rows, &self.asked, x),
+            Positions::Found => self
+                .embedded
+                .answer(&mut self.rows, self.found.indices(), x),
+        }
+    }
+
+    /// The step that is due in an embedded scan of these positions that isn't finished.
+    #[inline(always)]
+    pub fn due_step(&self, positions: Positions) -> Step
+        requires scanning { IsScanning self.now (positions_of self.now positions) }
+        requires due { IsSome (scan_step self.now (positions_of self.now positions)) }
+        ensures { scan_step self.now (positions_of self.now positions) ≡ Some result }
+    {
+        let Some(step) = self.scan_step(positions) else {
+            unreachable!()
+        };
+        step
+    }
+
+    /// The position whose component word is due in an embedded scan, or None where its collects are over.
+    #[inline(always)]
+    pub fn collecting(&self) -> Option<usize>
+        ensures position { result ≡ collecting self.now.embedded.stage }
+        ensures stage { IfSome result (IsCollecting self.now) }
+        ensures due { IfSome result (λ k. (indices : List ℕ) → IsSome (scan_step self.now indices)) }
+    {
+        self.embedded.collecting()
+    }
+
+    /// An embedded scan of these positions takes in the component word of this one.
+    #[inline(always)]
+    pub fn answer_collect(&mut self, positions: Positions, position: usize, x: u64)
+        requires idle { self.old.stage ≡ Idle }
+        requires scanning { IsScanning self.old (positions_of self.old positions) }
+        requires stage { IsCollecting self.old position }
+        requires possible { MayAnswerScan self.old x }
+        ensures state { self.new ≡ scan_answered self.old (positions_of self.old positions) x }
+        ensures scanning { IsScanning self.new (positions_of self.new positions) }
+        ensures falls { scan_left self.new (positions_of self.new positions) <
+            scan_left self.old (positions_of self.old positions) }
+    {
+        let rows = &mut self.rows;
+        match positions {
+            Positions::Asked => self.embedded.answer_collect(rows, &self.asked, position, x),
+            Positions::Found => self
+                .embedded
+                .answer_collect(rows, self.found.indices(), position, x),
+        }
+    }
+
+    /// The position whose record's value is due in an embedded scan, or None where no value is.
+    #[inline(always)]
+    pub fn valuing(&self) -> Option<usize>
+        ensures position { result ≡ valuing self.now.embedded.stage }
+        ensures stage { IfSome result (IsValuing self.now) }
+        ensures due { IfSome result (λ k. (indices : List ℕ) → IsSome (scan_step self.now indices)) }
+    {
+        self.embedded.valuing()
+    }
+
+    /// An embedded scan of these positions takes in the value of this one's record.
+    #[inline(always)]
+    pub fn answer_value(&mut self, positions: Positions, position: usize, x: u64)
+        requires idle { self.old.stage ≡ Idle }
+        requires scanning { IsScanning self.old (positions_of self.old positions) }
+        requires stage { IsValuing self.old position }
+        requires possible { MayAnswerScan self.old x }
+        ensures state { self.new ≡ scan_answered self.old (positions_of self.old positions) x }
+        ensures scanning { IsScanning self.new (positions_of self.new positions) }
+        ensures falls { scan_left self.new (positions_of self.new positions) <
+            scan_left self.old (positions_of self.old positions) }
+    {
+        let rows = &mut self.rows;
+        match positions {
+            Positions::Asked => self.embedded.answer_value(rows, &self.asked, position, x),
+            Positions::Found => self
+                .embedded
+                .answer_value(rows, self.found.indices(), position, x),
+        }
+    }
+
+    /// Keeps the positions of a scan. They are refused as [`Core::begin_scan`] refuses them; the machine is
+    /// then unchanged.
+    pub fn ask(&mut self, components: &[u32]) -> Result<(), Refused>
+        requires idle { self.old.stage ≡ Idle }
+        requires few { length components.now ≤ self.old.sizes.m }
+        ensures ok { OnOk result ((scan_refusal self.old components.now ≡ None) ×
+            (self.new ≡ asking self.old components.now)) }
+        ensures err { IfErr result (λ cause. (scan_refusal self.old components.now ≡ Some cause) ×
+            (self.new ≡ self.old)) }
+    {
+        if let Some(cause) = self.scan_refusal(components) {
+            return Err(cause);
+        }
+        set_asked(&mut self.asked, components);
+        Ok(())
+    }
+
+    /// How many words the announcement of the positions has.
+    #[inline(always)]
+    pub fn announcement_size(&self) -> u64
+        ensures { result ≡ announcement_size (length self.now.asked) }
+    {
+        announcement_size(self.asked.len() as u64)
+    }
+
+    /// Word `k` of the announcement of the positions.
+    #[inline(always)]
+    pub fn announcement_word(&self, k: u64) -> u64
+        requires { k < announcement_size (length self.now.asked) }
+        ensures { result ≡ slice_index (announcement_block self.now.asked) k }
+    {
+        announcement_block_word(&self.asked, k as usize)
+    }
+
+    /// The announcement at `at` stands in the slot.
+    #[inline(always)]
+    pub fn join(&mut self, at: u64, slot: u32)
+        requires idle { self.old.stage ≡ Idle }
+        requires slot { slot < self.old.sizes.slots }
+        ensures { self.new ≡ joined self.old at slot }
+    {
+        self.join = Join::new(self.sizes, at);
+        self.join.answer(u64::from(slot));
+        self.join.answer(0);
+        self.leave = Leave::new(self.sizes, slot);
+    }
+
+    /// The claim of a slot for the announcement at `at` found this number, which is none of a slot: the port
+    /// is marked for the slots.
+    #[inline(always)]
+    pub fn mark_slots(&mut self, at: u64, found: u64)
+        requires idle { self.old.stage ≡ Idle }
+        requires past { self.old.sizes.slots ≤ found }
+        ensures { self.new ≡ slots_marked self.old at }
+    {
+        self.join = Join::new(self.sizes, at);
+        self.join.answer(found);
+        self.slots_spent = true;
+    }
+
+    /// The slot is left.
+    #[inline(always)]
+    pub fn leave(&mut self)
+        requires idle { self.old.stage ≡ Idle }
+        requires joined { IsSome (step_of_leave self.old.leave) }
+        ensures { self.new ≡ left self.old }
+    {
+        self.leave.answer(0);
+    }
+
+    /// The reply of a scan whose embedded scan is finished.
+    #[inline(always)]
+    pub fn scanned_reply(&self) -> Reply
+        ensures { result ≡ scanned_reply self.now }
+    {
+        Reply::Scanned {
+            collects: self.embedded.collects(),
+            borrowed: self.embedded.borrowed(),
+        }
     }
 
     /// The port is marked for the pool.
@@ -115,28 +281,5 @@ impl Core {
         ensures { self.new ≡ record self.old { pool_spent = true } }
     {
         self.pool_spent = true;
-    }
-
-    /// The step that is due in the embedded scan of a scan, or None where the machine is at another stage.
-    #[inline(always)]
-    pub fn collect_step(&self) -> Option<Step>
-        ensures due { IfSome result (λ step. step_of self.now ≡ Some step) }
-        ensures all { self.now.stage ≡ Scanning → result ≡ step_of self.now }
-        ensures stage { IfSome result (λ step. self.now.stage ≡ Scanning) }
-    {
-        match self.stage {
-            Stage::Scanning => self.embedded.step(&self.rows, &self.asked),
-            _ => None,
-        }
-    }
-
-    /// The embedded scan of a scan takes in the answer to the step that is due.
-    #[inline(always)]
-    pub fn answer_collect(&mut self, answer: u64)
-        requires stage { self.old.stage ≡ Scanning }
-        requires possible { IsPossible self.old answer }
-        ensures { self.new ≡ advance self.old answer }
-    {
-        self.after_collect(answer);
     }
 }

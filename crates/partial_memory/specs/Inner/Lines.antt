@@ -1,12 +1,15 @@
 -- Calls that are made in straight lines: the machine of the call is a ghost, to which the kept answers of the seat's port lead.
-use Rattle.std.specs.Prelude.{ℕ, ◌≡◌, ◌==◌, List, if◌then◌else◌}
+use Rattle.std.specs.Prelude.{ℕ, ⊤, ◌≡◌, ◌==◌, List, length, if◌then◌else◌}
 use Rattle.atomic_table.specs.Table.{Me}
 use Rattle.atomic_table.specs.Seated.{TableId}
 use Rattle.partial_words.specs.Layout.{total}
+use Rattle.partial_words.specs.Announcement.{announcement_size}
 use Rattle.partial_machine.specs.declared.stage.Change.{Change}
+use Rattle.partial_machine.specs.declared.stage.Positions.{Positions}
+use Rattle.partial_machine.specs.declared.stage.Positions.TheVariants.{Asked, Found}
 use Rattle.partial_machine.specs.declared.stage.Stage.{Stage}
-use Rattle.partial_machine.specs.declared.stage.Stage.TheVariants.{StoringRecord, Exchanging}
-use Rattle.partial_machine.specs.Machine.{CoreState, record_size}
+use Rattle.partial_machine.specs.declared.stage.Stage.TheVariants.{Viewing, ClaimingRecord, StoringRecord, Exchanging, StoringAnnouncement, Scanning, Leaving}
+use Rattle.partial_machine.specs.Machine.{CoreState, at_stage, begin_joining, record_size}
 use Rattle.partial_core.specs.Part.{core_of}
 use Rattle.partial_memory.specs.declared.rule.About.{About}
 use Rattle.partial_memory.specs.Rule.{Seated, IsOne, one_of}
@@ -35,3 +38,19 @@ pub record IsGoing {S : Type 0} (table : TableId) (about : About) (here : TableI
 -- where an update is that has stored so many words of its record
 abbrev pub writing : CoreState → Change → ℕ → ℕ → ℕ → Stage
 writing s c old at k = if k == record_size s then Exchanging c old at else StoringRecord c old at k
+
+-- a scan that has stored so many words of its announcement
+abbrev pub announcing : CoreState → ℕ → ℕ → CoreState
+announcing s at k = if k == announcement_size (length s.asked) then begin_joining s at else at_stage s (StoringAnnouncement at k)
+
+-- at that stage the embedded scan of those positions is made
+abbrev pub IsAtScan : Positions → Stage → Type 0
+IsAtScan Asked Scanning = ⊤
+IsAtScan Found (Viewing c old) = ⊤
+IsAtScan _ _ = ⊥
+
+-- the stage behind that of an embedded scan
+abbrev pub behind_scan : Stage → Stage
+behind_scan (Viewing c old) = ClaimingRecord c old
+behind_scan Scanning = Leaving
+behind_scan t = t

@@ -3,12 +3,12 @@ use Rattle.std.specs.Prelude.{ℕ, ◌≡◌, ◌+◌, ◌||◌, length, Some}
 use Rattle.partial_words.specs.Layout.{IsLayout}
 use Rattle.partial_machine.specs.declared.stage.Reply.{Reply}
 use Rattle.partial_machine.specs.declared.stage.Stage.TheVariants.{Idle}
-use Rattle.partial_machine.specs.Machine.{CoreState, advance, at_stage, reply_of}
+use Rattle.partial_machine.specs.Machine.{CoreState, at_stage, reply_of}
 use Rattle.partial_machine.specs.Sound.{IsSound}
 use Rattle.partial_machine.specs.Behind.{refuses_pool, refuses_slots}
 use Rattle.partial_core.specs.Part.{HasBegun}
 use Rattle.partial_core.specs.Calls.{Made}
-use Rattle.partial_memory.specs.Rule.{Seated, AreByOpened, Told}
+use Rattle.partial_memory.specs.Rule.{Seated, AreByOpened}
 
 -- the machine b has begun a call at the port x
 pub record Begins (b : CoreState) (x : Seated) : Type 0 where
@@ -16,10 +16,6 @@ pub record Begins (b : CoreState) (x : Seated) : Type 0 where
   pub sound : IsSound b
   pub layout : IsLayout b.sizes
   pub sizes : b.sizes ≡ x.about.sizes
-
--- a step led the machine c and the port x to d and y, by one answer, and told what such a step tells
-abbrev pub Advances : CoreState → Seated → CoreState → Seated → Type 0
-Advances c x d y = (a : ℕ) × (d ≡ advance c a) × Told c x a y
 
 -- The call has made some steps, which have led to the machine c and the port y. The port comes to be marked exactly where the call is
 -- refused.

@@ -1,6 +1,7 @@
 //! Drawings, and what stands in them how often.
 
 use super::{BORROWED_VIEW, LOST_EXCHANGE, REFUSED, count, drawn, replayed};
+use crate::entries::labels_of;
 use crate::pixels::Pixels;
 use crate::svg::{fitted, push_escaped};
 use crate::{Form, Window};
@@ -157,6 +158,47 @@ fn words_are_cut_to_their_room(rt: HostRuntime) -> Result<(), Fail> {
     for (room, wanted) in rows {
         let words = fitted(rt.alloc(), "update 0 7", Pixels(room))?;
         assert_eq!(rt; words.as_str(), wanted, "{room}");
+    }
+    Ok(())
+}
+
+// Words of an entry are 160 wide. The fourth entry finds no tier free, and takes the one that ends first.
+#[test]
+fn words_of_near_entries_stand_in_tiers(rt: HostRuntime) -> Result<(), Fail> {
+    let rows = [
+        (100, 0, 90),
+        (130, 28, 530),
+        (160, 56, 500),
+        (190, 0, 160),
+        (350, 0, 310),
+    ];
+    let mut places = Vec::new(rt.alloc());
+    for (place, _, _) in rows {
+        places.push(Pixels(place))?;
+    }
+    let labels = labels_of(rt.alloc(), &places, Pixels(660))?;
+    assert_eq!(rt; labels.len(), rows.len());
+    for (label, (place, raised, room)) in labels.iter().zip(rows) {
+        assert_eq!(rt; label.raised(), raised, "{place}");
+        assert_eq!(rt; label.room, Pixels(room), "{place}");
+    }
+    Ok(())
+}
+
+// Both words stand whole, one tier of 28 above the other.
+#[test]
+fn entries_of_neighbouring_steps_are_read_whole(rt: HostRuntime) -> Result<(), Fail> {
+    let plan =
+        b"sizes 2 4 8 64\ninitial 10 20\nport update 0 7\nport update 1 9\nsteps 0*7 1*7 0*1 1*1\n";
+    let form = Form::Drawing { has_words: false };
+    let text = drawn(rt.alloc(), form, Window::Whole, plan)?;
+    let rows = [
+        ">component 0 value 7</text>",
+        ">component 1 value 9</text>",
+        "viewBox=\"0 0 660 326\"",
+    ];
+    for part in rows {
+        assert_eq!(rt; count(&text, part), 1, "{part}");
     }
     Ok(())
 }

@@ -4,9 +4,9 @@ use Rattle.partial_machine.specs.Machine.{CoreState, at_stage}
 use Rattle.partial_memory.specs.Rule.{one_of}
 use Rattle.partial_memory.specs.Inner.Steps.{CallMade}
 use Rattle.partial_memory.specs.Inner.Lines.{IsGoing, machine_of}
-use Rattle.partial_memory.proofs.Parts.{set_then, view_then}
+use Rattle.partial_memory.proofs.Parts.{set_then}
 use Rattle.partial_memory.proofs.update.make_update.Goals as goal
-use Rattle.partial_memory.proofs.update.make_update.Goals.{then-not-found_none+in_default-view_step, else-not-found_none}
+use Rattle.partial_memory.proofs.update.make_update.Goals.{then-not-found_none, else-not-found_none}
 
 pub loop-step-preserved : goal.loop-step-preserved
 loop-step-preserved c = record {
@@ -16,20 +16,9 @@ loop-step-preserved c = record {
   idle = ap (λ (s : CoreState). s.stage) c.answer_set.ensures.state ∙ c.loop-step.invariant.idle;
 }
 
-pub loop-step-then-not-found_none-preserved : goal.loop-step-then-not-found_none-preserved
-loop-step-then-not-found_none-preserved c = record {
-  going = c.make-answer-in-Some-view_step.ensures.going;
-  made = c.make-answer-in-Some-view_step.ensures.leads _ _ c.requires.begins c.loop-step-then-not-found_none.invariant.made;
-  machine = view_then c.loop-step-then-not-found_none.core _ _ _ _ c.in-Some-view_step.step _ _ c.loop-step-then-not-found_none.invariant.machine (sym c.in-Some-view_step.ensures)
-      c.make-answer-in-Some-view_step.ensures.machine c.answer_view.ensures.state;
-  scanning = c.answer_view.ensures.scanning;
-  idle = ap (λ (s : CoreState). s.stage) c.answer_view.ensures.state ∙ c.loop-step-then-not-found_none.invariant.idle;
-}
-
 pub write_record-requires-clause-going : goal.write_record-requires-clause-going
 write_record-requires-clause-going c = elim c.if-not-found_none.branch [
-  | then-not-found_none+in_default-view_step w ↦
-      subst (λ s. IsGoing c.args.words.now.table_id c.args.words.now.key s.table_id s.me) (sym w.seat-is) w.loop-step-then-not-found_none.invariant.going
+  | then-not-found_none w ↦ subst (λ s. IsGoing c.args.words.now.table_id c.args.words.now.key s.table_id s.me) (sym w.seat-is) w.scan_positions.ensures.going
   | else-not-found_none w ↦ subst (λ s. IsGoing c.args.words.now.table_id c.args.words.now.key s.table_id s.me) (sym w.seat-is) c.loop-step.invariant.going
 ]
 
@@ -38,8 +27,7 @@ returns-clause-ended c =
     let b = at_stage c.args.core.now (UpdateBegun c.args.change) in
     let x = one_of c.args.seat.now.me.0 in
     let made : CallMade b x (machine_of c.if-not-found_none.seat.me) (one_of c.if-not-found_none.seat.me.0) = elim c.if-not-found_none.branch [
-      | then-not-found_none+in_default-view_step w ↦
-          subst (λ s. CallMade b x (machine_of s.me) (one_of s.me.0)) (sym w.seat-is) w.loop-step-then-not-found_none.invariant.made
+      | then-not-found_none w ↦ subst (λ s. CallMade b x (machine_of s.me) (one_of s.me.0)) (sym w.seat-is) (w.scan_positions.ensures.leads b x c.requires.begins c.loop-step.invariant.made)
       | else-not-found_none w ↦ subst (λ s. CallMade b x (machine_of s.me) (one_of s.me.0)) (sym w.seat-is) c.loop-step.invariant.made
     ] in
     record {

@@ -1,11 +1,11 @@
 use Rattle.std.proofs.Common.{◌≡◌}
 use Rattle.partial_machine.specs.declared.stage.Stage.TheVariants.{Idle, UpdateBegun}
-use Rattle.partial_machine.specs.Lines.{IsScanning, scan_left, set_left}
+use Rattle.partial_machine.specs.Lines.{set_left}
 use Rattle.partial_machine.specs.Machine.{at_stage}
 use Rattle.partial_memory.specs.Rule.{one_of}
 use Rattle.partial_memory.specs.Inner.Steps.{CallMade}
 use Rattle.partial_memory.specs.Inner.Lines.{IsGoing, machine_of}
-use Rattle.partial_memory.proofs.Parts.{set_made, view_made}
+use Rattle.partial_memory.proofs.Parts.{set_made}
 use Rattle.partial_memory.proofs.update.make_update.Given as goal
 
 -- the machine that begins the update
@@ -22,15 +22,3 @@ invariant-loop-step l = record {
 
 abbrev pub decreases-loop-step : goal.decreases-loop-step
 decreases-loop-step l = set_left l.core
-
-abbrev pub invariant-loop-step-then-not-found_none : goal.invariant-loop-step-then-not-found_none
-invariant-loop-step-then-not-found_none l = record {
-  going : IsGoing l.words.table_id l.words.key l.seat.table_id l.seat.me;
-  made : CallMade (at_stage l.fn.core (UpdateBegun l.change)) (one_of l.fn.seat.me.0) (machine_of l.seat.me) (one_of l.seat.me.0);
-  machine : machine_of l.seat.me ≡ view_made l.core l.change l.old;
-  scanning : IsScanning l.core l.core.found.indices;
-  idle : l.core.stage ≡ Idle;
-}
-
-abbrev pub decreases-loop-step-then-not-found_none : goal.decreases-loop-step-then-not-found_none
-decreases-loop-step-then-not-found_none l = scan_left l.core l.core.found.indices

@@ -1,0 +1,394 @@
+//! A partial snapshot object: components of 64 bits that many threads share. Any port may update or
+//! read any component, and scan any few of them as they stood together at one moment. No call waits
+//! for another, and each makes a bounded number of atomic steps.
+//!
+//! ```
+//! use partial_door::{open, Sizes};
+//!
+//! let sizes = Sizes { slots: 1000, list_words: 1000, pool_words: 100_000 };
+//! let (memory, mut ports) = open(&[10, 20, 30], sizes, 2)?;
+//! let mut second = ports.pop().expect("two ports");
+//! let mut first = ports.pop().expect("two ports");
+//!
+//! std::thread::scope(|scope| {
+//!     scope.spawn(|| first.update(0, 11));
+//!     scope.spawn(|| second.update(2, 33));
+//! });
+//!
+//! let mut values = [0; 2];
+//! first.scan(&[2, 0], &mut values)?;
+//! assert_eq!(values, [33, 11]);
+//! assert_eq!(memory.close(vec![first, second])?.values(), [11, 20, 33]);
+//! # Ok::<(), Box<dyn std::error::Error>>(())
+//! ```
+//!
+//! # What is proved, and what isn't
+//!
+//! This crate is a safe face on a static library that is written in Rattle. There the contracts are
+//! proved over all orders of the threads' single steps: what an update, a read, a scan, a meeting and
+//! a close answer, that each call ends, and what each refusal leaves. Nothing in this crate is proved.
+//! It adds as trusted:
+//!
+//! - its `unsafe` blocks: each passes pointers that are borrowed for the call, and handles that no
+//!   other call uses, as the library's header asks;
+//! - that its declarations agree with the functions of the library;
+//! - the Rust compiler, the linker and the C library's `malloc`, `realloc` and `free`.
+
+mod error;
+mod raw;
+
+pub use error::{CloseError, OpenError, Refused, TwoMemories};
+
+use raw::Handle;
+use std::sync::atomic::{AtomicU64, Ordering};
+
+// Each opening has a number of its own.
+static OPENINGS: AtomicU64 = AtomicU64::new(0);
+
+/// The sizes of a memory, but for its components. They say how long an opening lives.
+#[derive(Clone, Copy, Debug, PartialEq, Eq)]
+pub struct Sizes {
+    /// How many scans of some positions may announce themselves: 1 to 65,536.
+    pub slots: u32,
+    /// Room for lists of slots that are vacant again: at most 65,536.
+    pub list_words: u32,
+    /// Room for records and announcements: 3 for each component at least, and at most 4,194,304.
+    pub pool_words: u32,
+}
+
+/// How an update ended.
+#[derive(Clone, Copy, Debug, PartialEq, Eq)]
+pub enum Updated {
+    /// It was applied, and its record has this stamp.
+    Applied { stamp: u64 },
+    /// It was overwritten during the call by the update with this stamp.
+    Lost { by: u64 },
+}
+
+/// How a conditional update ended.
+#[derive(Clone, Copy, Debug, PartialEq, Eq)]
+pub enum UpdatedIf {
+    /// It was applied, and its record has this stamp.
+    Applied { stamp: u64 },
+    /// The component had this stamp in place of the expected one.
+    Changed { by: u64 },
+}
+
+/// A value, and the stamp of the update that wrote it.
+#[derive(Clone, Copy, Debug, PartialEq, Eq)]
+pub struct Value {
+    pub value: u64,
+    pub stamp: u64,
+}
+
+/// How a scan was made.
+#[derive(Clone, Copy, Debug, PartialEq, Eq)]
+pub struct Scanned {
+    /// How often its components were collected: 0 for a scan of no position.
+    pub collects: u32,
+    /// The stamp of the record whose view was borrowed, if one was.
+    pub borrowed: Option<u64>,
+}
+
+/// A port of an open memory. It may go to another thread, and is used by one thread at a time.
+///
+/// ```compile_fail
+/// fn shared<T: Sync>() {}
+/// shared::<partial_door::Port>();
+/// ```
+///
+/// A memory is freed with its last port and its [`Memory`]. It can't be closed once a port was dropped.
+pub struct Port {
+    handle: Handle,
+}
+
+/// An open memory, by which it is closed.
+pub struct Memory {
+    handle: Handle,
+    components: usize,
+}
+
+/// The values of a closed memory.
+pub struct Closed {
+    handle: Handle,
+    components: usize,
+}
+
+// SAFETY: that what a handle holds may go to another thread is proved of its type. The calls take
+// `&mut self` or the value, so one thread at a time uses it, and Rust orders its moves between threads.
+unsafe impl Send for Port {}
+unsafe impl Send for Memory {}
+unsafe impl Send for Closed {}
+
+impl Sizes {
+    fn raw(self) -> raw::Sizes {
+        raw::Sizes {
+            slots: self.slots,
+            list_words: self.list_words,
+            pool_words: self.pool_words,
+        }
+    }
+}
+
+/// Opens a memory whose components hold these values, and its ports, numbered from 0 in their order.
+///
+/// # Errors
+/// The first that holds: a size out of its range, in their order; not 1 to 64 ports; a growth that
+/// was refused.
+pub fn open(initial: &[u64], sizes: Sizes, ports: u32) -> Result<(Memory, Vec<Port>), OpenError> {
+    let mut memory = Memory {
+        handle: Handle::empty(),
+        components: initial.len(),
+    };
+    let opening = OPENINGS.fetch_add(1, Ordering::SeqCst);
+    // SAFETY: the values, the sizes and the empty handle are borrowed for the call, and the number of
+    // the opening is new.
+    let code = unsafe {
+        raw::partial_open(
+            opening,
+            initial.as_ptr(),
+            initial.len(),
+            &sizes.raw(),
+            ports,
+            &mut memory.handle,
+        )
+    };
+    if code != 0 {
+        return Err(OpenError::of(code));
+    }
+    let mut taken = Vec::with_capacity(ports as usize);
+    for _ in 0..ports {
+        let mut port = Port {
+            handle: Handle::empty(),
+        };
+        // SAFETY: both handles are borrowed for the call.
+        match unsafe { raw::partial_take_port(&mut memory.handle, &mut port.handle) } {
+            0 => taken.push(port),
+            code => return Err(OpenError::of(code)),
+        }
+    }
+    taken.reverse();
+    Ok((memory, taken))
+}
+
+impl Memory {
+    /// Closes the memory whose ports these are, all of them and in any order. The values are those
+    /// after one history that begins with all that each port has seen.
+    ///
+    /// ```
+    /// use partial_door::{open, CloseError, Sizes};
+    ///
+    /// let sizes = Sizes { slots: 10, list_words: 0, pool_words: 100 };
+    /// let (memory, mut ports) = open(&[1, 2], sizes, 2)?;
+    /// ports[1].update(0, 7)?;
+    /// let other = ports.split_off(1);
+    /// let Err(CloseError::NotAll(memory, mut ports)) = memory.close(ports) else { panic!() };
+    /// ports.extend(other);
+    /// assert_eq!(memory.close(ports)?.values(), [7, 2]);
+    /// # Ok::<(), Box<dyn std::error::Error>>(())
+    /// ```
+    ///
+    /// # Errors
+    /// [`CloseError::NotAll`] where these aren't all ports of the memory, and [`CloseError::Memory`]
+    /// where a growth was refused.
+    pub fn close(mut self, ports: Vec<Port>) -> Result<Closed, CloseError> {
+        let mut left = Vec::new();
+        let mut home = 0;
+        for mut port in ports {
+            // SAFETY: both handles are borrowed for the call.
+            match unsafe { raw::partial_give_port(&mut self.handle, &mut port.handle) } {
+                0 => home += 1,
+                _ => left.push(port),
+            }
+        }
+        // SAFETY: the handle is borrowed for the call.
+        let code = match left.is_empty() {
+            true => unsafe { raw::partial_close(&mut self.handle) },
+            false => 22,
+        };
+        match code {
+            0 => Ok(Closed {
+                handle: std::mem::replace(&mut self.handle, Handle::empty()),
+                components: self.components,
+            }),
+            22 => {
+                self.take_again(home, &mut left);
+                Err(CloseError::NotAll(self, left))
+            }
+            _ => Err(CloseError::Memory),
+        }
+    }
+
+    // Takes as many ports out again.
+    fn take_again(&mut self, count: usize, ports: &mut Vec<Port>) {
+        for _ in 0..count {
+            let mut port = Port {
+                handle: Handle::empty(),
+            };
+            // SAFETY: both handles are borrowed for the call.
+            if unsafe { raw::partial_take_port(&mut self.handle, &mut port.handle) } == 0 {
+                ports.push(port);
+            }
+        }
+    }
+}
+
+impl Port {
+    /// Sets component `component` to `value`. An applied update is the last of the history that the
+    /// port has seen then. A lost one was overwritten during the call by the update that it names.
+    ///
+    /// # Errors
+    /// [`Refused::Component`] and [`Refused::PoolSpent`].
+    pub fn update(&mut self, component: u32, value: u64) -> Result<Updated, Refused> {
+        let mut answer = raw::UpdateAnswer::default();
+        // SAFETY: the handle and the place for the answer are borrowed for the call.
+        match unsafe { raw::partial_update(&mut self.handle, component, value, &mut answer) } {
+            0 if answer.applied == 1 => Ok(Updated::Applied { stamp: answer.stamp }),
+            0 => Ok(Updated::Lost { by: answer.stamp }),
+            code => Err(Refused::of(code)),
+        }
+    }
+
+    /// Sets component `component` to `value` where it has the stamp `expected`.
+    ///
+    /// ```
+    /// use partial_door::{open, Sizes, UpdatedIf};
+    ///
+    /// let sizes = Sizes { slots: 10, list_words: 0, pool_words: 100 };
+    /// let mut port = open(&[5], sizes, 1)?.1.remove(0);
+    /// let seen = port.read(0)?;
+    /// let UpdatedIf::Applied { stamp } = port.update_if(0, seen.stamp, 6)? else { panic!() };
+    /// assert_eq!(port.update_if(0, seen.stamp, 7)?, UpdatedIf::Changed { by: stamp });
+    /// assert_eq!(port.read(0)?.value, 6);
+    /// # Ok::<(), Box<dyn std::error::Error>>(())
+    /// ```
+    ///
+    /// # Errors
+    /// [`Refused::Component`] and [`Refused::PoolSpent`].
+    pub fn update_if(
+        &mut self,
+        component: u32,
+        expected: u64,
+        value: u64,
+    ) -> Result<UpdatedIf, Refused> {
+        let mut answer = raw::UpdateAnswer::default();
+        // SAFETY: the handle and the place for the answer are borrowed for the call.
+        let code = unsafe {
+            raw::partial_update_if(&mut self.handle, component, expected, value, &mut answer)
+        };
+        match code {
+            0 if answer.applied == 1 => Ok(UpdatedIf::Applied { stamp: answer.stamp }),
+            0 => Ok(UpdatedIf::Changed { by: answer.stamp }),
+            code => Err(Refused::of(code)),
+        }
+    }
+
+    /// Reads component `component`: its value and its stamp at a moment of the call.
+    ///
+    /// # Errors
+    /// [`Refused::Component`].
+    pub fn read(&mut self, component: u32) -> Result<Value, Refused> {
+        let mut answer = raw::ReadAnswer::default();
+        // SAFETY: the handle and the place for the answer are borrowed for the call.
+        match unsafe { raw::partial_read(&mut self.handle, component, &mut answer) } {
+            0 => Ok(Value {
+                value: answer.value,
+                stamp: answer.stamp,
+            }),
+            code => Err(Refused::of(code)),
+        }
+    }
+
+    /// Scans these components, in this order and with repeats: `into` has their values as they stood
+    /// together at one moment of the call.
+    ///
+    /// # Errors
+    /// [`Refused::Length`], [`Refused::Component`], [`Refused::PoolSpent`] and
+    /// [`Refused::SlotsSpent`]. `into` is as it was then.
+    pub fn scan(&mut self, which: &[u32], into: &mut [u64]) -> Result<Scanned, Refused> {
+        let mut answer = raw::ScanAnswer::default();
+        // SAFETY: the handle, both slices and the place for the answer are borrowed for the call.
+        let code = unsafe {
+            raw::partial_scan(
+                &mut self.handle,
+                which.as_ptr(),
+                which.len(),
+                into.as_mut_ptr(),
+                into.len(),
+                &mut answer,
+            )
+        };
+        match code {
+            0 => Ok(Scanned {
+                collects: answer.collects,
+                borrowed: (answer.borrowed == 1).then_some(answer.stamp),
+            }),
+            code => Err(Refused::of(code)),
+        }
+    }
+
+    /// Lets two ports see all that either has seen: two values of one component that they read one
+    /// after the other never go back then.
+    ///
+    /// # Errors
+    /// [`TwoMemories`] where the ports are of two memories.
+    pub fn meet(&mut self, other: &mut Port) -> Result<(), TwoMemories> {
+        // SAFETY: both handles are borrowed for the call, and Rust keeps them apart.
+        match unsafe { raw::partial_meet(&mut self.handle, &mut other.handle) } {
+            0 => Ok(()),
+            _ => Err(TwoMemories),
+        }
+    }
+}
+
+impl Closed {
+    /// The value of each component.
+    pub fn values(&mut self) -> Vec<u64> {
+        let mut values = vec![0; self.components];
+        // SAFETY: the handle and the values are borrowed for the call.
+        let code = unsafe {
+            raw::partial_values(&mut self.handle, values.as_mut_ptr(), values.len())
+        };
+        assert_eq!(code, 0, "a closed memory has as many values as it was opened with");
+        values
+    }
+}
+
+impl std::fmt::Debug for Port {
+    fn fmt(&self, f: &mut std::fmt::Formatter<'_>) -> std::fmt::Result {
+        f.write_str("Port")
+    }
+}
+
+impl std::fmt::Debug for Memory {
+    fn fmt(&self, f: &mut std::fmt::Formatter<'_>) -> std::fmt::Result {
+        f.write_str("Memory")
+    }
+}
+
+impl std::fmt::Debug for Closed {
+    fn fmt(&self, f: &mut std::fmt::Formatter<'_>) -> std::fmt::Result {
+        f.write_str("Closed")
+    }
+}
+
+impl Drop for Port {
+    fn drop(&mut self) {
+        // SAFETY: the handle is borrowed for the call.
+        unsafe { raw::partial_free(&mut self.handle) };
+    }
+}
+
+impl Drop for Memory {
+    fn drop(&mut self) {
+        // SAFETY: the handle is borrowed for the call.
+        unsafe { raw::partial_free(&mut self.handle) };
+    }
+}
+
+impl Drop for Closed {
+    fn drop(&mut self) {
+        // SAFETY: the handle is borrowed for the call.
+        unsafe { raw::partial_free(&mut self.handle) };
+    }
+}

@@ -1,0 +1,83 @@
+//! The functions of the static library, as `bindings/c/partial.h` declares them.
+
+/// One pointer that the library alone reads and writes. Zero bits are an empty handle.
+#[repr(C)]
+pub struct Handle {
+    held: *mut core::ffi::c_void,
+}
+
+impl Handle {
+    pub const fn empty() -> Handle {
+        Handle {
+            held: core::ptr::null_mut(),
+        }
+    }
+}
+
+#[repr(C)]
+pub struct Sizes {
+    pub slots: u32,
+    pub list_words: u32,
+    pub pool_words: u32,
+}
+
+#[repr(C)]
+#[derive(Default)]
+pub struct UpdateAnswer {
+    pub stamp: u64,
+    pub applied: u32,
+}
+
+#[repr(C)]
+#[derive(Default)]
+pub struct ReadAnswer {
+    pub value: u64,
+    pub stamp: u64,
+}
+
+#[repr(C)]
+#[derive(Default)]
+pub struct ScanAnswer {
+    pub stamp: u64,
+    pub collects: u32,
+    pub borrowed: u32,
+}
+
+unsafe extern "C" {
+    pub fn partial_open(
+        opening: u64,
+        initial: *const u64,
+        components: usize,
+        sizes: *const Sizes,
+        ports: u32,
+        memory: *mut Handle,
+    ) -> u32;
+    pub fn partial_take_port(memory: *mut Handle, port: *mut Handle) -> u32;
+    pub fn partial_give_port(memory: *mut Handle, port: *mut Handle) -> u32;
+    pub fn partial_update(
+        port: *mut Handle,
+        component: u32,
+        value: u64,
+        answer: *mut UpdateAnswer,
+    ) -> u32;
+    pub fn partial_update_if(
+        port: *mut Handle,
+        component: u32,
+        expected: u64,
+        value: u64,
+        answer: *mut UpdateAnswer,
+    ) -> u32;
+    pub fn partial_read(port: *mut Handle, component: u32, answer: *mut ReadAnswer) -> u32;
+    pub fn partial_scan(
+        port: *mut Handle,
+        which: *const u32,
+        positions: usize,
+        into: *mut u64,
+        room: usize,
+        answer: *mut ScanAnswer,
+    ) -> u32;
+    pub fn partial_meet(first: *mut Handle, second: *mut Handle) -> u32;
+    pub fn partial_close(memory: *mut Handle) -> u32;
+    pub fn partial_values(closed: *mut Handle, into: *mut u64, room: usize) -> u32;
+    pub fn partial_free(handle: *mut Handle) -> u32;
+}

@@ -1,0 +1,58 @@
+//! Ports in threads of their own, and what is refused.
+
+use partial_door::{open, CloseError, OpenError, Refused, Sizes, TwoMemories, Updated};
+
+const SIZES: Sizes = Sizes {
+    slots: 65_536,
+    list_words: 65_536,
+    pool_words: 4_194_304,
+};
+
+#[test]
+fn each_writer_of_its_own_component_is_applied() {
+    let (memory, mut ports) = open(&[0; 3], SIZES, 3).expect("a memory opens");
+    std::thread::scope(|scope| {
+        for (component, port) in ports.iter_mut().enumerate() {
+            scope.spawn(move || {
+                for value in 1..=1000 {
+                    let set = port.update(component as u32, value).expect("there is room");
+                    assert!(matches!(set, Updated::Applied { .. }));
+                }
+            });
+        }
+    });
+    let mut closed = memory.close(ports).expect("all ports are there");
+    assert_eq!(closed.values(), [1000; 3]);
+}
+
+#[test]
+fn a_port_is_refused_with_its_cause() {
+    let small = Sizes {
+        slots: 1,
+        list_words: 0,
+        pool_words: 5,
+    };
+    assert_eq!(open(&[1, 2], small, 1).err(), Some(OpenError::PoolWords));
+    assert_eq!(open(&[1], SIZES, 65).err(), Some(OpenError::Ports));
+    let (_memory, mut ports) = open(&[1, 2], SIZES, 1).expect("a memory opens");
+    let mut into = [7];
+    assert_eq!(ports[0].read(2), Err(Refused::Component));
+    assert_eq!(ports[0].scan(&[0, 1], &mut into), Err(Refused::Length));
+    assert_eq!(ports[0].scan(&[2], &mut into), Err(Refused::Component));
+    assert_eq!(into, [7]);
+}
+
+#[test]
+fn ports_of_two_memories_stay_apart() {
+    let (memory, mut ports) = open(&[1], SIZES, 1).expect("a memory opens");
+    let (_other, mut others) = open(&[2], SIZES, 1).expect("another opens");
+    assert_eq!(ports[0].meet(&mut others[0]), Err(TwoMemories));
+    ports.append(&mut others);
+    let Err(CloseError::NotAll(memory, mut back)) = memory.close(ports) else {
+        panic!("the ports of two memories were closed");
+    };
+    assert_eq!(back.len(), 2);
+    let own = back.iter_mut().position(|port| port.read(0).expect("it is there").value == 1);
+    let own = back.swap_remove(own.expect("the port came back"));
+    assert_eq!(memory.close(vec![own]).expect("it is all").values(), [1]);
+}

@@ -1,0 +1,3 @@
+pub mod AsBox
+pub mod HandleSteps
+pub mod Opened

@@ -1,0 +1,48 @@
+-- The ports of a memory that has opened, and what is held then.
+use Rattle.std.proofs.Common.{◌≡◌, ◌<◌, ◌++◌, ℕ, List, [], ◌∷◌, sym, subst}
+use Rattle.std.specs.List.{AllByRecursion}
+use Rattle.std.specs.Arc.{arc_value}
+use Rattle.partial_words.specs.Layout.{Layout, pool_base}
+use Rattle.partial_memory.specs.Rule.{newcomers}
+use Rattle.partial_memory.specs.Ports.{IsOf, MemoryView, PortView, new_ports}
+use Rattle.partial_memory.proofs.Laws.{opened_ports_are_all}
+use Rattle.partial_door.specs.declared.held.OpenMemory.{OpenMemory}
+use Rattle.partial_door.specs.Memories.{HasOpened}
+
+pub homes : (m v : MemoryView) (ports : ℕ) (all : List PortView) → m ≡ v → v.about.ports ≡ ports
+    → all ≡ new_ports v.table (newcomers v.about 0 ports) → AllByRecursion (IsOf m) all
+homes m v ports all same many made =
+    subst (λ (xs : List PortView). AllByRecursion (IsOf m) xs) (sym made)
+    (subst (λ (w : MemoryView). AllByRecursion (IsOf w) (new_ports v.table (newcomers v.about 0 ports))) (sym same) (opened_ports_are_all v ports many).own)
+
+pub opened_is : (x : OpenMemory) (v : MemoryView) (opening ports : ℕ) (z : Layout) (initial : List ℕ) → arc_value x.memory ≡ v
+    → x.opening ≡ opening → x.count ≡ ports → v.about.sizes ≡ z → v.about.ports ≡ ports → v.about.opening.values ≡ initial
+    → v.about.opening.first ≡ pool_base z → x.ports.items ≡ new_ports v.table (newcomers v.about 0 ports) → HasOpened opening z initial ports x
+opened_is x v opening ports z initial same named counted sized many values first made = record {
+  number = named;
+  sizes = subst (λ (w : MemoryView). w.about.sizes ≡ z) (sym same) sized;
+  many = subst (λ (w : MemoryView). w.about.ports ≡ ports) (sym same) many;
+  values = subst (λ (w : MemoryView). w.about.opening.values ≡ initial) (sym same) values;
+  first = subst (λ (w : MemoryView). w.about.opening.first ≡ pool_base z) (sym same) first;
+  count = counted;
+  home = subst (λ (w : MemoryView). x.ports.items ≡ new_ports w.table (newcomers w.about 0 ports)) (sym same) made;
+}
+
+pub more : (components : ℕ) (v : MemoryView) (p : PortView) (n : ℕ) → components ≡ v.about.sizes.m → IsOf v p → components < n → p.memory.about.sizes.m < n
+more components v p n size own less = subst (λ (w : MemoryView). w.about.sizes.m < n) (sym own) (subst (λ (k : ℕ). k < n) size less)
+
+pub all_front : {X : Type 0} (P : X → Type 0) (xs : List X) (y : X) → AllByRecursion P (xs ++ y ∷ []) → AllByRecursion P xs
+all_front P [] y all = tt
+all_front P (x ∷ xs) y all = (all.0, all_front P xs y all.1)
+
+pub all_last : {X : Type 0} (P : X → Type 0) (xs : List X) (y : X) → AllByRecursion P (xs ++ y ∷ []) → P y
+all_last P [] y all = all.0
+all_last P (x ∷ xs) y all = all_last P xs y all.1
+
+pub all_more : {X : Type 0} (P : X → Type 0) (xs : List X) (y : X) → AllByRecursion P xs → P y → AllByRecursion P (xs ++ y ∷ [])
+all_more P [] y all one = (one, tt)
+all_more P (x ∷ xs) y all one = (all.0, all_more P xs y all.1 one)
+
+-- the last port of a memory's is of it, by another share of the same memory
+pub last_of : (m v : MemoryView) (all front : List PortView) (p : PortView) → all ≡ front ++ p ∷ [] → AllByRecursion (IsOf m) all → v ≡ m → IsOf v p
+last_of m v all front p parts own same = subst (λ (w : MemoryView). IsOf w p) (sym same) (all_last (IsOf m) front p (subst (λ (xs : List PortView). AllByRecursion (IsOf m) xs) parts own))

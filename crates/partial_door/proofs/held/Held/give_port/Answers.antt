@@ -1,0 +1,19 @@
+use Rattle.std.proofs.Common.{◌++◌, ◌∷◌, [], ◌∙◌, List, ap, sym, refl, inr}
+use Rattle.partial_memory.specs.Ports.{PortView}
+use Rattle.partial_door.proofs.held.Held.give_port.Goals as goal
+
+pub returns-then-is_err-clause-err : goal.returns-then-is_err-clause-err
+returns-then-is_err-clause-err c =
+    (refl, inr (c.in-Memory.open, _, c.in-Memory.is, refl, record { opening = refl; count = refl; memory = refl }, c.reserve.ensures.items))
+
+pub returns-clause-ok : goal.returns-clause-ok
+returns-clause-ok c = (
+  c.in-Memory.open,
+  _,
+  c.in-Port-into_inner.own,
+  c.in-Memory.is,
+  refl,
+  sym c.into_inner.ensures ∙ c.in-Port-into_inner.is,
+  record { opening = refl; count = refl; memory = refl },
+  c.push_reserved.ensures.items ∙ ap (λ (xs : List PortView). xs ++ c.in-Port-into_inner.own.port ∷ []) c.reserve.ensures.items,
+)

@@ -1,0 +1,15 @@
+use Rattle.std.proofs.Common.{rules, refl, inl, inr}
+use Rattle.partial_door.proofs.Opened.{more}
+use Rattle.partial_door.proofs.held.Held.scan.Goals as goal
+
+pub returns-in-Ok : goal.returns-in-Ok
+returns-in-Ok c = inr (c.in-Port.own, _, c.in-Port.is, refl, record { opening = refl; memory = refl }, inl (c.in-Ok.scanned, refl, search rules, search rules))
+
+pub returns-in-Err : goal.returns-in-Err
+returns-in-Err c = inr (c.in-Port.own, _, c.in-Port.is, refl, record { opening = refl; memory = refl }, inr (search rules, refl, inr (c.in-Err.cause, search rules, search rules)))
+
+pub returns-then-which-into : goal.returns-then-which-into
+returns-then-which-into c = inr (c.in-Port.own, c.in-Port.own, c.in-Port.is, search rules, record { opening = refl; memory = refl }, inr (refl, refl, inl (refl, inl c.if-which-into.true, refl)))
+
+pub returns-then-which-own : goal.returns-then-which-own
+returns-then-which-own c = inr (c.in-Port.own, c.in-Port.own, c.in-Port.is, search rules, record { opening = refl; memory = refl }, inr (refl, refl, inl (refl, inr (more _ _ c.in-Port.own.port _ c.in-Port.own.size c.in-Port.own.of c.if-which-own.true), refl)))

@@ -1,0 +1,90 @@
+-- What the calls of a port leave of what its handle holds.
+use Rattle.std.specs.Prelude.{ℕ, ◌≡◌, ◌⊎◌, ◌<◌, List, length, Option, Some, None}
+use Rattle.std.specs.Arc.{arc_value}
+use Rattle.partial_model.specs.declared.call.Call.TheVariants as call
+use Rattle.partial_model.specs.declared.call.Refused.{Refused}
+use Rattle.partial_memory.specs.declared.answers.Scanned.{Scanned}
+use Rattle.partial_memory.specs.declared.answers.Updated.{Updated}
+use Rattle.partial_memory.specs.declared.answers.Updated.TheVariants.{Applied, Lost}
+use Rattle.partial_memory.specs.declared.answers.UpdatedIf.{UpdatedIf}
+use Rattle.partial_memory.specs.declared.answers.UpdatedIf.TheVariants as conditional
+use Rattle.partial_memory.specs.Ports.{PortView, IsRefused, refusal}
+use Rattle.partial_memory.specs.Calls.{Updates, UpdatesIf, Reads, Scans}
+use Rattle.partial_door.specs.declared.answers.UpdateAnswer.{UpdateAnswer}
+use Rattle.partial_door.specs.declared.answers.ReadAnswer.{ReadAnswer}
+use Rattle.partial_door.specs.declared.answers.ScanAnswer.{ScanAnswer}
+use Rattle.partial_door.specs.declared.held.OwnedPort.{OwnedPort}
+use Rattle.partial_door.specs.declared.held.Held.{Held}
+use Rattle.partial_door.specs.declared.held.Held.TheVariants as held
+use Rattle.partial_door.specs.Codes.{refused_code}
+
+-- the port's share of its memory stays
+pub record IsSame (p q : OwnedPort) : Type 0 where
+  pub opening : q.opening ≡ p.opening
+  pub memory : arc_value q.memory ≡ arc_value p.memory
+
+-- no port is held
+abbrev pub HoldsNoPort : Held → Type 0
+HoldsNoPort (held.Port p) = ⊥
+HoldsNoPort _ = Unit {0}
+
+-- A call of a port at what is held: where that is no port the number is 17 and nothing changes, and otherwise the port is of the same
+-- memory, and the call did to it what is said.
+abbrev pub AtPort : (PortView → ℕ → PortView → Type 0) → Held → ℕ → Held → Type 0
+AtPort done h code k =
+    (HoldsNoPort h × (code ≡ 17) × (k ≡ h))
+    ⊎ ((p : OwnedPort) × (q : OwnedPort) × (h ≡ held.Port p) × (k ≡ held.Port q) × IsSame p q × done p.port code q.port)
+
+-- what an update answers, as the caller sees it
+abbrev pub update_answer : Updated → UpdateAnswer
+update_answer (Applied stamp) = record { stamp = stamp; applied = 1 }
+update_answer (Lost by) = record { stamp = by; applied = 0 }
+
+-- an update was answered, or refused with its number, and then the answer stays
+abbrev pub UpdateEnds : ℕ → ℕ → UpdateAnswer → UpdateAnswer → PortView → ℕ → PortView → Type 0
+UpdateEnds j v before after p code q =
+    ((r : Updated) × (code ≡ 0) × (after ≡ update_answer r) × Updates p j v r q)
+    ⊎ ((cause : Refused) × (code ≡ refused_code cause) × (after ≡ before) × IsRefused p (call.Update j v) cause q)
+
+-- what a conditional update answers
+abbrev pub update_if_answer : UpdatedIf → UpdateAnswer
+update_if_answer (conditional.Applied stamp) = record { stamp = stamp; applied = 1 }
+update_if_answer (conditional.Changed by) = record { stamp = by; applied = 0 }
+
+-- a conditional update likewise
+abbrev pub UpdateIfEnds : ℕ → ℕ → ℕ → UpdateAnswer → UpdateAnswer → PortView → ℕ → PortView → Type 0
+UpdateIfEnds j expected v before after p code q =
+    ((r : UpdatedIf) × (code ≡ 0) × (after ≡ update_if_answer r) × UpdatesIf p j expected v r q)
+    ⊎ ((cause : Refused) × (code ≡ refused_code cause) × (after ≡ before) × IsRefused p (call.UpdateIf j expected v) cause q)
+
+-- a read likewise; a refused one changes nothing of the port
+abbrev pub ReadEnds : ℕ → ReadAnswer → ReadAnswer → PortView → ℕ → PortView → Type 0
+ReadEnds j before after p code q =
+    ((code ≡ 0) × Reads p j after.value after.stamp q)
+    ⊎ ((cause : Refused) × (code ≡ refused_code cause) × (after ≡ before) × (refusal p (call.Read j) ≡ Some cause) × (q ≡ p))
+
+-- the stamp, or 0 where there is none
+abbrev pub stamp_or_zero : Option ℕ → ℕ
+stamp_or_zero None = 0
+stamp_or_zero (Some stamp) = stamp
+
+-- 1 where there is a stamp
+abbrev pub one_for_some : Option ℕ → ℕ
+one_for_some None = 0
+one_for_some (Some stamp) = 1
+
+-- how a scan was made, as the caller sees it
+abbrev pub scan_answer : Scanned → ScanAnswer
+scan_answer s = record { stamp = stamp_or_zero s.borrowed; collects = s.collects; borrowed = one_for_some s.borrowed }
+
+-- the lengths of a scan don't fit
+abbrev pub IsMismatch : PortView → List ℕ → List ℕ → Type 0
+IsMismatch p which into = (length which ≡ length into → ⊥) ⊎ (p.memory.about.sizes.m < length which)
+
+-- a scan was answered, or refused for its lengths or for a cause, and then the answer and the values stay
+abbrev pub ScanEnds : List ℕ → List ℕ → List ℕ → ScanAnswer → ScanAnswer → PortView → ℕ → PortView → Type 0
+ScanEnds which before values old new p code q =
+    ((s : Scanned) × (code ≡ 0) × (new ≡ scan_answer s) × Scans p which values s q)
+    ⊎ ((values ≡ before) × (new ≡ old)
+    × (((code ≡ 19) × IsMismatch p which before × (q ≡ p))
+    ⊎ ((cause : Refused) × (code ≡ refused_code cause) × IsRefused p (call.Scan which) cause q)))

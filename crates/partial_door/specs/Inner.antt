@@ -1,0 +1,2 @@
+-- What the contract of a private function cites.
+pub mod Kept

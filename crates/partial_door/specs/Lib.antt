@@ -1,0 +1,7 @@
+pub mod Home
+pub mod Owned
+pub mod Codes
+pub mod Calls
+pub mod Exports
+pub mod Memories
+pub mod Inner

@@ -1,0 +1,18 @@
+-- What a handle owns: nothing at null, and otherwise what a box of what it holds owns.
+use base.Fml.{Fml, feq}
+use base.Stored.{Coded}
+use denote.RawPtr.{Ptr, null_ptr}
+use Rattle.std.specs.Box.Ownership.{box_owns}
+use Rattle.std.specs.Coded.{coded_option}
+use Rattle.std.specs.Global.{Global}
+use Rattle.std.specs.declared.option.Option.{Option}
+use Rattle.std.specs.declared.option.Option.TheVariants.{None, Some}
+use Rattle.std_heap.specs.contracts.GlobalAllocator.TheImpl.{ghosts}
+use Rattle.partial_door.specs.contracts.held.Held.{the_row}
+
+abbrev pub handle_owns : Global → Ptr → Option the_row.Denot → Fml
+handle_owns alloc p None = feq Ptr p null_ptr
+handle_owns alloc p (Some x) = box_owns (ghosts.dealloc_token alloc) the_row p x
+
+abbrev pub held_coded : Coded (Option the_row.Denot)
+held_coded = coded_option the_row.coded

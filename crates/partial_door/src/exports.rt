@@ -1,0 +1,220 @@
+//! The functions that are called from C.
+
+ghost use Rattle.std.specs.Prelude.{◌≡◌, length, None, Some};
+ghost use Rattle.partial_door.specs.declared.held.Held.{Held as HeldType};
+ghost use Rattle.partial_door.specs.Memories.{AreApart, layout_of};
+ghost use Rattle.partial_door.specs.Calls.{ReadEnds, ScanEnds, UpdateEnds, UpdateIfEnds};
+ghost use Rattle.partial_door.specs.Exports.{AtHandle, ClosesHandle, CopiesAt, GivesAt, MeetsHandles, OpensAt, TakesAt};
+
+use crate::answers::{ReadAnswer, RoomSizes, ScanAnswer, UpdateAnswer};
+use crate::codes::{FINE, HOLDS_NONE, HOLDS_ONE};
+use crate::handle::Handle;
+use crate::memories::open;
+use std::alloc::Global;
+
+/// Sets a component.
+#[unsafe(no_mangle)]
+pub extern "C" fn partial_update(
+    alloc: Global,
+    port: &mut Handle,
+    component: u32,
+    value: u64,
+    answer: &mut UpdateAnswer,
+) -> u32
+    ensures { AtHandle (UpdateEnds component value answer.old answer.new) port.old.held result port.new.held }
+{
+    let Some(mut held) = port.take(alloc) else {
+        return HOLDS_NONE;
+    };
+    let code = held.update(component, value, answer);
+    port.put(held);
+    code
+}
+
+/// Sets a component where it has the expected stamp.
+#[unsafe(no_mangle)]
+pub extern "C" fn partial_update_if(
+    alloc: Global,
+    port: &mut Handle,
+    component: u32,
+    expected: u64,
+    value: u64,
+    answer: &mut UpdateAnswer,
+) -> u32
+    ensures { AtHandle (UpdateIfEnds component expected value answer.old answer.new)
+        port.old.held result port.new.held }
+{
+    let Some(mut held) = port.take(alloc) else {
+        return HOLDS_NONE;
+    };
+    let code = held.update_if(component, expected, value, answer);
+    port.put(held);
+    code
+}
+
+/// Reads a component.
+#[unsafe(no_mangle)]
+pub extern "C" fn partial_read(
+    alloc: Global,
+    port: &mut Handle,
+    component: u32,
+    answer: &mut ReadAnswer,
+) -> u32
+    ensures { AtHandle (ReadEnds component answer.old answer.new) port.old.held result port.new.held }
+{
+    let Some(mut held) = port.take(alloc) else {
+        return HOLDS_NONE;
+    };
+    let code = held.read(component, answer);
+    port.put(held);
+    code
+}
+
+/// Scans components.
+#[unsafe(no_mangle)]
+pub extern "C" fn partial_scan(
+    alloc: Global,
+    port: &mut Handle,
+    which: &[u32],
+    into: &mut [u64],
+    answer: &mut ScanAnswer,
+) -> u32
+    ensures { AtHandle (ScanEnds which.now into.old into.new answer.old answer.new)
+        port.old.held result port.new.held }
+{
+    let Some(mut held) = port.take(alloc) else {
+        return HOLDS_NONE;
+    };
+    let code = held.scan(which, into, answer);
+    port.put(held);
+    code
+}
+
+/// Opens a memory, with all its ports at home.
+#[unsafe(no_mangle)]
+pub extern "C" fn partial_open(
+    alloc: Global,
+    opening: u64,
+    initial: &[u64],
+    room: &RoomSizes,
+    ports: u32,
+    memory: &mut Handle,
+) -> u32
+    ensures { OpensAt opening (layout_of (length initial.now) room.now) initial.now ports
+        memory.old.held result memory.new.held }
+{
+    if let Some(held) = memory.take(alloc) {
+        memory.put(held);
+        return HOLDS_ONE;
+    }
+    match open(alloc, opening, initial, room, ports) {
+        Ok(held) => {
+            memory.put(held);
+            FINE
+        }
+        Err(code) => code,
+    }
+}
+
+/// Takes the last port that is at home out of a memory.
+#[unsafe(no_mangle)]
+pub extern "C" fn partial_take_port(alloc: Global, memory: &mut Handle, port: &mut Handle) -> u32
+    ensures { TakesAt memory.old.held port.old.held result memory.new.held port.new.held }
+{
+    if let Some(held) = port.take(alloc) {
+        port.put(held);
+        return HOLDS_ONE;
+    }
+    let Some(mut home) = memory.take(alloc) else {
+        return HOLDS_NONE;
+    };
+    let taken = home.take_port(alloc);
+    memory.put(home);
+    match taken {
+        Ok(own) => {
+            port.put(own);
+            FINE
+        }
+        Err(code) => code,
+    }
+}
+
+/// Lets a port come home to its memory.
+#[unsafe(no_mangle)]
+pub extern "C" fn partial_give_port(alloc: Global, memory: &mut Handle, port: &mut Handle) -> u32
+    requires { (h k : HeldType) → memory.old.held ≡ Some h → port.old.held ≡ Some k → AreApart h k }
+    ensures { GivesAt memory.old.held port.old.held result memory.new.held port.new.held }
+{
+    let Some(mut home) = memory.take(alloc) else {
+        return HOLDS_NONE;
+    };
+    let Some(own) = port.take(alloc) else {
+        memory.put(home);
+        return HOLDS_NONE;
+    };
+    let given = home.give_port(own);
+    memory.put(home);
+    match given {
+        Ok(()) => FINE,
+        Err((code, own)) => {
+            port.put(own);
+            code
+        }
+    }
+}
+
+/// Lets two ports of a memory see all that either has seen.
+#[unsafe(no_mangle)]
+pub extern "C" fn partial_meet(alloc: Global, first: &mut Handle, second: &mut Handle) -> u32
+    requires { (h k : HeldType) → first.old.held ≡ Some h → second.old.held ≡ Some k → AreApart h k }
+    ensures { MeetsHandles first.old.held second.old.held result first.new.held second.new.held }
+{
+    let Some(mut one) = first.take(alloc) else {
+        return HOLDS_NONE;
+    };
+    let Some(mut other) = second.take(alloc) else {
+        first.put(one);
+        return HOLDS_NONE;
+    };
+    let code = one.meet(&mut other);
+    first.put(one);
+    second.put(other);
+    code
+}
+
+/// Closes a memory whose ports are all at home.
+#[unsafe(no_mangle)]
+pub extern "C" fn partial_close(alloc: Global, memory: &mut Handle) -> u32
+    ensures { ClosesHandle memory.old.held result memory.new.held }
+{
+    let Some(mut held) = memory.take(alloc) else {
+        return HOLDS_NONE;
+    };
+    let code = held.close(alloc);
+    memory.put(held);
+    code
+}
+
+/// Copies the values of a closed memory.
+#[unsafe(no_mangle)]
+pub extern "C" fn partial_values(alloc: Global, closed: &mut Handle, into: &mut [u64]) -> u32
+    ensures same { closed.new.held ≡ closed.old.held }
+    ensures copied { CopiesAt closed.old.held into.old result into.new }
+{
+    let Some(held) = closed.take(alloc) else {
+        return HOLDS_NONE;
+    };
+    let code = held.copy_values(into);
+    closed.put(held);
+    code
+}
+
+/// Empties a handle.
+#[unsafe(no_mangle)]
+pub extern "C" fn partial_free(alloc: Global, handle: &mut Handle) -> u32
+    ensures code { result ≡ 0 }
+    ensures empty { handle.new.held ≡ None }
+{
+    drop(handle.take(alloc));
+    FINE
+}

@@ -1,0 +1,16 @@
+//! A door for callers from C to the running memory.
+#![tactic(auto)]
+
+mod answers;
+mod calls;
+mod codes;
+mod exports;
+mod handle;
+mod held;
+mod memories;
+mod parts;
+
+pub use answers::{ReadAnswer, RoomSizes, ScanAnswer, UpdateAnswer};
+pub use handle::Handle;
+pub use held::{Held, OpenMemory, OwnedPort};
+pub use parts::Parts;

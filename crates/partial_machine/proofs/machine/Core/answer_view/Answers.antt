@@ -1,7 +1,0 @@
-use Rattle.partial_machine.proofs.Parts.{scanned_idle}
-use Rattle.partial_machine.proofs.machine.Core.answer_view.Goals as goal
-
-pub invariant_of-self : goal.invariant_of-self
-invariant_of-self c =
-    let requires = rw (← c.self.view_is) at c.requires in
-    (scanned_idle _ _ _ _ (c.answer.new.self, c.answer.new.rows) c.self.invariant requires.idle requires.scanning (rw c.indices.ensures at c.answer.ensures.state) (rw c.indices.ensures at c.answer.ensures.together)).0

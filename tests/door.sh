@@ -1,0 +1,66 @@
+#!/bin/sh
+# Builds the static library `partial_door` over proved work, and tests the ways to it from C and from Rust.
+# The last line is 'N passed, M failed'. It wants cc and, for the bindings, cargo.
+set -u
+cd "$(dirname "$0")/.." || exit 2
+made=$(mktemp -d) || exit 2
+trap 'rm -rf "$made"' EXIT
+passed=0
+failed=0
+item() {
+    name=$1
+    shift
+    if "$@" >"$made/log" 2>&1; then
+        passed=$((passed + 1))
+    else
+        failed=$((failed + 1))
+        echo "door: failed: $name"
+        tail -n 20 "$made/log"
+    fi
+}
+# The counts of a program whose last line is 'N passed, M failed'.
+counts() {
+    name=$1
+    shift
+    "$@" >"$made/log" 2>&1
+    line=$(tail -n 1 "$made/log")
+    case $line in
+        *' passed, '*' failed')
+            passed=$((passed + ${line%% *}))
+            rest=${line#* passed, }
+            failed=$((failed + ${rest%% *}))
+            ;;
+        *)
+            failed=$((failed + 1))
+            ;;
+    esac
+    case $line in
+        *' passed, 0 failed') ;;
+        *)
+            echo "door: failed: $name"
+            tail -n 20 "$made/log"
+            ;;
+    esac
+}
+compile() {
+    out=$1
+    shift
+    "${CC:-cc}" -std=c11 -Wall -Wextra -Werror -O1 "$@" -I bindings/c bindings/c/test.c \
+        crates/partial_door/out/libpartial_door.a "$heap" -pthread -o "$out"
+}
+kit=$(dirname "$(rt doc)")
+heap=$kit/c/liblibc_c.a
+item "the static library is proved and built" sh -c 'cd crates/partial_door && rt lib --jobs 2'
+item "the C test is compiled" compile "$made/test"
+counts "the C test" "$made/test"
+item "the C test is compiled with the address sanitizer" compile "$made/test_address" -fsanitize=address,undefined -g
+counts "the C test with the address sanitizer" "$made/test_address"
+if command -v cargo >/dev/null 2>&1; then
+    PARTIAL_DOOR_HEAP=$heap
+    export PARTIAL_DOOR_HEAP
+    CARGO_TARGET_DIR=$made/target
+    export CARGO_TARGET_DIR
+    item "the tests and examples of the Rust binding" sh -c 'cd bindings/rust && cargo test --offline --quiet'
+fi
+echo "$passed passed, $failed failed"
+[ "$failed" -eq 0 ]
