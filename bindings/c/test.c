@@ -1,5 +1,5 @@
-/* Calls each function of partial.h: refusals, threads, and a memory that is closed and
- * whose values open another. Writes a line for each test that failed, and then the counts. */
+/* Calls each function of partial.h: refusals, null pointers, threads, and a memory that
+ * is closed and opens again. Writes a line for each test that failed, and then the counts. */
 #include "partial.h"
 
 #include <pthread.h>
@@ -170,14 +170,128 @@ static void test_close(void)
     check(values[0] == 11 && values[1] == 22, "they are those of the updates");
     check(partial_close(&memory) == PARTIAL_HOLDS_NONE, "a closed memory isn't closed again");
 
-    partial_handle again = PARTIAL_EMPTY;
-    check(opened(3, values, 2, &ample, &again, &ports[0], 1), "a memory opens with these values");
-    check(partial_read(&ports[0], 0, &read) == 0 && read.value == 11, "and goes on with them");
-    partial_free(&ports[0]);
-    partial_free(&again);
     partial_free(&memory);
     partial_free(&other);
     partial_free(&other_memory);
+}
+
+static void test_reopen(void)
+{
+    const uint64_t initial[2] = {1, 2};
+    partial_handle memory = PARTIAL_EMPTY;
+    partial_handle again = PARTIAL_EMPTY;
+    partial_handle port = PARTIAL_EMPTY;
+    const partial_sizes small_pool = {1, 0, 8};
+    partial_update_answer set = {0, 0};
+    check(partial_reopen(2, &memory, 2, &ample, 1, &again) == PARTIAL_HOLDS_NONE, "an empty handle isn't reopened");
+    check(opened(1, initial, 2, &ample, &memory, &port, 1), "a memory opens to be closed");
+    check(partial_reopen(2, &memory, 2, &ample, 1, &again) == PARTIAL_HOLDS_NONE, "an open memory isn't reopened");
+    check(partial_update(&port, 1, 22, &set) == 0, "its port updates");
+    check(partial_give_port(&memory, &port) == 0 && partial_close(&memory) == 0, "it closes");
+
+    check(partial_reopen(2, &memory, 0, &ample, 1, &again) == PARTIAL_COMPONENTS, "no component is refused again");
+    check(partial_reopen(2, &memory, 3, &small_pool, 1, &again) == PARTIAL_POOL_WORDS, "and so is a small pool");
+    check(partial_reopen(2, &memory, 2, &ample, 65, &again) == PARTIAL_PORT_COUNT, "and 65 ports");
+    check(partial_reopen(2, &memory, 1, &ample, 1, &again) == PARTIAL_TOO_SMALL, "one of two components is too few");
+    check(again.held == NULL, "a refused reopening leaves the handle empty");
+    check(partial_reopen(2, &memory, 3, &ample, 1, &again) == 0, "a closed memory opens again");
+    check(partial_reopen(3, &memory, 3, &ample, 1, &again) == PARTIAL_HOLDS_ONE, "but not into a handle in use");
+
+    const uint32_t which[3] = {0, 1, 2};
+    uint64_t into[3] = {9, 9, 9};
+    partial_scan_answer scanned = {0, 0, 0};
+    check(partial_take_port(&again, &port) == 0, "it has a port");
+    check(partial_scan(&port, which, 3, into, 3, &scanned) == 0, "which scans");
+    check(into[0] == 1 && into[1] == 22 && into[2] == 0, "it goes on with the values, and a zero behind them");
+    uint64_t values[2] = {0, 0};
+    check(partial_values(&memory, values, 2) == 0 && values[1] == 22, "the closed memory stays");
+    partial_free(&port);
+    partial_free(&again);
+    partial_free(&memory);
+}
+
+static void test_state(void)
+{
+    const uint64_t initial[1] = {1};
+    const uint32_t which[1] = {0};
+    const partial_sizes few_slots = {1, 0, 100};
+    uint64_t into[1] = {0};
+    partial_handle memory = PARTIAL_EMPTY;
+    partial_handle ports[3] = {PARTIAL_EMPTY, PARTIAL_EMPTY, PARTIAL_EMPTY};
+    partial_port_state state = {7, 7, 7};
+    partial_scan_answer scanned = {0, 0, 0};
+    partial_update_answer set = {0, 0};
+    check(partial_state(&ports[0], &state) == PARTIAL_HOLDS_NONE && state.number == 7, "no port has no state");
+    check(opened(1, initial, 1, &few_slots, &memory, ports, 3), "three ports open");
+    check(partial_state(&memory, &state) == PARTIAL_HOLDS_NONE && state.number == 7, "a memory has no port's state");
+    for (uint32_t k = 0; k < 3; k++) {
+        check(partial_state(&ports[k], &state) == 0 && state.number == k, "a port knows its number");
+        check(state.pool_spent == 0 && state.slots_spent == 0, "a new port has no mark");
+    }
+    check(partial_scan(&ports[1], which, 1, into, 1, &scanned) == 0, "the one slot serves a scan");
+    check(partial_scan(&ports[1], which, 1, into, 1, &scanned) == PARTIAL_SLOTS_SPENT, "and no other");
+    check(partial_state(&ports[1], &state) == 0 && state.slots_spent == 1 && state.pool_spent == 0, "the port is marked for the slots");
+    uint32_t code = 0;
+    for (int turn = 0; turn < 100 && code == 0; turn++) {
+        code = partial_update(&ports[2], 0, 5, &set);
+    }
+    check(code == PARTIAL_POOL_SPENT, "a pool ends");
+    check(partial_state(&ports[2], &state) == 0 && state.pool_spent == 1 && state.slots_spent == 0, "the port is marked for the pool");
+    for (uint32_t k = 0; k < 3; k++) {
+        partial_free(&ports[k]);
+    }
+    partial_free(&memory);
+}
+
+static void test_null(void)
+{
+    const uint64_t initial[1] = {1};
+    const uint32_t which[1] = {0};
+    uint64_t into[1] = {7};
+    partial_handle memory = PARTIAL_EMPTY;
+    partial_handle port = PARTIAL_EMPTY;
+    partial_handle spare = PARTIAL_EMPTY;
+    partial_update_answer set = {0, 0};
+    partial_read_answer read = {0, 0};
+    partial_scan_answer scanned = {9, 9, 9};
+    partial_port_state state = {0, 0, 0};
+    check(partial_open(1, NULL, 1, &ample, 1, &memory) == PARTIAL_NULL, "null values are refused");
+    check(partial_open(1, initial, 1, NULL, 1, &memory) == PARTIAL_NULL, "null sizes are refused");
+    check(partial_open(1, initial, 1, &ample, 1, NULL) == PARTIAL_NULL, "a null handle opens nothing");
+    check(partial_open(1, NULL, 0, &ample, 1, &memory) == PARTIAL_COMPONENTS, "no values may be at null");
+    check(opened(1, initial, 1, &ample, &memory, &port, 1), "a memory opens after null pointers");
+    check(partial_reopen(2, NULL, 1, &ample, 1, &spare) == PARTIAL_NULL, "null isn't reopened");
+    check(partial_reopen(2, &memory, 1, NULL, 1, &spare) == PARTIAL_NULL, "nor with null sizes");
+    check(partial_reopen(2, &memory, 1, &ample, 1, NULL) == PARTIAL_NULL, "nor into null");
+    check(partial_take_port(NULL, &spare) == PARTIAL_NULL, "null has no port");
+    check(partial_take_port(&memory, NULL) == PARTIAL_NULL, "null takes no port");
+    check(partial_give_port(NULL, &port) == PARTIAL_NULL, "a port doesn't come home to null");
+    check(partial_give_port(&memory, NULL) == PARTIAL_NULL, "nor null to a memory");
+    check(partial_update(NULL, 0, 1, &set) == PARTIAL_NULL, "null isn't updated");
+    check(partial_update(&port, 0, 1, NULL) == PARTIAL_NULL, "an update answers not to null");
+    check(partial_update_if(NULL, 0, 0, 1, &set) == PARTIAL_NULL, "nor is it conditionally");
+    check(partial_update_if(&port, 0, 0, 1, NULL) == PARTIAL_NULL, "which answers not to null");
+    check(partial_read(NULL, 0, &read) == PARTIAL_NULL, "null isn't read");
+    check(partial_read(&port, 0, NULL) == PARTIAL_NULL, "a read answers not to null");
+    check(partial_scan(NULL, which, 1, into, 1, &scanned) == PARTIAL_NULL, "null isn't scanned");
+    check(partial_scan(&port, NULL, 1, into, 1, &scanned) == PARTIAL_NULL, "null has no positions");
+    check(partial_scan(&port, which, 1, NULL, 1, &scanned) == PARTIAL_NULL, "null has no room");
+    check(partial_scan(&port, which, 1, into, 1, NULL) == PARTIAL_NULL, "a scan answers not to null");
+    check(into[0] == 7 && scanned.collects == 9, "refused scans leave the caller's values");
+    check(partial_scan(&port, NULL, 0, NULL, 0, &scanned) == 0 && scanned.collects == 0, "no positions may be at null");
+    check(partial_scan(&port, NULL, 0, into, 1, &scanned) == PARTIAL_LENGTH, "but not beside room for one");
+    check(partial_state(NULL, &state) == PARTIAL_NULL, "null has no state");
+    check(partial_state(&port, NULL) == PARTIAL_NULL, "a state isn't given to null");
+    check(partial_meet(NULL, &port) == PARTIAL_NULL, "null meets no port");
+    check(partial_meet(&port, NULL) == PARTIAL_NULL, "and no port meets null");
+    check(partial_close(NULL) == PARTIAL_NULL, "null isn't closed");
+    check(partial_values(NULL, into, 1) == PARTIAL_NULL, "null has no values");
+    check(partial_values(&memory, NULL, 1) == PARTIAL_NULL, "values aren't copied to null");
+    check(partial_values(&memory, NULL, 0) == PARTIAL_HOLDS_NONE, "where there is no room, null is none");
+    check(partial_free(NULL) == PARTIAL_NULL, "null isn't freed");
+    check(partial_read(&port, 0, &read) == 0 && read.value == 1, "and the memory is as it was");
+    partial_free(&port);
+    partial_free(&memory);
 }
 
 /* Each writer sets its own component to 1, 2 and so on; the scanner's values never fall. */
@@ -260,6 +374,9 @@ int main(void)
     test_refused_calls();
     test_spent_pool();
     test_close();
+    test_reopen();
+    test_state();
+    test_null();
     test_threads();
     printf("%d passed, %d failed\n", passed, failed);
     return failed != 0;

@@ -16,6 +16,8 @@ pub enum OpenError {
     PoolWords,
     /// There are 1 to 64 ports.
     Ports,
+    /// A memory that is opened again has at least as many components as before.
+    TooSmall,
     /// A growth was refused.
     Memory,
 }
@@ -54,11 +56,12 @@ impl OpenError {
             3 => OpenError::ListWords,
             4 => OpenError::PoolWords,
             5 => OpenError::Ports,
+            13 => OpenError::TooSmall,
             _ => OpenError::Memory,
         }
     }
 
-    /// The number of the refusal: 1 to 6.
+    /// The number of the refusal: 1 to 6, or 13.
     pub fn code(self) -> u32 {
         match self {
             OpenError::Components => 1,
@@ -66,6 +69,7 @@ impl OpenError {
             OpenError::ListWords => 3,
             OpenError::PoolWords => 4,
             OpenError::Ports => 5,
+            OpenError::TooSmall => 13,
             OpenError::Memory => 6,
         }
     }
@@ -111,6 +115,7 @@ impl fmt::Display for OpenError {
             OpenError::ListWords => "list words out of range",
             OpenError::PoolWords => "pool words out of range",
             OpenError::Ports => "ports out of range",
+            OpenError::TooSmall => "fewer components than before",
             OpenError::Memory => "out of memory",
         })
     }

@@ -144,7 +144,7 @@ pub fn open(initial: &[u64], sizes: Sizes, ports: u32) -> Result<(Memory, Vec<Po
     // SAFETY: the values, the sizes and the empty handle are borrowed for the call, and the number of
     // the opening is new.
     let code = unsafe {
-        raw::partial_open(
+        raw::partial_door_open(
             opening,
             initial.as_ptr(),
             initial.len(),
@@ -153,22 +153,34 @@ pub fn open(initial: &[u64], sizes: Sizes, ports: u32) -> Result<(Memory, Vec<Po
             &mut memory.handle,
         )
     };
-    if code != 0 {
-        return Err(OpenError::of(code));
+    match code {
+        0 => memory.with_ports(ports),
+        code => Err(OpenError::of(code)),
     }
-    let mut taken = Vec::with_capacity(ports as usize);
-    for _ in 0..ports {
+}
+
+impl Memory {
+    // The memory, which has just opened, and its ports.
+    fn with_ports(mut self, count: u32) -> Result<(Memory, Vec<Port>), OpenError> {
+        let mut ports = Vec::with_capacity(count as usize);
+        for _ in 0..count {
+            ports.push(self.take_port().map_err(OpenError::of)?);
+        }
+        ports.reverse();
+        Ok((self, ports))
+    }
+
+    // Takes the last port that is at home out of the memory, or gives the number of the refusal.
+    fn take_port(&mut self) -> Result<Port, u32> {
         let mut port = Port {
             handle: Handle::empty(),
         };
         // SAFETY: both handles are borrowed for the call.
-        match unsafe { raw::partial_take_port(&mut memory.handle, &mut port.handle) } {
-            0 => taken.push(port),
-            code => return Err(OpenError::of(code)),
+        match unsafe { raw::partial_door_take_port(&mut self.handle, &mut port.handle) } {
+            0 => Ok(port),
+            code => Err(code),
         }
     }
-    taken.reverse();
-    Ok((memory, taken))
 }
 
 impl Memory {
@@ -196,14 +208,14 @@ impl Memory {
         let mut home = 0;
         for mut port in ports {
             // SAFETY: both handles are borrowed for the call.
-            match unsafe { raw::partial_give_port(&mut self.handle, &mut port.handle) } {
+            match unsafe { raw::partial_door_give_port(&mut self.handle, &mut port.handle) } {
                 0 => home += 1,
                 _ => left.push(port),
             }
         }
         // SAFETY: the handle is borrowed for the call.
         let code = match left.is_empty() {
-            true => unsafe { raw::partial_close(&mut self.handle) },
+            true => unsafe { raw::partial_door_close(&mut self.handle) },
             false => 22,
         };
         match code {
@@ -212,23 +224,10 @@ impl Memory {
                 components: self.components,
             }),
             22 => {
-                self.take_again(home, &mut left);
+                left.extend((0..home).filter_map(|_| self.take_port().ok()));
                 Err(CloseError::NotAll(self, left))
             }
             _ => Err(CloseError::Memory),
-        }
-    }
-
-    // Takes as many ports out again.
-    fn take_again(&mut self, count: usize, ports: &mut Vec<Port>) {
-        for _ in 0..count {
-            let mut port = Port {
-                handle: Handle::empty(),
-            };
-            // SAFETY: both handles are borrowed for the call.
-            if unsafe { raw::partial_take_port(&mut self.handle, &mut port.handle) } == 0 {
-                ports.push(port);
-            }
         }
     }
 }
@@ -242,7 +241,7 @@ impl Port {
     pub fn update(&mut self, component: u32, value: u64) -> Result<Updated, Refused> {
         let mut answer = raw::UpdateAnswer::default();
         // SAFETY: the handle and the place for the answer are borrowed for the call.
-        match unsafe { raw::partial_update(&mut self.handle, component, value, &mut answer) } {
+        match unsafe { raw::partial_door_update(&mut self.handle, component, value, &mut answer) } {
             0 if answer.applied == 1 => Ok(Updated::Applied { stamp: answer.stamp }),
             0 => Ok(Updated::Lost { by: answer.stamp }),
             code => Err(Refused::of(code)),
@@ -274,7 +273,7 @@ impl Port {
         let mut answer = raw::UpdateAnswer::default();
         // SAFETY: the handle and the place for the answer are borrowed for the call.
         let code = unsafe {
-            raw::partial_update_if(&mut self.handle, component, expected, value, &mut answer)
+            raw::partial_door_update_if(&mut self.handle, component, expected, value, &mut answer)
         };
         match code {
             0 if answer.applied == 1 => Ok(UpdatedIf::Applied { stamp: answer.stamp }),
@@ -290,7 +289,7 @@ impl Port {
     pub fn read(&mut self, component: u32) -> Result<Value, Refused> {
         let mut answer = raw::ReadAnswer::default();
         // SAFETY: the handle and the place for the answer are borrowed for the call.
-        match unsafe { raw::partial_read(&mut self.handle, component, &mut answer) } {
+        match unsafe { raw::partial_door_read(&mut self.handle, component, &mut answer) } {
             0 => Ok(Value {
                 value: answer.value,
                 stamp: answer.stamp,
@@ -309,7 +308,7 @@ impl Port {
         let mut answer = raw::ScanAnswer::default();
         // SAFETY: the handle, both slices and the place for the answer are borrowed for the call.
         let code = unsafe {
-            raw::partial_scan(
+            raw::partial_door_scan(
                 &mut self.handle,
                 which.as_ptr(),
                 which.len(),
@@ -327,6 +326,40 @@ impl Port {
         }
     }
 
+    /// The number of the port: 0, 1 and so on, in the order in which [`open`] gives them.
+    pub fn number(&mut self) -> u32 {
+        self.state().number
+    }
+
+    /// Whether the port is marked for the pool: its updates and scans are refused from then on.
+    ///
+    /// ```
+    /// use partial_door::{open, Refused, Sizes};
+    ///
+    /// let sizes = Sizes { slots: 10, list_words: 0, pool_words: 6 };
+    /// let mut port = open(&[5], sizes, 1)?.1.remove(0);
+    /// while port.update(0, 6).is_ok() {}
+    /// assert_eq!(port.update(0, 7), Err(Refused::PoolSpent));
+    /// assert!(port.pool_spent() && !port.slots_spent());
+    /// # Ok::<(), Box<dyn std::error::Error>>(())
+    /// ```
+    pub fn pool_spent(&mut self) -> bool {
+        self.state().pool_spent == 1
+    }
+
+    /// Whether the port is marked for the slots: its scans are refused from then on.
+    pub fn slots_spent(&mut self) -> bool {
+        self.state().slots_spent == 1
+    }
+
+    fn state(&mut self) -> raw::PortState {
+        let mut state = raw::PortState::default();
+        // SAFETY: the handle and the place for the answer are borrowed for the call.
+        let code = unsafe { raw::partial_door_state(&mut self.handle, &mut state) };
+        assert_eq!(code, 0, "a port's handle holds a port");
+        state
+    }
+
     /// Lets two ports see all that either has seen: two values of one component that they read one
     /// after the other never go back then.
     ///
@@ -334,7 +367,7 @@ impl Port {
     /// [`TwoMemories`] where the ports are of two memories.
     pub fn meet(&mut self, other: &mut Port) -> Result<(), TwoMemories> {
         // SAFETY: both handles are borrowed for the call, and Rust keeps them apart.
-        match unsafe { raw::partial_meet(&mut self.handle, &mut other.handle) } {
+        match unsafe { raw::partial_door_meet(&mut self.handle, &mut other.handle) } {
             0 => Ok(()),
             _ => Err(TwoMemories),
         }
@@ -342,12 +375,59 @@ impl Port {
 }
 
 impl Closed {
+    /// Opens a memory of `components` components that goes on with these values, and its ports. Components
+    /// that the closed memory didn't have begin at 0. Stamps start anew. The closed memory stays, and can
+    /// be opened so again.
+    ///
+    /// ```
+    /// use partial_door::{open, Sizes};
+    ///
+    /// let sizes = Sizes { slots: 10, list_words: 0, pool_words: 100 };
+    /// let (memory, mut ports) = open(&[1, 2], sizes, 1)?;
+    /// ports[0].update(1, 7)?;
+    /// let mut closed = memory.close(ports)?;
+    /// let (memory, ports) = closed.reopen(3, sizes, 2)?;
+    /// assert_eq!(memory.close(ports)?.values(), [1, 7, 0]);
+    /// # Ok::<(), Box<dyn std::error::Error>>(())
+    /// ```
+    ///
+    /// # Errors
+    /// The first that holds: a size out of its range, in their order; not 1 to 64 ports;
+    /// [`OpenError::TooSmall`] where the closed memory has more components; a growth that was refused.
+    pub fn reopen(
+        &mut self,
+        components: u32,
+        sizes: Sizes,
+        ports: u32,
+    ) -> Result<(Memory, Vec<Port>), OpenError> {
+        let mut memory = Memory {
+            handle: Handle::empty(),
+            components: components as usize,
+        };
+        let opening = OPENINGS.fetch_add(1, Ordering::SeqCst);
+        // SAFETY: both handles and the sizes are borrowed for the call, and the number of the opening is new.
+        let code = unsafe {
+            raw::partial_door_reopen(
+                opening,
+                &mut self.handle,
+                components,
+                &sizes.raw(),
+                ports,
+                &mut memory.handle,
+            )
+        };
+        match code {
+            0 => memory.with_ports(ports),
+            code => Err(OpenError::of(code)),
+        }
+    }
+
     /// The value of each component.
     pub fn values(&mut self) -> Vec<u64> {
         let mut values = vec![0; self.components];
         // SAFETY: the handle and the values are borrowed for the call.
         let code = unsafe {
-            raw::partial_values(&mut self.handle, values.as_mut_ptr(), values.len())
+            raw::partial_door_values(&mut self.handle, values.as_mut_ptr(), values.len())
         };
         assert_eq!(code, 0, "a closed memory has as many values as it was opened with");
         values
@@ -375,20 +455,20 @@ impl std::fmt::Debug for Closed {
 impl Drop for Port {
     fn drop(&mut self) {
         // SAFETY: the handle is borrowed for the call.
-        unsafe { raw::partial_free(&mut self.handle) };
+        unsafe { raw::partial_door_free(&mut self.handle) };
     }
 }
 
 impl Drop for Memory {
     fn drop(&mut self) {
         // SAFETY: the handle is borrowed for the call.
-        unsafe { raw::partial_free(&mut self.handle) };
+        unsafe { raw::partial_door_free(&mut self.handle) };
     }
 }
 
 impl Drop for Closed {
     fn drop(&mut self) {
         // SAFETY: the handle is borrowed for the call.
-        unsafe { raw::partial_free(&mut self.handle) };
+        unsafe { raw::partial_door_free(&mut self.handle) };
     }
 }

@@ -1,4 +1,4 @@
-//! The functions of the static library, as `bindings/c/partial.h` declares them.
+//! The proved functions of the static library, as `bindings/c/partial.h` declares them.
 
 /// One pointer that the library alone reads and writes. Zero bits are an empty handle.
 #[repr(C)]
@@ -43,8 +43,16 @@ pub struct ScanAnswer {
     pub borrowed: u32,
 }
 
+#[repr(C)]
+#[derive(Default)]
+pub struct PortState {
+    pub number: u32,
+    pub pool_spent: u32,
+    pub slots_spent: u32,
+}
+
 unsafe extern "C" {
-    pub fn partial_open(
+    pub fn partial_door_open(
         opening: u64,
         initial: *const u64,
         components: usize,
@@ -52,23 +60,31 @@ unsafe extern "C" {
         ports: u32,
         memory: *mut Handle,
     ) -> u32;
-    pub fn partial_take_port(memory: *mut Handle, port: *mut Handle) -> u32;
-    pub fn partial_give_port(memory: *mut Handle, port: *mut Handle) -> u32;
-    pub fn partial_update(
+    pub fn partial_door_reopen(
+        opening: u64,
+        closed: *mut Handle,
+        components: u32,
+        sizes: *const Sizes,
+        ports: u32,
+        memory: *mut Handle,
+    ) -> u32;
+    pub fn partial_door_take_port(memory: *mut Handle, port: *mut Handle) -> u32;
+    pub fn partial_door_give_port(memory: *mut Handle, port: *mut Handle) -> u32;
+    pub fn partial_door_update(
         port: *mut Handle,
         component: u32,
         value: u64,
         answer: *mut UpdateAnswer,
     ) -> u32;
-    pub fn partial_update_if(
+    pub fn partial_door_update_if(
         port: *mut Handle,
         component: u32,
         expected: u64,
         value: u64,
         answer: *mut UpdateAnswer,
     ) -> u32;
-    pub fn partial_read(port: *mut Handle, component: u32, answer: *mut ReadAnswer) -> u32;
-    pub fn partial_scan(
+    pub fn partial_door_read(port: *mut Handle, component: u32, answer: *mut ReadAnswer) -> u32;
+    pub fn partial_door_scan(
         port: *mut Handle,
         which: *const u32,
         positions: usize,
@@ -76,8 +92,9 @@ unsafe extern "C" {
         room: usize,
         answer: *mut ScanAnswer,
     ) -> u32;
-    pub fn partial_meet(first: *mut Handle, second: *mut Handle) -> u32;
-    pub fn partial_close(memory: *mut Handle) -> u32;
-    pub fn partial_values(closed: *mut Handle, into: *mut u64, room: usize) -> u32;
-    pub fn partial_free(handle: *mut Handle) -> u32;
+    pub fn partial_door_state(port: *mut Handle, answer: *mut PortState) -> u32;
+    pub fn partial_door_meet(first: *mut Handle, second: *mut Handle) -> u32;
+    pub fn partial_door_close(memory: *mut Handle) -> u32;
+    pub fn partial_door_values(closed: *mut Handle, into: *mut u64, room: usize) -> u32;
+    pub fn partial_door_free(handle: *mut Handle) -> u32;
 }

@@ -56,3 +56,32 @@ fn ports_of_two_memories_stay_apart() {
     let own = back.swap_remove(own.expect("the port came back"));
     assert_eq!(memory.close(vec![own]).expect("it is all").values(), [1]);
 }
+
+#[test]
+fn a_closed_memory_opens_again() {
+    let (memory, mut ports) = open(&[1, 2], SIZES, 2).expect("a memory opens");
+    assert_eq!(ports.iter_mut().map(|port| port.number()).collect::<Vec<_>>(), [0, 1]);
+    ports[1].update(0, 5).expect("there is room");
+    let mut closed = memory.close(ports).expect("all ports are there");
+    assert_eq!(closed.reopen(1, SIZES, 1).err(), Some(OpenError::TooSmall));
+    assert_eq!(closed.reopen(2, SIZES, 0).err(), Some(OpenError::Ports));
+    assert_eq!(closed.reopen(0, SIZES, 1).err(), Some(OpenError::Components));
+    let (memory, ports) = closed.reopen(3, SIZES, 64).expect("it opens again");
+    assert_eq!(ports.len(), 64);
+    assert_eq!(memory.close(ports).expect("all ports are there").values(), [5, 2, 0]);
+    assert_eq!(closed.values(), [5, 2]);
+}
+
+#[test]
+fn a_port_is_marked_for_its_slots() {
+    let few = Sizes {
+        slots: 1,
+        ..SIZES
+    };
+    let (_memory, mut ports) = open(&[1], few, 1).expect("a memory opens");
+    let mut into = [0];
+    ports[0].scan(&[0], &mut into).expect("there is one slot");
+    assert!(!ports[0].slots_spent());
+    assert_eq!(ports[0].scan(&[0], &mut into), Err(Refused::SlotsSpent));
+    assert!(ports[0].slots_spent() && !ports[0].pool_spent());
+}

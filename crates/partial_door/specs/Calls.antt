@@ -1,5 +1,5 @@
 -- What the calls of a port leave of what its handle holds.
-use Rattle.std.specs.Prelude.{ℕ, ◌≡◌, ◌⊎◌, ◌<◌, List, length, Option, Some, None}
+use Rattle.std.specs.Prelude.{ℕ, ◌≡◌, ◌⊎◌, ◌<◌, Bool, true, false, List, length, Option, Some, None}
 use Rattle.std.specs.Arc.{arc_value}
 use Rattle.partial_model.specs.declared.call.Call.TheVariants as call
 use Rattle.partial_model.specs.declared.call.Refused.{Refused}
@@ -13,6 +13,7 @@ use Rattle.partial_memory.specs.Calls.{Updates, UpdatesIf, Reads, Scans}
 use Rattle.partial_door.specs.declared.answers.UpdateAnswer.{UpdateAnswer}
 use Rattle.partial_door.specs.declared.answers.ReadAnswer.{ReadAnswer}
 use Rattle.partial_door.specs.declared.answers.ScanAnswer.{ScanAnswer}
+use Rattle.partial_door.specs.declared.answers.PortState.{PortState}
 use Rattle.partial_door.specs.declared.held.OwnedPort.{OwnedPort}
 use Rattle.partial_door.specs.declared.held.Held.{Held}
 use Rattle.partial_door.specs.declared.held.Held.TheVariants as held
@@ -28,11 +29,11 @@ abbrev pub HoldsNoPort : Held → Type 0
 HoldsNoPort (held.Port p) = ⊥
 HoldsNoPort _ = Unit {0}
 
--- A call of a port at what is held: where that is no port the number is 17 and nothing changes, and otherwise the port is of the same
--- memory, and the call did to it what is said.
-abbrev pub AtPort : (PortView → ℕ → PortView → Type 0) → Held → ℕ → Held → Type 0
-AtPort done h code k =
-    (HoldsNoPort h × (code ≡ 17) × (k ≡ h))
+-- A call of a port at what is held: where that is no port the number is 17, nothing changes, and the caller's answer stays, and otherwise
+-- the port is of the same memory, and the call did to it what is said.
+abbrev pub AtPort : Type 0 → (PortView → ℕ → PortView → Type 0) → Held → ℕ → Held → Type 0
+AtPort stays done h code k =
+    (HoldsNoPort h × (code ≡ 17) × (k ≡ h) × stays)
     ⊎ ((p : OwnedPort) × (q : OwnedPort) × (h ≡ held.Port p) × (k ≡ held.Port q) × IsSame p q × done p.port code q.port)
 
 -- what an update answers, as the caller sees it
@@ -88,3 +89,16 @@ ScanEnds which before values old new p code q =
     ⊎ ((values ≡ before) × (new ≡ old)
     × (((code ≡ 19) × IsMismatch p which before × (q ≡ p))
     ⊎ ((cause : Refused) × (code ≡ refused_code cause) × IsRefused p (call.Scan which) cause q)))
+
+-- 1 for a mark that is set
+abbrev pub one_for_true : Bool → ℕ
+one_for_true true = 1
+one_for_true false = 0
+
+-- the number and the marks of a port, as the caller sees them
+abbrev pub port_state : PortView → PortState
+port_state p = record { number = p.number; pool_spent = one_for_true p.pool_spent; slots_spent = one_for_true p.slots_spent }
+
+-- the state of a port was given, and the port is as it was
+abbrev pub StateEnds : PortState → PortView → ℕ → PortView → Type 0
+StateEnds after p code q = (code ≡ 0) × (after ≡ port_state p) × (q ≡ p)

@@ -6,13 +6,13 @@ use Rattle.partial_memory.specs.Ports.{PortView}
 use Rattle.partial_door.specs.declared.held.Held.{Held}
 use Rattle.partial_words.specs.Layout.{Layout}
 use Rattle.partial_door.specs.Calls.{AtPort}
-use Rattle.partial_door.specs.Memories.{ClosesAt, CopiesValues, GivesPort, HoldsOpened, MayNotOpenWith, MeetsAt, StaysHome, TakesPort}
+use Rattle.partial_door.specs.Memories.{ClosesAt, CopiesValues, GivesPort, HoldsOpened, HoldsReopened, MayLose, MayNotClose, MayNotGive, MayNotOpenWith, MayNotReopenWith, MayNotTake, MeetsAt, StaysHome, TakesPort}
 
--- a call of a port at a handle: where it holds nothing the number is 17
-abbrev pub AtHandle : (PortView → ℕ → PortView → Type 0) → Option Held → ℕ → Option Held → Type 0
-AtHandle done before code after =
-    ((before ≡ None) × (after ≡ None) × (code ≡ 17))
-    ⊎ ((h : Held) × (k : Held) × (before ≡ Some h) × (after ≡ Some k) × AtPort done h code k)
+-- a call of a port at a handle: where it holds nothing the number is 17, and the caller's answer stays
+abbrev pub AtHandle : Type 0 → (PortView → ℕ → PortView → Type 0) → Option Held → ℕ → Option Held → Type 0
+AtHandle stays done before code after =
+    ((before ≡ None) × (after ≡ None) × (code ≡ 17) × stays)
+    ⊎ ((h : Held) × (k : Held) × (before ≡ Some h) × (after ≡ Some k) × AtPort stays done h code k)
 
 -- an opening into a handle: one that holds something is as it was, and so is one where nothing opened
 abbrev pub OpensAt : ℕ → Layout → List ℕ → ℕ → Option Held → ℕ → Option Held → Type 0
@@ -21,33 +21,51 @@ OpensAt opening z initial ports before code after =
     ⊎ ((h : Held) × (before ≡ None) × (after ≡ Some h) × (code ≡ 0) × HoldsOpened opening z initial ports h)
     ⊎ ((before ≡ None) × (after ≡ None) × MayNotOpenWith z ports code)
 
+-- an opening of a closed memory's values into a handle likewise: one that holds something comes first, then a handle of no closed memory
+abbrev pub ReopensAt : ℕ → Option Held → Layout → ℕ → Option Held → ℕ → Option Held → Type 0
+ReopensAt opening closed z ports before code after =
+    ((h : Held) × (before ≡ Some h) × (after ≡ Some h) × (code ≡ 18))
+    ⊎ ((before ≡ None) × (after ≡ None) × (closed ≡ None) × (code ≡ 17))
+    ⊎ ((c : Held) × (h : Held) × (before ≡ None) × (after ≡ Some h) × (closed ≡ Some c) × (code ≡ 0) × HoldsReopened opening c z ports h)
+    ⊎ ((c : Held) × (before ≡ None) × (after ≡ None) × (closed ≡ Some c) × MayNotReopenWith c z ports code)
+
+-- why a port isn't taken out of a memory into a handle: that holds something, or nothing is there to take it out of, or no port is
+abbrev pub MayNotTakeAt : Option Held → Option Held → ℕ → Type 0
+MayNotTakeAt memory port code =
+    ((p : Held) × (port ≡ Some p) × (code ≡ 18))
+    ⊎ ((port ≡ None) × (memory ≡ None) × (code ≡ 17))
+    ⊎ ((h : Held) × (port ≡ None) × (memory ≡ Some h) × MayNotTake h code)
+
 -- a port is taken out of a memory into an empty handle, and otherwise both are as they were
 abbrev pub TakesAt : Option Held → Option Held → ℕ → Option Held → Option Held → Type 0
 TakesAt memory port code memory' port' =
     ((h : Held) × (k : Held) × (p : Held) × (memory ≡ Some h) × (port ≡ None) × (memory' ≡ Some k) × (port' ≡ Some p) × (code ≡ 0)
     × TakesPort h p k)
-    ⊎ ((memory' ≡ memory) × (port' ≡ port))
+    ⊎ ((memory' ≡ memory) × (port' ≡ port) × MayNotTakeAt memory port code)
 
 -- a port comes home and leaves its handle empty, and otherwise both are as they were
 abbrev pub GivesAt : Option Held → Option Held → ℕ → Option Held → Option Held → Type 0
 GivesAt memory port code memory' port' =
     ((h : Held) × (k : Held) × (p : Held) × (memory ≡ Some h) × (port ≡ Some p) × (memory' ≡ Some k) × (port' ≡ None) × (code ≡ 0)
     × GivesPort h p k)
-    ⊎ ((h : Held) × (k : Held) × (memory ≡ Some h) × (memory' ≡ Some k) × (port' ≡ port) × StaysHome h k)
-    ⊎ ((memory' ≡ memory) × (port' ≡ port) × (code ≡ 17))
+    ⊎ ((h : Held) × (k : Held) × (p : Held) × (memory ≡ Some h) × (port ≡ Some p) × (memory' ≡ Some k) × (port' ≡ port)
+    × StaysHome h k × MayNotGive h p code)
+    ⊎ (((memory ≡ None) ⊎ (port ≡ None)) × (memory' ≡ memory) × (port' ≡ port) × (code ≡ 17))
 
 -- two ports meet, and an empty handle lets none meet
 abbrev pub MeetsHandles : Option Held → Option Held → ℕ → Option Held → Option Held → Type 0
 MeetsHandles first second code first' second' =
     ((g : Held) × (h : Held) × (k : Held) × (l : Held) × (first ≡ Some g) × (second ≡ Some h) × (first' ≡ Some k) × (second' ≡ Some l)
     × MeetsAt g h code k l)
-    ⊎ ((first' ≡ first) × (second' ≡ second) × (code ≡ 17))
+    ⊎ (((first ≡ None) ⊎ (second ≡ None)) × (first' ≡ first) × (second' ≡ second) × (code ≡ 17))
 
--- a memory is closed in its handle
+-- a memory is closed in its handle, or stays open, or is lost and leaves the handle empty
 abbrev pub ClosesHandle : Option Held → ℕ → Option Held → Type 0
 ClosesHandle before code after =
     ((before ≡ None) × (after ≡ None) × (code ≡ 17))
-    ⊎ ((h : Held) × (k : Held) × (before ≡ Some h) × (after ≡ Some k) × ClosesAt h code k)
+    ⊎ ((h : Held) × (k : Held) × (before ≡ Some h) × (after ≡ Some k) × (code ≡ 0) × ClosesAt h k)
+    ⊎ ((h : Held) × (before ≡ Some h) × (after ≡ before) × MayNotClose h code)
+    ⊎ ((h : Held) × (before ≡ Some h) × (after ≡ None) × (code ≡ 6) × MayLose h)
 
 -- the values are copied where a closed memory is held, and otherwise the caller's stay
 abbrev pub CopiesAt : Option Held → List ℕ → ℕ → List ℕ → Type 0

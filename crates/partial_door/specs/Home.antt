@@ -9,5 +9,6 @@ use Rattle.partial_memory.specs.contracts.memory.Memory.{the_row}
 abbrev pub AreOf : MemoryView → List PortView → Type 0
 AreOf m ports = AllByRecursion (IsOf m) ports
 
+-- it holds in one way at most
 pub AreOf-prop : (m : MemoryView) (ports : List PortView) → IsProp (AreOf m ports)
 AreOf-prop m = AllByRecursion-prop (IsOf m) (λ p. ≡_prop the_row.coded p.memory m)

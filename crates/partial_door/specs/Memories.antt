@@ -1,5 +1,5 @@
 -- What the calls at the handle of a memory leave: opening, taking ports out and giving them back, closing, and opening again.
-use Rattle.std.specs.Prelude.{ℕ, ◌≡◌, ◌⊎◌, ◌++◌, List, [], ◌∷◌, length}
+use Rattle.std.specs.Prelude.{ℕ, ◌≡◌, ◌⊎◌, ◌<◌, ◌≤◌, ◌++◌, List, [], ◌∷◌, length}
 use Rattle.std.specs.Arc.{arc_value}
 use Rattle.partial_words.specs.Layout.{Layout, IsLayout, pool_base}
 use Rattle.partial_words.specs.declared.sizes.SizeError.{SizeError}
@@ -9,12 +9,24 @@ use Rattle.partial_memory.specs.declared.closed.Closed.{Closed}
 use Rattle.partial_memory.specs.Rule.{newcomers}
 use Rattle.partial_memory.specs.Ports.{MayNotOpen, PortView, new_ports, open_code}
 use Rattle.partial_memory.specs.Closing.{Closes}
+use Rattle.partial_memory.specs.Reopening.{ContinuesAll, MayNotReopen, extended}
 use Rattle.partial_memory.specs.Calls.{Meets}
 use Rattle.partial_door.specs.declared.answers.RoomSizes.{RoomSizes}
 use Rattle.partial_door.specs.declared.held.OpenMemory.{OpenMemory}
 use Rattle.partial_door.specs.declared.held.OwnedPort.{OwnedPort}
 use Rattle.partial_door.specs.declared.held.Held.{Held}
 use Rattle.partial_door.specs.declared.held.Held.TheVariants as held
+use Rattle.partial_door.specs.Calls.{HoldsNoPort, IsSame}
+
+-- no open memory is held
+abbrev pub HoldsNoMemory : Held → Type 0
+HoldsNoMemory (held.Memory m) = ⊥
+HoldsNoMemory _ = Unit {0}
+
+-- no closed memory is held
+abbrev pub HoldsNoClosed : Held → Type 0
+HoldsNoClosed (held.Closed c) = ⊥
+HoldsNoClosed _ = Unit {0}
 
 -- the sizes of a memory of m components
 abbrev pub layout_of : ℕ → RoomSizes → Layout
@@ -40,6 +52,28 @@ MayNotOpenWith z ports code =
     ((e : SizeError) × (code ≡ code_of e) × IsFirstFault z e)
     ⊎ ((e : OpenError) × (code ≡ open_code e) × IsLayout z × MayNotOpen ports e)
 
+-- what is held is a memory that goes on with these values of a closed one, and zeros behind them
+abbrev pub GoesOnWith : ℕ → List ℕ → Layout → ℕ → Held → Type 0
+GoesOnWith opening values z ports h =
+    (m : OpenMemory) × (h ≡ held.Memory m) × (length values ≤ z.m) × HasOpened opening z (extended z.m values) ports m
+    × ContinuesAll values (arc_value m.memory).about.opening
+
+-- it goes on with those of what was held
+abbrev pub HoldsReopened : ℕ → Held → Layout → ℕ → Held → Type 0
+HoldsReopened opening closed z ports h = (c : Closed) × (closed ≡ held.Closed c) × GoesOnWith opening c.values.items z ports h
+
+-- why so many values may not go on in such a memory: the first size that is out of its range, then the cause of the reopening
+abbrev pub MayNotGoOn : ℕ → Layout → ℕ → ℕ → Type 0
+MayNotGoOn count z ports code =
+    ((e : SizeError) × (code ≡ code_of e) × IsFirstFault z e)
+    ⊎ ((e : OpenError) × (code ≡ open_code e) × IsLayout z × MayNotReopen ports count z.m e)
+
+-- why what is held may not be opened again: it is no closed memory, or its values may not go on
+abbrev pub MayNotReopenWith : Held → Layout → ℕ → ℕ → Type 0
+MayNotReopenWith closed z ports code =
+    (HoldsNoClosed closed × (code ≡ 17))
+    ⊎ ((c : Closed) × (closed ≡ held.Closed c) × MayNotGoOn (length c.values.items) z ports code)
+
 -- an open memory but for its ports at home
 pub record IsSameMemory (m n : OpenMemory) : Type 0 where
   pub opening : n.opening ≡ m.opening
@@ -52,11 +86,30 @@ TakesPort h taken k =
     (m : OpenMemory) × (n : OpenMemory) × (p : OwnedPort) × (h ≡ held.Memory m) × (k ≡ held.Memory n) × (taken ≡ held.Port p)
     × IsSameMemory m n × (m.ports.items ≡ n.ports.items ++ p.port ∷ []) × (p.opening ≡ m.opening) × (arc_value p.memory ≡ arc_value m.memory)
 
--- a port comes home
+-- why no port is taken out: there is no open memory, or no port is at home, or one is and memory is wanting
+abbrev pub MayNotTake : Held → ℕ → Type 0
+MayNotTake h code =
+    (HoldsNoMemory h × (code ≡ 17))
+    ⊎ ((m : OpenMemory) × (h ≡ held.Memory m) × (length m.ports.items ≡ 0) × (code ≡ 21))
+    ⊎ ((m : OpenMemory) × (h ≡ held.Memory m) × (0 < length m.ports.items) × (code ≡ 6))
+
+-- a port comes home to its memory
 abbrev pub GivesPort : Held → Held → Held → Type 0
 GivesPort h given k =
     (m : OpenMemory) × (n : OpenMemory) × (p : OwnedPort) × (h ≡ held.Memory m) × (k ≡ held.Memory n) × (given ≡ held.Port p)
-    × IsSameMemory m n × (n.ports.items ≡ m.ports.items ++ p.port ∷ [])
+    × (p.opening ≡ m.opening) × IsSameMemory m n × (n.ports.items ≡ m.ports.items ++ p.port ∷ [])
+
+-- why a port doesn't come home: there is no open memory or no port, or the two are of two openings, or memory is wanting
+abbrev pub MayNotGive : Held → Held → ℕ → Type 0
+MayNotGive h given code =
+    (HoldsNoMemory h × (code ≡ 17))
+    ⊎ (HoldsNoPort given × (code ≡ 17))
+    ⊎ ((m : OpenMemory) × (p : OwnedPort) × (h ≡ held.Memory m) × (given ≡ held.Port p) × (p.opening ≡ m.opening → ⊥) × (code ≡ 20))
+    ⊎ ((m : OpenMemory) × (p : OwnedPort) × (h ≡ held.Memory m) × (given ≡ held.Port p) × (p.opening ≡ m.opening) × (code ≡ 6))
+
+-- nothing comes home, and nothing leaves
+abbrev pub StaysHome : Held → Held → Type 0
+StaysHome h k = (k ≡ h) ⊎ ((m : OpenMemory) × (n : OpenMemory) × (h ≡ held.Memory m) × (k ≡ held.Memory n) × IsSameMemory m n × (n.ports.items ≡ m.ports.items))
 
 -- a port and a memory of one opening are of one memory: each opening has a number of its own
 abbrev pub AreApart : Held → Held → Type 0
@@ -64,11 +117,22 @@ AreApart (held.Memory m) (held.Port p) = p.opening ≡ m.opening → arc_value p
 AreApart (held.Port p) (held.Port q) = q.opening ≡ p.opening → arc_value q.memory ≡ arc_value p.memory
 AreApart _ _ = Unit {0}
 
--- two ports of one memory meet
+-- two ports of one opening meet
 abbrev pub MeetPorts : Held → Held → Held → Held → Type 0
 MeetPorts g h k l =
     (a : OwnedPort) × (b : OwnedPort) × (c : OwnedPort) × (d : OwnedPort) × (g ≡ held.Port a) × (h ≡ held.Port b) × (k ≡ held.Port c) × (l ≡ held.Port d)
-    × (arc_value c.memory ≡ arc_value a.memory) × (arc_value d.memory ≡ arc_value b.memory) × Meets a.port b.port c.port d.port
+    × (b.opening ≡ a.opening) × IsSame a c × IsSame b d × Meets a.port b.port c.port d.port
+
+-- why two don't meet: one is no port, or they are of two openings
+abbrev pub MayNotMeet : Held → Held → ℕ → Type 0
+MayNotMeet g h code =
+    (HoldsNoPort g × (code ≡ 17))
+    ⊎ (HoldsNoPort h × (code ≡ 17))
+    ⊎ ((a : OwnedPort) × (b : OwnedPort) × (g ≡ held.Port a) × (h ≡ held.Port b) × (b.opening ≡ a.opening → ⊥) × (code ≡ 20))
+
+-- two ports meet, or both are as they were
+abbrev pub MeetsAt : Held → Held → ℕ → Held → Held → Type 0
+MeetsAt g h code k l = ((code ≡ 0) × MeetPorts g h k l) ⊎ (MayNotMeet g h code × (k ≡ g) × (l ≡ h))
 
 -- the closed memory is what an open one held whose ports, `front` and `last`, are all at home
 abbrev pub IsClosedHome : OpenMemory → Closed → Type 0
@@ -76,23 +140,21 @@ IsClosedHome m closed =
     (front : List PortView) × (last : PortView) × (m.ports.items ≡ front ++ last ∷ []) × (length m.ports.items ≡ m.count)
     × Closes (arc_value m.memory) (last ∷ front) closed
 
--- nothing comes home, and nothing leaves
-abbrev pub StaysHome : Held → Held → Type 0
-StaysHome h k = (k ≡ h) ⊎ ((m : OpenMemory) × (n : OpenMemory) × (h ≡ held.Memory m) × (k ≡ held.Memory n) × IsSameMemory m n × (n.ports.items ≡ m.ports.items))
+-- a memory whose ports are all at home is closed
+abbrev pub ClosesAt : Held → Held → Type 0
+ClosesAt h k = (m : OpenMemory) × (closed : Closed) × (h ≡ held.Memory m) × (k ≡ held.Closed closed) × IsClosedHome m closed
 
--- A close: a memory whose ports are all at home is closed. Refused by 17 or 22 it is as it was; refused by 6 its contents are lost.
-abbrev pub ClosesAt : Held → ℕ → Held → Type 0
-ClosesAt h code k =
-    ((m : OpenMemory) × (closed : Closed) × (h ≡ held.Memory m) × (k ≡ held.Closed closed) × (code ≡ 0) × IsClosedHome m closed)
-    ⊎ (((code ≡ 17) ⊎ (code ≡ 22)) × (k ≡ h))
-    ⊎ (code ≡ 6)
+-- why a memory stays open: there is none, or a port or a share of it is elsewhere
+abbrev pub MayNotClose : Held → ℕ → Type 0
+MayNotClose h code = (HoldsNoMemory h × (code ≡ 17)) ⊎ ((m : OpenMemory) × (h ≡ held.Memory m) × (code ≡ 22))
 
--- two ports meet where both are of one opening
-abbrev pub MeetsAt : Held → Held → ℕ → Held → Held → Type 0
-MeetsAt g h code k l = ((code ≡ 0) × MeetPorts g h k l) ⊎ (((code ≡ 17) ⊎ (code ≡ 20)) × (k ≡ g) × (l ≡ h))
+-- where memory is wanting, the contents are lost of a memory whose ports were all at home
+abbrev pub MayLose : Held → Type 0
+MayLose h = (m : OpenMemory) × (h ≡ held.Memory m) × (length m.ports.items ≡ m.count)
 
--- the values of a closed memory are copied where there is room for just as many
+-- the values of a closed memory are copied where there is room for just as many, and otherwise the room is as it was
 abbrev pub CopiesValues : Held → List ℕ → ℕ → List ℕ → Type 0
 CopiesValues h before code after =
     ((closed : Closed) × (h ≡ held.Closed closed) × (code ≡ 0) × (after ≡ closed.values.items))
-    ⊎ (((code ≡ 17) ⊎ (code ≡ 19)) × (after ≡ before))
+    ⊎ (HoldsNoClosed h × (code ≡ 17) × (after ≡ before))
+    ⊎ ((closed : Closed) × (h ≡ held.Closed closed) × (length closed.values.items ≡ length before → ⊥) × (code ≡ 19) × (after ≡ before))

@@ -10,9 +10,11 @@ use Rattle.std.specs.declared.option.Option.TheVariants.{None, Some}
 use Rattle.std_heap.specs.contracts.GlobalAllocator.TheImpl.{ghosts}
 use Rattle.partial_door.specs.contracts.held.Held.{the_row}
 
+-- null owns nothing, and any other pointer the box of what is held
 abbrev pub handle_owns : Global → Ptr → Option the_row.Denot → Fml
 handle_owns alloc p None = feq Ptr p null_ptr
 handle_owns alloc p (Some x) = box_owns (ghosts.dealloc_token alloc) the_row p x
 
+-- the code by which the logic keeps what is held
 abbrev pub held_coded : Coded (Option the_row.Denot)
 held_coded = coded_option the_row.coded

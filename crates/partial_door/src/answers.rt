@@ -1,9 +1,9 @@
 //! What the calls answer to the caller.
 
 ghost use Rattle.std.specs.Prelude.{◌≡◌};
-ghost use Rattle.partial_door.specs.Calls.{scan_answer as answer_of};
+ghost use Rattle.partial_door.specs.Calls.{port_state as state_of, scan_answer as answer_of};
 
-use partial_memory::Scanned;
+use partial_memory::{Port, Scanned};
 
 /// The answer of an update.
 #[repr(C)]
@@ -37,6 +37,18 @@ pub struct ScanAnswer {
     pub borrowed: u32,
 }
 
+/// The number and the marks of a port.
+#[repr(C)]
+#[derive(Clone, Copy)]
+pub struct PortState {
+    /// The number of the port: 0, 1 and so on.
+    pub number: u32,
+    /// 1 where the port is marked for the pool, and otherwise 0.
+    pub pool_spent: u32,
+    /// 1 where the port is marked for the slots, and otherwise 0.
+    pub slots_spent: u32,
+}
+
 /// The sizes of a memory, but for its components.
 #[repr(C)]
 #[derive(Clone, Copy)]
@@ -65,5 +77,16 @@ pub fn scan_answer(scanned: Scanned) -> ScanAnswer
             collects,
             borrowed: 0,
         },
+    }
+}
+
+/// The number and the marks of a port, as the caller sees them.
+pub fn port_state(port: &Port) -> PortState
+    ensures { result ≡ state_of port.now }
+{
+    PortState {
+        number: port.number(),
+        pool_spent: u32::from(port.pool_spent()),
+        slots_spent: u32::from(port.slots_spent()),
     }
 }

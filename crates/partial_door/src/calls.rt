@@ -1,9 +1,9 @@
 //! The calls of a port, made at what a handle holds.
 
 ghost use Rattle.std.specs.Prelude.{◌≡◌};
-ghost use Rattle.partial_door.specs.Calls.{AtPort, ReadEnds, ScanEnds, UpdateEnds, UpdateIfEnds};
+ghost use Rattle.partial_door.specs.Calls.{AtPort, ReadEnds, ScanEnds, StateEnds, UpdateEnds, UpdateIfEnds};
 
-use crate::answers::{ReadAnswer, ScanAnswer, UpdateAnswer, scan_answer};
+use crate::answers::{PortState, ReadAnswer, ScanAnswer, UpdateAnswer, port_state, scan_answer};
 use crate::codes::{FINE, HOLDS_NONE, LENGTH, code_of};
 use crate::held::Held;
 use partial_memory::{Updated, UpdatedIf};
@@ -11,7 +11,8 @@ use partial_memory::{Updated, UpdatedIf};
 impl Held {
     /// Sets a component.
     pub fn update(&mut self, component: u32, value: u64, answer: &mut UpdateAnswer) -> u32
-        ensures { AtPort (UpdateEnds component value answer.old answer.new) self.old result self.new }
+        ensures { AtPort (answer.new ≡ answer.old) (UpdateEnds component value answer.old answer.new)
+            self.old result self.new }
     {
         match self {
             Held::Port(own) => match own.memory.update(&mut own.port, component, value) {
@@ -40,7 +41,8 @@ impl Held {
         value: u64,
         answer: &mut UpdateAnswer,
     ) -> u32
-        ensures { AtPort (UpdateIfEnds component expected value answer.old answer.new) self.old result self.new }
+        ensures { AtPort (answer.new ≡ answer.old) (UpdateIfEnds component expected value answer.old answer.new)
+            self.old result self.new }
     {
         match self {
             Held::Port(own) => {
@@ -68,7 +70,8 @@ impl Held {
 
     /// Reads a component.
     pub fn read(&mut self, component: u32, answer: &mut ReadAnswer) -> u32
-        ensures { AtPort (ReadEnds component answer.old answer.new) self.old result self.new }
+        ensures { AtPort (answer.new ≡ answer.old) (ReadEnds component answer.old answer.new)
+            self.old result self.new }
     {
         match self {
             Held::Port(own) => match own.memory.read(&mut own.port, component) {
@@ -84,7 +87,8 @@ impl Held {
 
     /// Scans components.
     pub fn scan(&mut self, which: &[u32], into: &mut [u64], answer: &mut ScanAnswer) -> u32
-        ensures { AtPort (ScanEnds which.now into.old into.new answer.old answer.new) self.old result self.new }
+        ensures { AtPort ((into.new ≡ into.old) × (answer.new ≡ answer.old))
+            (ScanEnds which.now into.old into.new answer.old answer.new) self.old result self.new }
     {
         match self {
             Held::Port(own) => {
@@ -101,6 +105,19 @@ impl Held {
                     }
                     Err(cause) => code_of(cause),
                 }
+            }
+            Held::Memory(_) | Held::Closed(_) => HOLDS_NONE,
+        }
+    }
+
+    /// Gives the number and the marks of a port.
+    pub fn state(&self, answer: &mut PortState) -> u32
+        ensures { AtPort (answer.new ≡ answer.old) (StateEnds answer.new) self.now result self.now }
+    {
+        match self {
+            Held::Port(own) => {
+                *answer = port_state(&own.port);
+                FINE
             }
             Held::Memory(_) | Held::Closed(_) => HOLDS_NONE,
         }

@@ -3,25 +3,26 @@
 ghost use Rattle.std.specs.Prelude.{◌≡◌, length, None, Some};
 ghost use Rattle.partial_door.specs.declared.held.Held.{Held as HeldType};
 ghost use Rattle.partial_door.specs.Memories.{AreApart, layout_of};
-ghost use Rattle.partial_door.specs.Calls.{ReadEnds, ScanEnds, UpdateEnds, UpdateIfEnds};
-ghost use Rattle.partial_door.specs.Exports.{AtHandle, ClosesHandle, CopiesAt, GivesAt, MeetsHandles, OpensAt, TakesAt};
+ghost use Rattle.partial_door.specs.Calls.{ReadEnds, ScanEnds, StateEnds, UpdateEnds, UpdateIfEnds};
+ghost use Rattle.partial_door.specs.Exports.{AtHandle, ClosesHandle, CopiesAt, GivesAt, MeetsHandles, OpensAt, ReopensAt, TakesAt};
 
-use crate::answers::{ReadAnswer, RoomSizes, ScanAnswer, UpdateAnswer};
-use crate::codes::{FINE, HOLDS_NONE, HOLDS_ONE};
+use crate::answers::{PortState, ReadAnswer, RoomSizes, ScanAnswer, UpdateAnswer};
+use crate::codes::{FINE, HOLDS_NONE, HOLDS_ONE, MEMORY};
 use crate::handle::Handle;
-use crate::memories::open;
+use crate::memories::{Unclosed, open};
 use std::alloc::Global;
 
 /// Sets a component.
 #[unsafe(no_mangle)]
-pub extern "C" fn partial_update(
+pub extern "C" fn partial_door_update(
     alloc: Global,
     port: &mut Handle,
     component: u32,
     value: u64,
     answer: &mut UpdateAnswer,
 ) -> u32
-    ensures { AtHandle (UpdateEnds component value answer.old answer.new) port.old.held result port.new.held }
+    ensures { AtHandle (answer.new ≡ answer.old) (UpdateEnds component value answer.old answer.new)
+        port.old.held result port.new.held }
 {
     let Some(mut held) = port.take(alloc) else {
         return HOLDS_NONE;
@@ -33,7 +34,7 @@ pub extern "C" fn partial_update(
 
 /// Sets a component where it has the expected stamp.
 #[unsafe(no_mangle)]
-pub extern "C" fn partial_update_if(
+pub extern "C" fn partial_door_update_if(
     alloc: Global,
     port: &mut Handle,
     component: u32,
@@ -41,7 +42,7 @@ pub extern "C" fn partial_update_if(
     value: u64,
     answer: &mut UpdateAnswer,
 ) -> u32
-    ensures { AtHandle (UpdateIfEnds component expected value answer.old answer.new)
+    ensures { AtHandle (answer.new ≡ answer.old) (UpdateIfEnds component expected value answer.old answer.new)
         port.old.held result port.new.held }
 {
     let Some(mut held) = port.take(alloc) else {
@@ -54,13 +55,14 @@ pub extern "C" fn partial_update_if(
 
 /// Reads a component.
 #[unsafe(no_mangle)]
-pub extern "C" fn partial_read(
+pub extern "C" fn partial_door_read(
     alloc: Global,
     port: &mut Handle,
     component: u32,
     answer: &mut ReadAnswer,
 ) -> u32
-    ensures { AtHandle (ReadEnds component answer.old answer.new) port.old.held result port.new.held }
+    ensures { AtHandle (answer.new ≡ answer.old) (ReadEnds component answer.old answer.new)
+        port.old.held result port.new.held }
 {
     let Some(mut held) = port.take(alloc) else {
         return HOLDS_NONE;
@@ -72,15 +74,15 @@ pub extern "C" fn partial_read(
 
 /// Scans components.
 #[unsafe(no_mangle)]
-pub extern "C" fn partial_scan(
+pub extern "C" fn partial_door_scan(
     alloc: Global,
     port: &mut Handle,
     which: &[u32],
     into: &mut [u64],
     answer: &mut ScanAnswer,
 ) -> u32
-    ensures { AtHandle (ScanEnds which.now into.old into.new answer.old answer.new)
-        port.old.held result port.new.held }
+    ensures { AtHandle ((into.new ≡ into.old) × (answer.new ≡ answer.old))
+        (ScanEnds which.now into.old into.new answer.old answer.new) port.old.held result port.new.held }
 {
     let Some(mut held) = port.take(alloc) else {
         return HOLDS_NONE;
@@ -90,9 +92,26 @@ pub extern "C" fn partial_scan(
     code
 }
 
+/// Gives the number and the marks of a port.
+#[unsafe(no_mangle)]
+pub extern "C" fn partial_door_state(
+    alloc: Global,
+    port: &mut Handle,
+    answer: &mut PortState,
+) -> u32
+    ensures { AtHandle (answer.new ≡ answer.old) (StateEnds answer.new) port.old.held result port.new.held }
+{
+    let Some(held) = port.take(alloc) else {
+        return HOLDS_NONE;
+    };
+    let code = held.state(answer);
+    port.put(held);
+    code
+}
+
 /// Opens a memory, with all its ports at home.
 #[unsafe(no_mangle)]
-pub extern "C" fn partial_open(
+pub extern "C" fn partial_door_open(
     alloc: Global,
     opening: u64,
     initial: &[u64],
@@ -116,9 +135,46 @@ pub extern "C" fn partial_open(
     }
 }
 
+/// Opens a memory that goes on with the values of a closed one, with all its ports at home.
+#[unsafe(no_mangle)]
+pub extern "C" fn partial_door_reopen(
+    alloc: Global,
+    opening: u64,
+    closed: &mut Handle,
+    components: u32,
+    room: &RoomSizes,
+    ports: u32,
+    memory: &mut Handle,
+) -> u32
+    ensures same { closed.new.held ≡ closed.old.held }
+    ensures opened { ReopensAt opening closed.old.held (layout_of components room.now) ports
+        memory.old.held result memory.new.held }
+{
+    if let Some(held) = memory.take(alloc) {
+        memory.put(held);
+        return HOLDS_ONE;
+    }
+    let Some(held) = closed.take(alloc) else {
+        return HOLDS_NONE;
+    };
+    let opened = held.reopen(alloc, opening, components, room, ports);
+    closed.put(held);
+    match opened {
+        Ok(held) => {
+            memory.put(held);
+            FINE
+        }
+        Err(code) => code,
+    }
+}
+
 /// Takes the last port that is at home out of a memory.
 #[unsafe(no_mangle)]
-pub extern "C" fn partial_take_port(alloc: Global, memory: &mut Handle, port: &mut Handle) -> u32
+pub extern "C" fn partial_door_take_port(
+    alloc: Global,
+    memory: &mut Handle,
+    port: &mut Handle,
+) -> u32
     ensures { TakesAt memory.old.held port.old.held result memory.new.held port.new.held }
 {
     if let Some(held) = port.take(alloc) {
@@ -141,7 +197,11 @@ pub extern "C" fn partial_take_port(alloc: Global, memory: &mut Handle, port: &m
 
 /// Lets a port come home to its memory.
 #[unsafe(no_mangle)]
-pub extern "C" fn partial_give_port(alloc: Global, memory: &mut Handle, port: &mut Handle) -> u32
+pub extern "C" fn partial_door_give_port(
+    alloc: Global,
+    memory: &mut Handle,
+    port: &mut Handle,
+) -> u32
     requires { (h k : HeldType) → memory.old.held ≡ Some h → port.old.held ≡ Some k → AreApart h k }
     ensures { GivesAt memory.old.held port.old.held result memory.new.held port.new.held }
 {
@@ -165,7 +225,7 @@ pub extern "C" fn partial_give_port(alloc: Global, memory: &mut Handle, port: &m
 
 /// Lets two ports of a memory see all that either has seen.
 #[unsafe(no_mangle)]
-pub extern "C" fn partial_meet(alloc: Global, first: &mut Handle, second: &mut Handle) -> u32
+pub extern "C" fn partial_door_meet(alloc: Global, first: &mut Handle, second: &mut Handle) -> u32
     requires { (h k : HeldType) → first.old.held ≡ Some h → second.old.held ≡ Some k → AreApart h k }
     ensures { MeetsHandles first.old.held second.old.held result first.new.held second.new.held }
 {
@@ -184,20 +244,31 @@ pub extern "C" fn partial_meet(alloc: Global, first: &mut Handle, second: &mut H
 
 /// Closes a memory whose ports are all at home.
 #[unsafe(no_mangle)]
-pub extern "C" fn partial_close(alloc: Global, memory: &mut Handle) -> u32
+pub extern "C" fn partial_door_close(alloc: Global, memory: &mut Handle) -> u32
     ensures { ClosesHandle memory.old.held result memory.new.held }
 {
     let Some(mut held) = memory.take(alloc) else {
         return HOLDS_NONE;
     };
-    let code = held.close(alloc);
-    memory.put(held);
-    code
+    match held.close(alloc) {
+        Ok(()) => {
+            memory.put(held);
+            FINE
+        }
+        Err(Unclosed::Kept(code)) => {
+            memory.put(held);
+            code
+        }
+        Err(Unclosed::Lost) => {
+            drop(held);
+            MEMORY
+        }
+    }
 }
 
 /// Copies the values of a closed memory.
 #[unsafe(no_mangle)]
-pub extern "C" fn partial_values(alloc: Global, closed: &mut Handle, into: &mut [u64]) -> u32
+pub extern "C" fn partial_door_values(alloc: Global, closed: &mut Handle, into: &mut [u64]) -> u32
     ensures same { closed.new.held ≡ closed.old.held }
     ensures copied { CopiesAt closed.old.held into.old result into.new }
 {
@@ -211,7 +282,7 @@ pub extern "C" fn partial_values(alloc: Global, closed: &mut Handle, into: &mut 
 
 /// Empties a handle.
 #[unsafe(no_mangle)]
-pub extern "C" fn partial_free(alloc: Global, handle: &mut Handle) -> u32
+pub extern "C" fn partial_door_free(alloc: Global, handle: &mut Handle) -> u32
     ensures code { result ≡ 0 }
     ensures empty { handle.new.held ≡ None }
 {

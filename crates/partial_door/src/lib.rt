@@ -10,7 +10,7 @@ mod held;
 mod memories;
 mod parts;
 
-pub use answers::{ReadAnswer, RoomSizes, ScanAnswer, UpdateAnswer};
+pub use answers::{PortState, ReadAnswer, RoomSizes, ScanAnswer, UpdateAnswer};
 pub use handle::Handle;
 pub use held::{Held, OpenMemory, OwnedPort};
 pub use parts::Parts;

@@ -4,29 +4,60 @@ ghost use Rattle.std.specs.Prelude.{◌≡◌, length, IfOk, IfErr};
 ghost use Rattle.partial_words.specs.Layout.{IsLayout};
 ghost use Rattle.partial_words.specs.declared.sizes.SizeError.{SizeError as SizeErrorType};
 ghost use Rattle.partial_words.specs.SizeFault.{IsFirstFault, code_of};
-ghost use Rattle.partial_door.specs.Inner.Kept.{IsKept};
-ghost use Rattle.partial_door.specs.Memories.{AreApart, ClosesAt, CopiesValues, GivesPort, HoldsOpened, IsClosedHome, MayNotOpenWith, MeetsAt, StaysHome, TakesPort, layout_of};
+ghost use Rattle.partial_door.specs.Inner.Kept.{IsKept, IsOpenOf, IsUnclosed};
+ghost use Rattle.partial_door.specs.Home.{AreOf};
+ghost use Rattle.partial_door.specs.Memories.{AreApart, ClosesAt, CopiesValues, GivesPort, GoesOnWith, HoldsOpened, HoldsReopened, IsClosedHome, MayNotGive, MayNotGoOn, MayNotOpenWith, MayNotReopenWith, MayNotTake, MeetsAt, StaysHome, TakesPort, layout_of};
 
 use crate::answers::RoomSizes;
 use crate::codes::{FINE, HOLDS_NONE, LENGTH, MEMORY, NONE_HOME, NOT_ALL_HOME, TWO_MEMORIES};
 use crate::held::{Held, OpenMemory, OwnedPort};
-use partial_memory::{Closed, Memory};
+use partial_memory::{Closed, Memory, Port};
 use partial_words::Sizes;
 use std::alloc::Global;
 use std::mem;
 use std::sync::Arc;
 
 // The sizes, or the number of the first one that is out of its range.
-fn sizes_of(initial: &[u64], room: &RoomSizes) -> Result<Sizes, u32>
-    ensures ok { IfOk result (λ s. (s ≡ layout_of (length initial.now) room.now) × IsLayout s) }
-    ensures err { IfErr result (λ code. (e : SizeErrorType) × (code ≡ code_of e) × IsFirstFault (layout_of (length initial.now) room.now) e) }
+fn sizes_of(components: usize, room: &RoomSizes) -> Result<Sizes, u32>
+    ensures ok { IfOk result (λ s. (s ≡ layout_of components room.now) × IsLayout s) }
+    ensures err { IfErr result (λ code. (e : SizeErrorType) × (code ≡ code_of e) × IsFirstFault (layout_of components room.now) e) }
 {
-    if initial.len() > 65_536 {
+    if components > 65_536 {
         return Err(1);
     }
-    match Sizes::new(initial.len() as u32, room.slots, room.lists, room.pool) {
+    match Sizes::new(components as u32, room.slots, room.lists, room.pool) {
         Ok(sizes) => Ok(sizes),
         Err(fault) => Err(u32::from(fault.code())),
+    }
+}
+
+// An opened memory, of so many components and so many ports, all of which are at home.
+fn at_home(
+    alloc: Global,
+    opening: u64,
+    components: u32,
+    count: u32,
+    opened: (Memory, Vec<Port>),
+) -> Result<Box<Held>, u32>
+    requires size { components ≡ opened.0.about.sizes.m }
+    requires of { AreOf opened.0 opened.1.items }
+    ensures ok { IfOk result (λ b. IsOpenOf opening count opened.0 opened.1.items b.value) }
+    ensures err { IfErr result (λ code. code ≡ 6) }
+{
+    let (memory, ports) = opened;
+    let Ok(memory) = Arc::new(alloc, memory) else {
+        return Err(MEMORY);
+    };
+    let held = Held::Memory(OpenMemory {
+        opening,
+        components,
+        count,
+        memory,
+        ports,
+    });
+    match Box::new(alloc, held) {
+        Ok(held) => Ok(held),
+        Err(_) => Err(MEMORY),
     }
 }
 
@@ -41,24 +72,49 @@ pub fn open(
     ensures ok { IfOk result (λ b. HoldsOpened opening (layout_of (length initial.now) room.now) initial.now ports b.value) }
     ensures err { IfErr result (λ code. MayNotOpenWith (layout_of (length initial.now) room.now) ports code) }
 {
-    let sizes = sizes_of(initial, room)?;
-    let (memory, all) = match Memory::open(alloc, sizes, initial, ports) {
-        Ok(opened) => opened,
-        Err(fault) => return Err(u32::from(fault.code())),
-    };
-    let Ok(memory) = Arc::new(alloc, memory) else {
-        return Err(MEMORY);
-    };
-    let held = Held::Memory(OpenMemory {
-        opening,
-        components: sizes.m(),
-        count: ports,
-        memory,
-        ports: all,
-    });
-    match Box::new(alloc, held) {
-        Ok(held) => Ok(held),
-        Err(_) => Err(MEMORY),
+    let sizes = sizes_of(initial.len(), room)?;
+    match Memory::open(alloc, sizes, initial, ports) {
+        Ok(opened) => at_home(alloc, opening, sizes.m(), ports, opened),
+        Err(fault) => Err(u32::from(fault.code())),
+    }
+}
+
+// Opens a memory that goes on with the values of this closed one.
+fn reopen_closed(
+    alloc: Global,
+    opening: u64,
+    closed: &Closed,
+    components: u32,
+    room: &RoomSizes,
+    ports: u32,
+) -> Result<Box<Held>, u32>
+    ensures ok { IfOk result (λ b. GoesOnWith opening closed.now.values.items (layout_of components room.now) ports b.value) }
+    ensures err { IfErr result (λ code. MayNotGoOn (length closed.now.values.items) (layout_of components room.now) ports code) }
+{
+    let sizes = sizes_of(components as usize, room)?;
+    match Memory::reopen(alloc, closed, sizes, ports) {
+        Ok(opened) => at_home(alloc, opening, sizes.m(), ports, opened),
+        Err(fault) => Err(u32::from(fault.code())),
+    }
+}
+
+impl Held {
+    /// Opens a memory that goes on with the values of a closed one, with all its ports at home.
+    pub fn reopen(
+        &self,
+        alloc: Global,
+        opening: u64,
+        components: u32,
+        room: &RoomSizes,
+        ports: u32,
+    ) -> Result<Box<Held>, u32>
+        ensures ok { IfOk result (λ b. HoldsReopened opening self.now (layout_of components room.now) ports b.value) }
+        ensures err { IfErr result (λ code. MayNotReopenWith self.now (layout_of components room.now) ports code) }
+    {
+        match self {
+            Held::Closed(closed) => reopen_closed(alloc, opening, closed, components, room, ports),
+            Held::Memory(_) | Held::Port(_) => Err(HOLDS_NONE),
+        }
     }
 }
 
@@ -74,7 +130,7 @@ impl Held {
     /// Takes out the last port that is at home.
     pub fn take_port(&mut self, alloc: Global) -> Result<Box<Held>, u32>
         ensures ok { IfOk result (λ b. TakesPort self.old b.value self.new) }
-        ensures err { IfErr result (λ code. self.new ≡ self.old) }
+        ensures err { IfErr result (λ code. (self.new ≡ self.old) × MayNotTake self.old code) }
     {
         let Held::Memory(open) = self else {
             return Err(HOLDS_NONE);
@@ -105,7 +161,7 @@ impl Held {
     pub fn give_port(&mut self, given: Box<Held>) -> Result<(), (u32, Box<Held>)>
         requires { AreApart self.old given.value }
         ensures ok { IfOk result (λ _. GivesPort self.old given.value self.new) }
-        ensures err { IfErr result (λ e. (e.1.value ≡ given.value) × StaysHome self.old self.new) }
+        ensures err { IfErr result (λ e. (e.1.value ≡ given.value) × StaysHome self.old self.new × MayNotGive self.old given.value e.0) }
     {
         let Held::Memory(open) = self else {
             return Err((HOLDS_NONE, given));
@@ -173,26 +229,36 @@ impl OpenMemory {
     }
 }
 
+/// Why a memory isn't closed.
+#[derive(Clone, Copy)]
+pub enum Unclosed {
+    /// It is as it was, for the refusal with this number.
+    Kept(u32),
+    /// A growth was refused, and the contents are lost.
+    Lost,
+}
+
 impl Held {
     /// Closes a memory whose ports are all at home.
-    pub fn close(&mut self, alloc: Global) -> u32
-        ensures { ClosesAt self.old result self.new }
+    pub fn close(&mut self, alloc: Global) -> Result<(), Unclosed>
+        ensures ok { IfOk result (λ _. ClosesAt self.old self.new) }
+        ensures err { IfErr result (IsUnclosed self.old self.new) }
     {
         match mem::replace(self, nothing(alloc)) {
             Held::Memory(open) => match open.close(alloc) {
                 Ok(closed) => {
                     *self = Held::Closed(closed);
-                    FINE
+                    Ok(())
                 }
                 Err(Kept::Open(open)) => {
                     *self = Held::Memory(open);
-                    NOT_ALL_HOME
+                    Err(Unclosed::Kept(NOT_ALL_HOME))
                 }
-                Err(Kept::Lost) => MEMORY,
+                Err(Kept::Lost) => Err(Unclosed::Lost),
             },
             other => {
                 *self = other;
-                HOLDS_NONE
+                Err(Unclosed::Kept(HOLDS_NONE))
             }
         }
     }

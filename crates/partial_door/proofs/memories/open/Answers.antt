@@ -1,10 +1,19 @@
-use Rattle.std.proofs.Common.{rules, refl}
+use Rattle.std.proofs.Common.{ap, refl, ◌∙◌}
+use Rattle.core.proofs.result.Match.{if_ok_then}
+use Rattle.partial_words.specs.Layout.{pool_base}
 use Rattle.partial_door.proofs.Opened.{homes, opened_is}
 use Rattle.partial_door.proofs.memories.open.Goals as goal
 
-pub invariant_of-held-clause-of : goal.invariant_of-held-clause-of
-invariant_of-held-clause-of c = homes _ _ _ _ c.in-Ok-new.ensures.ok c.in-Ok.ensures.about.1 c.in-Ok.ensures.ports
+pub at_home-requires-clause-of : goal.at_home-requires-clause-of
+at_home-requires-clause-of c = homes _ _ _ _ refl c.in-Ok.ensures.about.1 c.in-Ok.ensures.ports
 
-pub returns-in-Ok-new-2-clause-ok : goal.returns-in-Ok-new-2-clause-ok
-returns-in-Ok-new-2-clause-ok c =
-    (_, c.in-Ok-new-2.ensures.ok, opened_is _ _ _ _ _ _ c.in-Ok-new.ensures.ok refl refl (search rules) c.in-Ok.ensures.about.1 c.in-Ok.ensures.values (search rules) c.in-Ok.ensures.ports)
+pub returns-in-Ok-clause-ok : goal.returns-in-Ok-clause-ok
+returns-in-Ok-clause-ok c =
+    let opened = c.in-Ok.ensures in
+    let laid = c.in_ok-sizes.ensures.ok.0 in
+    if_ok_then c.at_home.result _ _
+    (λ b x. (
+      x.0,
+      x.1,
+      opened_is x.0 _ _ _ _ _ x.4 x.2 x.3 (opened.about.0 ∙ laid) opened.about.1 opened.values (opened.first ∙ ap pool_base laid) (x.5 ∙ opened.ports),
+    )) c.at_home.ensures.ok

@@ -1,10 +1,13 @@
-use Rattle.std.proofs.Common.{◌++◌, ◌∷◌, [], ◌∙◌, List, ap, sym, refl, inr}
+use Rattle.std.proofs.Common.{rules, ◌++◌, ◌∷◌, [], ◌∙◌, List, ap, sym, refl, inl, inr}
 use Rattle.partial_memory.specs.Ports.{PortView}
 use Rattle.partial_door.proofs.held.Held.give_port.Goals as goal
 
 pub returns-then-is_err-clause-err : goal.returns-then-is_err-clause-err
-returns-then-is_err-clause-err c =
-    (refl, inr (c.in-Memory.open, _, c.in-Memory.is, refl, record { opening = refl; count = refl; memory = refl }, c.reserve.ensures.items))
+returns-then-is_err-clause-err c = (
+  refl,
+  inr (c.in-Memory.open, _, c.in-Memory.is, refl, record { opening = refl; count = refl; memory = refl }, c.reserve.ensures.items),
+  inr (inr (inr (c.in-Memory.open, c.in-Port.own, c.in-Memory.is, search rules, search rules, refl))),
+)
 
 pub returns-clause-ok : goal.returns-clause-ok
 returns-clause-ok c = (
@@ -14,6 +17,11 @@ returns-clause-ok c = (
   c.in-Memory.is,
   refl,
   sym c.into_inner.ensures ∙ c.in-Port-into_inner.is,
+  search rules,
   record { opening = refl; count = refl; memory = refl },
   c.push_reserved.ensures.items ∙ ap (λ (xs : List PortView). xs ++ c.in-Port-into_inner.own.port ∷ []) c.reserve.ensures.items,
 )
+
+pub returns-then-own-open-clause-err : goal.returns-then-own-open-clause-err
+returns-then-own-open-clause-err c =
+    (refl, inl (sym c.in-Memory.is), inr (inr (inl (c.in-Memory.open, c.in-Port.own, c.in-Memory.is, search rules, search rules, refl))))

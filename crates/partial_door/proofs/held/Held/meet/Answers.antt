@@ -1,5 +1,26 @@
-use Rattle.std.proofs.Common.{refl, inl}
+use Rattle.std.proofs.Common.{rules, refl, sym, inl, inr}
 use Rattle.partial_door.proofs.held.Held.meet.Goals as goal
 
 pub returns : goal.returns
-returns c = inl (refl, (c.in-Port.first, c.in-Port-other.second, _, _, c.in-Port.is, c.in-Port-other.is, refl, refl, refl, refl, c.meet.ensures.met))
+returns c =
+    inl (
+      refl,
+      (
+        c.in-Port.first,
+        c.in-Port-other.second,
+        _,
+        _,
+        c.in-Port.is,
+        c.in-Port-other.is,
+        refl,
+        refl,
+        search rules,
+        record { opening = refl; memory = refl },
+        record { opening = refl; memory = refl },
+        c.meet.ensures.met,
+      ),
+    )
+
+pub returns-then-second-first : goal.returns-then-second-first
+returns-then-second-first c =
+    inr (inr (inr (c.in-Port.first, c.in-Port-other.second, c.in-Port.is, c.in-Port-other.is, search rules, refl)), sym c.in-Port.is, sym c.in-Port-other.is)

@@ -1,4 +1,4 @@
-use Rattle.std.proofs.Common.{refl}
+use Rattle.std.proofs.Common.{rules, refl, sym, inl, inr}
 use Rattle.partial_door.proofs.Opened.{last_of}
 use Rattle.partial_door.proofs.held.Held.take_port.Goals as goal
 
@@ -18,3 +18,12 @@ returns-clause-ok c = (
   refl,
   c.in-Ok-try_clone.ensures,
 )
+
+pub returns-then-is_empty-clause-err : goal.returns-then-is_empty-clause-err
+returns-then-is_empty-clause-err c = (sym c.in-Memory.is, inr (inl (c.in-Memory.open, c.in-Memory.is, search rules, refl)))
+
+pub returns-in_default-new-clause-err : goal.returns-in_default-new-clause-err
+returns-in_default-new-clause-err c = (sym c.in-Memory.is, inr (inr (c.in-Memory.open, c.in-Memory.is, search rules, refl)))
+
+pub returns-in_default-try_clone-clause-err : goal.returns-in_default-try_clone-clause-err
+returns-in_default-try_clone-clause-err c = (sym c.in-Memory.is, inr (inr (c.in-Memory.open, c.in-Memory.is, search rules, refl)))

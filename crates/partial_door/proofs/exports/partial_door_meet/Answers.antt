@@ -1,5 +1,5 @@
 use Rattle.std.proofs.Common.{rules, inl}
-use Rattle.partial_door.proofs.exports.partial_meet.Goals as goal
+use Rattle.partial_door.proofs.exports.partial_door_meet.Goals as goal
 
 pub returns : goal.returns
 returns c =

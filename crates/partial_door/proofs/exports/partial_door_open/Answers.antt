@@ -1,5 +1,5 @@
 use Rattle.std.proofs.Common.{refl, inl, inr}
-use Rattle.partial_door.proofs.exports.partial_open.Goals as goal
+use Rattle.partial_door.proofs.exports.partial_door_open.Goals as goal
 
 pub returns-in-Some : goal.returns-in-Some
 returns-in-Some c = inl (c.in-Some.held.value, c.in-Some.ensures.taken, c.put.ensures, refl)
