@@ -87,15 +87,24 @@ if [ "$one_report" -lt 5 ]; then
     echo "failed: only $one_report plans with one report"
 fi
 
+# Runs a test of random plans, and adds what its last line counts. Without such a line it has failed once.
+count_plans() {
+    local said
+    said=$("$top/tests/$1" "$program")
+    echo "$said"
+    if [[ $said =~ ([0-9]+)\ passed,\ ([0-9]+)\ failed$ ]]; then
+        passed=$((passed + BASH_REMATCH[1]))
+        failed=$((failed + BASH_REMATCH[2]))
+    else
+        failed=$((failed + 1))
+    fi
+}
+
 # Random plans of 2 to 64 ports, each run many times on all cores.
-said=$("$top/tests/runs.py" "$program")
-echo "$said"
-if [[ $said =~ ([0-9]+)\ passed,\ ([0-9]+)\ failed$ ]]; then
-    passed=$((passed + BASH_REMATCH[1]))
-    failed=$((failed + BASH_REMATCH[2]))
-else
-    failed=$((failed + 1))
-fi
+count_plans runs.py
+
+# Random plans of one port: what is run is what is replayed.
+count_plans alone.py
 
 # 64 ports where there is no room for 64 threads: nothing is written, once the started ones have ended.
 {

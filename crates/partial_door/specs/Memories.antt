@@ -84,7 +84,8 @@ pub record IsSameMemory (m n : OpenMemory) : Type 0 where
 abbrev pub TakesPort : Held → Held → Held → Type 0
 TakesPort h taken k =
     (m : OpenMemory) × (n : OpenMemory) × (p : OwnedPort) × (h ≡ held.Memory m) × (k ≡ held.Memory n) × (taken ≡ held.Port p)
-    × IsSameMemory m n × (m.ports.items ≡ n.ports.items ++ p.port ∷ []) × (p.opening ≡ m.opening) × (arc_value p.memory ≡ arc_value m.memory)
+    × IsSameMemory m n × (m.ports.items ≡ n.ports.items ++ p.port ∷ [])
+    × (p.opening ≡ m.opening) × (arc_value p.memory ≡ arc_value m.memory)
 
 -- why no port is taken out: there is no open memory, or no port is at home, or one is and memory is wanting
 abbrev pub MayNotTake : Held → ℕ → Type 0
@@ -109,7 +110,9 @@ MayNotGive h given code =
 
 -- nothing comes home, and nothing leaves
 abbrev pub StaysHome : Held → Held → Type 0
-StaysHome h k = (k ≡ h) ⊎ ((m : OpenMemory) × (n : OpenMemory) × (h ≡ held.Memory m) × (k ≡ held.Memory n) × IsSameMemory m n × (n.ports.items ≡ m.ports.items))
+StaysHome h k =
+    (k ≡ h)
+    ⊎ ((m : OpenMemory) × (n : OpenMemory) × (h ≡ held.Memory m) × (k ≡ held.Memory n) × IsSameMemory m n × (n.ports.items ≡ m.ports.items))
 
 -- a port and a memory of one opening are of one memory: each opening has a number of its own
 abbrev pub AreApart : Held → Held → Type 0
@@ -120,7 +123,8 @@ AreApart _ _ = Unit {0}
 -- two ports of one opening meet
 abbrev pub MeetPorts : Held → Held → Held → Held → Type 0
 MeetPorts g h k l =
-    (a : OwnedPort) × (b : OwnedPort) × (c : OwnedPort) × (d : OwnedPort) × (g ≡ held.Port a) × (h ≡ held.Port b) × (k ≡ held.Port c) × (l ≡ held.Port d)
+    (a : OwnedPort) × (b : OwnedPort) × (c : OwnedPort) × (d : OwnedPort)
+    × (g ≡ held.Port a) × (h ≡ held.Port b) × (k ≡ held.Port c) × (l ≡ held.Port d)
     × (b.opening ≡ a.opening) × IsSame a c × IsSame b d × Meets a.port b.port c.port d.port
 
 -- why two don't meet: one is no port, or they are of two openings

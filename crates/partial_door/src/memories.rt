@@ -6,7 +6,8 @@ ghost use Rattle.partial_words.specs.declared.sizes.SizeError.{SizeError as Size
 ghost use Rattle.partial_words.specs.SizeFault.{IsFirstFault, code_of};
 ghost use Rattle.partial_door.specs.Inner.Kept.{IsKept, IsOpenOf, IsUnclosed};
 ghost use Rattle.partial_door.specs.Home.{AreOf};
-ghost use Rattle.partial_door.specs.Memories.{AreApart, ClosesAt, CopiesValues, GivesPort, GoesOnWith, HoldsOpened, HoldsReopened, IsClosedHome, MayNotGive, MayNotGoOn, MayNotOpenWith, MayNotReopenWith, MayNotTake, MeetsAt, StaysHome, TakesPort, layout_of};
+ghost use Rattle.partial_door.specs.Memories.{AreApart, ClosesAt, CopiesValues, GivesPort, GoesOnWith, HoldsOpened, HoldsReopened, IsClosedHome};
+ghost use Rattle.partial_door.specs.Memories.{MayNotGive, MayNotGoOn, MayNotOpenWith, MayNotReopenWith, MayNotTake, MeetsAt, StaysHome, TakesPort, layout_of};
 
 use crate::answers::RoomSizes;
 use crate::codes::{FINE, HOLDS_NONE, LENGTH, MEMORY, NONE_HOME, NOT_ALL_HOME, TWO_MEMORIES};
@@ -20,7 +21,8 @@ use std::sync::Arc;
 // The sizes, or the number of the first one that is out of its range.
 fn sizes_of(components: usize, room: &RoomSizes) -> Result<Sizes, u32>
     ensures ok { IfOk result (λ s. (s ≡ layout_of components room.now) × IsLayout s) }
-    ensures err { IfErr result (λ code. (e : SizeErrorType) × (code ≡ code_of e) × IsFirstFault (layout_of components room.now) e) }
+    ensures err { IfErr result (λ code. (e : SizeErrorType) × (code ≡ code_of e) ×
+        IsFirstFault (layout_of components room.now) e) }
 {
     if components > 65_536 {
         return Err(1);
@@ -69,7 +71,8 @@ pub fn open(
     room: &RoomSizes,
     ports: u32,
 ) -> Result<Box<Held>, u32>
-    ensures ok { IfOk result (λ b. HoldsOpened opening (layout_of (length initial.now) room.now) initial.now ports b.value) }
+    ensures ok { IfOk result (λ b.
+        HoldsOpened opening (layout_of (length initial.now) room.now) initial.now ports b.value) }
     ensures err { IfErr result (λ code. MayNotOpenWith (layout_of (length initial.now) room.now) ports code) }
 {
     let sizes = sizes_of(initial.len(), room)?;
@@ -88,8 +91,10 @@ fn reopen_closed(
     room: &RoomSizes,
     ports: u32,
 ) -> Result<Box<Held>, u32>
-    ensures ok { IfOk result (λ b. GoesOnWith opening closed.now.values.items (layout_of components room.now) ports b.value) }
-    ensures err { IfErr result (λ code. MayNotGoOn (length closed.now.values.items) (layout_of components room.now) ports code) }
+    ensures ok { IfOk result (λ b.
+        GoesOnWith opening closed.now.values.items (layout_of components room.now) ports b.value) }
+    ensures err { IfErr result (λ code.
+        MayNotGoOn (length closed.now.values.items) (layout_of components room.now) ports code) }
 {
     let sizes = sizes_of(components as usize, room)?;
     match Memory::reopen(alloc, closed, sizes, ports) {
@@ -161,7 +166,8 @@ impl Held {
     pub fn give_port(&mut self, given: Box<Held>) -> Result<(), (u32, Box<Held>)>
         requires { AreApart self.old given.value }
         ensures ok { IfOk result (λ _. GivesPort self.old given.value self.new) }
-        ensures err { IfErr result (λ e. (e.1.value ≡ given.value) × StaysHome self.old self.new × MayNotGive self.old given.value e.0) }
+        ensures err { IfErr result (λ e. (e.1.value ≡ given.value) × StaysHome self.old self.new ×
+            MayNotGive self.old given.value e.0) }
     {
         let Held::Memory(open) = self else {
             return Err((HOLDS_NONE, given));

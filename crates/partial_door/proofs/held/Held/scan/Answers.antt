@@ -12,4 +12,7 @@ pub returns-then-which-into : goal.returns-then-which-into
 returns-then-which-into c = inr (c.in-Port.own, c.in-Port.own, c.in-Port.is, search rules, record { opening = refl; memory = refl }, inr (refl, refl, inl (refl, inl c.if-which-into.true, refl)))
 
 pub returns-then-which-own : goal.returns-then-which-own
-returns-then-which-own c = inr (c.in-Port.own, c.in-Port.own, c.in-Port.is, search rules, record { opening = refl; memory = refl }, inr (refl, refl, inl (refl, inr (more _ _ c.in-Port.own.port _ c.in-Port.own.size c.in-Port.own.of c.if-which-own.true), refl)))
+returns-then-which-own c =
+    let own = c.in-Port.own in
+    let many = more _ _ own.port _ own.size own.of c.if-which-own.true in
+    inr (own, own, c.in-Port.is, search rules, record { opening = refl; memory = refl }, inr (refl, refl, inl (refl, inr many, refl)))
