@@ -352,6 +352,13 @@ impl Port {
     fn replace(&mut self, component: u32, old: u64, value: u64) -> Result<(u64, u64), Refused> {
         self.get_set();
         let borrowed = self.view_found();
+        let at = self.write_record(old, value, borrowed)?;
+        Ok((at, self.words.exchange(u64::from(component), old, at)))
+    }
+
+    // Writes a record whose view is borrowed, or else its own, of the indices found.
+    #[inline]
+    fn write_record(&mut self, old: u64, value: u64, borrowed: Option<u64>) -> Result<u64, Refused> {
         let own = match borrowed {
             Some(_) => 0,
             None => self.found.indices.len() as u64,
@@ -371,7 +378,7 @@ impl Port {
                 pair[1].store(value, SeqCst);
             }
         }
-        Ok((at, self.words.exchange(u64::from(component), old, at)))
+        Ok(at)
     }
 
     // The embedded scan of the indices found, if any: the reference of a borrowed view, or else the values.

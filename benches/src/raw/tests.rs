@@ -69,10 +69,10 @@ fn spent_slots_refuse_scans_alone() {
     assert!(port.update(0, 2).is_ok());
 }
 
-// Slots 0 and 1 are vacated, and the first update publishes a list of them, at the first list word.
+// Slots 0 and 1 are vacated, and the first update publishes a list of them, for which there is just room.
 #[test]
 fn vacated_slots_are_published() {
-    let mut port = lone(&[1, 2], SMALL);
+    let mut port = lone(&[1, 2], Sizes { list_words: 3, ..SMALL });
     scanned(&mut port, [0]);
     scanned(&mut port, [1, 0]);
     assert!(port.update(0, 5).is_ok());
@@ -110,9 +110,22 @@ fn updates_keep_a_view_of_what_is_announced() {
     assert_eq!(ports[1].words.load(stamp + 2), 0);
 }
 
+// A borrowed view is referred to and not copied: the record has three words.
+#[test]
+fn records_share_a_borrowed_view() {
+    let mut ports = open(&[10, 20, 30], SMALL, 2);
+    ports[0].join(&[2, 1]).expect("there is a slot");
+    ports[1].get_set();
+    let next = ports[1].words.load(ports[1].layout.pool_counter());
+    assert_eq!(ports[1].write_record(22, 21, Some(40)), Ok(next));
+    assert_eq!([0, 1, 2].map(|word| ports[1].words.load(next + word)), [22, 21, 40]);
+    assert_eq!(ports[1].words.load(ports[1].layout.pool_counter()), next + 3);
+}
+
 // Each of three writers counts in two components in turn. No count falls from one scan to the next, and the first
 // of the two is never behind the second, and never ahead by more than one. Scans of many positions are made, in new
-// memories, until some have borrowed a view.
+// memories, until some have borrowed a view. By then the view of each record that has one is of a moment between the
+// record before it and itself.
 #[test]
 fn scans_of_counts_never_fall() {
     let mut borrowed = 0;
@@ -129,7 +142,7 @@ fn views_borrowed_beside_writers() -> usize {
     let mut ports = open(&[0; POSITIONS], LARGE, 4);
     let mut eye = ports.pop().expect("four ports");
     let ends = AtomicBool::new(false);
-    std::thread::scope(|scope| {
+    let borrowed = std::thread::scope(|scope| {
         for (writer, port) in ports.into_iter().enumerate() {
             let ends = &ends;
             scope.spawn(move || count_in_two(port, 2 * writer as u32, ends));
@@ -148,7 +161,22 @@ fn views_borrowed_beside_writers() -> usize {
         }
         ends.store(true, SeqCst);
         borrowed
-    })
+    });
+    assert_views_are_fresh(&eye);
+    borrowed
+}
+
+fn assert_views_are_fresh(port: &Port) {
+    for component in 0..6 {
+        let mut stamp = port.words.load(component);
+        while port.words.load(stamp) != 0 {
+            let (before, view) = (port.words.load(stamp), port.words.load(stamp + 2));
+            let pairs = (view != 0).then(|| port.words.pairs(view));
+            let own = pairs.into_iter().flatten().find(|(index, _)| *index == component);
+            assert!(own.is_none_or(|(_, value)| value == port.words.load(before + 1)));
+            stamp = before;
+        }
+    }
 }
 
 // The pool has room for so many updates of three writers, each with a view of six components.
