@@ -1,5 +1,5 @@
 #!/bin/sh
-# Builds the program over the proved library, runs it, and writes docs/benches.md and docs/benches.svg.
+# Builds the program over the proved library, tests it, runs it, and writes docs/benches.md and docs/benches.svg.
 # It wants cargo, Python 3, and the library that `rt lib` has built in crates/partial_door.
 set -eu
 cd "$(dirname "$0")/.."
@@ -15,7 +15,13 @@ stolen() {
 load() {
     cut -d ' ' -f 1 /proc/loadavg
 }
-(cd benches && cargo build --release --offline --quiet)
+cd benches
+cargo build --release --offline --quiet
+cargo test --release --offline --quiet >"$made/tests" 2>&1 || {
+    cat "$made/tests"
+    exit 1
+}
+cd ..
 load_before=$(load)
 stolen_before=$(stolen)
 "$made/target/release/partial-benches" >"$made/table"

@@ -13,8 +13,9 @@ const CALLS: u32 = 1_000;
 const PARTS: u32 = 200;
 const PARTS_OF_SCANS: u32 = 60;
 const OPENINGS: usize = 3;
+const MONITORS: usize = 3;
 const WRITERS: usize = 3;
-// Of the monitor.
+// Of a monitor. The list words of a memory have room for those that its writers publish.
 const SCANS: u32 = 2_000;
 
 /// One row of the table, or one for each ending.
@@ -61,7 +62,7 @@ fn timed(name: &str, threads: usize, parts: u32, before: fn(&mut dyn Face), work
     let (_memory, mut all) = faces(name, M, threads);
     before(&mut *all[0]);
     let (ready, over) = (AtomicUsize::new(0), AtomicBool::new(false));
-    let made = std::thread::scope(|scope| {
+    let made: Vec<Parts> = std::thread::scope(|scope| {
         let started: Vec<_> = all
             .into_iter()
             .enumerate()
@@ -84,7 +85,8 @@ fn timed(name: &str, threads: usize, parts: u32, before: fn(&mut dyn Face), work
             .collect();
         started.into_iter().map(|thread| thread.join().expect("it ends")).collect()
     });
-    Sample::of(made, |times| vec![times.iter().sum::<f64>() / times.len() as f64 / f64::from(CALLS)])
+    let call = |times: Vec<f64>| times.iter().sum::<f64>() / times.len() as f64 / f64::from(CALLS);
+    Sample::of(&made, &[], |times| vec![call(times)])
 }
 
 fn make_calls(face: &mut dyn Face, thread: u32, part: u32, work: Work) {
@@ -142,39 +144,53 @@ fn mostly_reads(face: &mut dyn Face, thread: u32, call: u32) {
 // The quantiles of a scan of 8 components in one thread, in nanoseconds, while three writers are at work. Each scan
 // is a part.
 fn monitor(name: &str) -> Sample {
-    let (_memory, mut all) = faces(name, M, WRITERS + 1);
-    let mut eye = all.pop().expect("a face for each thread");
-    let (at_work, over) = (AtomicUsize::new(0), AtomicBool::new(false));
-    let parts = std::thread::scope(|scope| {
-        for (thread, mut face) in all.into_iter().enumerate() {
-            let (at_work, over) = (&at_work, &over);
-            scope.spawn(move || write(&mut *face, thread as u32, at_work, over));
-        }
-        while at_work.load(SeqCst) < WRITERS {
-            std::hint::spin_loop();
-        }
-        let mut parts = Parts::new();
-        for call in 0..SCANS {
-            parts.time(|| scan::<8>(&mut *eye, 0, call), || at_work.load(SeqCst) == WRITERS);
-        }
-        over.store(true, SeqCst);
-        parts
-    });
-    Sample::of(vec![parts], |mut times| {
+    let (mut scans, mut updates) = (Vec::new(), Vec::new());
+    for _ in 0..MONITORS {
+        let (eye, writers) = scan_beside_writers(name);
+        scans.push(eye);
+        updates.extend(writers);
+    }
+    Sample::of(&scans, &updates, |mut times| {
         times.sort_by(f64::total_cmp);
         [0.5, 0.99, 0.999].map(|part| times[(part * times.len() as f64) as usize]).to_vec()
     })
 }
 
+// The parts of a monitor in a new object, and those of the writers.
+fn scan_beside_writers(name: &str) -> (Parts, Vec<Parts>) {
+    let (_memory, mut all) = faces(name, M, WRITERS + 1);
+    let mut eye = all.pop().expect("a face for each thread");
+    let (at_work, over) = (AtomicUsize::new(0), AtomicBool::new(false));
+    std::thread::scope(|scope| {
+        let (at_work, over) = (&at_work, &over);
+        let writer = |(thread, mut face): (usize, Box<dyn Face>)| {
+            scope.spawn(move || write(&mut *face, thread as u32, at_work, over))
+        };
+        let writers: Vec<_> = all.into_iter().enumerate().map(writer).collect();
+        while at_work.load(SeqCst) < WRITERS {
+            std::hint::spin_loop();
+        }
+        let mut scans = Parts::new();
+        for call in 0..SCANS {
+            scans.time(|| scan::<8>(&mut *eye, 0, call), || at_work.load(SeqCst) == WRITERS);
+        }
+        over.store(true, SeqCst);
+        (scans, writers.into_iter().map(|writer| writer.join().expect("it ends")).collect())
+    })
+}
+
 // Updates until the end, or until the pool of a memory is used up. The first thousand updates are no work yet.
-fn write(face: &mut dyn Face, thread: u32, at_work: &AtomicUsize, over: &AtomicBool) {
+fn write(face: &mut dyn Face, thread: u32, at_work: &AtomicUsize, over: &AtomicBool) -> Parts {
     make_calls(face, thread, 0, update);
+    let mut parts = Parts::new();
     at_work.fetch_add(1, SeqCst);
-    let mut call = CALLS;
-    while !over.load(SeqCst) && face.update((thread + call) % M as u32, u64::from(call)) {
-        call += 1;
+    let mut goes_on = |call: u32| !over.load(SeqCst) && face.update((thread + call) % M as u32, u64::from(call));
+    let mut part = 1;
+    while parts.time(|| (part * CALLS..(part + 1) * CALLS).all(&mut goes_on), || true) {
+        part += 1;
     }
     at_work.fetch_sub(1, SeqCst);
+    parts
 }
 
 // Milliseconds of an opening, which is a part.
@@ -186,7 +202,7 @@ fn opening(name: &str) -> Sample {
     for _ in 0..OPENINGS {
         parts.time(|| faces(name, GREATEST_M, 1), || true);
     }
-    Sample::of(vec![parts], |times| vec![median(times) / 1_000_000.0])
+    Sample::of(&[parts], &[], |times| vec![median(times) / 1_000_000.0])
 }
 
 /// The median of some values.

@@ -15,6 +15,25 @@ pub trait Face: Send {
     fn scan(&mut self, which: &[u32], into: &mut [u64]) -> bool;
 }
 
+/// A face on cache lines of its own, since a call may write in it.
+#[repr(align(128))]
+struct Apart<F>(F);
+
+impl<F: Face> Face for Apart<F> {
+    fn update(&mut self, component: u32, value: u64) -> bool {
+        self.0.update(component, value)
+    }
+    fn add_one(&mut self, component: u32) -> bool {
+        self.0.add_one(component)
+    }
+    fn read(&mut self, component: u32) -> u64 {
+        self.0.read(component)
+    }
+    fn scan(&mut self, which: &[u32], into: &mut [u64]) -> bool {
+        self.0.scan(which, into)
+    }
+}
+
 /// The proved memory.
 impl Face for Port {
     fn update(&mut self, component: u32, value: u64) -> bool {
@@ -225,7 +244,7 @@ fn words(m: usize) -> Vec<AtomicU64> {
 /// The faces of a new object of m components, and what keeps a memory there.
 pub fn faces(name: &str, m: usize, threads: usize) -> (Option<Memory>, Vec<Box<dyn Face>>) {
     fn boxed<F: Face + 'static>(face: F) -> Box<dyn Face> {
-        Box::new(face)
+        Box::new(Apart(face))
     }
     fn all<F: Face + Clone + 'static>(face: F, threads: usize) -> (Option<Memory>, Vec<Box<dyn Face>>) {
         (None, (0..threads).map(|_| boxed(face.clone())).collect())

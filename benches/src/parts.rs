@@ -1,4 +1,4 @@
-//! The parts of a measured loop. A part in which the thread had to give its processor away is left out.
+//! The parts of a measured loop. Those in which a thread had to give its processor away are left out.
 
 use std::fs::File;
 use std::os::unix::fs::FileExt;
@@ -28,19 +28,26 @@ impl Watch {
 
     /// Whether the thread had to give its processor away since this was asked before.
     fn has_waited(&mut self) -> bool {
-        let delay = number(&self.delays, |text| text.split_whitespace().nth(1));
+        let delay = number(&self.delays, delay_in);
         if delay.is_some() && delay == self.delay {
             return false;
         }
-        let switches = number(&self.status, |text| {
-            let behind = text.split("nonvoluntary_ctxt_switches:").nth(1)?;
-            behind.split_whitespace().next()
-        });
+        let switches = number(&self.status, switches_in);
         let waited = switches != self.switches;
         self.delay = delay;
         self.switches = switches;
         waited
     }
+}
+
+// The nanoseconds for which a thread waited for a processor.
+fn delay_in(schedstat: &str) -> Option<&str> {
+    schedstat.split_whitespace().nth(1)
+}
+
+fn switches_in(status: &str) -> Option<&str> {
+    let behind = status.split("nonvoluntary_ctxt_switches:").nth(1)?;
+    behind.split_whitespace().next()
 }
 
 // A number in an open file, which is read anew from its front.
@@ -50,29 +57,43 @@ fn number(file: &Option<File>, field: fn(&str) -> Option<&str>) -> Option<u64> {
     field(std::str::from_utf8(&text[..length]).ok()?)?.parse().ok()
 }
 
-/// The times of the parts that one thread has made, in nanoseconds.
+struct Part {
+    from: Instant,
+    to: Instant,
+    waited: bool,
+    counts: bool,
+}
+
+impl Part {
+    fn overlaps(&self, other: &Part) -> bool {
+        self.from < other.to && other.from < self.to
+    }
+
+    fn nanoseconds(&self) -> f64 {
+        self.to.duration_since(self.from).as_nanos() as f64
+    }
+}
+
+/// The parts that one thread has made.
 pub struct Parts {
     watch: Watch,
-    pub kept: Vec<f64>,
-    pub left_out: usize,
+    made: Vec<Part>,
 }
 
 impl Parts {
+    /// None yet, of the thread that calls this.
     pub fn new() -> Parts {
-        Parts { watch: Watch::new(), kept: Vec::new(), left_out: 0 }
+        Parts { watch: Watch::new(), made: Vec::new() }
     }
 
-    /// Times a part, which counts only where `counts` is still true behind it.
+    /// Times a part, which counts only where `counts` is true behind it.
     pub fn time<T>(&mut self, part: impl FnOnce() -> T, counts: impl FnOnce() -> bool) -> T {
         let from = Instant::now();
-        let made = part();
-        let time = from.elapsed().as_nanos() as f64;
-        if self.watch.has_waited() || !counts() {
-            self.left_out += 1;
-        } else {
-            self.kept.push(time);
-        }
-        made
+        let answer = part();
+        let to = Instant::now();
+        let waited = self.watch.has_waited();
+        self.made.push(Part { from, to, waited, counts: counts() });
+        answer
     }
 }
 
@@ -85,20 +106,64 @@ pub struct Sample {
 }
 
 impl Sample {
-    /// Of the parts of all threads: what the function makes of their times, unless all are left out.
-    pub fn of(parts: Vec<Parts>, values: impl Fn(Vec<f64>) -> Vec<f64>) -> Sample {
-        let left_out = parts.iter().map(|parts| parts.left_out).sum();
-        let times: Vec<f64> = parts.into_iter().flat_map(|parts| parts.kept).collect();
+    /// Of the parts of these threads, beside those of others: what the function makes of the nanoseconds of those
+    /// that count and in whose time no thread of either had to wait for a processor.
+    pub fn of(measured: &[Parts], beside: &[Parts], values: impl Fn(Vec<f64>) -> Vec<f64>) -> Sample {
+        let threads = measured.iter().chain(beside);
+        let waits: Vec<&Part> = threads.flat_map(|parts| &parts.made).filter(|part| part.waited).collect();
+        let made = || measured.iter().flat_map(|parts| &parts.made);
+        let times: Vec<f64> = made()
+            .filter(|part| part.counts && !waits.iter().any(|wait| wait.overlaps(part)))
+            .map(Part::nanoseconds)
+            .collect();
         let kept = times.len();
-        let values = match kept {
-            0 => Vec::new(),
-            _ => values(times),
-        };
-        Sample { values, kept, left_out }
+        let values = if kept == 0 { Vec::new() } else { values(times) };
+        Sample { values, kept, left_out: made().count() - kept }
     }
 
     /// Of a bench that the object isn't in.
     pub fn none() -> Sample {
         Sample { values: Vec::new(), kept: 0, left_out: 0 }
+    }
+}
+
+#[cfg(test)]
+mod tests {
+    use super::*;
+    use std::time::Duration;
+
+    // From and to which nanosecond behind the front each part was, whether the thread waited, and whether it counts.
+    fn parts(front: Instant, made: &[(u64, u64, bool, bool)]) -> Parts {
+        let at = |nanoseconds| front + Duration::from_nanos(nanoseconds);
+        let part = |&(from, to, waited, counts)| Part { from: at(from), to: at(to), waited, counts };
+        Parts { made: made.iter().map(part).collect(), ..Parts::new() }
+    }
+
+    #[test]
+    fn numbers_are_found() {
+        assert_eq!(delay_in("304 99130 1\n"), Some("99130"));
+        let status = "voluntary_ctxt_switches:\t12\nnonvoluntary_ctxt_switches:\t7\n";
+        assert_eq!(switches_in(status), Some("7"));
+        assert_eq!(delay_in(""), None);
+        assert_eq!(switches_in("voluntary_ctxt_switches:\t12\n"), None);
+    }
+
+    #[test]
+    fn parts_that_waited_or_do_not_count_are_left_out() {
+        let front = Instant::now();
+        let made = parts(front, &[(0, 10, false, true), (20, 50, true, true), (60, 100, false, false)]);
+        let sample = Sample::of(&[made], &[], |times| times);
+        assert_eq!((sample.values, sample.kept, sample.left_out), (vec![10.0], 1, 2));
+        let none = Sample::of(&[parts(front, &[(0, 10, true, true)])], &[], |times| vec![times[0]]);
+        assert_eq!((none.values, none.kept, none.left_out), (Vec::new(), 0, 1));
+    }
+
+    #[test]
+    fn a_wait_leaves_out_the_parts_beside_it() {
+        let front = Instant::now();
+        let measured = [(0, 10), (10, 20), (20, 30), (30, 40)].map(|(from, to)| (from, to, false, true));
+        let beside = [(0, 15, false, true), (15, 25, true, true)];
+        let sample = Sample::of(&[parts(front, &measured)], &[parts(front, &beside)], |times| times);
+        assert_eq!((sample.kept, sample.left_out), (2, 2));
     }
 }

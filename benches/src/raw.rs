@@ -195,8 +195,7 @@ impl Rows {
     }
 }
 
-/// What one thread holds of a memory. Ports lie on cache lines of their own.
-#[repr(align(128))]
+/// What one thread holds of a memory.
 pub struct Port {
     words: Words,
     layout: Layout,

@@ -55,22 +55,28 @@ impl Results {
 
     // How many parts were left out, and of which cells over half.
     fn print_left_out(&self) {
-        let all = || self.0.iter().flatten().flatten();
-        let left_out: usize = all().map(|sample| sample.left_out).sum();
-        let parts: usize = left_out + all().map(|sample| sample.kept).sum::<usize>();
-        let part = 100.0 * left_out as f64 / parts as f64;
-        print!("Left out were {left_out} of {parts} parts, {part:.1} %.");
+        let (kept, left_out) = count(self.0.iter().flatten().flatten());
+        let part = 100.0 * left_out as f64 / (kept + left_out) as f64;
+        println!("Left out were {left_out} of {} parts, {part:.1} %.", kept + left_out);
+        let mut over_half = Vec::new();
         for (bench, samples) in BENCHES.iter().zip(&self.0) {
             for (name, samples) in NAMES.iter().zip(samples) {
-                let left_out: usize = samples.iter().map(|sample| sample.left_out).sum();
-                let kept: usize = samples.iter().map(|sample| sample.kept).sum();
+                let (kept, left_out) = count(samples);
                 if left_out > kept {
-                    print!(" Over half were left out of `{name}` at \"{}\": {left_out}.", bench.name);
+                    over_half.push(format!("{left_out} of {} of `{name}` at {}", kept + left_out, bench.name));
                 }
             }
         }
-        println!();
+        if !over_half.is_empty() {
+            println!("\nOver half were left out here, so these cells say little: {}.", over_half.join("; "));
+        }
     }
+}
+
+// How many parts of these samples were kept, and how many left out.
+fn count<'a>(samples: impl IntoIterator<Item = &'a Sample>) -> (usize, usize) {
+    let add = |(kept, left_out), sample: &Sample| (kept + sample.kept, left_out + sample.left_out);
+    samples.into_iter().fold((0, 0), add)
 }
 
 fn titles(bench: &Bench) -> impl Iterator<Item = (usize, String)> + '_ {
