@@ -230,7 +230,7 @@ pub fn open(initial: &[u64], sizes: Sizes, ports: u32) -> Vec<Port> {
     let components = initial.len();
     let layout = Layout::new(components as u64, sizes);
     let words = opening_words(initial, layout);
-    let intervals = || Intervals(Vec::with_capacity((sizes.slots as usize + 1) / 2 + 1));
+    let intervals = || Intervals(Vec::with_capacity((sizes.slots as usize).div_ceil(2) + 1));
     let port = |_| Port {
         words: Words(words.clone()),
         layout,

@@ -110,3 +110,28 @@ fn ratio(above: &[Sample], below: &[Sample], at: usize) -> String {
         false => format!("{:.2}", median(ratios)),
     }
 }
+
+#[cfg(test)]
+mod tests {
+    use super::*;
+
+    fn samples(values: &[&[f64]]) -> Vec<Sample> {
+        let sample = |values: &&[f64]| Sample { values: values.to_vec(), kept: values.len(), left_out: 1 };
+        values.iter().map(sample).collect()
+    }
+
+    #[test]
+    fn cells_are_medians_of_what_is_there() {
+        assert_eq!(cell(&samples(&[&[4.0], &[], &[1.25], &[3.0]]), 0), "3.0");
+        assert_eq!(cell(&samples(&[&[1.0, 123.6]]), 1), "124");
+        assert_eq!(cell(&samples(&[&[], &[]]), 0), "-");
+    }
+
+    #[test]
+    fn ratios_are_those_of_one_repetition() {
+        let (above, below) = (samples(&[&[2.0], &[9.0], &[6.0], &[]]), samples(&[&[1.0], &[3.0], &[1.0], &[1.0]]));
+        assert_eq!(ratio(&above, &below, 0), "3.00");
+        assert_eq!(ratio(&above, &samples(&[&[]]), 0), "-");
+        assert_eq!(count(&above), (3, 4));
+    }
+}
