@@ -1,41 +1,72 @@
 #!/usr/bin/env python3
-"""Draws the table of docs/benches.md, read from standard input, in SVG: a bar for each cell, on a logarithmic scale."""
+"""Draws the first table of docs/benches.md, read from standard input, in SVG: a bar for each cell in nanoseconds,
+on a logarithmic scale."""
+import html
 import math
 import sys
 
-WIDTH, LEFT, BAR, GAP = 760, 250, 9, 14
-COLOURS = {"door": "#c2410c", "mutex": "#2563eb", "rwlock": "#0891b2", "seqlock": "#65a30d", "collects": "#9333ea", "plain": "#6b7280"}
+WIDTH, LEFT, RIGHT, BAR, GAP, STEP = 860, 300, 60, 9, 14, 78
+COLOURS = {
+    "door": "#ea580c",
+    "raw": "#ca8a04",
+    "mutex": "#3b82f6",
+    "rwlock": "#0891b2",
+    "seqlock": "#65a30d",
+    "collects": "#a855f7",
+    "plain": "#6b7280",
+}
 
 
 def cells(line):
     return [cell.strip() for cell in line.strip().strip("|").split("|")]
 
 
-def main():
-    lines = [line for line in sys.stdin if line.startswith("|")]
-    names = cells(lines[0])[1:]
-    rows = [(cells(line)[0], [float(cell) for cell in cells(line)[1:]]) for line in lines[2:]]
-    most = max(value for _, values in rows for value in values)
-    scale = (WIDTH - LEFT - 70) / math.log10(most)
-    height = 40 + len(rows) * (len(names) * BAR + GAP)
-    out = [
-        f'<svg xmlns="http://www.w3.org/2000/svg" width="{WIDTH}" height="{height}" viewBox="0 0 {WIDTH} {height}" font-family="sans-serif" font-size="11">',
-        "<style>text{fill:#1f2937}@media(prefers-color-scheme:dark){text{fill:#e5e7eb}}</style>",
-    ]
+def first_table(lines):
+    """The names of the objects, and of each row in nanoseconds its title and its cells."""
+    table = []
+    for line in lines:
+        if line.startswith("|"):
+            table.append(cells(line))
+        elif table:
+            break
+    rows = [(row[0], row[1:]) for row in table[2:] if "milliseconds" not in row[0]]
+    return table[0][1:], rows
+
+
+def legend(names):
     for at, name in enumerate(names):
-        out.append(f'<rect x="{LEFT + at * 80}" y="8" width="10" height="10" fill="{COLOURS[name]}"/>')
-        out.append(f'<text x="{LEFT + at * 80 + 14}" y="17">{name}</text>')
-    y = 34
+        x = 12 + at * STEP
+        yield f'<rect x="{x}" y="10" width="10" height="10" fill="{COLOURS[name]}"/>'
+        yield f'<text x="{x + 14}" y="19">{name}</text>'
+
+
+def bars(names, rows, scale):
+    y = 36
     for title, values in rows:
-        out.append(f'<text x="{LEFT - 8}" y="{y + len(names) * BAR / 2 + 4}" text-anchor="end">{title.replace("scan of 8 beside 3 writers: ", "beside 3 writers, ")}</text>')
+        middle = y + len(names) * BAR / 2 + 4
+        yield f'<text x="{LEFT - 8}" y="{middle}" text-anchor="end">{html.escape(title)}</text>'
         for name, value in zip(names, values):
-            length = max(1.0, math.log10(max(value, 1.0)) * scale)
-            out.append(f'<rect x="{LEFT}" y="{y}" width="{length:.1f}" height="{BAR - 1}" fill="{COLOURS[name]}"/>')
-            out.append(f'<text x="{LEFT + length + 4:.1f}" y="{y + BAR - 1}" font-size="9">{value:.0f}</text>')
+            if value != "-":
+                length = max(1.0, math.log10(max(float(value), 1.0)) * scale)
+                yield f'<rect x="{LEFT}" y="{y}" width="{length:.1f}" height="{BAR - 1}" fill="{COLOURS[name]}"/>'
+                yield f'<text x="{LEFT + length + 4:.1f}" y="{y + BAR - 1}" font-size="9">{value}</text>'
             y += BAR
         y += GAP
-    out.append("</svg>")
-    print("\n".join(out))
+
+
+def main():
+    names, rows = first_table(sys.stdin)
+    most = max(float(value) for _, values in rows for value in values if value != "-")
+    scale = (WIDTH - LEFT - RIGHT) / math.log10(most)
+    height = 36 + len(rows) * (len(names) * BAR + GAP)
+    print(
+        f'<svg xmlns="http://www.w3.org/2000/svg" width="{WIDTH}" height="{height}" viewBox="0 0 {WIDTH} {height}" '
+        'font-family="sans-serif" font-size="11">'
+    )
+    print("<style>text{fill:#1f2937}@media(prefers-color-scheme:dark){text{fill:#e5e7eb}}</style>")
+    for line in [*legend(names), *bars(names, rows, scale)]:
+        print(line)
+    print("</svg>")
 
 
 main()

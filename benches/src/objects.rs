@@ -1,28 +1,70 @@
 //! The objects that are compared. Each thread has a face of its own.
 
+use crate::raw;
 use partial_door::{Memory, Port, Sizes};
 use std::sync::atomic::{AtomicU64, Ordering::SeqCst};
 use std::sync::{Arc, Mutex, RwLock};
 
-/// What a thread does to an object.
+/// What a thread does to an object. An update and a scan tell whether they were made: a memory's pool or its slots
+/// may be used up.
 pub trait Face: Send {
-    fn update(&mut self, component: u32, value: u64);
+    fn update(&mut self, component: u32, value: u64) -> bool;
+    /// Adds one to a component: in a memory by a read and a conditional update, which isn't tried again.
+    fn add_one(&mut self, component: u32) -> bool;
     fn read(&mut self, component: u32) -> u64;
-    fn scan(&mut self, which: &[u32], into: &mut [u64]);
+    fn scan(&mut self, which: &[u32], into: &mut [u64]) -> bool;
+}
+
+/// A face on cache lines of its own, since a call may write in it.
+#[repr(align(128))]
+struct Apart<F>(F);
+
+impl<F: Face> Face for Apart<F> {
+    fn update(&mut self, component: u32, value: u64) -> bool {
+        self.0.update(component, value)
+    }
+    fn add_one(&mut self, component: u32) -> bool {
+        self.0.add_one(component)
+    }
+    fn read(&mut self, component: u32) -> u64 {
+        self.0.read(component)
+    }
+    fn scan(&mut self, which: &[u32], into: &mut [u64]) -> bool {
+        self.0.scan(which, into)
+    }
 }
 
 /// The proved memory.
-pub struct Door(pub Port);
-
-impl Face for Door {
-    fn update(&mut self, component: u32, value: u64) {
-        self.0.update(component, value).expect("the pool is large enough");
+impl Face for Port {
+    fn update(&mut self, component: u32, value: u64) -> bool {
+        Port::update(self, component, value).is_ok()
+    }
+    fn add_one(&mut self, component: u32) -> bool {
+        let seen = Port::read(self, component).expect("the component is there");
+        self.update_if(component, seen.stamp, seen.value + 1).is_ok()
     }
     fn read(&mut self, component: u32) -> u64 {
-        self.0.read(component).expect("the component is there").value
+        Port::read(self, component).expect("the component is there").value
     }
-    fn scan(&mut self, which: &[u32], into: &mut [u64]) {
-        self.0.scan(which, into).expect("the pool and the slots are large enough");
+    fn scan(&mut self, which: &[u32], into: &mut [u64]) -> bool {
+        Port::scan(self, which, into).is_ok()
+    }
+}
+
+/// The same algorithm, with nothing proved.
+impl Face for raw::Port {
+    fn update(&mut self, component: u32, value: u64) -> bool {
+        raw::Port::update(self, component, value).is_ok()
+    }
+    fn add_one(&mut self, component: u32) -> bool {
+        let seen = raw::Port::read(self, component).expect("the component is there");
+        self.update_if(component, seen.stamp, seen.value + 1).is_ok()
+    }
+    fn read(&mut self, component: u32) -> u64 {
+        raw::Port::read(self, component).expect("the component is there").value
+    }
+    fn scan(&mut self, which: &[u32], into: &mut [u64]) -> bool {
+        raw::Port::scan(self, which, into).is_ok()
     }
 }
 
@@ -30,17 +72,23 @@ impl Face for Door {
 pub struct Locked(Arc<Mutex<Vec<u64>>>);
 
 impl Face for Locked {
-    fn update(&mut self, component: u32, value: u64) {
+    fn update(&mut self, component: u32, value: u64) -> bool {
         self.0.lock().unwrap()[component as usize] = value;
+        true
+    }
+    fn add_one(&mut self, component: u32) -> bool {
+        self.0.lock().unwrap()[component as usize] += 1;
+        true
     }
     fn read(&mut self, component: u32) -> u64 {
         self.0.lock().unwrap()[component as usize]
     }
-    fn scan(&mut self, which: &[u32], into: &mut [u64]) {
+    fn scan(&mut self, which: &[u32], into: &mut [u64]) -> bool {
         let values = self.0.lock().unwrap();
         for (place, &component) in into.iter_mut().zip(which) {
             *place = values[component as usize];
         }
+        true
     }
 }
 
@@ -48,17 +96,23 @@ impl Face for Locked {
 pub struct Shared(Arc<RwLock<Vec<u64>>>);
 
 impl Face for Shared {
-    fn update(&mut self, component: u32, value: u64) {
+    fn update(&mut self, component: u32, value: u64) -> bool {
         self.0.write().unwrap()[component as usize] = value;
+        true
+    }
+    fn add_one(&mut self, component: u32) -> bool {
+        self.0.write().unwrap()[component as usize] += 1;
+        true
     }
     fn read(&mut self, component: u32) -> u64 {
         self.0.read().unwrap()[component as usize]
     }
-    fn scan(&mut self, which: &[u32], into: &mut [u64]) {
+    fn scan(&mut self, which: &[u32], into: &mut [u64]) -> bool {
         let values = self.0.read().unwrap();
         for (place, &component) in into.iter_mut().zip(which) {
             *place = values[component as usize];
         }
+        true
     }
 }
 
@@ -66,24 +120,35 @@ impl Face for Shared {
 #[derive(Clone)]
 pub struct Seqlock(Arc<(AtomicU64, Vec<AtomicU64>)>);
 
-impl Face for Seqlock {
-    fn update(&mut self, component: u32, value: u64) {
+impl Seqlock {
+    // Changes a value while the version is odd.
+    #[inline]
+    fn change(&self, component: u32, change: impl Fn(&AtomicU64)) -> bool {
         let (version, values) = &*self.0;
         loop {
             let seen = version.load(SeqCst);
             let even = seen % 2 == 0;
             if even && version.compare_exchange(seen, seen + 1, SeqCst, SeqCst).is_ok() {
-                values[component as usize].store(value, SeqCst);
+                change(&values[component as usize]);
                 version.store(seen + 2, SeqCst);
-                return;
+                return true;
             }
             std::hint::spin_loop();
         }
     }
+}
+
+impl Face for Seqlock {
+    fn update(&mut self, component: u32, value: u64) -> bool {
+        self.change(component, |word| word.store(value, SeqCst))
+    }
+    fn add_one(&mut self, component: u32) -> bool {
+        self.change(component, |word| word.store(word.load(SeqCst) + 1, SeqCst))
+    }
     fn read(&mut self, component: u32) -> u64 {
         self.0 .1[component as usize].load(SeqCst)
     }
-    fn scan(&mut self, which: &[u32], into: &mut [u64]) {
+    fn scan(&mut self, which: &[u32], into: &mut [u64]) -> bool {
         let (version, values) = &*self.0;
         loop {
             let before = version.load(SeqCst);
@@ -91,7 +156,7 @@ impl Face for Seqlock {
                 *place = values[component as usize].load(SeqCst);
             }
             if before % 2 == 0 && version.load(SeqCst) == before {
-                return;
+                return true;
             }
             std::hint::spin_loop();
         }
@@ -102,22 +167,33 @@ impl Face for Seqlock {
 #[derive(Clone)]
 pub struct Collects(Arc<Vec<AtomicU64>>);
 
-impl Face for Collects {
-    fn update(&mut self, component: u32, value: u64) {
+impl Collects {
+    // Changes a value, and with it its version.
+    #[inline]
+    fn change(&self, component: u32, change: impl Fn(u64) -> u64) -> bool {
         let word = &self.0[component as usize];
         let mut seen = word.load(SeqCst);
         loop {
-            let next = (seen >> 32).wrapping_add(1) << 32 | value & 0xffff_ffff;
+            let next = (seen >> 32).wrapping_add(1) << 32 | change(seen) & 0xffff_ffff;
             match word.compare_exchange(seen, next, SeqCst, SeqCst) {
-                Ok(_) => return,
+                Ok(_) => return true,
                 Err(found) => seen = found,
             }
         }
     }
+}
+
+impl Face for Collects {
+    fn update(&mut self, component: u32, value: u64) -> bool {
+        self.change(component, |_| value)
+    }
+    fn add_one(&mut self, component: u32) -> bool {
+        self.change(component, |seen| seen.wrapping_add(1))
+    }
     fn read(&mut self, component: u32) -> u64 {
         self.0[component as usize].load(SeqCst) & 0xffff_ffff
     }
-    fn scan(&mut self, which: &[u32], into: &mut [u64]) {
+    fn scan(&mut self, which: &[u32], into: &mut [u64]) -> bool {
         let load = |component: u32| self.0[component as usize].load(SeqCst);
         loop {
             for (place, &component) in into.iter_mut().zip(which) {
@@ -128,6 +204,7 @@ impl Face for Collects {
             }
         }
         into.iter_mut().for_each(|place| *place &= 0xffff_ffff);
+        true
     }
 }
 
@@ -136,20 +213,29 @@ impl Face for Collects {
 pub struct Plain(Arc<Vec<AtomicU64>>);
 
 impl Face for Plain {
-    fn update(&mut self, component: u32, value: u64) {
+    fn update(&mut self, component: u32, value: u64) -> bool {
         self.0[component as usize].store(value, SeqCst);
+        true
+    }
+    fn add_one(&mut self, component: u32) -> bool {
+        self.0[component as usize].fetch_add(1, SeqCst);
+        true
     }
     fn read(&mut self, component: u32) -> u64 {
         self.0[component as usize].load(SeqCst)
     }
-    fn scan(&mut self, which: &[u32], into: &mut [u64]) {
+    fn scan(&mut self, which: &[u32], into: &mut [u64]) -> bool {
         for (place, &component) in into.iter_mut().zip(which) {
             *place = self.0[component as usize].load(SeqCst);
         }
+        true
     }
 }
 
-pub const NAMES: [&str; 6] = ["door", "mutex", "rwlock", "seqlock", "collects", "plain"];
+pub const NAMES: [&str; 7] = ["door", "raw", "mutex", "rwlock", "seqlock", "collects", "plain"];
+
+/// The greatest sizes.
+pub const SIZES: Sizes = Sizes { slots: 65_536, list_words: 65_536, pool_words: 4_194_304 };
 
 fn words(m: usize) -> Vec<AtomicU64> {
     (0..m).map(|_| AtomicU64::new(0)).collect()
@@ -157,21 +243,23 @@ fn words(m: usize) -> Vec<AtomicU64> {
 
 /// The faces of a new object of m components, and what keeps a memory there.
 pub fn faces(name: &str, m: usize, threads: usize) -> (Option<Memory>, Vec<Box<dyn Face>>) {
-    fn all<F: Face + Clone + 'static>(face: F, threads: usize) -> Vec<Box<dyn Face>> {
-        (0..threads).map(|_| Box::new(face.clone()) as Box<dyn Face>).collect()
+    fn boxed<F: Face + 'static>(face: F) -> Box<dyn Face> {
+        Box::new(Apart(face))
     }
-    let zeros = || vec![0; m];
+    fn all<F: Face + Clone + 'static>(face: F, threads: usize) -> (Option<Memory>, Vec<Box<dyn Face>>) {
+        (None, (0..threads).map(|_| boxed(face.clone())).collect())
+    }
+    let zeros = vec![0; m];
     match name {
         "door" => {
-            let sizes = Sizes { slots: 65_536, list_words: 65_536, pool_words: 4_194_304 };
-            let (memory, ports) = partial_door::open(&zeros(), sizes, threads as u32).expect("it opens");
-            let faces = ports.into_iter().map(|port| Box::new(Door(port)) as Box<dyn Face>);
-            (Some(memory), faces.collect())
+            let (memory, ports) = partial_door::open(&zeros, SIZES, threads as u32).expect("it opens");
+            (Some(memory), ports.into_iter().map(boxed).collect())
         }
-        "mutex" => (None, all(Locked(Arc::new(Mutex::new(zeros()))), threads)),
-        "rwlock" => (None, all(Shared(Arc::new(RwLock::new(zeros()))), threads)),
-        "seqlock" => (None, all(Seqlock(Arc::new((AtomicU64::new(0), words(m)))), threads)),
-        "collects" => (None, all(Collects(Arc::new(words(m))), threads)),
-        _ => (None, all(Plain(Arc::new(words(m))), threads)),
+        "raw" => (None, raw::open(&zeros, SIZES, threads as u32).into_iter().map(boxed).collect()),
+        "mutex" => all(Locked(Arc::new(Mutex::new(zeros))), threads),
+        "rwlock" => all(Shared(Arc::new(RwLock::new(zeros))), threads),
+        "seqlock" => all(Seqlock(Arc::new((AtomicU64::new(0), words(m)))), threads),
+        "collects" => all(Collects(Arc::new(words(m))), threads),
+        _ => all(Plain(Arc::new(words(m))), threads),
     }
 }

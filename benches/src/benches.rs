@@ -1,0 +1,212 @@
+//! What is measured.
+
+use crate::objects::{faces, Face};
+use crate::parts::{Parts, Sample};
+use std::hint::black_box;
+use std::sync::atomic::{AtomicBool, AtomicUsize, Ordering::SeqCst};
+
+const M: usize = 64;
+const GREATEST_M: usize = 65_536;
+// Of a part.
+const CALLS: u32 = 1_000;
+// Parts of a repetition. The slots of a memory have room for those of scans.
+const PARTS: u32 = 200;
+const PARTS_OF_SCANS: u32 = 60;
+const OPENINGS: usize = 3;
+const MONITORS: usize = 3;
+const WRITERS: usize = 3;
+// Of a monitor. The list words of a memory have room for those that its writers publish.
+const SCANS: u32 = 2_000;
+
+/// One row of the table, or one for each ending.
+pub struct Bench {
+    pub name: &'static str,
+    pub endings: &'static [&'static str],
+    /// Whether the door is compared by its time and not by its speed.
+    pub is_time: bool,
+    pub run: fn(&str) -> Sample,
+}
+
+const fn speed(name: &'static str, run: fn(&str) -> Sample) -> Bench {
+    Bench { name, endings: &[""], is_time: false, run }
+}
+
+pub const BENCHES: [Bench; 11] = [
+    speed("read, 1 thread", |name| timed(name, 1, PARTS, rest, read)),
+    speed("read, 4 threads", |name| timed(name, 4, PARTS, rest, read)),
+    speed("update, 1 thread, nobody scans", |name| timed(name, 1, PARTS, rest, update)),
+    speed("update, 1 thread, after scans", |name| timed(name, 1, PARTS, scan_often, update)),
+    speed("add one, 1 thread, nobody scans", |name| timed(name, 1, PARTS, rest, add_one)),
+    speed("scan of 4, 1 thread", |name| timed(name, 1, PARTS_OF_SCANS, rest, scan::<4>)),
+    speed("scan of 16, 1 thread", |name| timed(name, 1, PARTS_OF_SCANS, rest, scan::<16>)),
+    speed("9 reads to an update, 1 thread", |name| timed(name, 1, PARTS, rest, mostly_reads)),
+    speed("9 reads to an update, 4 threads", |name| timed(name, 4, PARTS, rest, mostly_reads)),
+    Bench {
+        name: "scan of 8 beside 3 writers",
+        endings: &[": half take at most", ": 99 % take at most", ": 99.9 % take at most"],
+        is_time: true,
+        run: monitor,
+    },
+    Bench {
+        name: "opening the greatest memory, in milliseconds",
+        endings: &[""],
+        is_time: true,
+        run: opening,
+    },
+];
+
+type Work = fn(&mut dyn Face, u32, u32);
+
+// Nanoseconds of a call, where each thread makes so many parts, or fewer where another one has made them all.
+fn timed(name: &str, threads: usize, parts: u32, before: fn(&mut dyn Face), work: Work) -> Sample {
+    let (_memory, mut all) = faces(name, M, threads);
+    before(&mut *all[0]);
+    let (ready, over) = (AtomicUsize::new(0), AtomicBool::new(false));
+    let made: Vec<Parts> = std::thread::scope(|scope| {
+        let started: Vec<_> = all
+            .into_iter()
+            .enumerate()
+            .map(|(thread, mut face)| {
+                let (ready, over) = (&ready, &over);
+                scope.spawn(move || {
+                    make_calls(&mut *face, thread as u32, 0, work);
+                    let mut made = Parts::new();
+                    wait_for(ready, threads);
+                    for part in 1..=parts {
+                        made.time(|| make_calls(&mut *face, thread as u32, part, work), || !over.load(SeqCst));
+                        if over.load(SeqCst) {
+                            break;
+                        }
+                    }
+                    over.store(true, SeqCst);
+                    made
+                })
+            })
+            .collect();
+        started.into_iter().map(|thread| thread.join().expect("it ends")).collect()
+    });
+    let call = |times: Vec<f64>| times.iter().sum::<f64>() / times.len() as f64 / f64::from(CALLS);
+    Sample::of(&made, &[], |times| vec![call(times)])
+}
+
+fn make_calls(face: &mut dyn Face, thread: u32, part: u32, work: Work) {
+    for call in part * CALLS..(part + 1) * CALLS {
+        work(face, thread, call);
+    }
+}
+
+// Waits until all threads are here, without giving the processor away.
+fn wait_for(ready: &AtomicUsize, threads: usize) {
+    ready.fetch_add(1, SeqCst);
+    while ready.load(SeqCst) < threads {
+        std::hint::spin_loop();
+    }
+}
+
+fn rest(_face: &mut dyn Face) {}
+
+fn scan_often(face: &mut dyn Face) {
+    for call in 0..1_000 {
+        scan::<4>(face, 0, call);
+    }
+}
+
+fn read(face: &mut dyn Face, thread: u32, call: u32) {
+    black_box(face.read((thread + call) % M as u32));
+}
+
+fn update(face: &mut dyn Face, thread: u32, call: u32) {
+    let made = face.update((thread + call) % M as u32, u64::from(call));
+    assert!(made, "the pool is large enough");
+}
+
+fn add_one(face: &mut dyn Face, thread: u32, call: u32) {
+    let made = face.add_one((thread + call) % M as u32);
+    assert!(made, "the pool is large enough");
+}
+
+fn scan<const R: usize>(face: &mut dyn Face, thread: u32, call: u32) {
+    let which: [u32; R] = std::array::from_fn(|k| (thread + call + k as u32) % M as u32);
+    let mut into = [0; R];
+    let made = face.scan(&which, &mut into);
+    assert!(made, "the pool and the slots are large enough");
+    black_box(into);
+}
+
+fn mostly_reads(face: &mut dyn Face, thread: u32, call: u32) {
+    if call % 10 == 0 {
+        update(face, thread, call);
+    } else {
+        read(face, thread, call);
+    }
+}
+
+// The quantiles of a scan of 8 components in one thread, in nanoseconds, while three writers are at work. Each scan
+// is a part.
+fn monitor(name: &str) -> Sample {
+    let (mut scans, mut updates) = (Vec::new(), Vec::new());
+    for _ in 0..MONITORS {
+        let (eye, writers) = scan_beside_writers(name);
+        scans.push(eye);
+        updates.extend(writers);
+    }
+    Sample::of(&scans, &updates, |mut times| {
+        times.sort_by(f64::total_cmp);
+        [0.5, 0.99, 0.999].map(|part| times[(part * times.len() as f64) as usize]).to_vec()
+    })
+}
+
+// The parts of a monitor in a new object, and those of the writers.
+fn scan_beside_writers(name: &str) -> (Parts, Vec<Parts>) {
+    let (_memory, mut all) = faces(name, M, WRITERS + 1);
+    let mut eye = all.pop().expect("a face for each thread");
+    let (at_work, over) = (AtomicUsize::new(0), AtomicBool::new(false));
+    std::thread::scope(|scope| {
+        let (at_work, over) = (&at_work, &over);
+        let writer = |(thread, mut face): (usize, Box<dyn Face>)| {
+            scope.spawn(move || write(&mut *face, thread as u32, at_work, over))
+        };
+        let writers: Vec<_> = all.into_iter().enumerate().map(writer).collect();
+        while at_work.load(SeqCst) < WRITERS {
+            std::hint::spin_loop();
+        }
+        let mut scans = Parts::new();
+        for call in 0..SCANS {
+            scans.time(|| scan::<8>(&mut *eye, 0, call), || at_work.load(SeqCst) == WRITERS);
+        }
+        over.store(true, SeqCst);
+        (scans, writers.into_iter().map(|writer| writer.join().expect("it ends")).collect())
+    })
+}
+
+// Updates until the end, or until the pool of a memory is used up. The first thousand updates are no work yet.
+fn write(face: &mut dyn Face, thread: u32, at_work: &AtomicUsize, over: &AtomicBool) -> Parts {
+    make_calls(face, thread, 0, update);
+    let mut parts = Parts::new();
+    at_work.fetch_add(1, SeqCst);
+    let mut goes_on = |call: u32| !over.load(SeqCst) && face.update((thread + call) % M as u32, u64::from(call));
+    let mut part = 1;
+    while parts.time(|| (part * CALLS..(part + 1) * CALLS).all(&mut goes_on), || true) {
+        part += 1;
+    }
+    at_work.fetch_sub(1, SeqCst);
+    parts
+}
+
+// Milliseconds of an opening, which is a part.
+fn opening(name: &str) -> Sample {
+    if !matches!(name, "door" | "raw") {
+        return Sample::none();
+    }
+    let mut parts = Parts::new();
+    for _ in 0..OPENINGS {
+        parts.time(|| faces(name, GREATEST_M, 1), || true);
+    }
+    Sample::of(&[parts], &[], |times| vec![median(times) / 1_000_000.0])
+}
+
+/// The median of some values.
+pub fn median(mut values: Vec<f64>) -> f64 {
+    values.sort_by(f64::total_cmp);
+    values[values.len() / 2]
+}
