@@ -53,6 +53,8 @@ heap=$kit/c/liblibc_c.a
 item "the static library is proved and built" sh -c 'cd crates/partial_door && rt lib --jobs 2'
 item "the C test is compiled" compile "$made/test"
 counts "the C test" "$made/test"
+item "the header is one of C++ too" sh -c 'echo "#include \"partial.h\"" |
+    "${CXX:-c++}" -std=c++17 -Wall -Wextra -Werror -I bindings/c -xc++ -fsyntax-only -'
 item "the C test is compiled with the address sanitizer" compile "$made/test_address" -fsanitize=address,undefined -g
 counts "the C test with the address sanitizer" "$made/test_address"
 if command -v cargo >/dev/null 2>&1; then

@@ -190,7 +190,10 @@ static inline uint32_t partial_reopen(uint64_t opening, partial_handle *closed,
  */
 static inline uint32_t partial_take_port(partial_handle *memory, partial_handle *port)
 {
-    return memory && port ? partial_door_take_port(memory, port) : PARTIAL_NULL;
+    if (!memory || !port) {
+        return PARTIAL_NULL;
+    }
+    return partial_door_take_port(memory, port);
 }
 
 /*
@@ -201,7 +204,10 @@ static inline uint32_t partial_take_port(partial_handle *memory, partial_handle 
  */
 static inline uint32_t partial_give_port(partial_handle *memory, partial_handle *port)
 {
-    return memory && port ? partial_door_give_port(memory, port) : PARTIAL_NULL;
+    if (!memory || !port) {
+        return PARTIAL_NULL;
+    }
+    return partial_door_give_port(memory, port);
 }
 
 /*
@@ -218,8 +224,10 @@ static inline uint32_t partial_give_port(partial_handle *memory, partial_handle 
 static inline uint32_t partial_update(partial_handle *port, uint32_t component,
                                       uint64_t value, partial_update_answer *answer)
 {
-    return port && answer ? partial_door_update(port, component, value, answer)
-                          : PARTIAL_NULL;
+    if (!port || !answer) {
+        return PARTIAL_NULL;
+    }
+    return partial_door_update(port, component, value, answer);
 }
 
 /*
@@ -232,8 +240,10 @@ static inline uint32_t partial_update_if(partial_handle *port, uint32_t componen
                                          uint64_t expected, uint64_t value,
                                          partial_update_answer *answer)
 {
-    return port && answer ? partial_door_update_if(port, component, expected, value, answer)
-                          : PARTIAL_NULL;
+    if (!port || !answer) {
+        return PARTIAL_NULL;
+    }
+    return partial_door_update_if(port, component, expected, value, answer);
 }
 
 /*
@@ -245,7 +255,10 @@ static inline uint32_t partial_update_if(partial_handle *port, uint32_t componen
 static inline uint32_t partial_read(partial_handle *port, uint32_t component,
                                     partial_read_answer *answer)
 {
-    return port && answer ? partial_door_read(port, component, answer) : PARTIAL_NULL;
+    if (!port || !answer) {
+        return PARTIAL_NULL;
+    }
+    return partial_door_read(port, component, answer);
 }
 
 /*
@@ -278,7 +291,10 @@ static inline uint32_t partial_scan(partial_handle *port,
  */
 static inline uint32_t partial_state(partial_handle *port, partial_port_state *answer)
 {
-    return port && answer ? partial_door_state(port, answer) : PARTIAL_NULL;
+    if (!port || !answer) {
+        return PARTIAL_NULL;
+    }
+    return partial_door_state(port, answer);
 }
 
 /*
@@ -290,7 +306,10 @@ static inline uint32_t partial_state(partial_handle *port, partial_port_state *a
  */
 static inline uint32_t partial_meet(partial_handle *first, partial_handle *second)
 {
-    return first && second ? partial_door_meet(first, second) : PARTIAL_NULL;
+    if (!first || !second) {
+        return PARTIAL_NULL;
+    }
+    return partial_door_meet(first, second);
 }
 
 /*
@@ -303,7 +322,10 @@ static inline uint32_t partial_meet(partial_handle *first, partial_handle *secon
  */
 static inline uint32_t partial_close(partial_handle *memory)
 {
-    return memory ? partial_door_close(memory) : PARTIAL_NULL;
+    if (!memory) {
+        return PARTIAL_NULL;
+    }
+    return partial_door_close(memory);
 }
 
 /*
@@ -328,7 +350,10 @@ static inline uint32_t partial_values(partial_handle *closed, uint64_t *into, si
  */
 static inline uint32_t partial_free(partial_handle *handle)
 {
-    return handle ? partial_door_free(handle) : PARTIAL_NULL;
+    if (!handle) {
+        return PARTIAL_NULL;
+    }
+    return partial_door_free(handle);
 }
 
 #ifdef __cplusplus

@@ -94,6 +94,7 @@ static void test_refused_calls(void)
     const uint32_t which[3] = {0, 1, 2};
     uint64_t into[3] = {77, 77, 77};
     partial_handle none = PARTIAL_EMPTY;
+    partial_handle spare = PARTIAL_EMPTY;
     partial_update_answer set = {5, 5};
     partial_read_answer read = {5, 5};
     partial_scan_answer scanned = {5, 5, 5};
@@ -101,7 +102,7 @@ static void test_refused_calls(void)
     check(partial_update_if(&none, 0, 0, 1, &set) == PARTIAL_HOLDS_NONE, "a conditional one too");
     check(partial_read(&none, 0, &read) == PARTIAL_HOLDS_NONE, "a read at no port is refused");
     check(partial_scan(&none, which, 1, into, 1, &scanned) == PARTIAL_HOLDS_NONE, "a scan at no port is refused");
-    check(partial_take_port(&none, &none) == PARTIAL_HOLDS_NONE, "no memory has no port");
+    check(partial_take_port(&none, &spare) == PARTIAL_HOLDS_NONE, "no memory has no port");
     check(partial_close(&none) == PARTIAL_HOLDS_NONE, "an empty handle isn't closed");
     check(partial_values(&none, into, 3) == PARTIAL_HOLDS_NONE, "an empty handle has no values");
 
