@@ -40,6 +40,21 @@ fn drive(
     drive_for(rt, alloc, words, get, found, usize::MAX)
 }
 
+// Makes the steps of a whole getSet of a port that isn't marked.
+fn drive_new(
+    rt: &impl Abort,
+    alloc: Global,
+    words: &mut [u64],
+    sizes: Sizes,
+    found: &mut Found,
+) -> Result<Vec<Step>, AllocError>
+    requires { IsFor sizes found.old }
+    ensures { OnOk result (IsFor sizes found.new) }
+{
+    let mut get = GetSet::new(sizes, false);
+    drive(rt, alloc, words, &mut get, found)
+}
+
 // Makes so many steps of a getSet on the words, or all that are left of it.
 fn drive_for(
     rt: &impl Abort,
@@ -198,8 +213,7 @@ fn lost_exchange_of_the_list_head(rt: HostRuntime) -> Result<(), Fail> {
     let before = drive_for(&rt, rt.alloc(), &mut words, &mut first, &mut found, 7)?;
     assert_eq!(rt; before.len(), 7);
     assert_eq!(rt; first.step(), Some(Step::Exchange(3, 0, 10)));
-    let mut second = GetSet::new(sizes, false);
-    let won = drive(&rt, rt.alloc(), &mut words, &mut second, &mut others)?;
+    let won = drive_new(&rt, rt.alloc(), &mut words, sizes, &mut others)?;
     assert_eq!(rt; won.len(), 8);
     assert_eq!(rt; won.last().copied(), Some(Step::Exchange(3, 0, 13)));
     assert_eq!(rt; words.get(3).copied(), Some(13));
@@ -208,8 +222,7 @@ fn lost_exchange_of_the_list_head(rt: HostRuntime) -> Result<(), Fail> {
     assert_eq!(rt; words.get(3).copied(), Some(13));
     assert!(rt; found.indices().is_empty());
     assert!(rt; !first.lists_spent());
-    let mut third = GetSet::new(sizes, false);
-    let next = drive(&rt, rt.alloc(), &mut words, &mut third, &mut found)?;
+    let next = drive_new(&rt, rt.alloc(), &mut words, sizes, &mut others)?;
     let loads = [3, 13, 14, 15, 2].map(|word| Step::Load(word));
     assert_eq!(rt; next.as_slice(), loads.as_slice());
     Ok(())
