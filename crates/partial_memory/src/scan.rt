@@ -66,8 +66,8 @@ fn make_scan(words: &Words, seat: &mut Place, core: &mut Core) -> Reply
     let Some(slot) = join(words, seat, core, at) else {
         return Reply::Refused(Refused::SlotsSpent);
     };
-    core.begin_scanning(false);
-    scan_positions(words, seat, core, Positions::Asked);
+    let embedded = core.begin_scanning(false);
+    scan_positions(words, seat, core, Positions::Asked, embedded);
     leave(words, seat, core, slot)
 }
 

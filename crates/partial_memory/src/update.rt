@@ -59,9 +59,11 @@ fn make_update(words: &Words, seat: &mut Place, core: &mut Core, change: Change)
         let answer = make(words, seat, step);
         core.answer_set(answer);
     }
-    core.begin_scanning(true);
-    if !core.found_none() {
-        scan_positions(words, seat, core, Positions::Found);
+    let embedded = core.begin_scanning(true);
+    if core.found_none() {
+        core.keep_scan(embedded);
+    } else {
+        scan_positions(words, seat, core, Positions::Found, embedded);
     }
     write_record(words, seat, core, change, old)
 }
