@@ -242,7 +242,7 @@ impl Embedded {
             return;
         }
         rows.note(position, x, differs || was_changed);
-        self.moved = self.moved || differs;
+        self.moved = self.moved | differs;
         if position + 1 < indices.len() {
             self.stage = Stage::Collect {
                 position: position + 1,

@@ -1,7 +1,7 @@
-use Rattle.std.proofs.Common.{◌≡◌, ap, sym, subst, ◌∙◌}
+use Rattle.std.proofs.Common.{ap, sym, ◌∙◌}
 use Rattle.partial_machine.specs.Lines.{positions_of, with_embedded}
-use Rattle.partial_machine.specs.Machine.{CoreState, at_stage}
-use Rattle.partial_memory.specs.Inner.Lines.{behind_scan, machine_of}
+use Rattle.partial_machine.specs.Machine.{CoreState}
+use Rattle.partial_memory.specs.Inner.Lines.{machine_of}
 use Rattle.partial_memory.proofs.Parts.{scan_alone, scan_due, scan_over, scan_possible, scan_then}
 use Rattle.partial_memory.proofs.embedded.scan_positions.Goals as goal
 
@@ -65,5 +65,4 @@ answer_scan-requires-clause-possible c =
 pub returns-clause-machine : goal.returns-clause-machine
 returns-clause-machine c =
     let t = (machine_of c.args.seat.now.me).stage in
-    subst (λ (s : CoreState). machine_of c.loop-step.seat.me ≡ at_stage s (behind_scan t)) (sym c.keep_scan.ensures)
-    (scan_over (with_embedded c.loop-step.core c.loop-step.embedded) _ (positions_of c.loop-step.core c.args.positions) t c.loop-step.invariant.machine (sym c.scan_step.ensures ∙ c.in_default-scan_step.is))
+    scan_over (with_embedded c.loop-step.core c.loop-step.embedded) _ (positions_of c.loop-step.core c.args.positions) t c.loop-step.invariant.machine (sym c.scan_step.ensures ∙ c.in_default-scan_step.is)
