@@ -234,15 +234,15 @@ impl Embedded {
         ensures { (self.new, rows.new) ≡ after_load (length indices.now) (self.old, rows.old) position x }
     {
         let first = self.collects == 1;
-        let differs = !first && rows.latest(position) != x;
-        let was_changed = !first && rows.has_changed(position);
-        if differs && was_changed {
-            self.borrowed = Some(x);
-            self.stage = Stage::View { stamp: x };
-            return;
+        if first || rows.latest(position) != x {
+            if !first && rows.has_changed(position) {
+                self.borrowed = Some(x);
+                self.stage = Stage::View { stamp: x };
+                return;
+            }
+            rows.note(position, x, !first);
+            self.moved = self.moved || !first;
         }
-        rows.note(position, x, differs || was_changed);
-        self.moved = self.moved | differs;
         if position + 1 < indices.len() {
             self.stage = Stage::Collect {
                 position: position + 1,
