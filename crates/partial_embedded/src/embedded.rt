@@ -61,7 +61,7 @@ impl Model for Embedded {
 }
 
 impl Embedded {
-    ghost use Rattle.std.specs.Prelude.{IsSome, ◌≤◌};
+    ghost use Rattle.std.specs.Prelude.{IfSome, IsSome, ◌≤◌};
     ghost use Rattle.partial_words.specs.Layout.{pool_end};
     ghost use Rattle.partial_embedded.specs.Embedded.{ArePositions, IsFor, IsRecord, collecting, valuing, fresh, step_of, advance, left_of, most_steps, after_load, after_view, at_stage, with_value, pairs_from, advance_at};
 
@@ -150,7 +150,9 @@ impl Embedded {
     /// The position whose component word is due to be loaded, or None where the collects are over.
     #[inline(always)]
     pub fn collecting(&self) -> Option<usize>
-        ensures { result ≡ collecting self.now.stage }
+        ensures position { result ≡ collecting self.now.stage }
+        ensures stage { IfSome result (λ k. self.now.stage ≡ Collect k) }
+        ensures due { IfSome result (λ k. (indices : List ℕ) (rows : RowsState) → IsSome (step_of indices (self.now, rows))) }
     {
         match self.stage {
             Stage::Collect { position } => Some(position),
@@ -174,7 +176,9 @@ impl Embedded {
     /// The position whose record's value is due to be loaded, or None where no value is.
     #[inline(always)]
     pub fn valuing(&self) -> Option<usize>
-        ensures { result ≡ valuing self.now.stage }
+        ensures position { result ≡ valuing self.now.stage }
+        ensures stage { IfSome result (λ k. self.now.stage ≡ Value k) }
+        ensures due { IfSome result (λ k. (indices : List ℕ) (rows : RowsState) → IsSome (step_of indices (self.now, rows))) }
     {
         match self.stage {
             Stage::Value { position } => Some(position),
@@ -230,15 +234,15 @@ impl Embedded {
         ensures { (self.new, rows.new) ≡ after_load (length indices.now) (self.old, rows.old) position x }
     {
         let first = self.collects == 1;
-        let differs = !first && rows.latest(position) != x;
-        let was_changed = !first && rows.has_changed(position);
-        if differs && was_changed {
-            self.borrowed = Some(x);
-            self.stage = Stage::View { stamp: x };
-            return;
+        if first || rows.latest(position) != x {
+            if !first && rows.has_changed(position) {
+                self.borrowed = Some(x);
+                self.stage = Stage::View { stamp: x };
+                return;
+            }
+            rows.note(position, x, !first);
+            self.moved = self.moved || !first;
         }
-        rows.note(position, x, differs || was_changed);
-        self.moved = self.moved || differs;
         if position + 1 < indices.len() {
             self.stage = Stage::Collect {
                 position: position + 1,

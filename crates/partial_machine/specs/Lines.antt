@@ -7,7 +7,6 @@ use Rattle.partial_active.specs.Leave.{advance_leave}
 use Rattle.partial_active.specs.GetSet as finding
 use Rattle.partial_active.specs.GetSetAnswers as finding_answers
 use Rattle.partial_embedded.specs.Embedded as viewing
-use Rattle.partial_embedded.specs.declared.embedded.Stage.TheVariants.{Collect, Value}
 use Rattle.partial_machine.specs.declared.stage.Positions.{Positions}
 use Rattle.partial_machine.specs.declared.stage.Positions.TheVariants.{Asked, Found}
 use Rattle.partial_machine.specs.Machine.{CoreState, getting, scanning, with_getting, with_scanning}
@@ -38,9 +37,13 @@ pub record IsGetting (s : CoreState) : Type 0 where
   pub sizes : s.get_set.sizes ≡ s.sizes
   pub due : IsSome (set_step s)
 
+-- the machine with this embedded scan, whose caller keeps it while its steps are made
+abbrev pub with_embedded : CoreState → viewing.EmbeddedState → CoreState
+with_embedded s e = record s { embedded = e }
+
 -- the machine with an embedded scan that has made no step
 abbrev pub scan_begun : CoreState → Bool → CoreState
-scan_begun s shares = record s { embedded = viewing.fresh s.sizes shares }
+scan_begun s shares = with_embedded s (viewing.fresh s.sizes shares)
 
 -- the step that is due in the embedded scan of those indices
 abbrev pub scan_step : CoreState → List ℕ → Option Step
@@ -62,14 +65,6 @@ MayAnswerScan s x = viewing.IsPossible (scanning s) x
 pub record IsScanning (s : CoreState) (indices : List ℕ) : Type 0 where
   pub together : viewing.GoTogether indices (scanning s)
   pub sizes : s.embedded.sizes ≡ s.sizes
-
--- the component word of that position is due in the embedded scan
-abbrev pub IsCollecting : CoreState → ℕ → Type 0
-IsCollecting s k = s.embedded.stage ≡ Collect k
-
--- the value of that position's record is due in the embedded scan
-abbrev pub IsValuing : CoreState → ℕ → Type 0
-IsValuing s k = s.embedded.stage ≡ Value k
 
 -- the positions of an embedded scan: those that are asked for, or the indices found
 abbrev pub positions_of : CoreState → Positions → List ℕ

@@ -2,12 +2,13 @@
 use Rattle.std.proofs.Common.{ℕ, ◌≡◌, ◌==◌, cond, length, List, Option, Some, None, true, sym, ap, subst, ◌∙◌}
 use Rattle.std.specs.Option.{option_map_or}
 use Rattle.partial_words.specs.declared.step.Step.{Step}
+use Rattle.partial_embedded.specs.Embedded.{EmbeddedState}
 use Rattle.partial_machine.specs.declared.stage.Change.{Change}
 use Rattle.partial_machine.specs.declared.stage.Positions.{Positions}
 use Rattle.partial_machine.specs.declared.stage.Positions.TheVariants.{Asked, Found}
 use Rattle.partial_machine.specs.declared.stage.Stage.{Stage}
-use Rattle.partial_machine.specs.declared.stage.Stage.TheVariants.{GettingSet, Viewing, ClaimingRecord, Scanning, Leaving}
-use Rattle.partial_machine.specs.Lines.{MayAnswerScan, positions_of, scan_answered, scan_begun, scan_step, set_answered, set_step}
+use Rattle.partial_machine.specs.declared.stage.Stage.TheVariants.{GettingSet, Viewing, ClaimingRecord, Scanning}
+use Rattle.partial_machine.specs.Lines.{MayAnswerScan, positions_of, scan_answered, scan_begun, scan_step, set_answered, set_step, with_embedded}
 use Rattle.partial_machine.specs.Machine.{CoreState, advance, after_getting, after_scanning, at_stage, scanning, with_scanning}
 use Rattle.partial_machine.specs.Possible.{IsPossible}
 use Rattle.partial_memory.specs.Inner.Lines.{IsAtScan, behind_scan}
@@ -33,19 +34,24 @@ scan_due s g indices t step is due = is ∙ ap (λ (o : Option Step). option_map
 pub scan_over : (s g : CoreState) (indices : List ℕ) (t : Stage) → g ≡ scan_made s indices t → scan_step s indices ≡ None → g ≡ at_stage s (behind_scan t)
 scan_over s g indices t is over = is ∙ ap (λ (o : Option Step). option_map_or (λ _. at_stage s t) o (at_stage s (behind_scan t))) over
 
-pub scan_then : (s g : CoreState) (positions : Positions) (t : Stage) (a : ℕ) (d v : CoreState) → IsAtScan positions t → g ≡ at_stage s t → d ≡ advance g a →
-    v ≡ scan_answered s (positions_of s positions) a → d ≡ scan_made v (positions_of v positions) t
-scan_then s g Asked Scanning a d v at now then state = then ∙ ap (λ (t : CoreState). advance t a) now ∙ ap (λ (q : CoreState). scan_made q q.asked Scanning) (sym state)
-scan_then s g Found (Viewing c old) a d v at now then state =
-    then ∙ ap (λ (t : CoreState). advance t a) now ∙ ap (λ (q : CoreState). scan_made q q.found.indices (Viewing c old)) (sym state)
-scan_then s g _ _ a d v at now then state = absurd at
+-- the embedded scan is its caller's, before the answer and behind it
+module _ (s v : CoreState) (e f : EmbeddedState) where
+  pub scan_then : (g : CoreState) (positions : Positions) (t : Stage) (a : ℕ) (d : CoreState) → IsAtScan positions t → g ≡ at_stage (with_embedded s e) t → d ≡ advance g a →
+      with_embedded v f ≡ scan_answered (with_embedded s e) (positions_of s positions) a → d ≡ scan_made (with_embedded v f) (positions_of v positions) t
+  scan_then g Asked Scanning a d at now then state =
+      then ∙ ap (λ (t : CoreState). advance t a) now ∙ ap (λ (q : CoreState). scan_made q q.asked Scanning) (sym state)
+  scan_then g Found (Viewing c old) a d at now then state =
+      then ∙ ap (λ (t : CoreState). advance t a) now ∙ ap (λ (q : CoreState). scan_made q q.found.indices (Viewing c old)) (sym state)
+  scan_then g _ _ a d at now then state = absurd at
 
-pub scan_possible : (s g : CoreState) (positions : Positions) (t : Stage) (a : ℕ) → IsAtScan positions t → g ≡ at_stage s t → IsPossible g a → MayAnswerScan s a
-scan_possible s g Asked Scanning a at now possible = subst (λ (q : CoreState). IsPossible q a) now possible
-scan_possible s g Found (Viewing c old) a at now possible = subst (λ (q : CoreState). IsPossible q a) now possible
-scan_possible s g _ _ a at now possible = absurd at
+  -- nothing changes but the embedded scan and its rows
+  pub scan_alone : (o : CoreState) (indices : List ℕ) (a : ℕ) → with_embedded s e ≡ with_scanning o (e, s.rows) → with_embedded v f ≡ scan_answered (with_embedded s e) indices a →
+      with_embedded v f ≡ with_scanning o (f, v.rows)
+  scan_alone o indices a alone state =
+      state ∙ ap (λ (q : CoreState). with_scanning q (scanning (scan_answered (with_embedded s e) indices a))) alone ∙ ap (λ (q : CoreState). with_scanning o (scanning q)) (sym state)
 
--- nothing changes but the embedded scan
-pub scan_alone : (o s v : CoreState) (indices : List ℕ) (a : ℕ) → s ≡ with_scanning o (scanning s) → v ≡ scan_answered s indices a → v ≡ with_scanning o (scanning v)
-scan_alone o s v indices a alone state =
-    state ∙ ap (λ (q : CoreState). with_scanning q (scanning (scan_answered s indices a))) alone ∙ ap (λ (q : CoreState). with_scanning o (scanning q)) (sym state)
+pub scan_possible : (s g : CoreState) (e : EmbeddedState) (positions : Positions) (t : Stage) (a : ℕ) → IsAtScan positions t → g ≡ at_stage (with_embedded s e) t → IsPossible g a →
+    MayAnswerScan (with_embedded s e) a
+scan_possible s g e Asked Scanning a at now possible = subst (λ (q : CoreState). IsPossible q a) now possible
+scan_possible s g e Found (Viewing c old) a at now possible = subst (λ (q : CoreState). IsPossible q a) now possible
+scan_possible s g e _ _ a at now possible = absurd at

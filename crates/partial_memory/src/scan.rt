@@ -7,7 +7,7 @@ ghost use Rattle.partial_model.specs.declared.call.Refused.TheVariants as refuse
 ghost use Rattle.partial_machine.specs.declared.stage.Reply.TheVariants as reply;
 ghost use Rattle.partial_machine.specs.declared.stage.Stage.TheVariants.{Idle, ScanBegun, StoringAnnouncement, Scanning, Leaving};
 ghost use Rattle.partial_machine.specs.Machine.{at_stage, begin_joining, reply_of};
-ghost use Rattle.partial_machine.specs.Lines.{joined, scan_begun};
+ghost use Rattle.partial_machine.specs.Lines.{joined, scan_begun, with_embedded};
 ghost use Rattle.partial_memory.specs.Rule.{IsBadgeOfOne, IsOne, one_in, one_of};
 ghost use Rattle.partial_memory.specs.Inner.Steps.{Begins, Ended};
 ghost use Rattle.partial_memory.specs.Inner.Lines.{IsGoing, Leads, announcing, machine_of};
@@ -18,6 +18,7 @@ use crate::port::take_seat;
 use crate::rule::{Place, View, Words};
 use atomic_table::Badge;
 use partial_core::{Core, Reply};
+use partial_embedded::Embedded;
 use partial_machine::Positions;
 use partial_model::Refused;
 use partial_words::Step;
@@ -66,9 +67,9 @@ fn make_scan(words: &Words, seat: &mut Place, core: &mut Core) -> Reply
     let Some(slot) = join(words, seat, core, at) else {
         return Reply::Refused(Refused::SlotsSpent);
     };
-    core.begin_scanning(false);
-    scan_positions(words, seat, core, Positions::Asked);
-    leave(words, seat, core, slot)
+    let begun = core.begin_scanning(false);
+    let embedded = scan_positions(words, seat, core, Positions::Asked, begun);
+    leave(words, seat, core, slot, embedded)
 }
 
 // Stores word `k` of the announcement at `at`.
@@ -112,10 +113,10 @@ fn join(words: &Words, seat: &mut Place, core: &mut Core, at: u64) -> Option<u32
 
 // The end of a scan, whose embedded scan is finished: it leaves its slot.
 #[inline(always)]
-fn leave(words: &Words, seat: &mut Place, core: &mut Core, slot: u32) -> Reply
+fn leave(words: &Words, seat: &mut Place, core: &mut Core, slot: u32, embedded: Embedded) -> Reply
     requires going { IsGoing words.now.table_id words.now.key seat.old.table_id seat.old.me }
     requires idle { core.old.stage ≡ Idle }
-    requires machine { machine_of seat.old.me ≡ at_stage core.old Leaving }
+    requires machine { machine_of seat.old.me ≡ at_stage (with_embedded core.old embedded) Leaving }
     requires slot { core.old.leave ≡ record { sizes = core.old.sizes; slot = slot; left = false } }
     ensures going { IsGoing words.now.table_id words.now.key seat.new.table_id seat.new.me }
     ensures leads { Leads (one_of seat.old.me.0) (one_of seat.new.me.0) }
@@ -125,5 +126,6 @@ fn leave(words: &Words, seat: &mut Place, core: &mut Core, slot: u32) -> Reply
     let word = core.sizes().slot_word(slot);
     make(words, seat, Step::Store(word, 1));
     core.leave();
+    core.keep_scan(embedded);
     core.scanned_reply()
 }

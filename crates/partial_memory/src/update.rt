@@ -1,13 +1,15 @@
 //! An update in straight lines. Its getSet and its embedded scan are made by their machines, each in a loop of
 //! its own.
 
-ghost use Rattle.std.specs.Prelude.{◌≡◌, ◌<◌, ◌+◌, Some};
+ghost use Rattle.std.specs.Prelude.{◌≡◌, ◌<◌, ◌+◌, true, IsSome, Some};
 ghost use Rattle.partial_words.specs.Layout.{total};
 ghost use Rattle.partial_machine.specs.declared.stage.Stage.TheVariants.{Idle, UpdateBegun, ClaimingRecord};
-ghost use Rattle.partial_machine.specs.Machine.{at_stage, record_size, reply_of};
+ghost use Rattle.partial_machine.specs.declared.stage.Positions.TheVariants.{Found};
+ghost use Rattle.partial_machine.specs.Machine.{at_stage, record_size, reply_of, scanning, with_scanning};
+ghost use Rattle.partial_machine.specs.Lines.{IsScanning, scan_begun, scan_step};
 ghost use Rattle.partial_memory.specs.Rule.{IsBadgeOfOne, IsOne, one_in, one_of};
 ghost use Rattle.partial_memory.specs.Inner.Steps.{Begins, Ended};
-ghost use Rattle.partial_memory.specs.Inner.Lines.{IsGoing, Leads, machine_of, writing};
+ghost use Rattle.partial_memory.specs.Inner.Lines.{IsAtScan, IsGoing, Leads, behind_scan, machine_of, writing};
 
 use crate::embedded::scan_positions;
 use crate::lines::{begin_update, make};
@@ -59,11 +61,33 @@ fn make_update(words: &Words, seat: &mut Place, core: &mut Core, change: Change)
         let answer = make(words, seat, step);
         core.answer_set(answer);
     }
-    core.begin_scanning(true);
-    if !core.found_none() {
-        scan_positions(words, seat, core, Positions::Found);
+    if core.found_none() {
+        let begun = core.begin_scanning(true);
+        core.keep_scan(begun);
+    } else {
+        scan_found(words, seat, core);
     }
     write_record(words, seat, core, change, old)
+}
+
+// Makes the embedded scan of the indices found. It stands apart, since mostly nobody scans, and then an update needs
+// no room for it.
+#[inline(never)]
+fn scan_found(words: &Words, seat: &mut Place, core: &mut Core)
+    requires going { IsGoing words.now.table_id words.now.key seat.old.table_id seat.old.me }
+    requires idle { core.old.stage ≡ Idle }
+    requires scanning { IsScanning (scan_begun core.old true) core.old.found.indices }
+    requires due { IsSome (scan_step (scan_begun core.old true) core.old.found.indices) }
+    requires stage { IsAtScan Found (machine_of seat.old.me).stage }
+    requires machine { machine_of seat.old.me ≡ at_stage (scan_begun core.old true) (machine_of seat.old.me).stage }
+    ensures going { IsGoing words.now.table_id words.now.key seat.new.table_id seat.new.me }
+    ensures leads { Leads (one_of seat.old.me.0) (one_of seat.new.me.0) }
+    ensures machine { machine_of seat.new.me ≡ at_stage core.new (behind_scan (machine_of seat.old.me).stage) }
+    ensures core { core.new ≡ with_scanning core.old (scanning core.new) }
+{
+    let begun = core.begin_scanning(true);
+    let embedded = scan_positions(words, seat, core, Positions::Found, begun);
+    core.keep_scan(embedded);
 }
 
 // The end of an update that has replaced `old`: its record is claimed and written, and its component exchanged.

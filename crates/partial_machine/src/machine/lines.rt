@@ -1,14 +1,16 @@
 //! The machines in a port's machine, one by one. Who makes the steps of a call in straight lines keeps the
-//! stage, and the port's machine stays idle: it keeps the marks, the positions, what was found and the rows.
+//! stage, and the machine of an embedded scan while that is made. The port's machine stays idle: it keeps the
+//! marks, the positions, what was found and the rows.
 
-ghost use Rattle.std.specs.Prelude.{◌≡◌, ◌<◌, ◌≤◌, ◌==◌, ℕ, List, length, slice_index, Some, None, true, IsSome, IfSome, OnOk, IfErr};
+ghost use Rattle.std.specs.Prelude.{◌≡◌, ◌<◌, ◌≤◌, ◌==◌, length, slice_index, Some, None, true, IsSome, OnOk, IfErr};
 ghost use Rattle.partial_words.specs.Announcement.{announcement_block, announcement_size};
 ghost use Rattle.partial_active.specs.Leave.{step_of_leave};
-ghost use Rattle.partial_embedded.specs.Embedded.{collecting, valuing};
+ghost use Rattle.partial_embedded.specs.Embedded.{fresh};
+ghost use Rattle.partial_embedded.specs.declared.embedded.Stage.TheVariants.{Collect, Value};
 ghost use Rattle.partial_machine.specs.declared.stage.Stage.TheVariants.{Idle};
 ghost use Rattle.partial_machine.specs.Machine.{scanned_reply};
 ghost use Rattle.partial_machine.specs.Calls.{scan_refusal, update_refusal};
-ghost use Rattle.partial_machine.specs.Lines.{IsCollecting, IsGetting, IsScanning, IsValuing, MayAnswerScan, MayAnswerSet, asking, joined, left, positions_of, scan_answered, scan_begun, scan_left, scan_step, set_answered, set_begun, set_left, set_step, slots_marked};
+ghost use Rattle.partial_machine.specs.Lines.{IsGetting, IsScanning, MayAnswerScan, MayAnswerSet, asking, joined, left, positions_of, scan_answered, scan_left, scan_step, set_answered, set_begun, set_left, set_step, slots_marked, with_embedded};
 
 use super::{Core, set_asked};
 use crate::stage::{Positions, Reply};
@@ -78,118 +80,127 @@ impl Core {
         self.found.indices().is_empty()
     }
 
-    /// An embedded scan begins. One that shares stops at the reference of a view that it borrows.
+    /// An embedded scan that has made no step. One that shares stops at the reference of a view that it borrows.
+    /// Its caller keeps it while it makes its steps, and hands it back to [`Core::keep_scan`].
     #[inline(always)]
-    pub fn begin_scanning(&mut self, shares: bool)
+    pub fn begin_scanning(&self, shares: bool) -> Embedded
+        ensures { result ≡ fresh self.now.sizes shares }
+    {
+        Embedded::new(self.sizes, shares)
+    }
+
+    /// Keeps an embedded scan that its caller made, for the reply of a scan or the record of an update.
+    #[inline(always)]
+    pub fn keep_scan(&mut self, embedded: Embedded)
         requires { self.old.stage ≡ Idle }
-        ensures { self.new ≡ scan_begun self.old shares }
+        ensures { self.new ≡ with_embedded self.old embedded }
     {
-        self.embedded = Embedded::new(self.sizes, shares);
+        self.embedded = embedded;
     }
 
-    /// The step that is due in an embedded scan of these positions, or None once that is finished.
+    /// The step that is due in this embedded scan of these positions, or None once that is finished.
     #[inline(always)]
-    pub fn scan_step(&self, positions: Positions) -> Option<Step>
-        requires { IsScanning self.now (positions_of self.now positions) }
-        ensures { result ≡ scan_step self.now (positions_of self.now positions) }
+    pub fn scan_step(&self, embedded: &Embedded, positions: Positions) -> Option<Step>
+        requires { IsScanning (with_embedded self.now embedded.now) (positions_of self.now positions) }
+        ensures { result ≡ scan_step (with_embedded self.now embedded.now) (positions_of self.now positions) }
     {
         match positions {
-            Positions::Asked => self.embedded.step(&self.rows, &self.asked),
-            Positions::Found => self.embedded.step(&self.rows, self.found.indices()),
+            Positions::Asked => embedded.step(&self.rows, &self.asked),
+            Positions::Found => embedded.step(&self.rows, self.found.indices()),
         }
     }
 
-    /// An embedded scan of these positions takes in the answer to the step that is due.
+    /// This embedded scan of these positions takes in the answer to the step that is due.
     #[inline(always)]
-    pub fn answer_scan(&mut self, positions: Positions, x: u64)
+    pub fn answer_scan(&mut self, embedded: &mut Embedded, positions: Positions, x: u64)
         requires idle { self.old.stage ≡ Idle }
-        requires scanning { IsScanning self.old (positions_of self.old positions) }
-        requires possible { MayAnswerScan self.old x }
-        ensures state { self.new ≡ scan_answered self.old (positions_of self.old positions) x }
-        ensures scanning { IsScanning self.new (positions_of self.new positions) }
-        ensures falls { scan_left self.new (positions_of self.new positions) <
-            scan_left self.old (positions_of self.old positions) }
+        requires scanning { IsScanning (with_embedded self.old embedded.old) (positions_of self.old positions) }
+        requires possible { MayAnswerScan (with_embedded self.old embedded.old) x }
+        ensures state { with_embedded self.new embedded.new ≡
+            scan_answered (with_embedded self.old embedded.old) (positions_of self.old positions) x }
+        ensures kept { self.new.embedded ≡ self.old.embedded }
+        ensures scanning { IsScanning (with_embedded self.new embedded.new) (positions_of self.new positions) }
+        ensures falls { scan_left (with_embedded self.new embedded.new) (positions_of self.new positions) <
+            scan_left (with_embedded self.old embedded.old) (positions_of self.old positions) }
     {
         match positions {
-            Positions::Asked => self.embedded.answer(&mut self.rows, &self.asked, x),
-            Positions::Found => self
-                .embedded
-                .answer(&mut self.rows, self.found.indices(), x),
+            Positions::Asked => embedded.answer(&mut self.rows, &self.asked, x),
+            Positions::Found => embedded.answer(&mut self.rows, self.found.indices(), x),
         }
     }
 
-    /// The step that is due in an embedded scan of these positions that isn't finished.
+    /// The step that is due in this embedded scan of these positions, which isn't finished.
     #[inline(always)]
-    pub fn due_step(&self, positions: Positions) -> Step
-        requires scanning { IsScanning self.now (positions_of self.now positions) }
-        requires due { IsSome (scan_step self.now (positions_of self.now positions)) }
-        ensures { scan_step self.now (positions_of self.now positions) ≡ Some result }
+    pub fn due_step(&self, embedded: &Embedded, positions: Positions) -> Step
+        requires scanning { IsScanning (with_embedded self.now embedded.now) (positions_of self.now positions) }
+        requires due { IsSome (scan_step (with_embedded self.now embedded.now) (positions_of self.now positions)) }
+        ensures { scan_step (with_embedded self.now embedded.now) (positions_of self.now positions) ≡ Some result }
     {
-        let Some(step) = self.scan_step(positions) else {
+        let Some(step) = self.scan_step(embedded, positions) else {
             unreachable!()
         };
         step
     }
 
-    /// The position whose component word is due in an embedded scan, or None where its collects are over.
+    /// This embedded scan of these positions takes in the component word of this one.
     #[inline(always)]
-    pub fn collecting(&self) -> Option<usize>
-        ensures position { result ≡ collecting self.now.embedded.stage }
-        ensures stage { IfSome result (IsCollecting self.now) }
-        ensures due { IfSome result (λ k. (indices : List ℕ) → IsSome (scan_step self.now indices)) }
-    {
-        self.embedded.collecting()
-    }
-
-    /// An embedded scan of these positions takes in the component word of this one.
-    #[inline(always)]
-    pub fn answer_collect(&mut self, positions: Positions, position: usize, x: u64)
+    pub fn answer_collect(
+        &mut self,
+        embedded: &mut Embedded,
+        positions: Positions,
+        position: usize,
+        x: u64,
+    )
         requires idle { self.old.stage ≡ Idle }
-        requires scanning { IsScanning self.old (positions_of self.old positions) }
-        requires stage { IsCollecting self.old position }
-        requires possible { MayAnswerScan self.old x }
-        ensures state { self.new ≡ scan_answered self.old (positions_of self.old positions) x }
-        ensures scanning { IsScanning self.new (positions_of self.new positions) }
-        ensures falls { scan_left self.new (positions_of self.new positions) <
-            scan_left self.old (positions_of self.old positions) }
+        requires scanning { IsScanning (with_embedded self.old embedded.old) (positions_of self.old positions) }
+        requires stage { embedded.old.stage ≡ Collect position }
+        requires possible { MayAnswerScan (with_embedded self.old embedded.old) x }
+        ensures state { with_embedded self.new embedded.new ≡
+            scan_answered (with_embedded self.old embedded.old) (positions_of self.old positions) x }
+        ensures kept { self.new.embedded ≡ self.old.embedded }
+        ensures scanning { IsScanning (with_embedded self.new embedded.new) (positions_of self.new positions) }
+        ensures falls { scan_left (with_embedded self.new embedded.new) (positions_of self.new positions) <
+            scan_left (with_embedded self.old embedded.old) (positions_of self.old positions) }
     {
-        let rows = &mut self.rows;
         match positions {
-            Positions::Asked => self.embedded.answer_collect(rows, &self.asked, position, x),
-            Positions::Found => self
-                .embedded
-                .answer_collect(rows, self.found.indices(), position, x),
+            Positions::Asked => embedded.answer_collect(&mut self.rows, &self.asked, position, x),
+            Positions::Found => embedded.answer_collect(
+                &mut self.rows,
+                self.found.indices(),
+                position,
+                x,
+            ),
         }
     }
 
-    /// The position whose record's value is due in an embedded scan, or None where no value is.
+    /// This embedded scan of these positions takes in the value of this one's record.
     #[inline(always)]
-    pub fn valuing(&self) -> Option<usize>
-        ensures position { result ≡ valuing self.now.embedded.stage }
-        ensures stage { IfSome result (IsValuing self.now) }
-        ensures due { IfSome result (λ k. (indices : List ℕ) → IsSome (scan_step self.now indices)) }
-    {
-        self.embedded.valuing()
-    }
-
-    /// An embedded scan of these positions takes in the value of this one's record.
-    #[inline(always)]
-    pub fn answer_value(&mut self, positions: Positions, position: usize, x: u64)
+    pub fn answer_value(
+        &mut self,
+        embedded: &mut Embedded,
+        positions: Positions,
+        position: usize,
+        x: u64,
+    )
         requires idle { self.old.stage ≡ Idle }
-        requires scanning { IsScanning self.old (positions_of self.old positions) }
-        requires stage { IsValuing self.old position }
-        requires possible { MayAnswerScan self.old x }
-        ensures state { self.new ≡ scan_answered self.old (positions_of self.old positions) x }
-        ensures scanning { IsScanning self.new (positions_of self.new positions) }
-        ensures falls { scan_left self.new (positions_of self.new positions) <
-            scan_left self.old (positions_of self.old positions) }
+        requires scanning { IsScanning (with_embedded self.old embedded.old) (positions_of self.old positions) }
+        requires stage { embedded.old.stage ≡ Value position }
+        requires possible { MayAnswerScan (with_embedded self.old embedded.old) x }
+        ensures state { with_embedded self.new embedded.new ≡
+            scan_answered (with_embedded self.old embedded.old) (positions_of self.old positions) x }
+        ensures kept { self.new.embedded ≡ self.old.embedded }
+        ensures scanning { IsScanning (with_embedded self.new embedded.new) (positions_of self.new positions) }
+        ensures falls { scan_left (with_embedded self.new embedded.new) (positions_of self.new positions) <
+            scan_left (with_embedded self.old embedded.old) (positions_of self.old positions) }
     {
-        let rows = &mut self.rows;
         match positions {
-            Positions::Asked => self.embedded.answer_value(rows, &self.asked, position, x),
-            Positions::Found => self
-                .embedded
-                .answer_value(rows, self.found.indices(), position, x),
+            Positions::Asked => embedded.answer_value(&mut self.rows, &self.asked, position, x),
+            Positions::Found => embedded.answer_value(
+                &mut self.rows,
+                self.found.indices(),
+                position,
+                x,
+            ),
         }
     }
 

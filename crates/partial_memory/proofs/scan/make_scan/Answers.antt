@@ -25,7 +25,7 @@ returns-clause-ended c =
     let x = one_of c.args.seat.now.me.0 in
     record {
       machine = machine_of c.leave.new.seat.me;
-      made = c.leave.ensures.leads b x c.requires.begins (c.scan_positions.ensures.leads b x c.requires.begins (c.join.ensures.leads b x c.requires.begins c.loop-k.invariant.made));
+      made = c.leave.ensures.leads b x c.requires.begins (c.scan_positions-embedded.ensures.leads b x c.requires.begins (c.join.ensures.leads b x c.requires.begins c.loop-k.invariant.made));
       replies = c.leave.ensures.replies;
       idle = c.leave.ensures.core;
     }

@@ -6,7 +6,7 @@ use Rattle.partial_memory.specs.Inner.Steps.{CallMade}
 use Rattle.partial_memory.specs.Inner.Lines.{IsGoing, machine_of}
 use Rattle.partial_memory.proofs.Parts.{set_then}
 use Rattle.partial_memory.proofs.update.make_update.Goals as goal
-use Rattle.partial_memory.proofs.update.make_update.Goals.{then-not-found_none, else-not-found_none}
+use Rattle.partial_memory.proofs.update.make_update.Goals.{else-found_none, then-found_none}
 
 pub loop-step-preserved : goal.loop-step-preserved
 loop-step-preserved c = record {
@@ -17,18 +17,18 @@ loop-step-preserved c = record {
 }
 
 pub write_record-requires-clause-going : goal.write_record-requires-clause-going
-write_record-requires-clause-going c = elim c.if-not-found_none.branch [
-  | then-not-found_none w ↦ subst (λ s. IsGoing c.args.words.now.table_id c.args.words.now.key s.table_id s.me) (sym w.seat-is) w.scan_positions.ensures.going
-  | else-not-found_none w ↦ subst (λ s. IsGoing c.args.words.now.table_id c.args.words.now.key s.table_id s.me) (sym w.seat-is) c.loop-step.invariant.going
+write_record-requires-clause-going c = elim c.if-found_none.branch [
+  | else-found_none w ↦ subst (λ s. IsGoing c.args.words.now.table_id c.args.words.now.key s.table_id s.me) (sym w.seat-is) w.scan_found.ensures.going
+  | then-found_none w ↦ subst (λ s. IsGoing c.args.words.now.table_id c.args.words.now.key s.table_id s.me) (sym w.seat-is) c.loop-step.invariant.going
 ]
 
 pub returns-clause-ended : goal.returns-clause-ended
 returns-clause-ended c =
     let b = at_stage c.args.core.now (UpdateBegun c.args.change) in
     let x = one_of c.args.seat.now.me.0 in
-    let made : CallMade b x (machine_of c.if-not-found_none.seat.me) (one_of c.if-not-found_none.seat.me.0) = elim c.if-not-found_none.branch [
-      | then-not-found_none w ↦ subst (λ s. CallMade b x (machine_of s.me) (one_of s.me.0)) (sym w.seat-is) (w.scan_positions.ensures.leads b x c.requires.begins c.loop-step.invariant.made)
-      | else-not-found_none w ↦ subst (λ s. CallMade b x (machine_of s.me) (one_of s.me.0)) (sym w.seat-is) c.loop-step.invariant.made
+    let made : CallMade b x (machine_of c.if-found_none.seat.me) (one_of c.if-found_none.seat.me.0) = elim c.if-found_none.branch [
+      | else-found_none w ↦ subst (λ s. CallMade b x (machine_of s.me) (one_of s.me.0)) (sym w.seat-is) (w.scan_found.ensures.leads b x c.requires.begins c.loop-step.invariant.made)
+      | then-found_none w ↦ subst (λ s. CallMade b x (machine_of s.me) (one_of s.me.0)) (sym w.seat-is) c.loop-step.invariant.made
     ] in
     record {
       machine = machine_of c.write_record.new.seat.me;
