@@ -238,6 +238,7 @@ impl Port {
     ///
     /// # Errors
     /// [`Refused::Component`] and [`Refused::PoolSpent`].
+    #[inline]
     pub fn update(&mut self, component: u32, value: u64) -> Result<Updated, Refused> {
         let mut answer = raw::UpdateAnswer::default();
         // SAFETY: the handle and the place for the answer are borrowed for the call.
@@ -264,6 +265,7 @@ impl Port {
     ///
     /// # Errors
     /// [`Refused::Component`] and [`Refused::PoolSpent`].
+    #[inline]
     pub fn update_if(
         &mut self,
         component: u32,
@@ -286,6 +288,7 @@ impl Port {
     ///
     /// # Errors
     /// [`Refused::Component`].
+    #[inline]
     pub fn read(&mut self, component: u32) -> Result<Value, Refused> {
         let mut answer = raw::ReadAnswer::default();
         // SAFETY: the handle and the place for the answer are borrowed for the call.
@@ -304,6 +307,7 @@ impl Port {
     /// # Errors
     /// [`Refused::Length`], [`Refused::Component`], [`Refused::PoolSpent`] and
     /// [`Refused::SlotsSpent`]. `into` is as it was then.
+    #[inline]
     pub fn scan(&mut self, which: &[u32], into: &mut [u64]) -> Result<Scanned, Refused> {
         let mut answer = raw::ScanAnswer::default();
         // SAFETY: the handle, both slices and the place for the answer are borrowed for the call.
