@@ -42,21 +42,25 @@ counts() {
             ;;
     esac
 }
+# compile OUT SOURCE [WORD..]: compiles this test in C over the library.
 compile() {
     out=$1
     shift
-    "${CC:-cc}" -std=c11 -Wall -Wextra -Werror -O1 "$@" -I bindings/c bindings/c/test.c \
+    "${CC:-cc}" -std=c11 -Wall -Wextra -Werror -O1 -I bindings/c "$@" \
         crates/partial_door/out/libpartial_door.a "$heap" -pthread -o "$out"
 }
 kit=$(dirname "$(rt doc)")
 heap=$kit/c/liblibc_c.a
 item "the static library is proved and built" sh -c 'cd crates/partial_door && rt lib --jobs 2'
-item "the C test is compiled" compile "$made/test"
+item "the C test is compiled" compile "$made/test" bindings/c/test.c
 counts "the C test" "$made/test"
 item "the header is one of C++ too" sh -c 'echo "#include \"partial.h\"" |
     "${CXX:-c++}" -std=c++17 -Wall -Wextra -Werror -I bindings/c -xc++ -fsyntax-only -'
-item "the C test is compiled with the address sanitizer" compile "$made/test_address" -fsanitize=address,undefined -g
+item "the C test is compiled with the address sanitizer" compile "$made/test_address" bindings/c/test.c \
+    -fsanitize=address,undefined -g
 counts "the C test with the address sanitizer" "$made/test_address"
+item "the test of refused growths is compiled" compile "$made/growths" bindings/c/growths.c
+counts "the test of refused growths" "$made/growths"
 if command -v cargo >/dev/null 2>&1; then
     PARTIAL_DOOR_HEAP=$heap
     export PARTIAL_DOOR_HEAP
