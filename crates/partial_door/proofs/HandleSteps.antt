@@ -63,8 +63,10 @@ module _ {M : Type 1} {𝓤 : Ura M} {𝓛 : Logic 𝓤} {K : Type 0} {Γ : List
   pub null_in : K → (hv : Val) (a : Global)
       → Step K 𝓛 (‵ ((Handle.the_row).own_val (record { ptr = null_ptr; alloc = a; held = None }) (vstruct (vcons vnull (vcons hv vnil)) ∷ [])) ∷ Γ) G (‵ (handle E a hv) ∷ Γ) G
   null_in t hv a = step (λ s. let v : Val = vstruct (vcons vnull (vcons hv vnil)) in
-      feq_i t Ptr null_ptr null_ptr refl $ nothing t $ move t (2 ∷ 0 ∷ []) $ fjoin t $ feq_i t (List Val) (vnull ∷ []) (vnull ∷ []) refl $ fjoin t $ feq_i t (List Val) (v ∷ []) (v ∷ []) refl $ fjoin t $
-      fpack t (Valss (fields Handle.the_type)) (within (shape Handle.the_type) (to Handle.the_type (record { ptr = null_ptr; alloc = a; held = None })) (v ∷ [])) (vnull ∷ [], (hv ∷ [], tt)) $ fjoin t $ s)
+      feq_i t Ptr null_ptr null_ptr refl $ nothing t $ move t (2 ∷ 0 ∷ []) $ fjoin t $ feq_i t (List Val) (vnull ∷ []) (vnull ∷ []) refl $ fjoin t $ feq_i t (List Val) (v ∷ []) (v ∷ []) refl $
+      fjoin t $
+      fpack t (Valss (fields Handle.the_type)) (within (shape Handle.the_type) (to Handle.the_type (record { ptr = null_ptr; alloc = a; held = None })) (v ∷ [])) (vnull ∷ [], (hv ∷ [], tt)) $
+      fjoin t $ s)
 
 pub null_typed : (hv : Val) → Fits E.al hv → T (has_ty (box_ty E) (vstruct (vcons vnull (vcons hv vnil)))) × WT (vstruct (vcons vnull (vcons hv vnil)))
 null_typed hv fa = (and_tt (has_ty (α E.al) hv) fa.0, (record { fits = lit< tt }, (fa.1, tt)))

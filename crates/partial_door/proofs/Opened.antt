@@ -2,6 +2,7 @@
 use Rattle.std.proofs.Common.{◌≡◌, ◌<◌, ◌++◌, ℕ, List, [], ◌∷◌, sym, subst}
 use Rattle.std.specs.List.{AllByRecursion}
 use Rattle.std.specs.Arc.{arc_value}
+use Rattle.partial_model.proofs.AllLemmas.{all_back}
 use Rattle.partial_words.specs.Layout.{Layout, pool_base}
 use Rattle.partial_memory.specs.Rule.{newcomers}
 use Rattle.partial_memory.specs.Ports.{IsOf, MemoryView, PortView, new_ports}
@@ -31,18 +32,6 @@ opened_is x v opening ports z initial same named counted sized many values first
 pub more : (components : ℕ) (v : MemoryView) (p : PortView) (n : ℕ) → components ≡ v.about.sizes.m → IsOf v p → components < n → p.memory.about.sizes.m < n
 more components v p n size own less = subst (λ (w : MemoryView). w.about.sizes.m < n) (sym own) (subst (λ (k : ℕ). k < n) size less)
 
-pub all_front : {X : Type 0} (P : X → Type 0) (xs : List X) (y : X) → AllByRecursion P (xs ++ y ∷ []) → AllByRecursion P xs
-all_front P [] y all = tt
-all_front P (x ∷ xs) y all = (all.0, all_front P xs y all.1)
-
-pub all_last : {X : Type 0} (P : X → Type 0) (xs : List X) (y : X) → AllByRecursion P (xs ++ y ∷ []) → P y
-all_last P [] y all = all.0
-all_last P (x ∷ xs) y all = all_last P xs y all.1
-
-pub all_more : {X : Type 0} (P : X → Type 0) (xs : List X) (y : X) → AllByRecursion P xs → P y → AllByRecursion P (xs ++ y ∷ [])
-all_more P [] y all one = (one, tt)
-all_more P (x ∷ xs) y all one = (all.0, all_more P xs y all.1 one)
-
 -- the last port of a memory's is of it, by another share of the same memory
 pub last_of : (m v : MemoryView) (all front : List PortView) (p : PortView) → all ≡ front ++ p ∷ [] → AllByRecursion (IsOf m) all → v ≡ m → IsOf v p
-last_of m v all front p parts own same = subst (λ (w : MemoryView). IsOf w p) (sym same) (all_last (IsOf m) front p (subst (λ (xs : List PortView). AllByRecursion (IsOf m) xs) parts own))
+last_of m v all front p parts own same = subst (λ (w : MemoryView). IsOf w p) (sym same) (all_back (IsOf m) front (p ∷ []) (subst (λ (xs : List PortView). AllByRecursion (IsOf m) xs) parts own)).0

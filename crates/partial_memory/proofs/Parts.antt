@@ -17,10 +17,12 @@ use Rattle.partial_memory.specs.Inner.Lines.{IsAtScan, behind_scan}
 abbrev pub set_made : CoreState → Change → ℕ → CoreState
 set_made s c old = after_getting (at_stage s (GettingSet c old)) c old
 
-pub set_then : (s g : CoreState) (c : Change) (old a : ℕ) (step : Step) (d v : CoreState) → g ≡ set_made s c old → set_step s ≡ Some step → d ≡ advance g a → v ≡ set_answered s a → d ≡ set_made v c old
+pub set_then : (s g : CoreState) (c : Change) (old a : ℕ) (step : Step) (d v : CoreState) → g ≡ set_made s c old → set_step s ≡ Some step → d ≡ advance g a → v ≡ set_answered s a
+    → d ≡ set_made v c old
 set_then s g c old a step d v is due then state =
     let now : g ≡ at_stage s (GettingSet c old) =
-    is ∙ ap (λ (o : Option Step). option_map_or (λ _. at_stage s (GettingSet c old)) o (at_stage (scan_begun s true) (cond (length s.found.indices == 0) (ClaimingRecord c old) (Viewing c old)))) due in
+    is ∙ ap (λ (o : Option Step). option_map_or (λ _. at_stage s (GettingSet c old)) o
+    (at_stage (scan_begun s true) (cond (length s.found.indices == 0) (ClaimingRecord c old) (Viewing c old)))) due in
     then ∙ ap (λ (t : CoreState). advance t a) now ∙ ap (λ (q : CoreState). set_made q c old) (sym state)
 
 -- the same of the embedded scan of those positions, at its stage

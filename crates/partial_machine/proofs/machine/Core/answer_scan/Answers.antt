@@ -4,7 +4,8 @@ use Rattle.partial_machine.proofs.machine.Core.answer_scan.Goals as goal
 pub invariant_of-self : goal.invariant_of-self
 invariant_of-self c =
     let requires = rw c.in-Asked.is at (rw (← c.self.view_is) at c.requires) in
-    (scanned_idle _ _ _ _ _ (c.answer.new.self, c.answer.new.rows) c.self.invariant requires.idle requires.scanning (rw c.deref.ensures.value at c.answer.ensures.state) (rw c.deref.ensures.value at c.answer.ensures.together)).0
+    (scanned_idle _ _ _ _ _ (c.answer.new.self, c.answer.new.rows) c.self.invariant requires.idle requires.scanning (rw c.deref.ensures.value at c.answer.ensures.state)
+    (rw c.deref.ensures.value at c.answer.ensures.together)).0
 
 pub invariant_of-self-in-Found : goal.invariant_of-self-in-Found
 invariant_of-self-in-Found c =

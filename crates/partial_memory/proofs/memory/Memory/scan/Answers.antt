@@ -14,7 +14,14 @@ scan-requires c =
     let sizes : c.me.inside.core.sizes ≡ c.args.self.now.about.sizes = search rules in
     let few : length c.args.which.now ≤ c.me.inside.core.sizes.m = subst (λ (z : Layout). length c.args.which.now ≤ z.m) (sym sizes) c.requires.lengths.1 in
     let begins = scan_begins _ _ _ c.me.invariant c.me.inside.badge.table_id _ _ few some c.in_ok-ask.ensures.ok.0 (asked_begins c.me.inside.core _ _ some c.in_ok-ask.ensures.ok.1) in
-    record { table = search rules; words = search rules; one = c.me.invariant.one; own = search rules; idle = ap (λ (s : CoreState). s.stage) c.in_ok-ask.ensures.ok.1 ∙ c.me.invariant.between.idle; begins = begins.begins }
+    record {
+      table = search rules;
+      words = search rules;
+      one = c.me.invariant.one;
+      own = search rules;
+      idle = ap (λ (s : CoreState). s.stage) c.in_ok-ask.ensures.ok.1 ∙ c.me.invariant.between.idle;
+      begins = begins.begins;
+    }
 
 pub invariant_of-me-2 : goal.invariant_of-me-2
 invariant_of-me-2 c =
