@@ -200,6 +200,40 @@ fn vacated_list(rt: HostRuntime) -> Result<(), Fail> {
     Ok(())
 }
 
+// Makes a getSet that notes slot 0 and exchanges the list head for its list at word 13.
+fn win_exchange(
+    rt: &impl Abort,
+    alloc: Global,
+    words: &mut [u64],
+    sizes: Sizes,
+) -> Result<(), AllocError> {
+    let mut found = Found::new(alloc, sizes)?;
+    let steps = drive_new(rt, alloc, words, sizes, &mut found)?;
+    assert_eq!(rt; steps.len(), 8);
+    assert_eq!(rt; steps.last().copied(), Some(Step::Exchange(3, 0, 13)));
+    Ok(())
+}
+
+// Makes a getSet that notes slot 0 and whose exchange of the list head is lost to another's.
+fn lose_exchange(
+    rt: &impl Abort,
+    alloc: Global,
+    words: &mut [u64],
+    sizes: Sizes,
+) -> Result<(), AllocError> {
+    let mut found = Found::new(alloc, sizes)?;
+    let mut get = GetSet::new(sizes, false);
+    let steps = drive_for(rt, alloc, words, &mut get, &mut found, 7)?;
+    assert_eq!(rt; steps.len(), 7);
+    assert_eq!(rt; get.step(), Some(Step::Exchange(3, 0, 10)));
+    win_exchange(rt, alloc, words, sizes)?;
+    let last = drive(rt, alloc, words, &mut get, &mut found)?;
+    assert_eq!(rt; last.as_slice(), [Step::Exchange(3, 0, 10)].as_slice());
+    assert!(rt; found.indices().is_empty());
+    assert!(rt; !get.lists_spent());
+    Ok(())
+}
+
 // Two getSets note slot 0 while the list head is 0, and each claims words for a list of its own. The
 // second exchanges the head first. The first loses its exchange, which changes nothing: the head stays,
 // and the next getSet finds the list of the second and loads no slot of it.
@@ -207,24 +241,12 @@ fn vacated_list(rt: HostRuntime) -> Result<(), Fail> {
 fn lost_exchange_of_the_list_head(rt: HostRuntime) -> Result<(), Fail> {
     let sizes = Sizes::new(2, 4, 8, 64)?;
     let mut words = words_with(&rt, rt.alloc(), sizes, &[(2, 1), (5, 10), (6, 1)])?;
+    lose_exchange(&rt, rt.alloc(), &mut words, sizes)?;
+    assert_eq!(rt; words.get(3).copied(), Some(13));
     let mut found = Found::new(rt.alloc(), sizes)?;
-    let mut others = Found::new(rt.alloc(), sizes)?;
-    let mut first = GetSet::new(sizes, false);
-    let before = drive_for(&rt, rt.alloc(), &mut words, &mut first, &mut found, 7)?;
-    assert_eq!(rt; before.len(), 7);
-    assert_eq!(rt; first.step(), Some(Step::Exchange(3, 0, 10)));
-    let won = drive_new(&rt, rt.alloc(), &mut words, sizes, &mut others)?;
-    assert_eq!(rt; won.len(), 8);
-    assert_eq!(rt; won.last().copied(), Some(Step::Exchange(3, 0, 13)));
-    assert_eq!(rt; words.get(3).copied(), Some(13));
-    let lost = drive(&rt, rt.alloc(), &mut words, &mut first, &mut found)?;
-    assert_eq!(rt; lost.as_slice(), [Step::Exchange(3, 0, 10)].as_slice());
-    assert_eq!(rt; words.get(3).copied(), Some(13));
-    assert!(rt; found.indices().is_empty());
-    assert!(rt; !first.lists_spent());
-    let next = drive_new(&rt, rt.alloc(), &mut words, sizes, &mut others)?;
+    let steps = drive_new(&rt, rt.alloc(), &mut words, sizes, &mut found)?;
     let loads = [3, 13, 14, 15, 2].map(|word| Step::Load(word));
-    assert_eq!(rt; next.as_slice(), loads.as_slice());
+    assert_eq!(rt; steps.as_slice(), loads.as_slice());
     Ok(())
 }
 
