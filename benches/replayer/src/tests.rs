@@ -1,0 +1,45 @@
+use crate::{large, outcome, plan, replay};
+use std::path::Path;
+
+fn outcome_of(text: &[u8]) -> Option<Vec<u8>> {
+    Some(outcome::text(&replay::replay(&plan::read(text)?)))
+}
+
+/// The plans with an outcome: beside the others stands the line of a fault.
+#[test]
+fn outcomes_are_the_expected_ones() {
+    let plans = Path::new(env!("CARGO_MANIFEST_DIR")).join("../../plans");
+    let mut compared = 0;
+    for file in std::fs::read_dir(plans).expect("the plans stand beside the crates") {
+        let path = file.expect("it can be listed").path();
+        if path.extension().is_none_or(|extension| extension != "plan") {
+            continue;
+        }
+        let expected = std::fs::read(path.with_extension("expected")).expect("each plan has its text");
+        if expected.starts_with(b"partial: refused") {
+            continue;
+        }
+        let outcome = outcome_of(&std::fs::read(&path).expect("it can be read"));
+        assert_eq!(outcome.as_deref(), Some(expected.as_slice()), "{}", path.display());
+        compared += 1;
+    }
+    assert!(compared > 0);
+}
+
+#[test]
+fn what_is_no_plan_is_refused() {
+    for text in ["", "sizes 1 1 0 3\ninitial 5\nport\nsteps", "sizes 1 1 0 3\ninitial\nport\nsteps\n"] {
+        assert!(outcome_of(text.as_bytes()).is_none());
+    }
+}
+
+/// Each large plan has as much text as a plan may have, or says why not, and is finished by its turns.
+#[test]
+fn large_plans_are_finished() {
+    for text in [large::updates(), large::scans(), large::walk()] {
+        assert!(text.len() <= 4_194_304);
+        let outcome = outcome_of(&text).expect("it is a plan");
+        let unfinished = outcome.split(|byte| *byte == b'\n').any(|line| line.ends_with(b" -"));
+        assert!(!unfinished);
+    }
+}
