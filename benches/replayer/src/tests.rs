@@ -1,3 +1,4 @@
+use crate::number::push_number;
 use crate::{large, outcome, plan, replay};
 use std::path::Path;
 
@@ -41,5 +42,14 @@ fn large_plans_are_finished() {
         let outcome = outcome_of(&text).expect("it is a plan");
         let unfinished = outcome.split(|byte| *byte == b'\n').any(|line| line.ends_with(b" -"));
         assert!(!unfinished);
+    }
+}
+
+#[test]
+fn numbers_are_written_in_decimal() {
+    for number in (0..=1_000).chain([9_999, 10_000, 123_456_789, u64::MAX - 1, u64::MAX]) {
+        let mut text = b" ".to_vec();
+        push_number(&mut text, number);
+        assert_eq!(text, format!(" {number}").into_bytes());
     }
 }
