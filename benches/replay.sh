@@ -6,6 +6,10 @@
 set -eu
 program=$(realpath "${1:-$(dirname "$0")/../crates/partial/out/partial}")
 rounds=${2:-15}
+if [ ! -x "$program" ]; then
+    echo "replay.sh: no program $program" >&2
+    exit 2
+fi
 cd "$(dirname "$0")/replayer"
 made=$(mktemp -d)
 trap 'rm -rf "$made"' EXIT
