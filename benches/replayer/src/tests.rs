@@ -6,7 +6,7 @@ fn outcome_of(text: &[u8]) -> Option<Vec<u8>> {
     Some(outcome::text(&replay::replay(&plan::read(text)?)))
 }
 
-/// The plans with an outcome: beside the others stands the line of a fault.
+/// Beside a plan that isn't replayed to an outcome stands the line of its fault: those are left out.
 #[test]
 fn outcomes_are_the_expected_ones() {
     let plans = Path::new(env!("CARGO_MANIFEST_DIR")).join("../../plans");
@@ -34,7 +34,7 @@ fn what_is_no_plan_is_refused() {
     }
 }
 
-/// Each large plan has as much text as a plan may have, or says why not, and is finished by its turns.
+/// No large plan is longer than a plan may be, and the turns of each leave no call unfinished.
 #[test]
 fn large_plans_are_finished() {
     for text in [large::updates(), large::scans(), large::walk()] {
