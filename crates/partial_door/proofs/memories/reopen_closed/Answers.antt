@@ -1,4 +1,4 @@
-use Rattle.std.proofs.Common.{ℕ, ◌≤◌, length, ap, refl, subst, sym, ◌∙◌}
+use Rattle.std.proofs.Common.{◌≤◌, length, ap, refl, subst, sym, ◌∙◌}
 use Rattle.core.proofs.result.Match.{if_ok_then}
 use Rattle.partial_words.specs.Layout.{Layout, pool_base}
 use Rattle.partial_memory.specs.Ports.{MemoryView}
