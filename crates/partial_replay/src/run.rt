@@ -23,15 +23,14 @@ pub struct Run {
     pub ports: Vec<Port>,
 }
 
-// The words at opening.
+// The words at opening: behind the initial records all of them are 0.
 fn opening_words(alloc: Global, sizes: Sizes, initial: &[u64]) -> Result<Vec<u64>, AllocError>
     requires { length initial.now ≡ sizes.m }
     ensures { IfOk result (λ words. AreOpeningWords sizes initial.now words.items) }
 {
-    let total = sizes.total();
-    let mut words = Vec::with_capacity(alloc, total as usize)?;
-    for w in 0..total {
-        words.push(sizes.opening_word(initial, w))?;
+    let mut words = vec![in alloc; 0; sizes.total() as usize]?;
+    for w in 0..sizes.first_free() {
+        words[w as usize] = sizes.opening_word(initial, w);
     }
     Ok(words)
 }
