@@ -74,6 +74,7 @@ impl Run {
     }
 
     /// One turn of a port: it makes one step, or answers that it has no call left.
+    #[inline(always)]
     pub fn turn(
         &mut self,
         alloc: Global,
@@ -96,6 +97,7 @@ impl Run {
     }
 
     // Begins the port's next call where none is under way, or answers that none is left.
+    #[inline(always)]
     fn get_ready(
         &mut self,
         alloc: Global,
@@ -126,6 +128,7 @@ impl Run {
     }
 
     // The due step of a port whose call is under way.
+    #[inline(always)]
     fn make_step(
         &mut self,
         alloc: Global,
