@@ -8,51 +8,32 @@ use Rattle.partial_active.proofs.Sizes.{sizes_kept}
 use Rattle.partial_embedded.specs.Embedded as viewing
 use Rattle.partial_embedded.proofs.Keeps as viewed
 use Rattle.partial_machine.specs.declared.stage.Stage.TheVariants.{Idle}
-use Rattle.partial_machine.specs.Machine.{CoreState, with_getting, with_scanning}
+use Rattle.partial_machine.specs.Machine.{CoreState, getting, with_getting, with_scanning}
 use Rattle.partial_machine.specs.Sound.{IsMachine, is_sound_at}
-use Rattle.partial_machine.specs.Lines.{IsGetting, IsScanning, with_embedded, with_get_set}
+use Rattle.partial_machine.specs.Lines.{IsGetting, IsScanning, with_embedded}
 use Rattle.partial_machine.proofs.Indices.{AreIndices, few_indices, found_kept}
 
--- the getSet is its caller's, and what it found is the machine's
-pub got_idle : (s : CoreState) (g : finding.GetSetState) (room x : ℕ) (p : finding.Pair) → IsMachine s room → s.stage ≡ Idle → IsGetting (with_get_set s g)
-    → finding_answers.IsPossible (g, s.found) x → p ≡ finding.advance (g, s.found) x → finding_answers.GoTogether p → IsMachine (record s { found = p.1 }) room × IsGetting (with_getting s p)
-got_idle s g room x p w idle under possible is together =
-    let same : p.0.sizes ≡ s.sizes = sizes_kept (g, s.found) p x is ∙ under.sizes in
-    let before : AreIndices g.sizes.m s.found.indices = subst (λ (z : Layout). AreIndices z.m s.found.indices) (sym under.sizes)
-    (record { each = w.sound.indices.each; distinct = w.sound.distinct }) in
-    let then : AreIndices s.sizes.m (finding.advance (g, s.found) x).1.indices =
-    subst (λ (z : Layout). AreIndices z.m (finding.advance (g, s.found) x).1.indices) under.sizes (found_kept g.stage (g, s.found) x possible before) in
-    let named : AreIndices s.sizes.m p.1.indices = subst (λ (q : finding.Pair). AreIndices s.sizes.m q.1.indices) (sym is) then in (
-      record {
-        sizes = w.sizes;
-        port = w.port;
-        sound = record {
-          asked = w.sound.asked;
-          found = subst (λ z. AreBuffersFor z p.1) same together.sizes;
-          indices = record { few = few_indices s.sizes.m p.1.indices named; each = named.each };
-          distinct = named.distinct;
-          rows = w.sound.rows;
-          stage = subst (is_sound_at (record s { found = p.1 })) (sym idle) tt;
-        };
-        enough = w.enough;
-      },
-      record { together = together; sizes = same },
-    )
-
-pub kept_set_idle : (s : CoreState) (g : finding.GetSetState) (room : ℕ) → IsMachine s room → s.stage ≡ Idle → IsMachine (with_get_set s g) room
-kept_set_idle s g room w idle = record {
-  sizes = w.sizes;
-  port = w.port;
-  sound = record {
-    asked = w.sound.asked;
-    found = w.sound.found;
-    indices = w.sound.indices;
-    distinct = w.sound.distinct;
-    rows = w.sound.rows;
-    stage = subst (is_sound_at (with_get_set s g)) (sym idle) tt;
-  };
-  enough = w.enough;
-}
+pub got_idle : (s : CoreState) (room x : ℕ) (p : finding.Pair) → IsMachine s room → s.stage ≡ Idle → IsGetting s → finding_answers.IsPossible (getting s) x → p ≡ finding.advance (getting s) x →
+    finding_answers.GoTogether p → IsMachine (with_getting s p) room
+got_idle s room x p w idle g possible is together =
+    let same : p.0.sizes ≡ s.sizes = sizes_kept (getting s) p x is ∙ g.sizes in
+    let before : AreIndices s.get_set.sizes.m s.found.indices = subst (λ (z : Layout). AreIndices z.m s.found.indices) (sym g.sizes) (record { each = w.sound.indices.each; distinct = w.sound.distinct }) in
+    let then : AreIndices s.sizes.m (finding.advance (getting s) x).1.indices =
+    subst (λ (z : Layout). AreIndices z.m (finding.advance (getting s) x).1.indices) g.sizes (found_kept s.get_set.stage (getting s) x possible before) in
+    let named : AreIndices s.sizes.m p.1.indices = subst (λ (q : finding.Pair). AreIndices s.sizes.m q.1.indices) (sym is) then in
+    record {
+      sizes = w.sizes;
+      port = w.port;
+      sound = record {
+        asked = w.sound.asked;
+        found = subst (λ z. AreBuffersFor z p.1) same together.sizes;
+        indices = record { few = few_indices s.sizes.m p.1.indices named; each = named.each };
+        distinct = named.distinct;
+        rows = w.sound.rows;
+        stage = subst (is_sound_at (with_getting s p)) (sym idle) tt;
+      };
+      enough = w.enough;
+    }
 
 -- the embedded scan is its caller's, and the rows are the machine's
 pub scanned_idle : (s : CoreState) (e : viewing.EmbeddedState) (room x : ℕ) (indices : List ℕ) (p : viewing.Pair) → IsMachine s room → s.stage ≡ Idle → IsScanning (with_embedded s e) indices →

@@ -1,5 +1,5 @@
 -- The parts of a port's machine, one by one, for calls whose steps are made in straight lines.
-use Rattle.std.specs.Prelude.{ℕ, ◌≡◌, Bool, true, false, List, Option}
+use Rattle.std.specs.Prelude.{ℕ, ◌≡◌, Bool, true, false, List, Option, IsSome}
 use Rattle.partial_words.specs.declared.step.Step.{Step}
 use Rattle.partial_active.specs.declared.join.JoinStage.{JoinStage}
 use Rattle.partial_active.specs.declared.join.JoinStage.TheVariants.{Joined, Spent}
@@ -11,13 +11,9 @@ use Rattle.partial_machine.specs.declared.stage.Positions.{Positions}
 use Rattle.partial_machine.specs.declared.stage.Positions.TheVariants.{Asked, Found}
 use Rattle.partial_machine.specs.Machine.{CoreState, getting, scanning, with_getting, with_scanning}
 
--- the machine with this getSet, whose caller keeps it while its steps are made
-abbrev pub with_get_set : CoreState → finding.GetSetState → CoreState
-with_get_set s g = record s { get_set = g }
-
 -- the machine with a getSet that has made no step
 abbrev pub set_begun : CoreState → CoreState
-set_begun s = with_get_set s (finding.fresh s.sizes s.get_set.lists_spent)
+set_begun s = record s { get_set = finding.fresh s.sizes s.get_set.lists_spent }
 
 -- the step that is due in the getSet
 abbrev pub set_step : CoreState → Option Step
@@ -35,10 +31,11 @@ set_left s = finding.left_of s.get_set
 abbrev pub MayAnswerSet : CoreState → ℕ → Type 0
 MayAnswerSet s x = finding_answers.IsPossible (getting s) x
 
--- a getSet is under way, or it is finished
+-- a getSet is under way
 pub record IsGetting (s : CoreState) : Type 0 where
   pub together : finding_answers.GoTogether (getting s)
   pub sizes : s.get_set.sizes ≡ s.sizes
+  pub due : IsSome (set_step s)
 
 -- the machine with this embedded scan, whose caller keeps it while its steps are made
 abbrev pub with_embedded : CoreState → viewing.EmbeddedState → CoreState

@@ -56,12 +56,11 @@ fn make_update(words: &Words, seat: &mut Place, core: &mut Core, change: Change)
     if change.expected.is_some_and(|expected| expected != old) {
         return Reply::Changed { by: old };
     }
-    let mut get_set = core.begin_set();
-    while let Some(step) = get_set.step() {
+    core.begin_set();
+    while let Some(step) = core.set_step() {
         let answer = make(words, seat, step);
-        core.answer_set(&mut get_set, answer);
+        core.answer_set(answer);
     }
-    core.keep_set(get_set);
     if core.found_none() {
         let begun = core.begin_scanning(true);
         core.keep_scan(begun);

@@ -1,5 +1,5 @@
 //! The machines in a port's machine, one by one. Who makes the steps of a call in straight lines keeps the
-//! stage, and the machine of a getSet or an embedded scan while that is made. The port's machine stays idle: it keeps the
+//! stage, and the machine of an embedded scan while that is made. The port's machine stays idle: it keeps the
 //! marks, the positions, what was found and the rows.
 
 ghost use Rattle.std.specs.Prelude.{◌≡◌, ◌<◌, ◌≤◌, ◌==◌, length, slice_index, Some, None, true, IsSome, OnOk, IfErr};
@@ -10,7 +10,7 @@ ghost use Rattle.partial_embedded.specs.declared.embedded.Stage.TheVariants.{Col
 ghost use Rattle.partial_machine.specs.declared.stage.Stage.TheVariants.{Idle};
 ghost use Rattle.partial_machine.specs.Machine.{scanned_reply};
 ghost use Rattle.partial_machine.specs.Calls.{scan_refusal, update_refusal};
-ghost use Rattle.partial_machine.specs.Lines.{IsGetting, IsScanning, MayAnswerScan, MayAnswerSet, asking, joined, left, positions_of, scan_answered, scan_left, scan_step, set_answered, set_begun, set_left, set_step, slots_marked, with_embedded, with_get_set};
+ghost use Rattle.partial_machine.specs.Lines.{IsGetting, IsScanning, MayAnswerScan, MayAnswerSet, asking, joined, left, positions_of, scan_answered, scan_left, scan_step, set_answered, set_begun, set_left, set_step, slots_marked, with_embedded};
 
 use super::{Core, set_asked};
 use crate::stage::{Positions, Reply};
@@ -43,38 +43,33 @@ impl Core {
         Ok(())
     }
 
-    /// A getSet that has made no step. Its caller keeps it while it makes its steps, and hands it back to
-    /// [`Core::keep_set`].
+    /// A getSet begins.
     #[inline(always)]
-    pub fn begin_set(&self) -> GetSet
-        ensures state { with_get_set self.now result ≡ set_begun self.now }
-        ensures getting { IsGetting (with_get_set self.now result) }
-    {
-        GetSet::new(self.sizes, self.get_set.lists_spent())
-    }
-
-    /// Keeps a getSet that its caller made, for the mark of the list words.
-    #[inline(always)]
-    pub fn keep_set(&mut self, get_set: GetSet)
+    pub fn begin_set(&mut self)
         requires { self.old.stage ≡ Idle }
-        ensures { self.new ≡ with_get_set self.old get_set }
+        ensures { self.new ≡ set_begun self.old }
     {
-        self.get_set = get_set;
+        self.get_set = GetSet::new(self.sizes, self.get_set.lists_spent());
     }
 
-    /// This getSet takes in the answer to the step that is due.
+    /// The step that is due in the getSet, or None once that is finished.
     #[inline(always)]
-    pub fn answer_set(&mut self, get_set: &mut GetSet, x: u64)
-        requires idle { self.old.stage ≡ Idle }
-        requires getting { IsGetting (with_get_set self.old get_set.old) }
-        requires due { IsSome (set_step (with_get_set self.old get_set.old)) }
-        requires possible { MayAnswerSet (with_get_set self.old get_set.old) x }
-        ensures state { with_get_set self.new get_set.new ≡ set_answered (with_get_set self.old get_set.old) x }
-        ensures kept { self.new.get_set ≡ self.old.get_set }
-        ensures getting { IsGetting (with_get_set self.new get_set.new) }
-        ensures falls { set_left (with_get_set self.new get_set.new) < set_left (with_get_set self.old get_set.old) }
+    pub fn set_step(&self) -> Option<Step>
+        ensures { result ≡ set_step self.now }
     {
-        get_set.answer(&mut self.found, x);
+        self.get_set.step()
+    }
+
+    /// The getSet takes in the answer to the step that is due.
+    #[inline(always)]
+    pub fn answer_set(&mut self, x: u64)
+        requires idle { self.old.stage ≡ Idle }
+        requires getting { IsGetting self.old }
+        requires possible { MayAnswerSet self.old x }
+        ensures state { self.new ≡ set_answered self.old x }
+        ensures falls { set_left self.new < set_left self.old }
+    {
+        self.get_set.answer(&mut self.found, x);
     }
 
     /// Whether the getSet has found no index.

@@ -1,6 +1,5 @@
 use Rattle.std.proofs.Common.{ap, sym, ◌∙◌, subst}
 use Rattle.partial_machine.specs.declared.stage.Stage.TheVariants.{UpdateBegun}
-use Rattle.partial_machine.specs.Lines.{with_get_set}
 use Rattle.partial_machine.specs.Machine.{CoreState, at_stage}
 use Rattle.partial_memory.specs.Rule.{one_of}
 use Rattle.partial_memory.specs.Inner.Steps.{CallMade}
@@ -13,8 +12,7 @@ pub loop-step-preserved : goal.loop-step-preserved
 loop-step-preserved c = record {
   going = c.make-answer.ensures.going;
   made = c.make-answer.ensures.leads _ _ c.requires.begins c.loop-step.invariant.made;
-  machine = set_then (with_get_set c.loop-step.core c.loop-step.get_set) _ _ _ _ c.in-Some.step _ _ c.loop-step.invariant.machine (sym c.in-Some.ensures) c.make-answer.ensures.machine c.answer_set.ensures.state;
-  getting = c.answer_set.ensures.getting;
+  machine = set_then c.loop-step.core _ _ _ _ c.in-Some.step _ _ c.loop-step.invariant.machine (sym c.in-Some.ensures) c.make-answer.ensures.machine c.answer_set.ensures.state;
   idle = ap (λ (s : CoreState). s.stage) c.answer_set.ensures.state ∙ c.loop-step.invariant.idle;
 }
 

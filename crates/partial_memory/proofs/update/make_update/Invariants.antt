@@ -1,6 +1,6 @@
 use Rattle.std.proofs.Common.{◌≡◌}
 use Rattle.partial_machine.specs.declared.stage.Stage.TheVariants.{Idle, UpdateBegun}
-use Rattle.partial_machine.specs.Lines.{IsGetting, set_left, with_get_set}
+use Rattle.partial_machine.specs.Lines.{set_left}
 use Rattle.partial_machine.specs.Machine.{at_stage}
 use Rattle.partial_memory.specs.Rule.{one_of}
 use Rattle.partial_memory.specs.Inner.Steps.{CallMade}
@@ -16,10 +16,9 @@ abbrev pub invariant-loop-step : goal.invariant-loop-step
 invariant-loop-step l = record {
   going : IsGoing l.words.table_id l.words.key l.seat.table_id l.seat.me;
   made : CallMade (at_stage l.fn.core (UpdateBegun l.change)) (one_of l.fn.seat.me.0) (machine_of l.seat.me) (one_of l.seat.me.0);
-  machine : machine_of l.seat.me ≡ set_made (with_get_set l.core l.get_set) l.change l.old;
-  getting : IsGetting (with_get_set l.core l.get_set);
+  machine : machine_of l.seat.me ≡ set_made l.core l.change l.old;
   idle : l.core.stage ≡ Idle;
 }
 
 abbrev pub decreases-loop-step : goal.decreases-loop-step
-decreases-loop-step l = set_left (with_get_set l.core l.get_set)
+decreases-loop-step l = set_left l.core
