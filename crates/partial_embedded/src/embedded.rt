@@ -30,15 +30,16 @@ pub enum Stage {
 /// An embedded scan under way. It collects the component words of its positions, again and again, until
 /// two collects agree or one position shows a third record. In the first case it loads the values of the
 /// records, in the second it borrows that record's view.
+// The wide fields come first, so that no room is left between fields: it would be copied with them.
 #[derive(Debug, Drop)]
 pub struct Embedded {
-    sizes: Sizes,
-    shares: bool,
-    collects: u32,
-    moved: bool,
+    stage: Stage,
     borrowed: Option<u64>,
     view: u64,
-    stage: Stage,
+    sizes: Sizes,
+    collects: u32,
+    shares: bool,
+    moved: bool,
 }
 
 impl Model for Embedded {
@@ -152,7 +153,8 @@ impl Embedded {
     pub fn collecting(&self) -> Option<usize>
         ensures position { result ≡ collecting self.now.stage }
         ensures stage { IfSome result (λ k. self.now.stage ≡ Collect k) }
-        ensures due { IfSome result (λ k. (indices : List ℕ) (rows : RowsState) → IsSome (step_of indices (self.now, rows))) }
+        ensures due { IfSome result (λ k. (indices : List ℕ) (rows : RowsState) →
+            IsSome (step_of indices (self.now, rows))) }
     {
         match self.stage {
             Stage::Collect { position } => Some(position),
@@ -178,7 +180,8 @@ impl Embedded {
     pub fn valuing(&self) -> Option<usize>
         ensures position { result ≡ valuing self.now.stage }
         ensures stage { IfSome result (λ k. self.now.stage ≡ Value k) }
-        ensures due { IfSome result (λ k. (indices : List ℕ) (rows : RowsState) → IsSome (step_of indices (self.now, rows))) }
+        ensures due { IfSome result (λ k. (indices : List ℕ) (rows : RowsState) →
+            IsSome (step_of indices (self.now, rows))) }
     {
         match self.stage {
             Stage::Value { position } => Some(position),

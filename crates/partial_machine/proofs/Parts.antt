@@ -17,7 +17,8 @@ pub got_idle : (s : CoreState) (room x : ℕ) (p : finding.Pair) → IsMachine s
     finding_answers.GoTogether p → IsMachine (with_getting s p) room
 got_idle s room x p w idle g possible is together =
     let same : p.0.sizes ≡ s.sizes = sizes_kept (getting s) p x is ∙ g.sizes in
-    let before : AreIndices s.get_set.sizes.m s.found.indices = subst (λ (z : Layout). AreIndices z.m s.found.indices) (sym g.sizes) (record { each = w.sound.indices.each; distinct = w.sound.distinct }) in
+    let before : AreIndices s.get_set.sizes.m s.found.indices =
+    subst (λ (z : Layout). AreIndices z.m s.found.indices) (sym g.sizes) (record { each = w.sound.indices.each; distinct = w.sound.distinct }) in
     let then : AreIndices s.sizes.m (finding.advance (getting s) x).1.indices =
     subst (λ (z : Layout). AreIndices z.m (finding.advance (getting s) x).1.indices) g.sizes (found_kept s.get_set.stage (getting s) x possible before) in
     let named : AreIndices s.sizes.m p.1.indices = subst (λ (q : finding.Pair). AreIndices s.sizes.m q.1.indices) (sym is) then in

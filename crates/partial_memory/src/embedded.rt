@@ -29,10 +29,12 @@ pub fn scan_positions(
     requires scanning { IsScanning (with_embedded core.old embedded) (positions_of core.old positions) }
     requires due { IsSome (scan_step (with_embedded core.old embedded) (positions_of core.old positions)) }
     requires stage { IsAtScan positions (machine_of seat.old.me).stage }
-    requires machine { machine_of seat.old.me ≡ at_stage (with_embedded core.old embedded) (machine_of seat.old.me).stage }
+    requires machine { machine_of seat.old.me ≡
+        at_stage (with_embedded core.old embedded) (machine_of seat.old.me).stage }
     ensures going { IsGoing words.now.table_id words.now.key seat.new.table_id seat.new.me }
     ensures leads { Leads (one_of seat.old.me.0) (one_of seat.new.me.0) }
-    ensures machine { machine_of seat.new.me ≡ at_stage (with_embedded core.new result) (behind_scan (machine_of seat.old.me).stage) }
+    ensures machine { machine_of seat.new.me ≡
+        at_stage (with_embedded core.new result) (behind_scan (machine_of seat.old.me).stage) }
     ensures core { with_embedded core.new result ≡ with_scanning core.old (result, core.new.rows) }
 {
     while let Some(position) = embedded.collecting() {

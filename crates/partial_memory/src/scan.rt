@@ -35,7 +35,8 @@ pub fn scan(words: &Words, badge: &mut Badge<View>, core: &mut Core) -> Reply
     requires begins { Begins (at_stage core.old ScanBegun) (one_in badge.old.views) }
     ensures table { badge.new.table_id ≡ badge.old.table_id }
     ensures one { IsBadgeOfOne badge.new.views }
-    ensures ended { Ended (at_stage core.old ScanBegun) (one_in badge.old.views) result core.new (one_in badge.new.views) }
+    ensures ended { Ended (at_stage core.old ScanBegun) (one_in badge.old.views) result core.new
+        (one_in badge.new.views) }
 {
     let mut seat = take_seat(badge);
     let reply = make_scan(words, &mut seat, core);

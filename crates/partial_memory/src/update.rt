@@ -32,7 +32,8 @@ pub fn update(words: &Words, badge: &mut Badge<View>, core: &mut Core, change: C
     requires begins { Begins (at_stage core.old (UpdateBegun change)) (one_in badge.old.views) }
     ensures table { badge.new.table_id ≡ badge.old.table_id }
     ensures one { IsBadgeOfOne badge.new.views }
-    ensures ended { Ended (at_stage core.old (UpdateBegun change)) (one_in badge.old.views) result core.new (one_in badge.new.views) }
+    ensures ended { Ended (at_stage core.old (UpdateBegun change)) (one_in badge.old.views) result core.new
+        (one_in badge.new.views) }
 {
     let mut seat = take_seat(badge);
     let reply = make_update(words, &mut seat, core, change);
@@ -50,7 +51,8 @@ fn make_update(words: &Words, seat: &mut Place, core: &mut Core, change: Change)
     requires begins { Begins (at_stage core.old (UpdateBegun change)) (one_of seat.old.me.0) }
     ensures table { seat.new.table_id ≡ seat.old.table_id }
     ensures one { IsOne seat.new.me }
-    ensures ended { Ended (at_stage core.old (UpdateBegun change)) (one_of seat.old.me.0) result core.new (one_of seat.new.me.0) }
+    ensures ended { Ended (at_stage core.old (UpdateBegun change)) (one_of seat.old.me.0) result core.new
+        (one_of seat.new.me.0) }
 {
     let old = begin_update::<Brand>(words, seat, core, change);
     if change.expected.is_some_and(|expected| expected != old) {
