@@ -58,7 +58,9 @@ fn make_update(words: &Words, seat: &mut Place, core: &mut Core, change: Change)
     if change.expected.is_some_and(|expected| expected != old) {
         return Reply::Changed { by: old };
     }
+    let head = make(words, seat, Step::Load(core.sizes().list_head()));
     core.begin_set();
+    core.answer_set(head);
     while let Some(step) = core.set_step() {
         let answer = make(words, seat, step);
         core.answer_set(answer);
