@@ -2,7 +2,7 @@
 
 ghost use Rattle.std.specs.Prelude.{◌≡◌, false};
 
-use super::rows::{BORROWED_VIEW, ROWS, WHOLE_SCAN, WRITE_THEN_READ};
+use super::rows::{borrowed_view, rows, whole_scan, write_then_read};
 use crate::{Verb, execute};
 use partial_replay::Device;
 use std::alloc::Global;
@@ -75,7 +75,7 @@ fn filled_to(alloc: Global, room: usize, takes_none: bool) -> Device<Filling>
 
 #[test]
 fn failing_reader(rt: HostRuntime) -> Result<(), Fail> {
-    let (_, plan, _) = WHOLE_SCAN;
+    let (_, plan, _) = whole_scan();
     for count in 0..=plan.len() {
         let mut reader = Device::new(Bytewise {
             text: &plan[..count],
@@ -93,7 +93,7 @@ fn failing_reader(rt: HostRuntime) -> Result<(), Fail> {
 
 #[test]
 fn one_byte_a_read(rt: HostRuntime) -> Result<(), Fail> {
-    for (name, plan, expected) in ROWS {
+    for (name, plan, expected) in rows() {
         let mut reader = Device::new(Bytewise {
             text: plan,
             fails: false,
@@ -108,7 +108,7 @@ fn one_byte_a_read(rt: HostRuntime) -> Result<(), Fail> {
 // A check writes its one line, or a part of it from the front.
 #[test]
 fn failing_writer_of_a_verdict(rt: HostRuntime) -> Result<(), Fail> {
-    let (_, plan, _) = WRITE_THEN_READ;
+    let (_, plan, _) = write_then_read();
     let line = b"lawful\n";
     for room in 0..line.len() {
         let mut writer = filled_to(rt.alloc(), room, false);
@@ -124,7 +124,7 @@ fn failing_writer_of_a_verdict(rt: HostRuntime) -> Result<(), Fail> {
 
 #[test]
 fn failing_writer(rt: HostRuntime) -> Result<(), Fail> {
-    for (name, plan, expected) in [WRITE_THEN_READ, BORROWED_VIEW] {
+    for (name, plan, expected) in [write_then_read(), borrowed_view()] {
         for takes_none in [false, true] {
             for room in 0..expected.len() {
                 let mut reader = Device::new(plan);

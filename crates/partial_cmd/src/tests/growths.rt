@@ -1,7 +1,7 @@
 //! Growths that are refused, one after another: the script that runs these tests says which.
 
-use super::rows::BORROWED_VIEW;
-use super::runs::{NEXT, SLOTS_SPENT};
+use super::rows::borrowed_view;
+use super::runs::{next_plan, slots_spent};
 use crate::{Fault, Verb, execute, execute_next};
 use partial_replay::Device;
 use std::alloc::Global;
@@ -50,7 +50,7 @@ fn unwritten<R: Threads + Wait + Sync>(
 // The test then ends with that fault; where it passes, no growth was refused and all was written.
 #[test]
 fn a_refused_growth_writes_nothing(rt: HostRuntime) -> Result<(), Fail> {
-    let (_, plan, expected) = BORROWED_VIEW;
+    let (_, plan, expected) = borrowed_view();
     let (left, fault) = unwritten(&rt, rt.alloc(), Verb::Replay, plan, expected);
     match fault {
         None => assert_eq!(rt; left, 0),
@@ -66,7 +66,7 @@ fn a_refused_growth_writes_nothing(rt: HostRuntime) -> Result<(), Fail> {
 
 #[test]
 fn a_refused_growth_gives_no_verdict(rt: HostRuntime) -> Result<(), Fail> {
-    let (_, plan, _) = BORROWED_VIEW;
+    let (_, plan, _) = borrowed_view();
     let line = b"lawful\n";
     let (left, fault) = unwritten(&rt, rt.alloc(), Verb::Check, plan, line);
     match fault {
@@ -83,7 +83,7 @@ fn a_refused_growth_gives_no_verdict(rt: HostRuntime) -> Result<(), Fail> {
 
 #[test]
 fn a_refused_growth_reports_no_run(rt: HostRuntime) -> Result<(), Fail> {
-    let (_, plan, expected) = SLOTS_SPENT;
+    let (_, plan, expected) = slots_spent();
     let (left, fault) = unwritten(&rt, rt.alloc(), Verb::Run, plan, expected);
     match fault {
         None => assert_eq!(rt; left, 0),
@@ -99,7 +99,7 @@ fn a_refused_growth_reports_no_run(rt: HostRuntime) -> Result<(), Fail> {
 
 #[test]
 fn a_refused_growth_reports_no_two_runs(rt: HostRuntime) -> Result<(), Fail> {
-    let (plan, next, expected) = NEXT;
+    let (plan, next, expected) = next_plan();
     let mut writer = Device::new(Expecting { left: expected });
     let mut plan = Device::new(plan);
     let mut next = Device::new(next);

@@ -1,13 +1,13 @@
 //! The texts of outcomes.
 
-use super::rows::ROWS;
+use super::rows::rows;
 use super::{executed, outcome_of};
 use crate::{Verb, Verdict};
 use std::test::Fail;
 
 #[test]
 fn worked_rows(rt: HostRuntime) -> Result<(), Fail> {
-    for (name, plan, expected) in ROWS {
+    for (name, plan, expected) in rows() {
         let (verdict, written) = executed(&rt, rt.alloc(), Verb::Replay, plan)?;
         assert_eq!(rt; verdict, Verdict::Done, "{name}");
         assert_eq!(rt; written.as_slice(), expected, "{name}");
@@ -17,7 +17,7 @@ fn worked_rows(rt: HostRuntime) -> Result<(), Fail> {
 
 #[test]
 fn worked_rows_are_lawful(rt: HostRuntime) -> Result<(), Fail> {
-    for (name, plan, _) in ROWS {
+    for (name, plan, _) in rows() {
         let (verdict, written) = executed(&rt, rt.alloc(), Verb::Check, plan)?;
         assert_eq!(rt; verdict, Verdict::Lawful, "{name}");
         assert_eq!(rt; written.as_slice(), b"lawful\n".as_slice(), "{name}");

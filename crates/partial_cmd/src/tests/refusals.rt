@@ -1,7 +1,7 @@
 //! The number, line and cause of each refusal of a plan.
 
 use super::outcome_of;
-use super::rows::WHOLE_SCAN;
+use super::rows::whole_scan;
 use partial_replay::Cause;
 use std::alloc::{AllocError, Global};
 use std::test::Fail;
@@ -174,7 +174,7 @@ fn plan_refusals(rt: HostRuntime) -> Result<(), Fail> {
 
 #[test]
 fn fronts_of_a_plan(rt: HostRuntime) -> Result<(), Fail> {
-    let (_, plan, _) = WHOLE_SCAN;
+    let (_, plan, _) = whole_scan();
     assert_eq!(rt; plan.len(), 54);
     for length in 0..plan.len() {
         let line = match length {

@@ -12,7 +12,7 @@ use std::sync::atomic::{AtomicU64, Ordering};
 use std::test::Fail;
 use std::thread::Threads;
 
-pub(super) const SLOTS_SPENT: Row = (
+const SLOTS_SPENT: Row = (
     "slots_spent",
     b"sizes 2 1 8 64
 initial 10 20
@@ -68,10 +68,15 @@ values 9 20
 ",
 );
 
+/// The row that spends all slots. It comes as a result, so that no proof of a test knows its texts.
+pub(super) fn slots_spent() -> Row {
+    SLOTS_SPENT
+}
+
 // With one port that makes calls there is one report.
 #[test]
 fn run_reports(rt: HostRuntime) -> Result<(), Fail> {
-    for (name, plan, expected) in [RUN_REPORT, SLOTS_SPENT, EMPTY_SCAN, CONDITIONAL] {
+    for (name, plan, expected) in [RUN_REPORT, slots_spent(), EMPTY_SCAN, CONDITIONAL] {
         let (verdict, written) = executed(&rt, rt.alloc(), Verb::Run, plan)?;
         assert_eq!(rt; verdict, Verdict::Done, "{name}");
         assert_eq!(rt; written.as_slice(), expected, "{name}");
@@ -203,7 +208,7 @@ impl Gate for Counting {
 
 #[test]
 fn gates_in_order(rt: HostRuntime) -> Result<(), Fail> {
-    let (_, text, _) = SLOTS_SPENT;
+    let (_, text, _) = slots_spent();
     let plan = Plan::read(rt.alloc(), &mut Device::new(text))?;
     let gate = Counting {
         passed: AtomicU64::new(0),
@@ -216,7 +221,7 @@ fn gates_in_order(rt: HostRuntime) -> Result<(), Fail> {
 }
 
 /// A first plan, a second one, and the texts of both reports.
-pub(super) const NEXT: (&[u8], &[u8], &[u8]) = (
+const NEXT: (&[u8], &[u8], &[u8]) = (
     b"sizes 2 4 8 64
 initial 10 20
 port update 0 7; read 0
@@ -236,6 +241,11 @@ values 7 20 0
 ",
 );
 
+/// Two plans and their reports, as a result.
+pub(super) fn next_plan() -> (&'static [u8], &'static [u8], &'static [u8]) {
+    NEXT
+}
+
 /// What both plans write, where they aren't refused.
 fn executed_both<R: Threads + Wait + Sync>(
     rt: &R,
@@ -253,7 +263,7 @@ fn executed_both<R: Threads + Wait + Sync>(
 // The second run reads what the first one left, and 0 in the added component.
 #[test]
 fn a_run_goes_on(rt: HostRuntime) -> Result<(), Fail> {
-    let (plan, next, expected) = NEXT;
+    let (plan, next, expected) = next_plan();
     let written = executed_both(&rt, rt.alloc(), plan, next)?;
     assert_eq!(rt; written.as_slice(), expected);
     Ok(())
@@ -262,7 +272,7 @@ fn a_run_goes_on(rt: HostRuntime) -> Result<(), Fail> {
 // A stamp of the first run has no meaning in the second one.
 #[test]
 fn stamps_start_anew(rt: HostRuntime) -> Result<(), Fail> {
-    let (plan, _, _) = NEXT;
+    let (plan, _, _) = next_plan();
     let next = b"sizes 2 4 8 64\ninitial 0 0\nport updateif 0 24 9; read 0\nport\nsteps\n";
     let expected = b"call 0 0 applied 24
 call 0 1 read 7 24
@@ -279,7 +289,7 @@ values 7 20
 // The first plan's refusal comes first, then the second's, then that of too few components.
 #[test]
 fn refusals_of_two_plans(rt: HostRuntime) -> Result<(), Fail> {
-    let (plan, next, _) = NEXT;
+    let (plan, next, _) = next_plan();
     let small = b"sizes 1 4 8 64\ninitial 0\nport\nsteps\n";
     let none = b"sizes 1 4 8 64\ninitial 0\nsteps\n";
     let cases: [(&[u8], &[u8], u8); 5] = [
