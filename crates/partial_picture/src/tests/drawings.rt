@@ -1,6 +1,6 @@
 //! Drawings, and what stands in them how often.
 
-use super::{BORROWED_VIEW, LOST_EXCHANGE, REFUSED, count, drawn, replayed};
+use super::{borrowed_view_plan, count, drawn, lost_exchange_plan, refused_plan, replayed};
 use crate::entries::labels_of;
 use crate::pixels::Pixels;
 use crate::svg::{fitted, push_escaped};
@@ -25,7 +25,7 @@ fn steps_with<F: Fn(&Event) -> bool>(trace: &[Event], is_wanted: F) -> usize
 // The legend has each shape once more, and an exchange that was lost beside one that has won.
 #[test]
 fn each_shape_is_drawn_once(rt: HostRuntime) -> Result<(), Fail> {
-    for plan in [LOST_EXCHANGE, BORROWED_VIEW, REFUSED] {
+    for plan in [lost_exchange_plan(), borrowed_view_plan(), refused_plan()] {
         let (_, outcome) = replayed(rt.alloc(), plan)?;
         let form = Form::Drawing { has_words: true };
         let text = drawn(rt.alloc(), form, Window::Whole, plan)?;
@@ -80,15 +80,15 @@ fn each_shape_is_drawn_once(rt: HostRuntime) -> Result<(), Fail> {
 fn arrows_tell_what_was_overtaken_and_lent(rt: HostRuntime) -> Result<(), Fail> {
     let rows = [
         (
-            LOST_EXCHANGE,
+            lost_exchange_plan(),
             Some("<title>stamp 27 overtook call 0 0</title>"),
         ),
         (
-            BORROWED_VIEW,
+            borrowed_view_plan(),
             Some("<title>stamp 32 lent its view to call 0 0</title>"),
         ),
         // The second conditional update came behind the entry that it shows: it wasn't overtaken.
-        (REFUSED, None),
+        (refused_plan(), None),
     ];
     for (plan, title) in rows {
         let form = Form::Drawing { has_words: false };
@@ -111,18 +111,18 @@ fn arrows_tell_what_was_overtaken_and_lent(rt: HostRuntime) -> Result<(), Fail> 
 fn size_of_a_drawing(rt: HostRuntime) -> Result<(), Fail> {
     let rows = [
         (
-            LOST_EXCHANGE,
+            lost_exchange_plan(),
             false,
             "width=\"660\" height=\"298\" viewBox=\"0 0 660 298\"",
         ),
         (
-            BORROWED_VIEW,
+            borrowed_view_plan(),
             false,
             "width=\"1176\" height=\"298\" viewBox=\"0 0 1176 298\"",
         ),
         // 10 words: component 0, three counters and six pool words, 18 high each.
         (
-            LOST_EXCHANGE,
+            lost_exchange_plan(),
             true,
             "width=\"660\" height=\"478\" viewBox=\"0 0 660 478\"",
         ),

@@ -1,6 +1,6 @@
 //! Growths that are refused, one after another: the script that runs these tests says which.
 
-use super::BORROWED_VIEW;
+use super::borrowed_view_plan;
 use crate::{Form, Window, draw};
 use partial_replay::Device;
 use std::alloc::Global;
@@ -45,7 +45,7 @@ fn ends_with(alloc: Global, form: Form, wanted: &'static [u8]) -> Result<bool, F
         alloc,
         form,
         window,
-        &mut Device::new(BORROWED_VIEW),
+        &mut Device::new(borrowed_view_plan()),
         &mut out,
     );
     let out = out.into_inner();

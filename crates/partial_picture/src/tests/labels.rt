@@ -1,6 +1,6 @@
 //! The words of labels are those of the texts.
 
-use super::{BORROWED_VIEW, LOST_EXCHANGE, REFUSED, count, replayed};
+use super::{borrowed_view_plan, count, lost_exchange_plan, refused_plan, replayed};
 use crate::words::{call_words, entry_words, finish_words, word_words};
 use partial_replay::{Device, write_outcome};
 use partial_words::Sizes;
@@ -8,7 +8,7 @@ use std::test::Fail;
 
 #[test]
 fn labels_are_the_words_of_the_outcome(rt: HostRuntime) -> Result<(), Fail> {
-    for plan in [LOST_EXCHANGE, BORROWED_VIEW, REFUSED] {
+    for plan in [lost_exchange_plan(), borrowed_view_plan(), refused_plan()] {
         let (_, outcome) = replayed(rt.alloc(), plan)?;
         let mut written = Device::new(Vec::new(rt.alloc()));
         write_outcome(rt.alloc(), &outcome, &mut written)?;
@@ -32,7 +32,7 @@ fn labels_are_the_words_of_the_outcome(rt: HostRuntime) -> Result<(), Fail> {
 // Each call stands in the text of its plan.
 #[test]
 fn calls_are_the_words_of_the_plan(rt: HostRuntime) -> Result<(), Fail> {
-    for plan in [LOST_EXCHANGE, BORROWED_VIEW, REFUSED] {
+    for plan in [lost_exchange_plan(), borrowed_view_plan(), refused_plan()] {
         let (_, outcome) = replayed(rt.alloc(), plan)?;
         let text = String::from_utf8(plan.to_vec(rt.alloc())?).map_err(|_| "no text")?;
         for called in &outcome.calls {

@@ -1,6 +1,6 @@
 //! Pictures for terminals.
 
-use super::{LOST_EXCHANGE, drawn};
+use super::{drawn, lost_exchange_plan};
 use crate::{Form, Window};
 use std::test::Fail;
 
@@ -25,7 +25,7 @@ fn lost_exchange(rt: HostRuntime) -> Result<(), Fail> {
 call 1 0: applied 27 place 0
     15  exchange 0 18 24: lost to 27                         call 0 0: lost 27 place 0
 ";
-    let text = drawn(rt.alloc(), Form::Table, Window::Whole, LOST_EXCHANGE)?;
+    let text = drawn(rt.alloc(), Form::Table, Window::Whole, lost_exchange_plan())?;
     assert_eq!(rt; text.as_str(), wanted);
     Ok(())
 }

@@ -1,6 +1,6 @@
 //! Windows, and what is refused.
 
-use super::{BORROWED_VIEW, LOST_EXCHANGE, count, drawn};
+use super::{borrowed_view_plan, count, drawn, lost_exchange_plan};
 use crate::{Fault, Form, PictureError, Window, draw};
 use partial_replay::{Cause, Device, OutcomeError, PlanError, ReplayError};
 use std::io;
@@ -21,7 +21,7 @@ fn a_window_has_its_steps_alone(rt: HostRuntime) -> Result<(), Fail> {
     ];
     for (first, last, marks, bars, entries, arrows) in rows {
         let window = Window::Steps { first, last };
-        let text = drawn(rt.alloc(), DRAWING, window, BORROWED_VIEW)?;
+        let text = drawn(rt.alloc(), DRAWING, window, borrowed_view_plan())?;
         assert_eq!(rt; count(&text, "<title>step "), marks, "{first} {last}");
         assert_eq!(rt; count(&text, "<title>call "), bars, "{first} {last}");
         assert_eq!(rt; count(&text, "<title>applied "), entries, "{first} {last}");
@@ -39,7 +39,7 @@ fn refused_windows(rt: HostRuntime) -> Result<(), Fail> {
             rt.alloc(),
             DRAWING,
             window,
-            &mut Device::new(LOST_EXCHANGE),
+            &mut Device::new(lost_exchange_plan()),
             &mut out,
         );
         let wanted = Fault::Picture(PictureError::Window { steps: 16 });
@@ -109,7 +109,7 @@ fn failing_writer(rt: HostRuntime) -> Result<(), Fail> {
             rt.alloc(),
             DRAWING,
             Window::Whole,
-            &mut Device::new(LOST_EXCHANGE),
+            &mut Device::new(lost_exchange_plan()),
             &mut out,
         );
         assert_eq!(rt;
