@@ -36,6 +36,22 @@ pub(super) fn refusal(
     Ok(read(alloc, &text).err())
 }
 
+// Whether this is the call with that number of the plan below.
+fn is_call(number: usize, call: &Call) -> bool {
+    match call {
+        Call::Update { component, value } => {
+            number == 0 && *component == u32::MAX && *value == u64::MAX
+        }
+        Call::Read { component } => number == 1 && *component == 0,
+        Call::UpdateIf {
+            component,
+            expected,
+            value,
+        } => number == 2 && *component == 1 && *expected == 18 && *value == 9,
+        Call::Scan { .. } => false,
+    }
+}
+
 #[test]
 fn a_plan_is_read(rt: HostRuntime) -> Result<(), Fail> {
     let text = b"sizes 3 65536 0 4194304
@@ -57,19 +73,7 @@ steps 1*4294967295 0*1 rest
     for (port, calls) in plan.ports().iter().enumerate() {
         assert_eq!(rt; calls.len(), 3 * port);
         for (number, call) in calls.as_slice().iter().enumerate() {
-            let right = match call {
-                Call::Update { component, value } => {
-                    number == 0 && *component == u32::MAX && *value == u64::MAX
-                }
-                Call::Read { component } => number == 1 && *component == 0,
-                Call::UpdateIf {
-                    component,
-                    expected,
-                    value,
-                } => number == 2 && *component == 1 && *expected == 18 && *value == 9,
-                Call::Scan { .. } => false,
-            };
-            assert!(rt; right, "call {number}");
+            assert!(rt; is_call(number, call), "call {number}");
         }
     }
     Ok(())
