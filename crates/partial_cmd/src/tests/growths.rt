@@ -1,7 +1,7 @@
 //! Growths that are refused, one after another: the script that runs these tests says which.
 
 use super::rows::borrowed_view;
-use super::runs::{next_plan, slots_spent};
+use super::runs::{slots_spent, two_plans};
 use crate::{Fault, Verb, execute, execute_next};
 use partial_replay::Device;
 use std::alloc::Global;
@@ -99,7 +99,7 @@ fn a_refused_growth_reports_no_run(rt: HostRuntime) -> Result<(), Fail> {
 
 #[test]
 fn a_refused_growth_reports_no_two_runs(rt: HostRuntime) -> Result<(), Fail> {
-    let (plan, next, expected) = next_plan();
+    let (plan, next, expected) = two_plans();
     let mut writer = Device::new(Expecting { left: expected });
     let mut plan = Device::new(plan);
     let mut next = Device::new(next);

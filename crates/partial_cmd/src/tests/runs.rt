@@ -220,7 +220,8 @@ fn gates_in_order(rt: HostRuntime) -> Result<(), Fail> {
     Ok(())
 }
 
-/// A first plan, a second one, and the texts of both reports.
+/// A first plan, a second one, and the texts of both reports. Only a test that cuts one of them names this, since
+/// its proof has to know their lengths.
 const NEXT: (&[u8], &[u8], &[u8]) = (
     b"sizes 2 4 8 64
 initial 10 20
@@ -241,8 +242,8 @@ values 7 20 0
 ",
 );
 
-/// Two plans and their reports, as a result.
-pub(super) fn next_plan() -> (&'static [u8], &'static [u8], &'static [u8]) {
+/// The same as a result, so that no proof of a test knows the texts.
+pub(super) fn two_plans() -> (&'static [u8], &'static [u8], &'static [u8]) {
     NEXT
 }
 
@@ -263,7 +264,7 @@ fn executed_both<R: Threads + Wait + Sync>(
 // The second run reads what the first one left, and 0 in the added component.
 #[test]
 fn a_run_goes_on(rt: HostRuntime) -> Result<(), Fail> {
-    let (plan, next, expected) = next_plan();
+    let (plan, next, expected) = two_plans();
     let written = executed_both(&rt, rt.alloc(), plan, next)?;
     assert_eq!(rt; written.as_slice(), expected);
     Ok(())
@@ -272,7 +273,7 @@ fn a_run_goes_on(rt: HostRuntime) -> Result<(), Fail> {
 // A stamp of the first run has no meaning in the second one.
 #[test]
 fn stamps_start_anew(rt: HostRuntime) -> Result<(), Fail> {
-    let (plan, _, _) = next_plan();
+    let (plan, _, _) = two_plans();
     let next = b"sizes 2 4 8 64\ninitial 0 0\nport updateif 0 24 9; read 0\nport\nsteps\n";
     let expected = b"call 0 0 applied 24
 call 0 1 read 7 24
@@ -289,7 +290,7 @@ values 7 20
 // The first plan's refusal comes first, then the second's, then that of too few components.
 #[test]
 fn refusals_of_two_plans(rt: HostRuntime) -> Result<(), Fail> {
-    let (plan, next, _) = next_plan();
+    let (plan, next, _) = two_plans();
     let small = b"sizes 1 4 8 64\ninitial 0\nport\nsteps\n";
     let none = b"sizes 1 4 8 64\ninitial 0\nsteps\n";
     let cases: [(&[u8], &[u8], u8); 5] = [
