@@ -1,0 +1,207 @@
+#!/usr/bin/env python3
+"""Turns the functions of the crates by the edits of crates/NAME/edits/, and sees that the prover refuses each.
+
+An edit is a file of lines: `refused: PATH` names the function whose contract has to refuse it, as the prover
+prints it, below its crate; `file: PATH` a file of the crate; and then `old: TEXT` and `new: TEXT` in turn, where the
+old text stands exactly once in that file.
+
+A check costs most of its time before its first proof, so a crate's edits are tried together, as many as turn
+functions of their own. Each is judged by itself: of its function the check has to say that a goal of its own can't
+be proved. That a function calls one that isn't proved is said apart, and counts for nothing. Edits that turn one
+function stand in rounds, the later ones over what the first round proved.
+
+With words, it takes the crates with these names alone. What isn't proved yet of the crates below is proved first.
+The last line is 'N passed, M failed', where each edit counts once.
+"""
+import os
+import re
+import shutil
+import subprocess
+import sys
+import tempfile
+from concurrent.futures import ThreadPoolExecutor
+from dataclasses import dataclass
+from pathlib import Path
+
+TOP = Path(__file__).resolve().parent.parent
+KIT = Path(shutil.which('rt')).resolve().parent.parent
+PARTS = ('src', 'specs', 'proofs')
+# What the prover says of a proof that names what an edit took away. It tells nothing of the contract.
+LACKING = re.compile(r'has no field|is not in scope|has no `|was not admitted')
+
+
+@dataclass
+class Edit:
+    """A named change of a crate's files, and the function whose contract has to refuse it."""
+
+    name: str
+    refused: str
+    changes: list[tuple[str, str, str]]
+
+
+class BadEdit(Exception):
+    """An edit that can't be read, or that doesn't fit the crate."""
+
+
+def read_edit(path):
+    refused, file, old, changes = None, None, None, []
+    for line in path.read_text(encoding='utf-8').splitlines():
+        word, _, text = line.partition(':')
+        text = text.removeprefix(' ')
+        if word == 'refused':
+            refused = text
+        elif word == 'file':
+            file = text
+        elif word == 'old':
+            old = text
+        elif word == 'new' and file and old:
+            changes.append((file, old, text))
+            old = None
+        else:
+            raise BadEdit(f'its line is none of an edit: {line}')
+    if not refused or not changes:
+        raise BadEdit('it names no function, or changes nothing')
+    return Edit(path.stem, refused, changes)
+
+
+def turned(edit, texts, crate):
+    """These texts of the crate's files, with those that the edit changes turned."""
+    texts = dict(texts)
+    for file, old, new in edit.changes:
+        text = texts.get(file) or (crate / file).read_text(encoding='utf-8')
+        if text.count(old) != 1 or old == new:
+            raise BadEdit(f'its old text stands {text.count(old)} times in {file}')
+        texts[file] = text.replace(old, new)
+    return texts
+
+
+def rounds_of(edits, crate):
+    """The edits in rounds, each with the texts that it turns: in a round no function is turned twice."""
+    rounds = []
+    for edit in edits:
+        turned(edit, {}, crate)
+        for members, texts in rounds:
+            if all(edit.refused != other.refused for other in members):
+                try:
+                    texts.update(turned(edit, texts, crate))
+                except BadEdit:
+                    continue
+                members.append(edit)
+                break
+        else:
+            rounds.append(([edit], turned(edit, {}, crate)))
+    return rounds
+
+
+def crates_of(top):
+    """Each crate of crates.txt, with the libraries that it names."""
+    found = {}
+    for line in (top / 'crates.txt').read_text(encoding='utf-8').splitlines():
+        head, _, names = line.partition('#')[0].partition(':')
+        if head.strip():
+            found[head.split()[0]] = names.split()
+    return found
+
+
+def below(name, crates):
+    """The crates of the repository below this one, each once."""
+    found = []
+    for dependency in crates[name]:
+        if dependency in crates:
+            found += [*below(dependency, crates), dependency]
+    return list(dict.fromkeys(found))
+
+
+def is_built(name):
+    """Whether the proved library of the crate is there, and no source of the crate is newer."""
+    folder = TOP / 'crates' / name
+    built = folder / 'out' / 'rlib'
+    sources = [path for part in PARTS for path in (folder / part).glob('**/*')]
+    return (built / f'{name}.rlib').exists() and all(it.stat().st_mtime <= built.stat().st_mtime for it in sources)
+
+
+def command_of(name, crates):
+    """The prover's command for a crate, over the kit's libraries and the proved ones of the repository."""
+    libraries = [f'{it}={KIT}/rlibs/{it}.rlib' for it in ['std', *crates[name]] if it not in crates]
+    libraries += [f'{it}={TOP}/crates/{it}/out/rlib/{it}.rlib' for it in crates[name] if it in crates]
+    folders = [f'{KIT}/rlibs', *[f'{TOP}/crates/{it}/out/rlib' for it in below(name, crates)]]
+    return [f'{KIT}/bin/rattle', 'check', '--crate-name', name, 'src/lib.rt', '--jobs', '1',
+            *[word for it in libraries for word in ('--extern', it)],
+            *[word for it in folders for word in ('-L', f'dependency={it}')],
+            '--antt-project', f'{KIT}/rattle/logic/antt-project.json', '--logic-built', f'{KIT}/logic_built',
+            '--incremental', 'kept']
+
+
+def check(room, name, texts, command):
+    """What a check of the crate in this folder says with these texts in place of its own."""
+    for part in PARTS:
+        shutil.rmtree(room / part, ignore_errors=True)
+        if (TOP / 'crates' / name / part).is_dir():
+            shutil.copytree(TOP / 'crates' / name / part, room / part)
+    for file, text in texts.items():
+        (room / file).write_text(text, encoding='utf-8')
+    ran = subprocess.run(command, cwd=room, stdin=subprocess.DEVNULL, stdout=subprocess.PIPE,
+                         stderr=subprocess.STDOUT, text=True, errors='replace')
+    return ran.stdout
+
+
+def with_open_goals(name, said):
+    """The functions of the crate of which a goal of their own wasn't proved."""
+    searched = re.findall(rf'^fn {name}::(\S+): no proof: .*`search` did not prove', said, re.M)
+    answered = re.findall(r'^\./proofs/(\S+)/Answers\.antt\S*: error: (.*)$', said, re.M)
+    return {*searched, *[folder.replace('/', '::') for folder, why in answered if not LACKING.search(why)]}
+
+
+def try_round(name, members, said):
+    """What is wrong with a round's edits, by what their check said."""
+    refused = with_open_goals(name, said)
+    lines = said.splitlines()
+    for edit in members:
+        if edit.refused not in refused:
+            own = f'fn {name}::{edit.refused}:', f'./proofs/{edit.refused.replace("::", "/")}/'
+            told = [it for it in lines if it.startswith(own)] or [it for it in lines if ': error' in it]
+            yield '\n    '.join([f'{name}/{edit.name}.edit: not refused', *told[:6]])
+    for other in sorted(refused - {edit.refused for edit in members}):
+        yield f'{name}: {other} is refused, and none of these edits turns it: {", ".join(it.name for it in members)}'
+
+
+def try_crate(name, crates):
+    """Tries a crate's edits: how many there are, and what is wrong with them."""
+    crate = TOP / 'crates' / name
+    edits, faults = [], []
+    for path in sorted((crate / 'edits').glob('*')):
+        try:
+            edit = read_edit(path)
+            turned(edit, {}, crate)
+            edits.append(edit)
+        except BadEdit as bad:
+            faults.append(f'{name}/{path.name}: bad edit: {bad}')
+    command = command_of(name, crates)
+    with tempfile.TemporaryDirectory(prefix='edits-') as room:
+        kept = crate / 'out' / 'incremental'
+        shutil.copytree(kept, f'{room}/kept') if kept.is_dir() else os.mkdir(f'{room}/kept')
+        for members, texts in rounds_of(edits, crate):
+            faults += try_round(name, members, check(Path(room), name, texts, command))
+    return len(edits), faults
+
+
+def main(names):
+    crates = crates_of(TOP)
+    chosen = [it for it in crates if (TOP / 'crates' / it / 'edits').is_dir() and (not names or it in names)]
+    size = {it: sum(path.stat().st_size for path in (TOP / 'crates' / it).glob('*/**/*.[ar]*t')) for it in chosen}
+    passed, failed = 0, 0
+    if not all(is_built(it) for name in chosen for it in below(name, crates)):
+        subprocess.run(['rt', 'all', 'check'], cwd=TOP, stdin=subprocess.DEVNULL, stdout=subprocess.DEVNULL, check=True)
+    with ThreadPoolExecutor(len(os.sched_getaffinity(0))) as pool:
+        tried = {it: pool.submit(try_crate, it, crates) for it in sorted(chosen, key=lambda it: -size[it])}
+        for name in chosen:
+            edits, faults = tried[name].result()
+            print(f'{name}: {edits} edits', *faults, sep='\n', flush=True)
+            passed += max(edits - len(faults), 0)
+            failed += len(faults)
+    print(f'{passed} passed, {failed} failed')
+    return 1 if failed or not passed else 0
+
+
+if __name__ == '__main__':
+    sys.exit(main(sys.argv[1:]))
