@@ -1,7 +1,7 @@
 //! Outcomes that were worked out by hand: each is lawful.
 
 use super::rows::{applied, called, read, scan, scanned, unfinished, update, update_if, verdict};
-use crate::{Answer, Applied, Called, Note, Opening, Refused, Sequence, check_outcome};
+use partial_model::{Answer, Applied, Called, Note, Opening, Refused, Sequence, check_outcome};
 use std::alloc::{AllocError, Global};
 use std::test::Fail;
 

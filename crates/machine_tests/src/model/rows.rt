@@ -1,6 +1,8 @@
 //! The words in which the rows are written down.
 
-use crate::{Answer, Applied, Call, Called, Finish, Note, Opening, Sequence, check_outcome};
+use partial_model::{
+    Answer, Applied, Call, Called, Finish, Note, Opening, Sequence, check_outcome,
+};
 use std::alloc::{AllocError, Global};
 
 /// An entry of the history.

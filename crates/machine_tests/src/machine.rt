@@ -1,7 +1,7 @@
 //! A machine that has made no call, the first step of each call, and the calls that need no words. The
 //! replay makes all others.
 
-use crate::{Core, Reply};
+use partial_machine::{Core, Reply};
 use partial_model::Refused;
 use partial_words::{Sizes, Step};
 use std::test::Fail;

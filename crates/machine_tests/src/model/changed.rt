@@ -5,7 +5,7 @@ use super::worked::{
     BORROWED, EXCHANGED, borrowed_view, changed_at_exchange, component_refused, loser, whole_scan,
     winner, write_then_read,
 };
-use crate::{Answer, Note, Opening, Refused, Sequence, check_outcome};
+use partial_model::{Answer, Note, Opening, Refused, Sequence, check_outcome};
 use std::test::Fail;
 
 #[test]

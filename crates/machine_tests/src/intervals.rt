@@ -1,6 +1,6 @@
 //! Rows with values from outside, and a refused growth.
 
-use crate::Intervals;
+use partial_intervals::Intervals;
 use std::process::Abort;
 use std::test::Fail;
 
