@@ -76,7 +76,7 @@ refuse_all partial_text 'tests::growths::.*'
 refuse_all partial_replay 'tests::growths::.*'
 refuse_all partial_rounds 'tests::growths::.*'
 refuse_all partial_cmd 'tests::growths::.*'
-refuse_all partial_memory 'tests::growths::.*'
+refuse_all memory_tests 'growths::.*'
 refuse_all partial_pipeline 'tests::growths::.*'
 refuse_all partial_picture 'tests::growths::.*' manages
 
