@@ -59,7 +59,7 @@ refuse_all() {
     done
     # To the last of them no test came.
     [ "$came" -eq 0 ] || failed=$((failed + 1))
-    echo "$1: growths 1 to $((growth - 1)) refused in turn"
+    echo "$1, $2: growths 1 to $((growth - 1)) refused in turn"
 }
 
 if ! "${CC:-cc}" -O2 -shared -fPIC -o "$room/refuse.so" "$top/tests/refuse.c"; then
@@ -67,16 +67,16 @@ if ! "${CC:-cc}" -O2 -shared -fPIC -o "$room/refuse.so" "$top/tests/refuse.c"; t
     exit 1
 fi
 
-refuse_all partial_intervals '.*'
+refuse_all machine_tests 'intervals::.*'
 refuse_all partial_active '.*'
 refuse_all partial_embedded '.*'
-refuse_all partial_machine '.*'
+refuse_all machine_tests 'machine::.*'
 refuse_all partial_places '.*'
 refuse_all partial_text 'tests::growths::.*'
 refuse_all partial_replay 'tests::growths::.*'
 refuse_all partial_rounds 'tests::growths::.*'
 refuse_all partial_cmd 'tests::growths::.*'
-refuse_all partial_memory 'tests::growths::.*'
+refuse_all memory_tests 'growths::.*'
 refuse_all partial_pipeline 'tests::growths::.*'
 refuse_all partial_picture 'tests::growths::.*' manages
 

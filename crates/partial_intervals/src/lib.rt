@@ -6,6 +6,3 @@ pub mod intervals;
 pub mod law;
 
 pub use intervals::Intervals;
-
-#[cfg(test)]
-mod tests;

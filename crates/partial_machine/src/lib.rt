@@ -8,6 +8,3 @@ pub mod stage;
 
 pub use machine::{Core, exchanged};
 pub use stage::{Change, Positions, Reply, Stage};
-
-#[cfg(test)]
-mod tests;

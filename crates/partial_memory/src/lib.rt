@@ -12,8 +12,6 @@ mod memory;
 mod port;
 mod rule;
 mod scan;
-#[cfg(test)]
-mod tests;
 mod update;
 
 pub use answers::{Scanned, Updated, UpdatedIf};

@@ -16,6 +16,3 @@ pub use law::{
     entries_are_noted, equal_collects_stand_together, rising_never_falls, stamps_never_return,
 };
 pub use sequence::Sequence;
-
-#[cfg(test)]
-mod tests;

@@ -44,25 +44,3 @@ pub fn interval(words: &[u64], at: usize, k: usize) -> (u64, u64)
 {
     (words[at + 1 + 2 * k], words[at + 2 + 2 * k])
 }
-
-#[cfg(test)]
-mod tests {
-    use super::*;
-    use std::test::Fail;
-
-    #[test]
-    fn list_words(rt: HostRuntime) -> Result<(), Fail> {
-        let mut intervals = Intervals::with_capacity(rt.alloc(), 2)?;
-        intervals.push_last(0, 1);
-        intervals.push_last(3, 4);
-        assert_eq!(rt; list_block_word(&intervals, 0), 2);
-        assert_eq!(rt; list_block_word(&intervals, 1), 0);
-        assert_eq!(rt; list_block_word(&intervals, 4), 4);
-        let words = [9, 2, 0, 1, 3, 4];
-        assert_eq!(rt; list_len(&words, 1), 2);
-        assert_eq!(rt; interval(&words, 1, 0), (0, 1));
-        assert_eq!(rt; interval(&words, 1, 1), (3, 4));
-        assert_eq!(rt; list_size(2), 5);
-        Ok(())
-    }
-}

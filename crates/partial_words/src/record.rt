@@ -131,28 +131,3 @@ pub fn view_pair(words: &[u64], at: usize, k: usize) -> (u64, u64)
 {
     (words[at + 1 + 2 * k], words[at + 2 + 2 * k])
 }
-
-#[cfg(test)]
-mod tests {
-    use super::*;
-    use std::test::Fail;
-
-    #[test]
-    fn words_of_a_record(rt: HostRuntime) -> Result<(), Fail> {
-        let words = [18, 5, 29, 1, 0, 10];
-        for k in 0..6usize {
-            assert_eq!(rt; record_block_word(18, 5, 29, &[(0, 10)], k), words[k]);
-        }
-        assert_eq!(rt; prev_of(&words, 0), 18);
-        assert_eq!(rt; value_of(&words, 0), 5);
-        assert_eq!(rt; view_of(&words, 0), 29);
-        assert_eq!(rt; view_len(&words, 3), 1);
-        assert_eq!(rt; view_pair(&words, 3, 0), (0, 10));
-        assert_eq!(rt; (value_word(26), view_word(26), own_view(26)), (27, 28, 29));
-        assert_eq!(rt;
-            (view_size(1), plain_record_size(), full_record_size(1)),
-            (3, 3, 6)
-        );
-        Ok(())
-    }
-}

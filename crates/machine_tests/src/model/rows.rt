@@ -1,0 +1,101 @@
+//! The words in which the rows are written down.
+
+use partial_model::{
+    Answer, Applied, Call, Called, Finish, Note, Opening, Sequence, check_outcome,
+};
+use std::alloc::{AllocError, Global};
+
+/// An entry of the history.
+pub(super) fn applied(port: u32, component: u32, value: u64, stamp: u64) -> Applied {
+    Applied {
+        port,
+        component,
+        value,
+        stamp,
+    }
+}
+
+pub(super) fn update(component: u32, value: u64) -> Call {
+    Call::Update { component, value }
+}
+
+pub(super) fn update_if(component: u32, expected: u64, value: u64) -> Call {
+    Call::UpdateIf {
+        component,
+        expected,
+        value,
+    }
+}
+
+pub(super) fn read(component: u32) -> Call {
+    Call::Read { component }
+}
+
+pub(super) fn scan(alloc: Global, components: &[u32]) -> Result<Call, AllocError> {
+    Ok(Call::Scan {
+        components: Sequence::from(Vec::from_slice(alloc, components)?),
+    })
+}
+
+pub(super) fn scanned(
+    alloc: Global,
+    values: &[u64],
+    collects: u32,
+    borrowed: Option<u64>,
+) -> Result<Answer, AllocError> {
+    Ok(Answer::Scanned {
+        values: Sequence::from(Vec::from_slice(alloc, values)?),
+        collects,
+        borrowed,
+    })
+}
+
+/// A finished call of a port, with its number, the history's lengths at its begin and its end, its answer
+/// and its note.
+pub(super) fn called(
+    port: u32,
+    number: u32,
+    call: Call,
+    span: (usize, usize),
+    answer: Answer,
+    note: Option<Note>,
+) -> Called {
+    Called {
+        port,
+        number,
+        call,
+        began: span.0,
+        steps: 0,
+        finish: Some(Finish {
+            ended: span.1,
+            answer,
+            note,
+        }),
+    }
+}
+
+/// A call that its port has begun and not finished.
+pub(super) fn unfinished(port: u32, number: u32, call: Call, began: usize) -> Called {
+    Called {
+        port,
+        number,
+        call,
+        began,
+        steps: 0,
+        finish: None,
+    }
+}
+
+/// Whether the checker takes the history and the calls, where two components open with 10 and 20 and with
+/// the stamps 18 and 21.
+pub(super) fn verdict(
+    alloc: Global,
+    history: &[Applied],
+    calls: &[Called],
+) -> Result<bool, AllocError> {
+    let opening = Opening {
+        values: Sequence::from(vec![in alloc; 10, 20]?),
+        first: 18,
+    };
+    Ok(check_outcome(&opening, history, calls))
+}

@@ -1,0 +1,6 @@
+//! The words that ports share, each with values from outside.
+
+mod announcement;
+mod list;
+mod record;
+mod sizes;

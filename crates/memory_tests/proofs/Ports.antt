@@ -1,0 +1,16 @@
+-- What the tests know of the ports with which a memory opens, and of the last one of several.
+use Rattle.std.proofs.Common.{◌≡◌, List, [], ◌∷◌, ◌++◌, subst}
+use Rattle.std.specs.Prelude.{Result, Ok, Err, IfOk}
+use Rattle.std.specs.List.{AllByRecursion}
+use Rattle.partial_model.proofs.AllLemmas.{all_front, all_back}
+
+-- what follows from two facts about the value of a result
+pub both : {A E : Type 0} (r : Result A E) (P Q R : A → Type 0) → ((x : A) → P x → Q x → R x) → IfOk r P → IfOk r Q → IfOk r R
+both (Ok x) P Q R f p q = f x p q
+both (Err e) P Q R f p q = tt
+
+-- what holds of all elements holds of the last one, which is taken, and of those that are left
+pub of_last : {A : Type 0} (P : A → Type 0) (all left : List A) (last : A) → AllByRecursion P all → all ≡ left ++ last ∷ [] → AllByRecursion P left × P last
+of_last P all left last w is =
+    let v = subst (AllByRecursion P) is w in
+    (all_front P left (last ∷ []) v, (all_back P left (last ∷ []) v).0)

@@ -1,0 +1,14 @@
+use Rattle.std.proofs.Common.{length}
+use Rattle.std.specs.Prelude.{All, IfSome}
+use Rattle.std.specs.List.{AllByRecursion}
+use Rattle.partial_memory.specs.Ports.{IsOf}
+use Rattle.memory_tests.proofs.closings.closed.Given as goal
+
+abbrev pub invariant-loop-worker : goal.invariant-loop-worker
+invariant-loop-worker l = record {
+  ports : AllByRecursion (IsOf l.fn.memory) l.ports.items;
+  workers : All (λ w. IsOf l.fn.memory w.port × IfSome w.other (IsOf l.fn.memory)) l.workers.items;
+}
+
+abbrev pub decreases-loop-worker : goal.decreases-loop-worker
+decreases-loop-worker l = length l.workers.items

@@ -1,0 +1,10 @@
+use Rattle.std.proofs.Common.{sym, subst}
+use Rattle.std.specs.List.{AllByRecursion}
+use Rattle.partial_memory.specs.Rule.{newcomers}
+use Rattle.partial_memory.specs.Ports.{IsOf, new_ports}
+use Rattle.partial_memory.proofs.Laws.{opened_ports_are_all}
+use Rattle.memory_tests.proofs.Ports.{both}
+use Rattle.memory_tests.proofs.memories.opened.Goals as goal
+
+pub returns : goal.returns
+returns c = both c.open.result _ _ _ (λ r a p. (a.0, subst (AllByRecursion (IsOf r.0)) (sym p) ((opened_ports_are_all r.0 c.args.ports a.1).own))) c.open.ensures.about c.open.ensures.ports

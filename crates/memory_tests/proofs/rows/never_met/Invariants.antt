@@ -1,0 +1,9 @@
+use Rattle.std.proofs.Common.{◌≡◌}
+use Rattle.partial_memory.specs.Ports.{IsOf}
+use Rattle.memory_tests.proofs.rows.never_met.Given as goal
+
+abbrev pub invariant-loop-value : goal.invariant-loop-value
+invariant-loop-value g l = record {
+  first : IsOf l.memory l.first;
+  second : IsOf l.memory l.second;
+}

@@ -1,0 +1,36 @@
+use Rattle.std.proofs.Common.{rules, ◌≡◌, List, [], ◌∷◌, ◌++◌, sym, subst, Option, Some, None, IfSome, Vec, Global}
+use Rattle.std.specs.List.{All, AllByRecursion}
+use Rattle.std.specs.Option.{option_to_list}
+use Rattle.std.proofs.lemmas.List.Elements.{All-push}
+use Rattle.partial_model.proofs.AllLemmas.{all_front}
+use Rattle.partial_memory.specs.declared.port.Port.{Port}
+use Rattle.memory_tests.specs.declared.workers.Worker.{Worker}
+use Rattle.partial_memory.specs.Ports.{PortView, IsOf}
+use Rattle.memory_tests.proofs.Ports.{of_last}
+use Rattle.memory_tests.proofs.workers.hire.Goals as goal
+use Rattle.memory_tests.proofs.workers.hire.Goals.{in-Meet, in_default-job}
+
+-- the same where there may be none
+popped : {A : Type 0} (P : A → Type 0) (all left : List A) (r : Option A) → AllByRecursion P all → all ≡ left ++ option_to_list r → AllByRecursion P left × IfSome r P
+popped P all left None w is = (all_front P left [] (subst (AllByRecursion P) is w), tt)
+popped P all left (Some x) w is = of_last P all left x w is
+
+pub loop-preserved : goal.loop-preserved
+loop-preserved c =
+    let O : PortView → Type 0 = IsOf c.args.memory.now in
+    let P : Worker → Type 0 = λ w. O w.port × IfSome w.other O in
+    let first = popped O _ _ _ c.loop.invariant.ports c.pop.ensures.items in
+    let one : O c.in-Some.port = subst (λ r. IfSome r O) c.in-Some.is first.1 in
+    let left : AllByRecursion O c.match-job.ports.items × IfSome c.match-job.other O =
+    elim c.match-job.branch [
+      | in-Meet w ↦
+          let second = popped O _ _ _ first.0 w.pop-other.ensures.items in
+          (subst (λ (v : Vec Port Global). AllByRecursion O v.items) (sym w.ports-is) second.0, subst (λ r. IfSome r O) (sym w.other-is) second.1)
+      | in_default-job w ↦ (subst (λ (v : Vec Port Global). AllByRecursion O v.items) (sym w.ports-is) first.0, subst (λ r. IfSome r O) (sym w.other-is) tt)
+    ] in
+    let hired : P c.new.result = (subst O (sym c.new.ensures.0) one, subst (λ r. IfSome r O) (sym c.new.ensures.1) left.1) in
+    let put : c.push.new.self.items ≡ c.loop.workers.items ++ c.new.result ∷ [] = search rules in
+    record {
+      ports = left.0;
+      workers = subst (All P) (sym put) (All-push P c.loop.workers.items c.new.result c.loop.invariant.workers hired);
+    }

@@ -1,0 +1,79 @@
+//! What a closed memory says of the runs of many threads: every applied update stands in the chain of
+//! its component once, in the order of its caller.
+
+ghost use Rattle.std.specs.Prelude.{◌≡◌, All, IfSome};
+ghost use Rattle.partial_memory.specs.Ports.{IsOf};
+
+use super::workers::{Told, Worker};
+use partial_memory::{Closed, Memory};
+use partial_words::Link;
+use std::alloc::Global;
+use std::process::Abort;
+use std::test::Fail;
+
+/// Closes the memory with all its ports. What its workers were told comes back, the last worker's first.
+pub fn closed(
+    alloc: Global,
+    memory: Memory,
+    mut workers: Vec<Worker>,
+) -> Result<(Closed, Vec<Told>), Fail>
+    requires { All (λ w. IsOf memory w.port × IfSome w.other (IsOf memory)) workers.items }
+{
+    let mut ports = Vec::new(alloc);
+    let mut all = Vec::with_capacity(alloc, workers.len())?;
+    while let Some(worker) = workers.pop() {
+        let Worker {
+            port,
+            other,
+            told,
+            ..
+        } = worker;
+        ports.push(port)?;
+        if let Some(other) = other {
+            ports.push(other)?;
+        }
+        all.push(told)?;
+    }
+    let Some(first) = ports.pop() else {
+        return Err(Fail::from("a port"));
+    };
+    let closed = memory.close(alloc, first, ports)?;
+    Ok((closed, all))
+}
+
+/// Whether these stamps are in the chain, in this order from the oldest on.
+fn has_in_order(chain: &[Link], stamps: &[u64]) -> bool {
+    let mut stamps = stamps.iter();
+    let mut next = stamps.next();
+    for link in chain.iter().rev() {
+        if next == Some(&link.stamp) {
+            next = stamps.next();
+        }
+    }
+    next.is_none()
+}
+
+/// The chain of a component has what the workers applied, each update once and in its caller's order,
+/// behind the initial record. Its first link has the component's value, which each worker's port has read
+/// with its stamp once all had ended.
+pub fn judge_chains(rt: &impl Abort, closed: &Closed, all: &[Told]) {
+    assert_eq!(rt; closed.values.len(), 2);
+    assert_eq!(rt; closed.chains.len(), 2);
+    for (component, chain) in (0u32..).zip(closed.chains.iter()) {
+        let mut applied = 0usize;
+        for told in all {
+            let newest = chain.first().map(|link| (link.value, link.stamp));
+            assert_eq!(rt; told.seen.get(component as usize), Some(&newest));
+            let stamps = told.to_component(component);
+            assert!(rt;
+                has_in_order(chain.as_slice(), stamps),
+                "component {component}"
+            );
+            applied = applied.saturating_add(stamps.len());
+        }
+        assert_eq!(rt; chain.len(), applied.saturating_add(1));
+        let newest = chain.first().map(|link| link.value);
+        assert_eq!(rt; newest.as_ref(), closed.values.get(component as usize));
+        assert_eq!(rt; chain.last().map(|link| link.value), Some(0));
+    }
+}

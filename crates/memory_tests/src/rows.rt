@@ -1,0 +1,248 @@
+//! Rows in one thread, each worked out by hand.
+
+ghost use Rattle.std.specs.Prelude.{◌≤◌};
+ghost use Rattle.partial_memory.specs.Ports.{IsOf};
+
+use super::calls::{COLLECTED_TWICE, applies, reads, scans, updates_if};
+use super::memories::{opened, pair};
+use partial_memory::{Closed, Memory, OpenError, Port, Scanned, Updated, UpdatedIf};
+use partial_model::Refused;
+use partial_words::{Link, Sizes};
+use std::alloc::Global;
+use std::process::Abort;
+use std::test::Fail;
+
+// Each call, and then the memory is closed with the first port, and with the second one where it is
+// handed in.
+fn one_thread(rt: &impl Abort, alloc: Global, both: bool) -> Result<Closed, Fail> {
+    let sizes = Sizes::new(2, 4, 8, 64)?;
+    let (memory, mut first, mut second) = pair(alloc, sizes, &[10, 20])?;
+    assert_eq!(rt; (first.number(), second.number()), (0, 1));
+    let updated = memory.update(&mut first, 1, 8);
+    assert_eq!(rt; updated, Ok(Updated::Applied { stamp: 24 }));
+    let mut into = [0u64; 2];
+    let scanned = memory.scan(&mut second, &[0, 1], &mut into);
+    assert_eq!(rt; scanned, Ok(COLLECTED_TWICE));
+    assert_eq!(rt; into, [10, 8]);
+    memory.meet(&mut first, &mut second);
+    assert_eq!(rt; memory.read(&mut second, 1), Ok((8, 24)));
+    assert_eq!(rt; memory.read(&mut second, 2), Err(Refused::Component));
+    let mut rest = Vec::new(alloc);
+    if both {
+        rest.push(second)?;
+    }
+    Ok(memory.close(alloc, first, rest)?)
+}
+
+fn assert_closed(rt: &impl Abort, closed: &Closed) {
+    assert_eq!(rt; closed.values.as_slice(), [10, 8].as_slice());
+    let links = |at: usize| closed.chains.get(at).map(|chain| chain.as_slice());
+    let opening = Link {
+        stamp: 18,
+        value: 10,
+    };
+    let newest = Link {
+        stamp: 24,
+        value: 8,
+    };
+    let oldest = Link {
+        stamp: 21,
+        value: 20,
+    };
+    assert_eq!(rt; links(0), Some([opening].as_slice()));
+    assert_eq!(rt; links(1), Some([newest, oldest].as_slice()));
+    assert_eq!(rt; closed.chains.len(), 2);
+}
+
+#[test]
+fn one_thread_with_both_ports(rt: HostRuntime) -> Result<(), Fail> {
+    let closed = one_thread(&rt, rt.alloc(), true)?;
+    assert_closed(&rt, &closed);
+    Ok(())
+}
+
+#[test]
+fn one_thread_without_the_second_port(rt: HostRuntime) -> Result<(), Fail> {
+    let closed = one_thread(&rt, rt.alloc(), false)?;
+    assert_closed(&rt, &closed);
+    Ok(())
+}
+
+#[test]
+fn ports_refused(rt: HostRuntime) -> Result<(), Fail> {
+    let sizes = Sizes::new(2, 4, 8, 64)?;
+    for ports in [0, 65] {
+        let refused = Memory::open(rt.alloc(), sizes, &[10, 20], ports).err();
+        assert_eq!(rt; refused, Some(OpenError::Ports), "{ports} ports");
+    }
+    for ports in [1, 64] {
+        let (_, all) = Memory::open(rt.alloc(), sizes, &[10, 20], ports)?;
+        assert_eq!(rt; all.len(), ports as usize);
+    }
+    Ok(())
+}
+
+#[test]
+fn component_refused(rt: HostRuntime) -> Result<(), Fail> {
+    let sizes = Sizes::new(2, 4, 8, 64)?;
+    let (memory, mut first, _) = pair(rt.alloc(), sizes, &[10, 20])?;
+    let absent = Refused::Component;
+    assert_eq!(rt; memory.update(&mut first, 2, 1), Err(absent));
+    assert_eq!(rt; memory.update_if(&mut first, 2, 18, 1), Err(absent));
+    let mut into = [3u64, 4];
+    assert_eq!(rt; memory.scan(&mut first, &[0, 2], &mut into), Err(absent));
+    assert_eq!(rt; into, [3, 4]);
+    assert_eq!(rt;
+        memory.update(&mut first, 0, 7),
+        Ok(Updated::Applied { stamp: 24 })
+    );
+    Ok(())
+}
+
+// Two updates that are refused for the pool.
+fn refused_for_pool(rt: &impl Abort, memory: &Memory, me: &mut Port, component: u32)
+    requires { IsOf memory.now me.old }
+    ensures { IsOf memory.now me.new }
+{
+    assert!(rt; !me.pool_spent());
+    for _ in 0..2 {
+        let updated = memory.update(me, component, 8);
+        assert_eq!(rt; updated, Err(Refused::PoolSpent));
+        assert!(rt; me.pool_spent());
+    }
+}
+
+#[test]
+fn pool_spent(rt: HostRuntime) -> Result<(), Fail> {
+    let sizes = Sizes::new(2, 4, 8, 9)?;
+    let (memory, mut first, mut second) = pair(rt.alloc(), sizes, &[10, 20])?;
+    applies(&rt, &memory, &mut first, 0, 7, 24);
+    refused_for_pool(&rt, &memory, &mut first, 0);
+    refused_for_pool(&rt, &memory, &mut second, 1);
+    reads(&rt, &memory, &mut second, 0, 7, 24);
+    Ok(())
+}
+
+// Two scans that are refused for the slots.
+fn refused_for_slots(rt: &impl Abort, memory: &Memory, me: &mut Port)
+    requires { IsOf memory.now me.old × (1 ≤ memory.now.about.sizes.m) }
+    ensures { IsOf memory.now me.new }
+{
+    assert!(rt; !me.slots_spent());
+    for _ in 0..2 {
+        let mut into = [3u64];
+        let scanned = memory.scan(me, &[1], &mut into);
+        assert_eq!(rt; scanned, Err(Refused::SlotsSpent));
+        assert_eq!(rt; into, [3]);
+        assert!(rt; me.slots_spent());
+    }
+}
+
+#[test]
+fn slots_spent(rt: HostRuntime) -> Result<(), Fail> {
+    let sizes = Sizes::new(2, 1, 8, 64)?;
+    let (memory, mut port, _) = pair(rt.alloc(), sizes, &[10, 20])?;
+    let mut into = [0u64];
+    assert_eq!(rt;
+        memory.scan(&mut port, &[0], &mut into),
+        Ok(COLLECTED_TWICE)
+    );
+    assert_eq!(rt; into, [10]);
+    refused_for_slots(&rt, &memory, &mut port);
+    applies(&rt, &memory, &mut port, 1, 5, 25);
+    Ok(())
+}
+
+// One port updates component 0, and another one, which it hasn't met, scans and reads it.
+fn update_then_look(rt: &impl Abort, memory: &Memory, first: &mut Port, second: &mut Port, k: u64)
+    requires { IsOf memory.now first.old × IsOf memory.now second.old × (2 ≤ memory.now.about.sizes.m) }
+    ensures { IsOf memory.now first.new × IsOf memory.now second.new }
+{
+    let stamp = k.saturating_mul(6).saturating_add(70);
+    applies(rt, memory, first, 0, k, stamp);
+    scans(rt, memory, second, [0, 1], [k, 0]);
+    reads(rt, memory, second, 0, k, stamp);
+}
+
+// Two ports that never meet: each scan and each read shows the update that ended before it began.
+#[test]
+fn never_met(rt: HostRuntime) -> Result<(), Fail> {
+    let sizes = Sizes::new(2, 64, 0, 4096)?;
+    let (memory, mut first, mut second) = pair(rt.alloc(), sizes, &[0, 0])?;
+    for value in 1..=50 {
+        update_then_look(&rt, &memory, &mut first, &mut second, value);
+    }
+    Ok(())
+}
+
+#[test]
+fn conditional(rt: HostRuntime) -> Result<(), Fail> {
+    let sizes = Sizes::new(2, 4, 8, 64)?;
+    let (memory, mut first, mut second) = pair(rt.alloc(), sizes, &[10, 20])?;
+    let applied = UpdatedIf::Applied { stamp: 24 };
+    updates_if(&rt, &memory, &mut first, 0, 18, 7, applied);
+    let changed = UpdatedIf::Changed { by: 24 };
+    updates_if(&rt, &memory, &mut second, 0, 18, 8, changed);
+    let applied = UpdatedIf::Applied { stamp: 27 };
+    updates_if(&rt, &memory, &mut second, 0, 24, 9, applied);
+    Ok(())
+}
+
+#[test]
+fn empty_scan(rt: HostRuntime) -> Result<(), Fail> {
+    let sizes = Sizes::new(2, 1, 8, 9)?;
+    let (memory, mut first, _) = pair(rt.alloc(), sizes, &[10, 20])?;
+    let scanned = memory.scan(&mut first, &[], &mut []);
+    let none = Scanned {
+        collects: 0,
+        borrowed: None,
+    };
+    assert_eq!(rt; scanned, Ok(none));
+    Ok(())
+}
+
+#[test]
+fn repeated_position(rt: HostRuntime) -> Result<(), Fail> {
+    let sizes = Sizes::new(3, 4, 8, 64)?;
+    let (memory, mut ports) = opened(rt.alloc(), sizes, &[10, 20, 30], 1)?;
+    let mut port = ports.pop().ok_or("a port")?;
+    let mut into = [0u64; 3];
+    let scanned = memory.scan(&mut port, &[0, 0, 1], &mut into);
+    assert_eq!(rt; scanned, Ok(COLLECTED_TWICE));
+    assert_eq!(rt; into, [10, 10, 20]);
+    Ok(())
+}
+
+// Updates of a port between its own scans: each finds the slot that a scan has left, and puts it on the list.
+fn between_scans(rt: &impl Abort, memory: &Memory, me: &mut Port)
+    requires { IsOf memory.now me.old × (2 ≤ memory.now.about.sizes.m) }
+    ensures { IsOf memory.now me.new }
+{
+    applies(rt, memory, me, 0, 7, 24);
+    scans(rt, memory, me, [1, 0], [20, 7]);
+    applies(rt, memory, me, 1, 8, 30);
+    applies(rt, memory, me, 0, 9, 33);
+    updates_if(rt, memory, me, 0, 33, 11, UpdatedIf::Applied { stamp: 36 });
+    updates_if(rt, memory, me, 0, 33, 12, UpdatedIf::Changed { by: 36 });
+    scans(rt, memory, me, [0, 1], [11, 8]);
+    applies(rt, memory, me, 1, 13, 42);
+}
+
+// The stamps and the chains are those of the steps by hand: a record takes 3 pool words, an announcement of two
+// positions 3, and an overtaken conditional update none.
+#[test]
+fn updates_between_scans(rt: HostRuntime) -> Result<(), Fail> {
+    let sizes = Sizes::new(2, 4, 8, 64)?;
+    let (memory, mut first, _) = pair(rt.alloc(), sizes, &[10, 20])?;
+    between_scans(&rt, &memory, &mut first);
+    let closed = memory.close(rt.alloc(), first, Vec::new(rt.alloc()))?;
+    assert_eq!(rt; closed.values.as_slice(), [11, 13].as_slice());
+    let stamps = [[36, 33, 24, 18].as_slice(), [42, 30, 21].as_slice()];
+    for (chain, expected) in closed.chains.iter().zip(stamps) {
+        assert_eq!(rt; chain.len(), expected.len());
+        for (link, stamp) in chain.iter().zip(expected) {
+            assert_eq!(rt; link.stamp, *stamp);
+        }
+    }
+    Ok(())
+}

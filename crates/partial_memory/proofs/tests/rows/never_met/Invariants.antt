@@ -1,9 +1,0 @@
-use Rattle.std.proofs.Common.{◌≡◌}
-use Rattle.partial_memory.specs.Ports.{IsOf}
-use Rattle.partial_memory.proofs.tests.rows.never_met.Given as goal
-
-abbrev pub invariant-loop-value : goal.invariant-loop-value
-invariant-loop-value g l = record {
-  first : IsOf l.memory l.first;
-  second : IsOf l.memory l.second;
-}

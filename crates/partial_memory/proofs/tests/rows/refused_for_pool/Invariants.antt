@@ -1,6 +1,0 @@
-use Rattle.std.proofs.Common.{◌≡◌}
-use Rattle.partial_memory.specs.Ports.{IsOf}
-use Rattle.partial_memory.proofs.tests.rows.refused_for_pool.Given as goal
-
-abbrev pub invariant-loop : goal.invariant-loop
-invariant-loop g l = IsOf l.memory l.me
