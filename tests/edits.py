@@ -64,32 +64,34 @@ def read_edit(path):
     return Edit(path.stem, refused, changes)
 
 
-def turned(edit, texts, crate):
-    """These texts of the crate's files, with those that the edit changes turned."""
-    texts = dict(texts)
+def places_of(edit, crate):
+    """The places that an edit turns, in the files as they are: file, begin, end, and the new text."""
     for file, old, new in edit.changes:
-        text = texts.get(file) or (crate / file).read_text(encoding='utf-8')
+        text = (crate / file).read_text(encoding='utf-8')
         if text.count(old) != 1 or old == new:
-            raise BadEdit(f'its old text stands {text.count(old)} times in {file}')
-        texts[file] = text.replace(old, new)
-    return texts
+            raise BadEdit(f'its old text stands {text.count(old)} times in {file}: {old}')
+        begin = text.index(old)
+        yield file, begin, begin + len(old), new
+
+
+def overlap(these, others):
+    """Whether two lists of places meet."""
+    return any(file == other and begin < other_end and other_begin < end
+               for file, begin, end, _ in these for other, other_begin, other_end, _ in others)
 
 
 def rounds_of(edits, crate):
-    """The edits in rounds, each with the texts that it turns: in a round no function is turned twice."""
+    """The edits in rounds, each with the places that it turns: in a round no function is turned twice."""
     rounds = []
     for edit in edits:
-        turned(edit, {}, crate)
-        for members, texts in rounds:
-            if all(edit.refused != other.refused for other in members):
-                try:
-                    texts.update(turned(edit, texts, crate))
-                except BadEdit:
-                    continue
+        places = list(places_of(edit, crate))
+        for members, turned in rounds:
+            if all(edit.refused != it.refused for it in members) and not overlap(places, turned):
                 members.append(edit)
+                turned += places
                 break
         else:
-            rounds.append(([edit], turned(edit, {}, crate)))
+            rounds.append(([edit], places))
     return rounds
 
 
@@ -132,14 +134,15 @@ def command_of(name, crates):
             '--incremental', 'kept']
 
 
-def check(room, name, texts, command):
-    """What a check of the crate in this folder says with these texts in place of its own."""
+def check(room, name, places, command):
+    """What a check of the crate in this folder says with these places of it turned."""
     for part in PARTS:
         shutil.rmtree(room / part, ignore_errors=True)
         if (TOP / 'crates' / name / part).is_dir():
             shutil.copytree(TOP / 'crates' / name / part, room / part)
-    for file, text in texts.items():
-        (room / file).write_text(text, encoding='utf-8')
+    for file, begin, end, new in sorted(places, reverse=True):
+        text = (room / file).read_text(encoding='utf-8')
+        (room / file).write_text(text[:begin] + new + text[end:], encoding='utf-8')
     ran = subprocess.run(command, cwd=room, stdin=subprocess.DEVNULL, stdout=subprocess.PIPE,
                          stderr=subprocess.STDOUT, text=True, errors='replace')
     return ran.stdout
@@ -147,7 +150,7 @@ def check(room, name, texts, command):
 
 def with_open_goals(name, said):
     """The functions of the crate of which a goal of their own wasn't proved."""
-    searched = re.findall(rf'^fn {name}::(\S+): no proof: .*`search` did not prove', said, re.M)
+    searched = re.findall(rf'^fn {name}::(\S+): no proof: .*(?:`search` did not prove|expected a measure)', said, re.M)
     answered = re.findall(r'^\./proofs/(\S+)/Answers\.antt\S*: error: (.*)$', said, re.M)
     return {*searched, *[folder.replace('/', '::') for folder, why in answered if not LACKING.search(why)]}
 
@@ -172,7 +175,7 @@ def try_crate(name, crates):
     for path in sorted((crate / 'edits').glob('*')):
         try:
             edit = read_edit(path)
-            turned(edit, {}, crate)
+            list(places_of(edit, crate))
             edits.append(edit)
         except BadEdit as bad:
             faults.append(f'{name}/{path.name}: bad edit: {bad}')
@@ -180,8 +183,8 @@ def try_crate(name, crates):
     with tempfile.TemporaryDirectory(prefix='edits-') as room:
         kept = crate / 'out' / 'incremental'
         shutil.copytree(kept, f'{room}/kept') if kept.is_dir() else os.mkdir(f'{room}/kept')
-        for members, texts in rounds_of(edits, crate):
-            faults += try_round(name, members, check(Path(room), name, texts, command))
+        for members, places in rounds_of(edits, crate):
+            faults += try_round(name, members, check(Path(room), name, places, command))
     return len(edits), faults
 
 
