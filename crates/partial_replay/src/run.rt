@@ -69,7 +69,7 @@ impl Run {
                 trace: Vec::new(alloc),
                 places: Wanted::new(alloc, sizes.m() as usize)?,
             },
-            ports: fresh_ports(alloc, sizes, plans.len())?,
+            ports: fresh_ports(alloc, sizes, plans)?,
         })
     }
 
@@ -223,18 +223,23 @@ impl Run {
     }
 }
 
-// The ports, none of which has made a call.
-fn fresh_ports(alloc: Global, sizes: Sizes, count: usize) -> Result<Vec<Port>, AllocError>
-    requires { count ≤ 64 }
-    ensures { IfOk result (λ ports. AreFreshPorts sizes count ports.items) }
+// The ports of the plans, none of which has made a call. Each has room for all of its plan's calls.
+fn fresh_ports(
+    alloc: Global,
+    sizes: Sizes,
+    plans: &[Sequence<Call>],
+) -> Result<Vec<Port>, AllocError>
+    requires { length plans.now ≤ 64 }
+    ensures { IfOk result (λ ports. AreFreshPorts sizes (length plans.now) ports.items) }
 {
-    let mut ports = Vec::with_capacity(alloc, count)?;
-    for number in 0..count {
+    let mut ports = Vec::with_capacity(alloc, plans.len())?;
+    for number in 0..plans.len() {
+        let room = plans[number].len();
         let number = number as u32;
         ports.push(Port {
             number,
             core: Core::new(alloc, sizes, number)?,
-            finished: Vec::new(alloc),
+            finished: Vec::with_capacity(alloc, room)?,
             under_way: None,
         })?;
     }

@@ -12,5 +12,5 @@ loop-number-preserved c =
       count = ap length pushed ∙ length_push c.loop-number.ports.items _ ∙ ap (λ n. n + 1) c.loop-number.invariant.count;
       fresh = subst (λ (l : List Port). FreshFrom c.args.sizes 0 l) (sym pushed)
           (fresh_push c.args.sizes 0 c.loop-number.ports.items _ c.loop-number.invariant.fresh (omega (arith, c.loop-number.invariant.count)) c.in_ok-new.ensures
-          c.new-in-loop-number.ensures.items refl);
+          c.in_ok-with_capacity.ensures.items refl);
     }
