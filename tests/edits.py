@@ -3,12 +3,13 @@
 
 An edit is a file of lines: `refused: PATH` names the function whose contract has to refuse it, as the prover
 prints it, below its crate; `file: PATH` a file of the crate; and then `old: TEXT` and `new: TEXT` in turn, where the
-old text stands exactly once in that file.
+old text stands exactly once in that file as it is.
 
-A check costs most of its time before its first proof, so a crate's edits are tried together, as many as turn
-functions of their own. Each is judged by itself: of its function the check has to say that a goal of its own can't
-be proved. That a function calls one that isn't proved is said apart, and counts for nothing. Edits that turn one
-function stand in rounds, the later ones over what the first round proved.
+Much of a check's time passes before its first proof, so a crate's edits are tried together, in rounds in each of
+which no function is turned twice. Each edit is judged by itself: of its function the check has to say that a goal of
+its own can't be proved. That a function calls one that isn't proved is said apart, and counts for nothing; and no
+function may have such a goal that none of the round's edits turns. A later round begins with what the earlier ones
+have proved.
 
 With words, it takes the crates with these names alone. What isn't proved yet of the crates below is proved first.
 The last line is 'N passed, M failed', where each edit counts once.
