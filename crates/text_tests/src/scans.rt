@@ -1,13 +1,16 @@
 //! Which texts are plans with scans, and the first fault of those that are not.
 
 use super::plans::{line, read, refusal};
-use crate::{Cause, Plan, PlanError};
 use itoa::Buffer;
 use partial_model::Call;
+use partial_text::{Cause, Plan, PlanError};
 use std::alloc::Global;
 use std::test::Fail;
 
-const PLAN: &[u8] = b"sizes 2 4 8 64\ninitial 10 20\nport scan 0 1\nsteps rest\n";
+// Texts and tables are results of functions, whose contents no proof of a test has to know.
+fn whole() -> &'static [u8] {
+    b"sizes 2 4 8 64\ninitial 10 20\nport scan 0 1\nsteps rest\n"
+}
 
 /// The positions of a call, where it is a scan.
 fn positions(plan: &Plan, port: usize, number: usize) -> Option<&[u32]> {
@@ -17,24 +20,33 @@ fn positions(plan: &Plan, port: usize, number: usize) -> Option<&[u32]> {
     }
 }
 
-#[test]
-fn scans_are_read(rt: HostRuntime) -> Result<(), Fail> {
-    let text = b"sizes 3 4 8 64
+fn seven_calls() -> &'static [u8] {
+    b"sizes 3 4 8 64
 initial 10 20 30
 port scan
 port scan 0 0 1
 port update 0 7; scan; scan 2; read 1; scan 4294967295 3 2
 steps 2*9 rest
-";
-    let plan = read(rt.alloc(), text).ok().ok_or("the text is a plan")?;
-    let rows: [(usize, usize, &[u32]); 5] = [
+"
+}
+
+// The port of each scan of that plan, its number and its positions.
+fn its_scans() -> [(usize, usize, &'static [u32]); 5] {
+    [
         (0, 0, &[]),
         (1, 0, &[0, 0, 1]),
         (2, 1, &[]),
         (2, 2, &[2]),
         (2, 4, &[u32::MAX, 3, 2]),
-    ];
-    for (port, number, expected) in rows {
+    ]
+}
+
+#[test]
+fn scans_are_read(rt: HostRuntime) -> Result<(), Fail> {
+    let plan = read(rt.alloc(), seven_calls())
+        .ok()
+        .ok_or("the text is a plan")?;
+    for (port, number, expected) in its_scans() {
         assert_eq!(rt;
             positions(&plan, port, number),
             Some(expected),
@@ -89,9 +101,9 @@ fn scan_of_each_component(rt: HostRuntime) -> Result<(), Fail> {
     Ok(())
 }
 
-#[test]
-fn scan_refusals(rt: HostRuntime) -> Result<(), Fail> {
-    let rows: [(&[u8], Cause); 22] = [
+// What stands in place of a plan's third line, and the cause of the refusal.
+fn refused_lines() -> [(&'static [u8], Cause); 22] {
+    [
         (b"port scan 0 0 1", Cause::Count),
         (b"port scan 0 1 x", Cause::Count),
         (b"port scan x y z", Cause::Count),
@@ -114,8 +126,12 @@ fn scan_refusals(rt: HostRuntime) -> Result<(), Fail> {
         (b"port Scan 0", Cause::Word),
         (b"port scan;", Cause::Word),
         (b"port swap; scan 0 0 0", Cause::Word),
-    ];
-    for (other, cause) in rows {
+    ]
+}
+
+#[test]
+fn scan_refusals(rt: HostRuntime) -> Result<(), Fail> {
+    for (other, cause) in refused_lines() {
         let given = refusal(rt.alloc(), 3, other)?;
         assert_eq!(rt; given, Some(line(3, cause)), "{other:?}");
     }
@@ -124,16 +140,17 @@ fn scan_refusals(rt: HostRuntime) -> Result<(), Fail> {
 
 #[test]
 fn scan_fronts(rt: HostRuntime) -> Result<(), Fail> {
-    for length in 0..PLAN.len() {
+    let plan = whole();
+    for length in 0..plan.len() {
         let expected = match length {
             0..15 => 1,
             15..29 => 2,
             29..43 => 3,
             _ => 4,
         };
-        let given = read(rt.alloc(), &PLAN[..length]).err();
+        let given = read(rt.alloc(), &plan[..length]).err();
         assert_eq!(rt; given, Some(line(expected, Cause::End)), "{length} bytes");
     }
-    assert!(rt; read(rt.alloc(), PLAN).is_ok());
+    assert!(rt; read(rt.alloc(), plan).is_ok());
     Ok(())
 }

@@ -1,7 +1,7 @@
 //! The text of an outcome, and writers that take little, nothing or fail.
 
-use crate::{Device, Outcome, OutcomeError, write_outcome};
 use partial_model::{Answer, Applied, Call, Called, Finish, Note, Opening, Refused, Sequence};
+use partial_text::{Device, Outcome, OutcomeError, write_outcome};
 use std::alloc::{AllocError, Global};
 use std::io;
 use std::io::Write;
@@ -32,12 +32,15 @@ impl Write for Sink {
     }
 }
 
-const ROW: &[u8] = b"applied 0 port 0 component 0 value 7 stamp 24
+// Texts are results of functions, whose contents no proof of a test has to know.
+fn row() -> &'static [u8] {
+    b"applied 0 port 0 component 0 value 7 stamp 24
 call 0 0 applied 24 place 0 steps 8 span 0 1
 call 0 1 read 7 24 prefix 1 steps 2 span 1 1
 values 7 20
 total 10
-";
+"
+}
 
 fn finished(ended: usize, answer: Answer, note: Option<Note>) -> Option<Finish> {
     Some(Finish {
@@ -140,8 +143,23 @@ fn full_text(alloc: Global, outcome: &Outcome) -> Result<Vec<u8>, Fail> {
 #[test]
 fn outcome_is_written(rt: HostRuntime) -> Result<(), Fail> {
     let text = full_text(rt.alloc(), &write_then_read(rt.alloc())?)?;
-    assert_eq!(rt; text.as_slice(), ROW);
+    assert_eq!(rt; text.as_slice(), row());
     Ok(())
+}
+
+fn text_of_each_answer() -> &'static [u8] {
+    b"call 0 0 lost 27 place 0 steps 8 span 0 1
+call 0 1 scanned 10 10 20 prefix 0 collects 2 borrowed - steps 17 span 0 0
+call 0 2 scanned 5 prefix 1 collects 3 borrowed 32 steps 13 span 0 2
+call 0 3 scanned prefix 0 collects 0 borrowed - steps 0 span 0 0
+call 1 0 refused 7 steps 0 span 1 1
+call 1 1 refused 8 steps 4 span 1 1
+call 1 2 refused 9 steps 4 span 1 1
+call 1 3 changed 24 prefix 1 steps 1 span 1 1
+call 2 0 unfinished steps 4 span 0 -
+values 10 20
+total 51
+"
 }
 
 #[test]
@@ -157,20 +175,8 @@ fn each_answer_is_written(rt: HostRuntime) -> Result<(), Fail> {
         trace: Vec::new(rt.alloc()),
         steps: 51,
     };
-    let expected = b"call 0 0 lost 27 place 0 steps 8 span 0 1
-call 0 1 scanned 10 10 20 prefix 0 collects 2 borrowed - steps 17 span 0 0
-call 0 2 scanned 5 prefix 1 collects 3 borrowed 32 steps 13 span 0 2
-call 0 3 scanned prefix 0 collects 0 borrowed - steps 0 span 0 0
-call 1 0 refused 7 steps 0 span 1 1
-call 1 1 refused 8 steps 4 span 1 1
-call 1 2 refused 9 steps 4 span 1 1
-call 1 3 changed 24 prefix 1 steps 1 span 1 1
-call 2 0 unfinished steps 4 span 0 -
-values 10 20
-total 51
-";
     let text = full_text(rt.alloc(), &outcome)?;
-    assert_eq!(rt; text.as_slice(), expected.as_slice());
+    assert_eq!(rt; text.as_slice(), text_of_each_answer());
     Ok(())
 }
 
@@ -206,18 +212,21 @@ pub(super) fn borrowed_scan(alloc: Global) -> Result<Outcome, AllocError> {
     })
 }
 
-#[test]
-fn scans_are_written(rt: HostRuntime) -> Result<(), Fail> {
-    let expected = b"applied 0 port 1 component 0 value 5 stamp 26
+fn text_of_borrowed_scan() -> &'static [u8] {
+    b"applied 0 port 1 component 0 value 5 stamp 26
 applied 1 port 1 component 0 value 6 stamp 32
 call 0 0 scanned 5 prefix 1 collects 3 borrowed 32 steps 13 span 0 2
 call 1 0 applied 26 place 0 steps 17 span 0 1
 call 1 1 applied 32 place 1 steps 17 span 1 2
 values 6 20
 total 47
-";
+"
+}
+
+#[test]
+fn scans_are_written(rt: HostRuntime) -> Result<(), Fail> {
     let text = full_text(rt.alloc(), &borrowed_scan(rt.alloc())?)?;
-    assert_eq!(rt; text.as_slice(), expected.as_slice());
+    assert_eq!(rt; text.as_slice(), text_of_borrowed_scan());
     Ok(())
 }
 
@@ -248,8 +257,9 @@ fn scan_line(
 }
 
 /// A scan with the greatest numbers.
-const GREATEST_SCAN: &[u8] =
-    b"scanned 18446744073709551615 0 18446744073709551615 prefix 0 collects 4294967295 borrowed 18446744073709551615";
+fn greatest_scan() -> &'static [u8] {
+    b"scanned 18446744073709551615 0 18446744073709551615 prefix 0 collects 4294967295 borrowed 18446744073709551615"
+}
 
 #[test]
 fn each_scan_is_written(rt: HostRuntime) -> Result<(), Fail> {
@@ -278,7 +288,7 @@ fn each_scan_is_written(rt: HostRuntime) -> Result<(), Fail> {
             vec![in alloc; most, 0, most]?,
             u32::MAX,
             Some(most),
-            GREATEST_SCAN,
+            greatest_scan(),
         ),
     ];
     for (values, collects, borrowed, told) in rows {
@@ -294,7 +304,8 @@ fn each_scan_is_written(rt: HostRuntime) -> Result<(), Fail> {
 #[test]
 fn each_stop(rt: HostRuntime) -> Result<(), Fail> {
     let outcome = write_then_read(rt.alloc())?;
-    for room in 0..ROW.len() {
+    let row = row();
+    for room in 0..row.len() {
         for (step, takes_none) in [(1, false), (7, true), (1000, false)] {
             let mut device = Device::new(Sink {
                 taken: Vec::new(rt.alloc()),
@@ -306,7 +317,7 @@ fn each_stop(rt: HostRuntime) -> Result<(), Fail> {
             assert_eq!(rt; given, Err(OutcomeError::Write), "room {room}");
             assert!(rt; device.failed());
             let sink = device.into_inner();
-            assert_eq!(rt; sink.taken.as_slice(), &ROW[..room]);
+            assert_eq!(rt; sink.taken.as_slice(), &row[..room]);
         }
     }
     Ok(())
@@ -315,7 +326,8 @@ fn each_stop(rt: HostRuntime) -> Result<(), Fail> {
 #[test]
 fn short_writes(rt: HostRuntime) -> Result<(), Fail> {
     let outcome = write_then_read(rt.alloc())?;
-    for step in 1..ROW.len() + 2 {
+    let row = row();
+    for step in 1..row.len() + 2 {
         let mut device = Device::new(Sink {
             taken: Vec::new(rt.alloc()),
             step,
@@ -324,7 +336,7 @@ fn short_writes(rt: HostRuntime) -> Result<(), Fail> {
         });
         assert_eq!(rt; write_outcome(rt.alloc(), &outcome, &mut device), Ok(()));
         assert!(rt; !device.failed());
-        assert_eq!(rt; device.into_inner().taken.as_slice(), ROW);
+        assert_eq!(rt; device.into_inner().taken.as_slice(), row);
     }
     Ok(())
 }

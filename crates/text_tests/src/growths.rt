@@ -3,24 +3,28 @@
 use super::plans::read;
 use super::reports::each_answer;
 use super::writers::borrowed_scan;
-use crate::{Device, OutcomeError, PlanError, write_outcome, write_report, write_reports};
+use partial_text::{Device, OutcomeError, PlanError, write_outcome, write_report, write_reports};
 use std::alloc::AllocError;
 use std::io;
 use std::io::Write;
 use std::process::Abort;
 use std::test::Fail;
 
-// Where a growth is refused there is no plan, and the test ends with that refusal. Where the test
-// passes, no growth was refused and the plan was read.
-#[test]
-fn a_refused_growth_reads_no_plan(rt: HostRuntime) -> Result<(), Fail> {
-    let text = b"sizes 6 4 8 64
+// A plan with each call, whose text no proof has to know.
+fn each_call() -> &'static [u8] {
+    b"sizes 6 4 8 64
 initial 10 20 30 40 50 60
 port scan 5 4 3 2 1 0; update 0 7; scan; scan 2 1; read 0; updateif 1 21 9
 port scan 1
 steps 0*9 1*4 rest
-";
-    match read(rt.alloc(), text) {
+"
+}
+
+// Where a growth is refused there is no plan, and the test ends with that refusal. Where the test
+// passes, no growth was refused and the plan was read.
+#[test]
+fn a_refused_growth_reads_no_plan(rt: HostRuntime) -> Result<(), Fail> {
+    match read(rt.alloc(), each_call()) {
         Ok(plan) => assert_eq!(rt; plan.ports().len(), 2),
         Err(error) => {
             assert_eq!(rt; error, PlanError::Memory);

@@ -1,11 +1,14 @@
 //! Readers that give little at a time, fail, or never end.
 
-use crate::{Cause, Device, Plan, PlanError};
+use partial_text::{Cause, Device, Plan, PlanError};
 use std::io;
 use std::io::Read;
 use std::test::Fail;
 
-const PLAN: &[u8] = b"sizes 2 4 8 64\ninitial 10 20\nport read 0\nsteps rest\n";
+// The text of a plan, which no proof of a test has to know.
+fn text() -> &'static [u8] {
+    b"sizes 2 4 8 64\ninitial 10 20\nport read 0\nsteps rest\n"
+}
 
 /// Gives at most so many bytes a read, over and over where it is endless, and fails at one read.
 #[derive(Drop)]
@@ -51,7 +54,7 @@ impl Read for Source<'_> {
 #[test]
 fn any_pieces(rt: HostRuntime) -> Result<(), Fail> {
     for step in 1..60 {
-        let mut device = Device::new(Source::new(PLAN, step));
+        let mut device = Device::new(Source::new(text(), step));
         let plan = Plan::read(rt.alloc(), &mut device)
             .ok()
             .ok_or("the text is a plan")?;
@@ -63,8 +66,8 @@ fn any_pieces(rt: HostRuntime) -> Result<(), Fail> {
 
 #[test]
 fn each_read_fails(rt: HostRuntime) -> Result<(), Fail> {
-    for fails_at in 1..PLAN.len() as u64 + 2 {
-        let mut source = Source::new(PLAN, 1);
+    for fails_at in 1..text().len() as u64 + 2 {
+        let mut source = Source::new(text(), 1);
         source.fails_at = fails_at;
         let mut device = Device::new(source);
         let given = Plan::read(rt.alloc(), &mut device).err();
@@ -77,7 +80,7 @@ fn each_read_fails(rt: HostRuntime) -> Result<(), Fail> {
 
 #[test]
 fn fails_after_twenty_bytes(rt: HostRuntime) -> Result<(), Fail> {
-    let mut source = Source::new(PLAN, 20);
+    let mut source = Source::new(text(), 20);
     source.fails_at = 2;
     let mut device = Device::new(source);
     assert_eq!(rt;
@@ -94,7 +97,7 @@ fn never_ends(rt: HostRuntime) -> Result<(), Fail> {
         cause: Cause::Size,
     };
     for step in [1, 4096, 1_000_000] {
-        let mut source = Source::new(PLAN, step);
+        let mut source = Source::new(text(), step);
         source.endless = true;
         let mut device = Device::new(source);
         assert_eq!(rt; Plan::read(rt.alloc(), &mut device).err(), Some(size));

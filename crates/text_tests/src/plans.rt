@@ -1,12 +1,15 @@
 //! Which texts are plans, and the first fault of those that are not.
 
-use crate::{Cause, Device, Plan, PlanError};
 use partial_model::Call;
+use partial_text::{Cause, Device, Plan, PlanError};
 use partial_words::SizeError;
 use std::alloc::Global;
 use std::test::Fail;
 
-const PLAN: &[u8] = b"sizes 2 4 8 64\ninitial 10 20\nport update 0 7; read 0\nsteps rest\n";
+// Texts and tables are results of functions, whose contents no proof of a test has to know.
+fn whole() -> &'static [u8] {
+    b"sizes 2 4 8 64\ninitial 10 20\nport update 0 7; read 0\nsteps rest\n"
+}
 
 pub(super) fn read(alloc: Global, text: &[u8]) -> Result<Plan, PlanError> {
     Plan::read(alloc, &mut Device::new(text))
@@ -23,7 +26,7 @@ pub(super) fn refusal(
     other: &[u8],
 ) -> Result<Option<PlanError>, Fail> {
     let mut text = Vec::new(alloc);
-    for (place, line) in PLAN.split(|byte| *byte == b'\n').enumerate() {
+    for (place, line) in whole().split(|byte| *byte == b'\n').enumerate() {
         if place + 1 == number {
             text.extend_from_slice(other)?;
         } else if place < 4 {
@@ -52,15 +55,20 @@ fn is_call(number: usize, call: &Call) -> bool {
     }
 }
 
-#[test]
-fn a_plan_is_read(rt: HostRuntime) -> Result<(), Fail> {
-    let text = b"sizes 3 65536 0 4194304
+fn greatest() -> &'static [u8] {
+    b"sizes 3 65536 0 4194304
 initial 0 18446744073709551615 7
 port
 port update 4294967295 18446744073709551615; read 0; updateif 1 18 9
 steps 1*4294967295 0*1 rest
-";
-    let plan = read(rt.alloc(), text).ok().ok_or("the text is a plan")?;
+"
+}
+
+#[test]
+fn a_plan_is_read(rt: HostRuntime) -> Result<(), Fail> {
+    let plan = read(rt.alloc(), greatest())
+        .ok()
+        .ok_or("the text is a plan")?;
     let sizes = plan.sizes();
     assert_eq!(rt; sizes.m(), 3);
     assert_eq!(rt; sizes.slots(), 65_536);
@@ -88,10 +96,10 @@ fn steps_without_rest(rt: HostRuntime) -> Result<(), Fail> {
     Ok(())
 }
 
-#[test]
-fn plan_refusals(rt: HostRuntime) -> Result<(), Fail> {
+// Which line stands in place of another, and the refusal.
+fn refused_lines() -> [(usize, &'static [u8], PlanError); 44] {
     let number = Cause::Number;
-    let rows: [(usize, &[u8], PlanError); 44] = [
+    [
         (1, b"sizes 0 4 8 64", PlanError::Size(SizeError::Components)),
         (1, b"sizes 0 0 8 64", PlanError::Size(SizeError::Components)),
         (1, b"sizes 2 0 8 64", PlanError::Size(SizeError::Slots)),
@@ -144,8 +152,12 @@ fn plan_refusals(rt: HostRuntime) -> Result<(), Fail> {
         (4, b"steps ", line(4, number)),
         (4, b"steps rest ", line(4, number)),
         (4, b"steps 0*1*1", line(4, number)),
-    ];
-    for (number, other, expected) in rows {
+    ]
+}
+
+#[test]
+fn plan_refusals(rt: HostRuntime) -> Result<(), Fail> {
+    for (number, other, expected) in refused_lines() {
         let given = refusal(rt.alloc(), number, other)?;
         assert_eq!(rt; given, Some(expected), "line {number} {other:?}");
     }
@@ -154,24 +166,25 @@ fn plan_refusals(rt: HostRuntime) -> Result<(), Fail> {
 
 #[test]
 fn plan_fronts(rt: HostRuntime) -> Result<(), Fail> {
-    for length in 0..PLAN.len() {
+    let plan = whole();
+    for length in 0..plan.len() {
         let expected = match length {
             0..15 => 1,
             15..29 => 2,
             29..53 => 3,
             _ => 4,
         };
-        let given = read(rt.alloc(), &PLAN[..length]).err();
+        let given = read(rt.alloc(), &plan[..length]).err();
         assert_eq!(rt; given, Some(line(expected, Cause::End)), "{length} bytes");
     }
-    assert!(rt; read(rt.alloc(), PLAN).is_ok());
+    assert!(rt; read(rt.alloc(), plan).is_ok());
     Ok(())
 }
 
 #[test]
 fn something_behind(rt: HostRuntime) -> Result<(), Fail> {
     for more in [b"port\n".as_slice(), b"port", b"\n", b" "] {
-        let mut text = Vec::from_slice(rt.alloc(), PLAN)?;
+        let mut text = Vec::from_slice(rt.alloc(), whole())?;
         text.extend_from_slice(more)?;
         let given = read(rt.alloc(), &text).err();
         assert_eq!(rt; given, Some(line(5, Cause::Extra)), "{more:?}");
@@ -211,9 +224,9 @@ fn many_components(rt: HostRuntime) -> Result<(), Fail> {
     Ok(())
 }
 
-#[test]
-fn refusals_have_numbers(rt: HostRuntime) -> Result<(), Fail> {
-    let rows = [
+// Each refusal, its number and its text.
+fn numbered() -> [(PlanError, u8, &'static str); 14] {
+    [
         (
             PlanError::Size(SizeError::Components),
             1,
@@ -240,8 +253,12 @@ fn refusals_have_numbers(rt: HostRuntime) -> Result<(), Fail> {
         (line(3, Cause::Range), 10, "line 3: range"),
         (line(3, Cause::Extra), 10, "line 3: extra"),
         (PlanError::Read, 11, "read fault"),
-    ];
-    for (error, code, text) in rows {
+    ]
+}
+
+#[test]
+fn refusals_have_numbers(rt: HostRuntime) -> Result<(), Fail> {
+    for (error, code, text) in numbered() {
         assert_eq!(rt; error.code(), code);
         let printed = format!(in rt.alloc(); "{error}")?;
         assert_eq!(rt; printed.as_str(), text);
