@@ -7,7 +7,7 @@ mod refusals;
 mod rows;
 mod runs;
 
-use crate::{Fault, Verb, Verdict, execute};
+use partial_cmd::{Fault, Verb, Verdict, execute};
 use partial_replay::Device;
 use std::alloc::Global;
 use std::sync::Wait;

@@ -6,21 +6,25 @@ use partial_replay::Cause;
 use std::alloc::{AllocError, Global};
 use std::test::Fail;
 
-const LINES: [&[u8]; 4] = [
-    b"sizes 2 4 8 64",
-    b"initial 10 20",
-    b"port update 0 7; read 0",
-    b"steps rest",
-];
+// Lines and tables come as results, so that no proof of a test knows their texts.
+
+fn lines() -> [&'static [u8]; 4] {
+    [
+        b"sizes 2 4 8 64",
+        b"initial 10 20",
+        b"port update 0 7; read 0",
+        b"steps rest",
+    ]
+}
 
 /// The plan of the lines above, with another one in the place of the line of this number.
 fn changed(alloc: Global, number: u32, other: &[u8]) -> Result<Vec<u8>, AllocError> {
     let mut text = Vec::new(alloc);
-    for (place, line) in LINES.iter().enumerate() {
+    for (place, line) in lines().into_iter().enumerate() {
         let line = if place + 1 == number as usize {
             other
         } else {
-            *line
+            line
         };
         text.extend_from_slice(line)?;
         text.push(b'\n')?;
@@ -28,9 +32,9 @@ fn changed(alloc: Global, number: u32, other: &[u8]) -> Result<Vec<u8>, AllocErr
     Ok(text)
 }
 
-#[test]
-fn sizes_out_of_range(rt: HostRuntime) -> Result<(), Fail> {
-    let rows: [(&[u8], u8); 7] = [
+// What stands in place of the first line, and the number of the refusal.
+fn wrong_sizes() -> [(&'static [u8], u8); 7] {
+    [
         (b"sizes 0 4 8 64", 1),
         (b"sizes 0 0 8 64", 1),
         (b"sizes 65537 1 0 196611", 1),
@@ -38,8 +42,12 @@ fn sizes_out_of_range(rt: HostRuntime) -> Result<(), Fail> {
         (b"sizes 2 0 8 64", 2),
         (b"sizes 2 4 65537 64", 3),
         (b"sizes 2 4 8 5", 4),
-    ];
-    for (line, code) in rows {
+    ]
+}
+
+#[test]
+fn sizes_out_of_range(rt: HostRuntime) -> Result<(), Fail> {
+    for (line, code) in wrong_sizes() {
         let plan = changed(rt.alloc(), 1, line)?;
         let fault = outcome_of(&rt, rt.alloc(), &plan).err().ok_or("a refusal")?;
         assert_eq!(rt; fault.code(), code, "{line:?}");
@@ -48,9 +56,9 @@ fn sizes_out_of_range(rt: HostRuntime) -> Result<(), Fail> {
     Ok(())
 }
 
-#[test]
-fn lines_refused(rt: HostRuntime) -> Result<(), Fail> {
-    let rows: [(u32, &[u8], Cause); 19] = [
+// What stands in place of the line of that number, and the cause of the refusal.
+fn wrong_lines() -> [(u32, &'static [u8], Cause); 19] {
+    [
         (1, b"sizes 2 4 8", Cause::Count),
         (1, b"sizes 2 4 08 64", Cause::Number),
         (1, b"sizes 4294967296 4 8 64", Cause::Number),
@@ -70,8 +78,12 @@ fn lines_refused(rt: HostRuntime) -> Result<(), Fail> {
         (4, b"steps 0*4294967296", Cause::Number),
         (4, b"steps rest 0*1", Cause::Number),
         (4, b"steps ", Cause::Number),
-    ];
-    for (number, line, cause) in rows {
+    ]
+}
+
+#[test]
+fn lines_refused(rt: HostRuntime) -> Result<(), Fail> {
+    for (number, line, cause) in wrong_lines() {
         let plan = changed(rt.alloc(), number, line)?;
         let fault = outcome_of(&rt, rt.alloc(), &plan).err().ok_or("a refusal")?;
         assert_eq!(rt; fault.code(), 10, "{line:?}");
@@ -115,9 +127,8 @@ fn ports_out_of_range(rt: HostRuntime) -> Result<(), Fail> {
 }
 
 // Plans with scans, each with one change to the plan of a whole scan or of an empty one.
-#[test]
-fn plan_refusals(rt: HostRuntime) -> Result<(), Fail> {
-    let rows: [(&[u8], u32, Cause); 9] = [
+fn wrong_scans() -> [(&'static [u8], u32, Cause); 9] {
+    [
         (
             b"sizes 2 4 8 64\ninitial 10 20\nport scan 0 1\nsteps rest",
             4,
@@ -163,8 +174,12 @@ fn plan_refusals(rt: HostRuntime) -> Result<(), Fail> {
             5,
             Cause::Extra,
         ),
-    ];
-    for (plan, line, cause) in rows {
+    ]
+}
+
+#[test]
+fn plan_refusals(rt: HostRuntime) -> Result<(), Fail> {
+    for (plan, line, cause) in wrong_scans() {
         let fault = outcome_of(&rt, rt.alloc(), plan).err().ok_or("a refusal")?;
         assert_eq!(rt; fault.code(), 10, "{plan:?}");
         assert_eq!(rt; fault.at(), Some((line, cause)), "{plan:?}");

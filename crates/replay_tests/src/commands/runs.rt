@@ -3,7 +3,7 @@
 use super::devices::Bytewise;
 use super::executed;
 use super::rows::Row;
-use crate::{Fault, Gate, NoGate, Verb, Verdict, execute, execute_next, run_workers};
+use partial_cmd::{Fault, Gate, NoGate, Verb, Verdict, execute, execute_next, run_workers};
 use partial_model::Answer;
 use partial_replay::{Device, Plan};
 use std::alloc::Global;
@@ -12,71 +12,76 @@ use std::sync::atomic::{AtomicU64, Ordering};
 use std::test::Fail;
 use std::thread::Threads;
 
-const SLOTS_SPENT: Row = (
-    "slots_spent",
-    b"sizes 2 1 8 64
+// Plans and their reports come as results, so that no proof of a test knows their texts.
+
+pub(super) fn slots_spent() -> Row {
+    (
+        "slots_spent",
+        b"sizes 2 1 8 64
 initial 10 20
 port scan 0; scan 1; scan 1; update 1 5
 steps rest
 ",
-    b"call 0 0 scanned 10 collects 2 borrowed -
+        b"call 0 0 scanned 10 collects 2 borrowed -
 call 0 1 refused 8
 call 0 2 refused 8
 call 0 3 applied 25
 values 10 5
 ",
-);
+    )
+}
 
-const RUN_REPORT: Row = (
-    "run_report",
-    b"sizes 2 4 8 64
+fn run_report() -> Row {
+    (
+        "run_report",
+        b"sizes 2 4 8 64
 initial 10 20
 port update 0 7; read 0
 steps rest
 ",
-    b"call 0 0 applied 24
+        b"call 0 0 applied 24
 call 0 1 read 7 24
 values 7 20
 ",
-);
+    )
+}
 
-const EMPTY_SCAN: Row = (
-    "empty_scan",
-    b"sizes 2 4 8 64
+fn empty_scan() -> Row {
+    (
+        "empty_scan",
+        b"sizes 2 4 8 64
 initial 10 20
 port scan
 steps rest
 ",
-    b"call 0 0 scanned collects 0 borrowed -
+        b"call 0 0 scanned collects 0 borrowed -
 values 10 20
 ",
-);
+    )
+}
 
-const CONDITIONAL: Row = (
-    "conditional",
-    b"sizes 2 4 8 64
+fn conditional() -> Row {
+    (
+        "conditional",
+        b"sizes 2 4 8 64
 initial 10 20
 port updateif 0 18 7; updateif 0 18 8; updateif 0 24 9; read 2
 port
 steps
 ",
-    b"call 0 0 applied 24
+        b"call 0 0 applied 24
 call 0 1 changed 24
 call 0 2 applied 27
 call 0 3 refused 7
 values 9 20
 ",
-);
-
-/// The row that spends all slots. It comes as a result, so that no proof of a test knows its texts.
-pub(super) fn slots_spent() -> Row {
-    SLOTS_SPENT
+    )
 }
 
 // With one port that makes calls there is one report.
 #[test]
 fn run_reports(rt: HostRuntime) -> Result<(), Fail> {
-    for (name, plan, expected) in [RUN_REPORT, slots_spent(), EMPTY_SCAN, CONDITIONAL] {
+    for (name, plan, expected) in [run_report(), slots_spent(), empty_scan(), conditional()] {
         let (verdict, written) = executed(&rt, rt.alloc(), Verb::Run, plan)?;
         assert_eq!(rt; verdict, Verdict::Done, "{name}");
         assert_eq!(rt; written.as_slice(), expected, "{name}");
@@ -111,7 +116,8 @@ fn sixty_four_readers(rt: HostRuntime) -> Result<(), Fail> {
 
 #[test]
 fn a_report_to_a_failing_writer(rt: HostRuntime) -> Result<(), Fail> {
-    let (_, plan, expected) = RUN_REPORT;
+    let (_, plan, expected) = run_report();
+    assert!(rt; expected.len() <= 64);
     for room in 0..expected.len() {
         let mut taken = [0u8; 64];
         let mut writer = Device::new(&mut taken[..room]);
@@ -165,11 +171,14 @@ impl Gate for Flags {
     }
 }
 
+fn two_readers() -> &'static [u8] {
+    b"sizes 2 4 8 64\ninitial 10 20\nport read 0\nport read 0\nsteps\n"
+}
+
 // A port that waits at its gate for the other is met there: the two run at the same time.
 #[test]
 fn side_by_side(rt: HostRuntime) -> Result<(), Fail> {
-    let text = b"sizes 2 4 8 64\ninitial 10 20\nport read 0\nport read 0\nsteps\n";
-    let plan = Plan::read(rt.alloc(), &mut Device::new(text.as_slice()))?;
+    let plan = Plan::read(rt.alloc(), &mut Device::new(two_readers()))?;
     let flags = Flags::new();
     run_workers(&rt, rt.alloc(), &plan, &flags)?;
     for port in 0..2 {
@@ -220,31 +229,27 @@ fn gates_in_order(rt: HostRuntime) -> Result<(), Fail> {
     Ok(())
 }
 
-/// A first plan, a second one, and the texts of both reports. Only a test that cuts one of them names this, since
-/// its proof has to know their lengths.
-const NEXT: (&[u8], &[u8], &[u8]) = (
-    b"sizes 2 4 8 64
+/// A first plan, a second one, and the texts of both reports.
+pub(super) fn two_plans() -> (&'static [u8], &'static [u8], &'static [u8]) {
+    (
+        b"sizes 2 4 8 64
 initial 10 20
 port update 0 7; read 0
 steps rest
 ",
-    b"sizes 3 4 8 64
+        b"sizes 3 4 8 64
 initial 0 0 0
 port read 0; read 2
 steps rest
 ",
-    b"call 0 0 applied 24
+        b"call 0 0 applied 24
 call 0 1 read 7 24
 values 7 20
 call 0 0 read 7 19
 call 0 1 read 0 25
 values 7 20 0
 ",
-);
-
-/// The same as a result, so that no proof of a test knows the texts.
-pub(super) fn two_plans() -> (&'static [u8], &'static [u8], &'static [u8]) {
-    NEXT
+    )
 }
 
 /// What both plans write, where they aren't refused.
@@ -270,20 +275,27 @@ fn a_run_goes_on(rt: HostRuntime) -> Result<(), Fail> {
     Ok(())
 }
 
-// A stamp of the first run has no meaning in the second one.
-#[test]
-fn stamps_start_anew(rt: HostRuntime) -> Result<(), Fail> {
-    let (plan, _, _) = two_plans();
-    let next = b"sizes 2 4 8 64\ninitial 0 0\nport updateif 0 24 9; read 0\nport\nsteps\n";
-    let expected = b"call 0 0 applied 24
+/// Another second plan, and the texts of both reports with it.
+fn stale_stamp() -> (&'static [u8], &'static [u8]) {
+    (
+        b"sizes 2 4 8 64\ninitial 0 0\nport updateif 0 24 9; read 0\nport\nsteps\n",
+        b"call 0 0 applied 24
 call 0 1 read 7 24
 values 7 20
 call 0 0 changed 18
 call 0 1 read 7 18
 values 7 20
-";
+",
+    )
+}
+
+// A stamp of the first run has no meaning in the second one.
+#[test]
+fn stamps_start_anew(rt: HostRuntime) -> Result<(), Fail> {
+    let (plan, _, _) = two_plans();
+    let (next, expected) = stale_stamp();
     let written = executed_both(&rt, rt.alloc(), plan, next)?;
-    assert_eq!(rt; written.as_slice(), expected.as_slice());
+    assert_eq!(rt; written.as_slice(), expected);
     Ok(())
 }
 
@@ -311,7 +323,8 @@ fn refusals_of_two_plans(rt: HostRuntime) -> Result<(), Fail> {
 // Where the first plan's reader fails the second plan isn't read, and nothing is written.
 #[test]
 fn readers_of_two_plans(rt: HostRuntime) -> Result<(), Fail> {
-    let (plan, next, _) = NEXT;
+    let (plan, next, _) = two_plans();
+    assert!(rt; 40 <= plan.len() && 40 <= next.len());
     for count in [0usize, 20, 40] {
         let mut first = Device::new(Bytewise::failing(&plan[..count]));
         let mut second = Device::new(next);
@@ -332,7 +345,8 @@ fn readers_of_two_plans(rt: HostRuntime) -> Result<(), Fail> {
 
 #[test]
 fn two_reports_to_a_failing_writer(rt: HostRuntime) -> Result<(), Fail> {
-    let (plan, next, expected) = NEXT;
+    let (plan, next, expected) = two_plans();
+    assert!(rt; expected.len() <= 128);
     for room in 0..expected.len() {
         let mut taken = [0u8; 128];
         let mut writer = Device::new(&mut taken[..room]);

@@ -2,7 +2,7 @@
 
 use super::rows::rows;
 use super::{executed, outcome_of};
-use crate::{Verb, Verdict};
+use partial_cmd::{Verb, Verdict};
 use std::test::Fail;
 
 #[test]

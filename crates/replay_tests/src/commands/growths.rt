@@ -2,7 +2,7 @@
 
 use super::rows::borrowed_view;
 use super::runs::{slots_spent, two_plans};
-use crate::{Fault, Verb, execute, execute_next};
+use partial_cmd::{Fault, Verb, execute, execute_next};
 use partial_replay::Device;
 use std::alloc::Global;
 use std::io;

@@ -1,8 +1,8 @@
 //! A port that stops for ever after any of its steps, and another one that no stop holds up.
 
 use super::{outcome_text, replayed};
-use crate::Outcome;
 use partial_model::{Answer, Called, Finish, Note, check_outcome};
+use partial_replay::Outcome;
 use std::alloc::Global;
 use std::test::Fail;
 
@@ -84,18 +84,24 @@ fn scanner_stopped(rt: HostRuntime) -> Result<(), Fail> {
     Ok(())
 }
 
-// A scan that stops behind its last step is as any other that no update met.
-#[test]
-fn scanner_stopped_behind_its_scan(rt: HostRuntime) -> Result<(), Fail> {
-    let plan = b"sizes 2 4 8 64\ninitial 10 20\nport scan 0 1\nport update 0 7\nsteps 0*13 1*23\n";
-    let expected = b"applied 0 port 1 component 0 value 7 stamp 27
+fn scan_then_update() -> &'static [u8] {
+    b"sizes 2 4 8 64\ninitial 10 20\nport scan 0 1\nport update 0 7\nsteps 0*13 1*23\n"
+}
+
+fn their_outcome() -> &'static [u8] {
+    b"applied 0 port 1 component 0 value 7 stamp 27
 call 0 0 scanned 10 20 prefix 0 collects 2 borrowed - steps 13 span 0 0
 call 1 0 applied 27 place 0 steps 14 span 0 1
 values 7 20
 total 27
-";
-    let written = outcome_text(rt.alloc(), plan)?;
-    assert_eq!(rt; written.as_slice(), expected.as_slice());
+"
+}
+
+// A scan that stops behind its last step is as any other that no update met.
+#[test]
+fn scanner_stopped_behind_its_scan(rt: HostRuntime) -> Result<(), Fail> {
+    let written = outcome_text(rt.alloc(), scan_then_update())?;
+    assert_eq!(rt; written.as_slice(), their_outcome());
     Ok(())
 }
 

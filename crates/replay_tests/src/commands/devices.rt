@@ -3,7 +3,7 @@
 ghost use Rattle.std.specs.Prelude.{◌≡◌, false};
 
 use super::rows::{borrowed_view, rows, whole_scan, write_then_read};
-use crate::{Verb, execute};
+use partial_cmd::{Verb, execute};
 use partial_replay::Device;
 use std::alloc::Global;
 use std::io;
