@@ -74,10 +74,10 @@ refuse_all machine_tests 'machine::.*'
 refuse_all text_tests 'places::.*'
 refuse_all text_tests 'growths::.*'
 refuse_all replay_tests 'replays::growths::.*'
-refuse_all partial_rounds 'tests::growths::.*'
+refuse_all client_tests 'rounds::growths::.*'
 refuse_all replay_tests 'commands::growths::.*'
 refuse_all memory_tests 'growths::.*'
-refuse_all partial_pipeline 'tests::growths::.*'
+refuse_all client_tests 'pipeline::growths::.*'
 refuse_all partial_picture 'tests::growths::.*' manages
 
 echo "$passed passed, $failed failed"

@@ -1,7 +1,7 @@
 //! Growths that are refused, one after another: the script that runs these tests says which.
 
 use super::{counting, made};
-use crate::{Rounds, RoundsError};
+use partial_rounds::{Rounds, RoundsError};
 use partial_words::Sizes;
 use std::alloc::AllocError;
 use std::test::Fail;

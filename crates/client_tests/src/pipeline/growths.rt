@@ -1,7 +1,7 @@
 //! Growths that are refused, one after another: the script that runs these tests says which.
 
 use super::judge;
-use crate::{NoWatch, NoWork, PipelineError, run_pipeline};
+use partial_pipeline::{NoWatch, NoWork, PipelineError, run_pipeline};
 use partial_words::Sizes;
 use std::alloc::AllocError;
 use std::test::Fail;

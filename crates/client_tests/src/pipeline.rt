@@ -4,7 +4,7 @@ mod examples;
 mod growths;
 mod pipelines;
 
-use crate::PipelineReport;
+use partial_pipeline::PipelineReport;
 use std::process::Abort;
 
 /// Whether no count is greater than the one before it.

@@ -1,7 +1,7 @@
 //! The example of the document on rounds.
 
-use crate::Rounds;
 use partial_model::{Answer, Call, Sequence};
+use partial_rounds::Rounds;
 use partial_words::Sizes;
 use partial_workers::are_makable;
 use std::test::Fail;

@@ -1,8 +1,8 @@
 //! What comes of calls, judged by their values and by how many answers there are of each kind.
 
 use super::{counting, made};
-use crate::{Rounds, RoundsError, RoundsReport};
 use partial_model::{Answer, Call, Refused, Sequence};
+use partial_rounds::{Rounds, RoundsError, RoundsReport};
 use partial_words::Sizes;
 use std::test::Fail;
 

@@ -1,6 +1,6 @@
 //! The examples of the document on the pipeline.
 
-use crate::{NoWatch, NoWork, Watch, Work, run_pipeline};
+use partial_pipeline::{NoWatch, NoWork, Watch, Work, run_pipeline};
 use partial_words::Sizes;
 use std::sync::atomic::{AtomicU64, Ordering};
 use std::test::Fail;

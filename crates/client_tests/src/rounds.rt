@@ -5,8 +5,8 @@ mod growths;
 mod long;
 mod runs;
 
-use crate::{Rounds, RoundsError, RoundsReport};
 use partial_model::{Call, Sequence};
+use partial_rounds::{Rounds, RoundsError, RoundsReport};
 use partial_workers::are_makable;
 use std::alloc::{AllocError, Global};
 use std::sync::Wait;

@@ -1,7 +1,9 @@
 //! Pipelines of one stage up to as many as there may be.
 
 use super::judge;
-use crate::{NoWatch, NoWork, PipelineError, PipelineReport, StageEnd, Watch, Work, run_pipeline};
+use partial_pipeline::{
+    NoWatch, NoWork, PipelineError, PipelineReport, StageEnd, Watch, Work, run_pipeline,
+};
 use partial_words::{SizeError, Sizes};
 use std::alloc::Global;
 use std::sync::Wait;

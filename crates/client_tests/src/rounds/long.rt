@@ -1,7 +1,7 @@
 //! Runs over the greatest pool. `tests/rounds.sh` makes them again and again, and says how long they take.
 
 use super::{counting, made};
-use crate::Rounds;
+use partial_rounds::Rounds;
 use partial_words::Sizes;
 use std::test::Fail;
 
