@@ -119,8 +119,8 @@ else
     failed=$((failed + 1))
 fi
 
-# The rows of the tests of partial_cmd stand in plans/ with the same texts, each of them.
-rows=$(sed 's/^ *b"/b"/' "$top/crates/partial_cmd/src/tests/rows.rt")
+# The rows of the commands' tests stand in plans/ with the same texts, each of them.
+rows=$(sed 's/^ *b"/b"/' "$top/crates/replay_tests/src/commands/rows.rt")
 whole() {
     local text
     text=$(cat "$1" && printf .)

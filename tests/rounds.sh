@@ -1,20 +1,20 @@
 #!/usr/bin/env bash
-# Makes two proved tests of partial_rounds again and again, and says how many seconds that took: ten million
-# updates by four ports, and a thousand rounds of one update by each of four ports, so a thousandth of that time
-# is a change of round. Both are over the greatest pool. It is no part of ./check.
+# Makes two proved tests of calls over several openings again and again, and says how many seconds that took: ten
+# million updates by four ports, and a thousand rounds of one update by each of four ports, so a thousandth of that
+# time is a change of round. Both are over the greatest pool. It is no part of ./check.
 set -u
 
 top=$(cd "$(dirname "${BASH_SOURCE[0]}")/.." && pwd) || exit 1
 . "$top/fresh.sh" || exit 1
-tests=$top/crates/partial_rounds/out/partial_rounds_tests
-is_fresh "$tests" || (cd "$top/crates/partial_rounds" && rt test) || exit 1
+tests=$top/crates/client_tests/out/client_tests_tests
+is_fresh "$tests" || (cd "$top/crates/client_tests" && rt test) || exit 1
 
 # again NAME TIMES WHAT: runs the test so often.
 again() {
     local said k
     SECONDS=0
     for ((k = 0; k < $2; k++)); do
-        if ! said=$("$tests" "tests::long::$1" 2>&1); then
+        if ! said=$("$tests" "rounds::long::$1" 2>&1); then
             printf '%s\nfailed: %s\n' "$said" "$1"
             exit 1
         fi

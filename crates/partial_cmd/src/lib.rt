@@ -5,8 +5,6 @@ mod command;
 mod fault;
 mod law;
 mod next;
-#[cfg(test)]
-mod tests;
 mod workers;
 
 pub use command::{Verb, Verdict, execute};

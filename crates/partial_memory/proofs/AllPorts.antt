@@ -1,6 +1,5 @@
 -- A memory that is closed with all its ports: each entry is in the notes of exactly one.
 use Rattle.std.proofs.Common.{ℕ, zero, suc, ◌≡◌, ◌+◌, ◌<◌, List, [], ◌∷◌, length, refl, sym, ◌∙◌, ap, subst, Some, None, slice_get, arith}
-use Rattle.std.specs.Prelude.{Result, Ok, Err, IfOk}
 use Rattle.std.specs.List.{AllByRecursion}
 use Rattle.atomic_table.specs.Seated.{TableId}
 use Rattle.partial_model.specs.declared.history.Applied.{Applied}
@@ -72,8 +71,3 @@ module _ (m : MemoryView) (ports : List PortView) (closed : Closed) (all : AreAl
 pub closed_with_all_ports : ClosedWithAllPorts
 closed_with_all_ports m ports closed all c =
     record { log = c.log; history = c.history; below = c.others; each = port_at m ports closed all c; noted = in_one_port m ports closed all c; values = c.values; chains = c.chains }
-
--- what follows from two facts about the value of a result
-pub both : {A E : Type 0} (r : Result A E) (P Q R : A → Type 0) → ((x : A) → P x → Q x → R x) → IfOk r P → IfOk r Q → IfOk r R
-both (Ok x) P Q R f p q = f x p q
-both (Err e) P Q R f p q = tt

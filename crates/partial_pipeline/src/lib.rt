@@ -8,8 +8,6 @@ mod monitor;
 mod report;
 mod run;
 mod stage;
-#[cfg(test)]
-mod tests;
 mod work;
 
 pub use error::PipelineError;

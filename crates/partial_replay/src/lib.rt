@@ -8,8 +8,6 @@ mod note;
 mod port;
 mod replaying;
 mod run;
-#[cfg(test)]
-mod tests;
 
 pub use law::{answered_scans_make_their_steps, one_port_is_alone, plans_have_one_outcome};
 pub use partial_text::{Cause, Device, Outcome, OutcomeError, Plan, PlanError, write_outcome};

@@ -4,8 +4,6 @@
 mod error;
 mod progress;
 mod rounds;
-#[cfg(test)]
-mod tests;
 
 pub use error::RoundsError;
 pub use rounds::{Round, Rounds, RoundsReport};

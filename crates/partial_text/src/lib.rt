@@ -25,6 +25,3 @@ pub use outcome::Outcome;
 pub use plan::Plan;
 pub use report::RunReport;
 pub use writing::{write_outcome, write_report, write_reports, write_text};
-
-#[cfg(test)]
-mod tests;

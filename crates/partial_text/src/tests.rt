@@ -1,6 +1,0 @@
-mod growths;
-mod plans;
-mod readers;
-mod reports;
-mod scans;
-mod writers;

@@ -1,0 +1,8 @@
+//! Tests of replays and of the commands of the program, from text to text: plans whose outcomes were worked
+//! out by hand, plans that are refused, and devices that fail.
+#![tactic(auto)]
+
+#[cfg(test)]
+mod commands;
+#[cfg(test)]
+mod replays;

@@ -1,0 +1,34 @@
+//! Growths that are refused, one after another: the script that runs these tests says which.
+
+use partial_replay::{Device, Plan, ReplayError, replay};
+use std::alloc::AllocError;
+use std::test::Fail;
+
+// A scan that borrows a view, a port that waits in vain for its turn, and one with each other call.
+fn each_call() -> &'static [u8] {
+    b"sizes 2 4 8 64
+initial 10 20
+port scan 0; scan 1 0; scan
+port update 0 5; update 0 6; read 0; updateif 1 21 8
+port scan 0
+steps 0*6 1*17 0*1 1*17 0*6 1*2 1*20 0*20
+"
+}
+
+// Where a growth is refused there is no outcome, and the test ends with that refusal. Where the test
+// passes, no growth was refused and each step was made.
+#[test]
+fn a_refused_growth_gives_no_outcome(rt: HostRuntime) -> Result<(), Fail> {
+    let plan = Plan::read(rt.alloc(), &mut Device::new(each_call())).map_err(|_| AllocError)?;
+    match replay(rt.alloc(), &plan) {
+        Ok(outcome) => {
+            assert_eq!(rt; outcome.calls.len(), 7);
+            assert_eq!(rt; outcome.history.len(), 3);
+        }
+        Err(error) => {
+            assert_eq!(rt; error, ReplayError::Memory);
+            Err(AllocError)?;
+        }
+    }
+    Ok(())
+}

@@ -1,0 +1,99 @@
+//! Growths that are refused, one after another: who runs these tests says which.
+
+use super::plans::read;
+use super::reports::each_answer;
+use super::writers::borrowed_scan;
+use partial_text::{Device, OutcomeError, PlanError, write_outcome, write_report, write_reports};
+use std::alloc::AllocError;
+use std::io;
+use std::io::Write;
+use std::process::Abort;
+use std::test::Fail;
+
+// A plan with each call, whose text no proof has to know.
+fn each_call() -> &'static [u8] {
+    b"sizes 6 4 8 64
+initial 10 20 30 40 50 60
+port scan 5 4 3 2 1 0; update 0 7; scan; scan 2 1; read 0; updateif 1 21 9
+port scan 1
+steps 0*9 1*4 rest
+"
+}
+
+// Where a growth is refused there is no plan, and the test ends with that refusal. Where the test
+// passes, no growth was refused and the plan was read.
+#[test]
+fn a_refused_growth_reads_no_plan(rt: HostRuntime) -> Result<(), Fail> {
+    match read(rt.alloc(), each_call()) {
+        Ok(plan) => assert_eq!(rt; plan.ports().len(), 2),
+        Err(error) => {
+            assert_eq!(rt; error, PlanError::Memory);
+            Err(AllocError)?;
+        }
+    }
+    Ok(())
+}
+
+/// Counts what it takes and asks for no memory.
+#[derive(Drop)]
+struct Counter {
+    taken: usize,
+}
+
+impl Write for Counter {
+    fn write(&mut self, buf: &[u8]) -> io::Result<usize> {
+        self.taken = self.taken.saturating_add(buf.len());
+        Ok(buf.len())
+    }
+
+    fn flush(&mut self) -> io::Result<()> {
+        Ok(())
+    }
+}
+
+/// Judges what the writer has taken: all of a text, or nothing where a growth was refused, which then
+/// is handed up.
+fn judge(
+    rt: &impl Abort,
+    given: Result<(), OutcomeError>,
+    device: Device<Counter>,
+) -> Result<(), Fail> {
+    assert!(rt; !device.failed());
+    let taken = device.into_inner().taken;
+    match given {
+        Ok(()) => assert!(rt; 0 < taken),
+        Err(error) => {
+            assert_eq!(rt; error, OutcomeError::Memory);
+            assert_eq!(rt; taken, 0);
+            Err(AllocError)?;
+        }
+    }
+    Ok(())
+}
+
+// Where a growth is refused nothing is written, and the test ends with that refusal.
+#[test]
+fn a_refused_growth_writes_nothing(rt: HostRuntime) -> Result<(), Fail> {
+    let outcome = borrowed_scan(rt.alloc())?;
+    let mut device = Device::new(Counter { taken: 0 });
+    let given = write_outcome(rt.alloc(), &outcome, &mut device);
+    judge(&rt, given, device)
+}
+
+// The same for a report.
+#[test]
+fn a_refused_growth_reports_nothing(rt: HostRuntime) -> Result<(), Fail> {
+    let report = each_answer(rt.alloc())?;
+    let mut device = Device::new(Counter { taken: 0 });
+    let given = write_report(rt.alloc(), &report, &mut device);
+    judge(&rt, given, device)
+}
+
+// The same for two reports: where the text of the second has no room, the first isn't written either.
+#[test]
+fn a_refused_growth_reports_neither(rt: HostRuntime) -> Result<(), Fail> {
+    let report = each_answer(rt.alloc())?;
+    let mut device = Device::new(Counter { taken: 0 });
+    let given = write_reports(rt.alloc(), &report, &report, &mut device);
+    judge(&rt, given, device)
+}

@@ -1,0 +1,269 @@
+//! Which texts are plans, and the first fault of those that are not.
+
+use partial_model::Call;
+use partial_text::{Cause, Device, Plan, PlanError};
+use partial_words::SizeError;
+use std::alloc::Global;
+use std::test::Fail;
+
+// Texts and tables are results of functions, whose contents no proof of a test has to know.
+fn whole() -> &'static [u8] {
+    b"sizes 2 4 8 64\ninitial 10 20\nport update 0 7; read 0\nsteps rest\n"
+}
+
+pub(super) fn read(alloc: Global, text: &[u8]) -> Result<Plan, PlanError> {
+    Plan::read(alloc, &mut Device::new(text))
+}
+
+pub(super) fn line(line: u32, cause: Cause) -> PlanError {
+    PlanError::Line { line, cause }
+}
+
+/// The refusal of the plan above with one line in place of another.
+pub(super) fn refusal(
+    alloc: Global,
+    number: usize,
+    other: &[u8],
+) -> Result<Option<PlanError>, Fail> {
+    let mut text = Vec::new(alloc);
+    for (place, line) in whole().split(|byte| *byte == b'\n').enumerate() {
+        if place + 1 == number {
+            text.extend_from_slice(other)?;
+        } else if place < 4 {
+            text.extend_from_slice(line)?;
+        }
+        if place < 4 {
+            text.push(b'\n')?;
+        }
+    }
+    Ok(read(alloc, &text).err())
+}
+
+// Whether this is the call with that number of the plan below.
+fn is_call(number: usize, call: &Call) -> bool {
+    match call {
+        Call::Update { component, value } => {
+            number == 0 && *component == u32::MAX && *value == u64::MAX
+        }
+        Call::Read { component } => number == 1 && *component == 0,
+        Call::UpdateIf {
+            component,
+            expected,
+            value,
+        } => number == 2 && *component == 1 && *expected == 18 && *value == 9,
+        Call::Scan { .. } => false,
+    }
+}
+
+fn greatest() -> &'static [u8] {
+    b"sizes 3 65536 0 4194304
+initial 0 18446744073709551615 7
+port
+port update 4294967295 18446744073709551615; read 0; updateif 1 18 9
+steps 1*4294967295 0*1 rest
+"
+}
+
+#[test]
+fn a_plan_is_read(rt: HostRuntime) -> Result<(), Fail> {
+    let plan = read(rt.alloc(), greatest())
+        .ok()
+        .ok_or("the text is a plan")?;
+    let sizes = plan.sizes();
+    assert_eq!(rt; sizes.m(), 3);
+    assert_eq!(rt; sizes.slots(), 65_536);
+    assert_eq!(rt; sizes.lists(), 0);
+    assert_eq!(rt; sizes.pool(), 4_194_304);
+    assert_eq!(rt; plan.initial(), [0, u64::MAX, 7].as_slice());
+    assert_eq!(rt; plan.steps(), [(1, u32::MAX), (0, 1)].as_slice());
+    assert!(rt; plan.rest());
+    assert_eq!(rt; plan.ports().len(), 2);
+    for (port, calls) in plan.ports().iter().enumerate() {
+        assert_eq!(rt; calls.len(), 3 * port);
+        for (number, call) in calls.as_slice().iter().enumerate() {
+            assert!(rt; is_call(number, call), "call {number}");
+        }
+    }
+    Ok(())
+}
+
+#[test]
+fn steps_without_rest(rt: HostRuntime) -> Result<(), Fail> {
+    let text = b"sizes 1 1 0 3\ninitial 5\nport\nsteps\n";
+    let plan = read(rt.alloc(), text).ok().ok_or("the text is a plan")?;
+    assert!(rt; plan.steps().is_empty());
+    assert!(rt; !plan.rest());
+    Ok(())
+}
+
+// Which line stands in place of another, and the refusal.
+fn refused_lines() -> [(usize, &'static [u8], PlanError); 44] {
+    let number = Cause::Number;
+    [
+        (1, b"sizes 0 4 8 64", PlanError::Size(SizeError::Components)),
+        (1, b"sizes 0 0 8 64", PlanError::Size(SizeError::Components)),
+        (1, b"sizes 2 0 8 64", PlanError::Size(SizeError::Slots)),
+        (1, b"sizes 2 4 65537 64", PlanError::Size(SizeError::Lists)),
+        (1, b"sizes 2 4 8 5", PlanError::Size(SizeError::Pool)),
+        (
+            1,
+            b"sizes 65537 1 0 196611",
+            PlanError::Size(SizeError::Components),
+        ),
+        (
+            1,
+            b"sizes 4294967295 4 8 64",
+            PlanError::Size(SizeError::Components),
+        ),
+        (1, b"sizes 2 4 8", line(1, Cause::Count)),
+        (1, b"sizes 2 4 8 64 1", line(1, Cause::Count)),
+        (1, b"sizes", line(1, Cause::Count)),
+        (1, b"sizes 2 4 08 64", line(1, number)),
+        (1, b"sizes 0 4 8 x", line(1, number)),
+        (1, b"sizes 4294967296 4 8 64", line(1, number)),
+        (1, b"sizes 2 4 8 64\r", line(1, number)),
+        (1, b"\xffizes 2 4 8 64", line(1, Cause::Word)),
+        (1, b"", line(1, Cause::Word)),
+        (1, b" sizes 2 4 8 64", line(1, Cause::Word)),
+        (2, b"initial 10 18446744073709551616", line(2, number)),
+        (2, b"initial 10  20", line(2, Cause::Count)),
+        (2, b"initial 10", line(2, Cause::Count)),
+        (2, b"initial 10 ", line(2, number)),
+        (2, b"initials 10 20", line(2, Cause::Word)),
+        (3, b"port swap 0 1", line(3, Cause::Word)),
+        (3, b"port update 0", line(3, Cause::Count)),
+        (3, b"port update 0 7 8", line(3, Cause::Count)),
+        (3, b"port update 4294967296 1", line(3, number)),
+        (3, b"port updateif 0 18", line(3, Cause::Count)),
+        (3, b"port updateif 0 x 7", line(3, number)),
+        (3, b"port read", line(3, Cause::Count)),
+        (3, b"port update 0 7;read 0", line(3, Cause::Count)),
+        (3, b"port update 0 7; ", line(3, Cause::Word)),
+        (3, b"port update 0 7;", line(3, number)),
+        (3, b"port update x; swap", line(3, Cause::Count)),
+        (3, b"port ", line(3, Cause::Word)),
+        (3, b"ports", line(3, Cause::Word)),
+        (3, b"steps rest", PlanError::Ports),
+        (4, b"steps 1*2", line(4, Cause::Range)),
+        (4, b"steps 1*x", line(4, number)),
+        (4, b"steps 0*0", line(4, Cause::Range)),
+        (4, b"steps 0*4294967296", line(4, number)),
+        (4, b"steps rest 0*1", line(4, number)),
+        (4, b"steps ", line(4, number)),
+        (4, b"steps rest ", line(4, number)),
+        (4, b"steps 0*1*1", line(4, number)),
+    ]
+}
+
+#[test]
+fn plan_refusals(rt: HostRuntime) -> Result<(), Fail> {
+    for (number, other, expected) in refused_lines() {
+        let given = refusal(rt.alloc(), number, other)?;
+        assert_eq!(rt; given, Some(expected), "line {number} {other:?}");
+    }
+    Ok(())
+}
+
+#[test]
+fn plan_fronts(rt: HostRuntime) -> Result<(), Fail> {
+    let plan = whole();
+    for length in 0..plan.len() {
+        let expected = match length {
+            0..15 => 1,
+            15..29 => 2,
+            29..53 => 3,
+            _ => 4,
+        };
+        let given = read(rt.alloc(), &plan[..length]).err();
+        assert_eq!(rt; given, Some(line(expected, Cause::End)), "{length} bytes");
+    }
+    assert!(rt; read(rt.alloc(), plan).is_ok());
+    Ok(())
+}
+
+#[test]
+fn something_behind(rt: HostRuntime) -> Result<(), Fail> {
+    for more in [b"port\n".as_slice(), b"port", b"\n", b" "] {
+        let mut text = Vec::from_slice(rt.alloc(), whole())?;
+        text.extend_from_slice(more)?;
+        let given = read(rt.alloc(), &text).err();
+        assert_eq!(rt; given, Some(line(5, Cause::Extra)), "{more:?}");
+    }
+    Ok(())
+}
+
+fn many_ports(alloc: Global, ports: u32, end: &[u8]) -> Result<Vec<u8>, Fail> {
+    let mut text = Vec::from_slice(alloc, b"sizes 1 1 0 3\ninitial 0\n")?;
+    for _ in 0..ports {
+        text.extend_from_slice(b"port\n")?;
+    }
+    text.extend_from_slice(end)?;
+    Ok(text)
+}
+
+#[test]
+fn too_many_ports(rt: HostRuntime) -> Result<(), Fail> {
+    let most = many_ports(rt.alloc(), 64, b"steps\n")?;
+    assert!(rt; read(rt.alloc(), &most).is_ok());
+    let more = many_ports(rt.alloc(), 64, b"port swap\nsteps\n")?;
+    assert_eq!(rt; read(rt.alloc(), &more).err(), Some(PlanError::Ports));
+    let open = many_ports(rt.alloc(), 64, b"port swap")?;
+    assert_eq!(rt; read(rt.alloc(), &open).err(), Some(line(67, Cause::End)));
+    Ok(())
+}
+
+#[test]
+fn many_components(rt: HostRuntime) -> Result<(), Fail> {
+    let mut text = Vec::from_slice(rt.alloc(), b"sizes 65536 1 0 196608\ninitial")?;
+    for _ in 0..65_536 {
+        text.extend_from_slice(b" 0")?;
+    }
+    text.extend_from_slice(b"\nport\nsteps\n")?;
+    let plan = read(rt.alloc(), &text).ok().ok_or("the text is a plan")?;
+    assert_eq!(rt; plan.initial().len(), 65_536);
+    Ok(())
+}
+
+// Each refusal, its number and its text.
+fn numbered() -> [(PlanError, u8, &'static str); 14] {
+    [
+        (
+            PlanError::Size(SizeError::Components),
+            1,
+            "components out of range",
+        ),
+        (PlanError::Size(SizeError::Slots), 2, "slots out of range"),
+        (
+            PlanError::Size(SizeError::Lists),
+            3,
+            "list words out of range",
+        ),
+        (
+            PlanError::Size(SizeError::Pool),
+            4,
+            "pool words out of range",
+        ),
+        (PlanError::Ports, 5, "ports out of range"),
+        (PlanError::Memory, 6, "out of memory"),
+        (line(3, Cause::Size), 10, "line 3: size"),
+        (line(3, Cause::End), 10, "line 3: end"),
+        (line(3, Cause::Word), 10, "line 3: word"),
+        (line(3, Cause::Count), 10, "line 3: count"),
+        (line(3, Cause::Number), 10, "line 3: number"),
+        (line(3, Cause::Range), 10, "line 3: range"),
+        (line(3, Cause::Extra), 10, "line 3: extra"),
+        (PlanError::Read, 11, "read fault"),
+    ]
+}
+
+#[test]
+fn refusals_have_numbers(rt: HostRuntime) -> Result<(), Fail> {
+    for (error, code, text) in numbered() {
+        assert_eq!(rt; error.code(), code);
+        let printed = format!(in rt.alloc(); "{error}")?;
+        assert_eq!(rt; printed.as_str(), text);
+    }
+    assert_eq!(rt; line(3, Cause::Word).at(), Some((3, Cause::Word)));
+    assert_eq!(rt; PlanError::Ports.at(), None);
+    Ok(())
+}

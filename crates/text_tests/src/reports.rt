@@ -1,0 +1,201 @@
+//! The text of a report or of two, and writers that stop within it.
+
+use super::writers::Sink;
+use partial_model::{Answer, Refused, Sequence};
+use partial_text::{Device, OutcomeError, RunReport, write_report, write_reports};
+use std::alloc::{AllocError, Global};
+use std::test::Fail;
+
+// Texts are results of functions, whose contents no proof of a test has to know.
+fn row() -> &'static [u8] {
+    b"call 0 0 applied 24\ncall 0 1 read 7 24\nvalues 7 20\n"
+}
+
+/// The text of one report and, behind it, that of another.
+fn rows() -> &'static [u8] {
+    b"call 0 0 applied 24\ncall 0 1 read 7 24\nvalues 7 20\ncall 0 0 changed 24\ncall 1 0 applied 27\nvalues 7 9\n"
+}
+
+fn write_then_read(alloc: Global) -> Result<RunReport, AllocError> {
+    let seen = Answer::Read {
+        value: 7,
+        stamp: 24,
+    };
+    Ok(RunReport {
+        answers: vec![in alloc; vec![in alloc; Answer::Applied { stamp: 24 }, seen]?]?,
+        values: vec![in alloc; 7, 20]?,
+    })
+}
+
+/// A report of two ports that came behind the other one's.
+fn changed_then_applied(alloc: Global) -> Result<RunReport, AllocError> {
+    let first = vec![in alloc; Answer::Changed { by: 24 }]?;
+    let last = vec![in alloc; Answer::Applied { stamp: 27 }]?;
+    Ok(RunReport {
+        answers: vec![in alloc; first, last]?,
+        values: vec![in alloc; 7, 9]?,
+    })
+}
+
+fn scanned(values: Vec<u64>, collects: u32, borrowed: Option<u64>) -> Answer {
+    Answer::Scanned {
+        values: Sequence::from(values),
+        collects,
+        borrowed,
+    }
+}
+
+/// Calls of three ports with each form of answer, the second port with none.
+pub(super) fn each_answer(alloc: Global) -> Result<RunReport, AllocError> {
+    let most = u64::MAX;
+    let first = vec![in alloc;
+        Answer::Lost { by: 27 },
+        scanned(vec![in alloc; 10, 10, most]?, 2, None),
+        scanned(vec![in alloc; 5]?, 3, Some(32)),
+        scanned(Vec::new(alloc), 0, None),
+    ]?;
+    let last = vec![in alloc;
+        Answer::Refused {
+            cause: Refused::Component
+        },
+        Answer::Refused {
+            cause: Refused::SlotsSpent
+        },
+        Answer::Refused {
+            cause: Refused::PoolSpent
+        },
+        Answer::Changed { by: 24 },
+        Answer::Read {
+            value: 0,
+            stamp: most
+        },
+        Answer::Applied { stamp: 32 },
+    ]?;
+    Ok(RunReport {
+        answers: vec![in alloc; first, Vec::new(alloc), last]?,
+        values: vec![in alloc; 6, most]?,
+    })
+}
+
+fn full_text(alloc: Global, report: &RunReport) -> Result<Vec<u8>, Fail> {
+    let mut device = Device::new(Vec::new(alloc));
+    write_report(alloc, report, &mut device)?;
+    Ok(device.into_inner())
+}
+
+#[test]
+fn report_is_written(rt: HostRuntime) -> Result<(), Fail> {
+    let text = full_text(rt.alloc(), &write_then_read(rt.alloc())?)?;
+    assert_eq!(rt; text.as_slice(), row());
+    Ok(())
+}
+
+fn text_of_each_answer() -> &'static [u8] {
+    b"call 0 0 lost 27
+call 0 1 scanned 10 10 18446744073709551615 collects 2 borrowed -
+call 0 2 scanned 5 collects 3 borrowed 32
+call 0 3 scanned collects 0 borrowed -
+call 2 0 refused 7
+call 2 1 refused 8
+call 2 2 refused 9
+call 2 3 changed 24
+call 2 4 read 0 18446744073709551615
+call 2 5 applied 32
+values 6 18446744073709551615
+"
+}
+
+#[test]
+fn each_answer_is_reported(rt: HostRuntime) -> Result<(), Fail> {
+    let text = full_text(rt.alloc(), &each_answer(rt.alloc())?)?;
+    assert_eq!(rt; text.as_slice(), text_of_each_answer());
+    Ok(())
+}
+
+#[test]
+fn empty_scan_is_reported(rt: HostRuntime) -> Result<(), Fail> {
+    let alloc = rt.alloc();
+    let report = RunReport {
+        answers: vec![in alloc; vec![in alloc; scanned(Vec::new(alloc), 0, None)]?]?,
+        values: vec![in alloc; 10, 20]?,
+    };
+    let text = full_text(alloc, &report)?;
+    let expected = b"call 0 0 scanned collects 0 borrowed -\nvalues 10 20\n";
+    assert_eq!(rt; text.as_slice(), expected.as_slice());
+    Ok(())
+}
+
+#[test]
+fn no_call_is_reported(rt: HostRuntime) -> Result<(), Fail> {
+    let alloc = rt.alloc();
+    let without_ports = Vec::new(alloc);
+    let without_calls = vec![in alloc; Vec::new(alloc), Vec::new(alloc)]?;
+    for answers in [without_ports, without_calls] {
+        let report = RunReport {
+            answers,
+            values: vec![in alloc; 10, 0]?,
+        };
+        let text = full_text(alloc, &report)?;
+        assert_eq!(rt; text.as_slice(), b"values 10 0\n".as_slice());
+    }
+    Ok(())
+}
+
+#[test]
+fn each_stop_of_a_report(rt: HostRuntime) -> Result<(), Fail> {
+    let report = write_then_read(rt.alloc())?;
+    let row = row();
+    for room in [0, 10, row.len().saturating_sub(1)] {
+        for (step, takes_none) in [(1, false), (7, true), (1000, false)] {
+            let mut device = Device::new(Sink {
+                taken: Vec::new(rt.alloc()),
+                step,
+                room,
+                takes_none,
+            });
+            let given = write_report(rt.alloc(), &report, &mut device);
+            assert_eq!(rt; given, Err(OutcomeError::Write), "room {room}");
+            assert!(rt; device.failed());
+            let sink = device.into_inner();
+            assert_eq!(rt; Some(sink.taken.as_slice()), row.get(..room));
+        }
+    }
+    assert_eq!(rt; OutcomeError::Write.code(), 12);
+    Ok(())
+}
+
+#[test]
+fn two_reports_are_written(rt: HostRuntime) -> Result<(), Fail> {
+    let first = write_then_read(rt.alloc())?;
+    let second = changed_then_applied(rt.alloc())?;
+    let mut device = Device::new(Vec::new(rt.alloc()));
+    write_reports(rt.alloc(), &first, &second, &mut device)?;
+    assert!(rt; !device.failed());
+    let text = device.into_inner();
+    assert_eq!(rt; text.as_slice(), rows());
+    Ok(())
+}
+
+#[test]
+fn each_stop_of_two_reports(rt: HostRuntime) -> Result<(), Fail> {
+    let first = write_then_read(rt.alloc())?;
+    let second = changed_then_applied(rt.alloc())?;
+    let one = row().len();
+    let rows = rows();
+    for room in [0, 10, one, one + 10, rows.len().saturating_sub(1)] {
+        for (step, takes_none) in [(1, false), (7, true), (1000, false)] {
+            let mut device = Device::new(Sink {
+                taken: Vec::new(rt.alloc()),
+                step,
+                room,
+                takes_none,
+            });
+            let given = write_reports(rt.alloc(), &first, &second, &mut device);
+            assert_eq!(rt; given, Err(OutcomeError::Write), "room {room}");
+            assert!(rt; device.failed());
+            let sink = device.into_inner();
+            assert_eq!(rt; Some(sink.taken.as_slice()), rows.get(..room));
+        }
+    }
+    Ok(())
+}

@@ -1,0 +1,355 @@
+//! The text of an outcome, and writers that take little, nothing or fail.
+
+use partial_model::{Answer, Applied, Call, Called, Finish, Note, Opening, Refused, Sequence};
+use partial_text::{Device, Outcome, OutcomeError, write_outcome};
+use std::alloc::{AllocError, Global};
+use std::io;
+use std::io::Write;
+use std::test::Fail;
+
+/// Takes at most so many bytes a write, and when it is full fails or takes none.
+#[derive(Drop)]
+pub(super) struct Sink {
+    pub(super) taken: Vec<u8>,
+    pub(super) step: usize,
+    pub(super) room: usize,
+    pub(super) takes_none: bool,
+}
+
+impl Write for Sink {
+    fn write(&mut self, buf: &[u8]) -> io::Result<usize> {
+        let count = self.step.min(buf.len()).min(self.room);
+        if count == 0 && !self.takes_none {
+            return Err(io::Error::from(io::ErrorKind::Other));
+        }
+        self.taken.extend_from_slice(&buf[..count])?;
+        self.room -= count;
+        Ok(count)
+    }
+
+    fn flush(&mut self) -> io::Result<()> {
+        Ok(())
+    }
+}
+
+// Texts are results of functions, whose contents no proof of a test has to know.
+fn row() -> &'static [u8] {
+    b"applied 0 port 0 component 0 value 7 stamp 24
+call 0 0 applied 24 place 0 steps 8 span 0 1
+call 0 1 read 7 24 prefix 1 steps 2 span 1 1
+values 7 20
+total 10
+"
+}
+
+fn finished(ended: usize, answer: Answer, note: Option<Note>) -> Option<Finish> {
+    Some(Finish {
+        ended,
+        answer,
+        note,
+    })
+}
+
+fn called(port: u32, number: u32, began: usize, steps: u64, finish: Option<Finish>) -> Called {
+    Called {
+        port,
+        number,
+        call: Call::Read { component: 0 },
+        began,
+        steps,
+        finish,
+    }
+}
+
+fn write_then_read(alloc: Global) -> Result<Outcome, AllocError> {
+    let applied = Answer::Applied { stamp: 24 };
+    let seen = Answer::Read {
+        value: 7,
+        stamp: 24,
+    };
+    Ok(Outcome {
+        opening: Opening {
+            values: Sequence::from(vec![in alloc; 10, 20]?),
+            first: 18,
+        },
+        history: vec![in alloc;
+            Applied {
+                port: 0,
+                component: 0,
+                value: 7,
+                stamp: 24,
+            },
+        ]?,
+        calls: vec![in alloc;
+            called(0, 0, 0, 8, finished(1, applied, Some(Note::Wrote(0)))),
+            called(0, 1, 1, 2, finished(1, seen, Some(Note::Saw(1)))),
+        ]?,
+        words: Vec::new(alloc),
+        trace: Vec::new(alloc),
+        steps: 10,
+    })
+}
+
+/// Calls with each form of answer.
+fn each_answer(alloc: Global) -> Result<Vec<Called>, AllocError> {
+    let scanned = Answer::Scanned {
+        values: Sequence::from(vec![in alloc; 10, 10, 20]?),
+        collects: 2,
+        borrowed: None,
+    };
+    let borrowed = Answer::Scanned {
+        values: Sequence::from(vec![in alloc; 5]?),
+        collects: 3,
+        borrowed: Some(32),
+    };
+    let nothing = Answer::Scanned {
+        values: Sequence::from(Vec::new(alloc)),
+        collects: 0,
+        borrowed: None,
+    };
+    let refused = |cause: Refused| finished(1, Answer::Refused { cause }, None);
+    let calls = vec![in alloc;
+        called(
+            0,
+            0,
+            0,
+            8,
+            finished(1, Answer::Lost { by: 27 }, Some(Note::Lost(0)))
+        ),
+        called(0, 1, 0, 17, finished(0, scanned, Some(Note::Saw(0)))),
+        called(0, 2, 0, 13, finished(2, borrowed, Some(Note::Saw(1)))),
+        called(0, 3, 0, 0, finished(0, nothing, Some(Note::Saw(0)))),
+        called(1, 0, 1, 0, refused(Refused::Component)),
+        called(1, 1, 1, 4, refused(Refused::SlotsSpent)),
+        called(1, 2, 1, 4, refused(Refused::PoolSpent)),
+        called(
+            1,
+            3,
+            1,
+            1,
+            finished(1, Answer::Changed { by: 24 }, Some(Note::Saw(1)))
+        ),
+        called(2, 0, 0, 4, None),
+    ]?;
+    Ok(calls)
+}
+
+fn full_text(alloc: Global, outcome: &Outcome) -> Result<Vec<u8>, Fail> {
+    let mut device = Device::new(Vec::new(alloc));
+    write_outcome(alloc, outcome, &mut device)?;
+    Ok(device.into_inner())
+}
+
+#[test]
+fn outcome_is_written(rt: HostRuntime) -> Result<(), Fail> {
+    let text = full_text(rt.alloc(), &write_then_read(rt.alloc())?)?;
+    assert_eq!(rt; text.as_slice(), row());
+    Ok(())
+}
+
+fn text_of_each_answer() -> &'static [u8] {
+    b"call 0 0 lost 27 place 0 steps 8 span 0 1
+call 0 1 scanned 10 10 20 prefix 0 collects 2 borrowed - steps 17 span 0 0
+call 0 2 scanned 5 prefix 1 collects 3 borrowed 32 steps 13 span 0 2
+call 0 3 scanned prefix 0 collects 0 borrowed - steps 0 span 0 0
+call 1 0 refused 7 steps 0 span 1 1
+call 1 1 refused 8 steps 4 span 1 1
+call 1 2 refused 9 steps 4 span 1 1
+call 1 3 changed 24 prefix 1 steps 1 span 1 1
+call 2 0 unfinished steps 4 span 0 -
+values 10 20
+total 51
+"
+}
+
+#[test]
+fn each_answer_is_written(rt: HostRuntime) -> Result<(), Fail> {
+    let outcome = Outcome {
+        opening: Opening {
+            values: Sequence::from(vec![in rt.alloc(); 10, 20]?),
+            first: 18,
+        },
+        history: Vec::new(rt.alloc()),
+        calls: each_answer(rt.alloc())?,
+        words: Vec::new(rt.alloc()),
+        trace: Vec::new(rt.alloc()),
+        steps: 51,
+    };
+    let text = full_text(rt.alloc(), &outcome)?;
+    assert_eq!(rt; text.as_slice(), text_of_each_answer());
+    Ok(())
+}
+
+/// A scan that two updates overtook twice, so that its value is the borrowed one.
+pub(super) fn borrowed_scan(alloc: Global) -> Result<Outcome, AllocError> {
+    let applied = |value: u64, stamp: u64| Applied {
+        port: 1,
+        component: 0,
+        value,
+        stamp,
+    };
+    let scanned = Answer::Scanned {
+        values: Sequence::from(vec![in alloc; 5]?),
+        collects: 3,
+        borrowed: Some(32),
+    };
+    let first = Answer::Applied { stamp: 26 };
+    let second = Answer::Applied { stamp: 32 };
+    Ok(Outcome {
+        opening: Opening {
+            values: Sequence::from(vec![in alloc; 10, 20]?),
+            first: 18,
+        },
+        history: vec![in alloc; applied(5, 26), applied(6, 32)]?,
+        calls: vec![in alloc;
+            called(0, 0, 0, 13, finished(2, scanned, Some(Note::Saw(1)))),
+            called(1, 0, 0, 17, finished(1, first, Some(Note::Wrote(0)))),
+            called(1, 1, 1, 17, finished(2, second, Some(Note::Wrote(1)))),
+        ]?,
+        words: Vec::new(alloc),
+        trace: Vec::new(alloc),
+        steps: 47,
+    })
+}
+
+fn text_of_borrowed_scan() -> &'static [u8] {
+    b"applied 0 port 1 component 0 value 5 stamp 26
+applied 1 port 1 component 0 value 6 stamp 32
+call 0 0 scanned 5 prefix 1 collects 3 borrowed 32 steps 13 span 0 2
+call 1 0 applied 26 place 0 steps 17 span 0 1
+call 1 1 applied 32 place 1 steps 17 span 1 2
+values 6 20
+total 47
+"
+}
+
+#[test]
+fn scans_are_written(rt: HostRuntime) -> Result<(), Fail> {
+    let text = full_text(rt.alloc(), &borrowed_scan(rt.alloc())?)?;
+    assert_eq!(rt; text.as_slice(), text_of_borrowed_scan());
+    Ok(())
+}
+
+/// The line of one scan in the text of an outcome with no other call.
+fn scan_line(
+    alloc: Global,
+    values: Vec<u64>,
+    collects: u32,
+    borrowed: Option<u64>,
+) -> Result<Vec<u8>, Fail> {
+    let scanned = Answer::Scanned {
+        values: Sequence::from(values),
+        collects,
+        borrowed,
+    };
+    let outcome = Outcome {
+        opening: Opening {
+            values: Sequence::from(vec![in alloc; 1]?),
+            first: 6,
+        },
+        history: Vec::new(alloc),
+        calls: vec![in alloc; called(0, 0, 0, 9, finished(0, scanned, Some(Note::Saw(0))))]?,
+        words: Vec::new(alloc),
+        trace: Vec::new(alloc),
+        steps: 9,
+    };
+    full_text(alloc, &outcome)
+}
+
+/// A scan with the greatest numbers.
+fn greatest_scan() -> &'static [u8] {
+    b"scanned 18446744073709551615 0 18446744073709551615 prefix 0 collects 4294967295 borrowed 18446744073709551615"
+}
+
+#[test]
+fn each_scan_is_written(rt: HostRuntime) -> Result<(), Fail> {
+    let alloc = rt.alloc();
+    let most = u64::MAX;
+    let rows: [(Vec<u64>, u32, Option<u64>, &[u8]); 4] = [
+        (
+            Vec::new(alloc),
+            0,
+            None,
+            b"scanned prefix 0 collects 0 borrowed -",
+        ),
+        (
+            vec![in alloc; 0]?,
+            2,
+            None,
+            b"scanned 0 prefix 0 collects 2 borrowed -",
+        ),
+        (
+            vec![in alloc; 0]?,
+            3,
+            Some(0),
+            b"scanned 0 prefix 0 collects 3 borrowed 0",
+        ),
+        (
+            vec![in alloc; most, 0, most]?,
+            u32::MAX,
+            Some(most),
+            greatest_scan(),
+        ),
+    ];
+    for (values, collects, borrowed, told) in rows {
+        let mut expected = Vec::from_slice(alloc, b"call 0 0 ")?;
+        expected.extend_from_slice(told)?;
+        expected.extend_from_slice(b" steps 9 span 0 0\nvalues 1\ntotal 9\n")?;
+        let text = scan_line(alloc, values, collects, borrowed)?;
+        assert_eq!(rt; text.as_slice(), expected.as_slice());
+    }
+    Ok(())
+}
+
+#[test]
+fn each_stop(rt: HostRuntime) -> Result<(), Fail> {
+    let outcome = write_then_read(rt.alloc())?;
+    let row = row();
+    for room in 0..row.len() {
+        for (step, takes_none) in [(1, false), (7, true), (1000, false)] {
+            let mut device = Device::new(Sink {
+                taken: Vec::new(rt.alloc()),
+                step,
+                room,
+                takes_none,
+            });
+            let given = write_outcome(rt.alloc(), &outcome, &mut device);
+            assert_eq!(rt; given, Err(OutcomeError::Write), "room {room}");
+            assert!(rt; device.failed());
+            let sink = device.into_inner();
+            assert_eq!(rt; sink.taken.as_slice(), &row[..room]);
+        }
+    }
+    Ok(())
+}
+
+#[test]
+fn short_writes(rt: HostRuntime) -> Result<(), Fail> {
+    let outcome = write_then_read(rt.alloc())?;
+    let row = row();
+    for step in 1..row.len() + 2 {
+        let mut device = Device::new(Sink {
+            taken: Vec::new(rt.alloc()),
+            step,
+            room: 1000,
+            takes_none: false,
+        });
+        assert_eq!(rt; write_outcome(rt.alloc(), &outcome, &mut device), Ok(()));
+        assert!(rt; !device.failed());
+        assert_eq!(rt; device.into_inner().taken.as_slice(), row);
+    }
+    Ok(())
+}
+
+#[test]
+fn write_refusals_have_numbers(rt: HostRuntime) -> Result<(), Fail> {
+    for (error, code, text) in [
+        (OutcomeError::Memory, 6, "out of memory"),
+        (OutcomeError::Write, 12, "write fault"),
+    ] {
+        assert_eq!(rt; error.code(), code);
+        let printed = format!(in rt.alloc(); "{error}")?;
+        assert_eq!(rt; printed.as_str(), text);
+    }
+    Ok(())
+}
