@@ -7,9 +7,9 @@ old text stands exactly once in that file as it is.
 
 Much of a check's time passes before its first proof, so a crate's edits are tried together, in rounds in each of
 which no function is turned twice. Each edit is judged by itself: of its function the check has to say that a goal of
-its own can't be proved. That a function calls one that isn't proved is said apart, and counts for nothing; and no
-function may have such a goal that none of the round's edits turns. A later round begins with what the earlier ones
-have proved.
+its own can't be proved. That a function calls one that isn't proved is said apart, and counts for nothing; where its
+goals weren't tried for that reason, its edit waits for a later round. No function may have such a goal that none of
+the round's edits turns. A later round begins with what the earlier ones have proved.
 
 With words, it takes the crates with these names alone. What isn't proved yet of the crates below is proved first.
 The last line is 'N passed, M failed', where each edit counts once.
@@ -81,19 +81,15 @@ def overlap(these, others):
                for file, begin, end, _ in these for other, other_begin, other_end, _ in others)
 
 
-def rounds_of(edits, crate):
-    """The edits in rounds, each with the places that it turns: in a round no function is turned twice."""
-    rounds = []
+def first_round(edits, crate):
+    """Of these edits the first ones that can be tried together, no two of which turn one function, and their places."""
+    members, turned = [], []
     for edit in edits:
         places = list(places_of(edit, crate))
-        for members, turned in rounds:
-            if all(edit.refused != it.refused for it in members) and not overlap(places, turned):
-                members.append(edit)
-                turned += places
-                break
-        else:
-            rounds.append(([edit], places))
-    return rounds
+        if all(edit.refused != it.refused for it in members) and not overlap(places, turned):
+            members.append(edit)
+            turned += places
+    return members, turned
 
 
 def crates_of(top):
@@ -156,17 +152,24 @@ def with_open_goals(name, said):
     return {*searched, *[folder.replace('/', '::') for folder, why in answered if not LACKING.search(why)]}
 
 
+def waits(edit, name, said):
+    """Whether the check has not tried the goals of the edit's function, since one that it calls isn't proved."""
+    return f'`search` has not tried the goals of `{name}::{edit.refused}`' in said
+
+
 def try_round(name, members, said):
-    """What is wrong with a round's edits, by what their check said."""
-    refused = with_open_goals(name, said)
-    lines = said.splitlines()
-    for edit in members:
+    """The members of a round that were tried, and what is wrong with them, by what their check said."""
+    refused, lines, faults = with_open_goals(name, said), said.splitlines(), []
+    tried = [it for it in members if it.refused in refused or not waits(it, name, said)] or members
+    for edit in tried:
         if edit.refused not in refused:
             own = f'fn {name}::{edit.refused}:', f'./proofs/{edit.refused.replace("::", "/")}/'
             told = [it for it in lines if it.startswith(own)] or [it for it in lines if ': error' in it]
-            yield '\n    '.join([f'{name}/{edit.name}.edit: not refused', *told[:6]])
+            faults.append('\n    '.join([f'{name}/{edit.name}.edit: not refused', *told[:6]]))
     for other in sorted(refused - {edit.refused for edit in members}):
-        yield f'{name}: {other} is refused, and none of these edits turns it: {", ".join(it.name for it in members)}'
+        turned = ', '.join(it.name for it in members)
+        faults.append(f'{name}: {other} is refused, and none of these edits turns it: {turned}')
+    return tried, faults
 
 
 def try_crate(name, crates):
@@ -180,12 +183,15 @@ def try_crate(name, crates):
             edits.append(edit)
         except BadEdit as bad:
             faults.append(f'{name}/{path.name}: bad edit: {bad}')
-    command = command_of(name, crates)
+    command, left = command_of(name, crates), edits
     with tempfile.TemporaryDirectory(prefix='edits-') as room:
         kept = crate / 'out' / 'incremental'
         shutil.copytree(kept, f'{room}/kept') if kept.is_dir() else os.mkdir(f'{room}/kept')
-        for members, places in rounds_of(edits, crate):
-            faults += try_round(name, members, check(Path(room), name, places, command))
+        while left:
+            members, places = first_round(left, crate)
+            tried, wrong = try_round(name, members, check(Path(room), name, places, command))
+            faults += wrong
+            left = [it for it in left if it not in tried]
     return len(edits), faults
 
 
