@@ -198,7 +198,7 @@ def try_crate(name, crates):
 def main(names):
     crates = crates_of(TOP)
     chosen = [it for it in crates if (TOP / 'crates' / it / 'edits').is_dir() and (not names or it in names)]
-    size = {it: sum(path.stat().st_size for path in (TOP / 'crates' / it).glob('*/**/*.[ar]*t')) for it in chosen}
+    size = {it: sum(path.stat().st_size for path in (TOP / 'crates' / it / 'src').glob('**/*.rt')) for it in chosen}
     passed, failed = 0, 0
     if not all(is_built(it) for name in chosen for it in below(name, crates)):
         subprocess.run(['rt', 'all', 'check'], cwd=TOP, stdin=subprocess.DEVNULL, stdout=subprocess.DEVNULL, check=True)
