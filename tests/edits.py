@@ -1,7 +1,7 @@
 #!/usr/bin/env python3
 """Turns the functions of the crates by the edits of crates/NAME/edits/, and sees that the prover refuses each.
 
-An edit is a file of lines: `refused: PATH` names the function whose contract has to refuse it, as the prover
+An edit is a file of lines: `refused: PATH` names each function whose contract has to refuse it, as the prover
 prints it, below its crate; `file: PATH` a file of the crate; and then `old: TEXT` and `new: TEXT` in turn, where the
 old text stands exactly once in that file as it is.
 
@@ -33,10 +33,10 @@ LACKING = re.compile(r'has no field|is not in scope|has no `|was not admitted')
 
 @dataclass
 class Edit:
-    """A named change of a crate's files, and the function whose contract has to refuse it."""
+    """A named change of a crate's files, and the functions that it turns, whose contracts have to refuse it."""
 
     name: str
-    refused: str
+    refused: list[str]
     changes: list[tuple[str, str, str]]
 
 
@@ -45,12 +45,12 @@ class BadEdit(Exception):
 
 
 def read_edit(path):
-    refused, file, old, changes = None, None, None, []
+    refused, file, old, changes = [], None, None, []
     for line in path.read_text(encoding='utf-8').splitlines():
         word, _, text = line.partition(':')
         text = text.removeprefix(' ')
         if word == 'refused':
-            refused = text
+            refused.append(text)
         elif word == 'file':
             file = text
         elif word == 'old':
@@ -86,7 +86,7 @@ def first_round(edits, crate):
     members, turned = [], []
     for edit in edits:
         places = list(places_of(edit, crate))
-        if all(edit.refused != it.refused for it in members) and not overlap(places, turned):
+        if all(set(edit.refused).isdisjoint(it.refused) for it in members) and not overlap(places, turned):
             members.append(edit)
             turned += places
     return members, turned
@@ -152,21 +152,22 @@ def with_open_goals(name, said):
     return {*searched, *[folder.replace('/', '::') for folder, why in answered if not LACKING.search(why)]}
 
 
-def waits(edit, name, said):
-    """Whether the check has not tried the goals of the edit's function, since one that it calls isn't proved."""
-    return f'`search` has not tried the goals of `{name}::{edit.refused}`' in said
+def wait(functions, name, said):
+    """Whether the check has not tried the goals of some of these functions, since one that they call isn't proved."""
+    return any(f'`search` has not tried the goals of `{name}::{it}`' in said for it in functions)
 
 
 def try_round(name, members, said):
     """The members of a round that were tried, and what is wrong with them, by what their check said."""
     refused, lines, faults = with_open_goals(name, said), said.splitlines(), []
-    tried = [it for it in members if it.refused in refused or not waits(it, name, said)] or members
+    not_refused = {it.name: [function for function in it.refused if function not in refused] for it in members}
+    tried = [it for it in members if not wait(not_refused[it.name], name, said)] or members
     for edit in tried:
-        if edit.refused not in refused:
-            own = f'fn {name}::{edit.refused}:', f'./proofs/{edit.refused.replace("::", "/")}/'
+        for function in not_refused[edit.name]:
+            own = f'fn {name}::{function}:', f'./proofs/{function.replace("::", "/")}/'
             told = [it for it in lines if it.startswith(own)] or [it for it in lines if ': error' in it]
-            faults.append('\n    '.join([f'{name}/{edit.name}.edit: not refused', *told[:6]]))
-    for other in sorted(refused - {edit.refused for edit in members}):
+            faults.append('\n    '.join([f'{name}/{edit.name}.edit: {function} is not refused', *told[:6]]))
+    for other in sorted(refused - {function for it in members for function in it.refused}):
         turned = ', '.join(it.name for it in members)
         faults.append(f'{name}: {other} is refused, and none of these edits turns it: {turned}')
     return tried, faults
