@@ -146,7 +146,7 @@ def check(room, name, places, command):
 
 
 def with_open_goals(name, said):
-    """The functions of the crate of which a goal of their own wasn't proved."""
+    """The functions of the crate of which a goal of their own wasn't proved, or a loop of their own has no measure."""
     searched = re.findall(rf'^fn {name}::(\S+): no proof: .*(?:`search` did not prove|expected a measure)', said, re.M)
     answered = re.findall(r'^\./proofs/(\S+)/Answers\.antt\S*: error: (.*)$', said, re.M)
     return {*searched, *[folder.replace('/', '::') for folder, why in answered if not LACKING.search(why)]}
