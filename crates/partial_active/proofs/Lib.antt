@@ -3,9 +3,12 @@ pub mod Extended
 pub mod Walk
 pub mod Answered
 pub mod Sizes
+pub mod Indices
+pub mod Knowledge
 pub mod Known
 pub mod Orders
 pub mod Active
 pub mod Moments
 pub mod Lists
 pub mod Named
+pub mod Finds

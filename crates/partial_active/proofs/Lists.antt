@@ -17,14 +17,15 @@ use Rattle.partial_active.specs.IndexSet.{with_index}
 use Rattle.partial_active.specs.Found.{Buffers, IsFor, begins_at}
 use Rattle.partial_active.specs.GetSet.{Pair, fresh, step_at, step_of, advance, advance_at, after_walk, at_slot, come_to, pass_interval, note_slot, in_stage, next_words}
 use Rattle.partial_active.specs.GetSetAnswers.{EndsBelow, is_possible_at, IsPossible, IsWalking, IsAtSlot, goes_at, GoTogether}
+use Rattle.partial_active.specs.Knowledge.{AreVacated, knows_by}
 use Rattle.partial_active.specs.Orderly.{slot_at, head_at, IsVacatedList, Orderly}
 use Rattle.partial_active.specs.Moments.{AtSome, AtSomeStep, own_moments}
 use Rattle.partial_active.specs.VacatedLists.{GetSetsKeepLists, WasVacated, IsListOf, FindsVacated, ClaimsWords, StoresWord, IsStored, KeepsLists, is_reading}
 use Rattle.partial_active.proofs.Extended.{held_extended, holds_extended}
 use Rattle.partial_active.proofs.Walk.{interval_behind, walking_on}
 use Rattle.partial_active.proofs.Answered.{walk_begins, walk_next, walk_noted, slot_behind, at_with}
-use Rattle.partial_active.proofs.Known.{Past, Listed, Knows, knows_at}
-use Rattle.partial_active.proofs.Orders.{IsPairwiseOrderly, LeadsTo, own_leads, moments_of}
+use Rattle.partial_active.proofs.Known.{facts_of_moments, Knows}
+use Rattle.partial_active.proofs.Orders.{Past, IsPairwiseOrderly, LeadsTo, own_leads, moments_of}
 use Rattle.partial_active.proofs.Active.{Reached, onto, onto_some, reached_from}
 use Rattle.partial_active.proofs.Moments.{at_later, at_here, at_split, Behind, holds_behind}
 
@@ -429,8 +430,8 @@ at_slot_outside p slot here holds = elim (cases_lt holds.0 p.0.passed) [
 goes_in : (q : Pair) (stage : Stage) → GoTogether q → q.0.stage ≡ stage → goes_at stage q
 goes_in q stage together is = subst (λ st. goes_at st q) is together.stage
 
-knows_in : (s : Layout) (first : List ℕ) (past : Past) (q : Pair) (stage : Stage) → Knows s first past q → q.0.stage ≡ stage → knows_at s first past stage q
-knows_in s first past q stage knows is = subst (λ st. knows_at s first past st q) is knows
+knows_in : (s : Layout) (first : List ℕ) (past : Past) (q : Pair) (stage : Stage) → Knows s first past q → q.0.stage ≡ stage → knows_by (facts_of_moments s first past) stage q
+knows_in s first past q stage knows is = subst (λ st. knows_by (facts_of_moments s first past) st q) is knows
 
 -- what is behind was at one of the moments of the run
 from_onto : (P : List ℕ → Type 0) (first : List ℕ) (ms : Past) → AtSome P (onto ms (first ∷ [])) → AtSome P (first ∷ ms)
@@ -440,7 +441,7 @@ from_onto P first ms some = elim (onto_some P ms (first ∷ []) some) [
 ]
 
 module _ (s : Layout) (first : List ℕ) (ms : Past) (q : Pair) (reached : Reached s first (onto ms (first ∷ [])) q) where
-  vacated_list : IsNormal q.1.next → EndsBelow q.1.next q.0.sizes.slots → Listed s (onto ms (first ∷ [])) q.1.next → WasVacated s (first ∷ ms) q.1.next
+  vacated_list : IsNormal q.1.next → EndsBelow q.1.next q.0.sizes.slots → AreVacated (facts_of_moments s first (onto ms (first ∷ []))) q.1.next → WasVacated s (first ∷ ms) q.1.next
   vacated_list normal below listed = record {
     normal = normal;
     within = λ x holds. omega (arith, below holds.0 holds.1, holds.3, ap (λ (l : Layout). l.slots) reached.sizes);
@@ -477,7 +478,7 @@ keeps_lists s spent f [] q layout sizes orderly leads =
       refused = λ count x is past_end. let never : ⊥ = cc in absurd never;
     }
 keeps_lists s spent f (first ∷ ms) q layout sizes orderly leads =
-    let reached = reached_from s spent f first ms q layout sizes orderly leads in
+    let reached = reached_from s spent f layout sizes first ms q orderly leads in
     let lists = lists_behind s spent f first ms q layout sizes orderly leads in
     let in_stage' : (stage : Stage) → q.0.stage ≡ stage →
     lists_at s (fresh s spent, f) first (first ∷ ms) stage q = λ stage is. subst (λ st. lists_at s (fresh s spent, f) first (first ∷ ms) st q) is lists in
@@ -489,19 +490,19 @@ keeps_lists s spent f (first ∷ ms) q layout sizes orderly leads =
           let knows = knows_in s first (onto ms (first ∷ [])) q (Claim count) reached.knows is in
           let c = goes.count in
           let size = length-pairs q.1.next in
-          (record { vacated = vacated_list s first ms q reached goes.next goes.within knows.0.vacated; slots = (in_stage' (Claim count) is).1 }, omega (arith, c, size));
+          (record { vacated = vacated_list s first ms q reached goes.next goes.within knows.0.0; slots = (in_stage' (Claim count) is).1 }, omega (arith, c, size));
       writes = λ at k count word is.
           let goes = goes_in q (Write at k count word) reached.together is in
           let knows = knows_in s first (onto ms (first ∷ [])) q (Write at k count word) reached.knows is in
           let here = in_stage' (Write at k count word) is in
-          (record { vacated = vacated_list s first ms q reached goes.0.next goes.0.within knows.0.vacated; slots = here.1 }, here.2, goes.3);
+          (record { vacated = vacated_list s first ms q reached goes.0.next goes.0.within knows.0; slots = here.1 }, here.2, goes.3);
       publishes = λ at is.
           let goes = goes_in q (Publish at) reached.together is in
           let knows = knows_in s first (onto ms (first ∷ [])) q (Publish at) reached.knows is in
           let here = in_stage' (Publish at) is in
           let due : step_of q.0 ≡ Some (Exchange (list_head s) (head_at s first) at) = ap (λ st. step_at q.0.sizes q.0.head st) is
           ∙ ap (λ (l : Layout). Some (Exchange (list_head l) q.0.head at)) reached.sizes ∙ ap (λ n. Some (Exchange (list_head s) n at)) here.0.head in
-          (record { vacated = vacated_list s first ms q reached goes.0 goes.1 knows.0.vacated; slots = here.1 }, here.2, due);
+          (record { vacated = vacated_list s first ms q reached goes.0 goes.1 knows.0; slots = here.1 }, here.2, due);
       exchange = λ at x y is. subst (λ st. advance_at st q x ≡ advance_at st q y) (sym is) refl;
       refused = λ count x is past_end. subst (λ st. (step_of (advance_at st q x).0 ≡ None) × ((advance_at st q x).0.lists_spent ≡ true) × ((advance_at st q x).1 ≡ q.1)) (sym is)
           (cond_both (ltb (list_end q.0.sizes) (x + count)) (record q.0 { lists_spent = true; stage = Done }, q.1) (in_stage q (Write x 0 count (length q.1.next)))

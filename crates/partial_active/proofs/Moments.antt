@@ -10,8 +10,7 @@ use Rattle.partial_active.specs.GetSet.{Pair, fresh, step_of, advance}
 use Rattle.partial_active.specs.GetSetAnswers.{GoTogether, IsPossible}
 use Rattle.partial_active.specs.Orderly.{Orderly, head_at}
 use Rattle.partial_active.specs.Moments.{OnEach, AtSomeStep, answered_from}
-use Rattle.partial_active.proofs.Known.{Past}
-use Rattle.partial_active.proofs.Orders.{ComesFrom, IsPairwiseOrderly, LeadsTo, run_front}
+use Rattle.partial_active.proofs.Orders.{Past, ComesFrom, IsPairwiseOrderly, LeadsTo, run_front}
 use Rattle.partial_active.proofs.Active.{onto, run_split, step_from, reached_from}
 
 -- what held at some step goes on to be so
@@ -68,14 +67,14 @@ module _ (s : Layout) (layout : IsLayout s) (spent : Bool) (f : Buffers) (sizes 
       let joined : ((first ∷ done) ++ w ∷ []) ++ ws ≡ (first ∷ done) ++ w ∷ ws = append_assoc (first ∷ done) (w ∷ []) ws in
       let whole : IsPairwiseOrderly s [] (((first ∷ done) ++ w ∷ []) ++ ws) = subst (IsPairwiseOrderly s []) (sym joined) orderly in
       let split = run_split s (first ∷ done) [] w (run_front s [] ((first ∷ done) ++ w ∷ []) ws whole) in
-      let reached = reached_from s spent f first done p layout sizes split.0 before in
+      let reached = reached_from s spent f layout sizes first done p split.0 before in
       let behind : Behind s spent f (first ∷ done) p w = record {
         leads = before;
         sizes = reached.sizes;
         together = reached.together;
         orderly = split.1;
         comes = (onto_back (λ v. ComesFrom s v w) (first ∷ done) [] split.2).1;
-        possible = λ st e. (step_from s p reached.sizes layout first (onto done (first ∷ [])) w split.1 split.2 reached.together reached.knows st e).0;
+        possible = λ st e. (step_from s layout first (onto done (first ∷ [])) p reached w split.1 split.2 st e).0;
       } in
       subst (λ (ms : Past). Holds ms q) joined
       (go (done ++ w ∷ []) ws (advance p (answer_of w leads.0)) q whole (leads_push (fresh s spent, f) p (first ∷ done) w leads.0 before leads.1) leads.2

@@ -30,9 +30,9 @@ use Rattle.partial_active.specs.Moments.{AtSome, AtSomeStep, own_moments}
 use Rattle.partial_active.specs.ActiveSet.{Announcement, FindsAnnouncement, with_all, each_once, AreRising, AreInOrder, GetSetsFindInOrder}
 use Rattle.partial_active.proofs.Walk.{begun}
 use Rattle.partial_active.proofs.Answered.{walk_begins, walk_next, walk_noted, at_with}
-use Rattle.partial_active.proofs.Known.{Past, IsLoaded}
-use Rattle.partial_active.proofs.Active.{same_named, loaded_stands}
-use Rattle.partial_active.proofs.Orders.{IsPairwiseOrderly, LeadsTo, own_leads, moments_of}
+use Rattle.partial_active.proofs.Orders.{Past, IsPairwiseOrderly, LeadsTo, own_leads, moments_of}
+use Rattle.partial_active.proofs.Indices.{same_named}
+use Rattle.partial_active.proofs.Known.{IsLoaded, announced_yet}
 use Rattle.partial_active.proofs.Moments.{at_later, at_here, at_split, Behind, holds_behind}
 
 -- indices put at the end in two parts
@@ -70,12 +70,12 @@ rising_push xs n rising below j k less inside =
     ]
 
 -- the announcements found so far, all in slots below
-record Named (s : Layout) (start : Pair) (ms : Past) (slot : ℕ) (indices : List ℕ) : Type 0 where
-  found : List Announcement
-  rising : AreRising (map (λ (a : Announcement). a.slot) found)
-  below : (a : Announcement) → Contains found a → a.slot < slot
-  loaded : (a : Announcement) → Contains found a ↔ AtSomeStep (FindsAnnouncement s a) start ms
-  gathered : indices ≡ each_once (flat_map (λ (a : Announcement). a.named) found)
+pub record Named (s : Layout) (start : Pair) (ms : Past) (slot : ℕ) (indices : List ℕ) : Type 0 where
+  pub found : List Announcement
+  pub rising : AreRising (map (λ (a : Announcement). a.slot) found)
+  pub below : (a : Announcement) → Contains found a → a.slot < slot
+  pub loaded : (a : Announcement) → Contains found a ↔ AtSomeStep (FindsAnnouncement s a) start ms
+  pub gathered : indices ≡ each_once (flat_map (λ (a : Announcement). a.named) found)
 
 -- the same, and one more announcement, of which i indices are read
 record Reading (s : Layout) (start : Pair) (ms : Past) (a : Announcement) (i : ℕ) (indices : List ℕ) : Type 0 where
@@ -84,6 +84,10 @@ record Reading (s : Layout) (start : Pair) (ms : Past) (a : Announcement) (i : �
   below : (b : Announcement) → Contains found b → b.slot < a.slot
   loaded : (b : Announcement) → (Contains found b ⊎ (a ≡ b)) ↔ AtSomeStep (FindsAnnouncement s b) start ms
   gathered : indices ≡ with_all (each_once (flat_map (λ (b : Announcement). b.named) found)) (take i a.named)
+
+-- the announcements found in all slots
+abbrev NamedAll : Layout → Pair → Past → Pair → Type 0
+NamedAll s start ms p = (n : ℕ) × (n ≤ p.0.sizes.slots) × Named s start ms n p.1.indices
 
 -- what is known of them at a stage behind the first one
 named_at : Layout → Pair → Past → Stage → Pair → Type 0
@@ -97,10 +101,10 @@ named_at s start ms (Len slot at) p = (a : Announcement) × (a.slot ≡ slot) ×
 named_at s start ms (Index slot at left) p =
     (a : Announcement) × (a.slot ≡ slot) × (from : ℕ) × (i : ℕ) × Reading s start ms a i p.1.indices × AtSome (IsLoaded s slot from a.named) ms
     × (at ≡ announced_word from i) × (i + left ≡ length a.named)
-named_at s start ms (Claim count) p = (n : ℕ) × Named s start ms n p.1.indices
-named_at s start ms (Write at k count word) p = (n : ℕ) × Named s start ms n p.1.indices
-named_at s start ms (Publish at) p = (n : ℕ) × Named s start ms n p.1.indices
-named_at s start ms Done p = (n : ℕ) × Named s start ms n p.1.indices
+named_at s start ms (Claim count) p = NamedAll s start ms p
+named_at s start ms (Write at k count word) p = NamedAll s start ms p
+named_at s start ms (Publish at) p = NamedAll s start ms p
+named_at s start ms Done p = NamedAll s start ms p
 
 abbrev NamedBy : Layout → Pair → Past → Pair → Type 0
 NamedBy s start ms p = named_at s start ms p.0.stage p
@@ -110,23 +114,25 @@ named_higher : (s : Layout) (start : Pair) (ms : Past) (slot n : ℕ) (indices :
 named_higher s start ms slot n indices le w =
     record { found = w.found; rising = w.rising; below = λ a h. let b = w.below a h in omega (arith, b, le); loaded = w.loaded; gathered = w.gathered }
 
-named_after_walk : (s : Layout) (start : Pair) (ms : Past) (p : Pair) (slot : ℕ) → Named s start ms slot p.1.indices → NamedBy s start ms (after_walk p)
+named_after_walk : (s : Layout) (start : Pair) (ms : Past) (p : Pair) (slot : ℕ) → slot ≤ p.0.sizes.slots → Named s start ms slot p.1.indices → NamedBy s start ms (after_walk p)
 unfolding named_at
-named_after_walk s start ms p slot w = cond_both (p.0.noted && not p.0.lists_spent) (Claim (next_words p.1)) Done (λ stage. NamedBy s start ms (record p.0 { stage = stage }, p.1))
-    (λ e. (slot, w)) (λ e. (slot, w))
+named_after_walk s start ms p slot within w = cond_both (p.0.noted && not p.0.lists_spent) (Claim (next_words p.1)) Done (λ stage. NamedBy s start ms (record p.0 { stage = stage }, p.1))
+    (λ e. (slot, within, w)) (λ e. (slot, within, w))
 
-named_at_slot : (s : Layout) (start : Pair) (ms : Past) (p : Pair) (slot : ℕ) → Named s start ms slot p.1.indices → NamedBy s start ms (at_slot p slot)
+named_at_slot : (s : Layout) (start : Pair) (ms : Past) (p : Pair) (slot : ℕ) → slot ≤ p.0.sizes.slots → Named s start ms slot p.1.indices → NamedBy s start ms (at_slot p slot)
 unfolding named_at
-named_at_slot s start ms p slot w = cond_both (ltb slot p.0.end) (record p.0 { stage = Slot slot }, p.1) (after_walk p) (NamedBy s start ms) (λ e. w)
-    (λ e. named_after_walk s start ms p slot w)
+named_at_slot s start ms p slot within w = cond_both (ltb slot p.0.end) (record p.0 { stage = Slot slot }, p.1) (after_walk p) (NamedBy s start ms) (λ e. w)
+    (λ e. named_after_walk s start ms p slot within w)
 
 named_come_to : (s : Layout) (start : Pair) (ms : Past) (p : Pair) (slot : ℕ) → IsWalking p slot → Named s start ms slot p.1.indices → NamedBy s start ms (come_to p slot)
 named_come_to s start ms p slot walking w = cond_both (begins_at p.1.read p.0.passed slot) (at_slot (pass_interval p) (highest p.1.read p.0.passed + 1)) (at_slot p slot) (NamedBy s start ms)
     (λ e.
     let b = begun p slot walking e in
     let closed = walking.list.normal.closed p.0.passed b.0 in
-    named_at_slot s start ms (pass_interval p) (highest p.1.read p.0.passed + 1) (named_higher s start ms slot (highest p.1.read p.0.passed + 1) p.1.indices (omega (arith, b.1, closed)) w))
-    (λ e. named_at_slot s start ms p slot w)
+    let inside = walking.list.within p.0.passed b.0 in
+    named_at_slot s start ms (pass_interval p) (highest p.1.read p.0.passed + 1) (omega (arith, inside))
+    (named_higher s start ms slot (highest p.1.read p.0.passed + 1) p.1.indices (omega (arith, b.1, closed)) w))
+    (λ e. named_at_slot s start ms p slot walking.slot_within w)
 
 -- an announcement that is read whole is one more that is found
 named_more : (s : Layout) (start : Pair) (ms : Past) (a : Announcement) (i : ℕ) (indices : List ℕ) → length a.named ≤ i → Reading s start ms a i indices →
@@ -314,7 +320,7 @@ module _ (s : Layout) (layout : IsLayout s) (spent : Bool) (f : Buffers) (first 
       let below = here.below in
       let end = here.walking.end_within in
       let slots = ap (λ (l : Layout). l.slots) b.sizes in
-      loaded_stands s layout first (first ∷ done) now slot from named (omega (arith, below, end, slots)) b.comes was
+      (announced_yet s (first ∷ done) now b.comes slot from named (omega (arith, below, end, slots)) was).stands
 
   step_len : (slot at : ℕ) → p.0.stage ≡ Len slot at → goes_at (Len slot at) p → Before (Len slot at) p → Steps (Len slot at) (slice_index now at)
   unfolding Steps named_at
@@ -357,9 +363,8 @@ module _ (s : Layout) (layout : IsLayout s) (spent : Bool) (f : Buffers) (first 
       (λ e. let more = eqb-false left 1 e in
       (a, same, from, i + 1, on, some_later (IsLoaded s slot from a.named) (first ∷ done) now was, omega (arith, place), omega (arith, count, some, more))))
 
-  ended_on : (stage : Stage) → p.0.stage ≡ stage → ((slot : ℕ) → stage ≡ Slot slot → ⊥) → ((n : ℕ) × Named s (fresh s spent, f) (first ∷ done) n p.1.indices) → (n : ℕ)
-      × Named s (fresh s spent, f) ((first ∷ done) ++ now ∷ []) n p.1.indices
-  ended_on stage is other w = (w.0, named_on (quiet_at stage is other) w.0 p.1.indices w.1)
+  ended_on : (stage : Stage) → p.0.stage ≡ stage → ((slot : ℕ) → stage ≡ Slot slot → ⊥) → NamedAll s (fresh s spent, f) (first ∷ done) p → NamedAll s (fresh s spent, f) ((first ∷ done) ++ now ∷ []) p
+  ended_on stage is other w = (w.0, w.1, named_on (quiet_at stage is other) w.0 p.1.indices w.2)
 
   -- the answer that the words give to a step that is known
   answered : (C : ℕ → Type 0) (c d : Step) → Some c ≡ Some d → C (answer_of now c) → C (answer_of now d)
@@ -400,34 +405,29 @@ named_begin s spent f first =
     (λ e. (refl, none)) (λ e. (refl, none))
 
 -- a finished getSet
-named_ended : (s : Layout) (start : Pair) (ms : Past) (stage : Stage) (q : Pair) → step_at q.0.sizes q.0.head stage ≡ None → named_at s start ms stage q → (n : ℕ)
-    × Named s start ms n q.1.indices
+named_ended : (s : Layout) (start : Pair) (ms : Past) (stage : Stage) (q : Pair) → step_at q.0.sizes q.0.head stage ≡ None → named_at s start ms stage q → NamedAll s start ms q
 unfolding named_at
 named_ended s start ms Head q e w = absurd w
-named_ended s start ms (ListLen at) q e w = let never : ⊥ = cc in absurd never
-named_ended s start ms (ListLow at left) q e w = let never : ⊥ = cc in absurd never
-named_ended s start ms (ListHigh at left lo) q e w = let never : ⊥ = cc in absurd never
-named_ended s start ms Counter q e w = let never : ⊥ = cc in absurd never
-named_ended s start ms (Slot slot) q e w = let never : ⊥ = cc in absurd never
-named_ended s start ms (Len slot at) q e w = let never : ⊥ = cc in absurd never
-named_ended s start ms (Index slot at left) q e w = let never : ⊥ = cc in absurd never
-named_ended s start ms (Claim count) q e w = w
-named_ended s start ms (Write at k count word) q e w = w
-named_ended s start ms (Publish at) q e w = w
 named_ended s start ms Done q e w = w
+named_ended s start ms stage q e w = absurd cc
+
+pub named_behind : (s : Layout) (spent : Bool) (f : Buffers) (first : List ℕ) (ms : Past) (q : Pair) → IsLayout s → IsFor s f → IsPairwiseOrderly s [] (first ∷ ms) →
+    LeadsTo (fresh s spent, f) (first ∷ ms) q → step_of q.0 ≡ None → NamedAll s (fresh s spent, f) (first ∷ ms) q
+unfolding Steps
+named_behind s spent f first ms q layout sizes orderly leads done =
+    let known = holds_behind s layout spent f sizes first (λ past p. NamedBy s (fresh s spent, f) past p)
+    (λ done p now st b due knows. step_known s layout spent f first done p now b p.0.stage st refl (b.possible st due) due b.together.stage knows)
+    ms q (named_begin s spent f first) orderly leads in
+    named_ended s (fresh s spent, f) (first ∷ ms) q.0.stage q done known
 
 -- a finished getSet names the indices in order
 names_in_order : (s : Layout) (spent : Bool) (f : Buffers) (ms : Past) (q : Pair) → IsLayout s → IsFor s f → IsPairwiseOrderly s [] ms → LeadsTo (fresh s spent, f) ms q → step_of q.0 ≡ None →
     AreInOrder s (fresh s spent, f) ms q.1.indices
-unfolding Steps
 names_in_order s spent f [] q layout sizes orderly leads done =
     let none : Some (Load (list_head s)) ≡ None = ap (λ (r : Pair). step_of r.0) (sym leads) ∙ done in
     let never : ⊥ = cc in absurd never
 names_in_order s spent f (first ∷ ms) q layout sizes orderly leads done =
-    let known = holds_behind s layout spent f sizes first (λ past p. NamedBy s (fresh s spent, f) past p)
-    (λ done p now st b due knows. step_known s layout spent f first done p now b p.0.stage st refl (b.possible st due) due b.together.stage knows)
-    ms q (named_begin s spent f first) orderly leads in
-    let w = (named_ended s (fresh s spent, f) (first ∷ ms) q.0.stage q done known).1 in
+    let w = (named_behind s spent f first ms q layout sizes orderly leads done).2 in
     record {
       found = w.found;
       rising = w.rising;

@@ -11,7 +11,10 @@ use Rattle.partial_words.specs.VacatedList.{list_block}
 use Rattle.partial_active.specs.GetSet.{Pair, step_of, advance}
 use Rattle.partial_active.specs.Orderly.{slot_at, head_at, IsAnnouncement, IsVacatedList, Orderly, Publishes}
 use Rattle.partial_active.specs.Moments.{OnEach, AtSome, IsOrderlyEvent, AreOrderly, IsOrderlyRun, words_behind, own_moments, MakesOwn}
-use Rattle.partial_active.proofs.Known.{Past}
+
+-- the moments behind, the latest first
+abbrev pub Past : Type 0
+Past = List (List ℕ)
 
 -- a slot holds what it held, was EMPTY, or is VACATED, and each block that was published stands yet
 pub record ComesFrom (s : Layout) (earlier later : List ℕ) : Type 0 where
@@ -29,7 +32,7 @@ abbrev pub LeadsTo : Pair → Past → Pair → Type 0
 LeadsTo p [] q = q ≡ p
 LeadsTo p (words ∷ more) q = (step : Step) × (step_of p.0 ≡ Some step) × LeadsTo (advance p (answer_of words step)) more q
 
-comes_at_once : (s : Layout) (words : List ℕ) → ComesFrom s words words
+pub comes_at_once : (s : Layout) (words : List ℕ) → ComesFrom s words words
 comes_at_once s words = record { slots = λ slot below. inl refl; announcements = λ slot named below there. there.stands; lists = λ list there. there.stands }
 
 -- one event more, where the earlier moment is one of those that it keeps the blocks of

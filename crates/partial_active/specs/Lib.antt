@@ -4,6 +4,7 @@ pub mod Join
 pub mod Leave
 pub mod GetSet
 pub mod GetSetAnswers
+pub mod Knowledge
 pub mod Orderly
 pub mod Moments
 pub mod ActiveSet

@@ -13,7 +13,7 @@ use Rattle.partial_active.specs.GetSet as finding
 use Rattle.partial_active.specs.Moments.{AreOrderly, IsOrderlyRun, words_behind, MakesOwn}
 use Rattle.partial_active.specs.VacatedLists.{KeepsLists}
 use Rattle.partial_active.specs.ActiveSet.{FindsActiveSet, AreInOrder}
-use Rattle.partial_active.proofs.Active.{finds_by_events}
+use Rattle.partial_active.proofs.Finds.{finds_by_events}
 use Rattle.partial_active.proofs.Named.{names_by_events}
 use Rattle.partial_active.proofs.Lists.{lists_by_events}
 use Rattle.partial_state.specs.Holdings.{Holding}

@@ -15,6 +15,7 @@ use Rattle.partial_active.specs.GetSet as finding
 use Rattle.partial_active.specs.Found.{begins_at}
 use Rattle.partial_active.specs.IndexSet.{with_index}
 use Rattle.partial_active.specs.GetSetAnswers as finding_answers
+use Rattle.partial_active.specs.Knowledge.{knows_by}
 use Rattle.partial_active.specs.declared.get_set.Stage.{Stage as SetStage}
 use Rattle.partial_active.specs.declared.get_set.Stage.TheVariants.{Head, ListLen, ListLow, ListHigh, Counter, Slot, Len, Index, Claim, Write, Publish, Done}
 use Rattle.partial_active.proofs.Extended.{length_normal}
@@ -202,8 +203,8 @@ module _ (z : Layout) (o : Opening) (words : List ℕ) (before : List Part) (x :
       refl (silent (get_or words n 0))
 
   -- what is known and what goes together at a stage of the getSet
-  known_at : (stage : SetStage) → (core_of x).get_set.stage ≡ stage → sets.knows_at z words (holdings (before ++ x ∷ after)) (first_at x.kept) stage (getting (core_of x))
-  known_at stage is = subst (λ (t : SetStage). sets.knows_at z words (holdings (before ++ x ∷ after)) (first_at x.kept) t (getting (core_of x))) is knows
+  known_at : (stage : SetStage) → (core_of x).get_set.stage ≡ stage → knows_by (sets.facts_of_words z words (holdings (before ++ x ∷ after)) (first_at x.kept)) stage (getting (core_of x))
+  known_at stage is = subst (λ (t : SetStage). knows_by (sets.facts_of_words z words (holdings (before ++ x ∷ after)) (first_at x.kept)) t (getting (core_of x))) is knows
 
   goes_at : (stage : SetStage) → (core_of x).get_set.stage ≡ stage → finding_answers.goes_at stage (getting (core_of x))
   goes_at stage is = let h = gets in let together = h.1.stage in subst (λ (t : SetStage). finding_answers.goes_at t (getting (core_of x))) is together

@@ -14,8 +14,7 @@ use Rattle.partial_active.specs.declared.join.JoinStage.{JoinStage}
 use Rattle.partial_active.specs.declared.join.JoinStage.TheVariants.{Claiming, Storing, Joined as JoinedIn, Spent}
 use Rattle.partial_active.specs.GetSet as finding
 use Rattle.partial_active.specs.GetSetAnswers as finding_answers
-use Rattle.partial_active.specs.declared.get_set.Stage.{Stage as SetStage}
-use Rattle.partial_active.specs.declared.get_set.Stage.TheVariants.{Head, ListLen, ListLow, ListHigh, Counter, Slot, Len as NamedLen, Index as NamedIndex, Claim, Write, Publish, Done as SetDone}
+use Rattle.partial_active.proofs.Knowledge.{finished}
 use Rattle.partial_embedded.specs.Embedded as viewing
 use Rattle.partial_embedded.proofs.Keeps as viewed
 use Rattle.partial_embedded.specs.declared.embedded.Stage.{Stage as ViewStage}
@@ -78,22 +77,6 @@ module _ (z : Layout) (o : Opening) (words : List ℕ) (hs : List Holding) (log 
 
   abbrev pub Knows : ℕ → ℕ → CoreState → Type 0
   Knows since high s = knows_at since high s s.stage
-
--- a getSet without a due step is finished: it has found the ports that had joined
-set_finished : (z y : Layout) (words : List ℕ) (hs : List Holding) (low head : ℕ) (stage : SetStage) (p : finding.Pair) → finding.step_at y head stage ≡ None → sets.knows_at z words hs low stage p →
-    sets.FindsJoined hs low p.1.indices
-set_finished z y words hs low head Head p e knows = absurd cc
-set_finished z y words hs low head (ListLen at) p e knows = absurd cc
-set_finished z y words hs low head (ListLow at left) p e knows = absurd cc
-set_finished z y words hs low head (ListHigh at left lo) p e knows = absurd cc
-set_finished z y words hs low head Counter p e knows = absurd cc
-set_finished z y words hs low head (Slot slot) p e knows = absurd cc
-set_finished z y words hs low head (NamedLen slot at) p e knows = absurd cc
-set_finished z y words hs low head (NamedIndex slot at left) p e knows = absurd cc
-set_finished z y words hs low head (Claim count) p e knows = absurd cc
-set_finished z y words hs low head (Write at k count word) p e knows = absurd cc
-set_finished z y words hs low head (Publish at) p e knows = absurd cc
-set_finished z y words hs low head SetDone p e knows = knows.1
 
 -- an embedded scan without a due step is finished
 pub view_finished : (z : Layout) (o : Opening) (words : List ℕ) (hs : List Holding) (log : List Applied) (indices : List ℕ) (low high : ℕ) (last : List ℕ) (y : Layout) (stage : ViewStage)
@@ -200,7 +183,7 @@ module _ (z : Layout) (o : Opening) (words : List ℕ) (hs : List Holding) (log 
       by_step : (f : Option Step) → finding.step_of t.get_set ≡ f → Case (finding.step_of t.get_set)
       by_step (Some step) is = subst Case (sym is) (subst (λ (u : Stage). knows_at z o words hs log begun first since k.at t u) (sym e) (knows, known))
       by_step None is =
-          let found : sets.FindsJoined hs first t.found.indices = set_finished z t.get_set.sizes words hs first t.get_set.head t.get_set.stage (getting t) is known in
+          let found : sets.FindsJoined hs first t.found.indices = (finished (sets.facts_of_words z words hs first) t.get_set.sizes t.get_set.head t.get_set.stage (getting t) is known).1 in
           subst Case (sym is)
           (cond_both (length t.found.indices == 0) (ClaimingRecord c old) (Viewing c old)
           (λ (u : Stage). Knows z o words hs log begun first since k.at (record t { embedded = viewing.fresh t.sizes true; stage = u }))

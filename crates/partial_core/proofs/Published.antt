@@ -26,7 +26,7 @@ use Rattle.partial_core.specs.Steps.{LeadsOn}
 use Rattle.partial_core.specs.Orderly.{StepsAreOrderly}
 use Rattle.partial_core.proofs.AllSteps.{steps_stay_lawful}
 use Rattle.partial_core.proofs.Ordered.{slot_now, lawful_is_orderly, same_long, steps_move_slots}
-use Rattle.partial_active.proofs.Active.{same_named}
+use Rattle.partial_active.proofs.Indices.{same_named}
 
 -- so many words from that one on are published for ever
 abbrev pub ArePublished : Layout → List ℕ → List Holding → ℕ → ℕ → Type 0

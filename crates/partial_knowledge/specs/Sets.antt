@@ -1,94 +1,47 @@
 -- What a getSet knows at each of its stages by the answers that it has kept, in lawful words.
-use Rattle.std.specs.Prelude.{ℕ, ◌≡◌, ◌+◌, ◌<◌, ◌≤◌, ⊤, true, false, List, length, take, slice_index, Option, Some, None}
-use Rattle.partial_intervals.specs.Intervals.{Ranges, lowest, Holds}
+use Rattle.std.specs.Prelude.{ℕ, ◌≡◌, ◌<◌, ◌≤◌, List, length, slice_index, Option, Some, None}
 use Rattle.partial_words.specs.declared.step.Step.{Step}
 use Rattle.partial_words.specs.declared.step.Step.TheVariants.{Load, Store, Exchange, Add}
 use Rattle.partial_model.specs.declared.history.Applied.{Applied}
 use Rattle.partial_model.specs.declared.history.Opening.{Opening}
 use Rattle.partial_words.specs.Layout.{Layout, slot_word, list_base, total}
-use Rattle.partial_words.specs.Announcement.{announced_word}
-use Rattle.partial_words.specs.VacatedList.{low_word, high_word}
-use Rattle.partial_active.specs.declared.get_set.Stage.{Stage}
-use Rattle.partial_active.specs.declared.get_set.Stage.TheVariants.{Head, ListLen, ListLow, ListHigh, Counter, Slot, Len, Index, Claim, Write, Publish, Done}
-use Rattle.partial_active.specs.IndexSet.{has_index}
 use Rattle.partial_active.specs.GetSet.{Pair, step_of, advance}
 use Rattle.partial_active.specs.GetSetAnswers.{IsPossible, GoTogether}
+use Rattle.partial_active.specs.Knowledge.{Facts, HasEach, KnowsBy}
 use Rattle.partial_state.specs.Views.{Joined, IsAnnounced, IsPublishedList}
 use Rattle.partial_state.specs.Holdings.{Holding, unpublished}
 use Rattle.partial_state.specs.LawfulWords.{LawfulWords}
 use Rattle.partial_state.specs.Loads.{Kept, IsLoaded, IsPublished}
 use Rattle.partial_knowledge.specs.Joins.{Joins}
 
--- each slot of the list is VACATED
-abbrev pub AreVacated : Layout → List ℕ → Ranges → Type 0
-AreVacated z words list = (x : ℕ) → Holds list x → (x < z.slots) × (slice_index words (slot_word z x) ≡ 1)
-
 -- each index of the announcement was found
 abbrev pub HasAll : List ℕ → Joined → Type 0
-HasAll indices j = (k : ℕ) → k < length j.indices → has_index indices (slice_index j.indices k) ≡ true
+HasAll indices j = HasEach indices j.indices
 
 -- the announcement in the slot is the one at that word, for a port that joined below `low`
 abbrev pub IsInSlot : List Holding → ℕ → ℕ → ℕ → Type 0
 IsInSlot hs low slot at = (j : Joined) → Joins hs slot j → j.since < low → j.at ≡ at
 
+-- the announcement in the slot was found, for a port that joined below `low`
+abbrev pub FindsIn : List Holding → ℕ → List ℕ → ℕ → Type 0
+FindsIn hs low indices slot = (j : Joined) → Joins hs slot j → j.since < low → HasAll indices j
+
 -- each announcement of a port that joined below `low` was found
 abbrev pub FindsJoined : List Holding → ℕ → List ℕ → Type 0
-FindsJoined hs low indices = (l : ℕ) (j : Joined) → Joins hs l j → j.since < low → HasAll indices j
+FindsJoined hs low indices = (l : ℕ) → FindsIn hs low indices l
 
--- so much of the list is read
-pub record HasReadSo (z : Layout) (words : List ℕ) (hs : List Holding) (from : ℕ) (list read : Ranges) (left : ℕ) : Type 0 where
-  pub published : IsPublishedList z words (unpublished hs) from list
-  pub read_is : read ≡ take (length read) list
-  pub sum : length read + left ≡ length list
-
--- the slots below are done
-pub record HasWalked (z : Layout) (words : List ℕ) (hs : List Holding) (low end : ℕ) (read next : Ranges) (indices : List ℕ) (slot : ℕ) :
-    Type 0 where
-  pub listed : AreVacated z words read
-  pub noted : AreVacated z words next
-  pub ended : (l : ℕ) (j : Joined) → Joins hs l j → j.since < low → l < end
-  pub complete : (l : ℕ) (j : Joined) → Joins hs l j → j.since < low → l < slot → HasAll indices j
-
--- so much of the announcement is read
-pub record HasReadNamed (z : Layout) (words : List ℕ) (hs : List Holding) (low slot at left : ℕ) (indices : List ℕ) (a : ℕ) (named : List ℕ)
-    (i : ℕ) : Type 0 where
-  pub announced : IsAnnounced z words (unpublished hs) a named
-  pub here : IsInSlot hs low slot a
-  pub place : at ≡ announced_word a i
-  pub sum : i + left ≡ length named
-  pub so_far : (k : ℕ) → k < i → has_index indices (slice_index named k) ≡ true
-
--- a getSet has walked the slots below that one
-abbrev pub walks : Layout → List ℕ → List Holding → ℕ → Pair → ℕ → Type 0
-walks z words hs low p slot = HasWalked z words hs low p.0.end p.1.read p.1.next p.1.indices slot
-
--- the slots are walked: what was noted is VACATED, and the announcements are found
-abbrev pub has_found : Layout → List ℕ → List Holding → ℕ → Pair → Type 0
-has_found z words hs low p = AreVacated z words p.1.next × FindsJoined hs low p.1.indices
-
--- what is known at a stage, of the ports that joined below `low`; a claim is made only where the port isn't marked
-abbrev pub knows_at : Layout → List ℕ → List Holding → ℕ → Stage → Pair → Type 0
-knows_at z words hs low Head p = ⊤
-knows_at z words hs low (ListLen at) p = (list : Ranges) × IsPublishedList z words (unpublished hs) at list
-knows_at z words hs low (ListLow at left) p =
-    (from : ℕ) × (list : Ranges) × HasReadSo z words hs from list p.1.read left × (at ≡ low_word from (length p.1.read))
-knows_at z words hs low (ListHigh at left lo) p =
-    (from : ℕ) × (list : Ranges) × HasReadSo z words hs from list p.1.read left × (at ≡ high_word from (length p.1.read))
-    × (lo ≡ lowest list (length p.1.read))
-knows_at z words hs low Counter p = AreVacated z words p.1.read
-knows_at z words hs low (Slot slot) p = walks z words hs low p slot
-knows_at z words hs low (Len slot at) p =
-    walks z words hs low p slot × ((named : List ℕ) × IsAnnounced z words (unpublished hs) at named × IsInSlot hs low slot at)
-knows_at z words hs low (Index slot at left) p =
-    walks z words hs low p slot × ((a : ℕ) × (named : List ℕ) × (i : ℕ) × HasReadNamed z words hs low slot at left p.1.indices a named i)
-knows_at z words hs low (Claim count) p = has_found z words hs low p × (p.0.lists_spent ≡ false)
-knows_at z words hs low (Write at k count word) p = has_found z words hs low p
-knows_at z words hs low (Publish at) p = has_found z words hs low p
-knows_at z words hs low Done p = has_found z words hs low p
+-- what lawful words tell a getSet, of the ports that joined below `low`
+abbrev pub facts_of_words : Layout → List ℕ → List Holding → ℕ → Facts
+facts_of_words z words hs low = record {
+  vacated = λ x. (x < z.slots) × (slice_index words (slot_word z x) ≡ 1);
+  lists = λ at list. IsPublishedList z words (unpublished hs) at list;
+  announces = λ slot at named. IsAnnounced z words (unpublished hs) at named × IsInSlot hs low slot at;
+  complete = λ indices slot. FindsIn hs low indices slot;
+}
 
 -- what a getSet knows of lawful words by its answers
 abbrev pub Knows : Layout → List ℕ → List Holding → ℕ → Pair → Type 0
-Knows z words hs low p = knows_at z words hs low p.0.stage p
+Knows z words hs low p = KnowsBy (facts_of_words z words hs low) p
 
 -- the word may be loaded: it is one of the words, and in no block that isn't published
 abbrev pub IsReadable : Layout → List ℕ → List Holding → ℕ → Type 0
