@@ -63,22 +63,22 @@ sound s start ms n indices within k j has =
     }) ((k.loaded a).0 (some.0, some.2, some.3))
 
 -- a finished getSet has found the active set over the moments of its steps
-finds : (s : Layout) (spent : Bool) (f : Buffers) (ms : Past) (q : Pair) → IsLayout s → IsFor s f → IsPairwiseOrderly s [] ms → LeadsTo (fresh s spent, f) ms q → step_of q.0 ≡ None →
-    FindsActiveSet s ms q.1.indices
-finds s spent f [] q layout sizes orderly leads done =
-    let none : Some (Load (list_head s)) ≡ None = ap (λ (r : Pair). step_of r.0) (sym leads) ∙ done in
-    let never : ⊥ = cc in absurd never
-finds s spent f (first ∷ ms) q layout sizes orderly leads done =
-    let reached = reached_from s spent f layout sizes first ms q orderly leads in
-    let found = finished (facts_of_moments s first (onto ms (first ∷ []))) q.0.sizes q.0.head q.0.stage q done reached.knows in
-    let named = named_behind s spent f first ms q layout sizes orderly leads done in
-    let within : named.0 ≤ s.slots = let slots = ap (λ (l : Layout). l.slots) reached.sizes in let below = named.1 in omega (arith, slots, below) in
-    record {
-      complete = λ slot names inside there each k lt. found.1 slot names inside there (onto_each (λ w. slot_at s w slot ≡ slot_at s first slot) ms (first ∷ []) (each.0, tt) each.1) k lt;
-      sound = sound s (fresh s spent, f) (first ∷ ms) named.0 q.1.indices within named.2;
-    }
+module _ (s : Layout) (spent : Bool) (f : Buffers) (layout : IsLayout s) (sizes : IsFor s f) where
+  finds : (ms : Past) (q : Pair) → IsPairwiseOrderly s [] ms → LeadsTo (fresh s spent, f) ms q → step_of q.0 ≡ None → FindsActiveSet s ms q.1.indices
+  finds [] q orderly leads done =
+      let none : Some (Load (list_head s)) ≡ None = ap (λ (r : Pair). step_of r.0) (sym leads) ∙ done in
+      let never : ⊥ = cc in absurd never
+  finds (first ∷ ms) q orderly leads done =
+      let reached = reached_from s spent f layout sizes first ms q orderly leads in
+      let found = finished (facts_of_moments s first (onto ms (first ∷ []))) q.0.sizes q.0.head q.0.stage q done reached.knows in
+      let named = named_behind s spent f layout sizes first ms q orderly leads done in
+      let within : named.0 ≤ s.slots = let slots = ap (λ (l : Layout). l.slots) reached.sizes in let below = named.1 in omega (arith, slots, below) in
+      record {
+        complete = λ slot names inside there each k lt. found.1 slot names inside there (onto_each (λ w. slot_at s w slot ≡ slot_at s first slot) ms (first ∷ []) (each.0, tt) each.1) k lt;
+        sound = sound s (fresh s spent, f) (first ∷ ms) named.0 q.1.indices within named.2;
+      }
 
 -- the same by the events of a run
 pub finds_by_events : GetSetsFind
 finds_by_events s spent f own words events q layout sizes orderly makes done =
-    finds s spent f (own_moments own words events) q layout sizes (moments_of s own words events orderly) (own_leads own (fresh s spent, f) q words events makes) done
+    finds s spent f layout sizes (own_moments own words events) q (moments_of s own words events orderly) (own_leads own (fresh s spent, f) q words events makes) done

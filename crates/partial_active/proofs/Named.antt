@@ -411,32 +411,32 @@ named_ended s start ms Head q e w = absurd w
 named_ended s start ms Done q e w = w
 named_ended s start ms stage q e w = absurd cc
 
-pub named_behind : (s : Layout) (spent : Bool) (f : Buffers) (first : List ℕ) (ms : Past) (q : Pair) → IsLayout s → IsFor s f → IsPairwiseOrderly s [] (first ∷ ms) →
-    LeadsTo (fresh s spent, f) (first ∷ ms) q → step_of q.0 ≡ None → NamedAll s (fresh s spent, f) (first ∷ ms) q
-unfolding Steps
-named_behind s spent f first ms q layout sizes orderly leads done =
-    let known = holds_behind s layout spent f sizes first (λ past p. NamedBy s (fresh s spent, f) past p)
-    (λ done p now st b due knows. step_known s layout spent f first done p now b p.0.stage st refl (b.possible st due) due b.together.stage knows)
-    ms q (named_begin s spent f first) orderly leads in
-    named_ended s (fresh s spent, f) (first ∷ ms) q.0.stage q done known
+module _ (s : Layout) (spent : Bool) (f : Buffers) (layout : IsLayout s) (sizes : IsFor s f) where
+  pub named_behind : (first : List ℕ) (ms : Past) (q : Pair) → IsPairwiseOrderly s [] (first ∷ ms) → LeadsTo (fresh s spent, f) (first ∷ ms) q → step_of q.0 ≡ None →
+      NamedAll s (fresh s spent, f) (first ∷ ms) q
+  unfolding Steps
+  named_behind first ms q orderly leads done =
+      let known = holds_behind s layout spent f sizes first (λ past p. NamedBy s (fresh s spent, f) past p)
+      (λ done p now st b due knows. step_known s layout spent f first done p now b p.0.stage st refl (b.possible st due) due b.together.stage knows)
+      ms q (named_begin s spent f first) orderly leads in
+      named_ended s (fresh s spent, f) (first ∷ ms) q.0.stage q done known
 
--- a finished getSet names the indices in order
-names_in_order : (s : Layout) (spent : Bool) (f : Buffers) (ms : Past) (q : Pair) → IsLayout s → IsFor s f → IsPairwiseOrderly s [] ms → LeadsTo (fresh s spent, f) ms q → step_of q.0 ≡ None →
-    AreInOrder s (fresh s spent, f) ms q.1.indices
-names_in_order s spent f [] q layout sizes orderly leads done =
-    let none : Some (Load (list_head s)) ≡ None = ap (λ (r : Pair). step_of r.0) (sym leads) ∙ done in
-    let never : ⊥ = cc in absurd never
-names_in_order s spent f (first ∷ ms) q layout sizes orderly leads done =
-    let w = (named_behind s spent f first ms q layout sizes orderly leads done).2 in
-    record {
-      found = w.found;
-      rising = w.rising;
-      loaded = w.loaded;
-      gathered = w.gathered;
-      distinct = subst (IsDistinct nat_eq) (sym w.gathered) (each_once_distinct (flat_map (λ (a : Announcement). a.named) w.found));
-    }
+  -- a finished getSet names the indices in order
+  names_in_order : (ms : Past) (q : Pair) → IsPairwiseOrderly s [] ms → LeadsTo (fresh s spent, f) ms q → step_of q.0 ≡ None → AreInOrder s (fresh s spent, f) ms q.1.indices
+  names_in_order [] q orderly leads done =
+      let none : Some (Load (list_head s)) ≡ None = ap (λ (r : Pair). step_of r.0) (sym leads) ∙ done in
+      let never : ⊥ = cc in absurd never
+  names_in_order (first ∷ ms) q orderly leads done =
+      let w = (named_behind first ms q orderly leads done).2 in
+      record {
+        found = w.found;
+        rising = w.rising;
+        loaded = w.loaded;
+        gathered = w.gathered;
+        distinct = subst (IsDistinct nat_eq) (sym w.gathered) (each_once_distinct (flat_map (λ (a : Announcement). a.named) w.found));
+      }
 
 pub names_by_events : GetSetsFindInOrder
 names_by_events s spent f own words events q layout sizes orderly makes done =
-    names_in_order s spent f (own_moments own words events) q layout sizes (moments_of s own words events orderly)
+    names_in_order s spent f layout sizes (own_moments own words events) q (moments_of s own words events orderly)
     (own_leads own (fresh s spent, f) q words events makes) done
