@@ -5,3 +5,4 @@ pub mod Calls
 pub mod Exports
 pub mod Memories
 pub mod Inner
+pub mod Lending

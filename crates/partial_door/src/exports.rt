@@ -24,12 +24,10 @@ pub extern "C" fn partial_door_update(
     ensures { AtHandle (answer.new ≡ answer.old) (UpdateEnds component value answer.old answer.new)
         port.old.held result port.new.held }
 {
-    let Some(mut held) = port.take(alloc) else {
+    let Some(held) = port.held() else {
         return HOLDS_NONE;
     };
-    let code = held.update(component, value, answer);
-    port.put(held);
-    code
+    held.update(component, value, answer)
 }
 
 /// Sets a component where it has the expected stamp.
@@ -45,12 +43,10 @@ pub extern "C" fn partial_door_update_if(
     ensures { AtHandle (answer.new ≡ answer.old) (UpdateIfEnds component expected value answer.old answer.new)
         port.old.held result port.new.held }
 {
-    let Some(mut held) = port.take(alloc) else {
+    let Some(held) = port.held() else {
         return HOLDS_NONE;
     };
-    let code = held.update_if(component, expected, value, answer);
-    port.put(held);
-    code
+    held.update_if(component, expected, value, answer)
 }
 
 /// Reads a component.
@@ -64,12 +60,10 @@ pub extern "C" fn partial_door_read(
     ensures { AtHandle (answer.new ≡ answer.old) (ReadEnds component answer.old answer.new)
         port.old.held result port.new.held }
 {
-    let Some(mut held) = port.take(alloc) else {
+    let Some(held) = port.held() else {
         return HOLDS_NONE;
     };
-    let code = held.read(component, answer);
-    port.put(held);
-    code
+    held.read(component, answer)
 }
 
 /// Scans components.
@@ -84,12 +78,10 @@ pub extern "C" fn partial_door_scan(
     ensures { AtHandle ((into.new ≡ into.old) × (answer.new ≡ answer.old))
         (ScanEnds which.now into.old into.new answer.old answer.new) port.old.held result port.new.held }
 {
-    let Some(mut held) = port.take(alloc) else {
+    let Some(held) = port.held() else {
         return HOLDS_NONE;
     };
-    let code = held.scan(which, into, answer);
-    port.put(held);
-    code
+    held.scan(which, into, answer)
 }
 
 /// Gives the number and the marks of a port.
@@ -101,12 +93,10 @@ pub extern "C" fn partial_door_state(
 ) -> u32
     ensures { AtHandle (answer.new ≡ answer.old) (StateEnds answer.new) port.old.held result port.new.held }
 {
-    let Some(held) = port.take(alloc) else {
+    let Some(held) = port.held() else {
         return HOLDS_NONE;
     };
-    let code = held.state(answer);
-    port.put(held);
-    code
+    held.state(answer)
 }
 
 /// Opens a memory, with all its ports at home.
@@ -205,16 +195,13 @@ pub extern "C" fn partial_door_give_port(
     requires { (h k : HeldType) → memory.old.held ≡ Some h → port.old.held ≡ Some k → AreApart h k }
     ensures { GivesAt memory.old.held port.old.held result memory.new.held port.new.held }
 {
-    let Some(mut home) = memory.take(alloc) else {
+    let Some(home) = memory.held() else {
         return HOLDS_NONE;
     };
     let Some(own) = port.take(alloc) else {
-        memory.put(home);
         return HOLDS_NONE;
     };
-    let given = home.give_port(own);
-    memory.put(home);
-    match given {
+    match home.give_port(own) {
         Ok(()) => FINE,
         Err((code, own)) => {
             port.put(own);
@@ -229,17 +216,13 @@ pub extern "C" fn partial_door_meet(alloc: Global, first: &mut Handle, second: &
     requires { (h k : HeldType) → first.old.held ≡ Some h → second.old.held ≡ Some k → AreApart h k }
     ensures { MeetsHandles first.old.held second.old.held result first.new.held second.new.held }
 {
-    let Some(mut one) = first.take(alloc) else {
+    let Some(one) = first.held() else {
         return HOLDS_NONE;
     };
-    let Some(mut other) = second.take(alloc) else {
-        first.put(one);
+    let Some(other) = second.held() else {
         return HOLDS_NONE;
     };
-    let code = one.meet(&mut other);
-    first.put(one);
-    second.put(other);
-    code
+    one.meet(other)
 }
 
 /// Closes a memory whose ports are all at home.
@@ -247,20 +230,14 @@ pub extern "C" fn partial_door_meet(alloc: Global, first: &mut Handle, second: &
 pub extern "C" fn partial_door_close(alloc: Global, memory: &mut Handle) -> u32
     ensures { ClosesHandle memory.old.held result memory.new.held }
 {
-    let Some(mut held) = memory.take(alloc) else {
+    let Some(held) = memory.held() else {
         return HOLDS_NONE;
     };
     match held.close(alloc) {
-        Ok(()) => {
-            memory.put(held);
-            FINE
-        }
-        Err(Unclosed::Kept(code)) => {
-            memory.put(held);
-            code
-        }
+        Ok(()) => FINE,
+        Err(Unclosed::Kept(code)) => code,
         Err(Unclosed::Lost) => {
-            drop(held);
+            drop(memory.take(alloc));
             MEMORY
         }
     }
@@ -272,12 +249,10 @@ pub extern "C" fn partial_door_values(alloc: Global, closed: &mut Handle, into: 
     ensures same { closed.new.held ≡ closed.old.held }
     ensures copied { CopiesAt closed.old.held into.old result into.new }
 {
-    let Some(held) = closed.take(alloc) else {
+    let Some(held) = closed.held() else {
         return HOLDS_NONE;
     };
-    let code = held.copy_values(into);
-    closed.put(held);
-    code
+    held.copy_values(into)
 }
 
 /// Empties a handle.

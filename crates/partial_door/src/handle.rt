@@ -62,6 +62,21 @@ impl Handle {
 unsafe impl Send for Handle {}
 
 impl Handle {
+    ghost use Rattle.std.specs.Borrow.{sem};
+    ghost use Rattle.partial_door.specs.Lending.{LendsHeld};
+
+    /// Lends what the handle holds, in its place.
+    pub fn held(&mut self) -> Option<&mut Held>
+        ensures* writes_back { sem 𝓛 (LendsHeld self.entry result) }
+        ensures lent { MatchOption result (self.old.held ≡ None) (λ r. self.old.held ≡ Some r.now) }
+    {
+        let ptr = self.ptr.cast::<Held>();
+        if ptr.is_null() {
+            return None;
+        }
+        unsafe { Some(&mut *ptr) }
+    }
+
     /// Takes out what the handle holds, and leaves nothing.
     pub fn take(&mut self, alloc: Global) -> Option<Box<Held>>
         ensures left { self.new.held ≡ None }

@@ -1,16 +1,5 @@
-use Rattle.std.proofs.Common.{rules, inl}
+use Rattle.std.proofs.Common.{refl, inl}
 use Rattle.partial_door.proofs.exports.partial_door_meet.Goals as goal
 
 pub returns : goal.returns
-returns c =
-    inl (
-      c.deref_mut.result.now,
-      c.deref_mut-2.result.now,
-      _,
-      _,
-      search rules,
-      search rules,
-      c.put-2.ensures,
-      c.put-3.ensures,
-      c.meet-code.ensures,
-    )
+returns c = inl (_, _, _, _, c.in-Some.ensures.lent, c.in-Some-held.ensures.lent, refl, refl, c.meet.ensures)
