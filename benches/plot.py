@@ -9,6 +9,7 @@ WIDTH, LEFT, RIGHT, BAR, GAP, STEP = 860, 300, 60, 9, 14, 78
 COLOURS = {
     "door": "#ea580c",
     "raw": "#ca8a04",
+    "called": "#be185d",
     "mutex": "#3b82f6",
     "rwlock": "#0891b2",
     "seqlock": "#65a30d",

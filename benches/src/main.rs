@@ -2,6 +2,7 @@
 //! repetitions, all of one run, in which the objects take turns.
 
 mod benches;
+mod called;
 mod objects;
 mod parts;
 mod raw;

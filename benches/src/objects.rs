@@ -1,5 +1,6 @@
 //! The objects that are compared. Each thread has a face of its own.
 
+use crate::called::Called;
 use crate::raw;
 use partial_door::{Memory, Port, Sizes};
 use std::sync::atomic::{AtomicU64, Ordering::SeqCst};
@@ -232,7 +233,7 @@ impl Face for Plain {
     }
 }
 
-pub const NAMES: [&str; 7] = ["door", "raw", "mutex", "rwlock", "seqlock", "collects", "plain"];
+pub const NAMES: [&str; 8] = ["door", "raw", "called", "mutex", "rwlock", "seqlock", "collects", "plain"];
 
 /// The greatest sizes.
 pub const SIZES: Sizes = Sizes { slots: 65_536, list_words: 65_536, pool_words: 4_194_304 };
@@ -256,6 +257,10 @@ pub fn faces(name: &str, m: usize, threads: usize) -> (Option<Memory>, Vec<Box<d
             (Some(memory), ports.into_iter().map(boxed).collect())
         }
         "raw" => (None, raw::open(&zeros, SIZES, threads as u32).into_iter().map(boxed).collect()),
+        "called" => {
+            let ports = raw::open(&zeros, SIZES, threads as u32).into_iter();
+            (None, ports.map(|port| boxed(Called(port))).collect())
+        }
         "mutex" => all(Locked(Arc::new(Mutex::new(zeros))), threads),
         "rwlock" => all(Shared(Arc::new(RwLock::new(zeros))), threads),
         "seqlock" => all(Seqlock(Arc::new((AtomicU64::new(0), words(m)))), threads),

@@ -6,6 +6,7 @@ use crate::parts::Sample;
 
 const DOOR: usize = 0;
 const RAW: usize = 1;
+const CALLED: usize = 2;
 
 /// The samples of each bench and object, one for each repetition.
 pub struct Results(Vec<Vec<Vec<Sample>>>);
@@ -41,13 +42,14 @@ impl Results {
     }
 
     fn print_ratios(&self) {
-        println!("| door, of raw | speed | time |");
-        println!("|---|---|---|");
+        println!("| door | speed, of raw | of called | time, of raw | of called |");
+        println!("|---|---|---|---|---|");
         for (bench, samples) in BENCHES.iter().zip(&self.0) {
+            let (door, raw, called) = (&samples[DOOR], &samples[RAW], &samples[CALLED]);
             for (at, title) in titles(bench) {
                 match bench.is_time {
-                    true => println!("| {title} | - | {} |", ratio(&samples[DOOR], &samples[RAW], at)),
-                    false => println!("| {title} | {} | - |", ratio(&samples[RAW], &samples[DOOR], at)),
+                    true => println!("| {title} | - | - | {} | {} |", ratio(door, raw, at), ratio(door, called, at)),
+                    false => println!("| {title} | {} | {} | - | - |", ratio(raw, door, at), ratio(called, door, at)),
                 }
             }
         }
