@@ -62,6 +62,12 @@ no_cut [] h = refl
 no_cut (x ∷ []) h = refl
 no_cut (x ∷ y ∷ xs) h = absurd (omega arith)
 
+-- the text before a cut, and the texts behind it
+pub ruleset texts_cut = (with_front_nil, texts_here, texts_more, texts_end)
+
+-- what is left where a cut may stand
+pub ruleset texts_behind = (behind_cut, no_cut)
+
 -- the next call of a port line
 pub next_call : (m line : ℕ) (found all : List Call) (first : List ℕ) (rest : List ℕ) (call : Call) (next behind : List ℕ) (judged : Result (List Call) PlanError) →
     call_at m line first ≡ Ok call → 2 ≤ length rest

@@ -98,7 +98,7 @@ fn is_cut(text: &[u8]) -> bool
 }
 
 /// The text before the first semicolon that a space follows, and from it on.
-#[tactic(auto, using(crate::proofs::CallCuts::with_front_nil, crate::proofs::CallCuts::texts_here, crate::proofs::CallCuts::texts_more, crate::proofs::CallCuts::texts_end))]
+#[tactic(auto, using(crate::proofs::CallCuts::texts_cut))]
 fn split_call(text: &[u8]) -> (&[u8], &[u8])
     ensures shorter { length result.1.now ≤ length text.now }
     ensures split { call_texts text.now ≡ result.0.now ∷ call_texts_behind result.1.now }
@@ -112,7 +112,7 @@ fn split_call(text: &[u8]) -> (&[u8], &[u8])
 }
 
 /// The calls that the texts between one semicolon with a space and the next are.
-#[tactic(auto, unfolding(crate::specs::Judging::calls_at), using(crate::proofs::CallCuts::behind_cut, crate::proofs::CallCuts::no_cut))]
+#[tactic(auto, unfolding(crate::specs::Judging::calls_at), using(crate::proofs::CallCuts::texts_behind))]
 fn calls_of(alloc: Global, m: u32, line: u32, text: &[u8]) -> Result<Vec<Call>, PlanError>
     ensures { Gives (λ v. v.items) result (calls_at m line [] (call_texts text.now)) }
 {
