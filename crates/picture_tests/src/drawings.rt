@@ -1,10 +1,10 @@
 //! Drawings, and what stands in them how often.
 
-use super::{borrowed_view_plan, count, drawn, lost_exchange_plan, refused_plan, replayed};
-use crate::entries::labels_of;
-use crate::pixels::Pixels;
-use crate::svg::{fitted, push_escaped};
-use crate::{Form, Window};
+use super::examples::{
+    borrowed_view_plan, count, drawn, lost_exchange_plan, refused_plan, replayed,
+};
+use partial_labels::{Pixels, fitted, labels_of, push_escaped};
+use partial_picture::{Form, Window};
 use partial_replay::Event;
 use partial_words::Step;
 use std::test::Fail;

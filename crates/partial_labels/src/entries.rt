@@ -1,11 +1,14 @@
 //! Where the words of the entries of the history stand: in tiers above its line, so that those of entries that are
 //! near one another are read whole.
 
+ghost use Rattle.std.specs.Prelude.{◌≡◌, ◌≤◌, All, length, IfOk};
+ghost use Rattle.partial_labels.specs.Lengths.{product_of};
+
 use crate::pixels::Pixels;
 use std::alloc::{AllocError, Global};
 
 /// How many tiers there are at most.
-const TIERS: usize = 3;
+pub const TIERS: usize = 3;
 
 /// How wide the words of an entry mostly are.
 const WIDTH: u64 = 160;
@@ -14,17 +17,19 @@ const WIDTH: u64 = 160;
 const TIER: u64 = 28;
 
 /// Where the words of an entry stand.
-#[derive(Clone, Copy)]
-pub(crate) struct Label {
+#[derive(Clone, Copy, Debug, PartialEq, Eq)]
+pub struct Label {
     /// Its tier, counted from 0 from the line of the history upwards.
-    tier: usize,
+    pub tier: usize,
     /// How far from their left side they may go: to the next words of their tier.
-    pub(crate) room: Pixels,
+    pub room: Pixels,
 }
 
 impl Label {
-    /// How far above the lowest tier the words stand.
-    pub(crate) fn raised(&self) -> u64 {
+    /// How far above the lowest tier the words stand: 28 for each tier.
+    pub fn raised(&self) -> u64
+        ensures { result ≡ product_of 28 self.now.tier }
+    {
         (Pixels(TIER) * self.tier).0
     }
 }
@@ -43,12 +48,14 @@ fn tier_at(ends: &[Pixels], place: Pixels) -> usize {
     first.0
 }
 
-/// The labels of entries at rising places, in a drawing that is so wide.
-pub(crate) fn labels_of(
-    alloc: Global,
-    places: &[Pixels],
-    width: Pixels,
-) -> Result<Vec<Label>, AllocError> {
+/// The labels of entries at rising places, in a drawing that is so wide: one for each place, in order.
+///
+/// # Errors
+///
+/// An error where a growth was refused.
+pub fn labels_of(alloc: Global, places: &[Pixels], width: Pixels) -> Result<Vec<Label>, AllocError>
+    ensures { IfOk result (λ labels. length labels.items ≡ length places.now) }
+{
     let mut labels = Vec::with_capacity(alloc, places.len())?;
     let mut ends = [Pixels(0); TIERS];
     for place in places {
@@ -74,6 +81,8 @@ fn make_room(labels: &mut [Label], places: &[Pixels], width: Pixels) {
 }
 
 /// How high the tiers of these labels are, but for the lowest one.
-pub(crate) fn raised_by(labels: &[Label]) -> u64 {
+pub fn raised_by(labels: &[Label]) -> u64
+    ensures { All (λ label. product_of 28 label.tier ≤ result) labels.now }
+{
     labels.iter().map(|label| label.raised()).max().unwrap_or(0)
 }

@@ -1,12 +1,6 @@
-//! Pictures of replays that were worked out by hand.
+//! Plans whose pictures were worked out by hand, and what the tests of pictures share.
 
-mod drawings;
-mod growths;
-mod labels;
-mod tables;
-mod windows;
-
-use crate::{Form, Window, draw};
+use partial_picture::{Form, Window, draw};
 use partial_replay::{Device, Outcome, Plan, replay};
 use std::alloc::Global;
 use std::test::Fail;

@@ -1,7 +1,7 @@
 //! Windows, and what is refused.
 
-use super::{borrowed_view_plan, count, drawn, lost_exchange_plan};
-use crate::{Fault, Form, PictureError, Window, draw};
+use super::examples::{borrowed_view_plan, count, drawn, lost_exchange_plan};
+use partial_picture::{Fault, Form, PictureError, Window, draw};
 use partial_replay::{Cause, Device, OutcomeError, PlanError, ReplayError};
 use std::io;
 use std::io::Write;

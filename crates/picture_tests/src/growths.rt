@@ -1,7 +1,7 @@
 //! Growths that are refused, one after another: the script that runs these tests says which.
 
-use super::borrowed_view_plan;
-use crate::{Form, Window, draw};
+use super::examples::borrowed_view_plan;
+use partial_picture::{Form, Window, draw};
 use partial_replay::Device;
 use std::alloc::Global;
 use std::io;

@@ -1,7 +1,7 @@
 //! Pictures for terminals.
 
-use super::{drawn, lost_exchange_plan};
-use crate::{Form, Window};
+use super::examples::{drawn, lost_exchange_plan};
+use partial_picture::{Form, Window};
 use std::test::Fail;
 
 #[test]

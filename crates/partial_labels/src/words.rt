@@ -1,12 +1,41 @@
 //! The words of labels: those of plans and outcomes.
 
-use crate::picture::{Mark, Shape};
+ghost use Rattle.std.specs.Prelude.{◌≡◌, ◌++◌, IfOk, OnOk, string_bytes};
+ghost use Rattle.std.specs.List.{flat_map};
+ghost use Rattle.partial_labels.specs.Words.{spaced, end_words, call_words, finish_words, refusal_of, entry_words, step_words, word_name};
+
 use partial_model::{Answer, Applied, Call, Called, Note, Refused};
-use partial_words::{Sizes, Step};
+use partial_words::{Event, Sizes, Step};
 use std::alloc::{AllocError, Global};
 
+/// Writes each index behind a space.
+fn push_indices(words: &mut String, indices: &[u32]) -> Result<(), AllocError>
+    ensures { OnOk result (string_bytes words.new ≡ string_bytes words.old ++ flat_map spaced indices.now) }
+{
+    for index in indices {
+        write!(words, " {index}")?;
+    }
+    Ok(())
+}
+
+/// Writes each value behind a space.
+fn push_values(words: &mut String, values: &[u64]) -> Result<(), AllocError>
+    ensures { OnOk result (string_bytes words.new ≡ string_bytes words.old ++ flat_map spaced values.now) }
+{
+    for value in values {
+        write!(words, " {value}")?;
+    }
+    Ok(())
+}
+
 /// A call, as in a plan.
-pub(crate) fn call_words(alloc: Global, call: &Call) -> Result<String, AllocError> {
+///
+/// # Errors
+///
+/// An error where a growth was refused, as of each of these functions.
+pub fn call_words(alloc: Global, call: &Call) -> Result<String, AllocError>
+    ensures { IfOk result (λ words. string_bytes words ≡ call_words call.now) }
+{
     match call {
         Call::Update { component, value } => format!(in alloc; "update {component} {value}"),
         Call::Read { component } => format!(in alloc; "read {component}"),
@@ -17,16 +46,16 @@ pub(crate) fn call_words(alloc: Global, call: &Call) -> Result<String, AllocErro
         } => format!(in alloc; "updateif {component} {expected} {value}"),
         Call::Scan { components } => {
             let mut words = String::from_str(alloc, "scan")?;
-            for component in components.as_slice() {
-                write!(words, " {component}")?;
-            }
+            push_indices(&mut words, components.as_slice())?;
             Ok(words)
         }
     }
 }
 
 /// What came of a call, as in an outcome up to its number of steps.
-pub(crate) fn finish_words(alloc: Global, called: &Called) -> Result<String, AllocError> {
+pub fn finish_words(alloc: Global, called: &Called) -> Result<String, AllocError>
+    ensures { IfOk result (λ words. string_bytes words ≡ finish_words called.now.finish) }
+{
     let Some(finish) = &called.finish else {
         return String::from_str(alloc, "unfinished");
     };
@@ -48,21 +77,35 @@ pub(crate) fn finish_words(alloc: Global, called: &Called) -> Result<String, All
             borrowed,
         } => {
             let mut words = String::from_str(alloc, "scanned")?;
-            for value in values.as_slice() {
-                write!(words, " {value}")?;
-            }
-            write!(words, " prefix {place} collects {collects} borrowed ")?;
-            match borrowed {
-                Some(stamp) => write!(words, "{stamp}")?,
-                None => words.push('-')?,
-            }
+            push_values(&mut words, values.as_slice())?;
+            push_end(&mut words, place, *collects, *borrowed)?;
             Ok(words)
         }
     }
 }
 
+/// Writes what a scan tells behind its values.
+fn push_end(
+    words: &mut String,
+    prefix: usize,
+    collects: u32,
+    borrowed: Option<u64>,
+) -> Result<(), AllocError>
+    ensures { OnOk result (string_bytes words.new ≡ string_bytes words.old ++ end_words prefix collects borrowed) }
+{
+    match borrowed {
+        Some(stamp) => write!(
+            words,
+            " prefix {prefix} collects {collects} borrowed {stamp}"
+        ),
+        None => write!(words, " prefix {prefix} collects {collects} borrowed -"),
+    }
+}
+
 /// The number of a refusal of a call.
-fn refusal(cause: Refused) -> u8 {
+fn refusal(cause: Refused) -> u8
+    ensures { result ≡ refusal_of cause }
+{
     match cause {
         Refused::Component => 7,
         Refused::SlotsSpent => 8,
@@ -71,11 +114,9 @@ fn refusal(cause: Refused) -> u8 {
 }
 
 /// An entry of the history, as in an outcome.
-pub(crate) fn entry_words(
-    alloc: Global,
-    place: usize,
-    entry: &Applied,
-) -> Result<String, AllocError> {
+pub fn entry_words(alloc: Global, place: usize, entry: &Applied) -> Result<String, AllocError>
+    ensures { IfOk result (λ words. string_bytes words ≡ entry_words place entry.now) }
+{
     let Applied {
         port,
         component,
@@ -88,21 +129,27 @@ pub(crate) fn entry_words(
 }
 
 /// A step with its answer.
-pub(crate) fn step_words(alloc: Global, mark: &Mark) -> Result<String, AllocError> {
-    let answer = mark.event.answer;
-    match mark.event.step {
+pub fn step_words(alloc: Global, event: &Event) -> Result<String, AllocError>
+    ensures { IfOk result (λ words. string_bytes words ≡ step_words event.now.step event.now.answer) }
+{
+    let answer = event.answer;
+    match event.step {
         Step::Load(word) => format!(in alloc; "load {word}: {answer}"),
         Step::Store(word, value) => format!(in alloc; "store {word} {value}"),
         Step::Add(word, amount) => format!(in alloc; "add {word} {amount}: {answer}"),
-        Step::Exchange(word, old, new) => match mark.shape {
-            Shape::Won => format!(in alloc; "exchange {word} {old} {new}: won"),
-            _ => format!(in alloc; "exchange {word} {old} {new}: lost to {answer}"),
-        },
+        Step::Exchange(word, old, new) if answer == old => {
+            format!(in alloc; "exchange {word} {old} {new}: won")
+        }
+        Step::Exchange(word, old, new) => {
+            format!(in alloc; "exchange {word} {old} {new}: lost to {answer}")
+        }
     }
 }
 
 /// What a word of a memory is.
-pub(crate) fn word_words(alloc: Global, sizes: Sizes, word: u32) -> Result<String, AllocError> {
+pub fn word_words(alloc: Global, sizes: Sizes, word: u32) -> Result<String, AllocError>
+    ensures { IfOk result (λ words. string_bytes words ≡ word_name sizes word) }
+{
     let m = sizes.m();
     if word < m {
         format!(in alloc; "component {word}")
