@@ -78,7 +78,7 @@ refuse_all client_tests 'rounds::growths::.*'
 refuse_all replay_tests 'commands::growths::.*'
 refuse_all memory_tests 'growths::.*'
 refuse_all client_tests 'pipeline::growths::.*'
-refuse_all partial_picture 'tests::growths::.*' manages
+refuse_all picture_tests 'growths::.*' manages
 
 echo "$passed passed, $failed failed"
 [ "$failed" -eq 0 ]

@@ -1,7 +1,7 @@
 //! The form of a picture for terminals: a line for each step, and a column for each port.
 
 use crate::picture::{Bar, Mark, Picture, Pin};
-use crate::words::{call_words, entry_words, finish_words, step_words};
+use partial_labels::{call_words, entry_words, finish_words, step_words};
 use std::alloc::{AllocError, Global};
 
 /// What is told beside the steps: where a call begins and ends, and where an entry is added.
@@ -85,7 +85,7 @@ fn remarks_of(alloc: Global, picture: &Picture<'_>) -> Result<Remarks, AllocErro
 fn cells_of(alloc: Global, marks: &[Mark]) -> Result<Vec<String>, AllocError> {
     let mut cells = Vec::with_capacity(alloc, marks.len())?;
     for mark in marks {
-        cells.push(step_words(alloc, mark)?)?;
+        cells.push(step_words(alloc, &mark.event)?)?;
     }
     Ok(cells)
 }

@@ -1,8 +1,7 @@
 //! Where everything stands in a drawing: steps from left to right, lanes from top to bottom.
 
-use crate::entries::{Label, labels_of, raised_by};
 use crate::picture::{Bar, Picture, Pin};
-use crate::pixels::Pixels;
+use partial_labels::{Label, Pixels, labels_of, raised_by};
 use std::alloc::{AllocError, Global};
 
 /// Where the first step begins: names of lanes stand in front of it.

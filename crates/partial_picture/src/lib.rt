@@ -4,16 +4,13 @@
 mod arrows;
 mod columns;
 mod command;
-mod entries;
 mod fault;
 mod layout;
 mod legend;
 mod picture;
-mod pixels;
 mod spans;
 mod svg;
 mod window;
-mod words;
 
 pub use columns::table;
 pub use command::{Form, draw};
@@ -21,6 +18,3 @@ pub use fault::{Fault, PictureError};
 pub use picture::{Arrow, ArrowKind, Bar, Mark, Picture, Pin, Shape};
 pub use svg::drawing;
 pub use window::{MOST_STEPS, Span, Window};
-
-#[cfg(test)]
-mod tests;

@@ -1,30 +1,13 @@
 //! The drawing of a picture in SVG.
 
-use crate::entries::Label;
 use crate::layout::{Layout, Sides};
 use crate::legend::{STYLE, push_legend};
 use crate::picture::{Arrow, ArrowKind, Bar, Mark, Picture, Pin, Shape};
-use crate::pixels::Pixels;
-use crate::words::{call_words, entry_words, finish_words, step_words, word_words};
+use partial_labels::{
+    Label, Pixels, call_words, entry_words, finish_words, fitted, push_escaped, step_words,
+    word_words,
+};
 use std::alloc::{AllocError, Global};
-
-/// How wide a letter is, with some room.
-const LETTER: u64 = 7;
-
-/// Writes words so that no reader of SVG takes any part of them for anything else.
-pub(crate) fn push_escaped(text: &mut String, words: &str) -> Result<(), AllocError> {
-    for letter in words.chars() {
-        match letter {
-            '&' => text.push_str("&amp;")?,
-            '<' => text.push_str("&lt;")?,
-            '>' => text.push_str("&gt;")?,
-            '"' => text.push_str("&quot;")?,
-            '\'' => text.push_str("&#39;")?,
-            _ => text.push(letter)?,
-        }
-    }
-    Ok(())
-}
 
 /// Writes words at a place.
 pub(crate) fn push_words(
@@ -57,20 +40,6 @@ fn push_line(
         text,
         "<line class=\"{class}\" x1=\"{x1}\" y1=\"{y1}\" x2=\"{x2}\" y2=\"{y2}\"/>"
     )
-}
-
-/// The words that fit into a room, cut with three dots where not all do. No words where hardly any do.
-pub(crate) fn fitted(alloc: Global, words: &str, room: Pixels) -> Result<String, AllocError> {
-    let letters = (room.0 / LETTER) as usize;
-    if words.len() <= letters {
-        return String::from_str(alloc, words);
-    }
-    if letters < 3 {
-        return Ok(String::new(alloc));
-    }
-    let mut cut: String = words.chars().take(letters - 1).collect(alloc)?;
-    cut.push('…')?;
-    Ok(cut)
 }
 
 /// Writes the shape of a mark round a place, as a symbol without its words and its end.
@@ -199,7 +168,7 @@ fn push_mark(
 ) -> Result<(), AllocError> {
     let end = push_shape(text, mark.shape, x, y)?;
     let port = mark.event.port;
-    let words = step_words(alloc, mark)?;
+    let words = step_words(alloc, &mark.event)?;
     let title = format!(in alloc; "step {step} of port {port}: {words}")?;
     push_title(text, &title, end)
 }

@@ -1,0 +1,171 @@
+//! The words of labels: those of plans and outcomes.
+
+ghost use Rattle.std.specs.Prelude.{◌≡◌, ◌++◌, IfOk, OnOk, string_bytes};
+ghost use Rattle.std.specs.List.{flat_map};
+ghost use Rattle.partial_labels.specs.Words.{spaced, end_words, call_words, finish_words, refusal_of, entry_words, step_words, word_name};
+
+use partial_model::{Answer, Applied, Call, Called, Note, Refused};
+use partial_words::{Event, Sizes, Step};
+use std::alloc::{AllocError, Global};
+
+/// Writes each index behind a space.
+fn push_indices(words: &mut String, indices: &[u32]) -> Result<(), AllocError>
+    ensures { OnOk result (string_bytes words.new ≡ string_bytes words.old ++ flat_map spaced indices.now) }
+{
+    for index in indices {
+        write!(words, " {index}")?;
+    }
+    Ok(())
+}
+
+/// Writes each value behind a space.
+fn push_values(words: &mut String, values: &[u64]) -> Result<(), AllocError>
+    ensures { OnOk result (string_bytes words.new ≡ string_bytes words.old ++ flat_map spaced values.now) }
+{
+    for value in values {
+        write!(words, " {value}")?;
+    }
+    Ok(())
+}
+
+/// A call, as in a plan.
+///
+/// # Errors
+///
+/// An error where a growth was refused, as of each of these functions.
+pub fn call_words(alloc: Global, call: &Call) -> Result<String, AllocError>
+    ensures { IfOk result (λ words. string_bytes words ≡ call_words call.now) }
+{
+    match call {
+        Call::Update { component, value } => format!(in alloc; "update {component} {value}"),
+        Call::Read { component } => format!(in alloc; "read {component}"),
+        Call::UpdateIf {
+            component,
+            expected,
+            value,
+        } => format!(in alloc; "updateif {component} {expected} {value}"),
+        Call::Scan { components } => {
+            let mut words = String::from_str(alloc, "scan")?;
+            push_indices(&mut words, components.as_slice())?;
+            Ok(words)
+        }
+    }
+}
+
+/// What came of a call, as in an outcome up to its number of steps.
+pub fn finish_words(alloc: Global, called: &Called) -> Result<String, AllocError>
+    ensures { IfOk result (λ words. string_bytes words ≡ finish_words called.now.finish) }
+{
+    let Some(finish) = &called.finish else {
+        return String::from_str(alloc, "unfinished");
+    };
+    let place = match finish.note {
+        None => 0,
+        Some(Note::Wrote(place) | Note::Lost(place) | Note::Saw(place)) => place,
+    };
+    match &finish.answer {
+        Answer::Applied { stamp } => format!(in alloc; "applied {stamp} place {place}"),
+        Answer::Lost { by } => format!(in alloc; "lost {by} place {place}"),
+        Answer::Changed { by } => format!(in alloc; "changed {by} prefix {place}"),
+        Answer::Read { value, stamp } => {
+            format!(in alloc; "read {value} {stamp} prefix {place}")
+        }
+        Answer::Refused { cause } => format!(in alloc; "refused {}", refusal(*cause)),
+        Answer::Scanned {
+            values,
+            collects,
+            borrowed,
+        } => {
+            let mut words = String::from_str(alloc, "scanned")?;
+            push_values(&mut words, values.as_slice())?;
+            push_end(&mut words, place, *collects, *borrowed)?;
+            Ok(words)
+        }
+    }
+}
+
+/// Writes what a scan tells behind its values.
+fn push_end(
+    words: &mut String,
+    prefix: usize,
+    collects: u32,
+    borrowed: Option<u64>,
+) -> Result<(), AllocError>
+    ensures { OnOk result (string_bytes words.new ≡ string_bytes words.old ++ end_words prefix collects borrowed) }
+{
+    match borrowed {
+        Some(stamp) => write!(
+            words,
+            " prefix {prefix} collects {collects} borrowed {stamp}"
+        ),
+        None => write!(words, " prefix {prefix} collects {collects} borrowed -"),
+    }
+}
+
+/// The number of a refusal of a call.
+fn refusal(cause: Refused) -> u8
+    ensures { result ≡ refusal_of cause }
+{
+    match cause {
+        Refused::Component => 7,
+        Refused::SlotsSpent => 8,
+        Refused::PoolSpent => 9,
+    }
+}
+
+/// An entry of the history, as in an outcome.
+pub fn entry_words(alloc: Global, place: usize, entry: &Applied) -> Result<String, AllocError>
+    ensures { IfOk result (λ words. string_bytes words ≡ entry_words place entry.now) }
+{
+    let Applied {
+        port,
+        component,
+        value,
+        stamp,
+    } = *entry;
+    format!(in alloc;
+        "applied {place} port {port} component {component} value {value} stamp {stamp}"
+    )
+}
+
+/// A step with its answer.
+pub fn step_words(alloc: Global, event: &Event) -> Result<String, AllocError>
+    ensures { IfOk result (λ words. string_bytes words ≡ step_words event.now.step event.now.answer) }
+{
+    let answer = event.answer;
+    match event.step {
+        Step::Load(word) => format!(in alloc; "load {word}: {answer}"),
+        Step::Store(word, value) => format!(in alloc; "store {word} {value}"),
+        Step::Add(word, amount) => format!(in alloc; "add {word} {amount}: {answer}"),
+        Step::Exchange(word, old, new) if answer == old => {
+            format!(in alloc; "exchange {word} {old} {new}: won")
+        }
+        Step::Exchange(word, old, new) => {
+            format!(in alloc; "exchange {word} {old} {new}: lost to {answer}")
+        }
+    }
+}
+
+/// What a word of a memory is.
+pub fn word_words(alloc: Global, sizes: Sizes, word: u32) -> Result<String, AllocError>
+    ensures { IfOk result (λ words. string_bytes words ≡ word_name sizes word) }
+{
+    let m = sizes.m();
+    if word < m {
+        format!(in alloc; "component {word}")
+    } else if word == sizes.slot_counter() {
+        String::from_str(alloc, "slot counter")
+    } else if word == sizes.list_head() {
+        String::from_str(alloc, "list head")
+    } else if word == sizes.pool_counter() {
+        String::from_str(alloc, "pool counter")
+    } else if word == sizes.list_counter() {
+        String::from_str(alloc, "list counter")
+    } else if word < sizes.list_base() {
+        format!(in alloc; "slot {}", word - m - 4)
+    } else if word < sizes.list_end() {
+        format!(in alloc; "list word {word}")
+    } else {
+        format!(in alloc; "pool word {word}")
+    }
+}
