@@ -32,7 +32,7 @@ fn push_values(words: &mut String, values: &[u64]) -> Result<(), AllocError>
 ///
 /// # Errors
 ///
-/// An error where a growth was refused, as of each of these functions.
+/// An error where a growth was refused.
 pub fn call_words(alloc: Global, call: &Call) -> Result<String, AllocError>
     ensures { IfOk result (λ words. string_bytes words ≡ call_words call.now) }
 {
@@ -53,6 +53,10 @@ pub fn call_words(alloc: Global, call: &Call) -> Result<String, AllocError>
 }
 
 /// What came of a call, as in an outcome up to its number of steps.
+///
+/// # Errors
+///
+/// An error where a growth was refused.
 pub fn finish_words(alloc: Global, called: &Called) -> Result<String, AllocError>
     ensures { IfOk result (λ words. string_bytes words ≡ finish_words called.now.finish) }
 {
@@ -114,6 +118,10 @@ fn refusal(cause: Refused) -> u8
 }
 
 /// An entry of the history, as in an outcome.
+///
+/// # Errors
+///
+/// An error where a growth was refused.
 pub fn entry_words(alloc: Global, place: usize, entry: &Applied) -> Result<String, AllocError>
     ensures { IfOk result (λ words. string_bytes words ≡ entry_words place entry.now) }
 {
@@ -129,6 +137,10 @@ pub fn entry_words(alloc: Global, place: usize, entry: &Applied) -> Result<Strin
 }
 
 /// A step with its answer.
+///
+/// # Errors
+///
+/// An error where a growth was refused.
 pub fn step_words(alloc: Global, event: &Event) -> Result<String, AllocError>
     ensures { IfOk result (λ words. string_bytes words ≡ step_words event.now.step event.now.answer) }
 {
@@ -147,6 +159,10 @@ pub fn step_words(alloc: Global, event: &Event) -> Result<String, AllocError>
 }
 
 /// What a word of a memory is.
+///
+/// # Errors
+///
+/// An error where a growth was refused.
 pub fn word_words(alloc: Global, sizes: Sizes, word: u32) -> Result<String, AllocError>
     ensures { IfOk result (λ words. string_bytes words ≡ word_name sizes word) }
 {
