@@ -160,36 +160,45 @@ fn monitor(name: &str) -> Sample {
 fn scan_beside_writers(name: &str) -> (Parts, Vec<Parts>) {
     let (_memory, mut all) = faces(name, M, WRITERS + 1);
     let mut eye = all.pop().expect("a face for each thread");
-    let (at_work, over) = (AtomicUsize::new(0), AtomicBool::new(false));
+    let (ready, at_work) = (AtomicUsize::new(0), AtomicUsize::new(WRITERS));
+    let writing = Writing { ready, at_work, over: AtomicBool::new(false) };
     std::thread::scope(|scope| {
-        let (at_work, over) = (&at_work, &over);
+        let writing = &writing;
         let writer = |(thread, mut face): (usize, Box<dyn Face>)| {
-            scope.spawn(move || write(&mut *face, thread as u32, at_work, over))
+            scope.spawn(move || write(&mut *face, thread as u32, writing))
         };
         let writers: Vec<_> = all.into_iter().enumerate().map(writer).collect();
-        while at_work.load(SeqCst) < WRITERS {
-            std::hint::spin_loop();
-        }
         let mut scans = Parts::new();
+        wait_for(&writing.ready, WRITERS + 1);
         for call in 0..SCANS {
-            scans.time(|| scan::<8>(&mut *eye, 0, call), || at_work.load(SeqCst) == WRITERS);
+            scans.time(|| scan::<8>(&mut *eye, 0, call), || writing.at_work.load(SeqCst) == WRITERS);
         }
-        over.store(true, SeqCst);
+        writing.over.store(true, SeqCst);
         (scans, writers.into_iter().map(|writer| writer.join().expect("it ends")).collect())
     })
 }
 
-// Updates until the end, or until the pool of a memory is used up. The first thousand updates are no work yet.
-fn write(face: &mut dyn Face, thread: u32, at_work: &AtomicUsize, over: &AtomicBool) -> Parts {
+// What a monitor and its writers share: how many of them are ready, how many writers haven't ended, and whether the
+// monitor has made its scans.
+struct Writing {
+    ready: AtomicUsize,
+    at_work: AtomicUsize,
+    over: AtomicBool,
+}
+
+// Updates until the end, or until the pool of a memory is used up. The first thousand updates are made before the
+// monitor begins.
+fn write(face: &mut dyn Face, thread: u32, writing: &Writing) -> Parts {
     make_calls(face, thread, 0, update);
     let mut parts = Parts::new();
-    at_work.fetch_add(1, SeqCst);
-    let mut goes_on = |call: u32| !over.load(SeqCst) && face.update((thread + call) % M as u32, u64::from(call));
+    wait_for(&writing.ready, WRITERS + 1);
+    let mut goes_on =
+        |call: u32| !writing.over.load(SeqCst) && face.update((thread + call) % M as u32, u64::from(call));
     let mut part = 1;
     while parts.time(|| (part * CALLS..(part + 1) * CALLS).all(&mut goes_on), || true) {
         part += 1;
     }
-    at_work.fetch_sub(1, SeqCst);
+    writing.at_work.fetch_sub(1, SeqCst);
     parts
 }
 

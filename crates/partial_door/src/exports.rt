@@ -15,7 +15,6 @@ use std::alloc::Global;
 /// Sets a component.
 #[unsafe(no_mangle)]
 pub extern "C" fn partial_door_update(
-    alloc: Global,
     port: &mut Handle,
     component: u32,
     value: u64,
@@ -33,7 +32,6 @@ pub extern "C" fn partial_door_update(
 /// Sets a component where it has the expected stamp.
 #[unsafe(no_mangle)]
 pub extern "C" fn partial_door_update_if(
-    alloc: Global,
     port: &mut Handle,
     component: u32,
     expected: u64,
@@ -52,7 +50,6 @@ pub extern "C" fn partial_door_update_if(
 /// Reads a component.
 #[unsafe(no_mangle)]
 pub extern "C" fn partial_door_read(
-    alloc: Global,
     port: &mut Handle,
     component: u32,
     answer: &mut ReadAnswer,
@@ -69,7 +66,6 @@ pub extern "C" fn partial_door_read(
 /// Scans components.
 #[unsafe(no_mangle)]
 pub extern "C" fn partial_door_scan(
-    alloc: Global,
     port: &mut Handle,
     which: &[u32],
     into: &mut [u64],
@@ -86,11 +82,7 @@ pub extern "C" fn partial_door_scan(
 
 /// Gives the number and the marks of a port.
 #[unsafe(no_mangle)]
-pub extern "C" fn partial_door_state(
-    alloc: Global,
-    port: &mut Handle,
-    answer: &mut PortState,
-) -> u32
+pub extern "C" fn partial_door_state(port: &mut Handle, answer: &mut PortState) -> u32
     ensures { AtHandle (answer.new ≡ answer.old) (StateEnds answer.new) port.old.held result port.new.held }
 {
     let Some(held) = port.held() else {
@@ -212,7 +204,7 @@ pub extern "C" fn partial_door_give_port(
 
 /// Lets two ports of a memory see all that either has seen.
 #[unsafe(no_mangle)]
-pub extern "C" fn partial_door_meet(alloc: Global, first: &mut Handle, second: &mut Handle) -> u32
+pub extern "C" fn partial_door_meet(first: &mut Handle, second: &mut Handle) -> u32
     requires { (h k : HeldType) → first.old.held ≡ Some h → second.old.held ≡ Some k → AreApart h k }
     ensures { MeetsHandles first.old.held second.old.held result first.new.held second.new.held }
 {
@@ -245,7 +237,7 @@ pub extern "C" fn partial_door_close(alloc: Global, memory: &mut Handle) -> u32
 
 /// Copies the values of a closed memory.
 #[unsafe(no_mangle)]
-pub extern "C" fn partial_door_values(alloc: Global, closed: &mut Handle, into: &mut [u64]) -> u32
+pub extern "C" fn partial_door_values(closed: &mut Handle, into: &mut [u64]) -> u32
     ensures same { closed.new.held ≡ closed.old.held }
     ensures copied { CopiesAt closed.old.held into.old result into.new }
 {
