@@ -1,6 +1,7 @@
 -- Words in a drawing: escaped, and cut to their room.
-use Rattle.std.specs.Prelude.{ℕ, ◌≡◌, ◌==◌, List, ◌++◌, codes, encode_utf8, encode_utf8_all, if◌then◌else◌}
+use Rattle.std.specs.Prelude.{ℕ, ◌≡◌, ◌==◌, ◌-◌, List, ◌++◌, codes, encode_utf8, encode_utf8_all, take, if◌then◌else◌}
 use Rattle.std.specs.List.{flat_map}
+use Rattle.std.specs.Str.{chars}
 
 -- a letter, so that no reader of SVG takes it for anything else
 abbrev pub escaped : ℕ → List ℕ
@@ -11,3 +12,7 @@ escaped letter = if letter == 38 then codes "&amp;" else if letter == 60 then co
 -- a text goes on with the letters of words, each escaped
 abbrev pub Escapes : List ℕ → List ℕ → List ℕ → Type 0
 Escapes words before after = (letters : List ℕ) × (encode_utf8_all letters ≡ words) × (after ≡ before ++ flat_map escaped letters)
+
+-- words cut to so many letters, of which the last is that of three dots
+abbrev pub cut_to : ℕ → List ℕ → List ℕ
+cut_to n words = encode_utf8_all (take (n - 1) (chars words)) ++ encode_utf8 8230

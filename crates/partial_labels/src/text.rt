@@ -1,7 +1,7 @@
 //! Words as they stand in a drawing.
 
 ghost use Rattle.std.specs.Prelude.{◌≡◌, ◌≤◌, ◌<◌, ◌/◌, ◌++◌, [], length, IfOk, OnOk, string_bytes};
-ghost use Rattle.partial_labels.specs.Texts.{escaped, Escapes};
+ghost use Rattle.partial_labels.specs.Texts.{escaped, Escapes, cut_to};
 
 use crate::pixels::Pixels;
 use std::alloc::{AllocError, Global};
@@ -47,6 +47,8 @@ pub fn fitted(alloc: Global, words: &str, room: Pixels) -> Result<String, AllocE
     ensures whole { length words.now ≤ room.0 / 7 → IfOk result (λ shown. string_bytes shown ≡ words.now) }
     ensures none { room.0 / 7 < length words.now → room.0 / 7 < 3 →
         IfOk result (λ shown. string_bytes shown ≡ []) }
+    ensures cut { room.0 / 7 < length words.now → 3 ≤ room.0 / 7 →
+        IfOk result (λ shown. string_bytes shown ≡ cut_to (room.0 / 7) words.now) }
 {
     let letters = (room.0 / LETTER) as usize;
     if words.len() <= letters {
