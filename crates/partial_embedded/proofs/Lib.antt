@@ -1,4 +1,5 @@
 pub mod Keeps
+mod Loaded
 pub mod RunLaws
 pub mod Traces
 pub mod Ends

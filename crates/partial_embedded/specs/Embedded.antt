@@ -25,6 +25,10 @@ pub record RowsState : Type 0 where
   pub changed : List Bool
   pub values : List ℕ
 
+-- the buffers that are these three
+abbrev pub buffers : List ℕ → List Bool → List ℕ → RowsState
+buffers last changed values = record { last = last; changed = changed; values = values }
+
 -- the machine and its buffers
 abbrev pub Pair : Type 0
 Pair = EmbeddedState × RowsState
@@ -52,16 +56,6 @@ step_at s indices last Done = None
 -- the step that is due
 abbrev pub step_of : List ℕ → Pair → Option Step
 step_of indices p = step_at p.0.sizes indices p.1.last p.0.stage
-
--- the position whose component word is due
-abbrev pub collecting : Stage → Option ℕ
-collecting (Collect k) = Some k
-collecting _ = None
-
--- the position whose record's value is due
-abbrev pub valuing : Stage → Option ℕ
-valuing (Value k) = Some k
-valuing _ = None
 
 -- the collect under way is the first
 abbrev pub is_first : Pair → Bool

@@ -1,8 +1,10 @@
 //! The machine of an embedded scan.
 
-ghost use Rattle.std.specs.Prelude.{◌≡◌, ◌+◌, ◌*◌, ◌<◌, ℕ, List, length};
-ghost use Rattle.partial_embedded.specs.Embedded.{Pair, RowsState, GoTogether, IsPossible, pairs_from};
-ghost use Rattle.partial_embedded.specs.declared.embedded.Stage.TheVariants.{Collect, Value};
+ghost use Rattle.std.specs.Prelude.{◌≡◌, ◌+◌, ◌*◌, ◌<◌, ℕ, List, Bool, length, slice_index};
+ghost use Rattle.partial_embedded.specs.Embedded.{RowsState, GoTogether, IsFor, IsPossible, buffers, pairs_from};
+ghost use Rattle.partial_embedded.specs.declared.embedded.Stage.TheVariants.{Value, Done};
+
+mod loops;
 
 use crate::rows::Rows;
 use partial_words::{Sizes, Step, value_word, view_word};
@@ -62,9 +64,10 @@ impl Model for Embedded {
 }
 
 impl Embedded {
-    ghost use Rattle.std.specs.Prelude.{IfSome, IsSome, ◌≤◌};
+    ghost use Rattle.std.specs.Prelude.{IfSome, IfNone, Some, ◌≤◌};
     ghost use Rattle.partial_words.specs.Layout.{pool_end};
-    ghost use Rattle.partial_embedded.specs.Embedded.{ArePositions, IsFor, IsRecord, collecting, valuing, fresh, step_of, advance, left_of, most_steps, after_load, after_view, at_stage, with_value, pairs_from, advance_at};
+    ghost use Rattle.partial_words.specs.declared.step.Step.TheVariants.{Load};
+    ghost use Rattle.partial_embedded.specs.Embedded.{ArePositions, fresh, step_of, step_at, advance, left_of, most_steps, after_load, after_view, advance_at};
 
     /// An embedded scan that has made no step. One that shares stops at the reference of a view that it
     /// borrows; another one loads the pairs.
@@ -95,16 +98,10 @@ impl Embedded {
         requires { GoTogether indices.now (self.now, rows.now) }
         ensures { result ≡ step_of indices.now (self.now, rows.now) }
     {
-        match self.stage {
-            Stage::Collect { position } => {
-                Some(Step::Load(self.sizes.component_word(indices[position])))
-            }
-            Stage::View { stamp } => Some(Step::Load(view_word(stamp) as u32)),
-            Stage::Len { at } => Some(Step::Load(at as u32)),
-            Stage::Index { at, .. } => Some(Step::Load(at as u32)),
-            Stage::PairValue { at, .. } => Some(Step::Load(at as u32)),
-            Stage::Value { position } => Some(Step::Load(value_word(rows.latest(position)) as u32)),
-            Stage::Done => None,
+        let Rows { last, .. } = rows;
+        match self.due_word(last, indices) {
+            Some(word) => Some(Step::Load(word)),
+            None => None,
         }
     }
 
@@ -148,69 +145,64 @@ impl Embedded {
         self.take_in(rows, indices, x);
     }
 
-    /// The position whose component word is due to be loaded, or None where the collects are over.
-    #[inline(always)]
-    pub fn collecting(&self) -> Option<usize>
-        ensures position { result ≡ collecting self.now.stage }
-        ensures stage { IfSome result (λ k. self.now.stage ≡ Collect k) }
-        ensures due { IfSome result (λ k. (indices : List ℕ) (rows : RowsState) →
-            IsSome (step_of indices (self.now, rows))) }
-    {
-        match self.stage {
-            Stage::Collect { position } => Some(position),
-            _ => None,
-        }
-    }
-
-    /// Takes the answer of the load of this position's component word, as [`Embedded::answer`] does.
-    #[inline(always)]
-    pub fn answer_collect(&mut self, rows: &mut Rows, indices: &[u32], position: usize, x: u64)
-        requires together { GoTogether indices.now (self.old, rows.old) }
-        requires stage { self.old.stage ≡ Collect position }
-        requires possible { IsPossible (self.old, rows.old) x }
-        ensures state { (self.new, rows.new) ≡ advance indices.now (self.old, rows.old) x }
-        ensures together { GoTogether indices.now (self.new, rows.new) }
-        ensures left { left_of indices.now (self.new, rows.new) < left_of indices.now (self.old, rows.old) }
-    {
-        self.after_load(rows, indices, position, x);
-    }
-
-    /// The position whose record's value is due to be loaded, or None where no value is.
-    #[inline(always)]
-    pub fn valuing(&self) -> Option<usize>
-        ensures position { result ≡ valuing self.now.stage }
-        ensures stage { IfSome result (λ k. self.now.stage ≡ Value k) }
-        ensures due { IfSome result (λ k. (indices : List ℕ) (rows : RowsState) →
-            IsSome (step_of indices (self.now, rows))) }
-    {
-        match self.stage {
-            Stage::Value { position } => Some(position),
-            _ => None,
-        }
-    }
-
-    /// Takes the answer of the load of the value of this position's record, as [`Embedded::answer`] does.
-    #[inline(always)]
-    pub fn answer_value(&mut self, rows: &mut Rows, indices: &[u32], position: usize, x: u64)
-        requires together { GoTogether indices.now (self.old, rows.old) }
-        requires stage { self.old.stage ≡ Value position }
-        requires possible { IsPossible (self.old, rows.old) x }
-        ensures state { (self.new, rows.new) ≡ advance indices.now (self.old, rows.old) x }
-        ensures together { GoTogether indices.now (self.new, rows.new) }
-        ensures left { left_of indices.now (self.new, rows.new) < left_of indices.now (self.old, rows.old) }
-    {
-        self.after_value(rows, indices, position, x);
-    }
-
-    // What the answer makes of the machine.
+    // What the answer makes of the machine and its buffers.
     #[inline(always)]
     fn take_in(&mut self, rows: &mut Rows, indices: &[u32], x: u64)
         requires together { GoTogether indices.now (self.old, rows.old) }
         requires possible { IsPossible (self.old, rows.old) x }
         ensures { (self.new, rows.new) ≡ advance indices.now (self.old, rows.old) x }
     {
+        let Rows {
+            last,
+            changed,
+            values,
+        } = rows;
+        self.after_answer(last, changed, values, indices, x);
+    }
+
+    // The word that is due to be loaded.
+    #[inline(always)]
+    fn due_word(&self, last: &[u64], indices: &[u32]) -> Option<u32>
+        requires { ((changed : List Bool) × (values : List ℕ) ×
+            GoTogether indices.now (self.now, buffers last.now changed values)) }
+        ensures due { IfSome result (λ word.
+            step_at self.now.sizes indices.now last.now self.now.stage ≡ Some (Load word)) }
+        ensures done { IfNone result (self.now.stage ≡ Done) }
+    {
+        Some(match self.stage {
+            Stage::Collect { position } => self.sizes.component_word(indices[position]),
+            Stage::View { stamp } => view_word(stamp) as u32,
+            Stage::Len { at } => at as u32,
+            Stage::Index { at, .. } => at as u32,
+            Stage::PairValue { at, .. } => at as u32,
+            Stage::Value { position } => value_word(last[position]) as u32,
+            Stage::Done => return None,
+        })
+    }
+
+    // The step that was due was answered.
+    #[inline(always)]
+    fn after_answer(
+        &mut self,
+        last: &mut [u64],
+        changed: &mut [bool],
+        values: &mut [u64],
+        indices: &[u32],
+        x: u64,
+    )
+        requires together { GoTogether indices.now (self.old, buffers last.old changed.old values.old) }
+        requires possible { IsPossible (self.old, buffers last.old changed.old values.old) x }
+        ensures { (self.new, buffers last.new changed.new values.new) ≡
+            advance indices.now (self.old, buffers last.old changed.old values.old) x }
+    {
         match self.stage {
-            Stage::Collect { position } => self.after_load(rows, indices, position, x),
+            Stage::Collect { position } => self.after_load(
+                last,
+                changed,
+                indices.len(),
+                position,
+                x,
+            ),
             Stage::View { .. } => self.after_view(x),
             Stage::Len { at } => self.stage = pairs_from(at + 1, x),
             Stage::Index { at, left } => {
@@ -221,32 +213,43 @@ impl Embedded {
                 };
             }
             Stage::PairValue { at, left, index } => {
-                rows.set_value(index, x);
+                values[index as usize] = x;
                 self.stage = pairs_from(at + 1, left - 1);
             }
-            Stage::Value { position } => self.after_value(rows, indices, position, x),
+            Stage::Value { position } => self.after_value(values, indices, position, x),
             Stage::Done => {}
         }
     }
 
-    // The component word of a position was loaded.
+    // The component word of a position, one of so many, was loaded.
     #[inline(always)]
-    fn after_load(&mut self, rows: &mut Rows, indices: &[u32], position: usize, x: u64)
-        requires together { GoTogether indices.now (self.old, rows.old) }
-        requires stage { self.old.stage ≡ Collect position }
-        ensures { (self.new, rows.new) ≡ after_load (length indices.now) (self.old, rows.old) position x }
+    fn after_load(
+        &mut self,
+        last: &mut [u64],
+        changed: &mut [bool],
+        positions: usize,
+        position: usize,
+        x: u64,
+    )
+        requires last { position < length last.old }
+        requires changed { position < length changed.old }
+        requires few { positions ≤ self.old.sizes.m }
+        requires collects { self.old.collects ≤ positions + 2 }
+        ensures { (values : List ℕ) → (self.new, buffers last.new changed.new values) ≡
+            after_load positions (self.old, buffers last.old changed.old values) position x }
     {
         let first = self.collects == 1;
-        if first || rows.latest(position) != x {
-            if !first && rows.has_changed(position) {
+        if first || last[position] != x {
+            if !first && changed[position] {
                 self.borrowed = Some(x);
                 self.stage = Stage::View { stamp: x };
                 return;
             }
-            rows.note(position, x, !first);
+            last[position] = x;
+            changed[position] = !first;
             self.moved = self.moved || !first;
         }
-        if position + 1 < indices.len() {
+        if position + 1 < positions {
             self.stage = Stage::Collect {
                 position: position + 1,
             };
@@ -261,12 +264,13 @@ impl Embedded {
 
     // The value of a position's record was loaded.
     #[inline(always)]
-    fn after_value(&mut self, rows: &mut Rows, indices: &[u32], position: usize, x: u64)
-        requires together { GoTogether indices.now (self.old, rows.old) }
-        requires stage { self.old.stage ≡ Value position }
-        ensures { (self.new, rows.new) ≡ advance_at indices.now (self.old, rows.old) (Value position) x }
+    fn after_value(&mut self, values: &mut [u64], indices: &[u32], position: usize, x: u64)
+        requires position { position < length indices.now }
+        requires component { slice_index indices.now position < length values.old }
+        ensures { (last : List ℕ) (changed : List Bool) → (self.new, buffers last changed values.new) ≡
+            advance_at indices.now (self.old, buffers last changed values.old) (Value position) x }
     {
-        rows.set_value(indices[position], x);
+        values[indices[position] as usize] = x;
         self.stage = if position + 1 < indices.len() {
             Stage::Value {
                 position: position + 1,

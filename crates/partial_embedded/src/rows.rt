@@ -1,6 +1,6 @@
 //! The buffers of an embedded scan.
 
-ghost use Rattle.std.specs.Prelude.{◌≡◌, ◌<◌, length, IfOk, slice_index, slice_index_or, slice_set, false, replicate};
+ghost use Rattle.std.specs.Prelude.{◌≡◌, ◌<◌, ℕ, length, map, IfOk, slice_index, false, replicate};
 ghost use Rattle.std.specs.Vec.{vec_len};
 
 use partial_words::Sizes;
@@ -11,9 +11,9 @@ use std::marker::Model;
 /// and of each component its value. All room is taken when they are made.
 #[derive(Debug, Drop)]
 pub struct Rows {
-    last: Vec<u64>,
-    changed: Vec<bool>,
-    values: Vec<u64>,
+    pub(crate) last: Vec<u64>,
+    pub(crate) changed: Vec<bool>,
+    pub(crate) values: Vec<u64>,
 }
 
 impl Model for Rows {
@@ -46,47 +46,6 @@ impl Rows {
         })
     }
 
-    // The latest load of a position.
-    #[inline(always)]
-    pub(crate) fn latest(&self, position: usize) -> u64
-        requires { position < length self.now.last }
-        ensures { result ≡ slice_index self.now.last position }
-    {
-        self.last[position]
-    }
-
-    // Whether a position has changed.
-    #[inline(always)]
-    pub(crate) fn has_changed(&self, position: usize) -> bool
-        requires { position < length self.now.changed }
-        ensures { result ≡ slice_index_or self.now.changed position false }
-    {
-        self.changed[position]
-    }
-
-    // Notes the load of a position, and whether it has changed by now.
-    #[inline(always)]
-    pub(crate) fn note(&mut self, position: usize, stamp: u64, changed: bool)
-        requires last { position < length self.old.last }
-        requires changed { position < length self.old.changed }
-        ensures { self.new ≡ record self.old {
-          last = slice_set self.old.last position stamp;
-          changed = slice_set self.old.changed position changed;
-        } }
-    {
-        self.last[position] = stamp;
-        self.changed[position] = changed;
-    }
-
-    // Sets the value of a component.
-    #[inline(always)]
-    pub(crate) fn set_value(&mut self, component: u32, value: u64)
-        requires { component < length self.old.values }
-        ensures { self.new ≡ record self.old { values = slice_set self.old.values component value } }
-    {
-        self.values[component as usize] = value;
-    }
-
     /// The value that the finished scan gives the component, where that is one of its positions' or one
     /// of the borrowed view's.
     #[inline(always)]
@@ -96,5 +55,19 @@ impl Rows {
     {
         let Rows { values, .. } = self;
         values[component as usize]
+    }
+
+    /// Copies the values of these components, as [`Rows::value`] gives them.
+    pub fn copy_values(&self, components: &[u32], into: &mut [u64])
+        requires lengths { length into.old ≡ length components.now }
+        requires components { (k : ℕ) → k < length components.now →
+            slice_index components.now k < length self.now.values }
+        ensures { into.new ≡ map (slice_index self.now.values) components.now }
+    {
+        let Rows { values, .. } = self;
+        let values = values.as_slice();
+        for k in 0..into.len() {
+            into[k] = values[components[k] as usize];
+        }
     }
 }

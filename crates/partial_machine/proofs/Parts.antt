@@ -1,16 +1,15 @@
 -- An idle machine, of whose getSet or embedded scan a step was answered.
-use Rattle.std.proofs.Common.{ℕ, ◌≡◌, List, sym, ◌∙◌, ap, subst}
+use Rattle.std.proofs.Common.{ℕ, ◌≡◌, sym, ◌∙◌, subst}
 use Rattle.partial_words.specs.Layout.{Layout}
 use Rattle.partial_active.specs.Found.{IsFor as AreBuffersFor}
 use Rattle.partial_active.specs.GetSet as finding
 use Rattle.partial_active.specs.GetSetAnswers as finding_answers
 use Rattle.partial_active.proofs.Sizes.{sizes_kept}
 use Rattle.partial_embedded.specs.Embedded as viewing
-use Rattle.partial_embedded.proofs.Keeps as viewed
 use Rattle.partial_machine.specs.declared.stage.Stage.TheVariants.{Idle}
-use Rattle.partial_machine.specs.Machine.{CoreState, getting, with_getting, with_scanning}
+use Rattle.partial_machine.specs.Machine.{CoreState, getting, with_getting}
 use Rattle.partial_machine.specs.Sound.{IsMachine, is_sound_at}
-use Rattle.partial_machine.specs.Lines.{IsGetting, IsScanning, with_embedded}
+use Rattle.partial_machine.specs.Lines.{IsGetting, with_embedded}
 use Rattle.partial_machine.proofs.Indices.{AreIndices, few_indices, found_kept}
 
 pub got_idle : (s : CoreState) (room x : ℕ) (p : finding.Pair) → IsMachine s room → s.stage ≡ Idle → IsGetting s → finding_answers.IsPossible (getting s) x → p ≡ finding.advance (getting s) x →
@@ -35,27 +34,6 @@ got_idle s room x p w idle g possible is together =
       };
       enough = w.enough;
     }
-
--- the embedded scan is its caller's, and the rows are the machine's
-pub scanned_idle : (s : CoreState) (e : viewing.EmbeddedState) (room x : ℕ) (indices : List ℕ) (p : viewing.Pair) → IsMachine s room → s.stage ≡ Idle → IsScanning (with_embedded s e) indices →
-    p ≡ viewing.advance indices (e, s.rows) x → viewing.GoTogether indices p → IsMachine (record s { rows = p.1 }) room × IsScanning (with_scanning s p) indices
-scanned_idle s e room x indices p w idle g is together =
-    let same : p.0.sizes ≡ s.sizes = ap (λ (q : viewing.Pair). q.0.sizes) is ∙ viewed.sizes_stay indices (e, s.rows) x ∙ g.sizes in (
-      record {
-        sizes = w.sizes;
-        port = w.port;
-        sound = record {
-          asked = w.sound.asked;
-          found = w.sound.found;
-          indices = w.sound.indices;
-          distinct = w.sound.distinct;
-          rows = subst (λ z. viewing.IsFor z p.1) same together.rows;
-          stage = subst (is_sound_at (record s { rows = p.1 })) (sym idle) tt;
-        };
-        enough = w.enough;
-      },
-      record { together = together; sizes = same },
-    )
 
 pub kept_idle : (s : CoreState) (e : viewing.EmbeddedState) (room : ℕ) → IsMachine s room → s.stage ≡ Idle → IsMachine (with_embedded s e) room
 kept_idle s e room w idle = record {

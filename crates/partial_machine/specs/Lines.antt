@@ -9,7 +9,7 @@ use Rattle.partial_active.specs.GetSetAnswers as finding_answers
 use Rattle.partial_embedded.specs.Embedded as viewing
 use Rattle.partial_machine.specs.declared.stage.Positions.{Positions}
 use Rattle.partial_machine.specs.declared.stage.Positions.TheVariants.{Asked, Found}
-use Rattle.partial_machine.specs.Machine.{CoreState, getting, scanning, with_getting, with_scanning}
+use Rattle.partial_machine.specs.Machine.{CoreState, getting, scanning, with_getting}
 
 -- the machine with a getSet that has made no step
 abbrev pub set_begun : CoreState → CoreState
@@ -48,18 +48,6 @@ scan_begun s shares = with_embedded s (viewing.fresh s.sizes shares)
 -- the step that is due in the embedded scan of those indices
 abbrev pub scan_step : CoreState → List ℕ → Option Step
 scan_step s indices = viewing.step_of indices (scanning s)
-
--- the machine once the embedded scan of those indices has taken in an answer
-abbrev pub scan_answered : CoreState → List ℕ → ℕ → CoreState
-scan_answered s indices x = with_scanning s (viewing.advance indices (scanning s) x)
-
--- how many steps are left of the embedded scan at most
-abbrev pub scan_left : CoreState → List ℕ → ℕ
-scan_left s indices = viewing.left_of indices (scanning s)
-
--- the number may answer the due step of the embedded scan
-abbrev pub MayAnswerScan : CoreState → ℕ → Type 0
-MayAnswerScan s x = viewing.IsPossible (scanning s) x
 
 -- an embedded scan of those indices is under way, or it is finished
 pub record IsScanning (s : CoreState) (indices : List ℕ) : Type 0 where

@@ -631,23 +631,27 @@ impl Core {
     }
 }
 
-// Whether each index is below the number.
+// Whether each index is below the number. It looks at all, so that it may look at several at once.
 fn all_below(indices: &[u32], m: u32) -> bool
     ensures { result ≡ list_all (λ i. nat_lt i m) indices.now }
 {
-    indices.iter().all(|index| *index < m)
+    let mut all = true;
+    for index in indices {
+        all = all & (*index < m);
+    }
+    all
 }
 
 // Sets the positions of a scan. There is room for them.
 fn set_asked(asked: &mut Vec<u32>, components: &[u32])
     requires { length components.now ≤ vec_capacity asked.old }
     ensures items { asked.new.items ≡ components.now }
-    ensures room { vec_capacity asked.new ≡ vec_capacity asked.old }
+    ensures room { vec_capacity asked.old ≤ vec_capacity asked.new }
 {
     asked.clear();
-    for component in components {
-        asked.push_reserved(*component);
-    }
+    let Ok(()) = asked.extend_from_slice(components) else {
+        unreachable!()
+    };
 }
 
 /// The reply to an update whose exchange found this record.

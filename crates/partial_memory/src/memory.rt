@@ -1,10 +1,9 @@
 //! The memory, and the calls of its ports.
 
-ghost use Rattle.std.specs.Prelude.{◌≡◌, ℕ, ◌<◌, ◌≤◌, ◌⊎◌, ◌∷◌, length, Some, IfOk, IfErr};
+ghost use Rattle.std.specs.Prelude.{◌≡◌, ◌<◌, ◌≤◌, ◌⊎◌, ◌∷◌, length, Some, IfOk, IfErr};
 ghost use Rattle.partial_model.specs.declared.call.Call.TheVariants as call;
 ghost use Rattle.partial_words.specs.Layout.{pool_base};
 ghost use Rattle.partial_words.specs.Chain.{AreOpeningWords};
-ghost use Rattle.partial_machine.specs.Machine.{scanned_values};
 ghost use Rattle.partial_memory.specs.declared.error.OpenError.TheVariants.{Ports};
 ghost use Rattle.partial_memory.specs.Rule.{newcomers};
 ghost use Rattle.partial_memory.specs.Ports.{IsOf, IsRefused, MayNotOpen, new_ports, refusal};
@@ -262,7 +261,7 @@ impl Memory {
         me.core.ask(which)?;
         match scan(&self.table.shared, &mut me.badge, &mut me.core) {
             Reply::Scanned { collects, borrowed } => {
-                copy_values(&me.core, into);
+                me.core.copy_scanned(into);
                 Ok(Scanned { collects, borrowed })
             }
             Reply::Refused(cause) => Err(cause),
@@ -307,15 +306,5 @@ impl Memory {
         let closed = closed_of(alloc, &words, sizes.m());
         words.free();
         Ok(closed?)
-    }
-}
-
-// Copies the values of the last scan that was answered.
-fn copy_values(core: &Core, into: &mut [u64])
-    requires { length into.old ≡ length core.now.asked }
-    ensures { into.new ≡ scanned_values core.now }
-{
-    for k in 0..into.len() {
-        into[k] = core.scanned(k);
     }
 }

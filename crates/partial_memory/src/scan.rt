@@ -21,7 +21,7 @@ use partial_core::{Core, Reply};
 use partial_embedded::Embedded;
 use partial_machine::Positions;
 use partial_model::Refused;
-use partial_words::Step;
+use partial_words::{Step, announcement_block_word};
 use std::marker::Brand;
 
 /// Makes the steps of a scan that isn't refused at once, of the positions that the machine keeps, and gives its
@@ -38,44 +38,46 @@ pub fn scan(words: &Words, badge: &mut Badge<View>, core: &mut Core) -> Reply
     ensures ended { Ended (at_stage core.old ScanBegun) (one_in badge.old.views) result core.new
         (one_in badge.new.views) }
 {
-    let mut seat = take_seat(badge);
-    let reply = make_scan(words, &mut seat, core);
+    let (seat, reply) = make_scan(words, take_seat(badge), core);
     *badge = seat.into_badge();
     reply
 }
 
-// The same at a seat.
-fn make_scan(words: &Words, seat: &mut Place, core: &mut Core) -> Reply
-    requires table { seat.old.table_id ≡ words.now.table_id }
+// The same at a seat, which it gives back.
+fn make_scan(words: &Words, mut seat: Place, core: &mut Core) -> (Place, Reply)
+    requires table { seat.table_id ≡ words.now.table_id }
     requires words { words.now.table_id.words ≡ total words.now.key.sizes }
-    requires one { IsOne seat.old.me }
-    requires own { (one_of seat.old.me.0).about ≡ words.now.key }
+    requires one { IsOne seat.me }
+    requires own { (one_of seat.me.0).about ≡ words.now.key }
     requires idle { core.old.stage ≡ Idle }
-    requires begins { Begins (at_stage core.old ScanBegun) (one_of seat.old.me.0) }
-    ensures table { seat.new.table_id ≡ seat.old.table_id }
-    ensures one { IsOne seat.new.me }
-    ensures ended { Ended (at_stage core.old ScanBegun) (one_of seat.old.me.0) result core.new (one_of seat.new.me.0) }
+    requires begins { Begins (at_stage core.old ScanBegun) (one_of seat.me.0) }
+    ensures table { result.0.table_id ≡ seat.table_id }
+    ensures one { IsOne result.0.me }
+    ensures ended { Ended (at_stage core.old ScanBegun) (one_of seat.me.0) result.1 core.new (one_of result.0.me.0) }
 {
-    let at = begin_scan::<Brand>(words, seat, core);
+    let at = begin_scan::<Brand>(words, &mut seat, core);
     let size = core.announcement_size();
     if at + size > u64::from(core.sizes().pool_end()) {
         core.mark_pool();
-        return Reply::Refused(Refused::PoolSpent);
+        return (seat, Reply::Refused(Refused::PoolSpent));
     }
+    let asked = core.asked();
     for k in 0..size {
-        store_index(words, seat, core, at, k);
+        store_index(words, &mut seat, core, asked, at, k);
     }
-    let Some(slot) = join(words, seat, core, at) else {
-        return Reply::Refused(Refused::SlotsSpent);
+    let Some(slot) = join(words, &mut seat, core, at) else {
+        return (seat, Reply::Refused(Refused::SlotsSpent));
     };
     let begun = core.begin_scanning(false);
-    let embedded = scan_positions(words, seat, core, Positions::Asked, begun);
-    leave(words, seat, core, slot, embedded)
+    let (mut behind, embedded) = scan_positions(words, seat, core, Positions::Asked, begun);
+    let reply = leave(words, &mut behind, core, slot, embedded);
+    (behind, reply)
 }
 
-// Stores word `k` of the announcement at `at`.
+// Stores word `k` of the announcement at `at`, of these positions.
 #[inline(always)]
-fn store_index(words: &Words, seat: &mut Place, core: &Core, at: u64, k: u64)
+fn store_index(words: &Words, seat: &mut Place, core: &Core, asked: &[u32], at: u64, k: u64)
+    requires asked { asked.now ≡ core.now.asked }
     requires going { IsGoing words.now.table_id words.now.key seat.old.table_id seat.old.me }
     requires machine { machine_of seat.old.me ≡ announcing core.now at k }
     requires more { k < announcement_size (length core.now.asked) }
@@ -83,7 +85,7 @@ fn store_index(words: &Words, seat: &mut Place, core: &Core, at: u64, k: u64)
     ensures leads { Leads (one_of seat.old.me.0) (one_of seat.new.me.0) }
     ensures machine { machine_of seat.new.me ≡ announcing core.now at (k + 1) }
 {
-    let word = core.announcement_word(k);
+    let word = announcement_block_word(asked, k as usize);
     make(words, seat, Step::Store((at + k) as u32, word));
 }
 

@@ -35,63 +35,64 @@ pub fn update(words: &Words, badge: &mut Badge<View>, core: &mut Core, change: C
     ensures ended { Ended (at_stage core.old (UpdateBegun change)) (one_in badge.old.views) result core.new
         (one_in badge.new.views) }
 {
-    let mut seat = take_seat(badge);
-    let reply = make_update(words, &mut seat, core, change);
+    let (seat, reply) = make_update(words, take_seat(badge), core, change);
     *badge = seat.into_badge();
     reply
 }
 
-// The same at a seat.
-fn make_update(words: &Words, seat: &mut Place, core: &mut Core, change: Change) -> Reply
-    requires table { seat.old.table_id ≡ words.now.table_id }
+// The same at a seat, which it gives back.
+fn make_update(words: &Words, mut seat: Place, core: &mut Core, change: Change) -> (Place, Reply)
+    requires table { seat.table_id ≡ words.now.table_id }
     requires words { words.now.table_id.words ≡ total words.now.key.sizes }
-    requires one { IsOne seat.old.me }
-    requires own { (one_of seat.old.me.0).about ≡ words.now.key }
+    requires one { IsOne seat.me }
+    requires own { (one_of seat.me.0).about ≡ words.now.key }
     requires idle { core.old.stage ≡ Idle }
-    requires begins { Begins (at_stage core.old (UpdateBegun change)) (one_of seat.old.me.0) }
-    ensures table { seat.new.table_id ≡ seat.old.table_id }
-    ensures one { IsOne seat.new.me }
-    ensures ended { Ended (at_stage core.old (UpdateBegun change)) (one_of seat.old.me.0) result core.new
-        (one_of seat.new.me.0) }
+    requires begins { Begins (at_stage core.old (UpdateBegun change)) (one_of seat.me.0) }
+    ensures table { result.0.table_id ≡ seat.table_id }
+    ensures one { IsOne result.0.me }
+    ensures ended { Ended (at_stage core.old (UpdateBegun change)) (one_of seat.me.0) result.1 core.new
+        (one_of result.0.me.0) }
 {
-    let old = begin_update::<Brand>(words, seat, core, change);
+    let old = begin_update::<Brand>(words, &mut seat, core, change);
     if change.expected.is_some_and(|expected| expected != old) {
-        return Reply::Changed { by: old };
+        return (seat, Reply::Changed { by: old });
     }
-    let head = make(words, seat, Step::Load(core.sizes().list_head()));
+    let head = make(words, &mut seat, Step::Load(core.sizes().list_head()));
     core.begin_set();
     core.answer_set(head);
     while let Some(step) = core.set_step() {
-        let answer = make(words, seat, step);
+        let answer = make(words, &mut seat, step);
         core.answer_set(answer);
     }
     if core.found_none() {
         let begun = core.begin_scanning(true);
         core.keep_scan(begun);
     } else {
-        scan_found(words, seat, core);
+        seat = scan_found(words, seat, core);
     }
-    write_record(words, seat, core, change, old)
+    let reply = write_record(words, &mut seat, core, change, old);
+    (seat, reply)
 }
 
 // Makes the embedded scan of the indices found. It stands apart, since mostly nobody scans, and then an update needs
 // no room for it.
 #[inline(never)]
-fn scan_found(words: &Words, seat: &mut Place, core: &mut Core)
-    requires going { IsGoing words.now.table_id words.now.key seat.old.table_id seat.old.me }
+fn scan_found(words: &Words, seat: Place, core: &mut Core) -> Place
+    requires going { IsGoing words.now.table_id words.now.key seat.table_id seat.me }
     requires idle { core.old.stage ≡ Idle }
     requires scanning { IsScanning (scan_begun core.old true) core.old.found.indices }
     requires due { IsSome (scan_step (scan_begun core.old true) core.old.found.indices) }
-    requires stage { IsAtScan Found (machine_of seat.old.me).stage }
-    requires machine { machine_of seat.old.me ≡ at_stage (scan_begun core.old true) (machine_of seat.old.me).stage }
-    ensures going { IsGoing words.now.table_id words.now.key seat.new.table_id seat.new.me }
-    ensures leads { Leads (one_of seat.old.me.0) (one_of seat.new.me.0) }
-    ensures machine { machine_of seat.new.me ≡ at_stage core.new (behind_scan (machine_of seat.old.me).stage) }
+    requires stage { IsAtScan Found (machine_of seat.me).stage }
+    requires machine { machine_of seat.me ≡ at_stage (scan_begun core.old true) (machine_of seat.me).stage }
+    ensures going { IsGoing words.now.table_id words.now.key result.table_id result.me }
+    ensures leads { Leads (one_of seat.me.0) (one_of result.me.0) }
+    ensures machine { machine_of result.me ≡ at_stage core.new (behind_scan (machine_of seat.me).stage) }
     ensures core { core.new ≡ with_scanning core.old (scanning core.new) }
 {
     let begun = core.begin_scanning(true);
-    let embedded = scan_positions(words, seat, core, Positions::Found, begun);
+    let (behind, embedded) = scan_positions(words, seat, core, Positions::Found, begun);
     core.keep_scan(embedded);
+    behind
 }
 
 // The end of an update that has replaced `old`: its record is claimed and written, and its component exchanged.

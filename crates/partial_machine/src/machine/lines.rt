@@ -2,22 +2,22 @@
 //! stage, and the machine of an embedded scan while that is made. The port's machine stays idle: it keeps the
 //! marks, the positions, what was found and the rows.
 
-ghost use Rattle.std.specs.Prelude.{◌≡◌, ◌<◌, ◌≤◌, ◌==◌, length, slice_index, Some, None, true, IsSome, OnOk, IfErr};
-ghost use Rattle.partial_words.specs.Announcement.{announcement_block, announcement_size};
+ghost use Rattle.std.specs.Prelude.{◌≡◌, ◌<◌, ◌≤◌, ◌==◌, length, Some, None, true, IsSome, OnOk, IfErr};
+ghost use Rattle.partial_words.specs.Announcement.{announcement_size};
 ghost use Rattle.partial_active.specs.Leave.{step_of_leave};
 ghost use Rattle.partial_embedded.specs.Embedded.{fresh};
-ghost use Rattle.partial_embedded.specs.declared.embedded.Stage.TheVariants.{Collect, Value};
+ghost use Rattle.partial_embedded.specs.declared.embedded.Stage.TheVariants.{Done};
 ghost use Rattle.partial_machine.specs.declared.stage.Stage.TheVariants.{Idle};
-ghost use Rattle.partial_machine.specs.Machine.{scanned_reply};
+ghost use Rattle.partial_machine.specs.Machine.{scanned_reply, scanned_values};
 ghost use Rattle.partial_machine.specs.Calls.{scan_refusal, update_refusal};
-ghost use Rattle.partial_machine.specs.Lines.{IsGetting, IsScanning, MayAnswerScan, MayAnswerSet, asking, joined, left, positions_of, scan_answered, scan_left, scan_step, set_answered, set_begun, set_left, set_step, slots_marked, with_embedded};
+ghost use Rattle.partial_machine.specs.Lines.{IsGetting, IsScanning, MayAnswerSet, asking, joined, left, positions_of, set_answered, set_begun, set_left, set_step, slots_marked, with_embedded};
 
 use super::{Core, set_asked};
 use crate::stage::{Positions, Reply};
 use partial_active::{GetSet, Join, Leave};
-use partial_embedded::Embedded;
+use partial_embedded::{Embedded, Loads};
 use partial_model::Refused;
-use partial_words::{Sizes, Step, announcement_block_word, announcement_size};
+use partial_words::{Sizes, Step, announcement_size};
 
 impl Core {
     /// The sizes of the memory.
@@ -98,109 +98,29 @@ impl Core {
         self.embedded = embedded;
     }
 
-    /// The step that is due in this embedded scan of these positions, or None once that is finished.
+    /// Makes this embedded scan of these positions to its end, and gives it back. Each load is made through
+    /// `loads`, which are at this scan.
     #[inline(always)]
-    pub fn scan_step(&self, embedded: &Embedded, positions: Positions) -> Option<Step>
-        requires { IsScanning (with_embedded self.now embedded.now) (positions_of self.now positions) }
-        ensures { result ≡ scan_step (with_embedded self.now embedded.now) (positions_of self.now positions) }
-    {
-        match positions {
-            Positions::Asked => embedded.step(&self.rows, &self.asked),
-            Positions::Found => embedded.step(&self.rows, self.found.indices()),
-        }
-    }
-
-    /// This embedded scan of these positions takes in the answer to the step that is due.
-    #[inline(always)]
-    pub fn answer_scan(&mut self, embedded: &mut Embedded, positions: Positions, x: u64)
-        requires idle { self.old.stage ≡ Idle }
-        requires scanning { IsScanning (with_embedded self.old embedded.old) (positions_of self.old positions) }
-        requires possible { MayAnswerScan (with_embedded self.old embedded.old) x }
-        ensures state { with_embedded self.new embedded.new ≡
-            scan_answered (with_embedded self.old embedded.old) (positions_of self.old positions) x }
-        ensures kept { self.new.embedded ≡ self.old.embedded }
-        ensures scanning { IsScanning (with_embedded self.new embedded.new) (positions_of self.new positions) }
-        ensures falls { scan_left (with_embedded self.new embedded.new) (positions_of self.new positions) <
-            scan_left (with_embedded self.old embedded.old) (positions_of self.old positions) }
-    {
-        match positions {
-            Positions::Asked => embedded.answer(&mut self.rows, &self.asked, x),
-            Positions::Found => embedded.answer(&mut self.rows, self.found.indices(), x),
-        }
-    }
-
-    /// The step that is due in this embedded scan of these positions, which isn't finished.
-    #[inline(always)]
-    pub fn due_step(&self, embedded: &Embedded, positions: Positions) -> Step
-        requires scanning { IsScanning (with_embedded self.now embedded.now) (positions_of self.now positions) }
-        requires due { IsSome (scan_step (with_embedded self.now embedded.now) (positions_of self.now positions)) }
-        ensures { scan_step (with_embedded self.now embedded.now) (positions_of self.now positions) ≡ Some result }
-    {
-        let Some(step) = self.scan_step(embedded, positions) else {
-            unreachable!()
-        };
-        step
-    }
-
-    /// This embedded scan of these positions takes in the component word of this one.
-    #[inline(always)]
-    pub fn answer_collect(
+    pub fn make_scan<L: Loads>(
         &mut self,
-        embedded: &mut Embedded,
+        embedded: Embedded,
         positions: Positions,
-        position: usize,
-        x: u64,
-    )
+        loads: &mut L,
+    ) -> Embedded
         requires idle { self.old.stage ≡ Idle }
-        requires scanning { IsScanning (with_embedded self.old embedded.old) (positions_of self.old positions) }
-        requires stage { embedded.old.stage ≡ Collect position }
-        requires possible { MayAnswerScan (with_embedded self.old embedded.old) x }
-        ensures state { with_embedded self.new embedded.new ≡
-            scan_answered (with_embedded self.old embedded.old) (positions_of self.old positions) x }
-        ensures kept { self.new.embedded ≡ self.old.embedded }
-        ensures scanning { IsScanning (with_embedded self.new embedded.new) (positions_of self.new positions) }
-        ensures falls { scan_left (with_embedded self.new embedded.new) (positions_of self.new positions) <
-            scan_left (with_embedded self.old embedded.old) (positions_of self.old positions) }
+        requires scanning { IsScanning (with_embedded self.old embedded) (positions_of self.old positions) }
+        requires goes { L.goes loads.old }
+        requires scan { L.scan loads.old ≡ (embedded, self.old.rows) }
+        requires positions { L.positions loads.old ≡ positions_of self.old positions }
+        ensures goes { L.goes loads.new }
+        ensures scan { L.scan loads.new ≡ (result, self.new.rows) }
+        ensures follows { L.follows loads.old loads.new }
+        ensures done { result.stage ≡ Done }
+        ensures core { self.new ≡ record self.old { rows = self.new.rows } }
     {
         match positions {
-            Positions::Asked => embedded.answer_collect(&mut self.rows, &self.asked, position, x),
-            Positions::Found => embedded.answer_collect(
-                &mut self.rows,
-                self.found.indices(),
-                position,
-                x,
-            ),
-        }
-    }
-
-    /// This embedded scan of these positions takes in the value of this one's record.
-    #[inline(always)]
-    pub fn answer_value(
-        &mut self,
-        embedded: &mut Embedded,
-        positions: Positions,
-        position: usize,
-        x: u64,
-    )
-        requires idle { self.old.stage ≡ Idle }
-        requires scanning { IsScanning (with_embedded self.old embedded.old) (positions_of self.old positions) }
-        requires stage { embedded.old.stage ≡ Value position }
-        requires possible { MayAnswerScan (with_embedded self.old embedded.old) x }
-        ensures state { with_embedded self.new embedded.new ≡
-            scan_answered (with_embedded self.old embedded.old) (positions_of self.old positions) x }
-        ensures kept { self.new.embedded ≡ self.old.embedded }
-        ensures scanning { IsScanning (with_embedded self.new embedded.new) (positions_of self.new positions) }
-        ensures falls { scan_left (with_embedded self.new embedded.new) (positions_of self.new positions) <
-            scan_left (with_embedded self.old embedded.old) (positions_of self.old positions) }
-    {
-        match positions {
-            Positions::Asked => embedded.answer_value(&mut self.rows, &self.asked, position, x),
-            Positions::Found => embedded.answer_value(
-                &mut self.rows,
-                self.found.indices(),
-                position,
-                x,
-            ),
+            Positions::Asked => embedded.make(&mut self.rows, &self.asked, loads),
+            Positions::Found => embedded.make(&mut self.rows, self.found.indices(), loads),
         }
     }
 
@@ -229,13 +149,12 @@ impl Core {
         announcement_size(self.asked.len() as u64)
     }
 
-    /// Word `k` of the announcement of the positions.
+    /// The positions of the scan.
     #[inline(always)]
-    pub fn announcement_word(&self, k: u64) -> u64
-        requires { k < announcement_size (length self.now.asked) }
-        ensures { result ≡ slice_index (announcement_block self.now.asked) k }
+    pub fn asked(&self) -> &[u32]
+        ensures { result.now ≡ self.now.asked }
     {
-        announcement_block_word(&self.asked, k as usize)
+        self.asked.as_slice()
     }
 
     /// The announcement at `at` stands in the slot.
@@ -245,9 +164,10 @@ impl Core {
         requires slot { slot < self.old.sizes.slots }
         ensures { self.new ≡ joined self.old at slot }
     {
-        self.join = Join::new(self.sizes, at);
-        self.join.answer(u64::from(slot));
-        self.join.answer(0);
+        let mut join = Join::new(self.sizes, at);
+        join.answer(u64::from(slot));
+        join.answer(0);
+        self.join = join;
         self.leave = Leave::new(self.sizes, slot);
     }
 
@@ -272,6 +192,15 @@ impl Core {
         ensures { self.new ≡ left self.old }
     {
         self.leave.answer(0);
+    }
+
+    /// Copies the values of the last scan that was answered, in the order of its positions.
+    #[inline(always)]
+    pub fn copy_scanned(&self, into: &mut [u64])
+        requires { length into.old ≡ length self.now.asked }
+        ensures { into.new ≡ scanned_values self.now }
+    {
+        self.rows.copy_values(&self.asked, into);
     }
 
     /// The reply of a scan whose embedded scan is finished.

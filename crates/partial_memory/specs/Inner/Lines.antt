@@ -1,5 +1,6 @@
 -- Calls that are made in straight lines: the machine of the call is a ghost, to which the kept answers of the seat's port lead.
-use Rattle.std.specs.Prelude.{ℕ, ⊤, ◌≡◌, ◌==◌, List, length, if◌then◌else◌}
+use Rattle.std.specs.Prelude.{ℕ, ⊤, ◌≡◌, ◌==◌, None, IsSome, List, length, if◌then◌else◌}
+use Rattle.std.proofs.Common.{refl, ap, ◌∙◌}
 use Rattle.atomic_table.specs.Table.{Me}
 use Rattle.atomic_table.specs.Seated.{TableId}
 use Rattle.partial_words.specs.Layout.{total}
@@ -9,7 +10,8 @@ use Rattle.partial_machine.specs.declared.stage.Positions.{Positions}
 use Rattle.partial_machine.specs.declared.stage.Positions.TheVariants.{Asked, Found}
 use Rattle.partial_machine.specs.declared.stage.Stage.{Stage}
 use Rattle.partial_machine.specs.declared.stage.Stage.TheVariants.{Viewing, ClaimingRecord, StoringRecord, Exchanging, StoringAnnouncement, Scanning, Leaving}
-use Rattle.partial_machine.specs.Machine.{CoreState, at_stage, begin_joining, record_size}
+use Rattle.partial_machine.specs.Lines.{scan_step}
+use Rattle.partial_machine.specs.Machine.{CoreState, at_stage, begin_joining, record_size, scanning, with_scanning}
 use Rattle.partial_core.specs.Part.{core_of}
 use Rattle.partial_memory.specs.declared.rule.About.{About}
 use Rattle.partial_memory.specs.Rule.{Seated, IsOne, one_of}
@@ -54,3 +56,40 @@ abbrev pub behind_scan : Stage → Stage
 behind_scan (Viewing c old) = ClaimingRecord c old
 behind_scan Scanning = Leaving
 behind_scan t = t
+
+-- the positions of the embedded scan that a stage makes, or that was made before it
+abbrev pub positions_at : CoreState → Stage → List ℕ
+positions_at s (Viewing c old) = s.found.indices
+positions_at s (ClaimingRecord c old) = s.found.indices
+positions_at s t = s.asked
+
+-- the stage makes an embedded scan of which a step is due, or that scan is finished and the stage is the one behind
+abbrev pub IsScanStage : CoreState → Stage → Type 0
+IsScanStage s (Viewing c old) = IsSome (scan_step s s.found.indices)
+IsScanStage s (ClaimingRecord c old) = scan_step s s.found.indices ≡ None
+IsScanStage s Scanning = IsSome (scan_step s s.asked)
+IsScanStage s Leaving = scan_step s s.asked ≡ None
+IsScanStage s t = ⊥
+
+-- the call of the seat's port has come to an embedded scan
+pub record IsAtLoads {S : Type 0} (table : TableId) (about : About) (here : TableId) (me : Me S (List Seated)) : Type 0 where
+  pub going : IsGoing table about here me
+  pub stage : IsScanStage (machine_of me) (machine_of me).stage
+
+-- from x the call has come to y by steps of its embedded scan alone
+pub record ScansOn (x y : Seated) : Type 0 where
+  pub leads : Leads x y
+  pub rest : core_of y.part ≡ at_stage (with_scanning (core_of x.part) (scanning (core_of y.part))) (core_of y.part).stage
+  pub stage : behind_scan (core_of y.part).stage ≡ behind_scan (core_of x.part).stage
+
+-- by no step it stays where it is
+pub scans_itself : (x : Seated) → ScansOn x x
+scans_itself x = record { leads = λ b h e m. m; rest = refl; stage = refl }
+
+-- steps follow on steps
+pub scans_further : (x y z : Seated) → ScansOn x y → ScansOn y z → ScansOn x z
+scans_further x y z f g = record {
+  leads = λ b h e m. g.leads b h e (f.leads b h e m);
+  rest = g.rest ∙ ap (λ (s : CoreState). at_stage (with_scanning s (scanning (core_of z.part))) (core_of z.part).stage) f.rest;
+  stage = g.stage ∙ f.stage;
+}

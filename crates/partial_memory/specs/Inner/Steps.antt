@@ -1,5 +1,5 @@
 -- The steps that a call makes: how it begins, goes on and ends at its seat.
-use Rattle.std.specs.Prelude.{ℕ, ◌≡◌, ◌+◌, ◌||◌, length, Some}
+use Rattle.std.specs.Prelude.{◌≡◌, ◌+◌, ◌||◌, length, Some}
 use Rattle.partial_words.specs.Layout.{IsLayout}
 use Rattle.partial_machine.specs.declared.stage.Reply.{Reply}
 use Rattle.partial_machine.specs.declared.stage.Stage.TheVariants.{Idle}

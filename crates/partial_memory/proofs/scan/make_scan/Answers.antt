@@ -22,10 +22,10 @@ returns-in_default-clause-ended c = record {
 pub returns-clause-ended : goal.returns-clause-ended
 returns-clause-ended c =
     let b = at_stage c.args.core.now ScanBegun in
-    let x = one_of c.args.seat.now.me.0 in
+    let x = one_of c.args.seat.me.0 in
     record {
-      machine = machine_of c.leave.new.seat.me;
-      made = c.leave.ensures.leads b x c.requires.begins (c.scan_positions-embedded.ensures.leads b x c.requires.begins (c.join.ensures.leads b x c.requires.begins c.loop-k.invariant.made));
-      replies = c.leave.ensures.replies;
-      idle = c.leave.ensures.core;
+      machine = machine_of c.leave-reply.new.seat.me;
+      made = c.leave-reply.ensures.leads b x c.requires.begins (c.scan_positions-behind.ensures.leads b x c.requires.begins (c.join.ensures.leads b x c.requires.begins c.loop-k.invariant.made));
+      replies = c.leave-reply.ensures.replies;
+      idle = c.leave-reply.ensures.core;
     }

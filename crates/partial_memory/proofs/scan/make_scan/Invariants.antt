@@ -14,5 +14,5 @@ abbrev pub invariant-loop-k : goal.invariant-loop-k
 invariant-loop-k l = record {
   going : IsGoing l.words.table_id l.words.key l.seat.table_id l.seat.me;
   made : CallMade (at_stage l.fn.core ScanBegun) (one_of l.fn.seat.me.0) (machine_of l.seat.me) (one_of l.seat.me.0);
-  machine : machine_of l.seat.me ≡ announcing l.core l.at l.k;
+  machine : machine_of l.seat.me ≡ announcing l.fn.core l.at l.k;
 }

@@ -30,23 +30,23 @@ loop-step-preserved c = record {
   idle = ap (λ (s : CoreState). s.stage) c.answer_set-in-Some.ensures.state ∙ c.loop-step.invariant.idle;
 }
 
-pub write_record-requires-clause-going : goal.write_record-requires-clause-going
-write_record-requires-clause-going c = elim c.if-found_none.branch [
-  | else-found_none w ↦ subst (λ s. IsGoing c.args.words.now.table_id c.args.words.now.key s.table_id s.me) (sym w.seat-is) w.scan_found.ensures.going
+pub write_record-reply-requires-clause-going : goal.write_record-reply-requires-clause-going
+write_record-reply-requires-clause-going c = elim c.if-found_none.branch [
+  | else-found_none w ↦ subst (λ s. IsGoing c.args.words.now.table_id c.args.words.now.key s.table_id s.me) (sym w.seat-is) w.scan_found-seat.ensures.going
   | then-found_none w ↦ subst (λ s. IsGoing c.args.words.now.table_id c.args.words.now.key s.table_id s.me) (sym w.seat-is) c.loop-step.invariant.going
 ]
 
 pub returns-clause-ended : goal.returns-clause-ended
 returns-clause-ended c =
     let b = at_stage c.args.core.now (UpdateBegun c.args.change) in
-    let x = one_of c.args.seat.now.me.0 in
+    let x = one_of c.args.seat.me.0 in
     let made : CallMade b x (machine_of c.if-found_none.seat.me) (one_of c.if-found_none.seat.me.0) = elim c.if-found_none.branch [
-      | else-found_none w ↦ subst (λ s. CallMade b x (machine_of s.me) (one_of s.me.0)) (sym w.seat-is) (w.scan_found.ensures.leads b x c.requires.begins c.loop-step.invariant.made)
+      | else-found_none w ↦ subst (λ s. CallMade b x (machine_of s.me) (one_of s.me.0)) (sym w.seat-is) (w.scan_found-seat.ensures.leads b x c.requires.begins c.loop-step.invariant.made)
       | then-found_none w ↦ subst (λ s. CallMade b x (machine_of s.me) (one_of s.me.0)) (sym w.seat-is) c.loop-step.invariant.made
     ] in
     record {
-      machine = machine_of c.write_record.new.seat.me;
-      made = c.write_record.ensures.leads b x c.requires.begins made;
-      replies = c.write_record.ensures.replies;
-      idle = c.write_record.ensures.core;
+      machine = machine_of c.write_record-reply.new.seat.me;
+      made = c.write_record-reply.ensures.leads b x c.requires.begins made;
+      replies = c.write_record-reply.ensures.replies;
+      idle = c.write_record-reply.ensures.core;
     }

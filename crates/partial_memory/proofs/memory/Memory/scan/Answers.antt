@@ -31,8 +31,8 @@ invariant_of-me-2 c =
     let begins = scan_begins _ _ _ c.me.invariant c.me.inside.badge.table_id _ _ few some c.in_ok-ask.ensures.ok.0 (asked_begins c.me.inside.core _ _ some c.in_ok-ask.ensures.ok.1) in
     rests _ _ _ _ _ _ c.scan.ensures.one begins.begins c.scan.ensures.ended c.me.invariant.number
 
-pub copy_values-requires : goal.copy_values-requires
-copy_values-requires c =
+pub copy_scanned-requires : goal.copy_scanned-requires
+copy_scanned-requires c =
     let some : length c.args.which.now ≡ 0 → ⊥ = search rules in
     let sizes : c.me.inside.core.sizes ≡ c.args.self.now.about.sizes = search rules in
     let few : length c.args.which.now ≤ c.me.inside.core.sizes.m = subst (λ (z : Layout). length c.args.which.now ≤ z.m) (sym sizes) c.requires.lengths.1 in
@@ -67,7 +67,7 @@ returns-clause-ok c =
     let told = scan_ended _ _ _ c.me.invariant _ _ c.scan.ensures.table _ c.me.view_is _ _ _ _ c.scan.ensures.ended _ few some ok.0 (asked_begins c.me.inside.core _ _ some ok.1) in
     let idle = c.scan.ensures.ended.idle in
     elim c.match-scan.branch [
-      | in-Scanned w ↦ ok_ok _ _ _ w.result-is (scan_copied _ _ _ _ _ _ _ _ some idle (w.into-is ∙ w.copy_values.ensures) (told (reply.Scanned _ _) w.in-Scanned.is))
+      | in-Scanned w ↦ ok_ok _ _ _ w.result-is (scan_copied _ _ _ _ _ _ _ _ some idle (w.into-is ∙ w.copy_scanned.ensures) (told (reply.Scanned _ _) w.in-Scanned.is))
       | in-Refused w ↦ err_ok _ _ _ w.result-is
     ]
 

@@ -1,0 +1,110 @@
+//! An embedded scan made to its end, in loops over its buffers. Its loads are made by whoever asks for it.
+
+ghost use Rattle.std.specs.Prelude.{◌≡◌, IfSome};
+ghost use Rattle.partial_embedded.specs.Embedded.{GoTogether, IsFor, buffers};
+ghost use Rattle.partial_embedded.specs.declared.embedded.Stage.TheVariants.{Collect, Value, Done};
+
+use super::{Embedded, Stage};
+use crate::loads::Loads;
+use crate::rows::Rows;
+use partial_words::value_word;
+
+impl Embedded {
+    /// Makes this scan of these positions to its end, with its buffers, and gives it back. Each load is made
+    /// through `loads`, which are at this scan.
+    #[inline(always)]
+    pub fn make<L: Loads>(mut self, rows: &mut Rows, indices: &[u32], loads: &mut L) -> Embedded
+        requires goes { L.goes loads.old }
+        requires together { GoTogether indices.now (self, rows.old) }
+        requires scan { L.scan loads.old ≡ (self, rows.old) }
+        requires positions { L.positions loads.old ≡ indices.now }
+        ensures goes { L.goes loads.new }
+        ensures scan { L.scan loads.new ≡ (result, rows.new) }
+        ensures follows { L.follows loads.old loads.new }
+        ensures done { result.stage ≡ Done }
+        ensures rows { IsFor self.sizes rows.new }
+    {
+        let Rows {
+            last,
+            changed,
+            values,
+        } = rows;
+        self.make_loads(last, changed, values, indices, loads);
+        self
+    }
+
+    // The same over the buffers, which stay where they are: the first collect, the later ones, the values, and a
+    // borrowed view, each in a loop of its own.
+    #[inline(always)]
+    fn make_loads<L: Loads>(
+        &mut self,
+        last: &mut [u64],
+        changed: &mut [bool],
+        values: &mut [u64],
+        indices: &[u32],
+        loads: &mut L,
+    )
+        requires goes { L.goes loads.old }
+        requires together { GoTogether indices.now (self.old, buffers last.old changed.old values.old) }
+        requires scan { L.scan loads.old ≡ (self.old, buffers last.old changed.old values.old) }
+        requires positions { L.positions loads.old ≡ indices.now }
+        ensures goes { L.goes loads.new }
+        ensures scan { L.scan loads.new ≡ (self.new, buffers last.new changed.new values.new) }
+        ensures follows { L.follows loads.old loads.new }
+        ensures done { self.new.stage ≡ Done }
+        ensures rows { IsFor self.old.sizes (buffers last.new changed.new values.new) }
+    {
+        while let Some(position) = self.collecting_first() {
+            let word = self.sizes.component_word(indices[position]);
+            let stamp = loads.load(word);
+            self.after_load(last, changed, indices.len(), position, stamp);
+        }
+        while let Some(position) = self.collecting() {
+            let word = self.sizes.component_word(indices[position]);
+            let found = loads.load(word);
+            self.after_load(last, changed, indices.len(), position, found);
+        }
+        while let Some(position) = self.valuing() {
+            let word = value_word(last[position]) as u32;
+            let value = loads.load(word);
+            self.after_value(values, indices, position, value);
+        }
+        while let Some(word) = self.due_word(last, indices) {
+            let answer = loads.load(word);
+            self.after_answer(last, changed, values, indices, answer);
+        }
+    }
+
+    // The position whose component word is due to be loaded in the first collect, or None where that is over.
+    #[inline(always)]
+    fn collecting_first(&self) -> Option<usize>
+        ensures { IfSome result (λ k. self.now.stage ≡ Collect k) }
+    {
+        if self.collects != 1 {
+            return None;
+        }
+        self.collecting()
+    }
+
+    // The position whose component word is due to be loaded, or None where the collects are over.
+    #[inline(always)]
+    fn collecting(&self) -> Option<usize>
+        ensures { IfSome result (λ k. self.now.stage ≡ Collect k) }
+    {
+        match self.stage {
+            Stage::Collect { position } => Some(position),
+            _ => None,
+        }
+    }
+
+    // The position whose record's value is due to be loaded, or None where no value is.
+    #[inline(always)]
+    fn valuing(&self) -> Option<usize>
+        ensures { IfSome result (λ k. self.now.stage ≡ Value k) }
+    {
+        match self.stage {
+            Stage::Value { position } => Some(position),
+            _ => None,
+        }
+    }
+}
