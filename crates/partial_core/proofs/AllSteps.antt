@@ -1,7 +1,6 @@
 -- The one law of steps, over all stages, and how a call begins.
 use Rattle.std.proofs.Common.{ℕ, ◌≡◌, ◌<◌, ◌≤◌, ◌++◌, ◌⊎◌, Bool, true, false, cond, Some, None, List, [], ◌∷◌, length, take, get_or, refl, sym, ap, subst, ◌∙◌, inl, inr, arith}
-use Rattle.std.specs.List.{IsDistinct}
-use Rattle.std.specs.Prelude.{nat_eq, IfSome}
+use Rattle.std.specs.Prelude.{IfSome}
 use Rattle.std.proofs.lemmas.Bool.{false≢true}
 use Rattle.std.proofs.lemmas.List.{append-nil, take_all}
 use Rattle.partial_model.specs.declared.history.Applied.{Applied}
@@ -13,14 +12,11 @@ use Rattle.partial_words.specs.declared.step.Step.TheVariants.{Add}
 use Rattle.partial_words.specs.Layout.{Layout, IsLayout, pool_counter, list_base, pool_end, total}
 use Rattle.partial_words.specs.Announcement.{announcement_size}
 use Rattle.partial_words.specs.Step.{answer_of, words_after}
-use Rattle.partial_active.specs.Found.{IsFor as AreBuffersFor}
-use Rattle.partial_embedded.specs.Embedded.{IsFor as AreRowsFor}
 use Rattle.partial_machine.specs.declared.stage.Change.{Change}
 use Rattle.partial_machine.specs.declared.stage.Stage.{Stage}
 use Rattle.partial_machine.specs.declared.stage.Stage.TheVariants.{Idle, ReadBegun, LoadingValue, UpdateBegun, GettingSet, Viewing, ClaimingRecord, StoringRecord, Exchanging, ScanBegun, StoringAnnouncement, Joining, Scanning, Leaving, Finished}
 use Rattle.partial_machine.specs.Machine.{CoreState, lists_spent, record_size, advance, step_at, step_of, reply_of}
 use Rattle.partial_machine.specs.Calls.{is_begun, is_at_rest}
-use Rattle.partial_machine.specs.Sound.{AreComponents}
 use Rattle.partial_machine.specs.Possible.{IsPossible}
 use Rattle.partial_machine.specs.Behind.{IsBehind}
 use Rattle.partial_machine.proofs.Sound.{size_few}
@@ -30,7 +26,7 @@ use Rattle.partial_state.specs.LawfulWords.{IsDue}
 use Rattle.partial_state.specs.Loads.{IsLoaded, IsPublished}
 use Rattle.partial_state.specs.Effects.{Keeps}
 use Rattle.partial_state.proofs.LoadLaw.{loads_are_true}
-use Rattle.partial_core.specs.Part.{Part, core_of, port_of, HasBegun, IsLedTo, has_no_step}
+use Rattle.partial_core.specs.Part.{Part, core_of, port_of, HasBegun, IsLedTo, IsMarkedLike, has_no_step}
 use Rattle.partial_core.specs.Held.{holding_of, holdings, joined_since}
 use Rattle.partial_core.specs.Known.{IsKnown}
 use Rattle.partial_core.specs.Lawful.{Lawful}
@@ -79,6 +75,14 @@ started_same c x begun = ap (λ (b : Bool). record {
 abbrev bare : CoreState → Holding
 bare s = record { port = s.port; claimed = None; own = None; due = None; pool_spent = s.pool_spent; slots_spent = s.slots_spent; lists_spent = lists_spent s }
 
+-- the same of a machine with the same marks
+like_holds : (s c : CoreState) → IsMarkedLike s c → bare c ≡ bare s
+like_holds s c like =
+    ap (λ p. record (bare c) { port = p }) like.port
+    ∙ ap (λ f. record (bare c) { port = s.port; pool_spent = f }) like.pool
+    ∙ ap (λ f. record (bare c) { port = s.port; pool_spent = s.pool_spent; slots_spent = f }) like.slots
+    ∙ ap (λ f. record (bare c) { port = s.port; pool_spent = s.pool_spent; slots_spent = s.slots_spent; lists_spent = f }) like.lists
+
 begun_holds : (s : CoreState) (t : Stage) (n : ℕ) → is_begun t ≡ true → holding_in s t n ≡ bare s
 begun_holds s (ReadBegun j) n is = refl
 begun_holds s (UpdateBegun c) n is = refl
@@ -100,34 +104,25 @@ unmoved _ begun = absurd (false≢true begun)
 module _ (z : Layout) (o : Opening) (words : List ℕ) (before : List Part) (x : Part) (after : List Part) (log : List Applied) (w : Lawful z o words (before ++ x ∷ after) log) where
   -- what the port holds stays as a call begins
   pub begin_holds : (c : CoreState) → HasBegun c x → holding_of (fresh_call c x) ≡ holding_of x
-  begin_holds c h = begun_holds c c.stage 0 h.begun ∙ ap bare h.like ∙ sym (rest_holds (core_of x) (core_of x).stage (joined_since x) h.rest)
+  begin_holds c h = begun_holds c c.stage 0 h.begun ∙ like_holds (core_of x) c h.like ∙ sym (rest_holds (core_of x) (core_of x).stage (joined_since x) h.rest)
 
   -- a call begins where the machine is at rest: nothing else changes
   pub begin_lawful : (c : CoreState) → HasBegun c x → Lawful z o words (before ++ fresh_call c x ∷ after) log
   begin_lawful c h =
       let y : Part = fresh_call c x in
-      let same = h.like in
       let k = known_here z o words before x after log w in
-      let sound = sound_here z o words before x after log w in
-      let port : c.port ≡ port_of x = ap (λ (s : CoreState). s.port) same ∙ port_here z o words before x after log w in
+      let port : c.port ≡ port_of x = h.like.port ∙ port_here z o words before x after log w in
       let below = k.port in
       let holds : holding_of y ≡ holding_of x = begin_holds c h in
       let all = holdings_split before y after ∙ ap (λ (h : Holding). holdings before ++ h ∷ holdings after) holds ∙ sym (holdings_split before x after) in
       let nil = append-nil log in
       let known : IsKnown z o words (holdings (before ++ y ∷ after)) log y = record {
         port = omega (arith, port, below);
-        sizes = ap (λ (s : CoreState). s.sizes) same ∙ sizes_here z o words before x after log w;
+        sizes = h.like.sizes ∙ sizes_here z o words before x after log w;
         seen = k.seen;
         notes = subst (λ p. LegalNotes o x.seen p 0 x.notes) (sym port) k.notes;
         shown = k.shown;
-        sound = record {
-          asked = h.asked;
-          found = subst (λ (s : CoreState). AreBuffersFor s.sizes s.found) (sym same) sound.found;
-          indices = subst (λ (s : CoreState). AreComponents s.sizes s.found.indices) (sym same) sound.indices;
-          distinct = subst (λ (s : CoreState). IsDistinct nat_eq s.found.indices) (sym same) sound.distinct;
-          rows = subst (λ (s : CoreState). AreRowsFor s.sizes s.rows) (sym same) sound.rows;
-          stage = h.may;
-        };
+        sound = h.sound;
         begun = unmoved c.stage h.begun;
         since = omega arith;
         earlier = let shown = k.shown in let whole : seen_by 0 (take (length x.notes) x.notes) ≡ seen_by 0 x.notes =
@@ -290,7 +285,7 @@ steps_stay_lawful z o words before x after log c step w m due = by m
         (subst (λ (v : Part). Lawful z o words (before ++ v ∷ after) log) is (begin_lawful z o words before x after log w c h))
         (ap core_of is)
         (ap holding_of (sym is) ∙ begin_holds z o words before x after log w c h)
-        (ap port_of (sym is) ∙ ap (λ (s : CoreState). s.port) h.like ∙ port_here z o words before x after log w)
+        (ap port_of (sym is) ∙ h.like.port ∙ port_here z o words before x after log w)
         due
     by (inr l) =
         let is : x ≡ started c x = started_same c x l.going in

@@ -15,7 +15,7 @@ lawful_machines_are_ready z o words before x after log c w m = by m
     by (inl h) =
         let k = known_here z o words before (fresh_call c x) after log (begin_lawful z o words before x after log w c h) in
         let sound = k.sound in
-        record { sound = sound; sizes = k.sizes; number = ap (λ (s : CoreState). s.port) h.like ∙ port_here z o words before x after log w; due = due_at c c.stage sound.stage }
+        record { sound = sound; sizes = k.sizes; number = h.like.port ∙ port_here z o words before x after log w; due = due_at c c.stage sound.stage }
     by (inr l) =
         let sound : IsSound c = subst IsSound (sym l.is) (sound_here z o words before x after log w) in
         record {

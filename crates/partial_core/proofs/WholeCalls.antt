@@ -14,17 +14,17 @@ use Rattle.partial_machine.specs.declared.stage.Reply.TheVariants as reply
 use Rattle.partial_machine.specs.declared.stage.Stage.{Stage}
 use Rattle.partial_machine.specs.declared.stage.Stage.TheVariants.{Idle, Finished}
 use Rattle.partial_machine.specs.Machine.{CoreState, at_stage, advance, reply_at, reply_of}
-use Rattle.partial_machine.specs.Calls.{is_begun, is_at_rest, begun_like, begun_of, begin_scan}
-use Rattle.partial_machine.specs.Sound.{IsSound, AreComponents}
+use Rattle.partial_machine.specs.Calls.{is_begun, is_at_rest, begun_of, begin_scan}
+use Rattle.partial_machine.specs.Sound.{IsSound}
 use Rattle.partial_machine.specs.Possible.{IsPossible, IsPossibleAt}
 use Rattle.partial_machine.specs.Steps.{Run, AreOfScan, pairs_loaded}
 use Rattle.partial_machine.specs.Bounds.{most_steps}
 use Rattle.partial_machine.specs.Behind.{IsMarkedFor, refuses_pool, refuses_slots, IsBehind}
-use Rattle.partial_machine.proofs.Begins.{calls_begin}
+use Rattle.partial_machine.proofs.Begins.{calls_begin, rests_are_sound}
 use Rattle.partial_machine.proofs.StepCounts.{makes_few_steps, reads_in_two}
 use Rattle.partial_machine.proofs.ScanCounts.{scans_make_their_steps}
 use Rattle.partial_state.specs.Loads.{Kept}
-use Rattle.partial_core.specs.Part.{Part, core_of, answers_of, first_at, HasBegun}
+use Rattle.partial_core.specs.Part.{Part, core_of, answers_of, first_at, HasBegun, IsMarkedLike}
 use Rattle.partial_core.specs.Steps.{AreNotesOf, Tells}
 use Rattle.partial_core.specs.Calls.{IsRefusedLast, Made, FirstStepsMakeCalls, FurtherStepsMakeCalls, MadeCallsMakeTheirSteps, CallsBeginBetween, PortsComeBetween}
 use Rattle.partial_core.proofs.Parts.{seen_within}
@@ -163,41 +163,46 @@ made_calls_make_their_steps z o b x c y layout m =
           subst (λ (k : ℕ). AreOfScan (length b.asked) n (pairs_loaded b (answers_of y.kept)) k borrowed) long steps;
     }
 
--- a machine that has begun a call differs from the one between calls by its stage and positions alone
-begun_from : (s d : CoreState) (c : Call) → s ≡ begun_like d s → begun_of s c ≡ begun_like d (begun_of s c)
-begun_from s d (call.Update j v) same = ap (λ (u : CoreState). begun_of u (call.Update j v)) same
-begun_from s d (call.Scan js) same = ap (λ (u : CoreState). begun_of u (call.Scan js)) same
-begun_from s d (call.Read j) same = ap (λ (u : CoreState). begun_of u (call.Read j)) same
-begun_from s d (call.UpdateIf j x v) same = ap (λ (u : CoreState). begun_of u (call.UpdateIf j x v)) same
+-- a machine that has begun a call has the marks of the one between calls
+begun_from : (s d : CoreState) (c : Call) → IsMarkedLike d s → IsMarkedLike d (begun_of s c)
+begun_from s d (call.Update j v) like = record { sizes = like.sizes; port = like.port; pool = like.pool; slots = like.slots; lists = like.lists }
+begun_from s d (call.Scan js) like = record { sizes = like.sizes; port = like.port; pool = like.pool; slots = like.slots; lists = like.lists }
+begun_from s d (call.Read j) like = record { sizes = like.sizes; port = like.port; pool = like.pool; slots = like.slots; lists = like.lists }
+begun_from s d (call.UpdateIf j x v) like = record { sizes = like.sizes; port = like.port; pool = like.pool; slots = like.slots; lists = like.lists }
 
 pub calls_begin_between : CallsBeginBetween
 calls_begin_between x core between = record {
   begins = λ c served is makes.
-      let b = calls_begin core c between.asked served is in
+      let b = calls_begin core c between.sound.asked served is in
       record {
         begun = b.begun ∙ makes;
         rest = between.rest;
-        like = begun_from core (core_of x) c between.machine;
-        asked = subst (λ (y : Layout). AreComponents y (begun_of core c).asked) (ap (λ (s : CoreState). s.sizes) (sym b.like)) b.asked;
-        may = b.may;
+        like = begun_from core (core_of x) c between.like;
+        sound = b.sound between.sound;
       };
-  at_once = record {
-    rest = between.rest;
-    machine = ap (λ (u : CoreState). at_stage (begin_scan u []) Idle) between.machine;
-    idle = refl;
-    asked = record { few = omega arith; each = λ k below. absurd (omega (arith, below)) };
-  };
+  at_once =
+      let b = calls_begin core (call.Scan []) between.sound.asked (omega arith) refl in
+      let like = between.like in
+      record {
+        rest = between.rest;
+        like = record { sizes = like.sizes; port = like.port; pool = like.pool; slots = like.slots; lists = like.lists };
+        idle = refl;
+        sound = rests_are_sound.idle (begin_scan core []) (b.sound between.sound);
+      };
 }
 
 pub ports_come_between : PortsComeBetween
 ports_come_between = (
-  (λ z port. record { rest = refl; machine = refl; idle = refl; asked = record { few = omega arith; each = λ k below. absurd (omega (arith, below)) } }),
-  (λ z o b x c y m replied.
-      let s = m.sound in
-      record {
-        rest = ap (λ (d : CoreState). is_at_rest d.stage) (sym m.machine.is) ∙ m.rests ∙ replied;
-        machine = subst (λ (d : CoreState). at_stage c Idle ≡ begun_like d (at_stage c Idle)) m.machine.is refl;
-        idle = refl;
-        asked = s.asked;
-      }),
+  (λ z port. record {
+    rest = refl;
+    like = record { sizes = refl; port = refl; pool = refl; slots = refl; lists = refl };
+    idle = refl;
+    sound = rests_are_sound.fresh z port;
+  }),
+  (λ z o b x c y m replied. record {
+    rest = ap (λ (d : CoreState). is_at_rest d.stage) (sym m.machine.is) ∙ m.rests ∙ replied;
+    like = subst (λ (d : CoreState). IsMarkedLike d (at_stage c Idle)) m.machine.is (record { sizes = refl; port = refl; pool = refl; slots = refl; lists = refl });
+    idle = refl;
+    sound = rests_are_sound.idle c m.sound;
+  }),
 )

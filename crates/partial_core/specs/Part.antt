@@ -5,9 +5,9 @@ use Rattle.partial_model.specs.Notes.{Noted}
 use Rattle.partial_words.specs.Layout.{Layout}
 use Rattle.partial_machine.specs.declared.stage.Stage.{Stage}
 use Rattle.partial_machine.specs.declared.stage.Stage.TheVariants.{Idle, ReadBegun, UpdateBegun, ScanBegun}
-use Rattle.partial_machine.specs.Machine.{CoreState, advance, fresh}
-use Rattle.partial_machine.specs.Calls.{is_begun, is_at_rest, begun_like}
-use Rattle.partial_machine.specs.Sound.{AreComponents, is_sound_at}
+use Rattle.partial_machine.specs.Machine.{CoreState, advance, fresh, lists_spent}
+use Rattle.partial_machine.specs.Calls.{is_begun, is_at_rest}
+use Rattle.partial_machine.specs.Sound.{IsSound}
 pub use Rattle.partial_state.specs.Loads.{Kept}
 
 -- A port's part of the state. `since` and `past` tell of the time at which its last call that made a step began.
@@ -53,13 +53,21 @@ abbrev pub first_at : List Kept → ℕ
 first_at [] = 0
 first_at (k ∷ ks) = k.at
 
+-- The machine c has the sizes, the number and the marks of the machine s. Nothing else of a machine at rest is asked for again: each call
+-- sets anew what it uses.
+pub record IsMarkedLike (s c : CoreState) : Type 0 where
+  pub sizes : c.sizes ≡ s.sizes
+  pub port : c.port ≡ s.port
+  pub pool : c.pool_spent ≡ s.pool_spent
+  pub slots : c.slots_spent ≡ s.slots_spent
+  pub lists : lists_spent c ≡ lists_spent s
+
 -- the machine c has begun a call where the port's machine was at rest
 pub record HasBegun (c : CoreState) (x : Part) : Type 0 where
   pub begun : is_begun c.stage ≡ true
   pub rest : is_at_rest (core_of x).stage ≡ true
-  pub like : c ≡ begun_like (core_of x) c
-  pub asked : AreComponents c.sizes c.asked
-  pub may : is_sound_at c c.stage
+  pub like : IsMarkedLike (core_of x) c
+  pub sound : IsSound c
 
 -- the machine c is where the kept answers lead
 pub record IsLedTo (c : CoreState) (x : Part) : Type 0 where
@@ -70,12 +78,12 @@ pub record IsLedTo (c : CoreState) (x : Part) : Type 0 where
 abbrev pub IsMachineOf : CoreState → Part → Type 0
 IsMachineOf c x = HasBegun c x ⊎ IsLedTo c x
 
--- Between calls the machine is idle. It is the part's but for the positions of scans that made no step.
+-- Between calls the machine is idle, with the marks of the part's.
 pub record IsBetween (x : Part) (core : CoreState) : Type 0 where
   pub rest : is_at_rest (core_of x).stage ≡ true
-  pub machine : core ≡ begun_like (core_of x) core
+  pub like : IsMarkedLike (core_of x) core
   pub idle : core.stage ≡ Idle
-  pub asked : AreComponents core.sizes core.asked
+  pub sound : IsSound core
 
 -- the part once its port has seen that history
 abbrev pub with_seen : List Applied → Part → Part

@@ -1,15 +1,13 @@
 -- The parts of a port's machine, one by one, for calls whose steps are made in straight lines.
-use Rattle.std.specs.Prelude.{ℕ, ◌≡◌, Bool, true, false, List, Option, IsSome}
+use Rattle.std.specs.Prelude.{ℕ, ◌≡◌, Bool, false, List, Option, IsSome}
 use Rattle.partial_words.specs.declared.step.Step.{Step}
 use Rattle.partial_active.specs.declared.join.JoinStage.{JoinStage}
 use Rattle.partial_active.specs.declared.join.JoinStage.TheVariants.{Joined, Spent}
-use Rattle.partial_active.specs.Leave.{advance_leave}
 use Rattle.partial_active.specs.GetSet as finding
 use Rattle.partial_active.specs.GetSetAnswers as finding_answers
 use Rattle.partial_embedded.specs.Embedded as viewing
-use Rattle.partial_machine.specs.declared.stage.Positions.{Positions}
-use Rattle.partial_machine.specs.declared.stage.Positions.TheVariants.{Asked, Found}
-use Rattle.partial_machine.specs.Machine.{CoreState, getting, scanning, with_getting}
+use Rattle.partial_machine.specs.declared.stage.Stage.TheVariants.{ScanBegun}
+use Rattle.partial_machine.specs.Machine.{CoreState, getting, scanning, slots_refused, with_getting}
 
 -- the machine with a getSet that has made no step
 abbrev pub set_begun : CoreState → CoreState
@@ -49,19 +47,13 @@ scan_begun s shares = with_embedded s (viewing.fresh s.sizes shares)
 abbrev pub scan_step : CoreState → List ℕ → Option Step
 scan_step s indices = viewing.step_of indices (scanning s)
 
--- an embedded scan of those indices is under way, or it is finished
-pub record IsScanning (s : CoreState) (indices : List ℕ) : Type 0 where
-  pub together : viewing.GoTogether indices (scanning s)
-  pub sizes : s.embedded.sizes ≡ s.sizes
-
--- the positions of an embedded scan: those that are asked for, or the indices found
-abbrev pub positions_of : CoreState → Positions → List ℕ
-positions_of s Asked = s.asked
-positions_of s Found = s.found.indices
-
 -- the machine with the positions of a scan
 abbrev pub asking : CoreState → List ℕ → CoreState
 asking s which = record s { asked = which }
+
+-- the machine that has begun a scan of these positions
+abbrev pub scan_asked : CoreState → List ℕ → CoreState
+scan_asked s which = record s { asked = which; stage = ScanBegun }
 
 -- the machine with a join of the announcement at that place, at that stage
 abbrev pub join_at : CoreState → ℕ → JoinStage → CoreState
@@ -71,10 +63,6 @@ join_at s at stage = record s { join = record { sizes = s.sizes; announcement = 
 abbrev pub joined : CoreState → ℕ → ℕ → CoreState
 joined s at slot = record (join_at s at (Joined slot)) { leave = record { sizes = s.sizes; slot = slot; left = false } }
 
--- the claim of a slot was refused, and the port is marked for the slots
-abbrev pub slots_marked : CoreState → ℕ → CoreState
-slots_marked s at = record (join_at s at Spent) { slots_spent = true }
-
--- the slot is left
-abbrev pub left : CoreState → CoreState
-left s = record s { leave = advance_leave s.leave }
+-- there was no slot left for it, and the scan is refused
+abbrev pub not_joined : CoreState → ℕ → CoreState
+not_joined s at = slots_refused (join_at s at Spent)

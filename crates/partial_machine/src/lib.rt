@@ -7,4 +7,4 @@ pub mod machine;
 pub mod stage;
 
 pub use machine::{Core, exchanged};
-pub use stage::{Change, Positions, Reply, Stage};
+pub use stage::{Change, Reply, Stage};

@@ -210,7 +210,8 @@ impl Core {
         ensures err { IfErr result (λ cause. (scan_refusal self.old components.now ≡ Some cause) ×
             (self.new ≡ self.old)) }
     {
-        self.ask(components)?;
+        self.may_scan(components)?;
+        set_asked(&mut self.asked, components);
         self.stage = if components.is_empty() {
             Stage::Finished {
                 reply: Reply::Scanned {
@@ -222,23 +223,6 @@ impl Core {
             Stage::ScanBegun
         };
         Ok(())
-    }
-
-    // Why a scan of these components is refused, if it is.
-    fn scan_refusal(&self, components: &[u32]) -> Option<Refused>
-        ensures { result ≡ scan_refusal self.now components.now }
-    {
-        if !all_below(components, self.sizes.m()) {
-            Some(Refused::Component)
-        } else if components.is_empty() {
-            None
-        } else if self.pool_spent {
-            Some(Refused::PoolSpent)
-        } else if self.slots_spent {
-            Some(Refused::SlotsSpent)
-        } else {
-            None
-        }
     }
 
     /// Begins a call as the method of its kind does.
@@ -568,9 +552,13 @@ impl Core {
         requires stage { self.old.stage ≡ Leaving }
         ensures { self.new ≡ advance_at self.old Leaving x }
     {
-        let reply = self.scanned_reply();
         self.leave.answer(x);
-        self.stage = Stage::Finished { reply };
+        self.stage = Stage::Finished {
+            reply: Reply::Scanned {
+                collects: self.embedded.collects(),
+                borrowed: self.embedded.borrowed(),
+            },
+        };
     }
 
     /// Takes the reply of a finished call, and the machine is idle again. There is none where no call
@@ -589,10 +577,10 @@ impl Core {
         }
     }
 
-    /// Value `k`, counted from 0, of the last scan that was answered, in the order of its positions. It
-    /// is there until the next call is begun.
+    // Value `k`, counted from 0, of the last scan that was answered, in the order of its positions. It is there
+    // until the next call is begun.
     #[inline(always)]
-    pub fn scanned(&self, k: usize) -> u64
+    fn scanned(&self, k: usize) -> u64
         requires { k < length self.now.asked }
         ensures { result ≡ slice_index (scanned_values self.now) k }
     {

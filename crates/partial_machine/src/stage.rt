@@ -105,12 +105,3 @@ pub enum Stage {
         reply: Reply,
     },
 }
-
-/// Whose positions an embedded scan has.
-#[derive(Clone, Copy, Debug, PartialEq, Eq)]
-pub enum Positions {
-    /// Those that a scan asks for.
-    Asked,
-    /// The indices that the getSet of an update has found.
-    Found,
-}

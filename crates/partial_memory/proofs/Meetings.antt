@@ -22,8 +22,8 @@ rests_met views after core number log w fit is =
     let y = having_met log (one_in views) in
     let rest : IsResting ((y ∷ []) ∷ []) core number = record {
       one = refl;
-      between = record { rest = w.between.rest; machine = w.between.machine; idle = w.between.idle; asked = w.between.asked };
-      sound = w.sound;
+      between = record { rest = w.between.rest; like = w.between.like; idle = w.between.idle; sound = w.between.sound };
+      led = w.led;
       layout = w.layout;
       sizes = w.sizes;
       number = w.number;

@@ -39,7 +39,7 @@ newcomer_rests : (about : About) (i : ℕ) → IsLayout about.sizes → IsRestin
 newcomer_rests about i layout = record {
   one = refl;
   between = ports_come_between.0 about.sizes i;
-  sound = rests_are_sound.fresh about.sizes i;
+  led = rests_are_sound.fresh about.sizes i;
   layout = layout;
   sizes = refl;
   number = refl;

@@ -8,18 +8,32 @@ use Rattle.partial_embedded.specs.Embedded as viewing
 use Rattle.partial_embedded.specs.declared.embedded.Stage as viewed
 use Rattle.partial_embedded.specs.declared.embedded.Stage.TheVariants.{Done}
 use Rattle.partial_machine.specs.declared.stage.Change.{Change}
-use Rattle.partial_machine.specs.declared.stage.Positions.{Positions}
-use Rattle.partial_machine.specs.declared.stage.Positions.TheVariants.{Asked, Found}
 use Rattle.partial_machine.specs.declared.stage.Stage.{Stage}
 use Rattle.partial_machine.specs.declared.stage.Stage.TheVariants.{GettingSet, Viewing, ClaimingRecord, Scanning, Leaving}
-use Rattle.partial_machine.specs.Lines.{positions_of, scan_begun, scan_step, set_answered, set_step, with_embedded}
+use Rattle.partial_machine.specs.Lines.{scan_begun, scan_step, set_answered, set_step}
 use Rattle.partial_machine.specs.Machine.{CoreState, advance, after_getting, at_stage, scanning, step_at, step_of, with_scanning}
 use Rattle.partial_machine.specs.Possible.{IsPossible, IsPossibleAt}
-use Rattle.partial_memory.specs.Inner.Lines.{IsAtScan, IsScanStage, behind_scan, positions_at}
+use Rattle.partial_machine.specs.Sound.{IsSound, is_sound_at}
+use Rattle.partial_memory.specs.Inner.Lines.{IsScanStage, IsViewing, behind_scan, positions_at}
 
 -- the machine whose getSet is under way, or over, and of which the caller keeps the stage
 abbrev pub set_made : CoreState → Change → ℕ → CoreState
 set_made s c old = after_getting (at_stage s (GettingSet c old)) c old
+
+-- an answer to it changes the getSet and what is found alone
+pub answered_alone : (s t : CoreState) (a : ℕ) → t ≡ set_answered s a → t ≡ record s { get_set = t.get_set; found = t.found }
+answered_alone s t a is = is ∙ ap (λ (u : CoreState). record s { get_set = u.get_set; found = u.found }) (sym is)
+
+-- that changes neither the sizes nor what is found
+pub set_same : (s : CoreState) (c : Change) (old : ℕ) → ((set_made s c old).sizes ≡ s.sizes) × ((set_made s c old).found ≡ s.found)
+set_same s c old = by_step (set_step s)
+  where
+    made : Option Step → CoreState
+    made o = option_map_or (λ _. at_stage s (GettingSet c old)) o (at_stage (scan_begun s true) (cond (length s.found.indices == 0) (ClaimingRecord c old) (Viewing c old)))
+
+    by_step : (o : Option Step) → ((made o).sizes ≡ s.sizes) × ((made o).found ≡ s.found)
+    by_step (Some u) = (refl, refl)
+    by_step None = (refl, refl)
 
 pub set_then : (s g : CoreState) (c : Change) (old a : ℕ) (step : Step) (d v : CoreState) → g ≡ set_made s c old → set_step s ≡ Some step → d ≡ advance g a → v ≡ set_answered s a
     → d ≡ set_made v c old
@@ -96,12 +110,18 @@ scan_on s d Leaving step a e w due then = absurd (none_some (sym w ∙ due))
 scan_on s d (ClaimingRecord c old) step a e w due then = absurd (none_some (sym w ∙ due))
 scan_on s d _ step a e w due then = absurd w
 
--- the call is at the embedded scan of those positions, which has begun
-pub scan_from : (s g : CoreState) (positions : Positions) (t : Stage) → IsAtScan positions t → g ≡ at_stage s t → IsSome (scan_step s (positions_of s positions)) →
-    (positions_at g g.stage ≡ positions_of s positions) × IsScanStage g g.stage
-scan_from s g Asked Scanning at is due = (ap (λ (q : CoreState). positions_at q q.stage) is, subst (λ (q : CoreState). IsScanStage q q.stage) (sym is) due)
-scan_from s g Found (Viewing c old) at is due = (ap (λ (q : CoreState). positions_at q q.stage) is, subst (λ (q : CoreState). IsScanStage q q.stage) (sym is) due)
-scan_from s g _ _ at is due = absurd at
+-- a sound machine is at an embedded scan of which a step is due
+pub record AtScan (s : CoreState) (t : Stage) : Type 0 where
+  pub together : viewing.GoTogether (positions_at s t) (scanning s)
+  pub sizes : s.embedded.sizes ≡ s.sizes
+  pub stage : IsScanStage s t
+
+pub at_asked : (s : CoreState) → IsSound s → s.stage ≡ Scanning → AtScan s Scanning
+at_asked s w e = let h = subst (is_sound_at s) e w.stage in record { together = h.0; sizes = h.1; stage = h.2 }
+
+pub at_found : (s : CoreState) (t : Stage) → IsSound s → s.stage ≡ t → IsViewing t → AtScan s t × (positions_at s t ≡ s.found.indices)
+at_found s (Viewing c old) w e at = let h = subst (is_sound_at s) e w.stage in (record { together = h.1; sizes = h.2; stage = h.3 }, refl)
+at_found s _ w e at = absurd at
 
 -- where it is finished, the call has come to the stage behind it
 pub scan_over : (s : CoreState) (t : Stage) → s.stage ≡ t → IsScanStage s t → s.embedded.stage ≡ Done → s.stage ≡ behind_scan s.stage
@@ -111,11 +131,9 @@ scan_over s Scanning e w done = absurd (false≢true (sym (ap (λ (u : viewed.St
 scan_over s (Viewing c old) e w done = absurd (false≢true (sym (ap (λ (u : viewed.Stage). is_some (viewing.step_at s.embedded.sizes s.found.indices s.rows.last u)) done) ∙ w))
 scan_over s _ e w done = absurd w
 
-pub scan_made : (s v g d : CoreState) (e f : viewing.EmbeddedState) (t : Stage) → g ≡ at_stage (with_embedded s e) t → d ≡ at_stage (with_scanning g (scanning d)) d.stage →
-    scanning d ≡ (f, v.rows) → v ≡ record s { rows = v.rows } → d.stage ≡ behind_scan d.stage → behind_scan d.stage ≡ behind_scan g.stage → d ≡ at_stage (with_embedded v f) (behind_scan g.stage)
-scan_made s v g d e f t from rest at core over after =
+pub scan_made : (g d : CoreState) (p : viewing.Pair) → d ≡ at_stage (with_scanning g (scanning d)) d.stage → scanning d ≡ p → d.stage ≡ behind_scan d.stage →
+    behind_scan d.stage ≡ behind_scan g.stage → d ≡ at_stage (with_scanning g p) (behind_scan g.stage)
+scan_made g d p rest at over after =
     rest
     ∙ ap (λ (u : Stage). at_stage (with_scanning g (scanning d)) u) (over ∙ after)
-    ∙ ap (λ (p : viewing.Pair). at_stage (with_scanning g p) (behind_scan g.stage)) at
-    ∙ ap (λ (q : CoreState). at_stage (with_scanning q (f, v.rows)) (behind_scan g.stage)) from
-    ∙ ap (λ (q : CoreState). at_stage (with_embedded q f) (behind_scan g.stage)) (sym core)
+    ∙ ap (λ (q : viewing.Pair). at_stage (with_scanning g q) (behind_scan g.stage)) at

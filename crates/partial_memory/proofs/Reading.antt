@@ -6,23 +6,22 @@ use Rattle.atomic_table.specs.Seated.{TableId}
 use Rattle.partial_model.specs.declared.call.Call.TheVariants as call
 use Rattle.partial_model.specs.declared.call.Refused.TheVariants as refused
 use Rattle.partial_words.specs.declared.step.Step.TheVariants.{Load}
-use Rattle.partial_words.specs.Layout.{Layout, total}
+use Rattle.partial_words.specs.Layout.{Layout, IsLayout, total}
 use Rattle.partial_words.specs.Record.{value_word}
 use Rattle.partial_machine.specs.declared.stage.Reply.TheVariants as reply
-use Rattle.partial_machine.specs.declared.stage.Stage.TheVariants.{Idle, ReadBegun}
-use Rattle.partial_machine.specs.Machine.{CoreState, advance, at_stage, step_of}
-use Rattle.partial_machine.specs.Calls.{begin_scan, begun_like, begun_of, refusal_of}
-use Rattle.partial_machine.proofs.Laws.{calls_begin, rests_are_sound}
-use Rattle.partial_core.specs.Part.{IsBetween, IsMachineOf, core_of, port_of}
+use Rattle.partial_machine.specs.Machine.{CoreState, advance, step_of}
+use Rattle.partial_machine.specs.Calls.{refusal_of}
+use Rattle.partial_machine.specs.Sound.{IsSound}
+use Rattle.partial_core.specs.Part.{IsBetween, IsMachineOf, IsMarkedLike, core_of, port_of}
 use Rattle.partial_core.specs.Steps.{Fits}
-use Rattle.partial_core.proofs.Laws.{calls_begin_between, ports_come_between}
+use Rattle.partial_core.proofs.Laws.{ports_come_between}
 use Rattle.partial_memory.specs.declared.rule.About.{About}
 use Rattle.partial_memory.specs.Rule.{Seated, AreByOpened, IsBadgeOfOne, IsKept, IsOne, Told, makes, one_in, one_of, reading}
 use Rattle.partial_memory.specs.Inner.Steps.{CallMade}
 use Rattle.partial_memory.specs.Ports.{PortView, IsResting, port_view}
 use Rattle.partial_memory.specs.Calls.{Reads}
 use Rattle.partial_memory.proofs.Calls.{runs_machine, runs_on, runs_within}
-use Rattle.partial_memory.proofs.Resting.{CallBegins, call_begins}
+use Rattle.partial_memory.proofs.Resting.{CallBegins, refusal_here}
 use Rattle.partial_memory.proofs.Replies.{read_told}
 use Rattle.partial_memory.proofs.Steps.{step_asked}
 
@@ -30,28 +29,30 @@ below_none : (s : CoreState) (j : ℕ) → j < s.sizes.m → refusal_of s (call.
 below_none s j below = ap (λ b. cond b None (Some refused.Component)) (lt-ltb j s.sizes.m below)
 
 module _ (views : List (List Seated)) (core : CoreState) (number : ℕ) (w : IsResting views core number) where
-  -- the port between calls, with a machine that asks for no position
-  cleared : IsResting views (at_stage (begin_scan core []) Idle) number
-  cleared =
-      let x = one_in views in
-      let from = calls_begin core (call.Scan []) w.between.asked (omega arith) refl in
-      record {
-        one = w.one;
-        between = (calls_begin_between x.part core w.between).at_once;
-        sound = rests_are_sound.idle (begin_scan core []) (from.sound w.sound);
-        layout = w.layout;
-        sizes = w.sizes;
-        number = w.number;
-        fits = w.fits;
-        others = w.others;
-      }
-
   -- it begins a read
   pub read_begins : (t : TableId) (j : ℕ) → j < core.sizes.m → CallBegins t (one_in views) (reading (one_in views).part j) (call.Read j)
   read_begins t j below =
-      let s : CoreState = at_stage (begin_scan core []) Idle in
-      let is : reading (one_in views).part j ≡ begun_of s (call.Read j) = ap (λ (d : CoreState). record d { asked = []; stage = ReadBegun j }) (sym w.between.machine) in
-      call_begins views s number cleared t (reading (one_in views).part j) (call.Read j) tt (below_none s j below) refl is
+      let x = one_in views in
+      let led = w.led in
+      let like = w.between.like in
+      let sound : IsSound (reading x.part j) = record {
+        asked = record { few = omega arith; each = λ k under. absurd (omega (arith, under)) };
+        found = led.found;
+        indices = led.indices;
+        distinct = led.distinct;
+        rows = led.rows;
+        stage = subst (λ (z : Layout). j < z.m) like.sizes below;
+      } in
+      record {
+        begins = record {
+          begun = record { begun = refl; rest = w.between.rest; like = record { sizes = refl; port = refl; pool = refl; slots = refl; lists = refl }; sound = sound };
+          sound = sound;
+          layout = subst IsLayout like.sizes w.layout;
+          sizes = sym like.sizes ∙ w.sizes;
+        };
+        call = refl;
+        allowed = refusal_here views core number w t (call.Read j) ∙ below_none core j below;
+      }
 
   module _ (t : TableId) (j : ℕ) (below : j < core.sizes.m) (stamp : ℕ) (y : Seated) (first : Told (reading (one_in views).part j) (one_in views) stamp y) where
     abbrev b : CoreState
@@ -87,14 +88,15 @@ module _ (views : List (List Seated)) (core : CoreState) (number : ℕ) (w : IsR
           let m = read_made in
           let z : Layout = (one_in views).about.sizes in
           let ended = ports_come_between.1 z (one_in views).about.opening b (one_in views).part (advance (advance b stamp) value) v.part m.made refl in
-          let like : core ≡ begun_like (core_of v.part) core =
-          w.between.machine ∙ ap (λ (d : CoreState). begun_like d core) m.made.machine.is in
-          let between : IsBetween v.part core = record { rest = ended.rest; machine = like; idle = w.between.idle; asked = w.between.asked } in
+          let like = w.between.like in
+          let marked : IsMarkedLike (core_of v.part) core = subst (λ (d : CoreState). IsMarkedLike d core) m.made.machine.is
+          (record { sizes = like.sizes; port = like.port; pool = like.pool; slots = like.slots; lists = like.lists }) in
+          let between : IsBetween v.part core = record { rest = ended.rest; like = marked; idle = w.between.idle; sound = w.between.sound } in
           let about = m.about in
           record {
             one = one;
             between = subst (λ (u : Seated). IsBetween u.part core) (sym is) between;
-            sound = w.sound;
+            led = subst (λ (u : Seated). IsSound (core_of u.part)) (sym is) (subst IsSound m.made.machine.is m.made.sound);
             layout = w.layout;
             sizes = w.sizes ∙ ap (λ (o : About). o.sizes) (sym about) ∙ ap (λ (u : Seated). u.about.sizes) (sym is);
             number = w.number ∙ sym m.made.port ∙ ap (λ (u : Seated). port_of u.part) (sym is);

@@ -1,8 +1,7 @@
 -- What a call that has ended leaves of its port, by its reply.
-use Rattle.std.proofs.Common.{ℕ, ◌≡◌, ◌≤◌, ◌++◌, ◌||◌, false, cond, Option, Some, None, List, [], ◌∷◌, length, take, slice_index, refl, sym, ap, subst, ◌∙◌, arith}
+use Rattle.std.proofs.Common.{ℕ, ◌≡◌, ◌≤◌, ◌++◌, ◌||◌, false, cond, Option, Some, None, List, [], ◌∷◌, length, map, slice_index, refl, sym, ap, subst, ◌∙◌, arith}
 use Rattle.std.specs.Prelude.{Result, Ok, Err, IfOk, IfErr}
 use Rattle.std.proofs.lemmas.Bool.{ne_eqb}
-use Rattle.std.proofs.lemmas.List.{length-map}
 use Rattle.atomic_table.specs.Seated.{TableId}
 use Rattle.partial_model.specs.declared.call.Call.{Call}
 use Rattle.partial_model.specs.declared.call.Call.TheVariants as call
@@ -11,13 +10,13 @@ use Rattle.partial_model.specs.declared.call.Note.{Note}
 use Rattle.partial_model.specs.declared.call.Note.TheVariants as note
 use Rattle.partial_model.specs.declared.call.Refused.{Refused}
 use Rattle.partial_model.specs.declared.call.Refused.TheVariants as refused
-use Rattle.partial_model.specs.History.{value_of}
 use Rattle.partial_model.proofs.NotesLemmas.{LegalNotes-last}
 use Rattle.partial_model.specs.Notes.{Noted, Fits as NoteFits, IsTrueOf, LegalNotes, MayBeRefused}
+use Rattle.partial_embedded.specs.Embedded.{RowsState}
 use Rattle.partial_machine.specs.declared.stage.Reply.{Reply}
 use Rattle.partial_machine.specs.declared.stage.Reply.TheVariants as reply
-use Rattle.partial_machine.specs.declared.stage.Stage.TheVariants.{Finished, Idle, ScanBegun}
-use Rattle.partial_machine.specs.Machine.{CoreState, at_stage, reply_of, scanned_values}
+use Rattle.partial_machine.specs.declared.stage.Stage.TheVariants.{Finished, ScanBegun}
+use Rattle.partial_machine.specs.Machine.{CoreState, reply_of, scanned_values}
 use Rattle.partial_machine.specs.Calls.{answer_for, begin_scan, begun_of, call_of, scan_refusal, update_refusal}
 use Rattle.partial_machine.specs.Behind.{refuses_pool, refuses_slots}
 use Rattle.partial_machine.specs.Steps.{Run, AreOfScan, pairs_loaded}
@@ -94,10 +93,10 @@ module _ (t : TableId) (b : CoreState) (x : Seated) (c : CoreState) (y : Seated)
 
   -- the marks of the port before and behind the call
   pool_before : b.pool_spent ≡ p.pool_spent
-  pool_before = ap (λ (s : CoreState). s.pool_spent) w.begins.begun.like
+  pool_before = w.begins.begun.like.pool
 
   slots_before : b.slots_spent ≡ p.slots_spent
-  slots_before = ap (λ (s : CoreState). s.slots_spent) w.begins.begun.like
+  slots_before = w.begins.begun.like.slots
 
   pool_behind : (r : Reply) → reply_of c ≡ Some r → q.pool_spent ≡ (refuses_pool (Some r) || p.pool_spent)
   pool_behind r is = ap (λ (s : CoreState). s.pool_spent) (sym m.made.machine.is) ∙ m.pool ∙ ap (λ o. refuses_pool o || b.pool_spent) is ∙ ap (λ s. refuses_pool (Some r) || s) pool_before
@@ -173,13 +172,9 @@ abbrev pub ReadTold : PortView → ℕ → Reply → PortView → Type 0
 ReadTold p j (reply.Read v s) q = Reads p j v s q
 ReadTold p j _ q = ⊥
 
--- a scan: its values are the machine's, one for each position
-pub record ScanAnswered (p : PortView) (which : List ℕ) (machine : CoreState) (collects : ℕ) (borrowed : Option ℕ) (q : PortView) : Type 0 where
-  pub made : ScansSome p which (scanned_values machine) (record { collects = collects; borrowed = borrowed }) q
-  pub asked : length machine.asked ≡ length which
-
+-- a scan: its values are the machine's
 abbrev pub ScanTold : PortView → List ℕ → CoreState → Reply → PortView → Type 0
-ScanTold p which machine (reply.Scanned k s) q = ScanAnswered p which machine k s q
+ScanTold p which machine (reply.Scanned k s) q = ScansSome p which (scanned_values machine) (record { collects = k; borrowed = s }) q
 ScanTold p which machine (reply.Refused cause) q = RefusedLate p q (call.Scan which) cause
 ScanTold p which machine _ q = ⊥
 
@@ -261,16 +256,12 @@ module _ (t : TableId) (b : CoreState) (x : Seated) (c : CoreState) (y : Seated)
   saw_note which w stage asked k s (note.Saw n) is f holds a =
       let z : Layout = x.about.sizes in
       let layout : IsLayout z = subst IsLayout w.begins.sizes w.begins.layout in
-      let values : length (scanned_values c) ≡ length which = ap length holds.values ∙ length-map which (λ j. value_of y.about.opening (take n y.part.seen) j) in
       let steps = (made_calls_make_their_steps z x.about.opening b x.part c y.part layout m.made).scan k s stage is in
       record {
-        made = record {
-          n = n;
-          answered = a;
-          steps = subst (λ (v : CoreState). AreOfScan (length which) k (pairs_loaded v (answers_of y.part.kept)) (length y.part.kept) s) (sym m.made.begun)
-              (subst (λ (l : List ℕ). AreOfScan (length l) k (pairs_loaded b (answers_of y.part.kept)) (length y.part.kept) s) asked steps);
-        };
-        asked = sym (length-map c.asked (slice_index c.rows.values)) ∙ values;
+        n = n;
+        answered = a;
+        steps = subst (λ (v : CoreState). AreOfScan (length which) k (pairs_loaded v (answers_of y.part.kept)) (length y.part.kept) s) (sym m.made.begun)
+            (subst (λ (l : List ℕ). AreOfScan (length l) k (pairs_loaded b (answers_of y.part.kept)) (length y.part.kept) s) asked steps);
       }
   saw_note which w stage asked k s (note.Wrote n) is f holds a = absurd f
   saw_note which w stage asked k s (note.Lost n) is f holds a = absurd f
@@ -305,17 +296,14 @@ module _ (views : List (List Seated)) (core : CoreState) (number : ℕ) (w : IsR
       let stage : b.stage ≡ ScanBegun = ap (λ (d : CoreState). d.stage) is ∙ ap (λ f. cond f (Finished (reply.Scanned 0 None)) ScanBegun) (ne_eqb (length which) 0 some) in
       seen_as (λ a z. ScanTold a which e.machine s z) (scan_told t b (one_in views) e.machine y e.made which begins stage (ap (λ (d : CoreState). d.asked) is) s (e.replies ∙ ap Some told))
 
--- the values that a scan copied are those of the machine whose reply was taken
-pub scan_copied : (p q : PortView) (which into : List ℕ) (machine taken : CoreState) (k : ℕ) (s : Option ℕ) → (length which ≡ 0 → ⊥) → taken ≡ at_stage machine Idle →
-    into ≡ scanned_values taken → ScanAnswered p which machine k s q →
+-- the values that a scan copied are those of the machine that replied
+pub scan_copied : (p q : PortView) (which into : List ℕ) (machine : CoreState) (rows : RowsState) (k : ℕ) (s : Option ℕ) → (length which ≡ 0 → ⊥) → machine.asked ≡ which → rows ≡ machine.rows →
+    into ≡ map (slice_index rows.values) which → ScanTold p which machine (reply.Scanned k s) q →
     Scans p which into (record { collects = k; borrowed = s }) q
-scan_copied p q [] into machine taken k s some idle is w = absurd (some refl)
-scan_copied p q (j ∷ js) into machine taken k s some idle is w =
-    subst (λ (l : List ℕ). ScansSome p (j ∷ js) l (record { collects = k; borrowed = s }) q) (sym (is ∙ ap scanned_values idle)) w.made
-
-pub scan_asked : (p q : PortView) (which : List ℕ) (machine taken : CoreState) (k : ℕ) (s : Option ℕ) → taken ≡ at_stage machine Idle → ScanAnswered p which machine k s q →
-    length taken.asked ≡ length which
-scan_asked p q which machine taken k s idle w = ap (λ (d : CoreState). length d.asked) idle ∙ w.asked
+scan_copied p q [] into machine rows k s some asked same is w = absurd (some refl)
+scan_copied p q (j ∷ js) into machine rows k s some asked same is w =
+    let values : into ≡ scanned_values machine = is ∙ ap (λ (r : RowsState). map (slice_index r.values) (j ∷ js)) same ∙ ap (map (slice_index machine.rows.values)) (sym asked) in
+    subst (λ (l : List ℕ). ScansSome p (j ∷ js) l (record { collects = k; borrowed = s }) q) (sym values) w
 
 -- a scan of no position
 pub scans_none : (p : PortView) (which into : List ℕ) (q : PortView) → which ≡ [] → into ≡ [] → q ≡ p → Scans p which into (record { collects = 0; borrowed = None }) q

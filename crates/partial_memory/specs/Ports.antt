@@ -84,7 +84,8 @@ pub record Knows (p : PortView) : Type 0 where
 pub record IsResting (views : List (List Seated)) (core : CoreState) (named : ℕ) : Type 0 where
   pub one : IsBadgeOfOne views
   pub between : IsBetween (one_in views).part core
-  pub sound : IsSound core
+  -- the machine to which the answers of its last call led
+  pub led : IsSound (core_of (one_in views).part)
   pub layout : IsLayout core.sizes
   pub sizes : core.sizes ≡ (one_in views).about.sizes
   pub number : named ≡ port_of (one_in views).part

@@ -1,18 +1,18 @@
 //! The embedded scan of an update or a scan, whose loads are steps of the call of a seat's port.
 
-ghost use Rattle.std.specs.Prelude.{◌≡◌, IsSome};
+ghost use Rattle.std.specs.Prelude.{◌≡◌, true, false};
 ghost use Rattle.std.proofs.Common.{refl, ◌∙◌};
-ghost use Rattle.partial_machine.specs.declared.stage.Stage.TheVariants.{Idle};
+ghost use Rattle.partial_embedded.specs.Embedded.{fresh};
+ghost use Rattle.partial_machine.specs.declared.stage.Stage.TheVariants.{Idle, Scanning, Leaving};
 ghost use Rattle.partial_machine.specs.Machine.{at_stage, scanning, with_scanning};
-ghost use Rattle.partial_machine.specs.Lines.{IsScanning, positions_of, scan_step, with_embedded};
+ghost use Rattle.partial_machine.specs.Lines.{scan_begun};
 ghost use Rattle.partial_memory.specs.Rule.{one_of};
-ghost use Rattle.partial_memory.specs.Inner.Lines.{IsAtLoads, IsAtScan, IsGoing, Leads, ScansOn, behind_scan, machine_of, positions_at, scans_further, scans_itself};
+ghost use Rattle.partial_memory.specs.Inner.Lines.{IsAtLoads, IsGoing, IsViewing, Leads, ScansOn, behind_scan, machine_of, positions_at, scans_further, scans_itself};
 
 use crate::lines::make;
 use crate::rule::{Place, Words};
 use partial_core::Core;
 use partial_embedded::{Embedded, Loads};
-use partial_machine::Positions;
 use partial_words::Step;
 
 // The loads of the embedded scan that the call of the seat's port has come to.
@@ -45,30 +45,46 @@ impl<'a> Loads for SeatLoads<'a> {
     ) };
 }
 
-/// Makes this embedded scan of these positions, which has begun, to its end, and gives it back with the seat. The
-/// port's machine hasn't got it while its steps are made, so that its stage needs no memory.
+/// Makes the embedded scan of a scan of these positions, and gives it back with the seat. The port's machine hasn't
+/// got it while its steps are made, so that its stage needs no memory.
 #[inline(always)]
-pub fn scan_positions(
-    words: &Words,
-    seat: Place,
-    core: &mut Core,
-    positions: Positions,
-    embedded: Embedded,
-) -> (Place, Embedded)
+pub fn scan_asked(words: &Words, seat: Place, core: &mut Core, which: &[u32]) -> (Place, Embedded)
     requires going { IsGoing words.now.table_id words.now.key seat.table_id seat.me }
     requires idle { core.old.stage ≡ Idle }
-    requires scanning { IsScanning (with_embedded core.old embedded) (positions_of core.old positions) }
-    requires due { IsSome (scan_step (with_embedded core.old embedded) (positions_of core.old positions)) }
-    requires stage { IsAtScan positions (machine_of seat.me).stage }
-    requires machine { machine_of seat.me ≡ at_stage (with_embedded core.old embedded) (machine_of seat.me).stage }
+    requires stage { (machine_of seat.me).stage ≡ Scanning }
+    requires sizes { (machine_of seat.me).sizes ≡ core.old.sizes }
+    requires asked { (machine_of seat.me).asked ≡ which.now }
+    requires scan { scanning (machine_of seat.me) ≡ (fresh core.old.sizes false, core.old.rows) }
     ensures going { IsGoing words.now.table_id words.now.key result.0.table_id result.0.me }
     ensures leads { Leads (one_of seat.me.0) (one_of result.0.me.0) }
     ensures machine { machine_of result.0.me ≡
-        at_stage (with_embedded core.new result.1) (behind_scan (machine_of seat.me).stage) }
-    ensures core { with_embedded core.new result.1 ≡ with_scanning core.old (result.1, core.new.rows) }
+        at_stage (with_scanning (machine_of seat.me) (result.1, core.new.rows)) Leaving }
+    ensures core { core.new ≡ record core.old { rows = core.new.rows } }
 {
+    let begun = core.begin_scanning(false);
     let mut loads = SeatLoads { words, seat };
-    let made = core.make_scan(embedded, positions, &mut loads);
+    let embedded = core.scan_positions(begun, which, &mut loads);
     let SeatLoads { words: _, seat } = loads;
-    (seat, made)
+    (seat, embedded)
+}
+
+/// Makes the embedded scan of an update, of the indices found, which the port's machine keeps then. It stands apart,
+/// since mostly nobody scans, and then an update needs no room for it.
+#[inline(never)]
+pub fn scan_found(words: &Words, seat: Place, core: &mut Core) -> Place
+    requires going { IsGoing words.now.table_id words.now.key seat.table_id seat.me }
+    requires idle { core.old.stage ≡ Idle }
+    requires stage { IsViewing (machine_of seat.me).stage }
+    requires machine { machine_of seat.me ≡ at_stage (scan_begun core.old true) (machine_of seat.me).stage }
+    ensures going { IsGoing words.now.table_id words.now.key result.table_id result.me }
+    ensures leads { Leads (one_of seat.me.0) (one_of result.me.0) }
+    ensures machine { machine_of result.me ≡ at_stage core.new (behind_scan (machine_of seat.me).stage) }
+    ensures core { core.new ≡ with_scanning core.old (scanning core.new) }
+{
+    let begun = core.begin_scanning(true);
+    let mut loads = SeatLoads { words, seat };
+    let embedded = core.scan_found(begun, &mut loads);
+    core.keep_scan(embedded);
+    let SeatLoads { words: _, seat } = loads;
+    seat
 }

@@ -3,7 +3,8 @@
 
 ghost use Rattle.std.specs.Prelude.{◌≡◌, Some};
 ghost use Rattle.partial_words.specs.Layout.{total};
-ghost use Rattle.partial_machine.specs.declared.stage.Stage.TheVariants.{ScanBegun, UpdateBegun};
+ghost use Rattle.partial_machine.specs.declared.stage.Stage.TheVariants.{UpdateBegun};
+ghost use Rattle.partial_machine.specs.Lines.{scan_asked};
 ghost use Rattle.partial_machine.specs.Machine.{advance, at_stage, step_of};
 ghost use Rattle.partial_machine.specs.Possible.{IsPossible};
 ghost use Rattle.partial_memory.specs.Rule.{IsOne, one_of};
@@ -12,7 +13,7 @@ ghost use Rattle.partial_memory.specs.Inner.Lines.{IsGoing, Leads, machine_of};
 
 use crate::rule::{GoesOn, Makes, Moment, Place, PutsOn, Words};
 use partial_core::{Change, Core};
-use partial_words::Step;
+use partial_words::{Step, announcement_size};
 
 /// Makes the first step of an update, the load of its component, and gives its answer. The machine that begins
 /// the update is G's.
@@ -33,15 +34,15 @@ pub fn begin_update<G: Moment>(words: &Words, seat: &mut Place, core: &Core, cha
     words.load::<Makes<G>>(seat, word as usize)
 }
 
-/// Makes the first step of a scan, the claim of its announcement, and gives its answer. The machine that begins
-/// the scan is G's.
+/// Makes the first step of a scan of these positions, the claim of its announcement, and gives its answer. The
+/// machine that begins the scan is G's.
 #[inline(always)]
-pub fn begin_scan<G: Moment>(words: &Words, seat: &mut Place, core: &Core) -> u64
+pub fn begin_scan<G: Moment>(words: &Words, seat: &mut Place, core: &Core, which: &[u32]) -> u64
     requires table { seat.old.table_id ≡ words.now.table_id }
     requires words { words.now.table_id.words ≡ total words.now.key.sizes }
     requires one { IsOne seat.old.me }
     requires own { (one_of seat.old.me.0).about ≡ words.now.key }
-    requires moment { G.core ≡ at_stage core.now ScanBegun }
+    requires moment { G.core ≡ scan_asked core.now which.now }
     requires begins { Begins G.core (one_of seat.old.me.0) }
     ensures going { IsGoing words.now.table_id words.now.key seat.new.table_id seat.new.me }
     ensures made { CallMade G.core (one_of seat.old.me.0) (machine_of seat.new.me) (one_of seat.new.me.0) }
@@ -49,7 +50,7 @@ pub fn begin_scan<G: Moment>(words: &Words, seat: &mut Place, core: &Core) -> u6
     ensures possible { IsPossible G.core result }
 {
     let word = core.sizes().pool_counter();
-    let size = core.announcement_size();
+    let size = announcement_size(which.len() as u64);
     words.fetch_add::<Makes<G>>(seat, word as usize, size)
 }
 

@@ -258,10 +258,10 @@ impl Memory {
                 borrowed: None,
             });
         }
-        me.core.ask(which)?;
-        match scan(&self.table.shared, &mut me.badge, &mut me.core) {
+        me.core.may_scan(which)?;
+        match scan(&self.table.shared, &mut me.badge, &mut me.core, which) {
             Reply::Scanned { collects, borrowed } => {
-                me.core.copy_scanned(into);
+                me.core.copy_values(which, into);
                 Ok(Scanned { collects, borrowed })
             }
             Reply::Refused(cause) => Err(cause),

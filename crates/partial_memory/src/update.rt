@@ -1,25 +1,25 @@
-//! An update in straight lines. Its getSet and its embedded scan are made by their machines, each in a loop of
-//! its own.
+//! An update in straight lines. Its getSet and its embedded scan are made by their machines, each in loops of its
+//! own.
 
-ghost use Rattle.std.specs.Prelude.{◌≡◌, ◌<◌, ◌+◌, true, IsSome, Some};
+ghost use Rattle.std.specs.Prelude.{◌≡◌, ◌<◌, ◌+◌, [], Some, None};
 ghost use Rattle.partial_words.specs.Layout.{total};
 ghost use Rattle.partial_machine.specs.declared.stage.Stage.TheVariants.{Idle, UpdateBegun, ClaimingRecord};
-ghost use Rattle.partial_machine.specs.declared.stage.Positions.TheVariants.{Found};
-ghost use Rattle.partial_machine.specs.Machine.{at_stage, record_size, reply_of, scanning, with_scanning};
-ghost use Rattle.partial_machine.specs.Lines.{IsScanning, scan_begun, scan_step};
+ghost use Rattle.partial_machine.specs.Machine.{at_stage, record_size, reply_of};
+ghost use Rattle.partial_machine.specs.Sound.{IsSound};
+ghost use Rattle.partial_core.specs.Part.{IsMarkedLike};
 ghost use Rattle.partial_memory.specs.Rule.{IsBadgeOfOne, IsOne, one_in, one_of};
 ghost use Rattle.partial_memory.specs.Inner.Steps.{Begins, Ended};
-ghost use Rattle.partial_memory.specs.Inner.Lines.{IsAtScan, IsGoing, Leads, behind_scan, machine_of, writing};
+ghost use Rattle.partial_memory.specs.Inner.Lines.{IsGoing, Leads, machine_of, writing};
 
-use crate::embedded::scan_positions;
+use crate::embedded::scan_found;
 use crate::lines::{begin_update, make};
 use crate::port::take_seat;
 use crate::rule::{Place, View, Words};
 use atomic_table::Badge;
 use partial_core::{Change, Core, Reply};
-use partial_machine::{Positions, exchanged};
+use partial_machine::exchanged;
 use partial_model::Refused;
-use partial_words::Step;
+use partial_words::{Step, plain_record_size};
 use std::marker::Brand;
 
 /// Makes the steps of an update that isn't refused at once, and gives its reply.
@@ -29,6 +29,7 @@ pub fn update(words: &Words, badge: &mut Badge<View>, core: &mut Core, change: C
     requires one { IsBadgeOfOne badge.old.views }
     requires own { (one_in badge.old.views).about ≡ words.now.key }
     requires idle { core.old.stage ≡ Idle }
+    requires sound { IsSound core.old }
     requires begins { Begins (at_stage core.old (UpdateBegun change)) (one_in badge.old.views) }
     ensures table { badge.new.table_id ≡ badge.old.table_id }
     ensures one { IsBadgeOfOne badge.new.views }
@@ -47,6 +48,7 @@ fn make_update(words: &Words, mut seat: Place, core: &mut Core, change: Change) 
     requires one { IsOne seat.me }
     requires own { (one_of seat.me.0).about ≡ words.now.key }
     requires idle { core.old.stage ≡ Idle }
+    requires sound { IsSound core.old }
     requires begins { Begins (at_stage core.old (UpdateBegun change)) (one_of seat.me.0) }
     ensures table { result.0.table_id ≡ seat.table_id }
     ensures one { IsOne result.0.me }
@@ -65,37 +67,47 @@ fn make_update(words: &Words, mut seat: Place, core: &mut Core, change: Change) 
         core.answer_set(answer);
     }
     if core.found_none() {
-        let begun = core.begin_scanning(true);
-        core.keep_scan(begun);
-    } else {
-        seat = scan_found(words, seat, core);
+        let reply = write_plain(words, &mut seat, core, change, old);
+        return (seat, reply);
     }
-    let reply = write_record(words, &mut seat, core, change, old);
-    (seat, reply)
+    let mut behind = scan_found(words, seat, core);
+    let reply = write_record(words, &mut behind, core, change, old);
+    (behind, reply)
 }
 
-// Makes the embedded scan of the indices found. It stands apart, since mostly nobody scans, and then an update needs
-// no room for it.
-#[inline(never)]
-fn scan_found(words: &Words, seat: Place, core: &mut Core) -> Place
-    requires going { IsGoing words.now.table_id words.now.key seat.table_id seat.me }
+// The end of an update that has replaced `old` and found no index: its record, which has no view, is claimed and
+// written, and its component exchanged.
+#[inline(always)]
+fn write_plain(words: &Words, seat: &mut Place, core: &mut Core, change: Change, old: u64) -> Reply
+    requires going { IsGoing words.now.table_id words.now.key seat.old.table_id seat.old.me }
     requires idle { core.old.stage ≡ Idle }
-    requires scanning { IsScanning (scan_begun core.old true) core.old.found.indices }
-    requires due { IsSome (scan_step (scan_begun core.old true) core.old.found.indices) }
-    requires stage { IsAtScan Found (machine_of seat.me).stage }
-    requires machine { machine_of seat.me ≡ at_stage (scan_begun core.old true) (machine_of seat.me).stage }
-    ensures going { IsGoing words.now.table_id words.now.key result.table_id result.me }
-    ensures leads { Leads (one_of seat.me.0) (one_of result.me.0) }
-    ensures machine { machine_of result.me ≡ at_stage core.new (behind_scan (machine_of seat.me).stage) }
-    ensures core { core.new ≡ with_scanning core.old (scanning core.new) }
+    requires stage { (machine_of seat.old.me).stage ≡ ClaimingRecord change old }
+    requires none { (machine_of seat.old.me).found.indices ≡ [] }
+    requires borrowed { (machine_of seat.old.me).embedded.borrowed ≡ None }
+    requires like { IsMarkedLike (machine_of seat.old.me) core.old }
+    ensures going { IsGoing words.now.table_id words.now.key seat.new.table_id seat.new.me }
+    ensures leads { Leads (one_of seat.old.me.0) (one_of seat.new.me.0) }
+    ensures replies { reply_of (machine_of seat.new.me) ≡ Some result }
+    ensures like { IsMarkedLike (machine_of seat.new.me) core.new }
+    ensures core { core.new ≡ record core.old { pool_spent = core.new.pool_spent } }
 {
-    let begun = core.begin_scanning(true);
-    let (behind, embedded) = scan_positions(words, seat, core, Positions::Found, begun);
-    core.keep_scan(embedded);
-    behind
+    let sizes = core.sizes();
+    let size = plain_record_size();
+    let at = make(words, seat, Step::Add(sizes.pool_counter(), size));
+    if at + size > u64::from(sizes.pool_end()) {
+        core.mark_pool();
+        return Reply::Refused(Refused::PoolSpent);
+    }
+    make(words, seat, Step::Store(at as u32, old));
+    make(words, seat, Step::Store((at + 1) as u32, change.value));
+    make(words, seat, Step::Store((at + 2) as u32, 0));
+    let component = sizes.component_word(change.component);
+    let by = make(words, seat, Step::Exchange(component, old, at));
+    exchanged(change, old, at, by)
 }
 
-// The end of an update that has replaced `old`: its record is claimed and written, and its component exchanged.
+// The end of an update that has replaced `old` and made an embedded scan: its record is claimed and written, and its
+// component exchanged.
 fn write_record(words: &Words, seat: &mut Place, core: &mut Core, change: Change, old: u64) -> Reply
     requires going { IsGoing words.now.table_id words.now.key seat.old.table_id seat.old.me }
     requires idle { core.old.stage ≡ Idle }

@@ -301,12 +301,12 @@ least_told o log q (c ∷ plans) (x ∷ parts) (t ∷ ports) w =
 
 -- the machine of a port has the sizes of its part's
 sizes_at : (z : Layout) (core : CoreState) (x : Part) → (core_of x).sizes ≡ z → IsMachineOf core x → core.sizes ≡ z
-sizes_at z core x led (inl h) = ap (λ (s : CoreState). s.sizes) h.like ∙ led
+sizes_at z core x led (inl h) = h.like.sizes ∙ led
 sizes_at z core x led (inr l) = ap (λ (s : CoreState). s.sizes) l.is ∙ led
 
 port_sizes : (z : Layout) (n : ℕ) (calls : List Call) (x : Part) (core : CoreState) (done : List Called) (way : Option UnderWay) → (core_of x).sizes ≡ z → MatchOption way (IsBetween x core)
     (IsUnderWay n calls x core done) → core.sizes ≡ z
-port_sizes z n calls x core done None led w = ap (λ (s : CoreState). s.sizes) w.machine ∙ led
+port_sizes z n calls x core done None led w = w.like.sizes ∙ led
 port_sizes z n calls x core done (Some way) led w = sizes_at z core x led w.machine
 
 -- the call that is left unfinished has made no more steps than it may

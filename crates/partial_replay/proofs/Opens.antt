@@ -9,9 +9,9 @@ use Rattle.partial_model.specs.Outcome.{places_written}
 use Rattle.partial_words.specs.Layout.{Layout, IsLayout, pool_base}
 use Rattle.partial_words.specs.Chain.{AreOpeningWords}
 use Rattle.partial_machine.specs.Machine.{CoreState, fresh}
-use Rattle.partial_machine.specs.Sound.{AreComponents}
-use Rattle.partial_core.specs.Part.{Part, fresh_parts, IsBetween}
-use Rattle.partial_machine.specs.Calls.{begun_like}
+use Rattle.partial_machine.specs.Sound.{IsSound}
+use Rattle.partial_machine.proofs.Laws.{rests_are_sound}
+use Rattle.partial_core.specs.Part.{Part, fresh_parts, IsBetween, IsMarkedLike}
 use Rattle.partial_core.proofs.Laws.{opens_lawful}
 use Rattle.partial_replay.specs.declared.port.Port.{Port}
 use Rattle.partial_replay.specs.declared.port.UnderWay.{UnderWay}
@@ -56,9 +56,9 @@ fresh_fits z o calls p port m number core finished none =
       least = subst (AllByRecursion (HasLeastPlace o [])) (sym finished) tt;
       way = subst (λ (f : Option UnderWay). MatchOption f (IsBetween x port.core) (IsUnderWay 0 calls x port.core port.finished.items)) (sym none) (record {
         rest = refl;
-        machine = core ∙ ap (begun_like (fresh z p)) (sym core);
+        like = subst (λ (s : CoreState). IsMarkedLike (fresh z p) s) (sym core) (record { sizes = refl; port = refl; pool = refl; slots = refl; lists = refl });
         idle = ap (λ (s : CoreState). s.stage) core;
-        asked = subst (λ (s : CoreState). AreComponents s.sizes s.asked) (sym core) (record { few = omega arith; each = λ k below. absurd (omega (arith, below)) });
+        sound = subst IsSound (sym core) (rests_are_sound.fresh z p);
       });
     }
 

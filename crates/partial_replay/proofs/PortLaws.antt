@@ -308,7 +308,7 @@ begun_fits o log calls p x port new call w none next served refusal reply number
     let between = between_of o log calls p x port w none in
     let done : new.finished.items ≡ port.finished.items = ap (λ (v : Vec Called Global). v.items) finished in
     let c = new.core in
-    let b = begins port.core call between.asked served refusal reply in
+    let b = begins port.core call between.sound.asked served refusal reply in
     let begun : is_begun c.stage ≡ true = ap (λ (s : CoreState). is_begun s.stage) core ∙ b.begun in
     let sizes : c.sizes ≡ port.core.sizes = ap (λ (s : CoreState). s.sizes) core ∙ begun_sizes port.core call in
     let h : HasBegun (begun_of port.core call) x = (calls_begin_between x port.core between).begins call served refusal b.makes in
@@ -382,6 +382,7 @@ once_finished o log p number low seen made c s t x d f behind earlier between =
     let e = once_empty s c.call f.reply f.replied in
     let is : made ≡ call.Scan [] = sym d.call' ∙ e.0 in
     let a : answer_for (begun_of s c.call) f.reply ≡ answer.Scanned [] 0 None = ap (λ (v : Call). answer_for (begun_of s v) f.reply) e.0 ∙ ap (answer_for (begin_scan s [])) e.1 in
+    let at_once = (calls_begin_between x s between).at_once in
     let rests : t ≡ at_stage (begin_scan s []) Idle = f.rests ∙ ap (λ (v : Call). at_stage (begun_of s v) Idle) e.0 in
     let nil : List ℕ = [] in
     record {
@@ -401,12 +402,7 @@ once_finished o log p number low seen made c s t x d f behind earlier between =
         least = λ i from below shows. let at = d.began in omega (arith, at, from, below);
       };
       writes = refl;
-      between = subst (IsBetween x) (sym rests) (record {
-        rest = between.rest;
-        machine = ap (λ (v : CoreState). at_stage (begin_scan v []) Idle) between.machine;
-        idle = refl;
-        asked = record { few = omega arith; each = λ k below. absurd (omega (arith, below)) };
-      });
+      between = subst (IsBetween x) (sym rests) at_once;
       sizes = ap (λ (v : CoreState). v.sizes) rests;
     }
 

@@ -22,12 +22,13 @@ use Rattle.partial_machine.specs.declared.stage.Reply.{Reply}
 use Rattle.partial_machine.specs.declared.stage.Reply.TheVariants as reply
 use Rattle.partial_machine.specs.declared.stage.Stage.TheVariants.{Idle}
 use Rattle.partial_machine.specs.Machine.{CoreState, at_stage, scanned_values, advance, step_of, reply_of}
-use Rattle.partial_machine.specs.Sound.{AreComponents, IsSound}
+use Rattle.partial_machine.specs.Sound.{IsSound}
+use Rattle.partial_machine.proofs.Laws.{rests_are_sound}
 use Rattle.partial_machine.specs.Bounds.{steps_left, most_steps}
-use Rattle.partial_core.specs.Part.{Part, Kept, core_of, port_of, IsBetween, first_at}
+use Rattle.partial_core.specs.Part.{Part, Kept, core_of, port_of, IsBetween, IsMarkedLike, first_at}
 use Rattle.partial_core.specs.Lawful.{Lawful}
 use Rattle.partial_core.specs.Steps.{begun_with, kept_with, added_by, LeadsOn, IsNoteOf, IsRefusal, AreNotesOf}
-use Rattle.partial_machine.specs.Calls.{is_begun, is_at_rest, begun_like, call_of, answer_for}
+use Rattle.partial_machine.specs.Calls.{is_begun, is_at_rest, call_of, answer_for}
 use Rattle.partial_replay.specs.declared.port.Port.{Port}
 use Rattle.partial_replay.specs.declared.port.UnderWay.{UnderWay}
 use Rattle.partial_replay.specs.Inner.PortState.{ends_of, notes_in, IsUnderWay, PortFits, AreWithin, HasValues, MayAnswer, one_step_more, ended_call, GoesOn, Ends}
@@ -178,9 +179,9 @@ module _ (z : Layout) (o : Opening) (words : List ℕ) (before : List Part) (x :
         let sound : IsSound (core_of y) = subst IsSound (sym core_y) b.sound in
         record {
           rest = ap (λ (s : CoreState). is_at_rest s.stage) core_y ∙ b.rests ∙ ap is_some replied;
-          machine = is ∙ ap (begun_like (core_of y)) (sym is);
+          like = subst (λ (s : CoreState). IsMarkedLike (core_of y) s) (sym is) (record { sizes = refl; port = refl; pool = refl; slots = refl; lists = refl });
           idle = ap (λ (s : CoreState). s.stage) is;
-          asked = subst (λ (s : CoreState). AreComponents s.sizes s.asked) (sym is) sound.asked;
+          sound = subst IsSound (sym is) (rests_are_sound.idle (core_of y) sound);
         }
 
     -- the call is finished

@@ -1,23 +1,20 @@
 //! The machines in a port's machine, one by one. Who makes the steps of a call in straight lines keeps the
-//! stage, and the machine of an embedded scan while that is made. The port's machine stays idle: it keeps the
-//! marks, the positions, what was found and the rows.
+//! stage, the positions of a scan with its slot, and the machine of an embedded scan while that is made. The
+//! port's machine stays idle: it keeps the marks, what was found and the rows.
 
-ghost use Rattle.std.specs.Prelude.{◌≡◌, ◌<◌, ◌≤◌, ◌==◌, length, Some, None, true, IsSome, OnOk, IfErr};
-ghost use Rattle.partial_words.specs.Announcement.{announcement_size};
-ghost use Rattle.partial_active.specs.Leave.{step_of_leave};
-ghost use Rattle.partial_embedded.specs.Embedded.{fresh};
+ghost use Rattle.std.specs.Prelude.{◌≡◌, ◌<◌, ◌==◌, length, map, slice_index, Some, None, true, OnOk, IfErr};
+ghost use Rattle.partial_embedded.specs.Embedded.{GoTogether, fresh};
 ghost use Rattle.partial_embedded.specs.declared.embedded.Stage.TheVariants.{Done};
 ghost use Rattle.partial_machine.specs.declared.stage.Stage.TheVariants.{Idle};
-ghost use Rattle.partial_machine.specs.Machine.{scanned_reply, scanned_values};
 ghost use Rattle.partial_machine.specs.Calls.{scan_refusal, update_refusal};
-ghost use Rattle.partial_machine.specs.Lines.{IsGetting, IsScanning, MayAnswerSet, asking, joined, left, positions_of, set_answered, set_begun, set_left, set_step, slots_marked, with_embedded};
+ghost use Rattle.partial_machine.specs.Lines.{IsGetting, MayAnswerSet, set_answered, set_begun, set_left, set_step, with_embedded};
+ghost use Rattle.partial_machine.specs.Sound.{AreComponents};
 
-use super::{Core, set_asked};
-use crate::stage::{Positions, Reply};
-use partial_active::{GetSet, Join, Leave};
+use super::{Core, all_below};
+use partial_active::GetSet;
 use partial_embedded::{Embedded, Loads};
 use partial_model::Refused;
-use partial_words::{Sizes, Step, announcement_size};
+use partial_words::{Sizes, Step};
 
 impl Core {
     /// The sizes of the memory.
@@ -39,6 +36,26 @@ impl Core {
         }
         if self.pool_spent {
             return Err(Refused::PoolSpent);
+        }
+        Ok(())
+    }
+
+    /// Whether a scan of these components may be made. It is refused as [`Core::begin_scan`] refuses it.
+    pub fn may_scan(&self, components: &[u32]) -> Result<(), Refused>
+        ensures ok { OnOk result (scan_refusal self.now components.now ≡ None) }
+        ensures err { IfErr result (λ cause. scan_refusal self.now components.now ≡ Some cause) }
+    {
+        if !all_below(components, self.sizes.m()) {
+            return Err(Refused::Component);
+        }
+        if components.is_empty() {
+            return Ok(());
+        }
+        if self.pool_spent {
+            return Err(Refused::PoolSpent);
+        }
+        if self.slots_spent {
+            return Err(Refused::SlotsSpent);
         }
         Ok(())
     }
@@ -89,7 +106,7 @@ impl Core {
         Embedded::new(self.sizes, shares)
     }
 
-    /// Keeps an embedded scan that its caller made, for the reply of a scan or the record of an update.
+    /// Keeps an embedded scan that its caller made, for the record of an update.
     #[inline(always)]
     pub fn keep_scan(&mut self, embedded: Embedded)
         requires { self.old.stage ≡ Idle }
@@ -98,120 +115,65 @@ impl Core {
         self.embedded = embedded;
     }
 
-    /// Makes this embedded scan of these positions to its end, and gives it back. Each load is made through
-    /// `loads`, which are at this scan.
+    /// Makes this embedded scan of these positions to its end, over the machine's rows, and gives it back. Each
+    /// load is made through `loads`, which are at this scan.
     #[inline(always)]
-    pub fn make_scan<L: Loads>(
+    pub fn scan_positions<L: Loads>(
         &mut self,
         embedded: Embedded,
-        positions: Positions,
+        positions: &[u32],
         loads: &mut L,
     ) -> Embedded
         requires idle { self.old.stage ≡ Idle }
-        requires scanning { IsScanning (with_embedded self.old embedded) (positions_of self.old positions) }
+        requires sizes { embedded.sizes ≡ self.old.sizes }
+        requires together { GoTogether positions.now (embedded, self.old.rows) }
         requires goes { L.goes loads.old }
         requires scan { L.scan loads.old ≡ (embedded, self.old.rows) }
-        requires positions { L.positions loads.old ≡ positions_of self.old positions }
+        requires positions { L.positions loads.old ≡ positions.now }
         ensures goes { L.goes loads.new }
         ensures scan { L.scan loads.new ≡ (result, self.new.rows) }
         ensures follows { L.follows loads.old loads.new }
         ensures done { result.stage ≡ Done }
         ensures core { self.new ≡ record self.old { rows = self.new.rows } }
     {
-        match positions {
-            Positions::Asked => embedded.make(&mut self.rows, &self.asked, loads),
-            Positions::Found => embedded.make(&mut self.rows, self.found.indices(), loads),
-        }
+        embedded.make(&mut self.rows, positions, loads)
     }
 
-    /// Keeps the positions of a scan. They are refused as [`Core::begin_scan`] refuses them; the machine is
-    /// then unchanged.
-    pub fn ask(&mut self, components: &[u32]) -> Result<(), Refused>
+    /// The same of the indices that the getSet has found.
+    #[inline(always)]
+    pub fn scan_found<L: Loads>(&mut self, embedded: Embedded, loads: &mut L) -> Embedded
         requires idle { self.old.stage ≡ Idle }
-        requires few { length components.now ≤ self.old.sizes.m }
-        ensures ok { OnOk result ((scan_refusal self.old components.now ≡ None) ×
-            (self.new ≡ asking self.old components.now)) }
-        ensures err { IfErr result (λ cause. (scan_refusal self.old components.now ≡ Some cause) ×
-            (self.new ≡ self.old)) }
+        requires sizes { embedded.sizes ≡ self.old.sizes }
+        requires together { GoTogether self.old.found.indices (embedded, self.old.rows) }
+        requires goes { L.goes loads.old }
+        requires scan { L.scan loads.old ≡ (embedded, self.old.rows) }
+        requires positions { L.positions loads.old ≡ self.old.found.indices }
+        ensures goes { L.goes loads.new }
+        ensures scan { L.scan loads.new ≡ (result, self.new.rows) }
+        ensures follows { L.follows loads.old loads.new }
+        ensures done { result.stage ≡ Done }
+        ensures core { self.new ≡ record self.old { rows = self.new.rows } }
     {
-        if let Some(cause) = self.scan_refusal(components) {
-            return Err(cause);
-        }
-        set_asked(&mut self.asked, components);
-        Ok(())
+        embedded.make(&mut self.rows, self.found.indices(), loads)
     }
 
-    /// How many words the announcement of the positions has.
+    /// Copies the values of these components, as the last embedded scan gave them.
     #[inline(always)]
-    pub fn announcement_size(&self) -> u64
-        ensures { result ≡ announcement_size (length self.now.asked) }
+    pub fn copy_values(&self, components: &[u32], into: &mut [u64])
+        requires lengths { length into.old ≡ length components.now }
+        requires components { AreComponents self.now.sizes components.now }
+        ensures { into.new ≡ map (slice_index self.now.rows.values) components.now }
     {
-        announcement_size(self.asked.len() as u64)
+        self.rows.copy_values(components, into);
     }
 
-    /// The positions of the scan.
+    /// The port is marked for the slots.
     #[inline(always)]
-    pub fn asked(&self) -> &[u32]
-        ensures { result.now ≡ self.now.asked }
+    pub fn mark_slots(&mut self)
+        requires { self.old.stage ≡ Idle }
+        ensures { self.new ≡ record self.old { slots_spent = true } }
     {
-        self.asked.as_slice()
-    }
-
-    /// The announcement at `at` stands in the slot.
-    #[inline(always)]
-    pub fn join(&mut self, at: u64, slot: u32)
-        requires idle { self.old.stage ≡ Idle }
-        requires slot { slot < self.old.sizes.slots }
-        ensures { self.new ≡ joined self.old at slot }
-    {
-        let mut join = Join::new(self.sizes, at);
-        join.answer(u64::from(slot));
-        join.answer(0);
-        self.join = join;
-        self.leave = Leave::new(self.sizes, slot);
-    }
-
-    /// The claim of a slot for the announcement at `at` found this number, which is none of a slot: the port
-    /// is marked for the slots.
-    #[inline(always)]
-    pub fn mark_slots(&mut self, at: u64, found: u64)
-        requires idle { self.old.stage ≡ Idle }
-        requires past { self.old.sizes.slots ≤ found }
-        ensures { self.new ≡ slots_marked self.old at }
-    {
-        self.join = Join::new(self.sizes, at);
-        self.join.answer(found);
         self.slots_spent = true;
-    }
-
-    /// The slot is left.
-    #[inline(always)]
-    pub fn leave(&mut self)
-        requires idle { self.old.stage ≡ Idle }
-        requires joined { IsSome (step_of_leave self.old.leave) }
-        ensures { self.new ≡ left self.old }
-    {
-        self.leave.answer(0);
-    }
-
-    /// Copies the values of the last scan that was answered, in the order of its positions.
-    #[inline(always)]
-    pub fn copy_scanned(&self, into: &mut [u64])
-        requires { length into.old ≡ length self.now.asked }
-        ensures { into.new ≡ scanned_values self.now }
-    {
-        self.rows.copy_values(&self.asked, into);
-    }
-
-    /// The reply of a scan whose embedded scan is finished.
-    #[inline(always)]
-    pub fn scanned_reply(&self) -> Reply
-        ensures { result ≡ scanned_reply self.now }
-    {
-        Reply::Scanned {
-            collects: self.embedded.collects(),
-            borrowed: self.embedded.borrowed(),
-        }
     }
 
     /// The port is marked for the pool.

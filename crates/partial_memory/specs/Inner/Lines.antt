@@ -6,8 +6,6 @@ use Rattle.atomic_table.specs.Seated.{TableId}
 use Rattle.partial_words.specs.Layout.{total}
 use Rattle.partial_words.specs.Announcement.{announcement_size}
 use Rattle.partial_machine.specs.declared.stage.Change.{Change}
-use Rattle.partial_machine.specs.declared.stage.Positions.{Positions}
-use Rattle.partial_machine.specs.declared.stage.Positions.TheVariants.{Asked, Found}
 use Rattle.partial_machine.specs.declared.stage.Stage.{Stage}
 use Rattle.partial_machine.specs.declared.stage.Stage.TheVariants.{Viewing, ClaimingRecord, StoringRecord, Exchanging, StoringAnnouncement, Scanning, Leaving}
 use Rattle.partial_machine.specs.Lines.{scan_step}
@@ -45,11 +43,10 @@ writing s c old at k = if k == record_size s then Exchanging c old at else Stori
 abbrev pub announcing : CoreState → ℕ → ℕ → CoreState
 announcing s at k = if k == announcement_size (length s.asked) then begin_joining s at else at_stage s (StoringAnnouncement at k)
 
--- at that stage the embedded scan of those positions is made
-abbrev pub IsAtScan : Positions → Stage → Type 0
-IsAtScan Asked Scanning = ⊤
-IsAtScan Found (Viewing c old) = ⊤
-IsAtScan _ _ = ⊥
+-- at that stage the embedded scan of an update is made
+abbrev pub IsViewing : Stage → Type 0
+IsViewing (Viewing c old) = ⊤
+IsViewing _ = ⊥
 
 -- the stage behind that of an embedded scan
 abbrev pub behind_scan : Stage → Stage

@@ -1,12 +1,13 @@
 -- The steps that a call makes: how it begins, goes on and ends at its seat.
-use Rattle.std.specs.Prelude.{◌≡◌, ◌+◌, ◌||◌, length, Some}
+use Rattle.std.specs.Prelude.{ℕ, ◌≡◌, ◌+◌, ◌||◌, List, length, Some}
 use Rattle.partial_words.specs.Layout.{IsLayout}
 use Rattle.partial_machine.specs.declared.stage.Reply.{Reply}
 use Rattle.partial_machine.specs.declared.stage.Stage.TheVariants.{Idle}
-use Rattle.partial_machine.specs.Machine.{CoreState, at_stage, reply_of}
+use Rattle.partial_machine.specs.Lines.{scan_asked}
+use Rattle.partial_machine.specs.Machine.{CoreState, reply_of}
 use Rattle.partial_machine.specs.Sound.{IsSound}
 use Rattle.partial_machine.specs.Behind.{refuses_pool, refuses_slots}
-use Rattle.partial_core.specs.Part.{HasBegun}
+use Rattle.partial_core.specs.Part.{HasBegun, IsMarkedLike}
 use Rattle.partial_core.specs.Calls.{Made}
 use Rattle.partial_memory.specs.Rule.{Seated, AreByOpened}
 
@@ -27,9 +28,17 @@ pub record CallMade (b : CoreState) (x : Seated) (c : CoreState) (y : Seated) : 
   pub pool : c.pool_spent ≡ (refuses_pool (reply_of c) || b.pool_spent)
   pub slots : c.slots_spent ≡ (refuses_slots (reply_of c) || b.slots_spent)
 
--- the call has ended with that reply, which was taken from the machine
+-- The call has ended with that reply. The port goes on with an idle machine that has the marks of the call's.
 pub record Ended (b : CoreState) (x : Seated) (r : Reply) (core : CoreState) (y : Seated) : Type 0 where
   pub machine : CoreState
   pub made : CallMade b x machine y
   pub replies : reply_of machine ≡ Some r
-  pub idle : core ≡ at_stage machine Idle
+  pub like : IsMarkedLike machine core
+  pub idle : core.stage ≡ Idle
+  pub sound : IsSound core
+
+-- A scan of these positions has ended so, which the machine before had begun. The machine that goes on has its rows.
+pub record ScanEnded (before : CoreState) (which : List ℕ) (x : Seated) (r : Reply) (core : CoreState) (y : Seated) : Type 0 where
+  pub ended : Ended (scan_asked before which) x r core y
+  pub asked : ended.machine.asked ≡ which
+  pub rows : core.rows ≡ ended.machine.rows

@@ -1,5 +1,5 @@
 use Rattle.std.proofs.Common.{◌≡◌}
-use Rattle.partial_machine.specs.declared.stage.Stage.TheVariants.{Idle, UpdateBegun}
+use Rattle.partial_machine.specs.declared.stage.Stage.TheVariants.{UpdateBegun}
 use Rattle.partial_machine.specs.Lines.{set_left}
 use Rattle.partial_machine.specs.Machine.{at_stage}
 use Rattle.partial_memory.specs.Rule.{one_of}
@@ -17,7 +17,7 @@ invariant-loop-step l = record {
   going : IsGoing l.words.table_id l.words.key l.seat.table_id l.seat.me;
   made : CallMade (at_stage l.fn.core (UpdateBegun l.change)) (one_of l.fn.seat.me.0) (machine_of l.seat.me) (one_of l.seat.me.0);
   machine : machine_of l.seat.me ≡ set_made l.core l.change l.old;
-  idle : l.core.stage ≡ Idle;
+  core : l.core ≡ record l.fn.core { get_set = l.core.get_set; found = l.core.found };
 }
 
 abbrev pub decreases-loop-step : goal.decreases-loop-step

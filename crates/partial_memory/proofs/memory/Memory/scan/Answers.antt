@@ -1,10 +1,13 @@
-use Rattle.std.proofs.Common.{rules, ◌≡◌, ◌≤◌, sym, ap, ◌∙◌, subst, length, inl, inr}
+use Rattle.std.proofs.Common.{rules, ◌≡◌, ◌≤◌, refl, sym, ap, ◌∙◌, subst, length, Some, inl, inr}
+use Rattle.std.proofs.lemmas.Result.{err_from_is_err_and}
+use Rattle.partial_model.specs.declared.call.Call.TheVariants as call
 use Rattle.partial_words.specs.Layout.{Layout}
 use Rattle.partial_machine.specs.declared.stage.Reply.TheVariants as reply
-use Rattle.partial_machine.specs.Machine.{CoreState}
+use Rattle.partial_machine.specs.Sound.{AreComponents}
+use Rattle.partial_memory.specs.Ports.{PortView, refusal}
 use Rattle.partial_memory.specs.Rule.{one_in}
-use Rattle.partial_memory.proofs.Resting.{asked_begins, rests, scan_begins, same_memory}
-use Rattle.partial_memory.proofs.Replies.{scan_ended, scan_copied, scan_asked, ok_ok, err_ok, err_err, ok_err}
+use Rattle.partial_memory.proofs.Resting.{asked_begins, refusal_here, rests, scan_begins, same_memory}
+use Rattle.partial_memory.proofs.Replies.{scan_ended, scan_copied, ok_ok, err_ok, err_err, ok_err}
 use Rattle.partial_memory.proofs.memory.Memory.scan.Goals as goal
 use Rattle.partial_memory.proofs.memory.Memory.scan.Goals.{in-Scanned, in-Refused}
 
@@ -13,40 +16,44 @@ scan-requires c =
     let some : length c.args.which.now ≡ 0 → ⊥ = search rules in
     let sizes : c.me.inside.core.sizes ≡ c.args.self.now.about.sizes = search rules in
     let few : length c.args.which.now ≤ c.me.inside.core.sizes.m = subst (λ (z : Layout). length c.args.which.now ≤ z.m) (sym sizes) c.requires.lengths.1 in
-    let begins = scan_begins _ _ _ c.me.invariant c.me.inside.badge.table_id _ _ few some c.in_ok-ask.ensures.ok.0 (asked_begins c.me.inside.core _ _ some c.in_ok-ask.ensures.ok.1) in
+    let begins = scan_begins _ _ _ c.me.invariant c.me.inside.badge.table_id _ _ few some c.in_ok-may_scan.ensures.ok (asked_begins c.me.inside.core _ some) in
     record {
       table = search rules;
       words = search rules;
       one = c.me.invariant.one;
       own = search rules;
-      idle = ap (λ (s : CoreState). s.stage) c.in_ok-ask.ensures.ok.1 ∙ c.me.invariant.between.idle;
+      idle = c.me.invariant.between.idle;
+      sound = c.me.invariant.between.sound;
       begins = begins.begins;
     }
 
-pub invariant_of-me-2 : goal.invariant_of-me-2
-invariant_of-me-2 c =
+pub invariant_of-me : goal.invariant_of-me
+invariant_of-me c =
     let some : length c.args.which.now ≡ 0 → ⊥ = search rules in
     let sizes : c.me.inside.core.sizes ≡ c.args.self.now.about.sizes = search rules in
     let few : length c.args.which.now ≤ c.me.inside.core.sizes.m = subst (λ (z : Layout). length c.args.which.now ≤ z.m) (sym sizes) c.requires.lengths.1 in
-    let begins = scan_begins _ _ _ c.me.invariant c.me.inside.badge.table_id _ _ few some c.in_ok-ask.ensures.ok.0 (asked_begins c.me.inside.core _ _ some c.in_ok-ask.ensures.ok.1) in
-    rests _ _ _ _ _ _ c.scan.ensures.one begins.begins c.scan.ensures.ended c.me.invariant.number
+    let begins = scan_begins _ _ _ c.me.invariant c.me.inside.badge.table_id _ _ few some c.in_ok-may_scan.ensures.ok (asked_begins c.me.inside.core _ some) in
+    rests _ _ _ _ _ _ c.scan.ensures.one begins.begins c.scan.ensures.ended.ended c.me.invariant.number
 
-pub copy_scanned-requires : goal.copy_scanned-requires
-copy_scanned-requires c =
+pub copy_values-requires : goal.copy_values-requires
+copy_values-requires c =
     let some : length c.args.which.now ≡ 0 → ⊥ = search rules in
     let sizes : c.me.inside.core.sizes ≡ c.args.self.now.about.sizes = search rules in
     let few : length c.args.which.now ≤ c.me.inside.core.sizes.m = subst (λ (z : Layout). length c.args.which.now ≤ z.m) (sym sizes) c.requires.lengths.1 in
-    let ok = c.in_ok-ask.ensures.ok in
-    let told = scan_ended _ _ _ c.me.invariant _ _ c.scan.ensures.table _ c.me.view_is _ _ _ _ c.scan.ensures.ended _ few some ok.0 (asked_begins c.me.inside.core _ _ some ok.1) in
-    c.requires.lengths.0 ∙ sym (scan_asked _ _ _ _ _ _ _ c.scan.ensures.ended.idle (told (reply.Scanned _ _) c.in-Scanned.is))
+    let begins = scan_begins _ _ _ c.me.invariant c.me.inside.badge.table_id _ _ few some c.in_ok-may_scan.ensures.ok (asked_begins c.me.inside.core _ some) in
+    let ended = c.scan.ensures.ended.ended in
+    record {
+      lengths = c.requires.lengths.0;
+      components = subst (λ (z : Layout). AreComponents z c.args.which.now) (begins.begins.sizes ∙ sym (ended.like.sizes ∙ ended.made.made.sizes)) begins.begins.sound.asked;
+    }
 
 pub unreachable-requires : goal.unreachable-requires
 unreachable-requires c =
     let some : length c.args.which.now ≡ 0 → ⊥ = search rules in
     let sizes : c.me.inside.core.sizes ≡ c.args.self.now.about.sizes = search rules in
     let few : length c.args.which.now ≤ c.me.inside.core.sizes.m = subst (λ (z : Layout). length c.args.which.now ≤ z.m) (sym sizes) c.requires.lengths.1 in
-    let ok = c.in_ok-ask.ensures.ok in
-    let told = scan_ended _ _ _ c.me.invariant _ _ c.scan.ensures.table _ c.me.view_is _ _ _ _ c.scan.ensures.ended _ few some ok.0 (asked_begins c.me.inside.core _ _ some ok.1) in
+    let ok = c.in_ok-may_scan.ensures.ok in
+    let told = scan_ended _ _ _ c.me.invariant _ _ c.scan.ensures.table _ c.me.view_is _ _ _ _ c.scan.ensures.ended.ended _ few some ok (asked_begins c.me.inside.core _ some) in
     elim c.in-Applied.is [ inl w ↦ told (reply.Applied _) w.1 | inr w ↦ told (reply.Lost _) w.1 ]
 
 pub unreachable-requires-in-Read : goal.unreachable-requires-in-Read
@@ -54,8 +61,8 @@ unreachable-requires-in-Read c =
     let some : length c.args.which.now ≡ 0 → ⊥ = search rules in
     let sizes : c.me.inside.core.sizes ≡ c.args.self.now.about.sizes = search rules in
     let few : length c.args.which.now ≤ c.me.inside.core.sizes.m = subst (λ (z : Layout). length c.args.which.now ≤ z.m) (sym sizes) c.requires.lengths.1 in
-    let ok = c.in_ok-ask.ensures.ok in
-    let told = scan_ended _ _ _ c.me.invariant _ _ c.scan.ensures.table _ c.me.view_is _ _ _ _ c.scan.ensures.ended _ few some ok.0 (asked_begins c.me.inside.core _ _ some ok.1) in
+    let ok = c.in_ok-may_scan.ensures.ok in
+    let told = scan_ended _ _ _ c.me.invariant _ _ c.scan.ensures.table _ c.me.view_is _ _ _ _ c.scan.ensures.ended.ended _ few some ok (asked_begins c.me.inside.core _ some) in
     elim c.in-Read.is [ inl w ↦ told (reply.Read _ _) w.2 | inr w ↦ told (reply.Changed _) w.1 ]
 
 pub returns-clause-ok : goal.returns-clause-ok
@@ -63,11 +70,12 @@ returns-clause-ok c =
     let some : length c.args.which.now ≡ 0 → ⊥ = search rules in
     let sizes : c.me.inside.core.sizes ≡ c.args.self.now.about.sizes = search rules in
     let few : length c.args.which.now ≤ c.me.inside.core.sizes.m = subst (λ (z : Layout). length c.args.which.now ≤ z.m) (sym sizes) c.requires.lengths.1 in
-    let ok = c.in_ok-ask.ensures.ok in
-    let told = scan_ended _ _ _ c.me.invariant _ _ c.scan.ensures.table _ c.me.view_is _ _ _ _ c.scan.ensures.ended _ few some ok.0 (asked_begins c.me.inside.core _ _ some ok.1) in
-    let idle = c.scan.ensures.ended.idle in
+    let ok = c.in_ok-may_scan.ensures.ok in
+    let told = scan_ended _ _ _ c.me.invariant _ _ c.scan.ensures.table _ c.me.view_is _ _ _ _ c.scan.ensures.ended.ended _ few some ok (asked_begins c.me.inside.core _ some) in
+    let ended = c.scan.ensures.ended in
     elim c.match-scan.branch [
-      | in-Scanned w ↦ ok_ok _ _ _ w.result-is (scan_copied _ _ _ _ _ _ _ _ some idle (w.into-is ∙ w.copy_scanned.ensures) (told (reply.Scanned _ _) w.in-Scanned.is))
+      | in-Scanned w ↦ ok_ok _ _ _ w.result-is (scan_copied _ _ _ _ ended.ended.machine _ _ _ some ended.asked ended.rows (w.into-is ∙ w.copy_values.ensures)
+          (told (reply.Scanned _ _) w.in-Scanned.is))
       | in-Refused w ↦ err_ok _ _ _ w.result-is
     ]
 
@@ -76,8 +84,8 @@ returns-clause-err c =
     let some : length c.args.which.now ≡ 0 → ⊥ = search rules in
     let sizes : c.me.inside.core.sizes ≡ c.args.self.now.about.sizes = search rules in
     let few : length c.args.which.now ≤ c.me.inside.core.sizes.m = subst (λ (z : Layout). length c.args.which.now ≤ z.m) (sym sizes) c.requires.lengths.1 in
-    let ok = c.in_ok-ask.ensures.ok in
-    let told = scan_ended _ _ _ c.me.invariant _ _ c.scan.ensures.table _ c.me.view_is _ _ _ _ c.scan.ensures.ended _ few some ok.0 (asked_begins c.me.inside.core _ _ some ok.1) in
+    let ok = c.in_ok-may_scan.ensures.ok in
+    let told = scan_ended _ _ _ c.me.invariant _ _ c.scan.ensures.table _ c.me.view_is _ _ _ _ c.scan.ensures.ended.ended _ few some ok (asked_begins c.me.inside.core _ some) in
     elim c.match-scan.branch [
       | in-Scanned w ↦ ok_err _ _ _ w.result-is
       | in-Refused w ↦ err_err _ _ _ w.result-is (inr (told (reply.Refused _) w.in-Refused.is))
@@ -91,4 +99,12 @@ returns-clause-unchanged c =
     ]
 
 pub returns-clause-same : goal.returns-clause-same
-returns-clause-same c = same_memory _ _ (one_in c.me.inside.badge.views) (one_in c.scan.new.badge.views) _ _ c.me.view_is c.requires.own c.scan.ensures.table c.scan.ensures.ended.made.about
+returns-clause-same c = same_memory _ _ (one_in c.me.inside.badge.views) (one_in c.scan.new.badge.views) _ _ c.me.view_is c.requires.own c.scan.ensures.table c.scan.ensures.ended.ended.made.about
+
+pub returns-in_err-may_scan-clause-err : goal.returns-in_err-may_scan-clause-err
+returns-in_err-may_scan-clause-err c =
+    let refused = refusal_here _ _ _ c.me.invariant c.me.inside.badge.table_id (call.Scan c.args.which.now) ∙ c.in_err-may_scan.ensures.err in
+    let seen : refusal c.args.me.now (call.Scan c.args.which.now) ≡ Some c.in_err-may_scan.field-0.0 =
+    ap (λ (p : PortView). refusal p (call.Scan c.args.which.now)) (sym c.me.view_is) ∙ refused in
+    let p = err_from_is_err_and c.from_residual.result c.from_residual.ensures.1 in
+    err_err _ _ _ p.1 (inl (seen ∙ ap Some (sym p.2), refl))

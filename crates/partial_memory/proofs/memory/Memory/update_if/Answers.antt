@@ -11,7 +11,8 @@ pub update-requires : goal.update-requires
 update-requires c =
     let ok = c.in_ok-may_update.ensures.ok in
     let begins = call_begins _ _ _ c.me.invariant c.me.inside.badge.table_id _ (call.UpdateIf c.args.component c.args.expected c.args.value) tt ok refl refl in
-    record { table = search rules; words = search rules; one = c.me.invariant.one; own = search rules; idle = c.me.invariant.between.idle; begins = begins.begins }
+    let between = c.me.invariant.between in
+    record { table = search rules; words = search rules; one = c.me.invariant.one; own = search rules; idle = between.idle; sound = between.sound; begins = begins.begins }
 
 pub invariant_of-me : goal.invariant_of-me
 invariant_of-me c =
