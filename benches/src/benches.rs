@@ -73,7 +73,7 @@ fn timed(name: &str, threads: usize, parts: u32, before: fn(&mut dyn Face), work
                     let mut made = Parts::new();
                     wait_for(ready, threads);
                     for part in 1..=parts {
-                        made.time(|| make_calls(&mut *face, thread as u32, part, work), || !over.load(SeqCst));
+                        made.time(|| make_calls(&mut *face, thread as u32, part, work), |_| !over.load(SeqCst));
                         if over.load(SeqCst) {
                             break;
                         }
@@ -126,11 +126,16 @@ fn add_one(face: &mut dyn Face, thread: u32, call: u32) {
 }
 
 fn scan<const R: usize>(face: &mut dyn Face, thread: u32, call: u32) {
+    assert!(may_scan::<R>(face, thread, call), "the pool and the slots are large enough");
+}
+
+// Whether the scan was made.
+fn may_scan<const R: usize>(face: &mut dyn Face, thread: u32, call: u32) -> bool {
     let which: [u32; R] = std::array::from_fn(|k| (thread + call + k as u32) % M as u32);
     let mut into = [0; R];
     let made = face.scan(&which, &mut into);
-    assert!(made, "the pool and the slots are large enough");
     black_box(into);
+    made
 }
 
 fn mostly_reads(face: &mut dyn Face, thread: u32, call: u32) {
@@ -142,7 +147,7 @@ fn mostly_reads(face: &mut dyn Face, thread: u32, call: u32) {
 }
 
 // The quantiles of a scan of 8 components in one thread, in nanoseconds, while three writers are at work. Each scan
-// is a part.
+// is a part. They end early where the writers have used up the pool.
 fn monitor(name: &str) -> Sample {
     let (mut scans, mut updates) = (Vec::new(), Vec::new());
     for _ in 0..MONITORS {
@@ -171,7 +176,10 @@ fn scan_beside_writers(name: &str) -> (Parts, Vec<Parts>) {
         let mut scans = Parts::new();
         wait_for(&writing.ready, WRITERS + 1);
         for call in 0..SCANS {
-            scans.time(|| scan::<8>(&mut *eye, 0, call), || writing.at_work.load(SeqCst) == WRITERS);
+            let counts = |&made: &bool| made && writing.at_work.load(SeqCst) == WRITERS;
+            if !scans.time(|| may_scan::<8>(&mut *eye, 0, call), counts) {
+                break;
+            }
         }
         writing.over.store(true, SeqCst);
         (scans, writers.into_iter().map(|writer| writer.join().expect("it ends")).collect())
@@ -195,7 +203,7 @@ fn write(face: &mut dyn Face, thread: u32, writing: &Writing) -> Parts {
     let mut goes_on =
         |call: u32| !writing.over.load(SeqCst) && face.update((thread + call) % M as u32, u64::from(call));
     let mut part = 1;
-    while parts.time(|| (part * CALLS..(part + 1) * CALLS).all(&mut goes_on), || true) {
+    while parts.time(|| (part * CALLS..(part + 1) * CALLS).all(&mut goes_on), |_| true) {
         part += 1;
     }
     writing.at_work.fetch_sub(1, SeqCst);
@@ -209,7 +217,7 @@ fn opening(name: &str) -> Sample {
     }
     let mut parts = Parts::new();
     for _ in 0..OPENINGS {
-        parts.time(|| faces(name, GREATEST_M, 1), || true);
+        parts.time(|| faces(name, GREATEST_M, 1), |_| true);
     }
     Sample::of(&[parts], &[], |times| vec![median(times) / 1_000_000.0])
 }

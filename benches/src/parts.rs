@@ -86,13 +86,13 @@ impl Parts {
         Parts { watch: Watch::new(), made: Vec::new() }
     }
 
-    /// Times a part, which counts only where `counts` is true behind it.
-    pub fn time<T>(&mut self, part: impl FnOnce() -> T, counts: impl FnOnce() -> bool) -> T {
+    /// Times a part, which counts only where `counts` is true behind it, of what it gave.
+    pub fn time<T>(&mut self, part: impl FnOnce() -> T, counts: impl FnOnce(&T) -> bool) -> T {
         let from = Instant::now();
         let answer = part();
         let to = Instant::now();
         let waited = self.watch.has_waited();
-        self.made.push(Part { from, to, waited, counts: counts() });
+        self.made.push(Part { from, to, waited, counts: counts(&answer) });
         answer
     }
 }
