@@ -4,6 +4,8 @@ pub mod Walk
 pub mod Answered
 pub mod Sizes
 pub mod Indices
+pub mod Distinct
+pub mod Making
 pub mod Knowledge
 pub mod Known
 pub mod Orders

@@ -1,6 +1,6 @@
 -- A list of indices without repeats, and the marks that tell which ones it has.
-use Rattle.std.specs.Prelude.{ℕ, ◌≡◌, ◌<◌, ◌≤◌, ◌==◌, Bool, false, List, [], ◌∷◌, ◌++◌, length, slice_index, slice_index_or, count_by, if◌then◌else◌}
-use Rattle.std.specs.List.{list_any}
+use Rattle.std.specs.Prelude.{ℕ, ◌≡◌, ◌<◌, ◌≤◌, ◌==◌, Bool, false, List, [], ◌∷◌, ◌++◌, length, slice_index, slice_index_or, count_by, nat_eq, if◌then◌else◌}
+use Rattle.std.specs.List.{IsDistinct, list_any}
 
 -- the indices in order, and the number below which they all are
 pub record IndexList : Type 0 where
@@ -21,3 +21,8 @@ pub record IsMarked (items : List ℕ) (marks : List Bool) (room : ℕ) : Type 0
   pub below : (k : ℕ) → k < length items → slice_index items k < length marks
   pub count : count_by (λ b. b) marks ≡ length items
   pub fits : length marks ≤ room
+
+-- indices without repeats, below a number
+pub record AreIndices (n : ℕ) (l : List ℕ) : Type 0 where
+  pub each : (k : ℕ) → k < length l → slice_index l k < n
+  pub distinct : IsDistinct nat_eq l

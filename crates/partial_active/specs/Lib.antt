@@ -9,3 +9,4 @@ pub mod Orderly
 pub mod Moments
 pub mod ActiveSet
 pub mod VacatedLists
+pub mod Making

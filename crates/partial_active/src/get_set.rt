@@ -4,6 +4,8 @@
 ghost use Rattle.std.specs.Prelude.{◌≡◌, ◌+◌, ◌*◌, ◌<◌, ◌≤◌, ◌↔◌, [], IsSome, IsTrue};
 ghost use Rattle.partial_words.specs.Layout.{IsLayout, list_base, list_end, pool_base, pool_end};
 
+mod loops;
+
 use crate::found::Found;
 use partial_words::{Sizes, Step, list_size};
 use std::marker::Model;
@@ -66,15 +68,16 @@ pub enum Stage {
 
 /// A getSet under way. It names every announcement that stands in a slot from its first step to its
 /// last, and loads no slot of the list that it read.
+// The wide fields come first, so that no room is left between fields: it would be written with them.
 #[derive(Debug, Drop)]
 pub struct GetSet {
-    sizes: Sizes,
-    lists_spent: bool,
     head: u64,
-    end: u32,
     passed: usize,
-    noted: bool,
     stage: Stage,
+    sizes: Sizes,
+    end: u32,
+    lists_spent: bool,
+    noted: bool,
 }
 
 impl Model for GetSet {
@@ -158,6 +161,14 @@ impl GetSet {
     {
         let GetSet { lists_spent, .. } = self;
         *lists_spent
+    }
+
+    /// Takes over the mark of another getSet of the port.
+    #[inline(always)]
+    pub fn keep_mark(&mut self, other: &GetSet)
+        ensures { self.new ≡ record self.old { lists_spent = other.now.lists_spent } }
+    {
+        self.lists_spent = other.lists_spent;
     }
 
     /// Takes the answer of the step that was due, with the buffers of this getSet. The first answer

@@ -8,11 +8,13 @@ mod index_set;
 pub mod join;
 pub mod law;
 pub mod leave;
+pub mod steps;
 
 pub use found::Found;
 pub use get_set::GetSet;
 pub use join::Join;
 pub use leave::Leave;
+pub use steps::Steps;
 
 #[cfg(test)]
 mod tests;

@@ -18,7 +18,7 @@ use Rattle.partial_machine.specs.Calls.{call_at, is_begun, begun_like, begin_sca
 use Rattle.partial_machine.specs.Bounds.{most_of_update, most_steps, left_at, steps_left}
 use Rattle.partial_machine.specs.Sound.{AreComponents, IsSound, is_sound_at}
 use Rattle.partial_machine.specs.Behind.{IsBegunWith, IsOldMark, CallsBegin, RestsAreSound, CallsAreRefusedAtOnce}
-use Rattle.partial_machine.proofs.Indices.{no_index}
+use Rattle.partial_active.proofs.Distinct.{no_index}
 use Rattle.std.proofs.lemmas.List.{length-replicate}
 
 -- the components of a list are there, or some is not

@@ -1,4 +1,3 @@
-pub mod Indices
 pub mod Pairs
 pub mod Parts
 pub mod Sound

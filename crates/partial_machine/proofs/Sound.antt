@@ -25,7 +25,8 @@ use Rattle.partial_machine.specs.Machine.{CoreState, at_stage, getting, scanning
 use Rattle.partial_machine.specs.Sound.{AreComponents, IsRecord, IsInPool, IsSound, is_sound_at, IsMachine}
 use Rattle.partial_machine.specs.Possible.{IsPoolCount, IsPossible, IsPossibleAt}
 use Rattle.partial_machine.specs.Bounds.{left_at, steps_left}
-use Rattle.partial_machine.proofs.Indices.{AreIndices, few_indices, found_kept}
+use Rattle.partial_active.specs.IndexSet.{AreIndices}
+use Rattle.partial_active.proofs.Distinct.{few_indices, found_kept}
 
 -- what an answer leaves of a machine
 pub record Keeps (s q : CoreState) : Type 0 where

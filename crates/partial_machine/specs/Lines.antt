@@ -1,13 +1,12 @@
 -- The parts of a port's machine, one by one, for calls whose steps are made in straight lines.
-use Rattle.std.specs.Prelude.{ℕ, ◌≡◌, Bool, false, List, Option, IsSome}
+use Rattle.std.specs.Prelude.{ℕ, Bool, false, List, Option}
 use Rattle.partial_words.specs.declared.step.Step.{Step}
 use Rattle.partial_active.specs.declared.join.JoinStage.{JoinStage}
 use Rattle.partial_active.specs.declared.join.JoinStage.TheVariants.{Joined, Spent}
 use Rattle.partial_active.specs.GetSet as finding
-use Rattle.partial_active.specs.GetSetAnswers as finding_answers
 use Rattle.partial_embedded.specs.Embedded as viewing
 use Rattle.partial_machine.specs.declared.stage.Stage.TheVariants.{ScanBegun}
-use Rattle.partial_machine.specs.Machine.{CoreState, getting, scanning, slots_refused, with_getting}
+use Rattle.partial_machine.specs.Machine.{CoreState, scanning, slots_refused}
 
 -- the machine with a getSet that has made no step
 abbrev pub set_begun : CoreState → CoreState
@@ -17,23 +16,9 @@ set_begun s = record s { get_set = finding.fresh s.sizes s.get_set.lists_spent }
 abbrev pub set_step : CoreState → Option Step
 set_step s = finding.step_of s.get_set
 
--- the machine once its getSet has taken in an answer
-abbrev pub set_answered : CoreState → ℕ → CoreState
-set_answered s x = with_getting s (finding.advance (getting s) x)
-
--- how many steps are left of the getSet at most
-abbrev pub set_left : CoreState → ℕ
-set_left s = finding.left_of s.get_set
-
--- the number may answer the due step of the getSet
-abbrev pub MayAnswerSet : CoreState → ℕ → Type 0
-MayAnswerSet s x = finding_answers.IsPossible (getting s) x
-
--- a getSet is under way
-pub record IsGetting (s : CoreState) : Type 0 where
-  pub together : finding_answers.GoTogether (getting s)
-  pub sizes : s.get_set.sizes ≡ s.sizes
-  pub due : IsSome (set_step s)
+-- the machine with this getSet
+abbrev pub with_set : CoreState → finding.GetSetState → CoreState
+with_set s g = record s { get_set = g }
 
 -- the machine with this embedded scan, whose caller keeps it while its steps are made
 abbrev pub with_embedded : CoreState → viewing.EmbeddedState → CoreState

@@ -4,44 +4,83 @@ use Rattle.std.specs.Prelude.{IsSome}
 use Rattle.std.specs.Option.{option_map_or, is_some}
 use Rattle.std.proofs.lemmas.Bool.{false≢true}
 use Rattle.partial_words.specs.declared.step.Step.{Step}
+use Rattle.partial_active.specs.GetSet as finding
+use Rattle.partial_active.specs.GetSetAnswers as finding_answers
 use Rattle.partial_embedded.specs.Embedded as viewing
 use Rattle.partial_embedded.specs.declared.embedded.Stage as viewed
 use Rattle.partial_embedded.specs.declared.embedded.Stage.TheVariants.{Done}
 use Rattle.partial_machine.specs.declared.stage.Change.{Change}
 use Rattle.partial_machine.specs.declared.stage.Stage.{Stage}
 use Rattle.partial_machine.specs.declared.stage.Stage.TheVariants.{GettingSet, Viewing, ClaimingRecord, Scanning, Leaving}
-use Rattle.partial_machine.specs.Lines.{scan_begun, scan_step, set_answered, set_step}
-use Rattle.partial_machine.specs.Machine.{CoreState, advance, after_getting, at_stage, scanning, step_at, step_of, with_scanning}
+use Rattle.partial_machine.specs.Lines.{scan_begun, scan_step, set_begun, set_step}
+use Rattle.partial_machine.specs.Machine.{CoreState, advance, at_stage, getting, scanning, step_at, step_of, with_getting, with_scanning}
 use Rattle.partial_machine.specs.Possible.{IsPossible, IsPossibleAt}
 use Rattle.partial_machine.specs.Sound.{IsSound, is_sound_at}
-use Rattle.partial_memory.specs.Inner.Lines.{IsScanStage, IsViewing, behind_scan, positions_at}
+use Rattle.partial_core.specs.Part.{core_of}
+use Rattle.partial_memory.specs.Rule.{Seated}
+use Rattle.partial_memory.specs.Inner.Lines.{GetsOn, IsScanStage, IsViewing, behind_scan, positions_at, set_kept, set_made}
 
--- the machine whose getSet is under way, or over, and of which the caller keeps the stage
-abbrev pub set_made : CoreState → Change → ℕ → CoreState
-set_made s c old = after_getting (at_stage s (GettingSet c old)) c old
+-- what a getSet leaves that is over
+module _ (s : CoreState) (c : Change) (old : ℕ) where
+  pub set_over : set_step s ≡ None → set_made s c old ≡ at_stage (scan_begun s true) (cond (length s.found.indices == 0) (ClaimingRecord c old) (Viewing c old))
+  set_over over = ap (λ (o : Option Step). option_map_or (λ _. at_stage s (GettingSet c old)) o
+      (at_stage (scan_begun s true) (cond (length s.found.indices == 0) (ClaimingRecord c old) (Viewing c old)))) over
 
--- an answer to it changes the getSet and what is found alone
-pub answered_alone : (s t : CoreState) (a : ℕ) → t ≡ set_answered s a → t ≡ record s { get_set = t.get_set; found = t.found }
-answered_alone s t a is = is ∙ ap (λ (u : CoreState). record s { get_set = u.get_set; found = u.found }) (sym is)
+  pub set_under_way : (step : Step) → set_step s ≡ Some step → set_made s c old ≡ at_stage s (GettingSet c old)
+  set_under_way step due = ap (λ (o : Option Step). option_map_or (λ _. at_stage s (GettingSet c old)) o
+      (at_stage (scan_begun s true) (cond (length s.found.indices == 0) (ClaimingRecord c old) (Viewing c old)))) due
 
--- that changes neither the sizes nor what is found
-pub set_same : (s : CoreState) (c : Change) (old : ℕ) → ((set_made s c old).sizes ≡ s.sizes) × ((set_made s c old).found ≡ s.found)
-set_same s c old = by_step (set_step s)
-  where
-    made : Option Step → CoreState
-    made o = option_map_or (λ _. at_stage s (GettingSet c old)) o (at_stage (scan_begun s true) (cond (length s.found.indices == 0) (ClaimingRecord c old) (Viewing c old)))
+  -- made so twice, it is as made so once
+  pub set_twice : set_made (set_made s c old) c old ≡ set_made s c old
+  set_twice = by_step (set_step s) refl
+    where
+      made : Option Step → CoreState
+      made o = option_map_or (λ _. at_stage s (GettingSet c old)) o (at_stage (scan_begun s true) (cond (length s.found.indices == 0) (ClaimingRecord c old) (Viewing c old)))
 
-    by_step : (o : Option Step) → ((made o).sizes ≡ s.sizes) × ((made o).found ≡ s.found)
-    by_step (Some u) = (refl, refl)
-    by_step None = (refl, refl)
+      by_step : (o : Option Step) → set_step s ≡ o → set_made (made o) c old ≡ made o
+      by_step (Some u) e = ap made e
+      by_step None e =
+          let over = made None in
+          ap (λ (o : Option Step). option_map_or (λ _. at_stage over (GettingSet c old)) o over) e
 
-pub set_then : (s g : CoreState) (c : Change) (old a : ℕ) (step : Step) (d v : CoreState) → g ≡ set_made s c old → set_step s ≡ Some step → d ≡ advance g a → v ≡ set_answered s a
-    → d ≡ set_made v c old
-set_then s g c old a step d v is due then state =
-    let now : g ≡ at_stage s (GettingSet c old) =
-    is ∙ ap (λ (o : Option Step). option_map_or (λ _. at_stage s (GettingSet c old)) o
-    (at_stage (scan_begun s true) (cond (length s.found.indices == 0) (ClaimingRecord c old) (Viewing c old)))) due in
-    then ∙ ap (λ (t : CoreState). advance t a) now ∙ ap (λ (q : CoreState). set_made q c old) (sym state)
+-- a step of the getSet is due
+module _ (s t : CoreState) (c : Change) (old : ℕ) (step : Step) (from : s ≡ set_made t c old) (due : set_step s ≡ Some step) where
+  set_now : s ≡ at_stage t (GettingSet c old)
+  set_now = from ∙ set_under_way t c old step (ap (λ (p : finding.Pair). finding.step_of p.0) (sym (ap getting from ∙ set_kept t c old)) ∙ due)
+
+  -- it is the machine's
+  pub set_due : step_of s ≡ Some step
+  set_due = ap step_of set_now ∙ ap (λ (p : finding.Pair). finding.step_of p.0) (sym (ap getting set_now)) ∙ due
+
+  -- and so is what may answer it
+  pub set_possible : (a : ℕ) → IsPossible s a → finding_answers.IsPossible (getting s) a
+  set_possible a possible =
+      let may : finding_answers.IsPossible (getting t) a = subst (λ (u : CoreState). IsPossible u a) set_now possible in
+      subst (λ (p : finding.Pair). finding_answers.IsPossible p a) (sym (ap getting set_now)) may
+
+  -- its answer changes the getSet and what it has found alone, until it is over
+  module _ (d : CoreState) (a : ℕ) (then : d ≡ advance s a) where
+    abbrev next : CoreState
+    next = with_getting t (finding.advance (getting t) a)
+
+    led : d ≡ set_made next c old
+    led = then ∙ ap (λ (u : CoreState). advance u a) set_now
+
+    pub set_taken : getting d ≡ finding.advance (getting s) a
+    set_taken = ap getting led ∙ set_kept next c old ∙ ap (λ (p : finding.Pair). finding.advance p a) (sym (ap getting set_now))
+
+    pub set_goes : d ≡ set_made d c old
+    set_goes = led ∙ sym (ap (λ (u : CoreState). set_made u c old) led ∙ set_twice next c old)
+
+    pub set_follows : d ≡ set_made (with_getting t (getting d)) c old
+    set_follows = led ∙ ap (λ (p : finding.Pair). set_made (with_getting t p) c old) (sym (ap getting led ∙ set_kept next c old))
+
+-- Where the call has come by its getSet, made to its end: to the record's claim where nothing was found, or else to the embedded scan.
+pub set_ended : (core : CoreState) (c : Change) (old : ℕ) (x y : Seated) (p : finding.Pair) → core_of x.part ≡ set_made (set_begun core) c old → GetsOn x y → getting (core_of y.part) ≡ p →
+    finding.step_of p.0 ≡ None →
+    core_of y.part ≡ at_stage (scan_begun (with_getting core p) true) (cond (length p.1.indices == 0) (ClaimingRecord c old) (Viewing c old))
+set_ended core c old x y p begun on at over =
+    on.made c old (set_begun core) begun ∙ ap (λ (q : finding.Pair). set_made (with_getting core q) c old) at ∙ set_over (with_getting core p) c old over
 
 none_some : {A : Type 0} {x : A} → None ≡ Some x → ⊥
 none_some {A} e = false≢true (ap is_some e)

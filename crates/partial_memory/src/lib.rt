@@ -6,6 +6,7 @@ mod answers;
 mod closed;
 mod embedded;
 mod error;
+mod get_set;
 pub mod law;
 mod lines;
 mod memory;

@@ -12,6 +12,7 @@ ghost use Rattle.partial_memory.specs.Inner.Steps.{Begins, Ended};
 ghost use Rattle.partial_memory.specs.Inner.Lines.{IsGoing, Leads, machine_of, writing};
 
 use crate::embedded::scan_found;
+use crate::get_set::SeatSteps;
 use crate::lines::{begin_update, make};
 use crate::port::take_seat;
 use crate::rule::{Place, View, Words};
@@ -59,17 +60,15 @@ fn make_update(words: &Words, mut seat: Place, core: &mut Core, change: Change) 
     if change.expected.is_some_and(|expected| expected != old) {
         return (seat, Reply::Changed { by: old });
     }
-    let head = make(words, &mut seat, Step::Load(core.sizes().list_head()));
-    core.begin_set();
-    core.answer_set(head);
-    while let Some(step) = core.set_step() {
-        let answer = make(words, &mut seat, step);
-        core.answer_set(answer);
-    }
+    let mut steps = SeatSteps { words, seat };
+    let set = core.make_set(&mut steps);
+    let SeatSteps { words: _, mut seat } = steps;
     if core.found_none() {
+        core.keep_list_mark(&set);
         let reply = write_plain(words, &mut seat, core, change, old);
         return (seat, reply);
     }
+    core.keep_set(set);
     let mut behind = scan_found(words, seat, core);
     let reply = write_record(words, &mut behind, core, change, old);
     (behind, reply)

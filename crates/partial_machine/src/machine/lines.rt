@@ -1,20 +1,22 @@
 //! The machines in a port's machine, one by one. Who makes the steps of a call in straight lines keeps the
-//! stage, the positions of a scan with its slot, and the machine of an embedded scan while that is made. The
-//! port's machine stays idle: it keeps the marks, what was found and the rows.
+//! stage, the positions of a scan with its slot, and the machines of a getSet and of an embedded scan while they
+//! are made. The port's machine stays idle: it keeps the marks, what was found and the rows.
 
-ghost use Rattle.std.specs.Prelude.{◌≡◌, ◌<◌, ◌==◌, length, map, slice_index, Some, None, true, OnOk, IfErr};
+ghost use Rattle.std.specs.Prelude.{◌≡◌, ◌==◌, length, map, slice_index, Some, None, true, OnOk, IfErr};
+ghost use Rattle.partial_active.specs.GetSet.{step_of};
 ghost use Rattle.partial_embedded.specs.Embedded.{GoTogether, fresh};
 ghost use Rattle.partial_embedded.specs.declared.embedded.Stage.TheVariants.{Done};
 ghost use Rattle.partial_machine.specs.declared.stage.Stage.TheVariants.{Idle};
 ghost use Rattle.partial_machine.specs.Calls.{scan_refusal, update_refusal};
-ghost use Rattle.partial_machine.specs.Lines.{IsGetting, MayAnswerSet, set_answered, set_begun, set_left, set_step, with_embedded};
+ghost use Rattle.partial_machine.specs.Lines.{set_begun, with_embedded, with_set};
+ghost use Rattle.partial_machine.specs.Machine.{getting};
 ghost use Rattle.partial_machine.specs.Sound.{AreComponents};
 
 use super::{Core, all_below};
-use partial_active::GetSet;
+use partial_active::{GetSet, Steps};
 use partial_embedded::{Embedded, Loads};
 use partial_model::Refused;
-use partial_words::{Sizes, Step};
+use partial_words::Sizes;
 
 impl Core {
     /// The sizes of the memory.
@@ -60,33 +62,39 @@ impl Core {
         Ok(())
     }
 
-    /// A getSet begins.
+    /// Makes a getSet to its end, of which the machine has what it finds, and gives it back. Each step is made
+    /// through `steps`, which are at this getSet.
     #[inline(always)]
-    pub fn begin_set(&mut self)
-        requires { self.old.stage ≡ Idle }
-        ensures { self.new ≡ set_begun self.old }
-    {
-        self.get_set = GetSet::new(self.sizes, self.get_set.lists_spent());
-    }
-
-    /// The step that is due in the getSet, or None once that is finished.
-    #[inline(always)]
-    pub fn set_step(&self) -> Option<Step>
-        ensures { result ≡ set_step self.now }
-    {
-        self.get_set.step()
-    }
-
-    /// The getSet takes in the answer to the step that is due.
-    #[inline(always)]
-    pub fn answer_set(&mut self, x: u64)
+    pub fn make_set<S: Steps>(&mut self, steps: &mut S) -> GetSet
         requires idle { self.old.stage ≡ Idle }
-        requires getting { IsGetting self.old }
-        requires possible { MayAnswerSet self.old x }
-        ensures state { self.new ≡ set_answered self.old x }
-        ensures falls { set_left self.new < set_left self.old }
+        requires goes { S.goes steps.old }
+        requires set { S.set steps.old ≡ getting (set_begun self.old) }
+        ensures goes { S.goes steps.new }
+        ensures set { S.set steps.new ≡ (result, self.new.found) }
+        ensures follows { S.follows steps.old steps.new }
+        ensures done { step_of result ≡ None }
+        ensures core { self.new ≡ record self.old { found = self.new.found } }
     {
-        self.get_set.answer(&mut self.found, x);
+        let begun = GetSet::new(self.sizes, self.get_set.lists_spent());
+        begun.make(&mut self.found, steps)
+    }
+
+    /// Keeps a getSet that its caller has from [`Core::make_set`].
+    #[inline(always)]
+    pub fn keep_set(&mut self, set: GetSet)
+        requires { self.old.stage ≡ Idle }
+        ensures { self.new ≡ with_set self.old set }
+    {
+        self.get_set = set;
+    }
+
+    /// Keeps of such a getSet the mark for the list words alone.
+    #[inline(always)]
+    pub fn keep_list_mark(&mut self, set: &GetSet)
+        requires { self.old.stage ≡ Idle }
+        ensures { self.new ≡ with_set self.old (record self.old.get_set { lists_spent = set.now.lists_spent }) }
+    {
+        self.get_set.keep_mark(set);
     }
 
     /// Whether the getSet has found no index.

@@ -1,15 +1,17 @@
 -- Calls that are made in straight lines: the machine of the call is a ghost, to which the kept answers of the seat's port lead.
-use Rattle.std.specs.Prelude.{ℕ, ⊤, ◌≡◌, ◌==◌, None, IsSome, List, length, if◌then◌else◌}
-use Rattle.std.proofs.Common.{refl, ap, ◌∙◌}
+use Rattle.std.specs.Prelude.{ℕ, ⊤, ◌≡◌, ◌==◌, true, Option, Some, None, IsSome, List, length, if◌then◌else◌}
+use Rattle.std.specs.Option.{option_map_or}
+use Rattle.std.proofs.Common.{refl, sym, ap, ◌∙◌}
+use Rattle.partial_words.specs.declared.step.Step.{Step}
 use Rattle.atomic_table.specs.Table.{Me}
 use Rattle.atomic_table.specs.Seated.{TableId}
 use Rattle.partial_words.specs.Layout.{total}
 use Rattle.partial_words.specs.Announcement.{announcement_size}
 use Rattle.partial_machine.specs.declared.stage.Change.{Change}
 use Rattle.partial_machine.specs.declared.stage.Stage.{Stage}
-use Rattle.partial_machine.specs.declared.stage.Stage.TheVariants.{Viewing, ClaimingRecord, StoringRecord, Exchanging, StoringAnnouncement, Scanning, Leaving}
-use Rattle.partial_machine.specs.Lines.{scan_step}
-use Rattle.partial_machine.specs.Machine.{CoreState, at_stage, begin_joining, record_size, scanning, with_scanning}
+use Rattle.partial_machine.specs.declared.stage.Stage.TheVariants.{GettingSet, Viewing, ClaimingRecord, StoringRecord, Exchanging, StoringAnnouncement, Scanning, Leaving}
+use Rattle.partial_machine.specs.Lines.{scan_begun, scan_step, set_step}
+use Rattle.partial_machine.specs.Machine.{CoreState, after_getting, at_stage, begin_joining, getting, record_size, scanning, with_getting, with_scanning}
 use Rattle.partial_core.specs.Part.{core_of}
 use Rattle.partial_memory.specs.declared.rule.About.{About}
 use Rattle.partial_memory.specs.Rule.{Seated, IsOne, one_of}
@@ -68,6 +70,22 @@ IsScanStage s Scanning = IsSome (scan_step s s.asked)
 IsScanStage s Leaving = scan_step s s.asked ≡ None
 IsScanStage s t = ⊥
 
+-- the machine whose getSet is under way, or over, and of which the caller keeps the stage
+abbrev pub set_made : CoreState → Change → ℕ → CoreState
+set_made s c old = after_getting (at_stage s (GettingSet c old)) c old
+
+-- the call of the seat's port has come to the getSet of an update, which is under way or over
+pub record IsAtSteps {S : Type 0} (table : TableId) (about : About) (here : TableId) (me : Me S (List Seated)) : Type 0 where
+  pub going : IsGoing table about here me
+  pub change : Change
+  pub old : ℕ
+  pub made : machine_of me ≡ set_made (machine_of me) change old
+
+-- from x the call has come to y by steps of its getSet alone
+pub record GetsOn (x y : Seated) : Type 0 where
+  pub leads : Leads x y
+  pub made : (c : Change) (old : ℕ) (s : CoreState) → core_of x.part ≡ set_made s c old → core_of y.part ≡ set_made (with_getting s (getting (core_of y.part))) c old
+
 -- the call of the seat's port has come to an embedded scan
 pub record IsAtLoads {S : Type 0} (table : TableId) (about : About) (here : TableId) (me : Me S (List Seated)) : Type 0 where
   pub going : IsGoing table about here me
@@ -89,4 +107,27 @@ scans_further x y z f g = record {
   leads = λ b h e m. g.leads b h e (f.leads b h e m);
   rest = g.rest ∙ ap (λ (s : CoreState). at_stage (with_scanning s (scanning (core_of z.part))) (core_of z.part).stage) f.rest;
   stage = g.stage ∙ f.stage;
+}
+
+-- a machine made so has that getSet and what it has found
+pub set_kept : (s : CoreState) (c : Change) (old : ℕ) → getting (set_made s c old) ≡ getting s
+set_kept s c old = by_step (set_step s)
+  where
+    by_step : (o : Option Step) → getting (option_map_or (λ _. at_stage s (GettingSet c old)) o
+        (at_stage (scan_begun s true) (if length s.found.indices == 0 then ClaimingRecord c old else Viewing c old))) ≡ getting s
+    by_step (Some u) = refl
+    by_step None = refl
+
+-- by no step it stays where it is
+pub gets_itself : (x : Seated) → GetsOn x x
+gets_itself x = record {
+  leads = λ b h e m. m;
+  made = λ c old s is. is ∙ ap (λ p. set_made (with_getting s p) c old) (sym (ap getting is ∙ set_kept s c old));
+}
+
+-- steps follow on steps
+pub gets_further : (x y z : Seated) → GetsOn x y → GetsOn y z → GetsOn x z
+gets_further x y z f g = record {
+  leads = λ b h e m. g.leads b h e (f.leads b h e m);
+  made = λ c old s is. g.made c old (with_getting s (getting (core_of y.part))) (f.made c old s is);
 }

@@ -11,17 +11,12 @@ use Rattle.std.proofs.lemmas.Map.Keys.{IsDistinct-push}
 use Rattle.std.proofs.lemmas.Map.Steps.{length-le_from_distinct_below}
 use Rattle.partial_words.specs.Layout.{list_end}
 use Rattle.partial_active.specs.Found.{begins_at}
-use Rattle.partial_active.specs.IndexSet.{has_index, with_index}
+use Rattle.partial_active.specs.IndexSet.{AreIndices, has_index, with_index}
 use Rattle.partial_active.specs.declared.get_set.Stage.{Stage}
 use Rattle.partial_active.specs.declared.get_set.Stage.TheVariants.{Head, ListLen, ListLow, ListHigh, Counter, Slot, Len, Index, Claim, Write, Publish, Done}
 use Rattle.partial_active.specs.GetSet.{Pair, after_walk, at_slot, come_to, pass_interval, note_slot, in_stage, advance_at}
 use Rattle.partial_active.specs.GetSetAnswers.{is_possible_at}
 use Rattle.partial_active.proofs.Named.{same_test}
-
--- indices without repeats, below a number
-pub record AreIndices (n : ℕ) (l : List ℕ) : Type 0 where
-  pub each : (k : ℕ) → k < length l → get_or l k 0 < n
-  pub distinct : IsDistinct nat_eq l
 
 pub no_index : (n : ℕ) → AreIndices n []
 unfolding IsDistinct

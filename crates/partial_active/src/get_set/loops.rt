@@ -1,0 +1,93 @@
+//! A getSet made to its end, in loops over its buffers. Its steps are made by whoever asks for it.
+
+ghost use Rattle.std.specs.Prelude.{◌≡◌, ◌<◌, IfSome, Some, None};
+ghost use Rattle.partial_active.specs.GetSet.{left_of, step_of};
+ghost use Rattle.partial_active.specs.Making.{IsAt};
+
+use super::{GetSet, Stage};
+use crate::found::Found;
+use crate::steps::Steps;
+use partial_words::Step;
+
+// A stretch of the way of a getSet.
+#[derive(Clone, Copy)]
+enum Stretch {
+    // The list head is loaded.
+    Head,
+    // The list is read.
+    List,
+    // The slot counter is loaded.
+    Counter,
+    // The slots are walked, with the announcements that stand in them.
+    Slots,
+}
+
+impl GetSet {
+    /// Makes this getSet to its end, with its buffers, and gives it back. Each step is made through `steps`, which
+    /// are at this getSet.
+    #[inline(always)]
+    pub fn make<S: Steps>(mut self, found: &mut Found, steps: &mut S) -> GetSet
+        requires { IsAt S.goes S.set steps.old (self, found.old) }
+        ensures at { IsAt S.goes S.set steps.new (result, found.new) }
+        ensures follows { S.follows steps.old steps.new }
+        ensures done { step_of result ≡ None }
+        ensures sizes { result.sizes ≡ self.sizes }
+    {
+        self.make_stretch(Stretch::Head, found, steps);
+        self.make_stretch(Stretch::List, found, steps);
+        self.make_stretch(Stretch::Counter, found, steps);
+        self.make_stretch(Stretch::Slots, found, steps);
+        while let Some(step) = self.step() {
+            self.make_step(step, found, steps);
+        }
+        self
+    }
+
+    // Makes the steps of a stretch, of which none is due afterwards. Where one stretch stands behind the other, the
+    // compiler knows the stage at which a step is made.
+    #[inline(always)]
+    fn make_stretch<S: Steps>(&mut self, stretch: Stretch, found: &mut Found, steps: &mut S)
+        requires { IsAt S.goes S.set steps.old (self.old, found.old) }
+        ensures at { IsAt S.goes S.set steps.new (self.new, found.new) }
+        ensures follows { S.follows steps.old steps.new }
+        ensures sizes { self.new.sizes ≡ self.old.sizes }
+    {
+        while let Some(step) = self.step_in(stretch) {
+            self.make_step(step, found, steps);
+        }
+    }
+
+    // Makes the step that is due, and takes in its answer.
+    #[inline(always)]
+    fn make_step<S: Steps>(&mut self, step: Step, found: &mut Found, steps: &mut S)
+        requires at { IsAt S.goes S.set steps.old (self.old, found.old) }
+        requires due { step_of self.old ≡ Some step }
+        ensures at { IsAt S.goes S.set steps.new (self.new, found.new) }
+        ensures follows { S.follows steps.old steps.new }
+        ensures sizes { self.new.sizes ≡ self.old.sizes }
+        ensures left { left_of self.new < left_of self.old }
+    {
+        let answer = steps.make(step);
+        self.answer(found, answer);
+    }
+
+    // The step that is due, where it is one of this stretch.
+    #[inline(always)]
+    fn step_in(&self, stretch: Stretch) -> Option<Step>
+        ensures { IfSome result (λ step. step_of self.now ≡ Some step) }
+    {
+        let is_there = match stretch {
+            Stretch::Head => matches!(self.stage, Stage::Head),
+            Stretch::List => matches!(
+                self.stage,
+                Stage::ListLen { .. } | Stage::ListLow { .. } | Stage::ListHigh { .. }
+            ),
+            Stretch::Counter => matches!(self.stage, Stage::Counter),
+            Stretch::Slots => matches!(
+                self.stage,
+                Stage::Slot { .. } | Stage::Len { .. } | Stage::Index { .. }
+            ),
+        };
+        if is_there { self.step() } else { None }
+    }
+}
