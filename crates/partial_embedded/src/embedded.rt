@@ -1,6 +1,6 @@
 //! The machine of an embedded scan.
 
-ghost use Rattle.std.specs.Prelude.{◌≡◌, ◌≢◌, ◌+◌, ◌*◌, ◌<◌, ◌==◌, ◌||◌, ℕ, List, Bool, length, slice_index};
+ghost use Rattle.std.specs.Prelude.{◌≡◌, ◌≢◌, ◌+◌, ◌*◌, ◌^◌, ◌<◌, ◌==◌, ◌||◌, ℕ, List, Bool, length, slice_index};
 ghost use Rattle.partial_embedded.specs.Embedded.{RowsState, GoTogether, IsFor, IsPossible, buffers, pairs_from};
 ghost use Rattle.partial_embedded.specs.declared.embedded.Stage.TheVariants.{Value, Done};
 
@@ -100,7 +100,7 @@ impl Embedded {
     {
         let Rows { last, .. } = rows;
         match self.due_word(last, indices) {
-            Some(word) => Some(Step::Load(word)),
+            Some(word) => Some(Step::Load(word as u32)),
             None => None,
         }
     }
@@ -162,20 +162,23 @@ impl Embedded {
 
     // The word that is due to be loaded.
     #[inline(always)]
-    fn due_word(&self, last: &[u64], indices: &[u32]) -> Option<u32>
+    fn due_word(&self, last: &[u64], indices: &[u32]) -> Option<u64>
         requires { ((changed : List Bool) × (values : List ℕ) ×
             GoTogether indices.now (self.now, buffers last.now changed values)) }
         ensures due { IfSome result (λ word.
             step_at self.now.sizes indices.now last.now self.now.stage ≡ Some (Load word)) }
+        ensures fits { IfSome result (λ word. word < 2 ^ 32) }
         ensures done { IfNone result (self.now.stage ≡ Done) }
     {
         Some(match self.stage {
-            Stage::Collect { position } => self.sizes.component_word(indices[position]),
-            Stage::View { stamp } => view_word(stamp) as u32,
-            Stage::Len { at } => at as u32,
-            Stage::Index { at, .. } => at as u32,
-            Stage::PairValue { at, .. } => at as u32,
-            Stage::Value { position } => value_word(last[position]) as u32,
+            Stage::Collect { position } => {
+                u64::from(self.sizes.component_word(indices[position]))
+            }
+            Stage::View { stamp } => view_word(stamp),
+            Stage::Len { at } => at,
+            Stage::Index { at, .. } => at,
+            Stage::PairValue { at, .. } => at,
+            Stage::Value { position } => value_word(last[position]),
             Stage::Done => return None,
         })
     }

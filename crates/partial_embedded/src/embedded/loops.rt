@@ -56,16 +56,16 @@ impl Embedded {
     {
         while let Some(position) = self.collecting_first() {
             let word = self.sizes.component_word(indices[position]);
-            let stamp = loads.load(word);
+            let stamp = loads.load(u64::from(word));
             self.after_first_load(last, changed, indices.len(), position, stamp);
         }
         while let Some(position) = self.collecting() {
             let word = self.sizes.component_word(indices[position]);
-            let found = loads.load(word);
+            let found = loads.load(u64::from(word));
             self.after_later_load(last, changed, indices.len(), position, found);
         }
         while let Some(position) = self.valuing() {
-            let word = value_word(last[position]) as u32;
+            let word = value_word(last[position]);
             let value = loads.load(word);
             self.after_value(values, indices, position, value);
         }
