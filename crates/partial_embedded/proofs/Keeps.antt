@@ -324,3 +324,17 @@ sizes_at indices p Done x = refl
 
 pub sizes_stay : (indices : List ℕ) (p : Pair) (x : ℕ) → (advance indices p x).0.sizes ≡ p.0.sizes
 sizes_stay indices p x = sizes_at indices p p.0.stage x
+
+-- a load of a collect takes back none that was begun
+on_collects : (r : ℕ) (p : Pair) (k : ℕ) (b c : Bool) → p.0.collects ≤ (cond b (at_stage p (Collect (k + 1)))
+    (cond c (record p.0 { collects = p.0.collects + 1; moved = false; stage = Collect 0 }, p.1) (at_stage p (Value 0)))).0.collects
+on_collects r p k true c = omega arith
+on_collects r p k false true = omega arith
+on_collects r p k false false = omega arith
+
+load_collects : (r : ℕ) (p : Pair) (k x : ℕ) (b : Bool) → p.0.collects ≤ (cond b (borrow p x) (go_on r (noted p k x) k)).0.collects
+load_collects r p k x true = omega arith
+load_collects r p k x false = on_collects r (noted p k x) k (nat_lt (k + 1) r) (is_first p || (noted p k x).0.moved)
+
+pub collects_grow : (r : ℕ) (p : Pair) (k x : ℕ) → p.0.collects ≤ (after_load r p k x).0.collects
+collects_grow r p k x = load_collects r p k x (differs p k x && was_changed p k)

@@ -1,8 +1,9 @@
 -- What a load of an embedded scan leaves, where its answer comes from elsewhere.
-use Rattle.std.proofs.Common.{ℕ, ◌≡◌, ◌<◌, List, sym, ◌∙◌, ap, subst}
+use Rattle.std.proofs.Common.{ℕ, ◌≡◌, ◌≢◌, ◌<◌, List, length, sym, ◌∙◌, ap, subst, arith}
 use Rattle.partial_words.specs.Layout.{Layout}
-use Rattle.partial_embedded.specs.Embedded.{Pair, GoTogether, IsPossible, advance, left_of}
-use Rattle.partial_embedded.proofs.Keeps.{kept, sizes_stay}
+use Rattle.partial_embedded.specs.declared.embedded.Stage.TheVariants.{Collect}
+use Rattle.partial_embedded.specs.Embedded.{Pair, GoTogether, IsPossible, advance, after_load, goes_at, left_of}
+use Rattle.partial_embedded.proofs.Keeps.{kept, sizes_stay, collects_grow}
 
 -- the loads are at the scan q, which goes together with its positions and is nearer to its end than p
 pub record IsLoaded {A : Type 0} (scan : A → Pair) (z : Layout) (indices : List ℕ) (p q : Pair) (new : A) : Type 0 where
@@ -21,3 +22,11 @@ loaded scan positions z indices p q x old new together same at those possible th
       there = then ∙ ap (λ (w : List ℕ). advance w (scan old) x) those ∙ ap (λ (r : Pair). advance indices r x) at ∙ sym is;
       sizes = ap (λ (r : Pair). r.0.sizes) is ∙ sizes_stay indices p x ∙ same;
     }
+
+-- behind a load of a collect that isn't the first the scan doesn't come to the first again
+pub still_later : (indices : List ℕ) (p q : Pair) (k x : ℕ) → GoTogether indices p → p.0.stage ≡ Collect k → p.0.collects ≢ 1 → q ≡ after_load (length indices) p k x → q.0.collects ≢ 1
+still_later indices p q k x together stage later is first =
+    let begun = (subst (goes_at indices p) stage together.stage).2 in
+    let more = collects_grow (length indices) p k x in
+    let same : q.0.collects ≡ (after_load (length indices) p k x).0.collects = ap (λ (r : Pair). r.0.collects) is in
+    omega (arith, begun, more, same, later, first)

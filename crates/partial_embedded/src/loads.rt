@@ -20,7 +20,7 @@ pub trait Loads {
     ghost follows: { Self → Self → Type 0 };
 
     /// Loads the word that is due, and gives what it found there.
-    fn load(&mut self, word: u32) -> u64
+    fn load(&mut self, word: u64) -> u64
         requires goes { goes self.old }
         requires due { step_of (positions self.old) (scan self.old) ≡ Some (Load word) }
         ensures goes { goes self.new }

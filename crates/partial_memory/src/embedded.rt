@@ -9,11 +9,10 @@ ghost use Rattle.partial_machine.specs.Lines.{scan_begun};
 ghost use Rattle.partial_memory.specs.Rule.{one_of};
 ghost use Rattle.partial_memory.specs.Inner.Lines.{IsAtLoads, IsGoing, IsViewing, Leads, ScansOn, behind_scan, machine_of, positions_at, scans_further, scans_itself};
 
-use crate::lines::make;
+use crate::lines::make_load;
 use crate::rule::{Place, Words};
 use partial_core::Core;
 use partial_embedded::{Embedded, Loads};
-use partial_words::Step;
 
 // The loads of the embedded scan that the call of the seat's port has come to.
 #[derive(Drop)]
@@ -33,8 +32,8 @@ impl<'a> Loads for SeatLoads<'a> {
         ScansOn (one_of l.seat.me.0) (one_of k.seat.me.0) };
 
     #[inline(always)]
-    fn load(&mut self, word: u32) -> u64 {
-        make(self.words, &mut self.seat, Step::Load(word))
+    fn load(&mut self, word: u64) -> u64 {
+        make_load(self.words, &mut self.seat, word)
     }
 
     ghost follows_itself = { λ l. (refl, scans_itself (one_of l.seat.me.0)) };

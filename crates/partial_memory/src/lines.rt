@@ -3,6 +3,7 @@
 
 ghost use Rattle.std.specs.Prelude.{◌≡◌, Some};
 ghost use Rattle.partial_words.specs.Layout.{total};
+ghost use Rattle.partial_words.specs.declared.step.Step.TheVariants.{Load};
 ghost use Rattle.partial_machine.specs.declared.stage.Stage.TheVariants.{UpdateBegun};
 ghost use Rattle.partial_machine.specs.Lines.{scan_asked};
 ghost use Rattle.partial_machine.specs.Machine.{advance, at_stage, step_of};
@@ -65,7 +66,7 @@ pub fn make(words: &Words, seat: &mut Place, step: Step) -> u64
     ensures possible { IsPossible (machine_of seat.old.me) result }
 {
     match step {
-        Step::Load(word) => words.load::<GoesOn>(seat, word as usize),
+        Step::Load(word) => make_load(words, seat, u64::from(word)),
         Step::Store(word, value) => {
             words.store::<PutsOn>(seat, word as usize, value);
             0
@@ -75,4 +76,17 @@ pub fn make(words: &Words, seat: &mut Place, step: Step) -> u64
         }
         Step::Add(word, by) => words.fetch_add::<GoesOn>(seat, word as usize, by),
     }
+}
+
+/// The same of a load. Whoever has the word as a `u64` need not cut it to the `u32` of a [`Step`].
+#[inline(always)]
+pub fn make_load(words: &Words, seat: &mut Place, word: u64) -> u64
+    requires going { IsGoing words.now.table_id words.now.key seat.old.table_id seat.old.me }
+    requires due { step_of (machine_of seat.old.me) ≡ Some (Load word) }
+    ensures going { IsGoing words.now.table_id words.now.key seat.new.table_id seat.new.me }
+    ensures leads { Leads (one_of seat.old.me.0) (one_of seat.new.me.0) }
+    ensures machine { machine_of seat.new.me ≡ advance (machine_of seat.old.me) result }
+    ensures possible { IsPossible (machine_of seat.old.me) result }
+{
+    words.load::<GoesOn>(seat, word as usize)
 }

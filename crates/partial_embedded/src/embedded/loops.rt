@@ -1,6 +1,6 @@
 //! An embedded scan made to its end, in loops over its buffers. Its loads are made by whoever asks for it.
 
-ghost use Rattle.std.specs.Prelude.{◌≡◌, IfSome};
+ghost use Rattle.std.specs.Prelude.{◌≡◌, ◌≢◌, ℕ, IfSome, IfNone};
 ghost use Rattle.partial_embedded.specs.Embedded.{GoTogether, IsFor, buffers};
 ghost use Rattle.partial_embedded.specs.declared.embedded.Stage.TheVariants.{Collect, Value, Done};
 
@@ -56,16 +56,16 @@ impl Embedded {
     {
         while let Some(position) = self.collecting_first() {
             let word = self.sizes.component_word(indices[position]);
-            let stamp = loads.load(word);
-            self.after_load(last, changed, indices.len(), position, stamp);
+            let stamp = loads.load(u64::from(word));
+            self.after_first_load(last, changed, indices.len(), position, stamp);
         }
         while let Some(position) = self.collecting() {
             let word = self.sizes.component_word(indices[position]);
-            let found = loads.load(word);
-            self.after_load(last, changed, indices.len(), position, found);
+            let found = loads.load(u64::from(word));
+            self.after_later_load(last, changed, indices.len(), position, found);
         }
         while let Some(position) = self.valuing() {
-            let word = value_word(last[position]) as u32;
+            let word = value_word(last[position]);
             let value = loads.load(word);
             self.after_value(values, indices, position, value);
         }
@@ -78,7 +78,9 @@ impl Embedded {
     // The position whose component word is due to be loaded in the first collect, or None where that is over.
     #[inline(always)]
     fn collecting_first(&self) -> Option<usize>
-        ensures { IfSome result (λ k. self.now.stage ≡ Collect k) }
+        ensures due { IfSome result (λ k. self.now.stage ≡ Collect k) }
+        ensures first { IfSome result (λ _. self.now.collects ≡ 1) }
+        ensures over { IfNone result ((k : ℕ) → self.now.stage ≡ Collect k → self.now.collects ≢ 1) }
     {
         if self.collects != 1 {
             return None;
@@ -89,7 +91,8 @@ impl Embedded {
     // The position whose component word is due to be loaded, or None where the collects are over.
     #[inline(always)]
     fn collecting(&self) -> Option<usize>
-        ensures { IfSome result (λ k. self.now.stage ≡ Collect k) }
+        ensures due { IfSome result (λ k. self.now.stage ≡ Collect k) }
+        ensures over { IfNone result ((k : ℕ) → self.now.stage ≢ Collect k) }
     {
         match self.stage {
             Stage::Collect { position } => Some(position),

@@ -1,19 +1,7 @@
 use Rattle.std.proofs.Common.{Some, ap, ◌∙◌}
-use Rattle.partial_words.specs.declared.step.Step.TheVariants.{Load, Store, Exchange, Add}
+use Rattle.partial_words.specs.declared.step.Step.TheVariants.{Store, Exchange, Add}
 use Rattle.partial_memory.proofs.Straight.{next_asked, next_going, next_leads}
 use Rattle.partial_memory.proofs.lines.make.Goals as goal
-
-pub load-requires : goal.load-requires
-load-requires c =
-    let r = next_asked _ _ _ _ c.requires.going (Load _) (c.requires.due ∙ ap Some c.in-Load.is) _ _ in
-    (c.requires.going.fits, r.0, r.1)
-
-pub returns-in-Load-clause-going : goal.returns-in-Load-clause-going
-returns-in-Load-clause-going c =
-    next_going _ _ _ _ c.requires.going (Load _) (c.requires.due ∙ ap Some c.in-Load.is) _ _ _ c.load.ensures.0 c.load.ensures.2.0 c.load.ensures.2.1
-
-pub returns-in-Load-clause-leads : goal.returns-in-Load-clause-leads
-returns-in-Load-clause-leads c = next_leads _ c.requires.going.under (Load _) (c.requires.due ∙ ap Some c.in-Load.is) _ _ c.load.ensures.2.1
 
 pub store-requires : goal.store-requires
 store-requires c =

@@ -1,16 +1,16 @@
 use Rattle.std.proofs.Common.{◌≡◌, sym, ap, ◌∙◌}
 use Rattle.partial_embedded.specs.Embedded.{Pair, advance, advance_at, buffers}
-use Rattle.partial_embedded.proofs.Loaded.{loaded}
+use Rattle.partial_embedded.proofs.Loaded.{loaded, still_later}
 use Rattle.partial_embedded.proofs.embedded.Embedded.make_loads.Goals as goal
 
 pub loop-position-preserved : goal.loop-position-preserved
 loop-position-preserved g c =
     let loads = g.L.Loads in
     let here : Pair = (c.loop-position.self, buffers c.loop-position.last c.loop-position.changed c.args.values.now) in
-    let next : Pair = (c.after_load.new.self, buffers c.after_load.new.last c.after_load.new.changed c.args.values.now) in
+    let next : Pair = (c.after_first_load.new.self, buffers c.after_first_load.new.last c.after_first_load.new.changed c.args.values.now) in
     let x = c.load-stamp.result in
     let is : next ≡ advance c.args.indices.now here x =
-    c.after_load.ensures c.args.values.now ∙ sym (ap (λ t. advance_at c.args.indices.now here t x) c.in-Some.ensures) in
+    c.after_first_load.ensures c.args.values.now ∙ sym (ap (λ t. advance_at c.args.indices.now here t x) c.in-Some.ensures.due) in
     let w = loaded loads.scan loads.positions c.args.self.now.sizes c.args.indices.now here next x c.loop-position.loads c.load-stamp.new.self
     c.loop-position.invariant.together c.loop-position.invariant.sizes c.loop-position.invariant.scan c.loop-position.invariant.positions
     c.load-stamp.ensures.possible c.load-stamp.ensures.scan is in
@@ -27,10 +27,10 @@ pub loop-position-smaller : goal.loop-position-smaller
 loop-position-smaller g c =
     let loads = g.L.Loads in
     let here : Pair = (c.loop-position.self, buffers c.loop-position.last c.loop-position.changed c.args.values.now) in
-    let next : Pair = (c.after_load.new.self, buffers c.after_load.new.last c.after_load.new.changed c.args.values.now) in
+    let next : Pair = (c.after_first_load.new.self, buffers c.after_first_load.new.last c.after_first_load.new.changed c.args.values.now) in
     let x = c.load-stamp.result in
     let is : next ≡ advance c.args.indices.now here x =
-    c.after_load.ensures c.args.values.now ∙ sym (ap (λ t. advance_at c.args.indices.now here t x) c.in-Some.ensures) in
+    c.after_first_load.ensures c.args.values.now ∙ sym (ap (λ t. advance_at c.args.indices.now here t x) c.in-Some.ensures.due) in
     (loaded loads.scan loads.positions c.args.self.now.sizes c.args.indices.now here next x c.loop-position.loads c.load-stamp.new.self
     c.loop-position.invariant.together c.loop-position.invariant.sizes c.loop-position.invariant.scan c.loop-position.invariant.positions
     c.load-stamp.ensures.possible c.load-stamp.ensures.scan is).fewer
@@ -39,10 +39,10 @@ pub loop-position-2-preserved : goal.loop-position-2-preserved
 loop-position-2-preserved g c =
     let loads = g.L.Loads in
     let here : Pair = (c.loop-position-2.self, buffers c.loop-position-2.last c.loop-position-2.changed c.args.values.now) in
-    let next : Pair = (c.after_load-in-Some-collecting.new.self, buffers c.after_load-in-Some-collecting.new.last c.after_load-in-Some-collecting.new.changed c.args.values.now) in
+    let next : Pair = (c.after_later_load.new.self, buffers c.after_later_load.new.last c.after_later_load.new.changed c.args.values.now) in
     let x = c.load-found.result in
     let is : next ≡ advance c.args.indices.now here x =
-    c.after_load-in-Some-collecting.ensures c.args.values.now ∙ sym (ap (λ t. advance_at c.args.indices.now here t x) c.in-Some-collecting.ensures) in
+    c.after_later_load.ensures c.args.values.now ∙ sym (ap (λ t. advance_at c.args.indices.now here t x) c.in-Some-collecting.ensures.due) in
     let w = loaded loads.scan loads.positions c.args.self.now.sizes c.args.indices.now here next x c.loop-position-2.loads c.load-found.new.self
     c.loop-position-2.invariant.together c.loop-position-2.invariant.sizes c.loop-position-2.invariant.scan c.loop-position-2.invariant.positions
     c.load-found.ensures.possible c.load-found.ensures.scan is in
@@ -53,16 +53,18 @@ loop-position-2-preserved g c =
       positions = c.load-found.ensures.positions ∙ c.loop-position-2.invariant.positions;
       follows = g.met.L.Loads.follows_on _ _ _ c.loop-position-2.invariant.follows c.load-found.ensures.follows;
       sizes = w.sizes;
+      later = λ _ _. still_later c.args.indices.now here next c.in-Some-collecting.position x c.loop-position-2.invariant.together c.in-Some-collecting.ensures.due
+          (c.loop-position-2.invariant.later _ c.in-Some-collecting.ensures.due) (c.after_later_load.ensures c.args.values.now);
     }
 
 pub loop-position-2-smaller : goal.loop-position-2-smaller
 loop-position-2-smaller g c =
     let loads = g.L.Loads in
     let here : Pair = (c.loop-position-2.self, buffers c.loop-position-2.last c.loop-position-2.changed c.args.values.now) in
-    let next : Pair = (c.after_load-in-Some-collecting.new.self, buffers c.after_load-in-Some-collecting.new.last c.after_load-in-Some-collecting.new.changed c.args.values.now) in
+    let next : Pair = (c.after_later_load.new.self, buffers c.after_later_load.new.last c.after_later_load.new.changed c.args.values.now) in
     let x = c.load-found.result in
     let is : next ≡ advance c.args.indices.now here x =
-    c.after_load-in-Some-collecting.ensures c.args.values.now ∙ sym (ap (λ t. advance_at c.args.indices.now here t x) c.in-Some-collecting.ensures) in
+    c.after_later_load.ensures c.args.values.now ∙ sym (ap (λ t. advance_at c.args.indices.now here t x) c.in-Some-collecting.ensures.due) in
     (loaded loads.scan loads.positions c.args.self.now.sizes c.args.indices.now here next x c.loop-position-2.loads c.load-found.new.self
     c.loop-position-2.invariant.together c.loop-position-2.invariant.sizes c.loop-position-2.invariant.scan c.loop-position-2.invariant.positions
     c.load-found.ensures.possible c.load-found.ensures.scan is).fewer

@@ -1,4 +1,5 @@
-use Rattle.std.proofs.Common.{◌≡◌}
+use Rattle.std.proofs.Common.{ℕ, ◌≡◌, ◌≢◌}
+use Rattle.partial_embedded.specs.declared.embedded.Stage.TheVariants.{Collect}
 use Rattle.partial_embedded.specs.Embedded.{Pair, GoTogether, buffers, left_of}
 use Rattle.partial_embedded.proofs.embedded.Embedded.make_loads.Given as goal
 
@@ -19,7 +20,7 @@ invariant-loop-position g l =
 abbrev pub decreases-loop-position : goal.decreases-loop-position
 decreases-loop-position g l = left_of l.indices (l.self, buffers l.last l.changed l.values)
 
--- the same, behind the first collect
+-- the same, behind the first collect: a collect under way is a later one
 abbrev pub invariant-loop-position-2 : goal.invariant-loop-position-2
 invariant-loop-position-2 g l =
     let loads = g.L.Loads in
@@ -31,6 +32,7 @@ invariant-loop-position-2 g l =
       positions : loads.positions l.loads ≡ l.indices;
       follows : loads.follows l.fn.loads l.loads;
       sizes : l.self.sizes ≡ l.fn.self.sizes;
+      later : (k : ℕ) → l.self.stage ≡ Collect k → l.self.collects ≢ 1;
     }
 
 abbrev pub decreases-loop-position-2 : goal.decreases-loop-position-2
