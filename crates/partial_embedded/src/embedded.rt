@@ -1,9 +1,10 @@
 //! The machine of an embedded scan.
 
-ghost use Rattle.std.specs.Prelude.{◌≡◌, ◌≢◌, ◌+◌, ◌*◌, ◌^◌, ◌<◌, ◌==◌, ◌||◌, ℕ, List, Bool, length, slice_index};
+ghost use Rattle.std.specs.Prelude.{◌≡◌, ◌+◌, ◌*◌, ◌^◌, ◌<◌, ℕ, List, Bool, length, slice_index};
 ghost use Rattle.partial_embedded.specs.Embedded.{RowsState, GoTogether, IsFor, IsPossible, buffers, pairs_from};
 ghost use Rattle.partial_embedded.specs.declared.embedded.Stage.TheVariants.{Value, Done};
 
+mod collects;
 mod loops;
 
 use crate::rows::Rows;
@@ -67,7 +68,7 @@ impl Embedded {
     ghost use Rattle.std.specs.Prelude.{IfSome, IfNone, Some, ◌≤◌};
     ghost use Rattle.partial_words.specs.Layout.{pool_end};
     ghost use Rattle.partial_words.specs.declared.step.Step.TheVariants.{Load};
-    ghost use Rattle.partial_embedded.specs.Embedded.{ArePositions, fresh, step_of, step_at, advance, left_of, most_steps, after_load, after_view, advance_at, go_on};
+    ghost use Rattle.partial_embedded.specs.Embedded.{ArePositions, fresh, step_of, step_at, advance, left_of, most_steps, after_view, advance_at};
 
     /// An embedded scan that has made no step. One that shares stops at the reference of a view that it
     /// borrows; another one loads the pairs.
@@ -221,109 +222,6 @@ impl Embedded {
             }
             Stage::Value { position } => self.after_value(values, indices, position, x),
             Stage::Done => {}
-        }
-    }
-
-    // The component word of a position, one of so many, was loaded.
-    #[inline(always)]
-    fn after_load(
-        &mut self,
-        last: &mut [u64],
-        changed: &mut [bool],
-        positions: usize,
-        position: usize,
-        x: u64,
-    )
-        requires position { position < positions }
-        requires few { positions ≤ self.old.sizes.m }
-        requires last { position < length last.old }
-        requires changed { position < length changed.old }
-        requires collects { self.old.collects ≤ positions + 2 }
-        ensures { (values : List ℕ) → (self.new, buffers last.new changed.new values) ≡
-            after_load positions (self.old, buffers last.old changed.old values) position x }
-    {
-        if self.collects == 1 {
-            self.after_first_load(last, changed, positions, position, x);
-        } else {
-            self.after_later_load(last, changed, positions, position, x);
-        }
-    }
-
-    // The same in the first collect, which has none before it to differ from.
-    #[inline(always)]
-    fn after_first_load(
-        &mut self,
-        last: &mut [u64],
-        changed: &mut [bool],
-        positions: usize,
-        position: usize,
-        x: u64,
-    )
-        requires first { self.old.collects ≡ 1 }
-        requires position { position < positions }
-        requires few { positions ≤ self.old.sizes.m }
-        requires last { position < length last.old }
-        requires changed { position < length changed.old }
-        ensures { (values : List ℕ) → (self.new, buffers last.new changed.new values) ≡
-            after_load positions (self.old, buffers last.old changed.old values) position x }
-    {
-        last[position] = x;
-        changed[position] = false;
-        self.go_on(positions, position, true);
-    }
-
-    // The same in a later collect.
-    #[inline(always)]
-    fn after_later_load(
-        &mut self,
-        last: &mut [u64],
-        changed: &mut [bool],
-        positions: usize,
-        position: usize,
-        x: u64,
-    )
-        requires later { self.old.collects ≢ 1 }
-        requires position { position < positions }
-        requires few { positions ≤ self.old.sizes.m }
-        requires last { position < length last.old }
-        requires changed { position < length changed.old }
-        requires collects { self.old.collects ≤ positions + 2 }
-        ensures { (values : List ℕ) → (self.new, buffers last.new changed.new values) ≡
-            after_load positions (self.old, buffers last.old changed.old values) position x }
-    {
-        if last[position] == x {
-            self.go_on(positions, position, self.moved);
-        } else if changed[position] {
-            self.borrowed = Some(x);
-            self.stage = Stage::View { stamp: x };
-        } else {
-            last[position] = x;
-            changed[position] = true;
-            self.moved = true;
-            self.go_on(positions, position, true);
-        }
-    }
-
-    // The position behind this one, one of so many, is due. Where there is none, the collect is whole, and another
-    // one is made or not.
-    #[inline(always)]
-    fn go_on(&mut self, positions: usize, position: usize, again: bool)
-        requires again { again ≡ (self.old.collects == 1) || self.old.moved }
-        requires position { position < positions }
-        requires few { positions ≤ self.old.sizes.m }
-        requires collects { self.old.collects ≤ positions + 2 }
-        ensures { (rows : RowsState) → (self.new, rows) ≡ go_on positions (self.old, rows) position }
-    {
-        if position + 1 < positions {
-            self.stage = Stage::Collect {
-                position: position + 1,
-            };
-        } else if again {
-            self.collects += 1;
-            self.moved = false;
-            self.stage = Stage::Collect { position: 0 };
-        } else {
-            self.stage = Stage::Value { position: 0 };
         }
     }
 

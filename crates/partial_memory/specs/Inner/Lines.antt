@@ -84,7 +84,8 @@ pub record IsAtSteps {S : Type 0} (table : TableId) (about : About) (here : Tabl
 -- from x the call has come to y by steps of its getSet alone
 pub record GetsOn (x y : Seated) : Type 0 where
   pub leads : Leads x y
-  pub made : (c : Change) (old : ℕ) (s : CoreState) → core_of x.part ≡ set_made s c old → core_of y.part ≡ set_made (with_getting s (getting (core_of y.part))) c old
+  pub made : (c : Change) (old : ℕ) (s : CoreState) → core_of x.part ≡ set_made s c old →
+      core_of y.part ≡ set_made (with_getting s (getting (core_of y.part))) c old
 
 -- the call of the seat's port has come to an embedded scan
 pub record IsAtLoads {S : Type 0} (table : TableId) (about : About) (here : TableId) (me : Me S (List Seated)) : Type 0 where

@@ -15,10 +15,14 @@ returns-clause-goes c = record {
 }
 
 pub returns-clause-possible : goal.returns-clause-possible
-returns-clause-possible c = set_possible (machine_of c.args.self.now.seat.me) (machine_of c.args.self.now.seat.me) c.requires.goes.change c.requires.goes.old _ c.requires.goes.made c.requires.due _ c.make.ensures.possible
+returns-clause-possible c =
+    set_possible (machine_of c.args.self.now.seat.me) (machine_of c.args.self.now.seat.me) c.requires.goes.change c.requires.goes.old _ c.requires.goes.made c.requires.due _
+    c.make.ensures.possible
 
 pub returns-clause-set : goal.returns-clause-set
-returns-clause-set c = set_taken (machine_of c.args.self.now.seat.me) (machine_of c.args.self.now.seat.me) c.requires.goes.change c.requires.goes.old _ c.requires.goes.made c.requires.due _ _ c.make.ensures.machine
+returns-clause-set c =
+    set_taken (machine_of c.args.self.now.seat.me) (machine_of c.args.self.now.seat.me) c.requires.goes.change c.requires.goes.old _ c.requires.goes.made c.requires.due _ _
+    c.make.ensures.machine
 
 pub returns-clause-follows : goal.returns-clause-follows
 returns-clause-follows c = (
