@@ -43,8 +43,8 @@ impl GetSet {
         self
     }
 
-    // Makes the steps of a stretch, of which none is due afterwards. Where one stretch stands behind the other, the
-    // compiler knows the stage at which a step is made.
+    // Makes the steps of a stretch, if one of them is due. Where one stretch stands behind the other, the compiler
+    // knows the stage at which a step is made. What they leave is made by the last loop of `make`.
     #[inline(always)]
     fn make_stretch<S: Steps>(&mut self, stretch: Stretch, found: &mut Found, steps: &mut S)
         requires { IsAt S.goes S.set steps.old (self.old, found.old) }
