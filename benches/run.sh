@@ -1,13 +1,13 @@
 #!/bin/sh
-# Builds the program over the proved library, tests it, runs it, and writes docs/benches.md and docs/benches.svg.
-# It wants cargo, Python 3, and the library that `rt lib` has built in crates/partial_door.
+# Builds the program over the proved library twice, linked with the library and linked with its bitcode. Tests both,
+# runs them one after the other, and writes docs/benches.md and docs/benches.svg.
+# It wants `rt` on the path, cargo and Python 3. bindings/bitcode.sh proves and builds both libraries.
 set -eu
 cd "$(dirname "$0")/.."
 made=$(mktemp -d)
 trap 'rm -rf "$made"' EXIT
 PARTIAL_DOOR_HEAP=$(dirname "$(rt doc)")/c/liblibc_c.a
-CARGO_TARGET_DIR=$made/target
-export PARTIAL_DOOR_HEAP CARGO_TARGET_DIR
+export PARTIAL_DOOR_HEAP
 # The time that the host took from the processors so far, and all their time.
 stolen() {
     awk '$1 == "cpu" { for (k = 2; k <= 9; k++) all += $k; print $9, all }' /proc/stat
@@ -15,22 +15,43 @@ stolen() {
 load() {
     cut -d ' ' -f 1 /proc/loadavg
 }
-cd benches
-cargo build --release --offline --quiet
-cargo test --release --offline --quiet >"$made/tests" 2>&1 || {
-    cat "$made/tests"
-    exit 1
-}
-cd ..
-load_before=$(load)
-stolen_before=$(stolen)
-"$made/target/release/partial-benches" >"$made/table"
-part=$(echo "$stolen_before $(stolen)" | awk '{ printf "%.1f", 100 * ($3 - $1) / ($4 - $2) }')
-{
-    cat benches/head.md
-    cat "$made/table"
+# build NAME LIBRARY FLAGS: builds the program over this library, and tests it.
+build() (
+    CARGO_TARGET_DIR=$made/$1
+    PARTIAL_DOOR_LIB=$2
+    RUSTFLAGS=$3
+    export CARGO_TARGET_DIR PARTIAL_DOOR_LIB RUSTFLAGS
+    cd benches
+    cargo build --release --offline --quiet
+    cargo test --release --offline --quiet >"$made/tests" 2>&1 || {
+        cat "$made/tests"
+        exit 1
+    }
+)
+# measure NAME: runs the program of this name, and writes its tables and what they were measured on.
+measure() {
+    load_before=$(load)
+    stolen_before=$(stolen)
+    "$made/$1/release/partial-benches"
+    part=$(echo "$stolen_before $(stolen)" | awk '{ printf "%.1f", 100 * ($3 - $1) / ($4 - $2) }')
     printf '\nMeasured on %s processors (%s), with a load of %s when it began and %s by the end. ' "$(nproc)" \
         "$(sed -n 's/^model name[^:]*: //p' /proc/cpuinfo | head -n 1)" "$load_before" "$(load)"
     printf 'The host took %s %% of the processors'"'"' time meanwhile.\n' "$part"
+}
+flags=$(bindings/bitcode.sh "$made/libpartial_door.a" 2>"$made/said") || {
+    cat "$made/said"
+    exit 1
+}
+build library "$PWD/crates/partial_door/out/libpartial_door.a" ""
+build bitcode "$made/libpartial_door.a" "$flags"
+measure library >"$made/library.md"
+measure bitcode >"$made/bitcode.md"
+{
+    cat benches/head.md
+    printf '\n## Linked with the library\n\n'
+    printf '![The rows in nanoseconds as bars, on a logarithmic scale](benches.svg)\n\n'
+    cat "$made/library.md"
+    printf '\n## Linked with its bitcode\n\n'
+    cat "$made/bitcode.md"
 } >docs/benches.md
 python3 benches/plot.py <docs/benches.md >docs/benches.svg

@@ -1,5 +1,6 @@
 #!/bin/sh
 # Builds the static library `partial_door` over proved work, and tests the ways to it from C and from Rust.
+# With cargo it also builds the library's bitcode, and tests the crate for Rust over that.
 # The last line is 'N passed, M failed'. It wants cc and, for the bindings, cargo.
 set -u
 cd "$(dirname "$0")/.." || exit 2
@@ -49,6 +50,14 @@ compile() {
     "${CC:-cc}" -std=c11 -Wall -Wextra -Werror -O1 -I bindings/c "$@" \
         crates/partial_door/out/libpartial_door.a "$heap" -pthread -o "$out"
 }
+build_bitcode() {
+    bindings/bitcode.sh "$made/bitcode/libpartial_door.a" >"$made/flags"
+}
+# Whether the program of these tests has a function of the library for scans, and none for reads.
+calls_no_read() {
+    cat "$made"/bitcode/target/release/deps/threads-* >"$made/program" &&
+        grep -q partial_door_scan "$made/program" && ! grep -q partial_door_read "$made/program"
+}
 kit=$(dirname "$(rt doc)")
 heap=$kit/c/liblibc_c.a
 item "the static library is proved and built" sh -c 'cd crates/partial_door && rt lib --jobs 2'
@@ -67,6 +76,15 @@ if command -v cargo >/dev/null 2>&1; then
     CARGO_TARGET_DIR=$made/target
     export CARGO_TARGET_DIR
     item "the tests and examples of the Rust binding" sh -c 'cd bindings/rust && cargo test --offline --quiet'
+    item "the library is proved and built as bitcode" build_bitcode
+    PARTIAL_DOOR_LIB=$made/bitcode/libpartial_door.a
+    RUSTFLAGS=$(cat "$made/flags")
+    RUSTDOCFLAGS=$RUSTFLAGS
+    CARGO_TARGET_DIR=$made/bitcode/target
+    export PARTIAL_DOOR_LIB RUSTFLAGS RUSTDOCFLAGS CARGO_TARGET_DIR
+    item "the tests and examples of the Rust binding over the bitcode" sh -c 'cd bindings/rust &&
+        cargo test --offline --quiet --release'
+    item "no read is a call over the bitcode" calls_no_read
 fi
 echo "$passed passed, $failed failed"
 [ "$failed" -eq 0 ]

@@ -1,4 +1,5 @@
-//! Links the proved static library: `PARTIAL_DOOR_LIB` names it, or it lies where `rt lib` puts it.
+//! Links the proved static library: `PARTIAL_DOOR_LIB` names it, or it lies where `rt lib` puts it. One that
+//! `bindings/bitcode.sh` has built is linked with the flags that it prints.
 //! `PARTIAL_DOOR_HEAP` names the kit's library by which Rattle calls the C library's heap.
 
 use std::env;

@@ -33,6 +33,14 @@
 //!   other call uses, as the library's header asks;
 //! - that its declarations agree with the functions of the library;
 //! - the Rust compiler, the linker and the C library's `malloc`, `realloc` and `free`.
+//!
+//! # Linking
+//!
+//! `PARTIAL_DOOR_LIB` names the static library, or it lies where `rt lib` puts it, and
+//! `PARTIAL_DOOR_HEAP` names the kit's `c/liblibc_c.a`. Linked so, each call of a port is a call of the
+//! library. Linked with the library that `bindings/bitcode.sh` builds, and with the flags in `RUSTFLAGS`
+//! that it prints, an optimised program has the code of a read where the read stands. The compiler and
+//! the linker then generate the library's code too. `docs/door.md` says what that wants.
 
 mod error;
 mod raw;
