@@ -259,11 +259,8 @@ impl Memory {
             });
         }
         me.core.may_scan(which)?;
-        match scan(&self.table.shared, &mut me.badge, &mut me.core, which) {
-            Reply::Scanned { collects, borrowed } => {
-                me.core.copy_values(which, into);
-                Ok(Scanned { collects, borrowed })
-            }
+        match scan(&self.table.shared, &mut me.badge, &mut me.core, which, into) {
+            Reply::Scanned { collects, borrowed } => Ok(Scanned { collects, borrowed }),
             Reply::Refused(cause) => Err(cause),
             Reply::Applied { .. } | Reply::Lost { .. } => unreachable!(),
             Reply::Read { .. } | Reply::Changed { .. } => unreachable!(),

@@ -1,6 +1,6 @@
 //! A scan in straight lines. Its embedded scan is made by its machine, in loops of its own.
 
-ghost use Rattle.std.specs.Prelude.{◌≡◌, ◌<◌, ◌+◌, length, false, IfSome, IfNone};
+ghost use Rattle.std.specs.Prelude.{◌≡◌, ◌<◌, ◌+◌, length, map, slice_index, false, IfSome, IfNone};
 ghost use Rattle.partial_words.specs.Announcement.{announcement_size};
 ghost use Rattle.partial_words.specs.Layout.{total};
 ghost use Rattle.partial_machine.specs.declared.stage.Stage.TheVariants.{Idle, StoringAnnouncement, Scanning};
@@ -8,7 +8,7 @@ ghost use Rattle.partial_machine.specs.Machine.{at_stage, begin_joining};
 ghost use Rattle.partial_machine.specs.Lines.{joined, not_joined, scan_asked, scan_begun};
 ghost use Rattle.partial_machine.specs.Sound.{IsSound};
 ghost use Rattle.partial_memory.specs.Rule.{IsBadgeOfOne, IsOne, one_in, one_of};
-ghost use Rattle.partial_memory.specs.Inner.Steps.{Begins, ScanEnded};
+ghost use Rattle.partial_memory.specs.Inner.Steps.{Begins, ScanEnded, values_behind};
 ghost use Rattle.partial_memory.specs.Inner.Lines.{IsGoing, Leads, announcing, machine_of};
 
 use crate::embedded::scan_asked;
@@ -21,9 +21,15 @@ use partial_model::Refused;
 use partial_words::{Sizes, Step, announcement_block_word, announcement_size};
 use std::marker::Brand;
 
-/// Makes the steps of a scan of these positions that isn't refused at once, and gives its reply. The machine's rows
-/// then have its values.
-pub fn scan(words: &Words, badge: &mut Badge<View>, core: &mut Core, which: &[u32]) -> Reply
+/// Makes the steps of a scan of these positions that isn't refused at once, and gives its reply. Where it is scanned,
+/// its values are in `into`, as the machine's rows have them, and otherwise `into` is unchanged.
+pub fn scan(
+    words: &Words,
+    badge: &mut Badge<View>,
+    core: &mut Core,
+    which: &[u32],
+    into: &mut [u64],
+) -> Reply
     requires table { badge.old.table_id ≡ words.now.table_id }
     requires words { words.now.table_id.words ≡ total words.now.key.sizes }
     requires one { IsBadgeOfOne badge.old.views }
@@ -31,17 +37,26 @@ pub fn scan(words: &Words, badge: &mut Badge<View>, core: &mut Core, which: &[u3
     requires idle { core.old.stage ≡ Idle }
     requires sound { IsSound core.old }
     requires begins { Begins (scan_asked core.old which.now) (one_in badge.old.views) }
+    requires lengths { length into.old ≡ length which.now }
     ensures table { badge.new.table_id ≡ badge.old.table_id }
     ensures one { IsBadgeOfOne badge.new.views }
     ensures ended { ScanEnded core.old which.now (one_in badge.old.views) result core.new (one_in badge.new.views) }
+    ensures into { into.new ≡ values_behind result (map (slice_index core.new.rows.values) which.now) into.old }
 {
-    let (seat, reply) = make_scan(words, take_seat(badge), core, which);
+    let (seat, reply) = make_scan(words, take_seat(badge), core, which, into);
     *badge = seat.into_badge();
     reply
 }
 
-// The same at a seat, which it gives back.
-fn make_scan(words: &Words, mut seat: Place, core: &mut Core, which: &[u32]) -> (Place, Reply)
+// The same at a seat, which it gives back. The values are copied before the port leaves, since what stands behind that
+// store waits for it.
+fn make_scan(
+    words: &Words,
+    mut seat: Place,
+    core: &mut Core,
+    which: &[u32],
+    into: &mut [u64],
+) -> (Place, Reply)
     requires table { seat.table_id ≡ words.now.table_id }
     requires words { words.now.table_id.words ≡ total words.now.key.sizes }
     requires one { IsOne seat.me }
@@ -49,9 +64,11 @@ fn make_scan(words: &Words, mut seat: Place, core: &mut Core, which: &[u32]) -> 
     requires idle { core.old.stage ≡ Idle }
     requires sound { IsSound core.old }
     requires begins { Begins (scan_asked core.old which.now) (one_of seat.me.0) }
+    requires lengths { length into.old ≡ length which.now }
     ensures table { result.0.table_id ≡ seat.table_id }
     ensures one { IsOne result.0.me }
     ensures ended { ScanEnded core.old which.now (one_of seat.me.0) result.1 core.new (one_of result.0.me.0) }
+    ensures into { into.new ≡ values_behind result.1 (map (slice_index core.new.rows.values) which.now) into.old }
 {
     let sizes = core.sizes();
     let size = announcement_size(which.len() as u64);
@@ -68,6 +85,7 @@ fn make_scan(words: &Words, mut seat: Place, core: &mut Core, which: &[u32]) -> 
         return (seat, Reply::Refused(Refused::SlotsSpent));
     };
     let (mut behind, embedded) = scan_asked(words, seat, core, which);
+    core.copy_values(which, into);
     make(words, &mut behind, Step::Store(sizes.slot_word(slot), 1));
     let reply = Reply::Scanned {
         collects: embedded.collects(),

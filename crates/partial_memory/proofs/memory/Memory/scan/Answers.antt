@@ -1,11 +1,12 @@
-use Rattle.std.proofs.Common.{rules, ◌≡◌, ◌≤◌, refl, sym, ap, ◌∙◌, subst, length, Some, inl, inr}
+use Rattle.std.proofs.Common.{rules, ◌≡◌, ◌≤◌, refl, sym, ap, ◌∙◌, subst, length, map, Some, inl, inr}
+use Rattle.std.specs.Prelude.{slice_index}
 use Rattle.std.proofs.lemmas.Result.{err_from_is_err_and}
 use Rattle.partial_model.specs.declared.call.Call.TheVariants as call
 use Rattle.partial_words.specs.Layout.{Layout}
 use Rattle.partial_machine.specs.declared.stage.Reply.TheVariants as reply
-use Rattle.partial_machine.specs.Sound.{AreComponents}
 use Rattle.partial_memory.specs.Ports.{PortView, refusal}
 use Rattle.partial_memory.specs.Rule.{one_in}
+use Rattle.partial_memory.specs.Inner.Steps.{values_behind}
 use Rattle.partial_memory.proofs.Resting.{asked_begins, refusal_here, rests, scan_begins, same_memory}
 use Rattle.partial_memory.proofs.Replies.{scan_ended, scan_copied, ok_ok, err_ok, err_err, ok_err}
 use Rattle.partial_memory.proofs.memory.Memory.scan.Goals as goal
@@ -25,6 +26,7 @@ scan-requires c =
       idle = c.me.invariant.between.idle;
       sound = c.me.invariant.between.sound;
       begins = begins.begins;
+      lengths = c.requires.lengths.0;
     }
 
 pub invariant_of-me : goal.invariant_of-me
@@ -34,18 +36,6 @@ invariant_of-me c =
     let few : length c.args.which.now ≤ c.me.inside.core.sizes.m = subst (λ (z : Layout). length c.args.which.now ≤ z.m) (sym sizes) c.requires.lengths.1 in
     let begins = scan_begins _ _ _ c.me.invariant c.me.inside.badge.table_id _ _ few some c.in_ok-may_scan.ensures.ok (asked_begins c.me.inside.core _ some) in
     rests _ _ _ _ _ _ c.scan.ensures.one begins.begins c.scan.ensures.ended.ended c.me.invariant.number
-
-pub copy_values-requires : goal.copy_values-requires
-copy_values-requires c =
-    let some : length c.args.which.now ≡ 0 → ⊥ = search rules in
-    let sizes : c.me.inside.core.sizes ≡ c.args.self.now.about.sizes = search rules in
-    let few : length c.args.which.now ≤ c.me.inside.core.sizes.m = subst (λ (z : Layout). length c.args.which.now ≤ z.m) (sym sizes) c.requires.lengths.1 in
-    let begins = scan_begins _ _ _ c.me.invariant c.me.inside.badge.table_id _ _ few some c.in_ok-may_scan.ensures.ok (asked_begins c.me.inside.core _ some) in
-    let ended = c.scan.ensures.ended.ended in
-    record {
-      lengths = c.requires.lengths.0;
-      components = subst (λ (z : Layout). AreComponents z c.args.which.now) (begins.begins.sizes ∙ sym (ended.like.sizes ∙ ended.made.made.sizes)) begins.begins.sound.asked;
-    }
 
 pub unreachable-requires : goal.unreachable-requires
 unreachable-requires c =
@@ -74,7 +64,7 @@ returns-clause-ok c =
     let told = scan_ended _ _ _ c.me.invariant _ _ c.scan.ensures.table _ c.me.view_is _ _ _ _ c.scan.ensures.ended.ended _ few some ok (asked_begins c.me.inside.core _ some) in
     let ended = c.scan.ensures.ended in
     elim c.match-scan.branch [
-      | in-Scanned w ↦ ok_ok _ _ _ w.result-is (scan_copied _ _ _ _ ended.ended.machine _ _ _ some ended.asked ended.rows (w.into-is ∙ w.copy_values.ensures)
+      | in-Scanned w ↦ ok_ok _ _ _ w.result-is (scan_copied _ _ _ _ ended.ended.machine _ _ _ some ended.asked ended.rows (c.scan.ensures.into ∙ ap (λ r. values_behind r (map (slice_index c.scan.new.core.rows.values) c.args.which.now) c.args.into.now) w.in-Scanned.is)
           (told (reply.Scanned _ _) w.in-Scanned.is))
       | in-Refused w ↦ err_ok _ _ _ w.result-is
     ]
@@ -95,7 +85,8 @@ pub returns-clause-unchanged : goal.returns-clause-unchanged
 returns-clause-unchanged c =
     elim c.match-scan.branch [
       | in-Scanned w ↦ ok_err _ _ _ w.result-is
-      | in-Refused w ↦ err_err _ _ _ w.result-is w.into-is
+      | in-Refused w ↦ err_err _ _ _ w.result-is
+          (c.scan.ensures.into ∙ ap (λ r. values_behind r (map (slice_index c.scan.new.core.rows.values) c.args.which.now) c.args.into.now) w.in-Refused.is)
     ]
 
 pub returns-clause-same : goal.returns-clause-same
