@@ -1,7 +1,6 @@
 -- What a getSet has found stays without repeats and below the number of components, so it is no more
 -- than there are components.
 use Rattle.std.proofs.Common.{ℕ, suc, ◌≡◌, ◌+◌, ◌-◌, ◌<◌, ◌≤◌, min, Bool, true, false, cond, eqb, ltb, List, [], ◌∷◌, ◌++◌, length, get_or, refl, sym, ◌∙◌, ap, subst, arith, inl, inr}
-use Rattle.std.specs.Prelude.{nat_eq}
 use Rattle.std.specs.List.{IsDistinct, list_any}
 use Rattle.std.proofs.lemmas.Bool.{cond_both, cases_lt, or_cases, eqb-true, false≢true}
 use Rattle.std.proofs.lemmas.List.{get_or_append_left, length_push}

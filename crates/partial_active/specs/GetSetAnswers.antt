@@ -1,13 +1,15 @@
 -- Which answers a getSet may be given, and how its machine and its buffers go together.
-use Rattle.std.specs.Prelude.{ℕ, ◌≡◌, ◌+◌, ◌*◌, ◌<◌, ◌≤◌, ◌⊎◌, [], length, slice_index}
+use Rattle.std.specs.Prelude.{ℕ, ◌≡◌, ◌+◌, ◌*◌, ◌<◌, ◌≤◌, ◌⊎◌, List, [], length, slice_index, Some}
 use Rattle.partial_intervals.specs.Intervals.{Ranges, lowest, highest, IsNormal}
+use Rattle.partial_words.specs.declared.step.Step.{Step}
+use Rattle.partial_words.specs.Step.{answer_of, word_of}
 use Rattle.partial_words.specs.Layout.{Layout, list_base, list_end, pool_base, pool_end, greatest_list}
 use Rattle.partial_words.specs.Announcement.{announcement_size}
 use Rattle.partial_words.specs.VacatedList.{list_block, list_size}
 use Rattle.partial_active.specs.declared.get_set.Stage.{Stage}
 use Rattle.partial_active.specs.declared.get_set.Stage.TheVariants.{Head, ListLen, ListLow, ListHigh, Counter, Slot, Len, Index, Claim, Write, Publish, Done}
 use Rattle.partial_active.specs.Found.{IsFor}
-use Rattle.partial_active.specs.GetSet.{Pair, next_words}
+use Rattle.partial_active.specs.GetSet.{Pair, next_words, step_of}
 
 -- each interval of the list ends below the number
 abbrev pub EndsBelow : Ranges → ℕ → Type 0
@@ -55,6 +57,13 @@ is_possible_at Done p x = Unit {0}
 -- an answer that orderly words may give to the due step
 abbrev pub IsPossible : Pair → ℕ → Type 0
 IsPossible p x = is_possible_at p.0.stage p x
+
+-- the step that is due is about one of the words, and they may give the answer that they give
+pub record MayPerform (p : Pair) (words : List ℕ) : Type 0 where
+  pub step : Step
+  pub due : step_of p.0 ≡ Some step
+  pub within : word_of step < length words
+  pub possible : IsPossible p (answer_of words step)
 
 -- the list that was read: normal, and within the slots
 pub record HasRead (s : Layout) (read : Ranges) : Type 0 where

@@ -5,6 +5,7 @@ ghost use Rattle.std.specs.Prelude.{◌≡◌, ◌+◌, ◌*◌, ◌<◌, ◌≤
 ghost use Rattle.partial_words.specs.Layout.{IsLayout, list_base, list_end, pool_base, pool_end};
 
 mod loops;
+mod plain;
 
 use crate::found::Found;
 use partial_words::{Sizes, Step, list_size};

@@ -1,16 +1,21 @@
 -- The machine holds behind an answer to one of the machines in it, as the code comes to it.
-use Rattle.std.proofs.Common.{ℕ, ◌≡◌, ◌==◌, true, false, cond, length, Option, Some, None, refl, sym, ◌∙◌, ap}
+use Rattle.std.proofs.Common.{ℕ, ◌≡◌, ◌<◌, ◌==◌, true, false, cond, List, length, Option, Some, None, refl, sym, ◌∙◌, ap, subst}
 use Rattle.std.proofs.lemmas.Bool.{false≢true}
 use Rattle.std.specs.Option.{option_map_or, is_some}
+use Rattle.partial_model.proofs.ListLemmas.{some_same}
+use Rattle.partial_words.specs.declared.step.Step.{Step}
+use Rattle.partial_words.specs.Step.{answer_of}
 use Rattle.partial_active.specs.GetSet as finding
 use Rattle.partial_active.specs.GetSetAnswers as finding_answers
 use Rattle.partial_embedded.specs.Embedded as viewing
 use Rattle.partial_machine.specs.declared.stage.Change.{Change}
 use Rattle.partial_machine.specs.declared.stage.Stage.{Stage}
 use Rattle.partial_machine.specs.declared.stage.Stage.TheVariants.{GettingSet, Viewing, ClaimingRecord, Scanning, Leaving}
-use Rattle.partial_machine.specs.Machine.{CoreState, getting, scanning, with_getting, with_scanning, after_getting, after_scanning}
+use Rattle.partial_machine.specs.Machine.{CoreState, getting, scanning, with_getting, with_scanning, after_getting, after_scanning, advance, advance_at, step_at, step_of}
+use Rattle.partial_machine.specs.Possible.{IsPossible, IsPossibleAt, MayPerform}
 use Rattle.partial_machine.specs.Sound.{IsMachine}
-use Rattle.partial_machine.proofs.Sound.{machine_on}
+use Rattle.partial_machine.specs.Bounds.{steps_left}
+use Rattle.partial_machine.proofs.Sound.{machine_on, fewer_on}
 
 -- where a step is due the machine goes on, and else it has come to the next stage
 goes_on : {A B : Type 0} (o : Option A) (x y : B) → is_some o ≡ true → x ≡ option_map_or (λ _. x) o y
@@ -21,22 +26,44 @@ comes_to : {A B : Type 0} (o : Option A) (x y : B) → is_some o ≡ false → y
 comes_to None x y done = refl
 comes_to (Some a) x y done = absurd (false≢true (sym done))
 
+-- what is performed has a possible answer
+pub possible_from : (s : CoreState) (words : List ℕ) (step : Step) (x : ℕ) → MayPerform s words → step_of s ≡ Some step → x ≡ answer_of words step → IsPossible s x
+possible_from s words step x may due is = subst (IsPossible s) (ap (answer_of words) (some_same (sym may.due ∙ due)) ∙ sym is) may.possible
+
+-- the same where the stage is known
+pub possible_at : (s : CoreState) (u : Stage) (words : List ℕ) (step : Step) (x : ℕ) → s.stage ≡ u → MayPerform s words → step_at s u ≡ Some step → x ≡ answer_of words step → IsPossibleAt s u x
+possible_at s u words step x stage may due is = subst (λ t. IsPossibleAt s t x) stage (possible_from s words step x may (ap (step_at s) stage ∙ due) is)
+
+-- it leaves fewer steps
+pub performs_fewer : (s q : CoreState) (room : ℕ) (words : List ℕ) (step : Step) (x : ℕ) → IsMachine s room → MayPerform s words → step_of s ≡ Some step → x ≡ answer_of words step → q ≡ advance s x →
+    steps_left q < steps_left s
+performs_fewer s q room words step x w may due answer is = fewer_on s q room x s.stage w refl (possible_from s words step x may due answer) is
+
 module _ (s : CoreState) (room x : ℕ) (w : IsMachine s room) where
+  pub got_more_is : (c : Change) (old : ℕ) (p : finding.Pair) → p ≡ finding.advance (getting s) x → is_some (finding.step_of p.0) ≡ true → with_getting s p ≡ advance_at s (GettingSet c old) x
+  got_more_is c old p is due =
+      let on : with_getting s p ≡ after_getting (with_getting s p) c old = goes_on (finding.step_of p.0) (with_getting s p) _ due in
+      on ∙ ap (λ q. after_getting (with_getting s q) c old) is
+
   pub got_more : (c : Change) (old : ℕ) (p : finding.Pair) → s.stage ≡ GettingSet c old → finding_answers.IsPossible (getting s) x → p ≡ finding.advance (getting s) x →
       is_some (finding.step_of p.0) ≡ true → IsMachine (with_getting s p) room
-  got_more c old p stage possible is due =
-      let on : with_getting s p ≡ after_getting (with_getting s p) c old = goes_on (finding.step_of p.0) (with_getting s p) _ due in
-      machine_on s (with_getting s p) room x (GettingSet c old) w stage possible (on ∙ ap (λ q. after_getting (with_getting s q) c old) is)
+  got_more c old p stage possible is due = machine_on s (with_getting s p) room x (GettingSet c old) w stage possible (got_more_is c old p is due)
+
+  pub got_all_is : (c : Change) (old : ℕ) (p : finding.Pair) (v : viewing.EmbeddedState) (u : Stage) → p ≡ finding.advance (getting s) x → is_some (finding.step_of p.0) ≡ false →
+      v ≡ viewing.fresh s.sizes true → u ≡ cond (length p.1.indices == 0) (ClaimingRecord c old) (Viewing c old) →
+      record (with_getting s p) { embedded = v; stage = u } ≡ advance_at s (GettingSet c old) x
+  got_all_is c old p v u is done fresh next =
+      let q : CoreState = record (with_getting s p) { embedded = v; stage = u } in
+      let same : q ≡ record (with_getting s p) { embedded = viewing.fresh s.sizes true; stage = cond (length p.1.indices == 0) (ClaimingRecord c old) (Viewing c old) } =
+      ap (λ e. record (with_getting s p) { embedded = e; stage = u }) fresh ∙ ap (λ t. record (with_getting s p) { embedded = viewing.fresh s.sizes true; stage = t }) next in
+      let on : q ≡ after_getting (with_getting s p) c old = same ∙ comes_to (finding.step_of p.0) (with_getting s p) _ done in
+      on ∙ ap (λ r. after_getting (with_getting s r) c old) is
 
   pub got_all : (c : Change) (old : ℕ) (p : finding.Pair) (v : viewing.EmbeddedState) (u : Stage) → s.stage ≡ GettingSet c old → finding_answers.IsPossible (getting s) x →
       p ≡ finding.advance (getting s) x → is_some (finding.step_of p.0) ≡ false → v ≡ viewing.fresh s.sizes true → u ≡ cond (length p.1.indices == 0) (ClaimingRecord c old) (Viewing c old) →
       IsMachine (record (with_getting s p) { embedded = v; stage = u }) room
   got_all c old p v u stage possible is done fresh next =
-      let q : CoreState = record (with_getting s p) { embedded = v; stage = u } in
-      let same : q ≡ record (with_getting s p) { embedded = viewing.fresh s.sizes true; stage = cond (length p.1.indices == 0) (ClaimingRecord c old) (Viewing c old) } =
-      ap (λ e. record (with_getting s p) { embedded = e; stage = u }) fresh ∙ ap (λ t. record (with_getting s p) { embedded = viewing.fresh s.sizes true; stage = t }) next in
-      let on : q ≡ after_getting (with_getting s p) c old = same ∙ comes_to (finding.step_of p.0) (with_getting s p) _ done in
-      machine_on s q room x (GettingSet c old) w stage possible (on ∙ ap (λ r. after_getting (with_getting s r) c old) is)
+      machine_on s (record (with_getting s p) { embedded = v; stage = u }) room x (GettingSet c old) w stage possible (got_all_is c old p v u is done fresh next)
 
   pub viewed_more : (c : Change) (old : ℕ) (p : viewing.Pair) → s.stage ≡ Viewing c old → viewing.IsPossible (scanning s) x → p ≡ viewing.advance s.found.indices (scanning s) x →
       is_some (viewing.step_of s.found.indices p) ≡ true → IsMachine (with_scanning s p) room

@@ -1,11 +1,13 @@
 -- The answers that words may give to a machine's step.
-use Rattle.std.specs.Prelude.{ℕ, ◌≡◌, ◌+◌, ◌*◌, ◌≤◌, ⊤}
+use Rattle.std.specs.Prelude.{ℕ, ◌≡◌, ◌+◌, ◌*◌, ◌<◌, ◌≤◌, ⊤, List, length, Some}
+use Rattle.partial_words.specs.declared.step.Step.{Step}
+use Rattle.partial_words.specs.Step.{answer_of, word_of}
 use Rattle.partial_words.specs.Layout.{Layout, pool_base, pool_end, greatest_record}
 use Rattle.partial_active.specs.GetSetAnswers as finding_answers
 use Rattle.partial_embedded.specs.Embedded as viewing
 use Rattle.partial_machine.specs.declared.stage.Stage.{Stage}
 use Rattle.partial_machine.specs.declared.stage.Stage.TheVariants.{Idle, ReadBegun, LoadingValue, UpdateBegun, GettingSet, Viewing, ClaimingRecord, StoringRecord, Exchanging, ScanBegun, StoringAnnouncement, Joining, Scanning, Leaving, Finished}
-use Rattle.partial_machine.specs.Machine.{CoreState, getting, scanning}
+use Rattle.partial_machine.specs.Machine.{CoreState, getting, scanning, step_of}
 use Rattle.partial_machine.specs.Sound.{IsRecord}
 
 -- a counter of the pool is at its first word or behind it, and past its end by the claims of 64 ports at most
@@ -33,3 +35,10 @@ IsPossibleAt s (Finished r) x = ⊥
 -- a step is due, and the words may give this answer to it
 abbrev pub IsPossible : CoreState → ℕ → Type 0
 IsPossible s x = IsPossibleAt s s.stage x
+
+-- the step that is due is about one of the words, and they may give the answer that they give
+pub record MayPerform (s : CoreState) (words : List ℕ) : Type 0 where
+  pub step : Step
+  pub due : step_of s ≡ Some step
+  pub within : word_of step < length words
+  pub possible : IsPossible s (answer_of words step)

@@ -10,6 +10,7 @@ ghost use Rattle.partial_machine.specs.Machine.{overtaken, CoreState};
 ghost use Rattle.partial_machine.specs.Possible.{IsPossibleAt};
 
 mod lines;
+mod plain;
 
 use crate::stage::{Change, Reply, Stage};
 use partial_active::{Found, GetSet, Join, Leave};
@@ -406,15 +407,10 @@ impl Core {
         ensures { self.new ≡ advance_at self.old (GettingSet change old) x }
     {
         self.get_set.answer(&mut self.found, x);
-        if self.get_set.step().is_some() {
-            return;
+        if self.get_set.step().is_none() {
+            self.embedded = Embedded::new(self.sizes, true);
+            self.stage = behind_set(&self.found, change, old);
         }
-        self.embedded = Embedded::new(self.sizes, true);
-        self.stage = if self.found.indices().is_empty() {
-            Stage::ClaimingRecord { change, old }
-        } else {
-            Stage::Viewing { change, old }
-        };
     }
 
     // The embedded scan of an update takes its answer.
@@ -640,6 +636,18 @@ fn set_asked(asked: &mut Vec<u32>, components: &[u32])
     let Ok(()) = asked.extend_from_slice(components) else {
         unreachable!()
     };
+}
+
+// What is due behind the getSet of an update: the embedded scan of what was found, where there is anything.
+#[inline(always)]
+fn behind_set(found: &Found, change: Change, old: u64) -> Stage
+    ensures { result ≡ (if length found.now.indices == 0 then ClaimingRecord change old else Viewing change old) }
+{
+    if found.indices().is_empty() {
+        Stage::ClaimingRecord { change, old }
+    } else {
+        Stage::Viewing { change, old }
+    }
 }
 
 /// The reply to an update whose exchange found this record.

@@ -7,7 +7,6 @@ use Rattle.partial_model.specs.declared.call.Call.{Call}
 use Rattle.partial_model.specs.declared.call.Called.{Called}
 use Rattle.partial_model.specs.declared.call.Finish.{Finish}
 use Rattle.partial_model.specs.declared.call.Refused.{Refused}
-use Rattle.partial_words.specs.declared.step.Step.{Step}
 use Rattle.partial_words.specs.declared.step.Event.{Event}
 use Rattle.partial_machine.specs.declared.stage.Reply.{Reply}
 use Rattle.partial_machine.specs.declared.stage.Stage.TheVariants.{Idle}

@@ -175,9 +175,8 @@ impl Port {
             memory.old.history.items memory.new.history.items self.old self.new) }
         ensures same { OnOk result ((memory.new.sizes ≡ memory.old.sizes) × (memory.new.places ≡ memory.old.places)) }
     {
-        let step = self.core.step().unwrap();
         let way = self.under_way.unwrap();
-        let answer = step.perform(&mut memory.words);
+        let (step, answer) = self.core.perform(&mut memory.words);
         memory.trace.push(Event {
             port: self.number,
             step,
@@ -186,7 +185,6 @@ impl Port {
         if let Some(entry) = entry_of(memory.sizes, &memory.words, self.number, step, answer) {
             memory.history.push(entry)?;
         }
-        self.core.answer(answer);
         let way = UnderWay {
             began: way.began,
             steps: way.steps + 1,

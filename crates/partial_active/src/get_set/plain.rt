@@ -1,0 +1,36 @@
+//! A getSet on plain words.
+
+ghost use Rattle.std.specs.Prelude.{◌≡◌, Some};
+ghost use Rattle.partial_words.specs.Step.{answer_of, words_after};
+ghost use Rattle.partial_active.specs.GetSet.{advance, step_of};
+ghost use Rattle.partial_active.specs.GetSetAnswers.{GoTogether, MayPerform};
+
+use super::{GetSet, Stage};
+use crate::found::Found;
+use partial_words::Step;
+
+impl GetSet {
+    /// Makes the step that is due on plain words, as [`Step::perform`] does, and takes in its answer with the
+    /// buffers of this getSet. Gives both. It is what [`GetSet::step`] and [`GetSet::answer`] come to. Nearly all
+    /// steps of a long getSet load slots, so these have lines of their own.
+    #[inline(always)]
+    pub fn perform(&mut self, found: &mut Found, words: &mut [u64]) -> (Step, u64)
+        requires together { GoTogether (self.old, found.old) }
+        requires may { MayPerform (self.old, found.old) words.old }
+        ensures due { step_of self.old ≡ Some result.0 }
+        ensures answer { result.1 ≡ answer_of words.old result.0 }
+        ensures words { words.new ≡ words_after words.old result.0 }
+        ensures state { (self.new, found.new) ≡ advance (self.old, found.old) result.1 }
+    {
+        if let Stage::Slot { slot } = self.stage {
+            let step = Step::Load(self.sizes.slot_word(slot));
+            let answer = step.perform(words);
+            self.after_slot(found, slot, answer);
+            return (step, answer);
+        }
+        let step = self.step().unwrap();
+        let answer = step.perform(words);
+        self.answer(found, answer);
+        (step, answer)
+    }
+}

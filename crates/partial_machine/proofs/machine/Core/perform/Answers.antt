@@ -1,0 +1,12 @@
+use Rattle.std.specs.Vec.{vec_capacity}
+use Rattle.std.proofs.Common.{subst}
+use Rattle.partial_machine.specs.Machine.{CoreState}
+use Rattle.partial_machine.specs.Sound.{IsMachine}
+use Rattle.partial_machine.proofs.Submachines.{performs_fewer}
+use Rattle.partial_machine.proofs.machine.Core.perform.Goals as goal
+
+pub returns-in-GettingSet-clause-falls : goal.returns-in-GettingSet-clause-falls
+returns-in-GettingSet-clause-falls c =
+    let machine = subst (λ (s : CoreState). IsMachine s (vec_capacity c.self.inside.asked)) c.self.view_is c.self.invariant in
+    let made = c.perform_set in
+    performs_fewer c.args.self.now made.new.self _ c.args.words.now made.result.0 made.result.1 machine c.requires made.ensures.due made.ensures.answer made.ensures.state
