@@ -156,6 +156,15 @@ fn five_scans_of_twenty(rt: HostRuntime) -> Result<(), Fail> {
     }
     assert_eq!(rt; answered, 5);
     assert_eq!(rt; closed.values.as_slice(), [0, 0].as_slice());
+    // Behind two components, four counters and five slots: the initial records, of three words each.
+    let mut stamp = 11;
+    for chain in closed.chains.iter() {
+        assert_eq!(rt; chain.len(), 1);
+        for link in chain.iter() {
+            assert_eq!(rt; link.stamp, stamp);
+        }
+        stamp = 14;
+    }
     Ok(())
 }
 

@@ -1,6 +1,6 @@
 //! Two runs, of which the second goes on where the first ended.
 
-ghost use Rattle.std.specs.Prelude.{◌≡◌, ◌↔◌, ◌≢◌, ◌⊎◌, true, false, IfOk, IfErr, IfSome, IsErrOf, OnOk};
+ghost use Rattle.std.specs.Prelude.{◌≡◌, ◌↔◌, ◌≢◌, ◌⊎◌, true, false, IfOk, IfErr, IfSome, IsErr, IsErrOf, OnOk};
 ghost use Rattle.partial_text.specs.Judging.{judged};
 ghost use Rattle.partial_cmd.specs.declared.command.Verdict.TheVariants.{Done};
 ghost use Rattle.partial_cmd.specs.Execution.{reader_fault, writer_fault};
@@ -39,8 +39,10 @@ pub fn execute_next<H: Threads + Wait + Sync, R: Read, N: Read, W: Write>(
     requires out { out.old.failed ≡ false }
     ensures read_fault { IsErrOf result reader_fault ↔ ((plan.new.failed ≡ true) ⊎ (next.new.failed ≡ true)) }
     ensures write_fault { IsErrOf result writer_fault ↔ (out.new.failed ≡ true) }
-    // Where the first plan's reader fails the second plan isn't read.
+    // When the first plan's reader fails, or its text isn't the text of a plan, the second plan isn't read.
     ensures unread { plan.new.failed ≡ true → next.new ≡ next.old }
+    ensures refused { plan.new.failed ≡ false → IfSome (R.remaining plan.old.inner)
+        (λ bytes. IsErr (judged bytes) → next.new ≡ next.old) }
     ensures plans { plan.new.failed ≡ false → next.new.failed ≡ false
         → IfSome (R.remaining plan.old.inner) (λ first. IfSome (N.remaining next.old.inner)
         (λ second. AreJudged result (judged first) (judged second))) }

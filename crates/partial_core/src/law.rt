@@ -15,7 +15,7 @@ pub fn memory_opens_lawful()
 
 /// The one law of steps: from a lawful state the due step of any port, answered by the plain meaning
 /// of that step on the words, leads to a lawful state. The answer is a possible one; the history
-/// gains one entry exactly at a won exchange of a component word; and where the step ends a call
+/// gains one entry exactly at a won exchange of a component word; and when the step ends a call
 /// that isn't refused, the port notes the call with its answer and its place, within the call.
 pub fn steps_stay_lawful()
     ensures { StepsStayLawful }
@@ -72,7 +72,7 @@ pub fn calls_begin_between()
     ensures { CallsBeginBetween }
 {}
 
-/// A port is between calls as it is made, and where a call has ended and its reply was taken.
+/// A port is between calls as it is made, and when a call has ended and its reply was taken.
 pub fn ports_come_between()
     ensures { PortsComeBetween }
 {}

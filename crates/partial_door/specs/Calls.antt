@@ -17,7 +17,7 @@ use Rattle.partial_door.specs.declared.answers.PortState.{PortState}
 use Rattle.partial_door.specs.declared.held.OwnedPort.{OwnedPort}
 use Rattle.partial_door.specs.declared.held.Held.{Held}
 use Rattle.partial_door.specs.declared.held.Held.TheVariants as held
-use Rattle.partial_door.specs.Codes.{refused_code}
+use Rattle.partial_model.specs.Refusals.{refused_code}
 
 -- the port's share of its memory stays
 pub record IsSame (p q : OwnedPort) : Type 0 where

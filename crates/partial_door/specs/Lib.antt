@@ -1,6 +1,5 @@
 pub mod Home
 pub mod Owned
-pub mod Codes
 pub mod Calls
 pub mod Exports
 pub mod Memories

@@ -148,9 +148,16 @@ IsClosedHome m closed =
 abbrev pub ClosesAt : Held → Held → Type 0
 ClosesAt h k = (m : OpenMemory) × (closed : Closed) × (h ≡ held.Memory m) × (k ≡ held.Closed closed) × IsClosedHome m closed
 
--- why a memory stays open: there is none, or a port or a share of it is elsewhere
+-- not all ports of the memory are at home, or none is
+abbrev pub IsAway : OpenMemory → Type 0
+IsAway m = (length m.ports.items ≡ 0) ⊎ (length m.ports.items ≡ m.count → ⊥)
+
+-- why a memory stays open: there is none, or a port isn't at home, or all are and a share of the memory is elsewhere
 abbrev pub MayNotClose : Held → ℕ → Type 0
-MayNotClose h code = (HoldsNoMemory h × (code ≡ 17)) ⊎ ((m : OpenMemory) × (h ≡ held.Memory m) × (code ≡ 22))
+MayNotClose h code =
+    (HoldsNoMemory h × (code ≡ 17))
+    ⊎ ((m : OpenMemory) × (h ≡ held.Memory m) × (code ≡ 22) × IsAway m)
+    ⊎ ((m : OpenMemory) × (h ≡ held.Memory m) × (code ≡ 24) × (length m.ports.items ≡ m.count))
 
 -- where memory is wanting, the contents are lost of a memory whose ports were all at home
 abbrev pub MayLose : Held → Type 0

@@ -4,7 +4,7 @@ ghost use Rattle.std.specs.Prelude.{◌≡◌};
 ghost use Rattle.partial_door.specs.Calls.{AtPort, ReadEnds, ScanEnds, StateEnds, UpdateEnds, UpdateIfEnds};
 
 use crate::answers::{PortState, ReadAnswer, ScanAnswer, UpdateAnswer, port_state, scan_answer};
-use crate::codes::{FINE, HOLDS_NONE, LENGTH, code_of};
+use crate::codes::{FINE, HOLDS_NONE, LENGTH};
 use crate::held::Held;
 use partial_memory::{Updated, UpdatedIf};
 
@@ -27,7 +27,7 @@ impl Held {
                     };
                     FINE
                 }
-                Err(cause) => code_of(cause),
+                Err(cause) => u32::from(cause.code()),
             },
             Held::Memory(_) | Held::Closed(_) => HOLDS_NONE,
         }
@@ -61,7 +61,7 @@ impl Held {
                         };
                         FINE
                     }
-                    Err(cause) => code_of(cause),
+                    Err(cause) => u32::from(cause.code()),
                 }
             }
             Held::Memory(_) | Held::Closed(_) => HOLDS_NONE,
@@ -79,7 +79,7 @@ impl Held {
                     *answer = ReadAnswer { value, stamp };
                     FINE
                 }
-                Err(cause) => code_of(cause),
+                Err(cause) => u32::from(cause.code()),
             },
             Held::Memory(_) | Held::Closed(_) => HOLDS_NONE,
         }
@@ -103,7 +103,7 @@ impl Held {
                         *answer = scan_answer(scanned);
                         FINE
                     }
-                    Err(cause) => code_of(cause),
+                    Err(cause) => u32::from(cause.code()),
                 }
             }
             Held::Memory(_) | Held::Closed(_) => HOLDS_NONE,

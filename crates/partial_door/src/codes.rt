@@ -1,10 +1,5 @@
 //! The numbers that the calls return: 0 where all is well, and otherwise that of the refusal.
 
-ghost use Rattle.std.specs.Prelude.{◌≡◌};
-ghost use Rattle.partial_door.specs.Codes.{refused_code};
-
-use partial_model::Refused;
-
 /// The call was answered.
 pub const FINE: u32 = 0;
 /// A growth was refused.
@@ -21,14 +16,6 @@ pub const TWO_MEMORIES: u32 = 20;
 pub const NONE_HOME: u32 = 21;
 /// Not all ports are at home.
 pub const NOT_ALL_HOME: u32 = 22;
-
-/// The number of a refused call: 7 to 9.
-pub fn code_of(cause: Refused) -> u32
-    ensures { result ≡ refused_code cause }
-{
-    match cause {
-        Refused::Component => 7,
-        Refused::SlotsSpent => 8,
-        Refused::PoolSpent => 9,
-    }
-}
+/// All ports are at home, and a share of the memory is in use. A port gives up its share when it comes home, so a
+/// caller who makes one call after the other at a handle doesn't get this number.
+pub const SHARED: u32 = 24;

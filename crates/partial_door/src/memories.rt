@@ -10,7 +10,9 @@ ghost use Rattle.partial_door.specs.Memories.{AreApart, ClosesAt, CopiesValues, 
 ghost use Rattle.partial_door.specs.Memories.{MayNotGive, MayNotGoOn, MayNotOpenWith, MayNotReopenWith, MayNotTake, MeetsAt, StaysHome, TakesPort, layout_of};
 
 use crate::answers::RoomSizes;
-use crate::codes::{FINE, HOLDS_NONE, LENGTH, MEMORY, NONE_HOME, NOT_ALL_HOME, TWO_MEMORIES};
+use crate::codes::{
+    FINE, HOLDS_NONE, LENGTH, MEMORY, NONE_HOME, NOT_ALL_HOME, SHARED, TWO_MEMORIES,
+};
 use crate::held::{Held, OpenMemory, OwnedPort};
 use partial_memory::{Closed, Memory, Port};
 use partial_words::Sizes;
@@ -192,7 +194,8 @@ impl Held {
 // What a memory comes to that isn't closed.
 #[derive(Drop)]
 enum Kept {
-    Open(OpenMemory),
+    Away(OpenMemory),
+    Shared(OpenMemory),
     Lost,
 }
 
@@ -204,7 +207,7 @@ impl OpenMemory {
     {
         let all = self.count as usize;
         if self.ports.is_empty() || self.ports.len() != all {
-            return Err(Kept::Open(self));
+            return Err(Kept::Away(self));
         }
         let OpenMemory {
             opening,
@@ -216,7 +219,7 @@ impl OpenMemory {
         let memory = match Arc::try_unwrap(memory) {
             Ok(memory) => memory,
             Err(memory) => {
-                return Err(Kept::Open(OpenMemory {
+                return Err(Kept::Shared(OpenMemory {
                     opening,
                     components,
                     count,
@@ -256,9 +259,13 @@ impl Held {
                     *self = Held::Closed(closed);
                     Ok(())
                 }
-                Err(Kept::Open(open)) => {
+                Err(Kept::Away(open)) => {
                     *self = Held::Memory(open);
                     Err(Unclosed::Kept(NOT_ALL_HOME))
+                }
+                Err(Kept::Shared(open)) => {
+                    *self = Held::Memory(open);
+                    Err(Unclosed::Kept(SHARED))
                 }
                 Err(Kept::Lost) => Err(Unclosed::Lost),
             },

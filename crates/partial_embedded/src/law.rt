@@ -13,7 +13,7 @@ pub fn makes_few_collects()
     ensures { MakesFewCollects }
 {}
 
-/// An embedded scan loads values only where its last two collects are equal, and it borrows a view only
+/// An embedded scan loads values only when its last two collects are equal, and it borrows a view only
 /// from a record that is the third one at some position.
 pub fn ends_in_equal_collects_or_a_third_record()
     ensures { EndsInEqualCollectsOrAThirdRecord }

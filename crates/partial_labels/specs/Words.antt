@@ -7,10 +7,9 @@ use Rattle.partial_model.specs.declared.call.Call.{Call}
 use Rattle.partial_model.specs.declared.call.Call.TheVariants as call
 use Rattle.partial_model.specs.declared.call.Finish.{Finish}
 use Rattle.partial_model.specs.declared.call.Note.{Note}
-use Rattle.partial_model.specs.declared.call.Refused.{Refused}
-use Rattle.partial_model.specs.declared.call.Refused.TheVariants as refused
 use Rattle.partial_model.specs.declared.history.Applied.{Applied}
 use Rattle.partial_model.specs.Notes.{place_of}
+use Rattle.partial_model.specs.Refusals.{refused_code}
 use Rattle.partial_words.specs.Layout.{Layout, slot_counter, list_head, pool_counter, list_counter, list_base, list_end}
 use Rattle.partial_words.specs.declared.step.Step.{Step}
 use Rattle.partial_words.specs.declared.step.Step.TheVariants as step
@@ -26,12 +25,6 @@ call_words (call.Scan js) = codes "scan" ++ flat_map spaced js
 call_words (call.Read j) = codes "read " ++ decimal j
 call_words (call.UpdateIf j s v) = codes "updateif " ++ (decimal j ++ (codes " " ++ (decimal s ++ (codes " " ++ decimal v))))
 
--- the number of a refusal
-abbrev pub refusal_of : Refused → ℕ
-refusal_of refused.Component = 7
-refusal_of refused.SlotsSpent = 8
-refusal_of refused.PoolSpent = 9
-
 -- what a scan tells behind its values, with a dash where it has borrowed no view
 abbrev pub end_words : ℕ → ℕ → Option ℕ → List ℕ
 end_words k c (Some t) = codes " prefix " ++ (decimal k ++ (codes " collects " ++ (decimal c ++ (codes " borrowed " ++ decimal t))))
@@ -43,7 +36,7 @@ answer_words (answer.Applied t) k = codes "applied " ++ (decimal t ++ (codes " p
 answer_words (answer.Lost t) k = codes "lost " ++ (decimal t ++ (codes " place " ++ decimal k))
 answer_words (answer.Scanned vs c b) k = (codes "scanned" ++ flat_map spaced vs) ++ end_words k c b
 answer_words (answer.Read v t) k = codes "read " ++ (decimal v ++ (codes " " ++ (decimal t ++ (codes " prefix " ++ decimal k))))
-answer_words (answer.Refused r) k = codes "refused " ++ decimal (refusal_of r)
+answer_words (answer.Refused r) k = codes "refused " ++ decimal (refused_code r)
 answer_words (answer.Changed t) k = codes "changed " ++ (decimal t ++ (codes " prefix " ++ decimal k))
 
 -- the place or the prefix that a note tells, and 0 where there is no note

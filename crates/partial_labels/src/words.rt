@@ -2,9 +2,9 @@
 
 ghost use Rattle.std.specs.Prelude.{◌≡◌, ◌++◌, IfOk, OnOk, string_bytes};
 ghost use Rattle.std.specs.List.{flat_map};
-ghost use Rattle.partial_labels.specs.Words.{spaced, end_words, call_words, finish_words, refusal_of, entry_words, step_words, word_name};
+ghost use Rattle.partial_labels.specs.Words.{spaced, end_words, call_words, finish_words, entry_words, step_words, word_name};
 
-use partial_model::{Answer, Applied, Call, Called, Note, Refused};
+use partial_model::{Answer, Applied, Call, Called, Note};
 use partial_words::{Event, Sizes, Step};
 use std::alloc::{AllocError, Global};
 
@@ -74,7 +74,7 @@ pub fn finish_words(alloc: Global, called: &Called) -> Result<String, AllocError
         Answer::Read { value, stamp } => {
             format!(in alloc; "read {value} {stamp} prefix {place}")
         }
-        Answer::Refused { cause } => format!(in alloc; "refused {}", refusal(*cause)),
+        Answer::Refused { cause } => format!(in alloc; "refused {}", cause.code()),
         Answer::Scanned {
             values,
             collects,
@@ -103,17 +103,6 @@ fn push_end(
             " prefix {prefix} collects {collects} borrowed {stamp}"
         ),
         None => write!(words, " prefix {prefix} collects {collects} borrowed -"),
-    }
-}
-
-/// The number of a refusal of a call.
-fn refusal(cause: Refused) -> u8
-    ensures { result ≡ refusal_of cause }
-{
-    match cause {
-        Refused::Component => 7,
-        Refused::SlotsSpent => 8,
-        Refused::PoolSpent => 9,
     }
 }
 

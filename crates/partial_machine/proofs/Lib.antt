@@ -8,4 +8,5 @@ pub mod Begins
 pub mod DueWords
 pub mod Behind
 pub mod Claims
+pub mod Components
 pub mod Laws

@@ -1,45 +1,36 @@
 -- How a call is begun at a machine, why it is refused at once, and the answer that a reply stands for.
-use Rattle.std.specs.Prelude.{ℕ, ◌≤◌, ◌==◌, ⊤, Bool, true, false, List, [], length, nat_lt, Option, Some, None, if◌then◌else◌}
-use Rattle.std.specs.List.{list_all}
+use Rattle.std.specs.Prelude.{ℕ, ◌≤◌, ◌==◌, ⊤, Bool, true, false, List, [], length, Option, Some, None, if◌then◌else◌}
 use Rattle.partial_model.specs.declared.call.Call.{Call}
 use Rattle.partial_model.specs.declared.call.Call.TheVariants as call
 use Rattle.partial_model.specs.declared.call.Refused.{Refused}
-use Rattle.partial_model.specs.declared.call.Refused.TheVariants as refused
 use Rattle.partial_model.specs.declared.call.Answer.{Answer}
 use Rattle.partial_model.specs.declared.call.Answer.TheVariants as answer
+use Rattle.partial_model.specs.Refusals.{refusal_at_once}
 use Rattle.partial_machine.specs.declared.stage.Reply.{Reply}
 use Rattle.partial_machine.specs.declared.stage.Reply.TheVariants as reply
 use Rattle.partial_machine.specs.declared.stage.Stage.{Stage}
 use Rattle.partial_machine.specs.declared.stage.Stage.TheVariants.{Idle, ReadBegun, UpdateBegun, ScanBegun, Finished}
 use Rattle.partial_machine.specs.Machine.{CoreState, at_stage, scanned_values}
 
--- why a call is refused before any step: its indices come before the marks, and a read looks at no mark
+-- why a call is refused at once
+abbrev pub refusal_of : CoreState → Call → Option Refused
+refusal_of s c = refusal_at_once s.sizes.m s.pool_spent s.slots_spent c
+
+-- the same of a read
 abbrev pub read_refusal : CoreState → ℕ → Option Refused
-read_refusal s i = if nat_lt i s.sizes.m then None else Some refused.Component
+read_refusal s i = refusal_of s (call.Read i)
 
--- why an update is refused before any step: its component comes first, then the mark for the pool
+-- the same of an update, whatever its value
 abbrev pub update_refusal : CoreState → ℕ → Option Refused
-update_refusal s i = if nat_lt i s.sizes.m then (if s.pool_spent then Some refused.PoolSpent else None) else Some refused.Component
+update_refusal s i = refusal_of s (call.Update i 0)
 
--- a scan of no position is never refused
-abbrev pub mark_refusal : CoreState → Option Refused
-mark_refusal s = if s.pool_spent then Some refused.PoolSpent else (if s.slots_spent then Some refused.SlotsSpent else None)
-
--- why a scan is refused before any step: its components come first, then, where it has positions, the marks
+-- the same of a scan
 abbrev pub scan_refusal : CoreState → List ℕ → Option Refused
-scan_refusal s indices = if list_all (λ i. nat_lt i s.sizes.m) indices then (if length indices == 0 then None else mark_refusal s)
-    else Some refused.Component
+scan_refusal s indices = refusal_of s (call.Scan indices)
 
 -- a scan is begun; one of no position is finished at once
 abbrev pub begin_scan : CoreState → List ℕ → CoreState
 begin_scan s indices = record s { asked = indices; stage = if length indices == 0 then Finished (reply.Scanned 0 None) else ScanBegun }
-
--- why a call is refused at once
-abbrev pub refusal_of : CoreState → Call → Option Refused
-refusal_of s (call.Update j v) = update_refusal s j
-refusal_of s (call.Scan js) = scan_refusal s js
-refusal_of s (call.Read j) = read_refusal s j
-refusal_of s (call.UpdateIf j x v) = update_refusal s j
 
 -- the machine once it has begun the call
 abbrev pub begun_of : CoreState → Call → CoreState

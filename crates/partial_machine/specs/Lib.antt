@@ -6,4 +6,5 @@ pub mod Bounds
 pub mod Steps
 pub mod Behind
 pub mod Claims
+pub mod Components
 pub mod Lines

@@ -1,5 +1,6 @@
-//! One port's whole machine: which atomic step is due, and what its answer makes of a call. The
-//! machine is pure; who serves its steps, a list of words or shared memory, is the caller's affair.
+//! The state machine of one port: which atomic step is due, and how a call goes on with the answer
+//! to that step. The machine is pure. Its caller serves the steps, on a list of words or on shared
+//! memory.
 #![tactic(auto)]
 
 pub mod law;

@@ -1,4 +1,4 @@
-//! The machine of one port.
+//! The state machine of one port.
 
 ghost use Rattle.std.specs.Prelude.{◌≡◌, ◌≢◌, ◌<◌, ◌≤◌, ◌+◌, ◌*◌, ◌==◌, ◌↔◌, ◌∷◌, map, length, slice_index, nat_lt, if◌then◌else◌, IsTrue, IfOk, OnOk, IfErr, MatchOption, None};
 ghost use Rattle.std.specs.List.{flat_map, list_all};
@@ -23,8 +23,9 @@ use partial_words::{
 use std::alloc::{AllocError, Global};
 use std::marker::Model;
 
-/// One port's machine. A call is begun, its steps are made one by one and answered, and its reply is
-/// taken; the marks of spent regions stay. All memory is taken when it is made.
+/// The state machine of one port. A call is begun, its steps are made and answered one by one, and
+/// its reply is taken. The marks of spent regions stay. All memory is allocated when the machine is
+/// made.
 #[derive(Debug, Drop)]
 pub struct Core {
     sizes: Sizes,
@@ -86,7 +87,7 @@ impl Core {
     ghost use Rattle.partial_machine.specs.Sound.{IsInPool};
     ghost use Rattle.partial_machine.specs.Bounds.{steps_left};
 
-    /// The machine of a port that has made no call. Only where memory is refused is there none.
+    /// Makes the machine of a port that has made no call. Fails only when memory is refused.
     pub fn new(alloc: Global, sizes: Sizes, port: u32) -> Result<Core, AllocError>
         requires { port < 64 }
         ensures { IfOk result (λ core. core ≡ fresh sizes port) }
@@ -108,36 +109,38 @@ impl Core {
         })
     }
 
-    /// Whether no call is begun.
+    /// Returns whether no call is begun.
     pub fn idle(&self) -> bool
         ensures { IsTrue result ↔ (self.now.stage ≡ Idle) }
     {
         matches!(self.stage, Stage::Idle)
     }
 
-    /// Whether a pool claim of this port went past the end of the pool.
+    /// Returns whether a pool claim of this port went past the end of the pool.
     pub fn pool_spent(&self) -> bool
         ensures { result ≡ self.now.pool_spent }
     {
         self.pool_spent
     }
 
-    /// Whether a slot claim of this port went past the last slot.
+    /// Returns whether a slot claim of this port went past the last slot.
     pub fn slots_spent(&self) -> bool
         ensures { result ≡ self.now.slots_spent }
     {
         self.slots_spent
     }
 
-    /// Whether a claim of list words by this port went past their end. No call is refused for that.
+    /// Returns whether a claim of list words by this port went past their end. No call is refused
+    /// for that.
     pub fn lists_spent(&self) -> bool
         ensures { result ≡ lists_spent self.now }
     {
         self.get_set.lists_spent()
     }
 
-    /// Begins an update of component `component` to `value`. It is refused for an index that isn't
-    /// below the number of components, then for the mark of the pool; the machine is then unchanged.
+    /// Begins an update of component `component` to `value`. It is refused if the index is not
+    /// below the number of components, then if the port is marked for the pool. A refusal leaves
+    /// the machine unchanged.
     pub fn begin_update(&mut self, component: u32, value: u64) -> Result<(), Refused>
         requires { self.old.stage ≡ Idle }
         ensures ok { OnOk result ((update_refusal self.old component ≡ None) ×
@@ -152,8 +155,8 @@ impl Core {
         })
     }
 
-    /// Begins an update of component `component` to `value` that is applied only where the component
-    /// has the stamp `expected`. It is refused as an update is.
+    /// Begins an update of component `component` to `value` that is applied only if the component
+    /// has the stamp `expected`. It is refused for the same causes as [`Core::begin_update`].
     pub fn begin_update_if(
         &mut self,
         component: u32,
@@ -185,8 +188,8 @@ impl Core {
         Ok(())
     }
 
-    /// Begins a read of component `component`. It is refused only for an index that isn't below the
-    /// number of components; the machine is then unchanged.
+    /// Begins a read of component `component`. It is refused only if the index is not below the
+    /// number of components. A refusal leaves the machine unchanged.
     pub fn begin_read(&mut self, component: u32) -> Result<(), Refused>
         requires { self.old.stage ≡ Idle }
         ensures ok { OnOk result ((read_refusal self.old component ≡ None) ×
@@ -200,9 +203,10 @@ impl Core {
         Ok(())
     }
 
-    /// Begins a scan of these components, in this order and with repeats. It is refused for an index
-    /// that isn't below the number of components, then, where it asks for any, for the mark of the pool
-    /// and for that of the slots; the machine is then unchanged. A scan of none is finished at once.
+    /// Begins a scan of these components, in this order and with repeats. It is refused if an index
+    /// is not below the number of components. If there are any components, it is then refused if
+    /// the port is marked for the pool, then if it is marked for the slots. A refusal leaves the
+    /// machine unchanged. A scan of no component is finished at once.
     pub fn begin_scan(&mut self, components: &[u32]) -> Result<(), Refused>
         requires idle { self.old.stage ≡ Idle }
         requires few { length components.now ≤ self.old.sizes.m }
@@ -226,7 +230,7 @@ impl Core {
         Ok(())
     }
 
-    /// Begins a call as the method of its kind does.
+    /// Begins a call with the method of its kind.
     pub fn begin(&mut self, call: &Call) -> Result<(), Refused>
         requires idle { self.old.stage ≡ Idle }
         requires served { IsServed self.old.sizes.m call.now }
@@ -245,7 +249,7 @@ impl Core {
         }
     }
 
-    /// The step that is due, or None where no call is begun or the call is finished.
+    /// Returns the step that is due, or None if no call is begun or the call is finished.
     #[inline(always)]
     pub fn step(&self) -> Option<Step>
         ensures { result ≡ step_of self.now }
@@ -285,7 +289,7 @@ impl Core {
         }
     }
 
-    /// How many words the record of an update has.
+    /// Returns the number of words in the record of an update.
     #[inline(always)]
     pub fn record_size(&self) -> u64
         ensures value { result ≡ record_size self.now }
@@ -299,7 +303,8 @@ impl Core {
         }
     }
 
-    /// Word `k` of the record that an update writes at `at`. `old` is the record that it replaces.
+    /// Returns word `k` of the record that an update writes at `at`. `old` is the record that it
+    /// replaces.
     #[inline(always)]
     pub fn record_word(&self, change: Change, old: u64, at: u64, k: u64) -> u64
         requires place { IsInPool self.now.sizes at (record_size self.now) }
@@ -315,7 +320,7 @@ impl Core {
         }
     }
 
-    // The reference of the view of a record at `at`: a borrowed view is shared and not copied.
+    // The reference of the view of a record at `at`. A borrowed view is shared and not copied.
     #[inline(always)]
     fn view_at(&self, at: u64) -> u64
         requires { IsInPool self.now.sizes at (record_size self.now) }
@@ -328,7 +333,7 @@ impl Core {
         }
     }
 
-    // Word k of the pairs of an update that borrows no view, one after the other.
+    // Word k of the pairs of an update that borrows no view, in their order.
     #[inline(always)]
     fn pair_word(&self, k: u64) -> u64
         requires { k < 2 * length self.now.found.indices }
@@ -343,7 +348,7 @@ impl Core {
         }
     }
 
-    /// Takes in the answer to the step that is due.
+    /// Takes the answer to the step that is due.
     #[inline(always)]
     pub fn answer(&mut self, answer: u64)
         requires { IsPossible self.old answer }
@@ -381,7 +386,7 @@ impl Core {
         }
     }
 
-    // An update has loaded its component word: it goes on where that is the stamp that it expects.
+    // An update has loaded its component word. It goes on if the word is the stamp that it expects.
     #[inline(always)]
     fn after_component(&mut self, change: Change, x: u64)
         requires stage { self.old.stage ≡ UpdateBegun change }
@@ -398,8 +403,8 @@ impl Core {
         }
     }
 
-    // The getSet of an update takes its answer. Once it is finished, an embedded scan of what it found
-    // begins, where it found anything.
+    // The getSet of an update takes its answer. When it is finished, an embedded scan of what it
+    // found begins, if it found anything.
     #[inline(always)]
     fn after_set(&mut self, change: Change, old: u64, x: u64)
         requires stage { self.old.stage ≡ GettingSet change old }
@@ -495,7 +500,7 @@ impl Core {
         };
     }
 
-    // A scan has stored word k of its announcement. Once all are stored, the join begins.
+    // A scan has stored word k of its announcement. When all are stored, the join begins.
     #[inline(always)]
     fn after_announcement_store(&mut self, at: u64, k: u64)
         requires stage { self.old.stage ≡ StoringAnnouncement at k }
@@ -509,7 +514,7 @@ impl Core {
         }
     }
 
-    // The join of a scan takes its answer. Once the announcement stands in a slot, the embedded scan
+    // The join of a scan takes its answer. When the announcement is in a slot, the embedded scan
     // begins.
     #[inline(always)]
     fn after_join(&mut self, x: u64)
@@ -529,7 +534,7 @@ impl Core {
         }
     }
 
-    // The embedded scan of a scan takes its answer. Once it is finished, the scan leaves.
+    // The embedded scan of a scan takes its answer. When it is finished, the scan leaves.
     #[inline(always)]
     fn after_collect(&mut self, x: u64)
         requires stage { self.old.stage ≡ Scanning }
@@ -557,8 +562,8 @@ impl Core {
         };
     }
 
-    /// Takes the reply of a finished call, and the machine is idle again. There is none where no call
-    /// is begun or a step is due, and then nothing changes.
+    /// Takes the reply of a finished call, and makes the machine idle again. Returns None, and
+    /// changes nothing, if no call is begun or a step is due.
     #[inline(always)]
     pub fn take(&mut self) -> Option<Reply>
         ensures reply { result ≡ reply_of self.old }
@@ -573,10 +578,10 @@ impl Core {
         }
     }
 
-    // Value `k`, counted from 0, of the last scan that was answered, in the order of its positions. It is there
-    // until the next call is begun.
+    /// Returns value `k`, counted from 0, of the last scan that was answered, in the order of its
+    /// positions. The value stays until the next call is begun.
     #[inline(always)]
-    fn scanned(&self, k: usize) -> u64
+    pub fn scanned(&self, k: usize) -> u64
         requires { k < length self.now.asked }
         ensures { result ≡ slice_index (scanned_values self.now) k }
     {
@@ -595,8 +600,8 @@ impl Core {
         Ok(Sequence::from(values))
     }
 
-    /// The answer that a reply of this machine stands for. The values of a scan are read off the
-    /// machine: they are there until the next call is begun. Only where memory is refused is there none.
+    /// Returns the answer that a reply of this machine stands for. The machine holds the values of
+    /// a scan until the next call is begun. Fails only when memory is refused.
     pub fn answer_for(&self, alloc: Global, reply: Reply) -> Result<Answer, AllocError>
         ensures { IfOk result (λ answer. answer ≡ answer_for self.now reply) }
     {
@@ -615,7 +620,8 @@ impl Core {
     }
 }
 
-// Whether each index is below the number. It looks at all, so that it may look at several at once.
+// Whether each index is below the number. It compares all of them, so that several may be compared
+// at once.
 fn all_below(indices: &[u32], m: u32) -> bool
     ensures { result ≡ list_all (λ i. nat_lt i m) indices.now }
 {
@@ -638,7 +644,8 @@ fn set_asked(asked: &mut Vec<u32>, components: &[u32])
     };
 }
 
-// What is due behind the getSet of an update: the embedded scan of what was found, where there is anything.
+// The stage after the getSet of an update: the embedded scan of what it found, if it found
+// anything.
 #[inline(always)]
 fn behind_set(found: &Found, change: Change, old: u64) -> Stage
     ensures { result ≡ (if length found.now.indices == 0 then ClaimingRecord change old else Viewing change old) }
@@ -650,7 +657,7 @@ fn behind_set(found: &Found, change: Change, old: u64) -> Stage
     }
 }
 
-/// The reply to an update whose exchange found this record.
+/// Returns the reply to an update whose exchange found the record `found`.
 #[inline(always)]
 pub fn exchanged(change: Change, old: u64, at: u64, found: u64) -> Reply
     ensures { result ≡ (if found == old then reply.Applied at else overtaken change found) }

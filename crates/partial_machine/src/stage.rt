@@ -1,4 +1,4 @@
-//! Where a port is in its call.
+//! The stages of a call, and the replies that end it.
 
 use partial_model::Refused;
 
@@ -6,12 +6,12 @@ use partial_model::Refused;
 #[derive(Clone, Copy, Debug, PartialEq, Eq)]
 pub struct Change {
     pub component: u32,
-    /// The stamp that the component must have, or None where any will do.
+    /// The stamp that the component must have, or None if any stamp will do.
     pub expected: Option<u64>,
     pub value: u64,
 }
 
-/// How a call ended. Stamps are the references of records.
+/// How a call ended. A stamp is the reference of a record.
 #[derive(Clone, Copy, Debug, PartialEq, Eq)]
 pub enum Reply {
     /// The update was applied, and its record has this stamp.
@@ -22,8 +22,8 @@ pub enum Reply {
     Lost {
         by: u64,
     },
-    /// The scan made so many collects; it borrowed the view of the record with this stamp, or none. Its
-    /// values are read off the machine.
+    /// The scan made this many collects. It borrowed the view of the record with this stamp, or no
+    /// view. The machine holds its values.
     Scanned {
         collects: u32,
         borrowed: Option<u64>,
@@ -35,14 +35,14 @@ pub enum Reply {
     },
     /// The call was refused. The port is marked.
     Refused(Refused),
-    /// The component had this stamp in place of the expected one.
+    /// The component had this stamp instead of the expected one.
     Changed {
         by: u64,
     },
 }
 
-/// The step that is due. `old` is the component's record as the update loaded it, `at` the reference
-/// of the block that the port writes.
+/// The step that is due. `old` is the component's record as the update loaded it. `at` is the
+/// reference of the block that the port writes.
 #[derive(Clone, Copy, Debug, PartialEq, Eq)]
 pub enum Stage {
     /// No call is begun.
@@ -59,12 +59,12 @@ pub enum Stage {
     UpdateBegun {
         change: Change,
     },
-    /// A getSet finds the indices for which scanners ask.
+    /// A getSet collects the indices that scans announce.
     GettingSet {
         change: Change,
         old: u64,
     },
-    /// An embedded scan of those indices finds the view.
+    /// An embedded scan of those indices makes the view.
     Viewing {
         change: Change,
         old: u64,
@@ -96,11 +96,11 @@ pub enum Stage {
     },
     /// The announcement joins the active set.
     Joining,
-    /// An embedded scan of the positions finds the values.
+    /// An embedded scan of the positions makes the values.
     Scanning,
     /// The announcement leaves the active set.
     Leaving,
-    /// The call is finished, and its reply isn't taken yet.
+    /// The call is finished, and its reply is not taken yet.
     Finished {
         reply: Reply,
     },

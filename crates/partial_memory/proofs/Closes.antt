@@ -1,5 +1,5 @@
 -- A memory that is closed: the ports that were handed in, and the last state.
-use Rattle.std.proofs.Common.{ℕ, ◌≡◌, ◌++◌, List, [], ◌∷◌, length, sym, ap, subst, ◌∙◌, append_assoc, append-nil}
+use Rattle.std.proofs.Common.{ℕ, ◌≡◌, ◌++◌, List, [], ◌∷◌, length, map, refl, sym, ap, subst, ◌∙◌, append_assoc, append-nil}
 use Rattle.std.specs.List.{AllByRecursion}
 use Rattle.std.proofs.lemmas.List.{nil_from_length}
 use mathlib.Core.Option.{some}
@@ -13,10 +13,12 @@ use Rattle.partial_core.specs.Ports.{RecordsAreWithin}
 use Rattle.partial_core.proofs.Laws.{lawful_ports_fit, lawful_records_are_within}
 use Rattle.partial_memory.specs.declared.rule.About.{About}
 use Rattle.partial_memory.specs.declared.closed.Closed.{Closed}
-use Rattle.partial_memory.specs.Rule.{Seated, AreByOpened, IsIn, IsKept, IsShuffle, parts_of}
+use Rattle.partial_memory.specs.Rule.{Seated, AreByOpened, AreOf, IsIn, IsKept, IsLawfulWith, IsShuffle, parts_of}
 use Rattle.partial_memory.specs.Ports.{IsOf, MemoryView, PortView, port_view}
 use Rattle.partial_memory.specs.Closing.{AreChains, AreValues, Closes, IsPortOf}
-use Rattle.partial_memory.proofs.Looks.{AreOf, see_all}
+use Rattle.partial_memory.specs.Lawfulness.{ClosesLawfully}
+use Rattle.partial_memory.proofs.Looks.{see_all, to_front}
+use Rattle.partial_memory.proofs.Shuffles.{put_elsewhere}
 use Rattle.partial_memory.proofs.Steps.{entries_opened}
 use Rattle.partial_memory.proofs.Views.{around}
 
@@ -24,26 +26,51 @@ use Rattle.partial_memory.proofs.Views.{around}
 port_in : (t : TableId) (log : List Applied) (x : Seated) → IsIn log x → IsPortOf log (port_view t x)
 port_in t log x w = record { seen = w.seen; legal = w.fits.legal; once = w.fits.once }
 
--- the ports taken in so far, of all that were handed in, are those of the seat
-abbrev pub Taken : PortView → List PortView → List PortView → List Seated → Type 0
-Taken port all rest v = (taken : List PortView) × (all ≡ rest ++ taken) × ((log : List Applied) → AllByRecursion (IsIn log) v → IsPortOf log port × AllByRecursion (IsPortOf log) taken)
+-- The ports taken in so far, of all that were handed in, are those of the seat, of which callers saw the first one and then these.
+pub record Taken (t : TableId) (port : PortView) (all rest : List PortView) (v : List Seated) : Type 0 where
+  pub taken : List PortView
+  pub is : all ≡ rest ++ taken
+  pub each : (log : List Applied) → AllByRecursion (IsIn log) v → IsPortOf log port × AllByRecursion (IsPortOf log) taken
+  pub first : Seated
+  pub others : List Seated
+  pub shown : port_view t first ≡ port
+  pub others_shown : map (port_view t) others ≡ taken
+  pub order : (a all : List Seated) → IsShuffle (v ++ a) all → IsShuffle (first ∷ (others ++ a)) all
 
-pub taken_none : {S : Type 0} (me : Me S (List Seated)) (t : TableId) (x : Seated) (port : PortView) (all : List PortView) → me ≡ (x ∷ [], []) → port_view t x ≡ port → Taken port all all me.0
+pub taken_none : {S : Type 0} (me : Me S (List Seated)) (t : TableId) (x : Seated) (port : PortView) (all : List PortView) → me ≡ (x ∷ [], []) → port_view t x ≡ port → Taken t port all all me.0
 taken_none {S} me t x port all is seen =
     let one = ap (λ (m : Me S (List Seated)). m.0) is in
-    ([], sym (append-nil all), λ log w. (subst (IsPortOf log) seen (port_in t log x (subst (AllByRecursion (IsIn log)) one w).0), tt))
+    record {
+      taken = [];
+      is = sym (append-nil all);
+      each = λ log w. (subst (IsPortOf log) seen (port_in t log x (subst (AllByRecursion (IsIn log)) one w).0), tt);
+      first = x;
+      others = [];
+      shown = seen;
+      others_shown = refl;
+      order = λ a ys s. subst (λ (v : List Seated). IsShuffle (v ++ a) ys) one s;
+    }
 
-pub taken_more : {S : Type 0} (me : Me S (List Seated)) (t : TableId) (x : Seated) (port p : PortView) (all rest less : List PortView) (v w : List Seated) → Taken port all rest v →
-    rest ≡ less ++ p ∷ [] → me ≡ (x ∷ [], []) → port_view t x ≡ p → w ≡ v ++ me.0 → Taken port all less w
-taken_more {S} me t x port p all rest less v w had pop is seen join = (
-  p ∷ had.0,
-  had.1 ∙ ap (λ l. l ++ had.0) pop ∙ append_assoc less (p ∷ []) had.0,
-  λ log looked.
-      let both : AllByRecursion (IsIn log) (v ++ me.0) = subst (AllByRecursion (IsIn log)) join looked in
-      let one = subst (AllByRecursion (IsIn log)) (ap (λ (m : Me S (List Seated)). m.0) is) (all_back (IsIn log) v me.0 both) in
-      let g = had.2 log (all_front (IsIn log) v me.0 both) in
-      (g.0, (subst (IsPortOf log) seen (port_in t log x one.0), g.1)),
-)
+pub taken_more : {S : Type 0} (me : Me S (List Seated)) (t : TableId) (x : Seated) (port p : PortView) (all rest less : List PortView) (v w : List Seated) → Taken t port all rest v →
+    rest ≡ less ++ p ∷ [] → me ≡ (x ∷ [], []) → port_view t x ≡ p → w ≡ v ++ me.0 → Taken t port all less w
+taken_more {S} me t x port p all rest less v w had pop is seen join =
+    let one : me.0 ≡ x ∷ [] = ap (λ (m : Me S (List Seated)). m.0) is in
+    record {
+      taken = p ∷ had.taken;
+      is = had.is ∙ ap (λ l. l ++ had.taken) pop ∙ append_assoc less (p ∷ []) had.taken;
+      each = λ log looked.
+          let both : AllByRecursion (IsIn log) (v ++ me.0) = subst (AllByRecursion (IsIn log)) join looked in
+          let back = subst (AllByRecursion (IsIn log)) one (all_back (IsIn log) v me.0 both) in
+          let g = had.each log (all_front (IsIn log) v me.0 both) in
+          (g.0, (subst (IsPortOf log) seen (port_in t log x back.0), g.1));
+      first = had.first;
+      others = x ∷ had.others;
+      shown = had.shown;
+      others_shown = ap (λ (q : PortView). q ∷ map (port_view t) had.others) seen ∙ ap (λ (l : List PortView). p ∷ l) had.others_shown;
+      order = λ a ys s.
+          let here : IsShuffle (v ++ (x ∷ a)) ys = subst (λ l. IsShuffle l ys) (ap (λ (l : List Seated). l ++ a) (join ∙ ap (λ (l : List Seated). v ++ l) one) ∙ append_assoc v (x ∷ []) a) s in
+          put_elsewhere (had.first ∷ had.others) x a (had.first ∷ []) (had.others ++ a) ys refl (had.order (x ∷ a) ys here);
+    }
 
 -- the ports of a seat belong to one memory
 pub own_one : {S : Type 0} (me : Me S (List Seated)) (t : TableId) (x : Seated) (p : PortView) (about : About) → me ≡ (x ∷ [], []) → port_view t x ≡ p → p.memory.about ≡ about → AreOf about me.0
@@ -65,6 +92,8 @@ pub record Ends (about : About) (words : List ℕ) (v : List Seated) : Type 0 wh
   pub others : AreByOpened about log
   pub each : AllByRecursion (IsIn log) v
   pub count : length words ≡ total about.sizes
+  -- it is one of the words of a lawful state with that history, and the ports of the seat are among its ports
+  pub lawful : IsLawfulWith about log v
 
 pub ends : {S : Type 0} (about : About) (v : List Seated) (id : ℕ) (words : List ℕ) (s : State S (List Seated)) → IsKept about s → get_elem? s.views id ≡ some v → s.words ≡ words →
     AreOf about v → Ends about words v
@@ -79,20 +108,40 @@ ends about v id words s kept at same own =
       others = entries_opened about kept.all kept.log kept.opened fit.others;
       each = seen.each;
       count = ap length (sym same) ∙ kept.lawful.memory.count;
+      lawful = record {
+        words = s.words;
+        others = r.before ++ r.behind;
+        all = kept.all;
+        shuffle = to_front r.before v r.behind kept.all (subst (λ l. IsShuffle l kept.all) r.now kept.shuffle);
+        opened = kept.opened;
+        lawful = kept.lawful;
+      };
     }
 
-pub closes : (m : MemoryView) (port : PortView) (all rest : List PortView) (v : List Seated) (words : List ℕ) (closed : Closed) (n : ℕ) → (e : Ends m.about words v) → Taken port all rest v →
+pub closes : (m : MemoryView) (port : PortView) (all rest : List PortView) (v : List Seated) (words : List ℕ) (closed : Closed) (n : ℕ) → (e : Ends m.about words v) → Taken m.table port all rest v →
     length rest ≡ 0 → n ≡ m.about.sizes.m →
-    AreValues m.about.opening e.log n closed.values.items × AreChains m.about.opening e.log n closed.chains.items → Closes m (port ∷ all) closed
+    AreValues m.about.opening e.log n closed.values.items × AreChains m.about.opening e.log n closed.chains.items → ClosesLawfully m (port ∷ all) closed
 closes m port all rest v words closed n e had empty count shown =
-    let taken : all ≡ had.0 = had.1 ∙ ap (λ l. l ++ had.0) (nil_from_length rest empty) in
-    let told = had.2 e.log e.each in
+    let taken : all ≡ had.taken = had.is ∙ ap (λ l. l ++ had.taken) (nil_from_length rest empty) in
+    let told = had.each e.log e.each in
     let sizes : n ≡ length m.about.opening.values = count ∙ sym e.records.values in
-    record {
+    let closes : Closes m (port ∷ all) closed = record {
       log = e.log;
       history = e.records.history;
       others = e.others;
       each = (told.0, subst (AllByRecursion (IsPortOf e.log)) (sym taken) told.1);
       values = subst (λ k. AreValues m.about.opening e.log k closed.values.items) sizes shown.0;
       chains = subst (λ k. AreChains m.about.opening e.log k closed.chains.items) sizes shown.1;
-    }
+    } in (
+      closes,
+      record {
+        words = e.lawful.words;
+        here = had.first ∷ had.others;
+        others = e.lawful.others;
+        all = e.lawful.all;
+        shown = ap (λ (p : PortView). p ∷ map (port_view m.table) had.others) had.shown ∙ ap (λ (l : List PortView). port ∷ l) (had.others_shown ∙ sym taken);
+        shuffle = had.order e.lawful.others e.lawful.all e.lawful.shuffle;
+        opened = e.lawful.opened;
+        lawful = e.lawful.lawful;
+      },
+    )

@@ -18,3 +18,4 @@ mod AllPorts
 mod Noting
 mod Reopening
 pub mod Laws
+pub mod Led

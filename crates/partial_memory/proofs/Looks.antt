@@ -12,14 +12,10 @@ use Rattle.partial_core.specs.Lawful.{Lawful}
 use Rattle.partial_core.specs.Steps.{Fits}
 use Rattle.partial_core.proofs.Laws.{lawful_ports_fit, looks_stay_lawful}
 use Rattle.partial_memory.specs.declared.rule.About.{About}
-use Rattle.partial_memory.specs.Rule.{Seated, AreByOpened, AreOpened, IsIn, IsKept, IsShuffle, parts_of, flatten, having_met, looks}
+use Rattle.partial_memory.specs.Rule.{Seated, AreByOpened, AreOf, AreOpened, IsIn, IsKept, IsShuffle, parts_of, flatten, having_met, looks}
 use Rattle.partial_memory.proofs.Shuffles.{find, put_elsewhere}
 use Rattle.partial_memory.proofs.Views.{around, reordered}
 use Rattle.partial_memory.proofs.Steps.{parts_split, entries_opened}
-
--- each port belongs to that memory
-abbrev pub AreOf : About → List Seated → Type 0
-AreOf about xs = AllByRecursion (λ (x : Seated). x.about ≡ about) xs
 
 -- the state with the ports of a view that have seen all
 pub record SeenAll (about : About) (words : List ℕ) (log : List Applied) (b v a : List Seated) : Type 0 where
@@ -63,6 +59,13 @@ see_all about words log b (x ∷ xs) a all own shuffle lawful opened =
       );
     }
 
+-- the ports of a view come to the front
+pub to_front : (b v a all : List Seated) → IsShuffle (b ++ (v ++ a)) all → IsShuffle (v ++ (b ++ a)) all
+to_front b [] a all s = s
+to_front b (x ∷ v) a all s =
+    let first : IsShuffle (x ∷ (b ++ (v ++ a))) all = put_elsewhere b x (v ++ a) [] (b ++ (v ++ a)) all refl s in
+    (first.0, first.1, first.2, to_front b v a (first.0 ++ first.1) first.3)
+
 -- a look is allowed
 pub looks_on : {S : Type 0} (about : About) (slots id : ℕ) (me : Me S (List Seated)) → AreOf about me.0 → Allows (IsKept about) slots id me 0 (λ n. n) (looks me)
 looks_on about slots id me own table kept homes at small =
@@ -78,7 +81,22 @@ looks_on about slots id me own table kept homes at small =
         lawful = subst (λ l. Lawful about.sizes about.opening l (parts_of s.all) kept.log) (sym (set-get_or table.words 0 0)) s.lawful;
         opened = s.opened;
       },
-      (kept.log, refl, refl, s.each),
+      record {
+        log = kept.log;
+        seen = refl;
+        slots = refl;
+        each = s.each;
+        about = about;
+        own = own;
+        lawful = record {
+          words = table.words;
+          others = r.before ++ r.behind;
+          all = s.all;
+          shuffle = to_front r.before (map (having_met kept.log) me.0) r.behind s.all s.shuffle;
+          opened = s.opened;
+          lawful = s.lawful;
+        };
+      },
     )
 
 -- A single port of another view comes behind those of a view.

@@ -6,14 +6,14 @@ use Rattle.atomic_table.specs.Seated.{TableId}
 use Rattle.partial_model.specs.declared.history.Applied.{Applied}
 use Rattle.partial_machine.specs.Machine.{CoreState}
 use Rattle.partial_memory.specs.declared.rule.About.{About}
-use Rattle.partial_memory.specs.Rule.{Seated, IsIn, first_of, having_met, looks, one_in, others_of}
-use Rattle.partial_memory.specs.Ports.{IsResting, Knows, PortView, port_view}
+use Rattle.partial_memory.specs.Rule.{Seated, AreOf, IsIn, IsLawfulWith, first_of, having_met, looks, one_in, others_of}
+use Rattle.partial_memory.specs.Ports.{IsResting, Knows, MemoryView, PortView, port_view}
+use Rattle.partial_memory.specs.Lawfulness.{MeetsLawfully}
 use Rattle.partial_memory.specs.Calls.{Meets}
-use Rattle.partial_memory.proofs.Looks.{AreOf}
 
 -- what a port knows of the history that it has seen in a meeting
 knows_met : (t : TableId) (log : List Applied) (x : Seated) → IsIn log x → Knows (port_view t (having_met log x))
-knows_met t log x w = record { history = w.fits.history; legal = w.fits.legal; shown = w.fits.shown; once = w.fits.once; others = w.others }
+knows_met t log x w = record { history = w.fits.history; legal = w.fits.legal; once = w.fits.once; others = w.others }
 
 -- it is between calls yet
 pub rests_met : (views after : List (List Seated)) (core : CoreState) (number : ℕ) (log : List Applied) → IsResting views core number → IsIn log (one_in views) →
@@ -38,12 +38,20 @@ pub record Looked (x y : Seated) (v : List Seated) : Type 0 where
   pub is : v ≡ having_met log x ∷ having_met log y ∷ []
   pub first : IsIn log x
   pub second : IsIn log y
+  pub lawful : IsLawfulWith x.about log v
 
 pub looked : {S : Type 0} (x y : Seated) (me me' : Me S (List Seated)) (n : ℕ) → me.0 ≡ x ∷ y ∷ [] → looks me n me' → Looked x y me'.0
 looked x y me me' n is w =
-    let log : List Applied = w.0 in
-    let each : AllByRecursion (IsIn log) (x ∷ y ∷ []) = subst (AllByRecursion (IsIn log)) is w.3 in
-    record { log = log; is = w.1 ∙ ap (map (having_met log)) is; first = each.0; second = each.1.0 }
+    let log : List Applied = w.log in
+    let each : AllByRecursion (IsIn log) (x ∷ y ∷ []) = subst (AllByRecursion (IsIn log)) is w.each in
+    let own : AreOf w.about (x ∷ y ∷ []) = subst (AreOf w.about) is w.own in
+    record {
+      log = log;
+      is = w.seen ∙ ap (map (having_met log)) is;
+      first = each.0;
+      second = each.1.0;
+      lawful = subst (λ (o : About). IsLawfulWith o log me'.0) (sym own.0) w.lawful;
+    }
 
 pub both_of : (about : About) (x y : Seated) (v : List Seated) → v ≡ x ∷ y ∷ [] → x.about ≡ about → y.about ≡ about → AreOf about v
 both_of about x y v is own own' = subst (AreOf about) (sym is) (own, (own', tt))
@@ -69,6 +77,31 @@ meets t t' u u' x y v views views' p q w seen seen' same same' is is' =
     (subst (λ (b : PortView). Meets (port_view t x) b (port_view u (one_in views)) (port_view u' (one_in views'))) seen'
     (subst (λ (c : PortView). Meets (port_view t x) (port_view t' y) c (port_view u' (one_in views'))) first
     (subst (λ (d : PortView). Meets (port_view t x) (port_view t' y) (port_view t (having_met w.log x)) d) second met)))
+
+-- the meeting was in a lawful state, whose history is the one that both have seen
+pub meets_lawfully : (u u' : TableId) (x y : Seated) (v : List Seated) (views views' : List (List Seated)) (m : MemoryView) → Looked x y v → u ≡ m.table → u' ≡ m.table → x.about ≡ m.about →
+    views ≡ first_of v ∷ [] → views' ≡ others_of v ∷ [] → MeetsLawfully m (port_view u (one_in views)) (port_view u' (one_in views'))
+meets_lawfully u u' x y v views views' m w same same' own is is' =
+    let one : one_in views ≡ having_met w.log x = ap one_in (is ∙ ap (λ (l : List Seated). first_of l ∷ []) w.is) in
+    let two : one_in views' ≡ having_met w.log y = ap one_in (is' ∙ ap (λ (l : List Seated). others_of l ∷ []) w.is) in
+    let lawful : IsLawfulWith m.about w.log (having_met w.log x ∷ having_met w.log y ∷ []) =
+    subst (IsLawfulWith m.about w.log) w.is (subst (λ (o : About). IsLawfulWith o w.log v) own w.lawful) in
+    let met : MeetsLawfully m (port_view m.table (having_met w.log x)) (port_view m.table (having_met w.log y)) = (
+      refl,
+      record {
+        words = lawful.words;
+        here = having_met w.log x ∷ having_met w.log y ∷ [];
+        others = lawful.others;
+        all = lawful.all;
+        shown = refl;
+        shuffle = lawful.shuffle;
+        opened = lawful.opened;
+        lawful = lawful.lawful;
+      },
+    ) in
+    let first : port_view m.table (having_met w.log x) ≡ port_view u (one_in views) = ap (λ (i : TableId). port_view i (having_met w.log x)) (sym same) ∙ ap (port_view u) (sym one) in
+    let second : port_view m.table (having_met w.log y) ≡ port_view u' (one_in views') = ap (λ (i : TableId). port_view i (having_met w.log y)) (sym same') ∙ ap (port_view u') (sym two) in
+    subst (λ (c : PortView). MeetsLawfully m c (port_view u' (one_in views'))) first (subst (λ (d : PortView). MeetsLawfully m (port_view m.table (having_met w.log x)) d) second met)
 
 -- the ports of two seats that came together
 pub joined : {S : Type 0} (x y : Seated) (a b m : Me S (List Seated)) → a ≡ (x ∷ [], []) → b ≡ (y ∷ [], []) → m ≡ (a.0 ++ b.0, a.1) → m.0 ≡ x ∷ y ∷ []

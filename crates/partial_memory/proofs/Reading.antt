@@ -19,10 +19,9 @@ use Rattle.partial_memory.specs.declared.rule.About.{About}
 use Rattle.partial_memory.specs.Rule.{Seated, AreByOpened, IsBadgeOfOne, IsKept, IsOne, Told, makes, one_in, one_of, reading}
 use Rattle.partial_memory.specs.Inner.Steps.{CallMade}
 use Rattle.partial_memory.specs.Ports.{PortView, IsResting, port_view}
-use Rattle.partial_memory.specs.Calls.{Reads}
 use Rattle.partial_memory.proofs.Calls.{runs_machine, runs_on, runs_within}
 use Rattle.partial_memory.proofs.Resting.{CallBegins, refusal_here}
-use Rattle.partial_memory.proofs.Replies.{read_told}
+use Rattle.partial_memory.proofs.Replies.{ReadTold, read_told}
 use Rattle.partial_memory.proofs.Steps.{step_asked}
 
 below_none : (s : CoreState) (j : ℕ) → j < s.sizes.m → refusal_of s (call.Read j) ≡ None
@@ -79,7 +78,7 @@ module _ (views : List (List Seated)) (core : CoreState) (number : ℕ) (w : IsR
           let from = read_begins t j below in
           runs_on b (one_in views) (advance b stamp) y value v (Load (value_word stamp)) from.begins (inr half) refl (subst (λ (d : CoreState). Told d y value v) next_is second)
 
-      pub read_is : Reads (port_view t (one_in views)) j value stamp (port_view t v)
+      pub read_is : ReadTold (port_view t (one_in views)) j (reply.Read value stamp) (port_view t v)
       read_is = let from = read_begins t j below in read_told t b (one_in views) (advance (advance b stamp) value) v read_made j from (reply.Read value stamp) refl
 
       -- its port is between calls again
@@ -133,8 +132,9 @@ badge_of views v is one = is ∙ ap (λ (u : List Seated). u ∷ []) one ∙ ap 
 
 -- a read, as callers see the port before and behind it
 pub read_seen : (t t' : TableId) (x : Seated) (p : PortView) (views : List (List Seated)) (v : List Seated) (j value stamp : ℕ) → port_view t x ≡ p → t' ≡ t → views ≡ v ∷ [] →
-    Reads (port_view t x) j value stamp (port_view t (one_of v)) → Reads p j value stamp (port_view t' (one_in views))
+    ReadTold (port_view t x) j (reply.Read value stamp) (port_view t (one_of v)) → ReadTold p j (reply.Read value stamp) (port_view t' (one_in views))
 read_seen t t' x p views v j value stamp seen same is w =
-    subst (λ (a : PortView). Reads a j value stamp (port_view t' (one_in views))) seen
-    (subst (λ (u : TableId). Reads (port_view t x) j value stamp (port_view u (one_in views))) (sym same)
-    (subst (λ (us : List (List Seated)). Reads (port_view t x) j value stamp (port_view t (one_in us))) (sym is) w))
+    let r = reply.Read value stamp in
+    subst (λ (a : PortView). ReadTold a j r (port_view t' (one_in views))) seen
+    (subst (λ (u : TableId). ReadTold (port_view t x) j r (port_view u (one_in views))) (sym same)
+    (subst (λ (us : List (List Seated)). ReadTold (port_view t x) j r (port_view t (one_in us))) (sym is) w))

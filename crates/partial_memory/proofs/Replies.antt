@@ -1,5 +1,5 @@
 -- What a call that has ended leaves of its port, by its reply.
-use Rattle.std.proofs.Common.{ℕ, ◌≡◌, ◌≤◌, ◌++◌, ◌||◌, false, cond, Option, Some, None, List, [], ◌∷◌, length, map, slice_index, refl, sym, ap, subst, ◌∙◌, arith}
+use Rattle.std.proofs.Common.{ℕ, ◌≡◌, ◌≤◌, ◌<◌, ◌+◌, ◌++◌, ◌||◌, false, cond, Option, Some, None, List, [], ◌∷◌, length, map, slice_index, refl, sym, ap, subst, ◌∙◌, arith}
 use Rattle.std.specs.Prelude.{Result, Ok, Err, IfOk, IfErr}
 use Rattle.std.proofs.lemmas.Bool.{ne_eqb}
 use Rattle.atomic_table.specs.Seated.{TableId}
@@ -11,35 +11,37 @@ use Rattle.partial_model.specs.declared.call.Note.TheVariants as note
 use Rattle.partial_model.specs.declared.call.Refused.{Refused}
 use Rattle.partial_model.specs.declared.call.Refused.TheVariants as refused
 use Rattle.partial_model.proofs.NotesLemmas.{LegalNotes-last}
-use Rattle.partial_model.specs.Notes.{Noted, Fits as NoteFits, IsTrueOf, LegalNotes, MayBeRefused}
+use Rattle.partial_model.specs.Notes.{Noted, Fits as NoteFits, LegalNotes, MayBeRefused}
 use Rattle.partial_embedded.specs.Embedded.{RowsState}
 use Rattle.partial_machine.specs.declared.stage.Reply.{Reply}
 use Rattle.partial_machine.specs.declared.stage.Reply.TheVariants as reply
 use Rattle.partial_machine.specs.declared.stage.Stage.TheVariants.{Finished, ScanBegun}
-use Rattle.partial_machine.specs.Machine.{CoreState, reply_of, scanned_values}
+use Rattle.partial_machine.specs.Machine.{CoreState, advance, reply_of, scanned_values}
 use Rattle.partial_machine.specs.Calls.{answer_for, begin_scan, begun_of, call_of, scan_refusal, update_refusal}
-use Rattle.partial_machine.specs.Behind.{refuses_pool, refuses_slots}
+use Rattle.partial_machine.specs.Behind.{IsRefusedBy, refuses_pool, refuses_slots}
+use Rattle.partial_machine.specs.Sound.{IsSound}
+use Rattle.partial_machine.proofs.Laws.{answers_lead_on}
 use Rattle.partial_machine.specs.Steps.{Run, AreOfScan, pairs_loaded}
-use Rattle.partial_core.specs.Part.{answers_of, core_of, port_of}
+use Rattle.partial_core.specs.Part.{Kept, answers_of, core_of}
 use Rattle.partial_core.specs.Steps.{AreNotesOf, IsNoteOf, IsPlacedAt, IsRefusal}
-use Rattle.partial_core.specs.Calls.{IsRefusedLast}
 use Rattle.partial_core.proofs.Laws.{made_calls_make_their_steps}
-use Rattle.partial_words.specs.Layout.{Layout, IsLayout}
+use Rattle.partial_words.specs.Layout.{Layout, IsLayout, greatest_record, pool_end}
 use Rattle.partial_memory.specs.declared.rule.About.{About}
 use Rattle.partial_memory.specs.declared.answers.Updated.TheVariants as updated
 use Rattle.partial_memory.specs.declared.answers.UpdatedIf.TheVariants as conditional
 use Rattle.partial_memory.specs.Rule.{Seated, one_in}
 use Rattle.partial_memory.specs.Inner.Steps.{CallMade, Ended}
-use Rattle.partial_memory.specs.Ports.{PortView, port_view, IsResting, Knows, Goes, MakesSteps, Answered, RefusedLate, is_pool, is_slots}
-use Rattle.partial_memory.specs.Calls.{Updates, UpdatesIf, Reads, Scans, ScansSome}
+use Rattle.partial_memory.specs.Ports.{PortView, port_view, refusal, IsResting, Knows, Goes, CountsSteps, Answered, IsPastEnd, RefusedLate, is_pool, is_slots}
+use Rattle.partial_memory.specs.Led.{BeganAs, IsLed, IsLedTo, IsLedToRefusal, IsLedWhereLate, ScanIsLed, ScansLed}
+use Rattle.partial_memory.specs.Calls.{Updates, UpdatesIf, Reads, Scans}
 use Rattle.partial_memory.proofs.Resting.{CallBegins, call_begins, scan_begins}
 
--- a call that was answered: its note fits, is true of what is seen now, and has its place there
+-- a call that was answered: its note fits and has its place in what is seen now, and its answers led it there
 pub record IsAnswered (p q : PortView) (c : Call) (machine : CoreState) (r : Reply) : Type 0 where
   pub note : Note
+  pub led : IsLedTo p q c (answer_for machine r)
   pub answered : Answered p q c (answer_for machine r) note
   pub fits : NoteFits (length q.memory.about.opening.values) c (answer_for machine r) (Some note)
-  pub holds : IsTrueOf q.memory.about.opening q.seen q.number c (answer_for machine r) note
   pub placed : IsPlacedAt r note (length q.seen)
 
 pool_refused_is : (cause : Refused) → refuses_pool (Some (reply.Refused cause)) ≡ is_pool cause
@@ -52,6 +54,24 @@ slots_refused_is refused.Component = refl
 slots_refused_is refused.SlotsSpent = refl
 slots_refused_is refused.PoolSpent = refl
 
+-- a run keeps the sizes of its machine
+pub run_sizes : (s t : CoreState) (xs : List ℕ) → IsLayout s.sizes → IsSound s → Run s xs t → t.sizes ≡ s.sizes
+run_sizes s t [] layout sound is = ap (λ (v : CoreState). v.sizes) is
+run_sizes s t (x ∷ xs) layout sound run =
+    let on = answers_lead_on s x layout sound run.0 in
+    run_sizes (advance s x) t xs (subst IsLayout (sym on.sizes) layout) on.sound run.1 ∙ on.sizes
+
+-- the last of some kept answers
+last_kept : (kept : List Kept) (front : List ℕ) (last : ℕ) → answers_of kept ≡ front ++ last ∷ [] → (f : List Kept) × (k : Kept) × (kept ≡ f ++ k ∷ []) × (k.answer ≡ last)
+last_kept [] [] last e = cc
+last_kept [] (y ∷ ys) last e = cc
+last_kept (k ∷ []) [] last e = let same : k.answer ≡ last = cc in ([], k, refl, same)
+last_kept (k ∷ j ∷ ks) [] last e = cc
+last_kept (k ∷ ks) (y ∷ ys) last e =
+    let rest : answers_of ks ≡ ys ++ last ∷ [] = cc in
+    let more = last_kept ks ys last rest in
+    (k ∷ more.0, more.1, ap (λ l. k ∷ l) more.2, more.3)
+
 module _ (t : TableId) (b : CoreState) (x : Seated) (c : CoreState) (y : Seated) (m : CallMade b x c y) (call : Call) (w : CallBegins t x b call) where
   abbrev p : PortView
   p = port_view t x
@@ -63,7 +83,6 @@ module _ (t : TableId) (b : CoreState) (x : Seated) (c : CoreState) (y : Seated)
   knows_here = subst (λ (o : About). Knows (port_view t (record { about = o; part = y.part; steps = y.steps }))) (sym m.about) (record {
     history = m.made.fits.history;
     legal = m.made.fits.legal;
-    shown = m.made.fits.shown;
     once = m.made.fits.once;
     others = m.others;
   })
@@ -77,19 +96,12 @@ module _ (t : TableId) (b : CoreState) (x : Seated) (c : CoreState) (y : Seated)
     knows = knows_here;
   }
 
-  steps_here : (r : Reply) → reply_of c ≡ Some r → MakesSteps p q call r c
-  steps_here r is =
+  counts_here : CountsSteps p q call
+  counts_here =
       let z : Layout = x.about.sizes in
       let layout : IsLayout z = subst IsLayout w.begins.sizes w.begins.layout in
       let few = (made_calls_make_their_steps z x.about.opening b x.part c y.part layout m.made).few call w.call in
-      record {
-        call = ap call_of m.made.begun ∙ w.call;
-        run = subst (λ (s : CoreState). Run s (answers_of y.part.kept) c) (sym m.made.begun) m.made.run;
-        replies = is;
-        first = m.made.first;
-        steps = m.steps;
-        few = omega (arith, few);
-      }
+      record { first = m.made.first; steps = m.steps; few = omega (arith, few) }
 
   -- the marks of the port before and behind the call
   pool_before : b.pool_spent ≡ p.pool_spent
@@ -98,11 +110,40 @@ module _ (t : TableId) (b : CoreState) (x : Seated) (c : CoreState) (y : Seated)
   slots_before : b.slots_spent ≡ p.slots_spent
   slots_before = w.begins.begun.like.slots
 
+  began_here : BeganAs p call b
+  began_here = record {
+    sizes = w.begins.sizes;
+    layout = w.begins.layout;
+    number = ap (λ (s : CoreState). s.port) (sym m.made.begun) ∙ m.made.port;
+    pool = pool_before;
+    slots = slots_before;
+    sound = w.begins.sound;
+    call = w.call;
+  }
+
+  abbrev led_here : (r : Reply) → reply_of c ≡ Some r → IsLed p q call r
+  led_here r is = record { begun = b; began = began_here; machine = c; run = m.made.run; replies = is }
+
+  -- the claim that was refused, in numbers
+  past_end : (front : List ℕ) (last : ℕ) (claims : CoreState) (cause : Refused) → Run b front claims → IsRefusedBy claims last cause → IsPastEnd x.about.sizes last cause
+  past_end front last claims cause run past =
+      let same : claims.sizes ≡ x.about.sizes = run_sizes b claims front w.begins.layout w.begins.sound run ∙ w.begins.sizes in by cause past
+    where
+      by : (d : Refused) → IsRefusedBy claims last d → IsPastEnd x.about.sizes last d
+      by refused.Component h = absurd h
+      by refused.SlotsSpent h = let here : claims.sizes ≡ x.about.sizes = run_sizes b claims front w.begins.layout w.begins.sound run ∙ w.begins.sizes in
+          subst (λ (z : Layout). z.slots ≤ last) here h.past
+      by refused.PoolSpent h = let here : claims.sizes ≡ x.about.sizes = run_sizes b claims front w.begins.layout w.begins.sound run ∙ w.begins.sizes in
+          subst (λ (z : Layout). (size : ℕ) × (size ≤ greatest_record z) × (pool_end z < last + size)) here (h.size, h.few, h.past)
+
   pool_behind : (r : Reply) → reply_of c ≡ Some r → q.pool_spent ≡ (refuses_pool (Some r) || p.pool_spent)
   pool_behind r is = ap (λ (s : CoreState). s.pool_spent) (sym m.made.machine.is) ∙ m.pool ∙ ap (λ o. refuses_pool o || b.pool_spent) is ∙ ap (λ s. refuses_pool (Some r) || s) pool_before
 
   slots_behind : (r : Reply) → reply_of c ≡ Some r → q.slots_spent ≡ (refuses_slots (Some r) || p.slots_spent)
   slots_behind r is = ap (λ (s : CoreState). s.slots_spent) (sym m.made.machine.is) ∙ m.slots ∙ ap (λ o. refuses_slots o || b.slots_spent) is ∙ ap (λ s. refuses_slots (Some r) || s) slots_before
+
+  pub refusal_led : (cause : Refused) → reply_of c ≡ Some (reply.Refused cause) → IsLedToRefusal p q call cause
+  refusal_led cause is = record { led = led_here (reply.Refused cause) is; last = m.made.refused_by cause is }
 
   pub refused_with : (cause : Refused) → reply_of c ≡ Some (reply.Refused cause) → RefusedLate p q call cause
   refused_with cause is =
@@ -110,13 +151,14 @@ module _ (t : TableId) (b : CoreState) (x : Seated) (c : CoreState) (y : Seated)
       let same : Some n.call ≡ Some call = sym n.made ∙ ap call_of m.made.begun ∙ w.call in
       let one : n.call ≡ call = cc in
       let size : y.part.begun.sizes ≡ x.about.sizes = ap (λ (s : CoreState). s.sizes) m.made.begun ∙ m.made.begun_sizes in
+      let last = m.made.refused_by cause is in
+      let end = last_kept y.part.kept last.front last.last last.is in
       record {
         allowed = w.allowed;
         goes = goes_with [] (m.made.notes ∙ ap (λ l. x.part.notes ++ l) n.none);
-        machine = c;
-        makes = steps_here (reply.Refused cause) is;
+        counts = counts_here;
         may = subst (λ (d : Call). MayBeRefused x.about.sizes.m d cause) one (subst (λ (z : Layout). MayBeRefused z.m n.call cause) size n.may);
-        last = subst (λ (s : CoreState). IsRefusedLast s (answers_of y.part.kept) c cause) (sym m.made.begun) (m.made.refused_by cause is);
+        past = (end.0, end.1, end.2, subst (λ v. IsPastEnd x.about.sizes v cause) (sym end.3) (past_end last.front last.last last.claims cause last.led last.past));
         pool = pool_behind (reply.Refused cause) is ∙ ap (λ f. f || p.pool_spent) (pool_refused_is cause);
         slots = slots_behind (reply.Refused cause) is ∙ ap (λ f. f || p.slots_spent) (slots_refused_is cause);
       }
@@ -131,51 +173,46 @@ module _ (t : TableId) (b : CoreState) (x : Seated) (c : CoreState) (y : Seated)
       ∙ ap (λ (s : CoreState). record { call = call; answer = answer_for s r; note = Some n.note } ∷ []) (sym m.made.machine.is) in
       let notes : y.part.notes ≡ x.part.notes ++ noted ∷ [] = m.made.notes ∙ ap (λ l. x.part.notes ++ l) new in
       let legal = LegalNotes-last q.memory.about.opening q.seen q.number 0 x.part.notes noted (subst (LegalNotes q.memory.about.opening q.seen q.number 0) notes knows_here.legal) in
-      let first = m.made.first in
-      let behind = n.behind in
       record {
         note = n.note;
+        led = record { reply = r; led = led_here r is; answer = refl };
         answered = record {
           allowed = w.allowed;
           goes = goes_with (noted ∷ []) notes;
-          machine = c;
-          reply = r;
-          answer = refl;
-          makes = steps_here r is;
+          counts = counts_here;
           behind = n.behind;
-          new = omega (arith, first, behind);
           within = n.within;
           pool = pool_behind r is ∙ ap (λ f. f || p.pool_spent) plain;
           slots = slots_behind r is ∙ ap (λ f. f || p.slots_spent) plain';
         };
         fits = legal.0;
-        holds = legal.1.0;
         placed = n.placed;
       }
 
 -- how an update ends, by its reply
 abbrev pub UpdateTold : PortView → ℕ → ℕ → Reply → PortView → Type 0
-UpdateTold p j v (reply.Applied stamp) q = Updates p j v (updated.Applied stamp) q
-UpdateTold p j v (reply.Lost by) q = Updates p j v (updated.Lost by) q
-UpdateTold p j v (reply.Refused cause) q = RefusedLate p q (call.Update j v) cause
+UpdateTold p j v (reply.Applied stamp) q = Updates p j v (updated.Applied stamp) q × IsLedTo p q (call.Update j v) (answer.Applied stamp)
+UpdateTold p j v (reply.Lost by) q = Updates p j v (updated.Lost by) q × IsLedTo p q (call.Update j v) (answer.Lost by)
+UpdateTold p j v (reply.Refused cause) q = RefusedLate p q (call.Update j v) cause × IsLedToRefusal p q (call.Update j v) cause
 UpdateTold p j v _ q = ⊥
 
 -- a conditional one
 abbrev pub UpdateIfTold : PortView → ℕ → ℕ → ℕ → Reply → PortView → Type 0
-UpdateIfTold p j x v (reply.Applied stamp) q = UpdatesIf p j x v (conditional.Applied stamp) q
-UpdateIfTold p j x v (reply.Changed by) q = UpdatesIf p j x v (conditional.Changed by) q
-UpdateIfTold p j x v (reply.Refused cause) q = RefusedLate p q (call.UpdateIf j x v) cause
+UpdateIfTold p j x v (reply.Applied stamp) q = UpdatesIf p j x v (conditional.Applied stamp) q × IsLedTo p q (call.UpdateIf j x v) (answer.Applied stamp)
+UpdateIfTold p j x v (reply.Changed by) q = UpdatesIf p j x v (conditional.Changed by) q × IsLedTo p q (call.UpdateIf j x v) (answer.Changed by)
+UpdateIfTold p j x v (reply.Refused cause) q = RefusedLate p q (call.UpdateIf j x v) cause × IsLedToRefusal p q (call.UpdateIf j x v) cause
 UpdateIfTold p j x v _ q = ⊥
 
 -- a read is never refused behind a step
 abbrev pub ReadTold : PortView → ℕ → Reply → PortView → Type 0
-ReadTold p j (reply.Read v s) q = Reads p j v s q
+ReadTold p j (reply.Read v s) q = Reads p j v s q × IsLedTo p q (call.Read j) (answer.Read v s)
 ReadTold p j _ q = ⊥
 
 -- a scan: its values are the machine's
 abbrev pub ScanTold : PortView → List ℕ → CoreState → Reply → PortView → Type 0
-ScanTold p which machine (reply.Scanned k s) q = ScansSome p which (scanned_values machine) (record { collects = k; borrowed = s }) q
-ScanTold p which machine (reply.Refused cause) q = RefusedLate p q (call.Scan which) cause
+ScanTold p which machine (reply.Scanned k s) q =
+    ((n : ℕ) × Answered p q (call.Scan which) (answer.Scanned (scanned_values machine) k s) (note.Saw n)) × ScanIsLed p which (scanned_values machine) (record { collects = k; borrowed = s }) q
+ScanTold p which machine (reply.Refused cause) q = RefusedLate p q (call.Scan which) cause × IsLedToRefusal p q (call.Scan which) cause
 ScanTold p which machine _ q = ⊥
 
 module _ (p q : PortView) (c : CoreState) where
@@ -217,10 +254,11 @@ module _ (t : TableId) (b : CoreState) (x : Seated) (c : CoreState) (y : Seated)
   pub update_told : (j v : ℕ) → CallBegins t x b (call.Update j v) → (r : Reply) → reply_of c ≡ Some r → UpdateTold (port_view t x) j v r (port_view t y)
   update_told j v w (reply.Applied s) is =
       let a = answered_with t b x c y m (call.Update j v) w (reply.Applied s) is refl refl (noted_by (reply.Applied s) is) in
-      wrote_note (port_view t x) (port_view t y) c j v s a.note a.answered a.fits a.placed
+      (wrote_note (port_view t x) (port_view t y) c j v s a.note a.answered a.fits a.placed, a.led)
   update_told j v w (reply.Lost s) is =
-      let a = answered_with t b x c y m (call.Update j v) w (reply.Lost s) is refl refl (noted_by (reply.Lost s) is) in lost_note (port_view t x) (port_view t y) c j v s a.note a.answered a.fits
-  update_told j v w (reply.Refused cause) is = refused_with t b x c y m (call.Update j v) w cause is
+      let a = answered_with t b x c y m (call.Update j v) w (reply.Lost s) is refl refl (noted_by (reply.Lost s) is) in
+      (lost_note (port_view t x) (port_view t y) c j v s a.note a.answered a.fits, a.led)
+  update_told j v w (reply.Refused cause) is = (refused_with t b x c y m (call.Update j v) w cause is, refusal_led t b x c y m (call.Update j v) w cause is)
   update_told j v w (reply.Read u s) is = let a = answered_with t b x c y m (call.Update j v) w (reply.Read u s) is refl refl (noted_by (reply.Read u s) is) in absurd a.fits
   update_told j v w (reply.Scanned k s) is = let a = answered_with t b x c y m (call.Update j v) w (reply.Scanned k s) is refl refl (noted_by (reply.Scanned k s) is) in absurd a.fits
   update_told j v w (reply.Changed s) is = let a = answered_with t b x c y m (call.Update j v) w (reply.Changed s) is refl refl (noted_by (reply.Changed s) is) in absurd a.fits
@@ -228,19 +266,20 @@ module _ (t : TableId) (b : CoreState) (x : Seated) (c : CoreState) (y : Seated)
   pub update_if_told : (j e v : ℕ) → CallBegins t x b (call.UpdateIf j e v) → (r : Reply) → reply_of c ≡ Some r → UpdateIfTold (port_view t x) j e v r (port_view t y)
   update_if_told j e v w (reply.Applied s) is =
       let a = answered_with t b x c y m (call.UpdateIf j e v) w (reply.Applied s) is refl refl (noted_by (reply.Applied s) is) in
-      wrote_if_note (port_view t x) (port_view t y) c j e v s a.note a.answered a.fits a.placed
+      (wrote_if_note (port_view t x) (port_view t y) c j e v s a.note a.answered a.fits a.placed, a.led)
   update_if_told j e v w (reply.Changed s) is =
       let a = answered_with t b x c y m (call.UpdateIf j e v) w (reply.Changed s) is refl refl (noted_by (reply.Changed s) is) in
-      changed_note (port_view t x) (port_view t y) c j e v s a.note a.answered a.fits
-  update_if_told j e v w (reply.Refused cause) is = refused_with t b x c y m (call.UpdateIf j e v) w cause is
+      (changed_note (port_view t x) (port_view t y) c j e v s a.note a.answered a.fits, a.led)
+  update_if_told j e v w (reply.Refused cause) is = (refused_with t b x c y m (call.UpdateIf j e v) w cause is, refusal_led t b x c y m (call.UpdateIf j e v) w cause is)
   update_if_told j e v w (reply.Read u s) is = let a = answered_with t b x c y m (call.UpdateIf j e v) w (reply.Read u s) is refl refl (noted_by (reply.Read u s) is) in absurd a.fits
   update_if_told j e v w (reply.Scanned k s) is = let a = answered_with t b x c y m (call.UpdateIf j e v) w (reply.Scanned k s) is refl refl (noted_by (reply.Scanned k s) is) in absurd a.fits
   update_if_told j e v w (reply.Lost s) is = let a = answered_with t b x c y m (call.UpdateIf j e v) w (reply.Lost s) is refl refl (noted_by (reply.Lost s) is) in absurd a.fits
 
   pub read_told : (j : ℕ) → CallBegins t x b (call.Read j) → (r : Reply) → reply_of c ≡ Some r → ReadTold (port_view t x) j r (port_view t y)
   read_told j w (reply.Read u s) is =
-      let a = answered_with t b x c y m (call.Read j) w (reply.Read u s) is refl refl (noted_by (reply.Read u s) is) in read_note (port_view t x) (port_view t y) c j u s a.note a.answered a.fits
-  read_told j w (reply.Refused refused.Component) is = let a = (refused_with t b x c y m (call.Read j) w refused.Component is).last in absurd a.past
+      let a = answered_with t b x c y m (call.Read j) w (reply.Read u s) is refl refl (noted_by (reply.Read u s) is) in
+      (read_note (port_view t x) (port_view t y) c j u s a.note a.answered a.fits, a.led)
+  read_told j w (reply.Refused refused.Component) is = let a = (refusal_led t b x c y m (call.Read j) w refused.Component is).last in absurd a.past
   read_told j w (reply.Refused refused.PoolSpent) is = let a = refused_with t b x c y m (call.Read j) w refused.PoolSpent is in absurd a.may.1
   read_told j w (reply.Refused refused.SlotsSpent) is = let a = refused_with t b x c y m (call.Read j) w refused.SlotsSpent is in absurd a.may.1
   read_told j w (reply.Applied s) is = let a = answered_with t b x c y m (call.Read j) w (reply.Applied s) is refl refl (noted_by (reply.Applied s) is) in absurd a.fits
@@ -250,26 +289,25 @@ module _ (t : TableId) (b : CoreState) (x : Seated) (c : CoreState) (y : Seated)
 
   saw_note : (which : List ℕ) → CallBegins t x b (call.Scan which) → b.stage ≡ ScanBegun → b.asked ≡ which → (k : ℕ) (s : Option ℕ) (n : Note) → reply_of c ≡ Some (reply.Scanned k s) →
       NoteFits (length y.about.opening.values) (call.Scan which) (answer.Scanned (scanned_values c) k s) (Some n)
-      → IsTrueOf y.about.opening y.part.seen (port_of y.part) (call.Scan which) (answer.Scanned (scanned_values c) k s) n
       → Answered (port_view t x) (port_view t y) (call.Scan which) (answer.Scanned (scanned_values c) k s) n
       → ScanTold (port_view t x) which c (reply.Scanned k s) (port_view t y)
-  saw_note which w stage asked k s (note.Saw n) is f holds a =
+  saw_note which w stage asked k s (note.Saw n) is f a =
       let z : Layout = x.about.sizes in
       let layout : IsLayout z = subst IsLayout w.begins.sizes w.begins.layout in
-      let steps = (made_calls_make_their_steps z x.about.opening b x.part c y.part layout m.made).scan k s stage is in
-      record {
-        n = n;
-        answered = a;
-        steps = subst (λ (v : CoreState). AreOfScan (length which) k (pairs_loaded v (answers_of y.part.kept)) (length y.part.kept) s) (sym m.made.begun)
-            (subst (λ (l : List ℕ). AreOfScan (length l) k (pairs_loaded b (answers_of y.part.kept)) (length y.part.kept) s) asked steps);
-      }
-  saw_note which w stage asked k s (note.Wrote n) is f holds a = absurd f
-  saw_note which w stage asked k s (note.Lost n) is f holds a = absurd f
+      let steps = (made_calls_make_their_steps z x.about.opening b x.part c y.part layout m.made).scan k s stage is in (
+        (n, a),
+        record {
+          to = record { reply = reply.Scanned k s; led = led_here t b x c y m (call.Scan which) w (reply.Scanned k s) is; answer = refl };
+          steps = subst (λ (l : List ℕ). AreOfScan (length l) k (pairs_loaded b (answers_of y.part.kept)) (length y.part.kept) s) asked steps;
+        },
+      )
+  saw_note which w stage asked k s (note.Wrote n) is f a = absurd f
+  saw_note which w stage asked k s (note.Lost n) is f a = absurd f
 
   pub scan_told : (which : List ℕ) → CallBegins t x b (call.Scan which) → b.stage ≡ ScanBegun → b.asked ≡ which → (r : Reply) → reply_of c ≡ Some r → ScanTold (port_view t x) which c r (port_view t y)
   scan_told which w stage asked (reply.Scanned k s) is =
-      let a = answered_with t b x c y m (call.Scan which) w (reply.Scanned k s) is refl refl (noted_by (reply.Scanned k s) is) in saw_note which w stage asked k s a.note is a.fits a.holds a.answered
-  scan_told which w stage asked (reply.Refused cause) is = refused_with t b x c y m (call.Scan which) w cause is
+      let a = answered_with t b x c y m (call.Scan which) w (reply.Scanned k s) is refl refl (noted_by (reply.Scanned k s) is) in saw_note which w stage asked k s a.note is a.fits a.answered
+  scan_told which w stage asked (reply.Refused cause) is = (refused_with t b x c y m (call.Scan which) w cause is, refusal_led t b x c y m (call.Scan which) w cause is)
   scan_told which w stage asked (reply.Applied s) is = let a = answered_with t b x c y m (call.Scan which) w (reply.Applied s) is refl refl (noted_by (reply.Applied s) is) in absurd a.fits
   scan_told which w stage asked (reply.Lost s) is = let a = answered_with t b x c y m (call.Scan which) w (reply.Lost s) is refl refl (noted_by (reply.Lost s) is) in absurd a.fits
   scan_told which w stage asked (reply.Read u s) is = let a = answered_with t b x c y m (call.Scan which) w (reply.Read u s) is refl refl (noted_by (reply.Read u s) is) in absurd a.fits
@@ -299,15 +337,22 @@ module _ (views : List (List Seated)) (core : CoreState) (number : ℕ) (w : IsR
 -- the values that a scan copied are those of the machine that replied
 pub scan_copied : (p q : PortView) (which into : List ℕ) (machine : CoreState) (rows : RowsState) (k : ℕ) (s : Option ℕ) → (length which ≡ 0 → ⊥) → machine.asked ≡ which → rows ≡ machine.rows →
     into ≡ map (slice_index rows.values) which → ScanTold p which machine (reply.Scanned k s) q →
-    Scans p which into (record { collects = k; borrowed = s }) q
+    Scans p which into (record { collects = k; borrowed = s }) q × ScansLed p which into (record { collects = k; borrowed = s }) q
 scan_copied p q [] into machine rows k s some asked same is w = absurd (some refl)
 scan_copied p q (j ∷ js) into machine rows k s some asked same is w =
     let values : into ≡ scanned_values machine = is ∙ ap (λ (r : RowsState). map (slice_index r.values) (j ∷ js)) same ∙ ap (map (slice_index machine.rows.values)) (sym asked) in
-    subst (λ (l : List ℕ). ScansSome p (j ∷ js) l (record { collects = k; borrowed = s }) q) (sym values) w
+    subst (λ (l : List ℕ). Scans p (j ∷ js) l (record { collects = k; borrowed = s }) q × ScanIsLed p (j ∷ js) l (record { collects = k; borrowed = s }) q) (sym values) w
 
 -- a scan of no position
 pub scans_none : (p : PortView) (which into : List ℕ) (q : PortView) → which ≡ [] → into ≡ [] → q ≡ p → Scans p which into (record { collects = 0; borrowed = None }) q
 scans_none p which into q none empty same = subst (λ (l : List ℕ). Scans p l into (record { collects = 0; borrowed = None }) q) (sym none) (empty, refl, refl, same)
+
+pub none_led : (p : PortView) (which into : List ℕ) (q : PortView) → which ≡ [] → ScansLed p which into (record { collects = 0; borrowed = None }) q
+none_led p which into q none = subst (λ (l : List ℕ). ScansLed p l into (record { collects = 0; borrowed = None }) q) (sym none) tt
+
+-- a call that is refused at once has no steps that led it there
+pub at_once : (p q : PortView) (c : Call) (cause : Refused) → refusal p c ≡ Some cause → IsLedWhereLate p q c cause
+at_once p q c cause is none = let bad : Some cause ≡ None = sym is ∙ none in absurd cc
 
 -- where a result is the answer or the refusal
 pub ok_ok : {A E : Type 0} (res : Result A E) (a : A) (P : A → Type 0) → res ≡ Ok a → P a → IfOk res P

@@ -1,14 +1,12 @@
 -- A port between two calls: how it begins one, and that it is between two again once that has ended.
-use Rattle.std.proofs.Common.{ℕ, ◌≡◌, ◌≤◌, ◌==◌, ◌&&◌, Bool, true, false, cond, Option, Some, None, List, [], ◌∷◌, length, refl, sym, ap, subst, ◌∙◌, arith}
-use Rattle.std.specs.Prelude.{is_some, nat_eq, nat_lt}
+use Rattle.std.proofs.Common.{ℕ, ◌≡◌, ◌≤◌, ◌==◌, Bool, true, false, cond, Some, None, List, [], ◌∷◌, length, refl, sym, ap, subst, ◌∙◌}
+use Rattle.std.specs.Prelude.{is_some, nat_eq}
 use Rattle.std.proofs.lemmas.Bool.{ne_eqb}
-use Rattle.std.specs.List.{IsDistinct, list_all}
+use Rattle.std.specs.List.{IsDistinct}
 use Rattle.atomic_table.specs.Seated.{TableId}
 use Rattle.partial_model.specs.declared.call.Call.{Call}
 use Rattle.partial_model.specs.declared.call.Call.TheVariants as call
-use Rattle.partial_model.specs.declared.call.Refused.{Refused}
-use Rattle.partial_model.specs.declared.call.Refused.TheVariants as refused
-use Rattle.partial_model.specs.Notes.{indices_of}
+use Rattle.partial_model.specs.Refusals.{refusal_at_once}
 use Rattle.partial_words.specs.Layout.{Layout, IsLayout}
 use Rattle.partial_machine.specs.declared.stage.Reply.{Reply}
 use Rattle.partial_machine.specs.declared.stage.Reply.TheVariants as reply
@@ -30,36 +28,6 @@ use Rattle.partial_memory.specs.Rule.{Seated, IsBadgeOfOne, AreByOpened, one_in}
 use Rattle.partial_memory.specs.Inner.Steps.{Begins, CallMade, Ended, ScanEnded}
 use Rattle.partial_memory.specs.Ports.{IsOf, IsResting, MemoryView, PortView, port_view, refusal}
 
-and_true : (b : Bool) → (b && true) ≡ b
-and_true true = refl
-and_true false = refl
-
--- why a call is refused at once, by the machine and by the marks of its port
-abbrev by_marks : Bool → Bool → Call → Option Refused
-by_marks pool slots (call.Update j v) = cond pool (Some refused.PoolSpent) None
-by_marks pool slots (call.UpdateIf j s v) = cond pool (Some refused.PoolSpent) None
-by_marks pool slots (call.Scan (j ∷ js)) = cond pool (Some refused.PoolSpent) (cond slots (Some refused.SlotsSpent) None)
-by_marks pool slots _ = None
-
-abbrev refusal_by : ℕ → Bool → Bool → Call → Option Refused
-refusal_by m pool slots c = cond (list_all (λ j. nat_lt j m) (indices_of c)) (by_marks pool slots c) (Some refused.Component)
-
-machine_refusal : (s : CoreState) (c : Call) → refusal_of s c ≡ refusal_by s.sizes.m s.pool_spent s.slots_spent c
-machine_refusal s (call.Update j v) = ap (λ b. cond b (cond s.pool_spent (Some refused.PoolSpent) None) (Some refused.Component)) (sym (and_true (nat_lt j s.sizes.m)))
-machine_refusal s (call.UpdateIf j x v) = ap (λ b. cond b (cond s.pool_spent (Some refused.PoolSpent) None) (Some refused.Component)) (sym (and_true (nat_lt j s.sizes.m)))
-machine_refusal s (call.Read j) = ap (λ b. cond b None (Some refused.Component)) (sym (and_true (nat_lt j s.sizes.m)))
-machine_refusal s (call.Scan []) = refl
-machine_refusal s (call.Scan (j ∷ js)) =
-    let some : (length (j ∷ js) == 0) ≡ false = ne_eqb (length (j ∷ js)) 0 (λ e. absurd (omega (arith, e))) in
-    ap (λ b. cond (list_all (λ i. nat_lt i s.sizes.m) (j ∷ js)) (cond b None (by_marks s.pool_spent s.slots_spent (call.Scan (j ∷ js)))) (Some refused.Component)) some
-
-port_refusal : (t : TableId) (x : Seated) (c : Call) → refusal (port_view t x) c ≡ refusal_by x.about.sizes.m (core_of x.part).pool_spent (core_of x.part).slots_spent c
-port_refusal t x (call.Update j v) = refl
-port_refusal t x (call.UpdateIf j s v) = refl
-port_refusal t x (call.Read j) = refl
-port_refusal t x (call.Scan []) = refl
-port_refusal t x (call.Scan (j ∷ js)) = refl
-
 -- a call that a port begins
 pub record CallBegins (t : TableId) (x : Seated) (b : CoreState) (c : Call) : Type 0 where
   pub begins : Begins b x
@@ -73,11 +41,9 @@ module _ (views : List (List Seated)) (core : CoreState) (number : ℕ) (w : IsR
       let s : Layout = core.sizes in
       let pool : core.pool_spent ≡ (core_of x.part).pool_spent = w.between.like.pool in
       let slots : core.slots_spent ≡ (core_of x.part).slots_spent = w.between.like.slots in
-      port_refusal t x c
-      ∙ sym (ap (λ (z : Layout). refusal_by z.m core.pool_spent core.slots_spent c) w.sizes
-      ∙ ap (λ p. refusal_by x.about.sizes.m p core.slots_spent c) pool
-      ∙ ap (λ q. refusal_by x.about.sizes.m (core_of x.part).pool_spent q c) slots)
-      ∙ sym (machine_refusal core c)
+      sym (ap (λ (z : Layout). refusal_at_once z.m core.pool_spent core.slots_spent c) w.sizes
+      ∙ ap (λ p. refusal_at_once x.about.sizes.m p core.slots_spent c) pool
+      ∙ ap (λ q. refusal_at_once x.about.sizes.m (core_of x.part).pool_spent q c) slots)
 
   pub call_begins : (t : TableId) (b : CoreState) (c : Call) → IsServed core.sizes.m c → refusal_of core c ≡ None → makes_steps c ≡ true → b ≡ begun_of core c →
       CallBegins t (one_in views) b c

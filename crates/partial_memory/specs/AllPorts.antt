@@ -1,6 +1,6 @@
 -- What a memory that is closed with all its ports tells: one history, of which each entry is in the notes of exactly one port.
-use Rattle.std.specs.Prelude.{ℕ, ◌≡◌, ◌+◌, ◌<◌, ⊤, List, [], ◌∷◌, length, take, Contains, slice_get, Some}
-use Rattle.std.specs.List.{AllByRecursion}
+use Rattle.std.specs.Prelude.{ℕ, ◌≡◌, ◌<◌, List, ◌∷◌, ◌++◌, length, map, take, Contains, slice_get, Some}
+use Rattle.std.specs.List.{AllByRecursion, range_with_len}
 use Rattle.partial_model.specs.declared.history.Applied.{Applied}
 use Rattle.partial_model.specs.declared.history.Opening.{Opening}
 use Rattle.partial_model.specs.History.{IsHistory}
@@ -8,54 +8,50 @@ use Rattle.partial_model.specs.Notes.{LegalNotes}
 use Rattle.partial_model.specs.Outcome.{EachOnce, places_written}
 use Rattle.partial_model.specs.Entries.{entries_by, applied_by}
 use Rattle.partial_memory.specs.declared.closed.Closed.{Closed}
-use Rattle.partial_memory.specs.Rule.{newcomers}
+use Rattle.partial_memory.specs.Rule.{IsShuffle, newcomers}
 use Rattle.partial_memory.specs.Ports.{IsOf, MemoryView, PortView, new_ports}
 use Rattle.partial_memory.specs.Closing.{AreChains, AreValues, Closes}
 
--- the ports bear the numbers from k on, in this order
-abbrev pub AreNumberedFrom : ℕ → List PortView → Type 0
-AreNumberedFrom k [] = ⊤
-AreNumberedFrom k (p ∷ ports) = (p.number ≡ k) × AreNumberedFrom (k + 1) ports
-
--- the ports are all with which the memory was opened, in the order of their numbers
+-- the ports are all with which the memory was opened, in any order: they bear each number below their count once
 pub record AreAllPorts (m : MemoryView) (ports : List PortView) : Type 0 where
   pub own : AllByRecursion (IsOf m) ports
-  pub count : length ports ≡ m.about.ports
-  pub numbers : AreNumberedFrom 0 ports
+  pub numbers : IsShuffle (range_with_len 0 m.about.ports) (map (λ p. p.number) ports)
 
 -- the ports with which a memory opens, as `open` gives them, are all
 abbrev pub OpenedPortsAreAll : Type 0
 OpenedPortsAreAll =
     (m : MemoryView) (ports : ℕ) → m.about.ports ≡ ports → AreAllPorts m (new_ports m.table (newcomers m.about 0 ports))
 
--- The port of number p in a history: what it had seen is a beginning of it, its notes are legal there, each with its place, and its
--- entries are those that its notes claim, each once: the updates that the notes say were applied, in order.
-pub record IsPortAt (o : Opening) (log : List Applied) (p : ℕ) (port : PortView) : Type 0 where
-  pub number : port.number ≡ p
+-- A port in a history: what it had seen is a beginning of it, its notes are legal there, each with its place, and its entries are those
+-- that its notes claim, each once: the updates that the notes say were applied, in order.
+pub record IsPortIn (o : Opening) (log : List Applied) (port : PortView) : Type 0 where
   pub seen : port.seen ≡ take (length port.seen) log
-  pub legal : LegalNotes o log p 0 port.notes
-  pub once : EachOnce log p port.notes
-  pub entries : entries_by p log ≡ applied_by p port.notes
+  pub legal : LegalNotes o log port.number 0 port.notes
+  pub once : EachOnce log port.number port.notes
+  pub entries : entries_by port.number log ≡ applied_by port.number port.notes
 
 -- the entry e at place k is in the notes of the port of its number, and in those of no other
 pub record IsInOnePort (ports : List PortView) (k : ℕ) (e : Applied) : Type 0 where
+  pub front : List PortView
   pub port : PortView
-  pub stands : slice_get ports e.port ≡ Some port
+  pub back : List PortView
+  pub is : ports ≡ front ++ port ∷ back
+  pub number : port.number ≡ e.port
   pub wrote : Contains (places_written port.notes) k
-  pub alone : (p : ℕ) (other : PortView) → slice_get ports p ≡ Some other → Contains (places_written other.notes) k → p ≡ e.port
+  pub alone : AllByRecursion (λ other. ¬ Contains (places_written other.notes) k) (front ++ back)
 
--- A memory that was closed with all its ports: there is one history of distinct stamps, of which port 0, port 1 and so on are the
--- ports, in order. Each of its entries is in the notes of exactly one of them, and these are the values and the chains after it.
+-- A memory that was closed with all its ports: there is one history of distinct stamps, of which these are the ports. Each of its
+-- entries is in the notes of exactly one of them, and these are the values and the chains after it.
 pub record ClosesWithAll (m : MemoryView) (ports : List PortView) (closed : Closed) : Type 0 where
   pub log : List Applied
   pub history : IsHistory m.about.opening log
   pub below : AllByRecursion (λ e. e.port < m.about.ports) log
-  pub each : (p : ℕ) (port : PortView) → slice_get ports p ≡ Some port → IsPortAt m.about.opening log p port
+  pub each : AllByRecursion (IsPortIn m.about.opening log) ports
   pub noted : (k : ℕ) (e : Applied) → slice_get log k ≡ Some e → IsInOnePort ports k e
   pub values : AreValues m.about.opening log (length m.about.opening.values) closed.values.items
   pub chains : AreChains m.about.opening log (length m.about.opening.values) closed.chains.items
 
--- what a closed memory tells where all its ports were handed in, in order
+-- what a closed memory tells where all its ports were handed in
 abbrev pub ClosedWithAllPorts : Type 0
 ClosedWithAllPorts =
     (m : MemoryView) (ports : List PortView) (closed : Closed) → AreAllPorts m ports → Closes m ports closed → ClosesWithAll m ports closed

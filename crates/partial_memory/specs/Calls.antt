@@ -4,8 +4,6 @@ use Rattle.partial_model.specs.declared.history.Applied.{Applied}
 use Rattle.partial_model.specs.declared.call.Call.TheVariants as call
 use Rattle.partial_model.specs.declared.call.Answer.TheVariants as answer
 use Rattle.partial_model.specs.declared.call.Note.TheVariants as note
-use Rattle.partial_machine.specs.Steps.{AreOfScan, pairs_loaded}
-use Rattle.partial_core.specs.Part.{answers_of}
 use Rattle.partial_memory.specs.declared.answers.Scanned.{Scanned}
 use Rattle.partial_memory.specs.declared.answers.Updated.{Updated}
 use Rattle.partial_memory.specs.declared.answers.Updated.TheVariants.{Applied as IsApplied, Lost}
@@ -30,16 +28,11 @@ UpdatesIf p j expected v (conditional.Changed by) q = (n : ℕ) × Answered p q 
 abbrev pub Reads : PortView → ℕ → ℕ → ℕ → PortView → Type 0
 Reads p j value stamp q = (n : ℕ) × Answered p q (call.Read j) (answer.Read value stamp) (note.Saw n)
 
--- a scan of some positions that ended: the values after one prefix, with the steps that such a scan makes
-pub record ScansSome (p : PortView) (which values : List ℕ) (s : Scanned) (q : PortView) : Type 0 where
-  pub n : ℕ
-  pub answered : Answered p q (call.Scan which) (answer.Scanned values s.collects s.borrowed) (note.Saw n)
-  pub steps : AreOfScan (length which) s.collects (pairs_loaded q.last.begun (answers_of q.last.kept)) (length q.last.kept) s.borrowed
-
--- a scan that ended; one of no position makes no step and isn't noted
+-- a scan that ended: the values after one prefix of what is seen now; one of no position makes no step and isn't noted
 abbrev pub Scans : PortView → List ℕ → List ℕ → Scanned → PortView → Type 0
 Scans p [] values s q = (values ≡ []) × (s.collects ≡ 0) × (s.borrowed ≡ None) × (q ≡ p)
-Scans p (j ∷ js) values s q = ScansSome p (j ∷ js) values s q
+Scans p (j ∷ js) values s q =
+    (n : ℕ) × Answered p q (call.Scan (j ∷ js)) (answer.Scanned values s.collects s.borrowed) (note.Saw n)
 
 -- the port once it has seen that history in a meeting
 abbrev pub met : List Applied → PortView → PortView

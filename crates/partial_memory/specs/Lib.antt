@@ -2,6 +2,8 @@ pub mod Rule
 pub mod Inner
 pub mod Ports
 pub mod Calls
+pub mod Led
+pub mod Lawfulness
 pub mod Closing
 pub mod AllPorts
 pub mod Noting

@@ -129,6 +129,29 @@ pub record IsIn (log : List Applied) (x : Seated) : Type 0 where
   pub fits : Fits x.about.opening log (with_seen log x.part)
   pub others : AreByOpened x.about log
 
+-- the ports belong to that memory
+abbrev pub AreOf : About → List Seated → Type 0
+AreOf about xs = AllByRecursion (λ x. x.about ≡ about) xs
+
+-- a lawful state of a memory with that history: words, and the parts of all its ports in some order, these among them
+pub record IsLawfulWith (about : About) (log : List Applied) (here : List Seated) : Type 0 where
+  pub words : List ℕ
+  pub others : List Seated
+  pub all : List Seated
+  pub shuffle : IsShuffle (here ++ others) all
+  pub opened : AreOpened about.ports all
+  pub lawful : Lawful about.sizes about.opening words (parts_of all) log
+
+-- what a look tells of the ports of a seat: each has seen a beginning of the history, which all see then, in a lawful state
+pub record LooksAt {S : Type 0} (me me' : Me S (List Seated)) : Type 0 where
+  pub log : List Applied
+  pub seen : me'.0 ≡ map (having_met log) me.0
+  pub slots : me'.1 ≡ me.1
+  pub each : AllByRecursion (IsIn log) me.0
+  pub about : About
+  pub own : AreOf about me.0
+  pub lawful : IsLawfulWith about log me'.0
+
 -- a look in a meeting tells all ports of the seat the whole history
 abbrev pub looks : {S : Type 0} → Me S (List Seated) → ℕ → Me S (List Seated) → Type 0
-looks me a me' = (log : List Applied) × (me'.0 ≡ map (having_met log) me.0) × (me'.1 ≡ me.1) × AllByRecursion (IsIn log) me.0
+looks me a me' = LooksAt me me'

@@ -19,7 +19,8 @@ pub use answers::{Scanned, Updated, UpdatedIf};
 pub use closed::Closed;
 pub use error::{CloseError, OpenError};
 pub use law::{
-    calls_note_once, closed_memories_continue, closed_with_all_ports, opened_ports_are_all,
+    calls_note_once, closed_memories_continue, closed_with_all_ports, late_refusals_are_past_end,
+    led_calls_claim_once, opened_ports_are_all, refusals_at_once_fit,
 };
 pub use memory::Memory;
 pub use partial_words::Link;

@@ -7,7 +7,11 @@ ghost use Rattle.partial_words.specs.Chain.{AreOpeningWords};
 ghost use Rattle.partial_memory.specs.declared.error.OpenError.TheVariants.{Ports};
 ghost use Rattle.partial_memory.specs.Rule.{newcomers};
 ghost use Rattle.partial_memory.specs.Ports.{IsOf, IsRefused, MayNotOpen, new_ports, refusal};
+ghost use Rattle.partial_model.specs.declared.call.Answer.TheVariants as answer;
 ghost use Rattle.partial_memory.specs.Calls.{Updates, UpdatesIf, Reads, Scans, Meets};
+ghost use Rattle.partial_memory.specs.Lawfulness.{ClosesLawfully, MeetsLawfully};
+ghost use Rattle.partial_memory.specs.Led.{IsLedTo, IsLedWhereLate, ScansLed};
+ghost use Rattle.partial_memory.specs.Noting.{noted_update, noted_update_if};
 ghost use Rattle.partial_memory.specs.Closing.{Closes};
 ghost use Rattle.partial_memory.specs.Reopening.{ContinuesAll, MayNotReopen, extended};
 ghost use Rattle.std.specs.List.{AllByRecursion};
@@ -26,8 +30,8 @@ use partial_words::{Sizes, value_word};
 use std::alloc::{AllocError, Global};
 use std::marker::Model;
 
-/// A memory of components that many threads share. Its ports update, read and scan them; no call waits
-/// for another, and none but `open` and `close` takes memory.
+/// A memory of components that many threads share. Its ports update, read and scan them. Every call is
+/// wait-free, and none but `open`, `reopen` and `close` takes memory.
 #[derive(Drop)]
 pub struct Memory {
     sizes: Sizes,
@@ -74,8 +78,8 @@ impl Memory {
     /// Opens a memory whose components hold these values, and its ports, numbered from 0 in their order.
     ///
     /// # Errors
-    /// [`OpenError::Ports`] exactly where there are not 1 to 64 ports, and otherwise
-    /// [`OpenError::Memory`] where a growth was refused. Nothing was made then.
+    /// [`OpenError::Ports`] exactly when there are not 1 to 64 ports, and otherwise
+    /// [`OpenError::Memory`] when a growth was refused. Nothing was made then.
     pub fn open(
         alloc: Global,
         sizes: Sizes,
@@ -122,9 +126,9 @@ impl Memory {
     /// The closed memory stays as it is, and can be opened so again.
     ///
     /// # Errors
-    /// [`OpenError::Ports`] exactly where there are not 1 to 64 ports; otherwise [`OpenError::TooSmall`]
-    /// exactly where the closed memory has more components than `sizes`; otherwise
-    /// [`OpenError::Memory`] where a growth was refused. Nothing was made then.
+    /// [`OpenError::Ports`] exactly when there are not 1 to 64 ports; otherwise [`OpenError::TooSmall`]
+    /// exactly when the closed memory has more components than `sizes`; otherwise
+    /// [`OpenError::Memory`] when a growth was refused. Nothing was made then.
     pub fn reopen(
         alloc: Global,
         closed: &Closed,
@@ -152,18 +156,20 @@ impl Memory {
 
     /// Sets component `component` to `value`, in no more atomic steps than an update may make.
     ///
-    /// An applied update is the last entry of the history that the port has seen afterwards. A lost one
+    /// An applied update is the last entry of the history that the port has observed afterwards. A lost one
     /// was overwritten, during the call, by the update that it names.
     ///
     /// # Errors
     /// [`Refused::Component`] for an index that isn't below the number of components, and
-    /// [`Refused::PoolSpent`] where the port is marked for the pool: no step was made. PoolSpent too
-    /// where the call's claim went past the end of the pool, and the port is marked from then on.
+    /// [`Refused::PoolSpent`] when the port is marked for the pool: no step was made. PoolSpent too
+    /// when the call's claim went past the end of the pool, and the port is marked from then on.
     pub fn update(&self, me: &mut Port, component: u32, value: u64) -> Result<Updated, Refused>
         requires { IsOf self.now me.old }
         ensures same { IsOf self.now me.new }
-        ensures ok { IfOk result (λ r. Updates me.old component value r me.new) }
-        ensures err { IfErr result (λ cause. IsRefused me.old (call.Update component value) cause me.new) }
+        ensures answered { IfOk result (λ r. Updates me.old component value r me.new) }
+        ensures refused { IfErr result (λ cause. IsRefused me.old (call.Update component value) cause me.new) }
+        ensures led { IfOk result (λ r. IsLedTo me.old me.new (call.Update component value) (noted_update r)) }
+        ensures led_to_refusal { IfErr result (λ cause. IsLedWhereLate me.old me.new (call.Update component value) cause) }
     {
         me.core.may_update(component)?;
         let change = Change {
@@ -179,10 +185,10 @@ impl Memory {
         }
     }
 
-    /// Sets component `component` to `value` where it has the stamp `expected`, in no more atomic steps
+    /// Sets component `component` to `value` if it has the stamp `expected`, in no more atomic steps
     /// than an update may make.
     ///
-    /// An applied update found that stamp, and is the last entry of the history that the port has seen
+    /// An applied update found that stamp, and is the last entry of the history that the port has observed
     /// afterwards. Otherwise the component had another stamp at a moment of the call.
     ///
     /// # Errors
@@ -196,8 +202,10 @@ impl Memory {
     ) -> Result<UpdatedIf, Refused>
         requires { IsOf self.now me.old }
         ensures same { IsOf self.now me.new }
-        ensures ok { IfOk result (λ r. UpdatesIf me.old component expected value r me.new) }
-        ensures err { IfErr result (λ cause. IsRefused me.old (call.UpdateIf component expected value) cause me.new) }
+        ensures answered { IfOk result (λ r. UpdatesIf me.old component expected value r me.new) }
+        ensures refused { IfErr result (λ cause. IsRefused me.old (call.UpdateIf component expected value) cause me.new) }
+        ensures led { IfOk result (λ r. IsLedTo me.old me.new (call.UpdateIf component expected value) (noted_update_if r)) }
+        ensures led_to_refusal { IfErr result (λ cause. IsLedWhereLate me.old me.new (call.UpdateIf component expected value) cause) }
     {
         me.core.may_update(component)?;
         let conditional = Change {
@@ -220,8 +228,9 @@ impl Memory {
     pub fn read(&self, me: &mut Port, component: u32) -> Result<(u64, u64), Refused>
         requires { IsOf self.now me.old }
         ensures same { IsOf self.now me.new }
-        ensures ok { IfOk result (λ r. Reads me.old component r.0 r.1 me.new) }
-        ensures err { IfErr result (λ cause. (refusal me.old (call.Read component) ≡ Some cause) × (me.new ≡ me.old)) }
+        ensures answered { IfOk result (λ r. Reads me.old component r.0 r.1 me.new) }
+        ensures refused { IfErr result (λ cause. (refusal me.old (call.Read component) ≡ Some cause) × (me.new ≡ me.old)) }
+        ensures led { IfOk result (λ r. IsLedTo me.old me.new (call.Read component) (answer.Read r.0 r.1)) }
     {
         if component >= self.sizes.m() {
             return Err(Refused::Component);
@@ -241,16 +250,18 @@ impl Memory {
     ///
     /// # Errors
     /// [`Refused::Component`] for an index that isn't below the number of components, then
-    /// [`Refused::PoolSpent`] and [`Refused::SlotsSpent`] where the port is marked for the pool or the
-    /// slots: no step was made. PoolSpent or SlotsSpent too where a claim of the call went past the end
+    /// [`Refused::PoolSpent`] and [`Refused::SlotsSpent`] when the port is marked for the pool or the
+    /// slots: no step was made. PoolSpent or SlotsSpent too when a claim of the call went past the end
     /// of the pool or the slots, and the port is marked from then on. `into` is unchanged.
     pub fn scan(&self, me: &mut Port, which: &[u32], into: &mut [u64]) -> Result<Scanned, Refused>
         requires own { IsOf self.now me.old }
         requires lengths { (length into.old ≡ length which.now) × (length which.now ≤ self.now.about.sizes.m) }
         ensures same { IsOf self.now me.new }
-        ensures ok { IfOk result (λ s. Scans me.old which.now into.new s me.new) }
-        ensures err { IfErr result (λ cause. IsRefused me.old (call.Scan which.now) cause me.new) }
+        ensures answered { IfOk result (λ s. Scans me.old which.now into.new s me.new) }
+        ensures refused { IfErr result (λ cause. IsRefused me.old (call.Scan which.now) cause me.new) }
         ensures unchanged { IfErr result (λ cause. into.new ≡ into.old) }
+        ensures led { IfOk result (λ s. ScansLed me.old which.now into.new s me.new) }
+        ensures led_to_refusal { IfErr result (λ cause. IsLedWhereLate me.old me.new (call.Scan which.now) cause) }
     {
         if which.is_empty() {
             return Ok(Scanned {
@@ -267,11 +278,12 @@ impl Memory {
         }
     }
 
-    /// Lets two ports see all that either has seen, in three atomic steps.
+    /// Merges what two ports have observed. Takes three atomic steps.
     pub fn meet(&self, first: &mut Port, second: &mut Port)
         requires { IsOf self.now first.old × IsOf self.now second.old }
         ensures same { IsOf self.now first.new × IsOf self.now second.new }
         ensures met { Meets first.old second.old first.new second.new }
+        ensures lawful { MeetsLawfully self.now first.new second.new }
     {
         let words = &self.table.shared;
         let mut seat = take_seat(&mut first.badge);
@@ -282,15 +294,16 @@ impl Memory {
     }
 
     /// Closes the memory with this port and these others: the values and the chains of its components
-    /// after one history, which begins with all that each of these ports had seen.
+    /// after one history, which begins with all that each of these ports had observed.
     ///
     /// # Errors
-    /// [`CloseError::Memory`] where a growth was refused: the contents are lost, and nothing is handed
+    /// [`CloseError::Memory`] when a growth was refused: the contents are lost, and nothing is handed
     /// back.
     pub fn close(self, alloc: Global, port: Port, mut rest: Vec<Port>) -> Result<Closed, CloseError>
         requires port { IsOf self port }
         requires rest { AllByRecursion (IsOf self) rest.items }
-        ensures { IfOk result (λ closed. Closes self (port ∷ rest.items) closed) }
+        ensures closed { IfOk result (λ closed. Closes self (port ∷ rest.items) closed) }
+        ensures lawful { IfOk result (λ closed. ClosesLawfully self (port ∷ rest.items) closed) }
     {
         let Memory { sizes, table } = self;
         let mut seat: Place = port.into_seat();

@@ -2,7 +2,7 @@
 
 ghost use Rattle.std.specs.Prelude.{◌≡◌, [], ◌∷◌};
 ghost use Rattle.partial_memory.specs.Rule.{IsBadgeOfOne, Seated, one_in};
-ghost use Rattle.partial_memory.specs.Ports.{port_view};
+ghost use Rattle.partial_memory.specs.Ports.{Knows, port_view};
 
 use crate::rule::{Place, View};
 use atomic_table::Badge;
@@ -34,9 +34,11 @@ impl Model for Port {
 }
 
 impl Port {
-    /// The number of the port: 0, 1 and so on, in the order in which `open` gives them.
+    /// The number of the port: 0, 1 and so on, in the order in which `open` gives them. Whatever calls it has
+    /// made, a port knows what it has seen: its notes are legal there, and its entries are those of its notes.
     pub fn number(&self) -> u32
-        ensures { result ≡ self.now.number }
+        ensures value { result ≡ self.now.number }
+        ensures knows { Knows self.now }
     {
         self.number
     }

@@ -7,6 +7,7 @@ use Rattle.std.proofs.lemmas.Bool.Decides.{eqb_tells}
 use Rattle.std.proofs.lemmas.List.{take_more, take_all}
 use Rattle.partial_model.specs.declared.history.Applied.{Applied}
 use Rattle.partial_model.specs.declared.history.Opening.{Opening}
+use Rattle.partial_model.specs.Entries.{LastEntriesDecide}
 use Rattle.partial_model.specs.History.{last_from, last_entry, initial_stamp, value_of, stamp_of}
 
 -- an entry at the end is the last one for its component and changes nothing for another
@@ -49,6 +50,15 @@ pub stamp_of-push : (o : Opening) (h : List Applied) (e : Applied) (j : ℕ) →
 stamp_of-push o h e j =
     ap (λ (found : Option Applied). option_map_or (λ (x : Applied). x.stamp) found (initial_stamp o j)) (last_from-push None j h e) ∙ pick (λ (x : Applied). x.stamp) (e.component == j) e
     (last_entry j h) (initial_stamp o j)
+
+no_value : (o : Opening) (j : ℕ) → value_of o [] j ≡ get_or o.values j 0
+no_value o j = ap (λ (found : Option Applied). option_map_or (λ (x : Applied). x.value) found (get_or o.values j 0)) (last_entry-nil j)
+
+no_stamp : (o : Opening) (j : ℕ) → stamp_of o [] j ≡ initial_stamp o j
+no_stamp o j = ap (λ (found : Option Applied). option_map_or (λ (x : Applied). x.stamp) found (initial_stamp o j)) (last_entry-nil j)
+
+pub last_entries_decide : LastEntriesDecide
+last_entries_decide = record { value = value_of-push; stamp = stamp_of-push; no_value = no_value; no_stamp = no_stamp }
 
 -- where the last entry for a component stands: from there on it is the last one, and without one there never was any
 pub record LastAt (found : Option Applied) (j : ℕ) (h : List Applied) : Type 0 where

@@ -11,7 +11,7 @@ use Rattle.partial_model.specs.declared.call.Answer.TheVariants as answer
 use Rattle.partial_model.specs.declared.call.Note.{Note}
 use Rattle.partial_model.specs.declared.call.Note.TheVariants as note
 use Rattle.partial_model.specs.History.{HaveDistinctStamps, value_of, stamp_of}
-use Rattle.partial_model.specs.Notes.{Noted, IsEntryFor, IsTrueOf, IsLegal, LegalNotes, seen_after, seen_by, place_of}
+use Rattle.partial_model.specs.Notes.{Noted, IsEntryFor, IsTrueOf, IsLegal, LegalNotes, LegalNotesAreShown, seen_after, seen_by, place_of, shown_by}
 pub use Rattle.partial_model.proofs.AllLemmas.{all_append as AllByRecursion-append, all_weaker as AllByRecursion-weaker}
 use Rattle.partial_model.proofs.HistoryLemmas.{place_below}
 use Rattle.partial_model.specs.Outcome.{wrote, places_by, places_written}
@@ -119,3 +119,25 @@ AllByRecursion-get P (y ∷ ys) (suc k) x w s = AllByRecursion-get P ys k x w.1 
 pub distinct_push : (h : List Applied) (e : Applied) → HaveDistinctStamps h → AllByRecursion (λ f. f.stamp ≢ e.stamp) h → HaveDistinctStamps (h ++ e ∷ [])
 distinct_push [] e w new = (tt, tt)
 distinct_push (x ∷ h) e w new = (AllByRecursion-push (λ f. x.stamp ≢ f.stamp) h e w.0 new.0, distinct_push h e w.1 new.1)
+
+-- what is true of a history shows no more than it has
+shown_within : (o : Opening) (h : List Applied) (p : ℕ) (c : Call) (a : Answer) (n : Note) → IsTrueOf o h p c a n → shown_by n ≤ length h
+shown_within o h p (call.Update j v) (answer.Applied s) (note.Wrote k) w = let below = place_below h k (record { port = p; component = j; value = v; stamp = s }) w in omega arith
+shown_within o h p (call.Update j v) (answer.Lost by) (note.Lost k) w = let below = place_below h k w.0 w.1 in omega arith
+shown_within o h p (call.Scan js) (answer.Scanned vs c b) (note.Saw n) w = w.within
+shown_within o h p (call.Read j) (answer.Read v s) (note.Saw n) w = w.0
+shown_within o h p (call.UpdateIf j x v) (answer.Applied s) (note.Wrote k) w = let below = place_below h k (record { port = p; component = j; value = v; stamp = s }) w.0 in omega arith
+shown_within o h p (call.UpdateIf j x v) (answer.Changed t) (note.Saw n) w = w.0
+shown_within o h p _ _ _ w = absurd w
+
+note_within : (o : Opening) (h : List Applied) (p seen : ℕ) (c : Call) (a : Answer) (n : Option Note) → seen ≤ length h → IfSome n (λ note. IsTrueOf o h p c a note × (seen ≤ place_of note)) →
+    seen_after seen n ≤ length h
+note_within o h p seen c a None less w = less
+note_within o h p seen c a (Some n) less w = shown_within o h p c a n w.0
+
+notes_within : (o : Opening) (h : List Applied) (p seen : ℕ) (ns : List Noted) → seen ≤ length h → LegalNotes o h p seen ns → seen_by seen ns ≤ length h
+notes_within o h p seen [] less w = less
+notes_within o h p seen (n ∷ ns) less w = notes_within o h p (seen_after seen n.note) ns (note_within o h p seen n.call n.answer n.note less w.0.1) w.1
+
+pub legal_notes_are_shown : LegalNotesAreShown
+legal_notes_are_shown o h p ns w = notes_within o h p 0 ns (omega arith) w

@@ -1,5 +1,5 @@
 -- The entries of a port, and the updates that its notes say were applied. And values that never fall.
-use Rattle.std.specs.Prelude.{ℕ, ◌≡◌, ◌≤◌, ◌==◌, List, [], ◌∷◌, ◌++◌, length, take, slice_get, Option, Some, if◌then◌else◌}
+use Rattle.std.specs.Prelude.{ℕ, ◌≡◌, ◌≤◌, ◌==◌, List, [], ◌∷◌, ◌++◌, length, take, slice_get, slice_index, Option, Some, if◌then◌else◌}
 use Rattle.partial_model.specs.declared.history.Applied.{Applied}
 use Rattle.partial_model.specs.declared.history.Opening.{Opening}
 use Rattle.partial_model.specs.declared.call.Call.{Call}
@@ -8,7 +8,7 @@ use Rattle.partial_model.specs.declared.call.Answer.{Answer}
 use Rattle.partial_model.specs.declared.call.Answer.TheVariants as answer
 use Rattle.partial_model.specs.declared.call.Note.{Note}
 use Rattle.partial_model.specs.declared.call.Note.TheVariants as note
-use Rattle.partial_model.specs.History.{value_of}
+use Rattle.partial_model.specs.History.{initial_stamp, stamp_of, value_of}
 use Rattle.partial_model.specs.Notes.{Noted, LegalNotes}
 use Rattle.partial_model.specs.Outcome.{EachOnce}
 
@@ -32,6 +32,16 @@ applied_by p (n ∷ ns) = entry_of p n.note n.call n.answer ++ applied_by p ns
 abbrev pub EntriesAreNoted : Type 0
 EntriesAreNoted =
     (o : Opening) (h : List Applied) (p : ℕ) (ns : List Noted) → LegalNotes o h p 0 ns → EachOnce h p ns → entries_by p h ≡ applied_by p ns
+
+-- The last entry of a history decides what its component holds, and leaves the others as they were; behind none of them each component
+-- holds what it was opened with.
+pub record LastEntriesDecide : Type 0 where
+  pub value : (o : Opening) (h : List Applied) (e : Applied) (j : ℕ) →
+      value_of o (h ++ e ∷ []) j ≡ (if e.component == j then e.value else value_of o h j)
+  pub stamp : (o : Opening) (h : List Applied) (e : Applied) (j : ℕ) →
+      stamp_of o (h ++ e ∷ []) j ≡ (if e.component == j then e.stamp else stamp_of o h j)
+  pub no_value : (o : Opening) (j : ℕ) → value_of o [] j ≡ slice_index o.values j
+  pub no_stamp : (o : Opening) (j : ℕ) → stamp_of o [] j ≡ initial_stamp o j
 
 -- each entry for component j leaves its value or raises it
 abbrev pub OnlyRises : Opening → List Applied → ℕ → Type 0

@@ -119,3 +119,7 @@ seen_by seen (n ∷ ns) = seen_by (seen_after seen n.note) ns
 abbrev pub LegalNotes : Opening → List Applied → ℕ → ℕ → List Noted → Type 0
 LegalNotes o h p seen [] = ⊤
 LegalNotes o h p seen (n ∷ ns) = IsLegal o h p seen n × LegalNotes o h p (seen_after seen n.note) ns
+
+-- legal notes show no more entries than the history has
+abbrev pub LegalNotesAreShown : Type 0
+LegalNotesAreShown = (o : Opening) (h : List Applied) (p : ℕ) (ns : List Noted) → LegalNotes o h p 0 ns → seen_by 0 ns ≤ length h

@@ -1,6 +1,7 @@
 //! The calls of a port, their answers, and the notes that place them in the history.
 
 ghost use Rattle.std.specs.Prelude.{◌≡◌, IfOk};
+ghost use Rattle.partial_model.specs.Refusals.{refused_code};
 
 use crate::sequence::Sequence;
 use std::alloc::{AllocError, Global};
@@ -67,6 +68,19 @@ pub enum Refused {
     SlotsSpent,
     /// A pool claim of this call, or an earlier one of this port, went past the end of the pool.
     PoolSpent,
+}
+
+impl Refused {
+    /// The number of the refusal: 7 for a component, 8 for the slots, 9 for the pool.
+    pub fn code(&self) -> u8
+        ensures { result ≡ refused_code self.now }
+    {
+        match self {
+            Refused::Component => 7,
+            Refused::SlotsSpent => 8,
+            Refused::PoolSpent => 9,
+        }
+    }
 }
 
 /// The answer of a finished call.

@@ -1,7 +1,14 @@
 //! Laws about histories. The functions have no code: their contracts hold of the definitions.
 
-ghost use Rattle.partial_model.specs.Entries.{EntriesAreNoted, RisingNeverFalls};
+ghost use Rattle.partial_model.specs.Entries.{EntriesAreNoted, LastEntriesDecide, RisingNeverFalls};
+ghost use Rattle.partial_model.specs.Notes.{LegalNotesAreShown};
 ghost use Rattle.partial_model.specs.Stamps.{StampsNeverReturn, EqualCollectsStandTogether};
+
+/// The last entry of a history is the value and the stamp of its component, and changes no other; before
+/// the first entry a component has what it was opened with.
+pub fn last_entries_decide()
+    ensures { LastEntriesDecide }
+{}
 
 /// A stamp never returns: a component that has one stamp at two lengths of a history has that stamp,
 /// and the value that came with it, at each length between.
@@ -9,19 +16,24 @@ pub fn stamps_never_return()
     ensures { StampsNeverReturn }
 {}
 
-/// Where two collects give each component the same stamp, the stamps of the collects stood together at
+/// When two collects give each component the same stamp, the stamps of the collects stood together at
 /// each length of the history between the end of the first and the start of the second.
 pub fn equal_collects_stand_together()
     ensures { EqualCollectsStandTogether }
 {}
 
-/// Where a port's notes are legal in a history and its entries there are those that they claim, its
+/// Notes that are legal in a history show no more entries than it has.
+pub fn legal_notes_are_shown()
+    ensures { LegalNotesAreShown }
+{}
+
+/// When a port's notes are legal in a history and its entries there are those that they claim, its
 /// entries are the updates that the notes say were applied, in order.
 pub fn entries_are_noted()
     ensures { EntriesAreNoted }
 {}
 
-/// Where each entry for a component leaves its value or raises it, the value never falls.
+/// When each entry for a component leaves its value or raises it, the value never falls.
 pub fn rising_never_falls()
     ensures { RisingNeverFalls }
 {}

@@ -13,6 +13,7 @@ pub use call::{Answer, Call, Called, Finish, Note, Refused};
 pub use checker::check_outcome;
 pub use history::{Applied, Opening, stamp_at, value_at};
 pub use law::{
-    entries_are_noted, equal_collects_stand_together, rising_never_falls, stamps_never_return,
+    entries_are_noted, equal_collects_stand_together, last_entries_decide, legal_notes_are_shown,
+    rising_never_falls, stamps_never_return,
 };
 pub use sequence::Sequence;

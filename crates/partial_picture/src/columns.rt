@@ -1,5 +1,8 @@
 //! The form of a picture for terminals: a line for each step, and a column for each port.
 
+ghost use Rattle.std.specs.Prelude.{◌<◌, ◌≤◌, IfOk, OnOk};
+ghost use Rattle.std.specs.String.{string_len};
+
 use crate::picture::{Bar, Mark, Picture, Pin};
 use partial_labels::{call_words, entry_words, finish_words, step_words};
 use std::alloc::{AllocError, Global};
@@ -119,7 +122,9 @@ fn push_cell(line: &mut String, words: &str, width: usize) -> Result<(), AllocEr
 }
 
 /// Writes a line without the spaces at its end.
-fn push_line(text: &mut String, line: &str) -> Result<(), AllocError> {
+fn push_line(text: &mut String, line: &str) -> Result<(), AllocError>
+    ensures { OnOk result (string_len text.old < string_len text.new) }
+{
     text.push_str(line.trim_end())?;
     text.push('\n')
 }
@@ -157,7 +162,9 @@ fn line_of(
 }
 
 /// Writes the line of the calls that stand between two steps, where there are any.
-fn push_between(text: &mut String, words: &str) -> Result<(), AllocError> {
+fn push_between(text: &mut String, words: &str) -> Result<(), AllocError>
+    ensures { OnOk result (string_len text.old ≤ string_len text.new) }
+{
     if words.is_empty() {
         return Ok(());
     }
@@ -172,7 +179,9 @@ fn push_steps(
     picture: &Picture<'_>,
     cells: &[String],
     remarks: &Remarks,
-) -> Result<(), AllocError> {
+) -> Result<(), AllocError>
+    ensures { OnOk result (0 < string_len text.new) }
+{
     let widths = widths_of(alloc, picture.ports, &picture.marks, cells)?;
     push_line(text, &names(alloc, &widths)?)?;
     let told = cells.iter().zip(&remarks.beside).zip(&remarks.between);
@@ -186,7 +195,9 @@ fn push_steps(
 
 /// A picture for terminals: a line for each step with its number, in the column of its port, and behind it what
 /// it begins, adds to the history and ends.
-pub fn table(alloc: Global, picture: &Picture<'_>) -> Result<String, AllocError> {
+pub fn table(alloc: Global, picture: &Picture<'_>) -> Result<String, AllocError>
+    ensures some { IfOk result (λ text. 0 < string_len text) }
+{
     let cells = cells_of(alloc, &picture.marks)?;
     let remarks = remarks_of(alloc, picture)?;
     let mut text = String::new(alloc);

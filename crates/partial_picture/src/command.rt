@@ -1,6 +1,8 @@
 //! From the text of a plan to the text of a picture.
 
-ghost use Rattle.std.specs.Prelude.{◌≡◌, ◌≢◌, ◌↔◌, true, false, IfErr, IfSome, IsErrOf};
+ghost use Rattle.std.specs.Prelude.{◌≡◌, ◌≢◌, ◌↔◌, ◌<◌, ℕ, List, length, true, false, IfErr, IfOk, IfSome, IsErrOf, OnOk};
+ghost use Rattle.std.specs.Io.KnownBytes.{Appends};
+ghost use Rattle.std.specs.String.{string_len};
 ghost use Rattle.partial_text.specs.Judging.{judged};
 ghost use Rattle.partial_picture.specs.Refusal.{IsJudged, reader_fault, writer_fault};
 
@@ -11,7 +13,7 @@ use crate::svg::drawing;
 use crate::window::Window;
 use partial_replay::{Device, Plan, replay};
 use partial_text::write_text;
-use std::alloc::Global;
+use std::alloc::{AllocError, Global};
 use std::io::{Read, Write};
 
 /// What a picture is written as.
@@ -21,6 +23,16 @@ pub enum Form {
     Drawing { has_words: bool },
     /// Text for terminals.
     Table,
+}
+
+// The text of a picture.
+fn text_of(alloc: Global, form: Form, picture: &Picture<'_>) -> Result<String, AllocError>
+    ensures some { IfOk result (λ text. 0 < string_len text) }
+{
+    match form {
+        Form::Drawing { has_words } => drawing(alloc, picture, has_words),
+        Form::Table => table(alloc, picture),
+    }
 }
 
 /// Reads a plan, replays it, and writes a picture of a window of the replay.
@@ -44,15 +56,15 @@ pub fn draw<R: Read, W: Write>(
     // Which fault of the plan it is, and that a plan without a fault isn't refused as one.
     ensures plan { plan.new.failed ≡ false → IfSome (R.remaining plan.old.inner)
         (λ bytes. IsJudged result (judged bytes)) }
+    // The text of a picture is written whole, and it isn't empty.
+    ensures written { OnOk result ((text : List ℕ) × (0 < length text)
+        × Appends (W.contents out.old.inner) (W.contents out.new.inner) text) }
     // Nothing is written but after a fault of the writer.
     ensures unwritten { IfErr result (λ fault. fault ≢ writer_fault → out.new ≡ out.old) }
 {
     let plan = Plan::read(alloc, plan)?;
     let outcome = replay(alloc, &plan)?;
     let picture = Picture::of(alloc, plan.sizes(), plan.ports().len(), &outcome, window)?;
-    let text = match form {
-        Form::Drawing { has_words } => drawing(alloc, &picture, has_words)?,
-        Form::Table => table(alloc, &picture)?,
-    };
+    let text = text_of(alloc, form, &picture)?;
     Ok(write_text(text.as_bytes(), out)?)
 }

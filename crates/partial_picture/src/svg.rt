@@ -1,5 +1,8 @@
 //! The drawing of a picture in SVG.
 
+ghost use Rattle.std.specs.Prelude.{◌<◌, IfOk};
+ghost use Rattle.std.specs.String.{string_len};
+
 use crate::layout::{Layout, Sides};
 use crate::legend::{STYLE, push_legend};
 use crate::picture::{Arrow, ArrowKind, Bar, Mark, Picture, Pin, Shape};
@@ -335,11 +338,9 @@ fn place_of(picture: &Picture<'_>, layout: &Layout, mark: usize) -> (Pixels, Pix
 }
 
 /// The drawing of a picture in SVG, where asked with the words that each step has touched.
-pub fn drawing(
-    alloc: Global,
-    picture: &Picture<'_>,
-    has_words: bool,
-) -> Result<String, AllocError> {
+pub fn drawing(alloc: Global, picture: &Picture<'_>, has_words: bool) -> Result<String, AllocError>
+    ensures some { IfOk result (λ text. 0 < string_len text) }
+{
     let rows = if has_words { picture.words.len() } else { 0 };
     let layout = Layout::of(alloc, picture, rows)?;
     let mut text = String::new(alloc);

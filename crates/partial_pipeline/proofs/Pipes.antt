@@ -21,6 +21,7 @@ use Rattle.partial_model.proofs.Entries.{entries_are_noted, entry_holds, noted_a
 use Rattle.partial_model.proofs.NotesLemmas.{AllByRecursion-get}
 use Rattle.partial_model.proofs.Values.{value_at_first, value_set, value_kept, element_at, rising_never_falls}
 use Rattle.partial_pipeline.specs.Pipeline.{AreFrom, IsPipeline, IsStageIn, Works, CountsStayOrdered, CountsNeverFall}
+use Rattle.partial_pipeline.specs.Stages.{last_value, published}
 
 -- ---- the entries of stage k: component k alone, to values that never fall
 
@@ -36,7 +37,7 @@ set_rises : (k a v : ℕ) (n : Option Note) (x : Answer) (es : List Applied) →
 set_rises k a v (Some (note.Wrote i)) (answer.Applied s) es le w = (refl, le, w)
 set_rises k a v _ _ es le w = from_below k a v es le w
 
-read_makes_none : (p j : ℕ) (n : Option Note) (x : Answer) → entry_of p n (call.Read j) x ≡ []
+pub read_makes_none : (p j : ℕ) (n : Option Note) (x : Answer) → entry_of p n (call.Read j) x ≡ []
 read_makes_none p j (Some (note.Wrote i)) x = refl
 read_makes_none p j _ x = refl
 
@@ -82,6 +83,25 @@ risen p d (suc k) (x ∷ h) found e kinds w s by =
           let other : x.component ≡ p → ⊥ = λ c. t.1 (sym (kinds 0 x refl) ∙ c) in
           let one : cond (x.component == p) (Some x) found ≡ found = ap (λ b. cond b (Some x) found) (ne_eqb x.component p other) in
           subst (λ (f : Option Applied). held d (last_from f p (take k h)) ≤ e.value) (sym one) (risen p d k h found e (λ i y. kinds (suc i) y) r s by)
+    ]
+
+-- behind all entries a stage's component has the value of its last one
+held_last : (d k : ℕ) (h : List Applied) (found : Option Applied) → ((i : ℕ) (x : Applied) → slice_get h i ≡ Some x → x.component ≡ x.port) →
+    held d (last_from found k h) ≡ last_value (held d found) (entries_by k h)
+unfolding last_from
+held_last d k [] found kinds = refl
+held_last d k (x ∷ h) found kinds =
+    let rest = entries_by k h in
+    elim (eqb_tells x.port k) [
+      | inl t ↦
+          let one : cond (x.component == k) (Some x) found ≡ Some x = ap (λ b. cond b (Some x) found) (eq-eqb x.component k (kinds 0 x refl ∙ t.1)) in
+          let two : cond (x.port == k) (x ∷ rest) rest ≡ x ∷ rest = ap (λ b. cond b (x ∷ rest) rest) t.0 in
+          ap (λ (f : Option Applied). held d (last_from f k h)) one ∙ held_last d k h (Some x) (λ i y. kinds (suc i) y) ∙ ap (last_value (held d found)) (sym two)
+      | inr t ↦
+          let other : x.component ≡ k → ⊥ = λ c. t.1 (sym (kinds 0 x refl) ∙ c) in
+          let one : cond (x.component == k) (Some x) found ≡ found = ap (λ b. cond b (Some x) found) (ne_eqb x.component k other) in
+          let two : cond (x.port == k) (x ∷ rest) rest ≡ rest = ap (λ b. cond b (x ∷ rest) rest) t.0 in
+          ap (λ (f : Option Applied). held d (last_from f k h)) one ∙ held_last d k h found (λ i y. kinds (suc i) y) ∙ ap (last_value (held d found)) (sym two)
     ]
 
 -- ---- what a stage sets its count to, the stage before has reached
@@ -189,6 +209,13 @@ module _ (o : Opening) (h : List Applied) (stages : List (List Noted)) (w : IsPi
       let none : at.1.worked.from ≡ 0 = at.1.worked.none (omega arith) in
       let had : HasRead o h j 0 at.1.worked.from = (0, omega arith, omega arith) in
       noted_at (IsReached o h j) h (j + 1) at.0 i e at.1.once (reached o h (j + 1) j 0 at.1.worked.from 0 at.0 at.1.worked.read at.1.worked.count refl at.1.legal at.1.worked.works had) s port e s
+
+  -- behind all entries each stage's component has what the stage published last
+  pub stage_value : (k : ℕ) (ns : List Noted) → IsStageIn o h k ns → value_of o h k ≡ published k ns
+  stage_value k ns s =
+      let first = slice_index o.values k in
+      let all : entries_by k h ≡ applied_by k ns = entries_are_noted o h k ns s.legal s.once in
+      held_last first k h None kinds ∙ ap (last_value first) all ∙ ap (λ d. last_value d (applied_by k ns)) (w.zero k)
 
   never_fall : (m n k : ℕ) → m ≤ n → n ≤ length h → value_of o (take m h) k ≤ value_of o (take n h) k
   never_fall m n k before within = rising_never_falls o h k m n (only_rises k) before within

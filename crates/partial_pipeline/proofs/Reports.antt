@@ -1,5 +1,5 @@
 -- What the closed memory of a pipeline tells of the monitor's scans.
-use Rattle.std.proofs.Common.{ℕ, suc, inl, inr, ◌≡◌, ◌+◌, ◌<◌, ◌≤◌, ◌++◌, List, [], ◌∷◌, length, map, take, slice_index, refl, sym, ◌∙◌, ap, subst, Option, Some, None, slice_get, arith}
+use Rattle.std.proofs.Common.{ℕ, zero, suc, inl, inr, ◌≡◌, ◌+◌, ◌<◌, ◌≤◌, ◌++◌, List, [], ◌∷◌, length, map, take, slice_index, refl, sym, ◌∙◌, ap, subst, Option, Some, None, slice_get, arith}
 use Rattle.std.specs.Prelude.{IfSome}
 use Rattle.std.specs.List.{AllByRecursion}
 use Rattle.std.specs.declared.alloc.Global.{Global}
@@ -25,11 +25,12 @@ use Rattle.partial_memory.specs.Closing.{Closes, IsPortOf}
 use Rattle.partial_memory.specs.Noting.{NotesMore}
 use Rattle.partial_memory.specs.Ports.{IsOf, MemoryView, PortView}
 use Rattle.partial_memory.specs.declared.closed.Closed.{Closed}
-use Rattle.partial_pipeline.specs.Pipeline.{AreFrom, AreOrdered, HaveRisen, IsOrderly, IsPipeline, IsStageIn, NeverFall, last_of}
-use Rattle.partial_pipeline.specs.Stages.{HasMet, IsEachStage, Opens, Sees, Watched}
+use Rattle.partial_pipeline.specs.Pipeline.{AreFrom, AreOrdered, HaveEnded, HaveRisen, IsOrderly, IsPipeline, IsStageIn, NeverFall, last_of}
+use Rattle.partial_pipeline.specs.Stages.{EndEach, HasMet, IsEachStage, Opens, Sees, Watched}
 use Rattle.partial_pipeline.specs.declared.stage.StageEnd.{StageEnd}
-use Rattle.partial_pipeline.proofs.Pipes.{counts_never_fall, counts_stay_ordered}
-use Rattle.partial_pipeline.proofs.Stages.{watched_sees}
+use Rattle.partial_pipeline.specs.declared.stage.StageEnd.TheVariants.{Finished}
+use Rattle.partial_pipeline.proofs.Pipes.{counts_never_fall, counts_stay_ordered, stage_value}
+use Rattle.partial_pipeline.proofs.Stages.{ends_many, watched_sees}
 
 -- the counts of n stages behind the first so many entries
 pub record AreCounts (o : Opening) (h : List Applied) (n at : ℕ) (counts : List ℕ) : Type 0 where
@@ -280,4 +281,45 @@ orderly m p q ports stages scans last closed ends opens met count own number all
       ordered = saw_ordered o log notes line 0 ((map (λ (v : Vec ℕ Global). v.items) scans.items ++ last_of last) ++ closed.values.items ∷ []) here;
       rising = saw_rising o log notes line 0 ((map (λ (v : Vec ℕ Global). v.items) scans.items ++ last_of last) ++ closed.values.items ∷ []) here;
       last = last_is p q stages closed.values.items last (sees_closed m p q ports stages scans last closed opens met count own number all watched sees closes) sees;
+    }
+
+-- ---- the ends
+
+ends_told : (o : Opening) (h : List Applied) (stages : List (List Noted)) (w : IsPipeline o h stages) (items k : ℕ) (ports : List PortView) (ends : List StageEnd) →
+    AreFrom (IsStageIn o h) k (map (λ (p : PortView). p.notes) ports) → EndEach items k ports ends → (i : ℕ) → i < length ports →
+    (value_of o h (k + i) ≤ items) × (slice_get ends i ≡ Some Finished → value_of o h (k + i) ≡ items)
+ends_told o h stages w items k [] ends s e i below = absurd (omega arith)
+ends_told o h stages w items k (p ∷ ps) [] s e i below = absurd e
+ends_told o h stages w items k (p ∷ ps) (x ∷ xs) s e zero below =
+    let is = stage_value o h stages w k p.notes s.0 in
+    let same : k ≡ k + 0 = omega arith in
+    subst (λ n. (value_of o h n ≤ items) × (slice_get (x ∷ xs) zero ≡ Some Finished → value_of o h n ≡ items)) same
+    (omega (arith, is, e.0.most), λ f. let end : x ≡ Finished = cc in is ∙ e.0.finished end)
+ends_told o h stages w items k (p ∷ ps) (x ∷ xs) s e (suc i) below =
+    let same : k + 1 + i ≡ k + suc i = omega arith in
+    let rest = ends_told o h stages w items (k + 1) ps xs s.1 e.1 i (omega arith) in
+    subst (λ n. (value_of o h n ≤ items) × (slice_get xs i ≡ Some Finished → value_of o h n ≡ items)) same rest
+
+pub ended : (m : MemoryView) (p q : PortView) (ports : List PortView) (stages : List ℕ) (scans : Vec (Vec ℕ Global) Global) (last : Option (Vec ℕ Global)) (closed : Closed)
+    (ends : Vec StageEnd Global) (items : ℕ) → Opens m → AreFrom (HasMet m (length p.seen)) 0 ports → length ports ≡ m.about.sizes.m → IsOf m q → q.number ≡ m.about.sizes.m →
+    IsEachStage m.about.sizes.m stages → Watched stages p.notes (map (λ (v : Vec ℕ Global). v.items) scans.items) → LastSees p stages q last → Closes m (q ∷ ports) closed →
+    EndEach items 0 ports ends.items → HaveEnded m.about.sizes.m items (record { scans = scans; last = last; counts = closed.values; ends = ends })
+ended m p q ports stages scans last closed ends items opens met count own number all watched sees closes each =
+    let o = m.about.opening in
+    let log = closes.log in
+    let line = pipeline m p q ports stages scans last closed opens met count own number all watched sees closes in
+    let notes : List (List Noted) = map (λ (x : PortView). x.notes) ports in
+    let told = ends_told o log notes line items 0 ports ends.items (stages_in m log (length p.seen) 0 ports met closes.each.1) each in
+    let value : (k : ℕ) → k < m.about.sizes.m → slice_index closed.values.items k ≡ value_of o log k = λ k below. closes.values.each k (omega (arith, opens.values)) in
+    record {
+      many = ends_many items 0 ports ends.items each ∙ count;
+      most = λ k below.
+          let same : k ≡ 0 + k = omega arith in
+          let is : slice_index closed.values.items k ≡ value_of o log (0 + k) = subst (λ n. slice_index closed.values.items k ≡ value_of o log n) same (value k below) in
+          let most = (told k (omega (arith, count))).0 in
+          omega (arith, is, most);
+      finished = λ k below f.
+          let same : k ≡ 0 + k = omega arith in
+          let is : slice_index closed.values.items k ≡ value_of o log (0 + k) = subst (λ n. slice_index closed.values.items k ≡ value_of o log n) same (value k below) in
+          is ∙ (told k (omega (arith, count))).1 f;
     }

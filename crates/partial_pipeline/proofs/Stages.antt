@@ -1,5 +1,5 @@
 -- One call more of a stage, of the monitor, and a meeting.
-use Rattle.std.proofs.Common.{ℕ, zero, suc, ◌≡◌, ◌+◌, ◌<◌, ◌≤◌, ◌++◌, List, [], ◌∷◌, length, map, take, get_or, refl, sym, ◌∙◌, ap, subst, inl, inr, Option, Some, append-nil, arith}
+use Rattle.std.proofs.Common.{ℕ, zero, suc, ◌≡◌, ◌+◌, ◌<◌, ◌≤◌, ◌++◌, List, [], ◌∷◌, length, map, take, get_or, refl, sym, ◌∙◌, ap, subst, inl, inr, Option, Some, append-nil, append_assoc, arith}
 use Rattle.std.specs.List.{AllByRecursion}
 use Rattle.partial_model.specs.declared.history.Applied.{Applied}
 use Rattle.partial_model.specs.declared.history.Opening.{Opening}
@@ -11,18 +11,23 @@ use Rattle.partial_model.specs.declared.call.Note.{Note}
 use Rattle.partial_model.specs.declared.call.Note.TheVariants as note
 use Rattle.partial_model.specs.declared.call.Refused.{Refused}
 use Rattle.partial_model.specs.Notes.{Noted, LegalNotes, seen_after}
+use Rattle.partial_model.specs.Entries.{applied_by, entry_of}
 use Rattle.partial_model.specs.Outcome.{places_written, wrote}
 use Rattle.partial_model.proofs.AllLemmas.{all_append, all_weaker}
 use Rattle.partial_model.proofs.WalkLaws.{true_within}
 use Rattle.partial_memory.specs.declared.answers.Updated.{Updated}
+use Rattle.partial_memory.specs.declared.answers.Updated.TheVariants.{Applied as IsApplied, Lost}
 use Rattle.partial_memory.specs.declared.answers.Scanned.{Scanned}
 use Rattle.partial_memory.specs.Calls.{Updates, Reads, Scans, Meets}
-use Rattle.partial_memory.specs.Noting.{NotesMore, noted_update}
+use Rattle.partial_memory.specs.Noting.{NotesMore}
 use Rattle.partial_memory.specs.Ports.{IsOf, IsRefused, MemoryView, PortView}
 use Rattle.partial_memory.proofs.Laws.{calls_note_once}
 use Rattle.partial_pipeline.specs.Pipeline.{AreFrom, HasWorked, Works}
-use Rattle.partial_pipeline.specs.Stages.{HasMet, IsDone, IsWorking, Sees, Watched}
+use Rattle.partial_pipeline.proofs.Pipes.{read_makes_none}
+use Rattle.partial_pipeline.specs.Stages.{EndEach, EndsAt, HasMet, IsDone, IsWorking, Sees, Watched, last_value, published}
 use Rattle.partial_pipeline.specs.declared.stage.Stage.{Stage}
+use Rattle.partial_pipeline.specs.declared.stage.StageEnd.{StageEnd}
+use Rattle.partial_pipeline.specs.declared.stage.StageEnd.TheVariants.{Finished}
 use Rattle.partial_pipeline.specs.declared.stage.Worked.{Worked}
 
 -- ---- the notes of a stage
@@ -47,47 +52,103 @@ works_set k r c (m ∷ ns) r' c' v n w set more most =
       | inr t ↦ inr (t.0, t.1, t.2, t.3, works_set k r t.0 ns r' c' v n t.4 set more most)
     ]
 
+-- ---- what a stage has published
+
+last_append : (d : ℕ) (xs ys : List Applied) → last_value d (xs ++ ys) ≡ last_value (last_value d xs) ys
+last_append d [] ys = refl
+last_append d (x ∷ xs) ys = last_append x.value xs ys
+
+applied_push : (k : ℕ) (ns : List Noted) (n : Noted) → applied_by k (ns ++ n ∷ []) ≡ applied_by k ns ++ entry_of k n.note n.call n.answer
+applied_push k [] n = append-nil (entry_of k n.note n.call n.answer)
+applied_push k (m ∷ ns) n =
+    let first = entry_of k m.note m.call m.answer in
+    ap (λ (l : List Applied). first ++ l) (applied_push k ns n) ∙ sym (append_assoc first (applied_by k ns) (entry_of k n.note n.call n.answer))
+
+published_push : (k : ℕ) (ns : List Noted) (n : Noted) → published k (ns ++ n ∷ []) ≡ last_value (published k ns) (entry_of k n.note n.call n.answer)
+published_push k ns n = ap (last_value 0) (applied_push k ns n) ∙ last_append 0 (applied_by k ns) (entry_of k n.note n.call n.answer)
+
+-- ---- one call more of a stage
+
 -- a stage whose call noted nothing
-pub works_on : (m : MemoryView) (x : Stage) (q : PortView) → IsWorking m x → IsOf m q → NotesMore x.port q [] → IsWorking m (record { port = q; seen = x.seen; count = x.count })
+pub works_on : (m : MemoryView) (x : Stage) (q : PortView) → IsWorking m x → IsOf m q → NotesMore x.port q [] →
+    IsWorking m (record { port = q; items = x.items; seen = x.seen; count = x.count })
 works_on m x q w own n =
+    let number : x.port.number ≡ q.number = sym n.number in
     record {
       own = own;
       from = w.from;
       none = λ some. w.none (subst (λ i. 0 < i) n.number some);
-      works = none_more (λ ns. Works q.number w.from 0 ns x.seen x.count) x.port q n (subst (λ i. Works i w.from 0 x.port.notes x.seen x.count) (sym n.number) w.works);
+      tried = w.tried;
+      works = none_more (λ ns. Works q.number w.from 0 ns x.seen w.tried) x.port q n (subst (λ i. Works i w.from 0 x.port.notes x.seen w.tried) number w.works);
+      next = w.next;
+      held = none_more (λ ns. published q.number ns ≡ x.count) x.port q n (subst (λ i. published i x.port.notes ≡ x.count) number w.held);
+      most = w.most;
+      all = λ zero. w.all (number ∙ zero);
     }
 
 pub works_refused : (m : MemoryView) (x : Stage) (q : PortView) (c : Call) (cause : Refused) → IsWorking m x → IsOf m q → IsRefused x.port c cause q →
-    IsWorking m (record { port = q; seen = x.seen; count = x.count })
+    IsWorking m (record { port = q; items = x.items; seen = x.seen; count = x.count })
 works_refused m x q c cause w own refused = works_on m x q w own (calls_note_once.refused x.port q c cause refused)
 
 -- a stage that has read the count of the stage before
 pub works_look : (m : MemoryView) (x : Stage) (q : PortView) (j v s : ℕ) → IsWorking m x → IsOf m q → x.port.number ≡ j + 1 → Reads x.port j v s q →
-    IsWorking m (record { port = q; seen = v; count = x.count })
+    IsWorking m (record { port = q; items = x.items; seen = v; count = x.count })
 works_look m x q j v s w own is reads =
     let n = calls_note_once.read x.port q j v s reads in
-    let before : Works q.number w.from 0 x.port.notes x.seen x.count = subst (λ i. Works i w.from 0 x.port.notes x.seen x.count) (sym n.1.number) w.works in
+    let number : x.port.number ≡ q.number = sym n.1.number in
     let noted : Noted = record { call = call.Read j; answer = answer.Read v s; note = Some n.0 } in
+    let before : Works q.number w.from 0 x.port.notes x.seen w.tried = subst (λ i. Works i w.from 0 x.port.notes x.seen w.tried) number w.works in
+    let none : published x.port.number (x.port.notes ++ noted ∷ []) ≡ published x.port.number x.port.notes =
+    published_push x.port.number x.port.notes noted ∙ ap (last_value (published x.port.number x.port.notes)) (read_makes_none x.port.number j (Some n.0) (answer.Read v s)) in
+    let held : published x.port.number q.notes ≡ x.count = ap (published x.port.number) n.1.notes ∙ none ∙ w.held in
     record {
       own = own;
       from = w.from;
       none = λ some. w.none (subst (λ i. 0 < i) n.1.number some);
-      works = subst (λ ns. Works q.number w.from 0 ns v x.count) (sym n.1.notes) (works_read q.number w.from 0 x.port.notes x.seen x.count j v s noted before (n.1.number ∙ is) refl refl);
+      tried = w.tried;
+      works = subst (λ ns. Works q.number w.from 0 ns v w.tried) (sym n.1.notes)
+          (works_read q.number w.from 0 x.port.notes x.seen w.tried j v s noted before (n.1.number ∙ is) refl refl);
+      next = w.next;
+      held = subst (λ i. published i q.notes ≡ x.count) number held;
+      most = w.most;
+      all = λ zero. absurd (omega (arith, is, number, zero));
     }
 
--- a stage that has set its count to the next number
-pub works_advance : (m : MemoryView) (x : Stage) (q : PortView) (v : ℕ) (u : Updated) → IsWorking m x → IsOf m q → x.count ≤ v → v ≤ x.seen → Updates x.port x.port.number v u q →
-    IsWorking m (record { port = q; seen = x.seen; count = v })
-works_advance m x q v u w own more most updates =
-    let n = calls_note_once.update x.port q x.port.number v u updates in
-    let noted : Noted = record { call = call.Update x.port.number v; answer = noted_update u; note = Some n.0 } in
-    let one : Works x.port.number w.from 0 (x.port.notes ++ noted ∷ []) x.seen v = works_set x.port.number w.from 0 x.port.notes x.seen x.count v noted w.works refl more most in
+-- a stage that has tried to publish the next number, and has published `count` since
+pub works_tried : (m : MemoryView) (x : Stage) (q : PortView) (v count : ℕ) (n : Noted) → IsWorking m x → IsOf m q → q.number ≡ x.port.number → q.notes ≡ x.port.notes ++ n ∷ [] →
+    n.call ≡ call.Update x.port.number v → v ≡ x.count + 1 → v ≤ x.seen → count ≤ x.items → v ≤ count + 1 →
+    last_value x.count (entry_of x.port.number n.note n.call n.answer) ≡ count → IsWorking m (record { port = q; items = x.items; seen = x.seen; count = count })
+works_tried m x q v count n w own number notes set next most all near gives =
+    let before : x.port.number ≡ q.number = sym number in
+    let more : w.tried ≤ v = omega (arith, w.next, next) in
+    let works : Works x.port.number w.from 0 (x.port.notes ++ n ∷ []) x.seen v = works_set x.port.number w.from 0 x.port.notes x.seen w.tried v n w.works set more most in
+    let held : published x.port.number q.notes ≡ count = ap (published x.port.number) notes ∙ published_push x.port.number x.port.notes n
+    ∙ ap (λ d. last_value d (entry_of x.port.number n.note n.call n.answer)) w.held ∙ gives in
     record {
       own = own;
       from = w.from;
-      none = λ some. w.none (subst (λ i. 0 < i) n.1.number some);
-      works = subst (λ ns. Works q.number w.from 0 ns x.seen v) (sym n.1.notes) (subst (λ i. Works i w.from 0 (x.port.notes ++ noted ∷ []) x.seen v) (sym n.1.number) one);
+      none = λ some. w.none (subst (λ i. 0 < i) number some);
+      tried = v;
+      works = subst (λ ns. Works q.number w.from 0 ns x.seen v) (sym notes) (subst (λ i. Works i w.from 0 (x.port.notes ++ n ∷ []) x.seen v) before works);
+      next = near;
+      held = subst (λ i. published i q.notes ≡ count) before held;
+      most = all;
+      all = λ zero. w.all (before ∙ zero);
     }
+
+-- an update that was applied is what the stage has published
+pub works_applied : (m : MemoryView) (x : Stage) (q : PortView) (v s : ℕ) → IsWorking m x → IsOf m q → v ≡ x.count + 1 → v ≤ x.seen → v ≤ x.items →
+    Updates x.port x.port.number v (IsApplied s) q → IsWorking m (record { port = q; items = x.items; seen = x.seen; count = v })
+works_applied m x q v s w own next most all updates =
+    let noted : Noted = record { call = call.Update x.port.number v; answer = answer.Applied s; note = Some (note.Wrote updates.0) } in
+    works_tried m x q v v noted w own updates.1.goes.number updates.1.goes.notes refl next most all (omega arith) refl
+
+-- a lost one leaves what it has published
+pub works_lost : (m : MemoryView) (x : Stage) (q : PortView) (v by : ℕ) → IsWorking m x → IsOf m q → v ≡ x.count + 1 → v ≤ x.seen →
+    Updates x.port x.port.number v (Lost by) q → IsWorking m (record { port = q; items = x.items; seen = x.seen; count = x.count })
+works_lost m x q v by w own next most updates =
+    let noted : Noted = record { call = call.Update x.port.number v; answer = answer.Lost by; note = Some (note.Lost updates.0) } in
+    works_tried m x q v x.count noted w own updates.1.goes.number updates.1.goes.notes refl next most w.most (omega (arith, next)) refl
 
 pub number_read : (p q : PortView) (j v s : ℕ) → Reads p j v s q → q.number ≡ p.number
 number_read p q j v s w = (calls_note_once.read p q j v s w).1.number
@@ -99,18 +160,22 @@ pub number_refused : (p q : PortView) (c : Call) (cause : Refused) → IsRefused
 number_refused p q c cause w = (calls_note_once.refused p q c cause w).number
 
 -- a stage that has ended
-pub is_done : (m : MemoryView) (x : Stage) (k : ℕ) (w : Worked) → IsWorking m x → x.port.number ≡ k → w.port ≡ x.port → IsDone m k w
-is_done m x k w working number same =
-    let worked : HasWorked k x.port.notes = subst (λ i. HasWorked i x.port.notes) number (record { from = working.from; read = x.seen; count = x.count; none = working.none; works = working.works }) in
+pub is_done : (m : MemoryView) (x : Stage) (k : ℕ) (w : Worked) → IsWorking m x → x.port.number ≡ k → w.port ≡ x.port → (w.end ≡ Finished → x.count ≡ x.items) → IsDone m x.items k w
+is_done m x k w working number same finished =
+    let worked : HasWorked k x.port.notes = subst (λ i. HasWorked i x.port.notes) number (record { from = working.from; read = x.seen; count = working.tried; none = working.none; works = working.works }) in
+    let held : published k x.port.notes ≡ x.count = subst (λ i. published i x.port.notes ≡ x.count) number working.held in
+    let ended : EndsAt x.items k x.port.notes w.end = record { most = omega (arith, held, working.most); finished = λ is. held ∙ finished is } in
     record {
       own = subst (IsOf m) (sym same) working.own;
       number = ap (λ (p : PortView). p.number) same ∙ number;
       worked = subst (λ (p : PortView). HasWorked k p.notes) (sym same) worked;
+      ended = subst (λ (p : PortView). EndsAt x.items k p.notes w.end) (sym same) ended;
     }
 
 -- the same by other names
-pub done_alike : (m v : MemoryView) (k i : ℕ) (w : Worked) → IsDone m k w → v ≡ m → i ≡ k → IsDone v i w
-done_alike m v k i w done memory number = subst (λ (x : MemoryView). IsDone x i w) (sym memory) (subst (λ j. IsDone m j w) (sym number) done)
+pub done_alike : (m v : MemoryView) (all items k i : ℕ) (w : Worked) → IsDone m all k w → v ≡ m → items ≡ all → i ≡ k → IsDone v items i w
+done_alike m v all items k i w done memory same number =
+    subst (λ (x : MemoryView). IsDone x items i w) (sym memory) (subst (λ a. IsDone m a i w) (sym same) (subst (λ j. IsDone m all j w) (sym number) done))
 
 -- ---- the notes of the monitor
 
@@ -130,12 +195,14 @@ watched_sees p q stages counts ss w s =
 pub sees_scan : (p q : PortView) (stages counts : List ℕ) (s : Scanned) → 0 < length stages → length counts ≡ length stages → Scans p stages counts s q → Sees p stages counts q
 sees_scan p q [] counts s some each w = absurd (omega arith)
 sees_scan p q (j ∷ js) counts s some each w =
+    let first = w.1.counts.first in
+    let behind = w.1.behind in
     record {
-      place = w.n;
+      place = w.0;
       collects = s.collects;
       borrowed = s.borrowed;
-      goes = record { memory = w.answered.goes.memory; number = w.answered.goes.number; notes = w.answered.goes.notes };
-      behind = w.answered.new;
+      goes = record { memory = w.1.goes.memory; number = w.1.goes.number; notes = w.1.goes.notes };
+      behind = omega (arith, first, behind);
       each = each;
     }
 
@@ -230,3 +297,22 @@ pub met_more : (m : MemoryView) (s t : ℕ) (ports : List PortView) (p : PortVie
 met_more m s t ports p more w new =
     let same : length ports ≡ 0 + length ports = omega arith in
     from_push (HasMet m t) 0 ports p (from_weaker (HasMet m s) (HasMet m t) (λ k q. met_still m s t k q more) 0 ports w) (subst (λ i. HasMet m t i p) same new)
+
+-- ---- the ends of stages
+
+-- one stage more has ended
+pub ends_more : (items k : ℕ) (ports : List PortView) (ends : List StageEnd) (p : PortView) (e : StageEnd) → EndEach items k ports ends → EndsAt items (k + length ports) p.notes e →
+    EndEach items k (ports ++ p ∷ []) (ends ++ e ∷ [])
+ends_more items k [] [] p e w new = let same : k + 0 ≡ k = omega arith in (subst (λ i. EndsAt items i p.notes e) same new, tt)
+ends_more items k [] (x ∷ xs) p e w new = absurd w
+ends_more items k (q ∷ ps) [] p e w new = absurd w
+ends_more items k (q ∷ ps) (x ∷ xs) p e w new =
+    let same : k + suc (length ps) ≡ k + 1 + length ps = omega arith in
+    (w.0, ends_more items (k + 1) ps xs p e w.1 (subst (λ i. EndsAt items i p.notes e) same new))
+
+-- there is one for each port
+pub ends_many : (items k : ℕ) (ports : List PortView) (ends : List StageEnd) → EndEach items k ports ends → length ends ≡ length ports
+ends_many items k [] [] w = refl
+ends_many items k [] (x ∷ xs) w = absurd w
+ends_many items k (p ∷ ps) [] w = absurd w
+ends_many items k (p ∷ ps) (x ∷ xs) w = ap suc (ends_many items (k + 1) ps xs w.1)

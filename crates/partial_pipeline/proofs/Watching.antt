@@ -13,11 +13,12 @@ use Rattle.partial_memory.specs.Ports.{IsOf, MemoryView, PortView, new_ports}
 use Rattle.partial_memory.specs.Rule.{newcomers}
 use Rattle.partial_memory.proofs.Laws.{calls_note_once}
 use Rattle.partial_pipeline.specs.Pipeline.{AreFrom, HasWorked}
-use Rattle.partial_pipeline.specs.Stages.{HasMet, IsDone, IsNew, IsOpened, IsStarted, IsWatching, Sees, Watched}
+use Rattle.partial_pipeline.specs.Stages.{EndEach, EndsAt, HasMet, IsDone, IsNew, IsOpened, IsStarted, IsWatching, Sees, Watched}
 use Rattle.partial_pipeline.specs.declared.monitor.Monitor.{Monitor}
 use Rattle.partial_pipeline.specs.declared.run.Works.{Works as Promised}
+use Rattle.partial_pipeline.specs.declared.stage.StageEnd.{StageEnd}
 use Rattle.partial_pipeline.specs.declared.stage.Worked.{Worked}
-use Rattle.partial_pipeline.proofs.Stages.{done_alike, from_front, from_get, has_met, met_more, none_more, seen_grows, watched_sees}
+use Rattle.partial_pipeline.proofs.Stages.{done_alike, ends_more, from_front, from_get, has_met, met_more, none_more, seen_grows, watched_sees}
 
 -- ---- the monitor
 
@@ -79,21 +80,30 @@ watching_met m x b c d w own meets =
 -- ---- the threads
 
 -- a thread that was started for a stage has come to its end
-pub started_done : (m : MemoryView) (n : ℕ) (all : List (PromisedHandle Worked Promised)) (h : PromisedHandle Worked Promised) (w : Worked) → AreFrom (IsStarted m) 0 all → n < length all →
-    h ≡ get_or all n h → IsDone h.promise.memory.value h.promise.stage w → IsDone m n w
-started_done m n all h w started within is kept =
-    let s = from_get (IsStarted m) 0 n all h started within is in
+pub started_done : (m : MemoryView) (items n : ℕ) (all : List (PromisedHandle Worked Promised)) (h : PromisedHandle Worked Promised) (w : Worked) → AreFrom (IsStarted m items) 0 all →
+    n < length all → h ≡ get_or all n h → IsDone h.promise.memory.value h.promise.items h.promise.stage w → IsDone m items n w
+started_done m items n all h w started within is kept =
+    let s = from_get (IsStarted m items) 0 n all h started within is in
     let number : n ≡ h.promise.stage = omega (arith, s.number) in
-    done_alike h.promise.memory.value m h.promise.stage n w kept (sym s.memory) number
+    done_alike h.promise.memory.value m h.promise.items items h.promise.stage n w kept (sym s.memory) (sym s.all) number
 
 -- one stage more has ended and met the monitor
-pub joined_more : (m : MemoryView) (x : Monitor) (ports after : List PortView) (b c d : PortView) (n : ℕ) (w : Worked) → AreFrom (HasMet m (length x.port.seen)) 0 ports → length ports ≡ n →
-    IsDone m n w → b ≡ w.port → IsOf m d → Meets x.port b c d → after ≡ ports ++ d ∷ [] → AreFrom (HasMet m (length c.seen)) 0 after
-joined_more m x ports after b c d n w had many done same own meets is =
+pub joined_more : (m : MemoryView) (x : Monitor) (ports after : List PortView) (b c d : PortView) (items n : ℕ) (w : Worked) → AreFrom (HasMet m (length x.port.seen)) 0 ports → length ports ≡ n →
+    IsDone m items n w → b ≡ w.port → IsOf m d → Meets x.port b c d → after ≡ ports ++ d ∷ [] → AreFrom (HasMet m (length c.seen)) 0 after
+joined_more m x ports after b c d items n w had many done same own meets is =
     let number : b.number ≡ length ports = ap (λ (p : PortView). p.number) same ∙ done.number ∙ sym many in
     let worked = subst (λ (p : PortView). HasWorked n p.notes) (sym same) done.worked in
     let new = has_met m (length ports) x.port b c d own number (subst (λ i. HasWorked i b.notes) (sym many) worked) meets in
     subst (AreFrom (HasMet m (length c.seen)) 0) (sym is) (met_more m (length x.port.seen) (length c.seen) ports d (seen_grows x.port b c d meets) had new)
+
+-- and the end of that stage stands behind those of the others
+pub ended_more : (m : MemoryView) (x : Monitor) (ports after : List PortView) (ends ended : List StageEnd) (b c d : PortView) (items n : ℕ) (w : Worked) → EndEach items 0 ports ends →
+    length ports ≡ n → IsDone m items n w → b ≡ w.port → Meets x.port b c d → after ≡ ports ++ d ∷ [] → ended ≡ ends ++ w.end ∷ [] → EndEach items 0 after ended
+ended_more m x ports after ends ended b c d items n w had many done same meets is ends_is =
+    let notes : d.notes ≡ w.port.notes = ap (λ (p : PortView). p.notes) meets.second ∙ ap (λ (p : PortView). p.notes) same in
+    let number : n ≡ 0 + length ports = omega (arith, many) in
+    let at : EndsAt items (0 + length ports) d.notes w.end = subst (λ i. EndsAt items i d.notes w.end) number (subst (λ ns. EndsAt items n ns w.end) (sym notes) done.ended) in
+    subst (λ l. EndEach items 0 l ended) (sym is) (subst (EndEach items 0 (ports ++ d ∷ [])) (sym ends_is) (ends_more items 0 ports ends d w.end had at))
 
 -- a new port at a place
 pub new_at : (m : MemoryView) (n : ℕ) (all : List PortView) (p : PortView) → AreFrom (IsNew m) 0 all → n < length all → p ≡ get_or all n p → IsNew m n p

@@ -1,5 +1,5 @@
 -- What a pipeline promises of its counts, and why: what each stage notes, and what then holds in the history that all ports share.
-use Rattle.std.specs.Prelude.{ℕ, ◌≡◌, ◌+◌, ◌<◌, ◌≤◌, ◌⊎◌, ⊤, List, [], ◌∷◌, ◌++◌, length, map, take, slice_index, Option, Some, None, IfSome}
+use Rattle.std.specs.Prelude.{ℕ, ◌≡◌, ◌+◌, ◌<◌, ◌≤◌, ◌⊎◌, ⊤, List, [], ◌∷◌, ◌++◌, length, map, take, slice_get, slice_index, Option, Some, None, IfSome}
 use Rattle.std.specs.List.{AllByRecursion}
 use Rattle.std.specs.declared.alloc.Global.{Global}
 use Rattle.std.specs.declared.vec.Vec.{Vec}
@@ -13,6 +13,7 @@ use Rattle.partial_model.specs.Outcome.{EachOnce}
 use Rattle.partial_pipeline.specs.declared.error.PipelineError.{PipelineError}
 use Rattle.partial_pipeline.specs.declared.error.PipelineError.TheVariants.{Ports, Memory}
 use Rattle.partial_pipeline.specs.declared.report.PipelineReport.{PipelineReport}
+use Rattle.partial_pipeline.specs.declared.stage.StageEnd.TheVariants.{Finished}
 
 -- each count is at most that of the stage before it
 abbrev pub AreOrdered : List ℕ → Type 0
@@ -43,6 +44,13 @@ pub record IsOrderly (stages : ℕ) (r : PipelineReport) : Type 0 where
   pub ordered : AllByRecursion AreOrdered (all_counts r)
   pub rising : NeverFall (all_counts r)
   pub last : IfSome r.last (λ counts. counts.items ≡ r.counts.items)
+
+-- How the stages of a report ended: there is one end for each, no count passes the number of items, and the count of a stage that has
+-- finished is that number.
+pub record HaveEnded (stages items : ℕ) (r : PipelineReport) : Type 0 where
+  pub many : length r.ends.items ≡ stages
+  pub most : (k : ℕ) → k < stages → slice_index r.counts.items k ≤ items
+  pub finished : (k : ℕ) → k < stages → slice_get r.ends.items k ≡ Some Finished → slice_index r.counts.items k ≡ items
 
 -- why a pipeline of so many stages may not run: Ports where there are more than 63, and Memory only where there aren't
 abbrev pub MayNotRun : ℕ → PipelineError → Type 0

@@ -8,6 +8,8 @@ use Rattle.std.specs.declared.thread.PromisedHandle.{PromisedHandle}
 use Rattle.partial_model.specs.declared.call.Call.TheVariants as call
 use Rattle.partial_model.specs.declared.call.Answer.TheVariants as answer
 use Rattle.partial_model.specs.declared.call.Note.TheVariants as note
+use Rattle.partial_model.specs.declared.history.Applied.{Applied}
+use Rattle.partial_model.specs.Entries.{applied_by}
 use Rattle.partial_model.specs.Notes.{Noted}
 use Rattle.partial_model.specs.Outcome.{places_written}
 use Rattle.partial_memory.specs.Noting.{NotesMore}
@@ -18,6 +20,8 @@ use Rattle.partial_pipeline.specs.declared.monitor.Monitor.{Monitor}
 use Rattle.partial_pipeline.specs.declared.run.Joined.{Joined}
 use Rattle.partial_pipeline.specs.declared.run.Works.{Works as Promised}
 use Rattle.partial_pipeline.specs.declared.stage.Stage.{Stage}
+use Rattle.partial_pipeline.specs.declared.stage.StageEnd.{StageEnd}
+use Rattle.partial_pipeline.specs.declared.stage.StageEnd.TheVariants.{Finished}
 use Rattle.partial_pipeline.specs.declared.stage.Worked.{Worked}
 
 -- the port of number k, which has made no call
@@ -39,22 +43,43 @@ pub record IsOpened (m : MemoryView) (all : List PortView) : Type 0 where
   pub opens : Opens m
   pub ports : all ≡ new_ports m.table (newcomers m.about 0 (m.about.sizes.m + 1))
 
--- a stage at work
+-- the value of the last of the entries, or this one where there are none
+abbrev pub last_value : ℕ → List Applied → ℕ
+last_value d [] = d
+last_value d (e ∷ es) = last_value e.value es
+
+-- the count that the notes of stage k last published
+abbrev pub published : ℕ → List Noted → ℕ
+published k ns = last_value 0 (applied_by k ns)
+
+-- A stage at work: its count is what it published last, and what it has tried to publish is at most one more.
 pub record IsWorking (m : MemoryView) (s : Stage) : Type 0 where
   pub own : IsOf m s.port
   pub from : ℕ
   pub none : 0 < s.port.number → from ≡ 0
-  pub works : Works s.port.number from 0 s.port.notes s.seen s.count
+  pub tried : ℕ
+  pub works : Works s.port.number from 0 s.port.notes s.seen tried
+  pub next : tried ≤ s.count + 1
+  pub held : published s.port.number s.port.notes ≡ s.count
+  pub most : s.count ≤ s.items
+  pub all : s.port.number ≡ 0 → s.seen ≡ s.items
+
+-- what a stage of so many items has published when it ends
+pub record EndsAt (items k : ℕ) (ns : List Noted) (end : StageEnd) : Type 0 where
+  pub most : published k ns ≤ items
+  pub finished : end ≡ Finished → published k ns ≡ items
 
 -- stage k has ended
-pub record IsDone (m : MemoryView) (k : ℕ) (w : Worked) : Type 0 where
+pub record IsDone (m : MemoryView) (items k : ℕ) (w : Worked) : Type 0 where
   pub own : IsOf m w.port
   pub number : w.port.number ≡ k
   pub worked : HasWorked k w.port.notes
+  pub ended : EndsAt items k w.port.notes w.end
 
 -- a thread was started for stage k
-pub record IsStarted (m : MemoryView) (k : ℕ) (h : PromisedHandle Worked Promised) : Type 0 where
+pub record IsStarted (m : MemoryView) (items k : ℕ) (h : PromisedHandle Worked Promised) : Type 0 where
   pub memory : h.promise.memory.value ≡ m
+  pub all : h.promise.items ≡ items
   pub number : h.promise.stage ≡ k
 
 -- the numbers of so many stages, in order
@@ -104,8 +129,15 @@ pub record HasMet (m : MemoryView) (seen k : ℕ) (p : PortView) : Type 0 where
   pub worked : HasWorked k p.notes
   pub within : AllByRecursion (λ i. i < seen) (places_written p.notes)
 
+-- each port with the end of its stage, from stage k on
+abbrev pub EndEach : ℕ → ℕ → List PortView → List StageEnd → Type 0
+EndEach items k [] [] = ⊤
+EndEach items k (p ∷ ps) (e ∷ es) = EndsAt items k p.notes e × EndEach items (k + 1) ps es
+EndEach items k _ _ = ⊥
+
 -- so many stages have ended and met the monitor
-pub record HaveMet (m : MemoryView) (stages : ℕ) (r : Joined) : Type 0 where
+pub record HaveMet (m : MemoryView) (items stages : ℕ) (r : Joined) : Type 0 where
   pub watching : IsWatching m r.monitor
   pub each : AreFrom (HasMet m (length r.monitor.port.seen)) 0 r.ports.items
   pub count : length r.ports.items ≡ stages
+  pub ended : EndEach items 0 r.ports.items r.ends.items

@@ -2,7 +2,7 @@
 
 ghost use Rattle.std.specs.Prelude.{◌≡◌, ◌<◌, ◌≤◌, ◌+◌, [], length, IfOk, IfErr};
 ghost use Rattle.std.specs.Vec.{vec_capacity};
-ghost use Rattle.partial_pipeline.specs.Pipeline.{AreFrom, IsOrderly, MayNotRun};
+ghost use Rattle.partial_pipeline.specs.Pipeline.{AreFrom, HaveEnded, IsOrderly, MayNotRun};
 ghost use Rattle.partial_pipeline.specs.Stages.{HaveMet, IsDone, IsNew, IsOpened, IsStarted, IsWatching, IsWorking, Opens};
 
 use crate::error::PipelineError;
@@ -23,13 +23,14 @@ use std::thread::{Promise, PromisedHandle, Scope, Threads};
 #[derive(Drop)]
 struct Works {
     memory: Snapshot<Memory>,
+    items: u64,
     stage: u32,
 }
 
 impl Promise<Worked> for Works {
     ghost use Rattle.partial_pipeline.specs.Stages.{IsDone};
 
-    ghost kept_by = { λ p w. IsDone p.memory.value p.stage w };
+    ghost kept_by = { λ p w. IsDone p.memory.value p.items p.stage w };
 }
 
 // The monitor, and the ports of stages that have ended, which have met it.
@@ -61,19 +62,20 @@ fn start<'s, 'e, W: Work>(
 ) -> Result<Vec<PromisedHandle<Worked, Works>>, AllocError>
     requires new { AreFrom (IsNew memory.now) 0 ports.items }
     requires room { (started.items ≡ []) × (length ports.items ≤ vec_capacity started) }
-    ensures started { IfOk result (λ handles. AreFrom (IsStarted memory.now) 0 handles.items) }
+    ensures started { IfOk result (λ handles. AreFrom (IsStarted memory.now items) 0 handles.items) }
     ensures count { IfOk result (λ handles. length handles.items ≡ length ports.items) }
 {
     for port in ports {
         let promise = Works {
             memory: Snapshot::of(memory),
+            items,
             stage: port.number(),
         };
         let stage = Stage::new(memory, port, items);
         let run = move || -> Worked
             requires { IsWorking memory.now stage }
-            ensures { IsDone memory.entry.now stage.port.number result }
-        { stage.run(memory, items, ended, work) };
+            ensures { IsDone memory.entry.now stage.items stage.port.number result }
+        { stage.run(memory, ended, work) };
         started.push_reserved(scope.spawn_with(promise, run)?);
     }
     Ok(started)
@@ -83,16 +85,18 @@ fn start<'s, 'e, W: Work>(
 fn join<R: Threads>(
     rt: &R,
     memory: &Memory,
+    items: u64,
     started: Vec<PromisedHandle<Worked, Works>>,
     mut joined: Joined,
 ) -> Joined
-    requires started { AreFrom (IsStarted memory.now) 0 started.items }
+    requires started { AreFrom (IsStarted memory.now items) 0 started.items }
     requires watching { IsWatching memory.now joined.monitor }
     requires empty { (joined.ports.items ≡ []) × (joined.ends.items ≡ []) }
     requires room { (length started.items ≤ vec_capacity joined.ports) ×
         (length started.items ≤ vec_capacity joined.ends) }
-    ensures { HaveMet memory.now (length started.items) result }
+    ensures { HaveMet memory.now items (length started.items) result }
 {
+    let _all = items;
     for handle in started {
         let Worked { mut port, end } = handle.join(rt);
         memory.meet(&mut joined.monitor.port, &mut port);
@@ -103,11 +107,18 @@ fn join<R: Threads>(
 }
 
 // Scans once more, and closes the memory with all ports.
-fn close(alloc: Global, memory: Memory, joined: Joined) -> Result<PipelineReport, AllocError>
+fn close(
+    alloc: Global,
+    memory: Memory,
+    items: u64,
+    joined: Joined,
+) -> Result<PipelineReport, AllocError>
     requires opens { Opens memory }
-    requires met { HaveMet memory memory.about.sizes.m joined }
-    ensures { IfOk result (IsOrderly memory.about.sizes.m) }
+    requires met { HaveMet memory items memory.about.sizes.m joined }
+    ensures orderly { IfOk result (IsOrderly memory.about.sizes.m) }
+    ensures ended { IfOk result (HaveEnded memory.about.sizes.m items) }
 {
+    let _all = items;
     let Joined {
         monitor,
         ports,
@@ -144,7 +155,8 @@ fn run_on<R: Threads + Wait + Sync, W: Work, V: Watch>(
     watch: &mut V,
 ) -> Result<PipelineReport, AllocError>
     requires { IsOpened memory ports.items }
-    ensures { IfOk result (IsOrderly memory.about.sizes.m) }
+    ensures orderly { IfOk result (IsOrderly memory.about.sizes.m) }
+    ensures ended { IfOk result (HaveEnded memory.about.sizes.m items) }
 {
     let Some(port) = ports.pop() else {
         unreachable!();
@@ -171,14 +183,14 @@ fn run_on<R: Threads + Wait + Sync, W: Work, V: Watch>(
             requires empty { (joined.ports.items ≡ []) × (joined.ends.items ≡ []) }
             requires ports { length ports.items ≤ vec_capacity joined.ports }
             requires ends { length ports.items ≤ vec_capacity joined.ends }
-            ensures { IfOk result (HaveMet lent.entry.now lent.entry.now.about.sizes.m) }
+            ensures { IfOk result (HaveMet lent.entry.now items lent.entry.now.about.sizes.m) }
         {
             let started = start(scope, lent, items, over, work, ports, started)?;
             joined.monitor = joined.monitor.watch(lent, over, watch);
-            Ok(join(rt, lent, started, joined))
+            Ok(join(rt, lent, items, started, joined))
         },
     )?;
-    close(alloc, memory, joined)
+    close(alloc, memory, items, joined)
 }
 
 /// Runs a pipeline of as many stages as `sizes` has components, each in a thread of its own, over a memory
@@ -191,6 +203,8 @@ fn run_on<R: Threads + Wait + Sync, W: Work, V: Watch>(
 /// no count falls. When all stages have ended their ports meet the monitor's, which scans once more, and the
 /// memory is closed with all ports. That last scan, unless it is refused, gives the very counts with which the
 /// memory is closed.
+///
+/// There is one end for each stage. No count passes `items`, and that of a stage that has finished is `items`.
 ///
 /// A stage whose update is refused, since the pool is spent, ends, and the stages behind it end when they have
 /// worked on what was left. All memory but that of closing is taken before the first thread starts.
@@ -210,6 +224,7 @@ pub fn run_pipeline<R: Threads + Wait + Sync, W: Work, V: Watch>(
     watch: &mut V,
 ) -> Result<PipelineReport, PipelineError>
     ensures ok { IfOk result (IsOrderly sizes.m) }
+    ensures ended { IfOk result (HaveEnded sizes.m items) }
     ensures many { IfOk result (λ _. sizes.m ≤ 63) }
     ensures err { IfErr result (MayNotRun sizes.m) }
 {

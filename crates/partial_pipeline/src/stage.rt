@@ -1,11 +1,12 @@
 //! One stage at work, in a thread of its own.
 
-ghost use Rattle.std.specs.Prelude.{◌≡◌, ◌+◌, ◌<◌};
+ghost use Rattle.std.specs.Prelude.{◌≡◌, ◌+◌, ◌<◌, Some};
 ghost use Rattle.partial_memory.specs.Ports.{IsOf};
 ghost use Rattle.partial_pipeline.specs.Stages.{IsDone, IsNew, IsWorking};
+ghost use Rattle.partial_pipeline.specs.declared.stage.StageEnd.TheVariants.{Finished};
 
 use crate::work::Work;
-use partial_memory::{Memory, Port};
+use partial_memory::{Memory, Port, Updated};
 use partial_model::Refused;
 use std::sync::atomic::{AtomicBool, Ordering};
 use std::thread;
@@ -28,10 +29,12 @@ pub struct Worked {
     pub end: StageEnd,
 }
 
-/// A stage: its port, how far it has read that the stage before it has come, and how far it has come.
+/// A stage: its port, how many items there are, how far it has read that the stage before it has come, and how far
+/// it has come.
 #[derive(Drop)]
 pub struct Stage {
     pub port: Port,
+    pub items: u64,
     pub seen: u64,
     pub count: u64,
 }
@@ -42,30 +45,26 @@ impl Stage {
         requires { IsNew memory.now port.number port }
         ensures working { IsWorking memory.now result }
         ensures number { result.port.number ≡ port.number }
+        ensures items { result.items ≡ items }
     {
         let _of = memory;
         let seen = if port.number() == 0 { items } else { 0 };
         Stage {
             port,
+            items,
             seen,
             count: 0,
         }
     }
 
     /// Works on all items, as far as they come from the stage before, and says that it has ended.
-    pub fn run<W: Work>(
-        mut self,
-        memory: &Memory,
-        items: u64,
-        ended: &[AtomicBool],
-        work: &W,
-    ) -> Worked
+    pub fn run<W: Work>(mut self, memory: &Memory, ended: &[AtomicBool], work: &W) -> Worked
         requires { IsWorking memory.now self }
-        ensures { IsDone memory.now self.port.number result }
+        ensures { IsDone memory.now self.items self.port.number result }
     {
         let mut end = StageEnd::Stopped;
         for _turn in 0..u64::MAX {
-            if let Some(reason) = self.turn(memory, items, ended, work) {
+            if let Some(reason) = self.turn(memory, ended, work) {
                 end = reason;
                 break;
             }
@@ -81,18 +80,14 @@ impl Stage {
 
     // One turn: the next item, or a look at the stage before where there is none. Why the stage ends, if it
     // does.
-    fn turn<W: Work>(
-        &mut self,
-        memory: &Memory,
-        items: u64,
-        ended: &[AtomicBool],
-        work: &W,
-    ) -> Option<StageEnd>
+    fn turn<W: Work>(&mut self, memory: &Memory, ended: &[AtomicBool], work: &W) -> Option<StageEnd>
         requires { IsWorking memory.now self.old }
         ensures working { IsWorking memory.now self.new }
         ensures number { self.new.port.number ≡ self.old.port.number }
+        ensures items { self.new.items ≡ self.old.items }
+        ensures finished { result ≡ Some Finished → self.new.count ≡ self.new.items }
     {
-        if self.count >= items {
+        if self.count >= self.items {
             return Some(StageEnd::Finished);
         }
         if self.count < self.seen {
@@ -116,18 +111,22 @@ impl Stage {
         None
     }
 
-    // Works on the next item, and publishes the count then.
+    // Works on the next item, and publishes the count then. The count is what the component holds, so one that
+    // another port had overwritten would be published again.
     fn advance<W: Work>(&mut self, memory: &Memory, work: &W) -> Result<(), Refused>
         requires working { IsWorking memory.now self.old }
         requires next { self.old.count < self.old.seen }
+        requires more { self.old.count < self.old.items }
         ensures working { IsWorking memory.now self.new }
         ensures number { self.new.port.number ≡ self.old.port.number }
+        ensures items { self.new.items ≡ self.old.items }
     {
         let stage = self.port.number();
         let next = self.count + 1;
         work.work(stage, next);
-        memory.update(&mut self.port, stage, next)?;
-        self.count = next;
+        if let Updated::Applied { .. } = memory.update(&mut self.port, stage, next)? {
+            self.count = next;
+        }
         Ok(())
     }
 
@@ -137,6 +136,7 @@ impl Stage {
         requires before { self.old.port.number ≡ before + 1 }
         ensures working { IsWorking memory.now self.new }
         ensures number { self.new.port.number ≡ self.old.port.number }
+        ensures items { self.new.items ≡ self.old.items }
     {
         if let Ok((count, _stamp)) = memory.read(&mut self.port, before) {
             self.seen = count;

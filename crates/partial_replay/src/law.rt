@@ -6,14 +6,14 @@ ghost use Rattle.partial_replay.specs.OneOutcome.{PlansHaveOneOutcome};
 ghost use Rattle.partial_replay.specs.ScanSteps.{AnsweredScansMakeTheirSteps};
 
 /// In the replay of a plan with one port no update is lost, each scan and read answers the whole
-/// history so far, and a conditional update is applied exactly where its component has the expected
+/// history so far, and a conditional update is applied exactly when its component has the expected
 /// stamp. Refused and unfinished calls aside.
 pub fn one_port_is_alone()
     ensures { OnePortIsAlone }
 {}
 
 /// In the replay of a plan an answered scan of r positions, r at least 1, that made c collects has made
-/// `r (c + 2) + 5` steps, or, where it borrowed a view of which it loaded n pairs, at most
+/// `r (c + 2) + 5` steps, or, when it borrowed a view of which it loaded n pairs, at most
 /// `r (c + 1) + 2 n + 7`. The pairs are those of its own events in the trace: behind those of the calls
 /// of its port in front of it, as many as it has steps.
 pub fn answered_scans_make_their_steps()

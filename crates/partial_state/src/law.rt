@@ -66,7 +66,7 @@ pub fn leaves_are_kept()
     ensures { LeavesAreKept }
 {}
 
-/// An exchange of the list head: where it is won the list that the port has written is published, and
+/// An exchange of the list head: when it is won the list that the port has written is published, and
 /// else it is given up.
 pub fn publishings_are_kept()
     ensures { PublishingsAreKept }

@@ -3,8 +3,6 @@ use Rattle.std.specs.Prelude.{ℕ, ◌+◌, List, [], ◌∷◌, ◌++◌, lengt
 use Rattle.std.specs.List.{flat_map, range_with_len}
 use Rattle.partial_model.specs.declared.history.Applied.{Applied}
 use Rattle.partial_model.specs.declared.history.Opening.{Opening}
-use Rattle.partial_model.specs.declared.call.Refused.{Refused}
-use Rattle.partial_model.specs.declared.call.Refused.TheVariants as refused
 use Rattle.partial_model.specs.declared.call.Answer.{Answer}
 use Rattle.partial_model.specs.declared.call.Answer.TheVariants as answer
 use Rattle.partial_model.specs.declared.call.Note.{Note}
@@ -12,6 +10,7 @@ use Rattle.partial_model.specs.declared.call.Finish.{Finish}
 use Rattle.partial_model.specs.declared.call.Called.{Called}
 use Rattle.partial_model.specs.History.{value_of}
 use Rattle.partial_model.specs.Notes.{place_of}
+use Rattle.partial_model.specs.Refusals.{refused_code}
 use Rattle.partial_text.specs.PlanText.{number_field}
 
 -- an entry of the history at its place
@@ -30,12 +29,6 @@ abbrev pub optional_field : Option ℕ → List ℕ
 optional_field None = codes " -"
 optional_field (Some n) = number_field n
 
--- the number of a refusal
-abbrev pub refusal_of : Refused → ℕ
-refusal_of refused.Component = 7
-refusal_of refused.SlotsSpent = 8
-refusal_of refused.PoolSpent = 9
-
 -- the place or the prefix that a note tells, and 0 where there is no note
 abbrev pub told_place : Option Note → ℕ
 told_place None = 0
@@ -47,7 +40,7 @@ answer_front (answer.Applied t) = codes " applied" ++ number_field t
 answer_front (answer.Lost t) = codes " lost" ++ number_field t
 answer_front (answer.Scanned vs c b) = codes " scanned" ++ flat_map number_field vs
 answer_front (answer.Read v t) = codes " read" ++ number_field v ++ number_field t
-answer_front (answer.Refused r) = codes " refused" ++ number_field (refusal_of r)
+answer_front (answer.Refused r) = codes " refused" ++ number_field (refused_code r)
 answer_front (answer.Changed t) = codes " changed" ++ number_field t
 
 -- the place or the prefix of an answer, and nothing for a refusal

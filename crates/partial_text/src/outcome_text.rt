@@ -3,11 +3,11 @@
 ghost use Rattle.std.specs.Prelude.{◌≡◌, ◌++◌, ◌∷◌, [], List, ℕ, decimal, codes, OnOk, IfOk};
 ghost use Rattle.std.specs.List.{flat_map};
 ghost use Rattle.partial_text.specs.PlanText.{number_field};
-ghost use Rattle.partial_text.specs.OutcomeText.{entry_line, entry_lines, optional_field, refusal_of, told_place, answer_front, place_field, answer_back, answer_text, finish_text, ended_of, call_line, values_of, values_line, total_line, outcome_text};
+ghost use Rattle.partial_text.specs.OutcomeText.{entry_line, entry_lines, optional_field, told_place, answer_front, place_field, answer_back, answer_text, finish_text, ended_of, call_line, values_of, values_line, total_line, outcome_text};
 
 use crate::outcome::Outcome;
 use itoa::Buffer;
-use partial_model::{Answer, Applied, Called, Finish, Note, Opening, Refused};
+use partial_model::{Answer, Applied, Called, Finish, Note, Opening};
 use std::alloc::{AllocError, Global};
 
 /// Writes a space and the number.
@@ -55,17 +55,6 @@ fn push_entry(text: &mut Vec<u8>, place: usize, entry: &Applied) -> Result<(), A
     Ok(())
 }
 
-/// The number of a call's refusal: 7 for an index, 8 for the slots, 9 for the pool.
-fn refusal_code(cause: Refused) -> u8
-    ensures { result ≡ refusal_of cause }
-{
-    match cause {
-        Refused::Component => 7,
-        Refused::SlotsSpent => 8,
-        Refused::PoolSpent => 9,
-    }
-}
-
 fn place(note: Option<Note>) -> usize
     ensures { result ≡ told_place note }
 {
@@ -100,7 +89,7 @@ pub(crate) fn push_answer_front(text: &mut Vec<u8>, answer: &Answer) -> Result<(
             push_field(text, b" read", *value)?;
             push_number(text, *stamp)
         }
-        Answer::Refused { cause } => push_field(text, b" refused", u64::from(refusal_code(*cause))),
+        Answer::Refused { cause } => push_field(text, b" refused", u64::from(cause.code())),
         Answer::Changed { by } => push_field(text, b" changed", *by),
     }
 }

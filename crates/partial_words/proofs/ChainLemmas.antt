@@ -10,7 +10,7 @@ use Rattle.partial_model.specs.History.{last_from, initial_stamp, stamp_of, valu
 use Rattle.partial_model.proofs.HistoryLemmas.{stamp_of-push}
 use Rattle.partial_words.specs.Record.{view_word, prev_of, value_of}
 use Rattle.partial_words.specs.declared.record.Link.{Link}
-use Rattle.partial_words.specs.Chain.{IsLink, IsChain, links_from, chain_of, Agrees, LieWithin}
+use Rattle.partial_words.specs.Chain.{IsLink, IsChain, links_from, chain_of, Agrees, LastEntriesHeadChains, LieWithin}
 
 -- the step to another word leaves the record
 pub record IsElsewhere (w : ℕ) (stamp : ℕ) : Type 0 where
@@ -50,6 +50,16 @@ pub links_from-push : (found : List Link) (j : ℕ) (h : List Applied) (e : Appl
 unfolding links_from
 links_from-push found j [] e = refl
 links_from-push found j (x ∷ h) e = links_from-push (cond (x.component == j) (record { stamp = x.stamp; value = x.value } ∷ found) found) j h e
+
+no_links : (found : List Link) (j : ℕ) → links_from found j [] ≡ found
+unfolding links_from
+no_links found j = refl
+
+pub last_entries_head_chains : LastEntriesHeadChains
+last_entries_head_chains = record {
+  entry = λ o j h e. links_from-push (record { stamp = initial_stamp o j; value = get_or o.values j 0 } ∷ []) j h e;
+  none = λ o j. no_links (record { stamp = initial_stamp o j; value = get_or o.values j 0 } ∷ []) j;
+}
 
 -- what holds of each entry's stamp and of the links before holds of each link
 links_all_step : (P : ℕ → Type 0) (found : List Link) (x : Applied) (b : Bool) → P x.stamp → AllByRecursion (λ l. P l.stamp) found →

@@ -1,5 +1,5 @@
 -- The chain of records of a component, and when words agree with a history.
-use Rattle.std.specs.Prelude.{ℕ, ◌≡◌, ◌-◌, ◌/◌, ◌%◌, ◌<◌, ◌==◌, List, [], ◌∷◌, length, slice_index, slice_get, Some, nat_lt, if◌then◌else◌}
+use Rattle.std.specs.Prelude.{ℕ, ◌≡◌, ◌-◌, ◌/◌, ◌%◌, ◌<◌, ◌==◌, List, [], ◌∷◌, ◌++◌, length, slice_index, slice_get, Some, nat_lt, if◌then◌else◌}
 use Rattle.partial_model.specs.declared.history.Applied.{Applied}
 use Rattle.partial_model.specs.declared.history.Opening.{Opening}
 use Rattle.partial_model.specs.History.{initial_stamp, stamp_of}
@@ -27,6 +27,12 @@ links_from found j (e ∷ h) = links_from (if e.component == j then record { sta
 -- the entries for component j, newest first, and then its initial record
 abbrev pub chain_of : Opening → ℕ → List Applied → List Link
 chain_of o j h = links_from (record { stamp = initial_stamp o j; value = slice_index o.values j } ∷ []) j h
+
+-- the last entry of a history is the newest record of its component, and no record of another; before the first there is the initial one
+pub record LastEntriesHeadChains : Type 0 where
+  pub entry : (o : Opening) (j : ℕ) (h : List Applied) (e : Applied) →
+      chain_of o j (h ++ e ∷ []) ≡ (if e.component == j then record { stamp = e.stamp; value = e.value } ∷ chain_of o j h else chain_of o j h)
+  pub none : (o : Opening) (j : ℕ) → chain_of o j [] ≡ record { stamp = initial_stamp o j; value = slice_index o.values j } ∷ []
 
 -- each component word names the last record of its component, and its chain is that of the history
 abbrev pub Agrees : Opening → List ℕ → List Applied → Type 0

@@ -1,7 +1,7 @@
 //! Laws about the words. The functions have no code: their contracts hold of the definitions.
 
 ghost use Rattle.partial_words.specs.Announcement.{AnnouncementsReadBack};
-ghost use Rattle.partial_words.specs.Chain.{OpeningWordsAgree, RecordsLieWithin};
+ghost use Rattle.partial_words.specs.Chain.{LastEntriesHeadChains, OpeningWordsAgree, RecordsLieWithin};
 ghost use Rattle.partial_words.specs.Layout.{RegionsAreApart};
 ghost use Rattle.partial_words.specs.Record.{RecordsReadBack};
 ghost use Rattle.partial_words.specs.VacatedList.{ListsReadBack};
@@ -14,6 +14,12 @@ pub fn regions_are_apart()
 /// The words at opening agree with the empty history: each component word names its initial record.
 pub fn opening_words_agree()
     ensures { OpeningWordsAgree }
+{}
+
+/// The chain of a component gains the last entry of a history at its head when that is for the component,
+/// and stays as it was otherwise; before the first entry it has the initial record alone.
+pub fn last_entries_head_chains()
+    ensures { LastEntriesHeadChains }
 {}
 
 /// What the writer of a record gave, its readers read back, for every record that stands in the words.

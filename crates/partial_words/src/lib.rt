@@ -11,8 +11,8 @@ pub mod step;
 
 pub use announcement::{announced, announced_len, announcement_block_word, announcement_size};
 pub use law::{
-    announcements_read_back, lists_read_back, opening_words_agree, records_lie_within,
-    records_read_back, regions_are_apart,
+    announcements_read_back, last_entries_head_chains, lists_read_back, opening_words_agree,
+    records_lie_within, records_read_back, regions_are_apart,
 };
 pub use list::{interval, list_block_word, list_len, list_size};
 pub use record::{

@@ -14,43 +14,14 @@ use Rattle.partial_model.specs.declared.call.Note.TheVariants as note
 use Rattle.partial_model.specs.declared.call.Refused.{Refused}
 use Rattle.partial_model.specs.declared.call.Refused.TheVariants as refused
 use Rattle.partial_model.specs.Notes.{Noted, MayBeRefused, NamesComponents, indices_of, seen_after, seen_by}
-use Rattle.partial_model.proofs.Decisions.{Decides-list_all, Decides-nat_lt}
 use Rattle.partial_memory.specs.declared.answers.Scanned.{Scanned}
-use Rattle.partial_memory.specs.Ports.{IsOf, MemoryView, PortView, Answered, IsRefused, marks_refusal}
+use Rattle.partial_memory.specs.Ports.{IsOf, MemoryView, PortView, Answered, IsRefused}
 use Rattle.partial_memory.specs.Calls.{Scans}
+use Rattle.partial_memory.proofs.Laws.{refusals_at_once_fit}
 use Rattle.partial_workers.specs.declared.end.Until.{Until}
 use Rattle.partial_workers.specs.declared.end.Until.TheVariants.{Made, Spent}
 use Rattle.partial_workers.specs.Answered.{AreUnspent}
 use Rattle.partial_workers.specs.Work.{AreMade, Fills, HasMade, IsMade, IsUnnoted}
-
--- the causes of a mark
-pool_alone : (b : Bool) (cause : Refused) → cond b (Some refused.PoolSpent) None ≡ Some cause → cause ≡ refused.PoolSpent
-pool_alone true cause e = cc
-pool_alone false cause e = cc
-
-pool_or_slots : (a b : Bool) (cause : Refused) → cond a (Some refused.PoolSpent) (cond b (Some refused.SlotsSpent) None) ≡ Some cause → (cause ≡ refused.PoolSpent) ⊎ (cause ≡ refused.SlotsSpent)
-pool_or_slots true b cause e = inl cc
-pool_or_slots false true cause e = inr cc
-pool_or_slots false false cause e = cc
-
-marks_may : (p : PortView) (m : ℕ) (c : Call) (cause : Refused) → NamesComponents m c → marks_refusal p c ≡ Some cause → MayBeRefused m c cause
-marks_may p m (call.Update j v) cause names e = subst (MayBeRefused m (call.Update j v)) (sym (pool_alone p.pool_spent cause e)) (names, tt)
-marks_may p m (call.UpdateIf j s v) cause names e = subst (MayBeRefused m (call.UpdateIf j s v)) (sym (pool_alone p.pool_spent cause e)) (names, tt)
-marks_may p m (call.Scan []) cause names e = cc
-marks_may p m (call.Scan (j ∷ js)) cause names e = elim (pool_or_slots p.pool_spent p.slots_spent cause e) [
-  | inl is ↦ subst (MayBeRefused m (call.Scan (j ∷ js))) (sym is) (names, omega arith)
-  | inr is ↦ subst (MayBeRefused m (call.Scan (j ∷ js))) (sym is) (names, omega arith)
-]
-marks_may p m (call.Read j) cause names e = cc
-
-refused_may : (p : PortView) (c : Call) (cause : Refused) (b : Bool) → list_all (λ j. nat_lt j p.memory.about.sizes.m) (indices_of c) ≡ b →
-    cond b (marks_refusal p c) (Some refused.Component) ≡ Some cause → MayBeRefused p.memory.about.sizes.m c cause
-refused_may p c cause true e is = marks_may p p.memory.about.sizes.m c cause
-    ((Decides-list_all (λ i. nat_lt i p.memory.about.sizes.m) (λ j. j < p.memory.about.sizes.m) (λ i. Decides-nat_lt i p.memory.about.sizes.m) (indices_of c)).0 e) is
-refused_may p c cause false e is =
-    let same : refused.Component ≡ cause = cc in
-    subst (MayBeRefused p.memory.about.sizes.m c) same (λ all. false≢true
-    (sym e ∙ (Decides-list_all (λ i. nat_lt i p.memory.about.sizes.m) (λ j. j < p.memory.about.sizes.m) (λ i. Decides-nat_lt i p.memory.about.sizes.m) (indices_of c)).1 all))
 
 -- a call that was refused may have been, and the port's notes are the same
 pub made_refused : (p q : PortView) (c : Call) (cause : Refused) → IsRefused p c cause q → IsMade p.memory.about.sizes.m p c (answer.Refused cause) q
@@ -59,7 +30,7 @@ made_refused p q c cause (inl now) =
       noted = record { call = c; answer = answer.Refused cause; note = None };
       call = refl;
       answer = refl;
-      notes = inr (inl (cause, refl, refl, refused_may p c cause (list_all (λ j. nat_lt j p.memory.about.sizes.m) (indices_of c)) refl now.0), ap (λ (v : PortView). v.notes) now.1);
+      notes = inr (inl (cause, refl, refl, (refusals_at_once_fit p c cause now.0).0), ap (λ (v : PortView). v.notes) now.1);
     }
 made_refused p q c cause (inr late) =
     record {
@@ -88,7 +59,7 @@ made_scan m p q [] vs s w =
       answer = ap (λ (l : List ℕ). answer.Scanned l 0 None) (sym w.0) ∙ ap (λ k. answer.Scanned vs k None) (sym w.1) ∙ ap (answer.Scanned vs s.collects) (sym w.2);
       notes = inr (inr (refl, refl, refl), ap (λ (v : PortView). v.notes) w.3);
     }
-made_scan m p q (j ∷ js) vs s w = made_answered m p q (call.Scan (j ∷ js)) (answer.Scanned vs s.collects s.borrowed) (note.Saw w.n) w.answered
+made_scan m p q (j ∷ js) vs s w = made_answered m p q (call.Scan (j ∷ js)) (answer.Scanned vs s.collects s.borrowed) (note.Saw w.0) w.1
 
 -- calls that a port doesn't note leave unchanged what it has seen
 pub unnoted_seen : (m seen : ℕ) (n : Noted) → IsUnnoted m seen n → seen_after seen n.note ≡ seen

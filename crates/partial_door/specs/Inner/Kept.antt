@@ -6,19 +6,20 @@ use Rattle.partial_door.specs.declared.held.Held.{Held}
 use Rattle.partial_door.specs.declared.held.Held.TheVariants as held
 use Rattle.partial_door.specs.declared.held.OpenMemory.{OpenMemory}
 use Rattle.partial_door.specs.declared.memories.Kept.{Kept}
-use Rattle.partial_door.specs.declared.memories.Kept.TheVariants.{Open, Lost}
+use Rattle.partial_door.specs.declared.memories.Kept.TheVariants.{Away, Shared, Lost}
 use Rattle.partial_door.specs.declared.memories.Unclosed.{Unclosed}
 use Rattle.partial_door.specs.declared.memories.Unclosed.TheVariants as unclosed
-use Rattle.partial_door.specs.Memories.{MayLose, MayNotClose}
+use Rattle.partial_door.specs.Memories.{IsAway, MayLose, MayNotClose}
 
 -- what is held is this memory with these ports at home
 abbrev pub IsOpenOf : ℕ → ℕ → MemoryView → List PortView → Held → Type 0
 IsOpenOf opening count v ports h =
     (m : OpenMemory) × (h ≡ held.Memory m) × (m.opening ≡ opening) × (m.count ≡ count) × (arc_value m.memory ≡ v) × (m.ports.items ≡ ports)
 
--- where it isn't lost it is as it was, and only a memory whose ports are all at home is lost
+-- where it isn't lost it is as it was, and it is shared or lost only with all its ports at home
 abbrev pub IsKept : OpenMemory → Kept → Type 0
-IsKept m (Open n) = n ≡ m
+IsKept m (Away n) = (n ≡ m) × IsAway m
+IsKept m (Shared n) = (n ≡ m) × (length m.ports.items ≡ m.count)
 IsKept m Lost = length m.ports.items ≡ m.count
 
 -- what is held stays for its cause, or it is lost

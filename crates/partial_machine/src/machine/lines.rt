@@ -1,6 +1,7 @@
-//! The machines in a port's machine, one by one. Who makes the steps of a call in straight lines keeps the
-//! stage, the positions of a scan with its slot, and the machines of a getSet and of an embedded scan while they
-//! are made. The port's machine stays idle: it keeps the marks, what was found and the rows.
+//! The parts of a port's machine, one by one. A caller that makes the steps of a call in straight
+//! lines holds some of the state itself while they are made: the stage, the positions of a scan
+//! with its slot, and the machines of a getSet and of an embedded scan. The port's machine stays
+//! idle. It keeps the marks, what was found and the rows.
 
 ghost use Rattle.std.specs.Prelude.{◌≡◌, ◌==◌, length, map, slice_index, Some, None, true, OnOk, IfErr};
 ghost use Rattle.partial_active.specs.GetSet.{step_of};
@@ -19,7 +20,7 @@ use partial_model::Refused;
 use partial_words::Sizes;
 
 impl Core {
-    /// The sizes of the memory.
+    /// Returns the sizes of the memory.
     #[inline(always)]
     pub fn sizes(&self) -> Sizes
         ensures { result ≡ self.now.sizes }
@@ -27,7 +28,8 @@ impl Core {
         self.sizes
     }
 
-    /// Whether an update of component `index` may be made. It is refused as [`Core::begin_update`] refuses it.
+    /// Checks whether an update of component `index` may be made. It is refused for the same causes
+    /// as [`Core::begin_update`].
     #[inline(always)]
     pub fn may_update(&self, index: u32) -> Result<(), Refused>
         ensures ok { OnOk result (update_refusal self.now index ≡ None) }
@@ -42,7 +44,8 @@ impl Core {
         Ok(())
     }
 
-    /// Whether a scan of these components may be made. It is refused as [`Core::begin_scan`] refuses it.
+    /// Checks whether a scan of these components may be made. It is refused for the same causes as
+    /// [`Core::begin_scan`].
     pub fn may_scan(&self, components: &[u32]) -> Result<(), Refused>
         ensures ok { OnOk result (scan_refusal self.now components.now ≡ None) }
         ensures err { IfErr result (λ cause. scan_refusal self.now components.now ≡ Some cause) }
@@ -62,8 +65,8 @@ impl Core {
         Ok(())
     }
 
-    /// Makes a getSet to its end, of which the machine has what it finds, and gives it back. Each step is made
-    /// through `steps`, which are at this getSet.
+    /// Makes a getSet to its end and returns it. The machine keeps what the getSet found. Each step
+    /// is made through `steps`, which are at this getSet.
     #[inline(always)]
     pub fn make_set<S: Steps>(&mut self, steps: &mut S) -> GetSet
         requires idle { self.old.stage ≡ Idle }
@@ -79,7 +82,7 @@ impl Core {
         begun.make(&mut self.found, steps)
     }
 
-    /// Keeps a getSet that its caller has from [`Core::make_set`].
+    /// Stores a getSet that [`Core::make_set`] returned.
     #[inline(always)]
     pub fn keep_set(&mut self, set: GetSet)
         requires { self.old.stage ≡ Idle }
@@ -88,7 +91,7 @@ impl Core {
         self.get_set = set;
     }
 
-    /// Keeps of such a getSet the mark for the list words alone.
+    /// Stores only the mark for the list words from such a getSet.
     #[inline(always)]
     pub fn keep_list_mark(&mut self, set: &GetSet)
         requires { self.old.stage ≡ Idle }
@@ -97,7 +100,7 @@ impl Core {
         self.get_set.keep_mark(set);
     }
 
-    /// Whether the getSet has found no index.
+    /// Returns whether the getSet has found no index.
     #[inline(always)]
     pub fn found_none(&self) -> bool
         ensures { result ≡ (length self.now.found.indices == 0) }
@@ -105,8 +108,9 @@ impl Core {
         self.found.indices().is_empty()
     }
 
-    /// An embedded scan that has made no step. One that shares stops at the reference of a view that it borrows.
-    /// Its caller keeps it while it makes its steps, and hands it back to [`Core::keep_scan`].
+    /// Returns an embedded scan that has made no step. If it shares, it stops at the reference of a
+    /// view that it borrows. The caller holds it while its steps are made, and returns it with
+    /// [`Core::keep_scan`].
     #[inline(always)]
     pub fn begin_scanning(&self, shares: bool) -> Embedded
         ensures { result ≡ fresh self.now.sizes shares }
@@ -114,7 +118,7 @@ impl Core {
         Embedded::new(self.sizes, shares)
     }
 
-    /// Keeps an embedded scan that its caller made, for the record of an update.
+    /// Stores an embedded scan that the caller made, for the record of an update.
     #[inline(always)]
     pub fn keep_scan(&mut self, embedded: Embedded)
         requires { self.old.stage ≡ Idle }
@@ -123,8 +127,8 @@ impl Core {
         self.embedded = embedded;
     }
 
-    /// Makes this embedded scan of these positions to its end, over the machine's rows, and gives it back. Each
-    /// load is made through `loads`, which are at this scan.
+    /// Makes this embedded scan of these positions to its end, over the machine's rows, and returns
+    /// it. Each load is made through `loads`, which are at this scan.
     #[inline(always)]
     pub fn scan_positions<L: Loads>(
         &mut self,
@@ -147,7 +151,8 @@ impl Core {
         embedded.make(&mut self.rows, positions, loads)
     }
 
-    /// The same of the indices that the getSet has found.
+    /// Makes this embedded scan of the indices that the getSet found, in the same way as
+    /// [`Core::scan_positions`].
     #[inline(always)]
     pub fn scan_found<L: Loads>(&mut self, embedded: Embedded, loads: &mut L) -> Embedded
         requires idle { self.old.stage ≡ Idle }
@@ -165,7 +170,7 @@ impl Core {
         embedded.make(&mut self.rows, self.found.indices(), loads)
     }
 
-    /// Copies the values of these components, as the last embedded scan gave them.
+    /// Copies the values of these components that the last embedded scan gave.
     #[inline(always)]
     pub fn copy_values(&self, components: &[u32], into: &mut [u64])
         requires lengths { length into.old ≡ length components.now }
@@ -175,7 +180,7 @@ impl Core {
         self.rows.copy_values(components, into);
     }
 
-    /// The port is marked for the slots.
+    /// Marks the port for the slots.
     #[inline(always)]
     pub fn mark_slots(&mut self)
         requires { self.old.stage ≡ Idle }
@@ -184,7 +189,7 @@ impl Core {
         self.slots_spent = true;
     }
 
-    /// The port is marked for the pool.
+    /// Marks the port for the pool.
     #[inline(always)]
     pub fn mark_pool(&mut self)
         requires { self.old.stage ≡ Idle }

@@ -1,4 +1,4 @@
-//! The machine of a port on plain words.
+//! The state machine of a port on plain words.
 
 ghost use Rattle.std.specs.Prelude.{◌≡◌, ◌<◌, Some};
 ghost use Rattle.partial_words.specs.Step.{answer_of, words_after};
@@ -13,9 +13,10 @@ use partial_embedded::Embedded;
 use partial_words::Step;
 
 impl Core {
-    /// Makes the step that is due on plain words, as [`Step::perform`] does, and takes in its answer. Gives both.
-    /// It is what [`Core::step`] and [`Core::answer`] come to. The getSet, which may have to load every slot, makes
-    /// its own steps: whoever drives a machine over plain words pays for each of them what a load takes.
+    /// Makes the step that is due on plain words, as [`Step::perform`] does, and takes its answer.
+    /// Returns both. The result is that of [`Core::step`] and [`Core::answer`]. The getSet, which
+    /// may have to load every slot, makes its own steps, so that each of them costs a driver over
+    /// plain words no more than a load.
     #[inline(always)]
     pub fn perform(&mut self, words: &mut [u64]) -> (Step, u64)
         requires { MayPerform self.old words.old }
@@ -36,7 +37,7 @@ impl Core {
         }
     }
 
-    // The getSet of an update makes its step on the words, and goes on as behind an answer.
+    // The getSet of an update makes its step on the words, and goes on as after an answer.
     #[inline(always)]
     fn perform_set(&mut self, change: Change, old: u64, words: &mut [u64]) -> (Step, u64)
         requires stage { self.old.stage ≡ GettingSet change old }

@@ -3,6 +3,7 @@
 use super::rows::rows;
 use super::{executed, outcome_of};
 use partial_cmd::{Verb, Verdict};
+use partial_words::Sizes;
 use std::test::Fail;
 
 #[test]
@@ -67,6 +68,7 @@ call 0 0 applied 24 place 0 steps 8 span 0 1
 // A plan with the most components there may be, and a pool that has no room but for their records.
 #[test]
 fn most_components(rt: HostRuntime) -> Result<(), Fail> {
+    assert_eq!(rt; Sizes::new(65_536, 1, 0, 196_608)?.total(), 262_149);
     let mut plan = Vec::from_slice(rt.alloc(), b"sizes 65536 1 0 196608\ninitial")?;
     for _ in 0..65_536 {
         plan.extend_from_slice(b" 0")?;

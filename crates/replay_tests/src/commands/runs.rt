@@ -343,6 +343,31 @@ fn readers_of_two_plans(rt: HostRuntime) -> Result<(), Fail> {
     Ok(())
 }
 
+// When the first plan is refused the second one isn't read, though its reader would fail.
+#[test]
+fn a_refused_plan_leaves_the_next_unread(rt: HostRuntime) -> Result<(), Fail> {
+    let (_, next, _) = two_plans();
+    assert!(rt; 20 <= next.len());
+    let cases: [(&[u8], u8); 6] = [
+        (b"sizes 0 4 8 64\n", 1),
+        (b"sizes 1 0 8 64\n", 2),
+        (b"sizes 1 4 65537 64\n", 3),
+        (b"sizes 1 4 8 2\n", 4),
+        (b"sizes 1 4 8 64\ninitial 0\nsteps\n", 5),
+        (b"", 10),
+    ];
+    for (plan, code) in cases {
+        let mut first = Device::new(plan);
+        let mut second = Device::new(Bytewise::failing(&next[..20]));
+        let mut writer = Device::new(Vec::new(rt.alloc()));
+        let given = execute_next(&rt, rt.alloc(), &mut first, &mut second, &mut writer);
+        assert_eq!(rt; given.err().map(|fault| fault.code()), Some(code));
+        assert!(rt; !second.failed());
+        assert!(rt; writer.into_inner().is_empty());
+    }
+    Ok(())
+}
+
 #[test]
 fn two_reports_to_a_failing_writer(rt: HostRuntime) -> Result<(), Fail> {
     let (plan, next, expected) = two_plans();

@@ -13,4 +13,4 @@ returns-in-Ok-clause-some c =
     let long : length into ≡ length c.args.room.items = search rules in
     let some : 0 < length stages = omega (arith, c.requires.stages.count, c.requires.some) in
     let each : length into ≡ length stages = long ∙ c.requires.room ∙ sym c.requires.stages.count in
-    subst (λ (l : List ℕ). Sees p stages l q) (sym (written_whole c.args.room.len into c.args.room.items long (search rules))) (sees_scan p q stages into c.in-Ok._scanned some each c.in-Ok.ensures.ok)
+    subst (λ (l : List ℕ). Sees p stages l q) (sym (written_whole c.args.room.len into c.args.room.items long (search rules))) (sees_scan p q stages into c.in-Ok._scanned some each c.in-Ok.ensures.answered)

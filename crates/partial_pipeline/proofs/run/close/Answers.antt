@@ -2,7 +2,7 @@ use Rattle.std.proofs.Common.{◌≡◌, ◌∙◌, ℕ, List, length, subst}
 use Rattle.partial_memory.specs.Ports.{IsOf}
 use Rattle.partial_pipeline.specs.Stages.{HasMet}
 use Rattle.partial_pipeline.proofs.Stages.{from_all}
-use Rattle.partial_pipeline.proofs.Reports.{LastSees, last_number, last_sees, orderly}
+use Rattle.partial_pipeline.proofs.Reports.{LastSees, ended, last_number, last_sees, orderly}
 use Rattle.partial_pipeline.proofs.run.close.Goals as goal
 
 pub close-requires-clause-rest : goal.close-requires-clause-rest
@@ -18,8 +18,16 @@ returns c =
     let q = c.scan_into-last.new.port in
     let last = c.scan_into-last.result in
     let watching = c.requires.met.watching in
+    let met = c.requires.met in
+    let ports = c.args.joined.ports.items in
+    let ends = c.args.joined.ends in
     let same : c.deref.result.now ≡ x.stages.items = c.deref.ensures.value in
     let sees : LastSees x.port x.stages.items q last = subst (λ (l : List ℕ). LastSees x.port l q last) same
     (last_sees x.port q c.deref.result.now last c.scan_into-last.ensures.some c.scan_into-last.ensures.none) in
-    orderly m x.port q c.args.joined.ports.items x.stages.items x.scans last c.in-Ok.closed c.args.joined.ends c.requires.opens c.requires.met.each c.requires.met.count c.scan_into-last.ensures.own
-    (last_number x.port q x.stages.items last sees ∙ watching.number) watching.each watching.watched sees c.in-Ok.ensures
+    let number = last_number x.port q x.stages.items last sees ∙ watching.number in
+    let own = c.scan_into-last.ensures.own in
+    let closes = c.in-Ok.ensures.closed in
+    record {
+      orderly = orderly m x.port q ports x.stages.items x.scans last c.in-Ok.closed ends c.requires.opens met.each met.count own number watching.each watching.watched sees closes;
+      ended = ended m x.port q ports x.stages.items x.scans last c.in-Ok.closed ends c.args.items c.requires.opens met.each met.count own number watching.each watching.watched sees closes met.ended;
+    }

@@ -1,7 +1,7 @@
 use Rattle.std.proofs.Common.{◌≡◌, ◌≤◌, length}
 use Rattle.std.specs.Vec.{vec_capacity}
 use Rattle.partial_pipeline.specs.Pipeline.{AreFrom}
-use Rattle.partial_pipeline.specs.Stages.{HasMet, IsWatching}
+use Rattle.partial_pipeline.specs.Stages.{EndEach, HasMet, IsWatching}
 use Rattle.partial_pipeline.proofs.run.join.Given as goal
 
 -- the stages that have ended so far
@@ -10,6 +10,7 @@ invariant-loop-handle g l = record {
   watching : IsWatching l.memory l.joined.monitor;
   each : AreFrom (HasMet l.memory (length l.joined.monitor.port.seen)) 0 l.joined.ports.items;
   ports : length l.joined.ports.items ≡ length l.yielded;
+  ended : EndEach l.fn.items 0 l.joined.ports.items l.joined.ends.items;
   ends : length l.joined.ends.items ≡ length l.yielded;
   ports_room : length l.fn.started.items ≤ vec_capacity l.joined.ports;
   ends_room : length l.fn.started.items ≤ vec_capacity l.joined.ends;

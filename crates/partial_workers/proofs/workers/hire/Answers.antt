@@ -21,7 +21,7 @@ bounds-calls-number c =
     let new = each_some (IsNew m) 0 (length c.loop-port.yielded) plan all c.in-Some.port c.requires turn.0 turn.1 in
     let long = each_length (IsNew m) 0 plan all c.requires in
     let same = length-map given (λ (b : Bor (List Call)). b.now) in
-    omega (arith, turn.0, long, same, new.1.number, c.number.ensures)
+    omega (arith, turn.0, long, same, new.1.number, c.number.ensures.value)
 
 pub loop-port-preserved : goal.loop-port-preserved
 loop-port-preserved c =
@@ -34,7 +34,7 @@ loop-port-preserved c =
     c.in-Some.port c.in-Some.is c.next.ensures.steps in
     let some = each_some (IsNew m) 0 n plan all c.in-Some.port c.requires turn.0 turn.1 in
     let long = each_length (IsNew m) 0 plan all c.requires in
-    let place : c.number.result ≡ n = c.number.ensures ∙ some.1.number ∙ omega arith in
+    let place : c.number.result ≡ n = c.number.ensures.value ∙ some.1.number ∙ omega arith in
     let own = c.index-calls-number.result in
     let calls : List Call = own.now in
     let same = length-map given (λ (b : Bor (List Call)). b.now) in

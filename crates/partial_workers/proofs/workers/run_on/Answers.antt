@@ -30,5 +30,5 @@ pub returns : goal.returns
 returns g c =
     let plan : List (List Call) = map (λ (b : Bor (List Call)). b.now) c.args.calls.now in
     let run = ran c.args.memory c.new.result.until plan c.args.ports.items c.in_ok-ports.field-0 c.pop.new.self.items c.in-Some.last c.in_ok-closed.closed c.requires.opened c.in_ok-ports.ensures.1
-    (search rules) c.in_ok-closed.ensures in
+    (search rules) c.in_ok-closed.ensures.closed in
     subst (λ (t : Until). IsRun t c.args.memory.about.opening plan c.in_ok-ports.field-0.answers.items c.in_ok-closed.closed.values.items) c.new.ensures run

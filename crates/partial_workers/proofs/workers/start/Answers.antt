@@ -21,7 +21,7 @@ bounds-calls-port g c =
     let some = each_some (IsHired m) 0 (length c.loop-worker.yielded) plan all c.in-Some.worker c.requires turn.0 turn.1 in
     let long = each_length (IsHired m) 0 plan all c.requires in
     let same = length-map given (λ (b : Bor (List Call)). b.now) in
-    omega (arith, turn.0, long, same, some.1.number, c.number-port.ensures)
+    omega (arith, turn.0, long, same, some.1.number, c.number-port.ensures.value)
 
 pub spawn_with-requires-clause-runs : goal.spawn_with-requires-clause-runs
 spawn_with-requires-clause-runs g c =
@@ -45,7 +45,7 @@ spawn_with-requires-clause-keeps g c =
     let turn = YieldsList-turn (YieldsList-from_vec {s = c.into_iter-worker-iterator.result} all (search rules) (search rules)) c.loop-worker.yielded _ c.loop-worker.yielded_by _ c.next.new.self
     worker c.in-Some.is c.next.ensures.steps in
     let some = each_some (IsHired m) 0 n plan all worker c.requires turn.0 turn.1 in
-    let place : c.number-port.result ≡ n = c.number-port.ensures ∙ some.1.number ∙ omega arith in
+    let place : c.number-port.result ≡ n = c.number-port.ensures.value ∙ some.1.number ∙ omega arith in
     let own = c.index-calls-port.result in
     let calls : List Call = own.now in
     let same = length-map given (λ (b : Bor (List Call)). b.now) in
@@ -53,7 +53,7 @@ spawn_with-requires-clause-keeps g c =
     let at : calls ≡ get_or plan n calls = map_at (λ (b : Bor (List Call)). b.now) n given own (omega (arith, turn.0, long, same)) (c.index-calls-port.is ∙ ap (λ i. get_or given i own) place) in
     let mine : IsHired m (0 + n) calls worker = each_at (IsHired m) 0 n plan all calls worker c.requires turn.0 at turn.1 in
     λ κs lives r done. done_alike m c.of.result.value c.args.end.now.until c.until.result worker.port.number c.number-port.result (calls_of worker.jobs.items) c.of-in-loop-worker.result.value.now r
-    done c.of.ensures c.until.ensures c.number-port.ensures (ap (λ (b : Bor (List Call)). b.now) c.of-in-loop-worker.ensures ∙ sym mine.jobs)
+    done c.of.ensures c.until.ensures c.number-port.ensures.value (ap (λ (b : Bor (List Call)). b.now) c.of-in-loop-worker.ensures ∙ sym mine.jobs)
 
 pub push_reserved-requires : goal.push_reserved-requires
 push_reserved-requires g c =
@@ -77,7 +77,7 @@ loop-worker-preserved g c =
     let turn = YieldsList-turn (YieldsList-from_vec {s = c.into_iter-worker-iterator.result} all (search rules) (search rules)) c.loop-worker.yielded _ c.loop-worker.yielded_by _ c.next.new.self
     worker c.in-Some.is c.next.ensures.steps in
     let some = each_some (IsHired m) 0 n plan all worker c.requires turn.0 turn.1 in
-    let place : c.number-port.result ≡ n = c.number-port.ensures ∙ some.1.number ∙ omega arith in
+    let place : c.number-port.result ≡ n = c.number-port.ensures.value ∙ some.1.number ∙ omega arith in
     let own = c.index-calls-port.result in
     let calls : List Call = own.now in
     let same = length-map given (λ (b : Bor (List Call)). b.now) in

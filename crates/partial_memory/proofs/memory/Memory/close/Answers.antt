@@ -3,8 +3,9 @@ use Rattle.std.specs.Slots.{slots_items}
 use Rattle.atomic_table.specs.Table.{Me}
 use Rattle.partial_words.specs.Layout.{Layout}
 use Rattle.partial_memory.specs.declared.rule.About.{About}
+use Rattle.atomic_table.specs.Seated.{TableId}
 use Rattle.partial_memory.specs.Rule.{Seated}
-use Rattle.partial_memory.specs.Ports.{MemoryView}
+use Rattle.partial_memory.specs.Ports.{MemoryView, port_view}
 use Rattle.partial_memory.proofs.Looks.{gathers}
 use Rattle.partial_memory.proofs.Closes.{Ends, taken_none, taken_more, own_one, own_more, of_last, ends, closes}
 use Rattle.partial_memory.proofs.memory.Memory.close.Goals as goal
@@ -18,7 +19,8 @@ loop-port-init c =
       table = search rules;
       own = own_one _ _ one.0 c.args.port about one.1 one.2 own;
       left = c.requires.rest;
-      taken = taken_none _ _ one.0 c.args.port c.args.rest.items one.1 one.2;
+      taken = taken_none _ c.args.self.table one.0 c.args.port c.args.rest.items one.1
+          (ap (λ (t : TableId). port_view t one.0) (sym (ap (λ (m : MemoryView). m.table) c.requires.port)) ∙ one.2);
     }
 
 pub join_seat-requires : goal.join_seat-requires
@@ -38,7 +40,8 @@ loop-port-preserved c =
       table = c.join_seat.ensures.0 ∙ c.loop-port.invariant.table;
       own = own_more _ _ _ _ c.loop-port.invariant.own (own_one _ _ one.0 _ _ one.1 one.2 own) join;
       left = of.0;
-      taken = taken_more _ _ one.0 c.args.port _ _ _ _ _ _ c.loop-port.invariant.taken c.in-Some.ensures.items one.1 one.2 join;
+      taken = taken_more _ c.args.self.table one.0 c.args.port _ _ _ _ _ _ c.loop-port.invariant.taken c.in-Some.ensures.items one.1
+          (ap (λ (t : TableId). port_view t one.0) (sym (ap (λ (m : MemoryView). m.table) of.1)) ∙ one.2) join;
     }
 
 pub closed_of-closed-requires : goal.closed_of-closed-requires
@@ -69,4 +72,5 @@ returns c =
     let here : Ends c.args.self.about words c.loop-port.seat.me.0 = subst (λ (a : About). Ends a words c.loop-port.seat.me.0) same e in
     let count : c.m.result ≡ c.args.self.about.sizes.m = c.m.ensures.value ∙ ap (λ (z : Layout). z.m) c.self.invariant.0 ∙ ap (λ (a : About). a.sizes.m) same in
     let shown = c.in_ok-closed.ensures c.args.self.about.sizes c.args.self.about.opening here.log here.records (sym count) in
-    closes c.args.self c.args.port c.args.rest.items _ _ _ c.in_ok-closed.field-0 c.m.result here c.loop-port.invariant.taken (sym c.loop-port.rest.ok.0 ∙ c.in_default.ensures.cases.0) count shown
+    let both = closes c.args.self c.args.port c.args.rest.items _ _ _ c.in_ok-closed.field-0 c.m.result here c.loop-port.invariant.taken (sym c.loop-port.rest.ok.0 ∙ c.in_default.ensures.cases.0) count shown in
+    record { closed = both.0; lawful = both }

@@ -1,7 +1,7 @@
 use Rattle.std.proofs.Common.{◌≡◌}
 use Rattle.std.specs.List.{AllByRecursion}
 use Rattle.partial_memory.specs.Ports.{IsOf}
-use Rattle.partial_memory.proofs.Looks.{AreOf}
+use Rattle.partial_memory.specs.Rule.{AreOf}
 use Rattle.partial_memory.proofs.Closes.{Taken}
 use Rattle.partial_memory.proofs.memory.Memory.close.Given as goal
 
@@ -10,7 +10,7 @@ invariant-loop-port l = record {
   table : l.seat.table_id ≡ l.table.shared.table_id;
   own : AreOf l.table.shared.key l.seat.me.0;
   left : AllByRecursion (IsOf l.fn.self) l.rest.items;
-  taken : Taken l.fn.port l.fn.rest.items l.rest.items l.seat.me.0;
+  taken : Taken l.fn.self.table l.fn.port l.fn.rest.items l.rest.items l.seat.me.0;
 }
 
 abbrev pub decreases-loop-port : goal.decreases-loop-port

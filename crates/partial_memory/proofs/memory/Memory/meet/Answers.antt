@@ -1,10 +1,10 @@
 use Rattle.std.proofs.Common.{rules, ◌≡◌, ap, sym, ◌∙◌, List, [], ◌∷◌}
 use Rattle.atomic_table.specs.Table.{Me}
 use Rattle.partial_memory.specs.Rule.{Seated, first_of, one_in, others_of}
-use Rattle.partial_memory.specs.Ports.{MemoryView, PortView}
+use Rattle.partial_memory.specs.Ports.{MemoryView, PortView, port_view}
 use Rattle.partial_memory.proofs.Views.{deals}
 use Rattle.partial_memory.proofs.Looks.{looks_on, gathers}
-use Rattle.partial_memory.proofs.Meetings.{both_of, joined, looked, meets, rests_met}
+use Rattle.partial_memory.proofs.Meetings.{both_of, joined, looked, meets, meets_lawfully, rests_met}
 use Rattle.partial_memory.proofs.memory.Memory.meet.Goals as goal
 
 pub join_seat-requires : goal.join_seat-requires
@@ -52,3 +52,18 @@ returns-clause-met c =
     ap (λ (p : PortView). p.memory.table) c.first.view_is ∙ ap (λ (m : MemoryView). m.table) memory ∙ ap (λ (p : PortView). p.memory.table) (sym c.second.view_is) in
     let same' : c.into_badge-2.result.table_id ≡ c.second.inside.badge.table_id = c.into_badge-2.ensures.0 ∙ c.split_seat.ensures.0 ∙ seat ∙ tables in
     meets _ _ _ _ x y c.load.new.seat.me.0 _ _ _ _ told c.first.view_is c.second.view_is same same' first second
+
+pub returns-clause-lawful : goal.returns-clause-lawful
+returns-clause-lawful c =
+    let x = one_in c.first.inside.badge.views in
+    let y = one_in c.second.inside.badge.views in
+    let told = looked x y _ c.load.new.seat.me c.load.result (joined x y _ _ _ c.take_seat-seat.ensures.one c.take_seat.ensures.one c.join_seat.ensures.2) c.load.ensures.2 in
+    let first = c.into_badge.ensures.2 ∙ ap (λ (m : Me (Unit {0}) (List Seated)). m.0 ∷ []) c.split_seat.ensures.4 in
+    let second = c.into_badge-2.ensures.2 ∙ ap (λ (m : Me (Unit {0}) (List Seated)). m.0 ∷ []) c.split_seat.ensures.2 in
+    let seat = c.load.ensures.0 ∙ c.join_seat.ensures.0 ∙ c.take_seat-seat.ensures.table in
+    let memory : port_view c.first.inside.badge.table_id x ≡ c.args.first.now = c.first.view_is in
+    let table : c.first.inside.badge.table_id ≡ c.args.self.now.table = ap (λ (p : PortView). p.memory.table) memory ∙ ap (λ (m : MemoryView). m.table) c.requires.0 in
+    let about : x.about ≡ c.args.self.now.about = ap (λ (p : PortView). p.memory.about) memory ∙ ap (λ (m : MemoryView). m.about) c.requires.0 in
+    let same : c.into_badge.result.table_id ≡ c.args.self.now.table = c.into_badge.ensures.0 ∙ c.split_seat.ensures.3 ∙ seat ∙ table in
+    let same' : c.into_badge-2.result.table_id ≡ c.args.self.now.table = c.into_badge-2.ensures.0 ∙ c.split_seat.ensures.0 ∙ seat ∙ table in
+    meets_lawfully _ _ x y c.load.new.seat.me.0 _ _ _ told same same' about first second

@@ -3,9 +3,7 @@ use Rattle.partial_words.specs.declared.step.Step.TheVariants.{Load}
 use Rattle.partial_words.specs.Layout.{Layout, total}
 use Rattle.partial_machine.specs.Machine.{step_of}
 use Rattle.partial_memory.specs.declared.rule.About.{About}
-use Rattle.partial_memory.specs.Ports.{port_view}
-use Rattle.partial_memory.specs.Rule.{one_in, one_of}
-use Rattle.partial_memory.specs.Calls.{Reads}
+use Rattle.partial_memory.specs.Rule.{one_in}
 use Rattle.partial_memory.proofs.Reading.{first_told, begins_asked, goes_on_asked, next_machine, next_within, next_is, read_is, read_rests, badge_of, read_seen}
 use Rattle.partial_memory.proofs.memory.Memory.read.Goals as goal
 
@@ -37,18 +35,29 @@ load-value-requires c =
     let due = ap step_of (next_is _ _ _ c.me.invariant t _ below _ _ first) ∙ ap (λ w. Some (Load w)) (sym c.value_word.ensures) in
     (search rules, omega (arith, words, within), goes_on_asked _ _ _ _ _ c.load-stamp.ensures.2.0 (first.about ∙ own) machine due)
 
-pub returns-clause-ok : goal.returns-clause-ok
-returns-clause-ok c =
+pub returns-clause-answered : goal.returns-clause-answered
+returns-clause-answered c =
     let t = c.me.inside.badge.table_id in
     let own : (one_in c.me.inside.badge.views).about ≡ c.self.inside.table.shared.key = search rules in
     let sizes : c.me.inside.core.sizes ≡ c.self.inside.sizes = c.me.invariant.sizes ∙ ap (λ (a : About). a.sizes) own ∙ sym c.self.invariant.0 in
     let inside : c.args.component < c.self.inside.sizes.m = search rules in
     let below : c.args.component < c.me.inside.core.sizes.m = subst (λ (z : Layout). c.args.component < z.m) (sym sizes) inside in
     let first = first_told _ _ _ _ _ _ c.take_seat-seat.ensures.one c.component_word-word.ensures c.load-stamp.ensures.2.1 in
-    let read : Reads (port_view t (one_in c.me.inside.badge.views)) c.args.component c.load-value.result c.load-stamp.result (port_view t (one_of c.load-value.new.seat.me.0)) =
-    read_is _ _ _ c.me.invariant t _ below _ _ first _ _ c.load-value.ensures.2.1 in
+    let read = read_is _ _ _ c.me.invariant t _ below _ _ first _ _ c.load-value.ensures.2.1 in
     let table : c.into_badge.result.table_id ≡ t = c.into_badge.ensures.0 ∙ c.load-value.ensures.0 ∙ c.load-stamp.ensures.0 ∙ c.take_seat-seat.ensures.table in
-    read_seen _ _ (one_in c.me.inside.badge.views) _ _ _ _ _ _ c.me.view_is table c.into_badge.ensures.2 read
+    (read_seen _ _ (one_in c.me.inside.badge.views) _ _ _ _ _ _ c.me.view_is table c.into_badge.ensures.2 read).0
+
+pub returns-clause-led : goal.returns-clause-led
+returns-clause-led c =
+    let t = c.me.inside.badge.table_id in
+    let own : (one_in c.me.inside.badge.views).about ≡ c.self.inside.table.shared.key = search rules in
+    let sizes : c.me.inside.core.sizes ≡ c.self.inside.sizes = c.me.invariant.sizes ∙ ap (λ (a : About). a.sizes) own ∙ sym c.self.invariant.0 in
+    let inside : c.args.component < c.self.inside.sizes.m = search rules in
+    let below : c.args.component < c.me.inside.core.sizes.m = subst (λ (z : Layout). c.args.component < z.m) (sym sizes) inside in
+    let first = first_told _ _ _ _ _ _ c.take_seat-seat.ensures.one c.component_word-word.ensures c.load-stamp.ensures.2.1 in
+    let read = read_is _ _ _ c.me.invariant t _ below _ _ first _ _ c.load-value.ensures.2.1 in
+    let table : c.into_badge.result.table_id ≡ t = c.into_badge.ensures.0 ∙ c.load-value.ensures.0 ∙ c.load-stamp.ensures.0 ∙ c.take_seat-seat.ensures.table in
+    (read_seen _ _ (one_in c.me.inside.badge.views) _ _ _ _ _ _ c.me.view_is table c.into_badge.ensures.2 read).1
 
 pub invariant_of-me : goal.invariant_of-me
 invariant_of-me c =

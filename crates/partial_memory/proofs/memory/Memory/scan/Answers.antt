@@ -8,7 +8,7 @@ use Rattle.partial_memory.specs.Ports.{PortView, refusal}
 use Rattle.partial_memory.specs.Rule.{one_in}
 use Rattle.partial_memory.specs.Inner.Steps.{values_behind}
 use Rattle.partial_memory.proofs.Resting.{asked_begins, refusal_here, rests, scan_begins, same_memory}
-use Rattle.partial_memory.proofs.Replies.{scan_ended, scan_copied, ok_ok, err_ok, err_err, ok_err}
+use Rattle.partial_memory.proofs.Replies.{scan_ended, scan_copied, at_once, ok_ok, err_ok, err_err, ok_err}
 use Rattle.partial_memory.proofs.memory.Memory.scan.Goals as goal
 use Rattle.partial_memory.proofs.memory.Memory.scan.Goals.{in-Scanned, in-Refused}
 
@@ -55,8 +55,8 @@ unreachable-requires-in-Read c =
     let told = scan_ended _ _ _ c.me.invariant _ _ c.scan.ensures.table _ c.me.view_is _ _ _ _ c.scan.ensures.ended.ended _ few some ok (asked_begins c.me.inside.core _ some) in
     elim c.in-Read.is [ inl w ↦ told (reply.Read _ _) w.2 | inr w ↦ told (reply.Changed _) w.1 ]
 
-pub returns-clause-ok : goal.returns-clause-ok
-returns-clause-ok c =
+pub returns-clause-answered : goal.returns-clause-answered
+returns-clause-answered c =
     let some : length c.args.which.now ≡ 0 → ⊥ = search rules in
     let sizes : c.me.inside.core.sizes ≡ c.args.self.now.about.sizes = search rules in
     let few : length c.args.which.now ≤ c.me.inside.core.sizes.m = subst (λ (z : Layout). length c.args.which.now ≤ z.m) (sym sizes) c.requires.lengths.1 in
@@ -65,12 +65,26 @@ returns-clause-ok c =
     let ended = c.scan.ensures.ended in
     elim c.match-scan.branch [
       | in-Scanned w ↦ ok_ok _ _ _ w.result-is (scan_copied _ _ _ _ ended.ended.machine _ _ _ some ended.asked ended.rows (c.scan.ensures.into ∙ ap (λ r. values_behind r (map (slice_index c.scan.new.core.rows.values) c.args.which.now) c.args.into.now) w.in-Scanned.is)
-          (told (reply.Scanned _ _) w.in-Scanned.is))
+          (told (reply.Scanned _ _) w.in-Scanned.is)).0
       | in-Refused w ↦ err_ok _ _ _ w.result-is
     ]
 
-pub returns-clause-err : goal.returns-clause-err
-returns-clause-err c =
+pub returns-clause-led : goal.returns-clause-led
+returns-clause-led c =
+    let some : length c.args.which.now ≡ 0 → ⊥ = search rules in
+    let sizes : c.me.inside.core.sizes ≡ c.args.self.now.about.sizes = search rules in
+    let few : length c.args.which.now ≤ c.me.inside.core.sizes.m = subst (λ (z : Layout). length c.args.which.now ≤ z.m) (sym sizes) c.requires.lengths.1 in
+    let ok = c.in_ok-may_scan.ensures.ok in
+    let told = scan_ended _ _ _ c.me.invariant _ _ c.scan.ensures.table _ c.me.view_is _ _ _ _ c.scan.ensures.ended.ended _ few some ok (asked_begins c.me.inside.core _ some) in
+    let ended = c.scan.ensures.ended in
+    elim c.match-scan.branch [
+      | in-Scanned w ↦ ok_ok _ _ _ w.result-is (scan_copied _ _ _ _ ended.ended.machine _ _ _ some ended.asked ended.rows (c.scan.ensures.into ∙ ap (λ r. values_behind r (map (slice_index c.scan.new.core.rows.values) c.args.which.now) c.args.into.now) w.in-Scanned.is)
+          (told (reply.Scanned _ _) w.in-Scanned.is)).1
+      | in-Refused w ↦ err_ok _ _ _ w.result-is
+    ]
+
+pub returns-clause-refused : goal.returns-clause-refused
+returns-clause-refused c =
     let some : length c.args.which.now ≡ 0 → ⊥ = search rules in
     let sizes : c.me.inside.core.sizes ≡ c.args.self.now.about.sizes = search rules in
     let few : length c.args.which.now ≤ c.me.inside.core.sizes.m = subst (λ (z : Layout). length c.args.which.now ≤ z.m) (sym sizes) c.requires.lengths.1 in
@@ -78,7 +92,19 @@ returns-clause-err c =
     let told = scan_ended _ _ _ c.me.invariant _ _ c.scan.ensures.table _ c.me.view_is _ _ _ _ c.scan.ensures.ended.ended _ few some ok (asked_begins c.me.inside.core _ some) in
     elim c.match-scan.branch [
       | in-Scanned w ↦ ok_err _ _ _ w.result-is
-      | in-Refused w ↦ err_err _ _ _ w.result-is (inr (told (reply.Refused _) w.in-Refused.is))
+      | in-Refused w ↦ err_err _ _ _ w.result-is (inr (told (reply.Refused _) w.in-Refused.is).0)
+    ]
+
+pub returns-clause-led_to_refusal : goal.returns-clause-led_to_refusal
+returns-clause-led_to_refusal c =
+    let some : length c.args.which.now ≡ 0 → ⊥ = search rules in
+    let sizes : c.me.inside.core.sizes ≡ c.args.self.now.about.sizes = search rules in
+    let few : length c.args.which.now ≤ c.me.inside.core.sizes.m = subst (λ (z : Layout). length c.args.which.now ≤ z.m) (sym sizes) c.requires.lengths.1 in
+    let ok = c.in_ok-may_scan.ensures.ok in
+    let told = scan_ended _ _ _ c.me.invariant _ _ c.scan.ensures.table _ c.me.view_is _ _ _ _ c.scan.ensures.ended.ended _ few some ok (asked_begins c.me.inside.core _ some) in
+    elim c.match-scan.branch [
+      | in-Scanned w ↦ ok_err _ _ _ w.result-is
+      | in-Refused w ↦ err_err _ _ _ w.result-is (λ _. (told (reply.Refused _) w.in-Refused.is).1)
     ]
 
 pub returns-clause-unchanged : goal.returns-clause-unchanged
@@ -92,10 +118,18 @@ returns-clause-unchanged c =
 pub returns-clause-same : goal.returns-clause-same
 returns-clause-same c = same_memory _ _ (one_in c.me.inside.badge.views) (one_in c.scan.new.badge.views) _ _ c.me.view_is c.requires.own c.scan.ensures.table c.scan.ensures.ended.ended.made.about
 
-pub returns-in_err-may_scan-clause-err : goal.returns-in_err-may_scan-clause-err
-returns-in_err-may_scan-clause-err c =
+pub returns-in_err-may_scan-clause-refused : goal.returns-in_err-may_scan-clause-refused
+returns-in_err-may_scan-clause-refused c =
     let refused = refusal_here _ _ _ c.me.invariant c.me.inside.badge.table_id (call.Scan c.args.which.now) ∙ c.in_err-may_scan.ensures.err in
     let seen : refusal c.args.me.now (call.Scan c.args.which.now) ≡ Some c.in_err-may_scan.field-0.0 =
     ap (λ (p : PortView). refusal p (call.Scan c.args.which.now)) (sym c.me.view_is) ∙ refused in
     let p = err_from_is_err_and c.from_residual.result c.from_residual.ensures.1 in
     err_err _ _ _ p.1 (inl (seen ∙ ap Some (sym p.2), refl))
+
+pub returns-in_err-may_scan-clause-led_to_refusal : goal.returns-in_err-may_scan-clause-led_to_refusal
+returns-in_err-may_scan-clause-led_to_refusal c =
+    let refused = refusal_here _ _ _ c.me.invariant c.me.inside.badge.table_id (call.Scan c.args.which.now) ∙ c.in_err-may_scan.ensures.err in
+    let seen : refusal c.args.me.now (call.Scan c.args.which.now) ≡ Some c.in_err-may_scan.field-0.0 =
+    ap (λ (p : PortView). refusal p (call.Scan c.args.which.now)) (sym c.me.view_is) ∙ refused in
+    let p = err_from_is_err_and c.from_residual.result c.from_residual.ensures.1 in
+    err_err _ _ _ p.1 (at_once _ _ _ _ (seen ∙ ap Some (sym p.2)))

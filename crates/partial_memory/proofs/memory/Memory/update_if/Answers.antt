@@ -1,9 +1,11 @@
-use Rattle.std.proofs.Common.{rules, refl, inl, inr}
+use Rattle.std.proofs.Common.{rules, ◌≡◌, refl, sym, ap, ◌∙◌, Some, inl, inr}
+use Rattle.std.proofs.lemmas.Result.{err_from_is_err_and}
 use Rattle.partial_model.specs.declared.call.Call.TheVariants as call
 use Rattle.partial_machine.specs.declared.stage.Reply.TheVariants as reply
+use Rattle.partial_memory.specs.Ports.{PortView, refusal}
 use Rattle.partial_memory.specs.Rule.{one_in}
-use Rattle.partial_memory.proofs.Resting.{call_begins, rests, same_memory}
-use Rattle.partial_memory.proofs.Replies.{update_if_ended, ok_ok, err_ok, err_err, ok_err}
+use Rattle.partial_memory.proofs.Resting.{call_begins, refusal_here, rests, same_memory}
+use Rattle.partial_memory.proofs.Replies.{update_if_ended, at_once, ok_ok, err_ok, err_err, ok_err}
 use Rattle.partial_memory.proofs.memory.Memory.update_if.Goals as goal
 use Rattle.partial_memory.proofs.memory.Memory.update_if.Goals.{in-Applied, in-Changed, in-Refused}
 
@@ -26,25 +28,61 @@ unreachable-requires c =
     let told = update_if_ended _ _ _ c.me.invariant _ _ c.update.ensures.table _ c.me.view_is _ _ _ _ c.update.ensures.ended c.args.component c.args.expected c.args.value ok refl in
     elim c.in-Scanned.is [ inl w ↦ told (reply.Scanned _ _) w.2 | inr w ↦ elim w [ inl v ↦ told (reply.Read _ _) v.2 | inr v ↦ told (reply.Lost _) v.1 ] ]
 
-pub returns-clause-ok : goal.returns-clause-ok
-returns-clause-ok c =
+pub returns-clause-answered : goal.returns-clause-answered
+returns-clause-answered c =
     let ok = c.in_ok-may_update.ensures.ok in
     let told = update_if_ended _ _ _ c.me.invariant _ _ c.update.ensures.table _ c.me.view_is _ _ _ _ c.update.ensures.ended c.args.component c.args.expected c.args.value ok refl in
     elim c.match-update.branch [
-      | in-Applied w ↦ ok_ok _ _ _ w.result-is (told (reply.Applied _) w.in-Applied.is)
-      | in-Changed w ↦ ok_ok _ _ _ w.result-is (told (reply.Changed _) w.in-Changed.is)
+      | in-Applied w ↦ ok_ok _ _ _ w.result-is (told (reply.Applied _) w.in-Applied.is).0
+      | in-Changed w ↦ ok_ok _ _ _ w.result-is (told (reply.Changed _) w.in-Changed.is).0
       | in-Refused w ↦ err_ok _ _ _ w.result-is
     ]
 
-pub returns-clause-err : goal.returns-clause-err
-returns-clause-err c =
+pub returns-clause-led : goal.returns-clause-led
+returns-clause-led c =
+    let ok = c.in_ok-may_update.ensures.ok in
+    let told = update_if_ended _ _ _ c.me.invariant _ _ c.update.ensures.table _ c.me.view_is _ _ _ _ c.update.ensures.ended c.args.component c.args.expected c.args.value ok refl in
+    elim c.match-update.branch [
+      | in-Applied w ↦ ok_ok _ _ _ w.result-is (told (reply.Applied _) w.in-Applied.is).1
+      | in-Changed w ↦ ok_ok _ _ _ w.result-is (told (reply.Changed _) w.in-Changed.is).1
+      | in-Refused w ↦ err_ok _ _ _ w.result-is
+    ]
+
+pub returns-clause-refused : goal.returns-clause-refused
+returns-clause-refused c =
     let ok = c.in_ok-may_update.ensures.ok in
     let told = update_if_ended _ _ _ c.me.invariant _ _ c.update.ensures.table _ c.me.view_is _ _ _ _ c.update.ensures.ended c.args.component c.args.expected c.args.value ok refl in
     elim c.match-update.branch [
       | in-Applied w ↦ ok_err _ _ _ w.result-is
       | in-Changed w ↦ ok_err _ _ _ w.result-is
-      | in-Refused w ↦ err_err _ _ _ w.result-is (inr (told (reply.Refused _) w.in-Refused.is))
+      | in-Refused w ↦ err_err _ _ _ w.result-is (inr (told (reply.Refused _) w.in-Refused.is).0)
     ]
+
+pub returns-clause-led_to_refusal : goal.returns-clause-led_to_refusal
+returns-clause-led_to_refusal c =
+    let ok = c.in_ok-may_update.ensures.ok in
+    let told = update_if_ended _ _ _ c.me.invariant _ _ c.update.ensures.table _ c.me.view_is _ _ _ _ c.update.ensures.ended c.args.component c.args.expected c.args.value ok refl in
+    elim c.match-update.branch [
+      | in-Applied w ↦ ok_err _ _ _ w.result-is
+      | in-Changed w ↦ ok_err _ _ _ w.result-is
+      | in-Refused w ↦ err_err _ _ _ w.result-is (λ _. (told (reply.Refused _) w.in-Refused.is).1)
+    ]
+
+pub returns-in_err-may_update-clause-refused : goal.returns-in_err-may_update-clause-refused
+returns-in_err-may_update-clause-refused c =
+    let refused = refusal_here _ _ _ c.me.invariant c.me.inside.badge.table_id (call.UpdateIf c.args.component c.args.expected c.args.value) ∙ c.in_err-may_update.ensures.err in
+    let seen : refusal c.args.me.now (call.UpdateIf c.args.component c.args.expected c.args.value) ≡ Some c.in_err-may_update.field-0.0 =
+    ap (λ (p : PortView). refusal p (call.UpdateIf c.args.component c.args.expected c.args.value)) (sym c.me.view_is) ∙ refused in
+    let p = err_from_is_err_and c.from_residual.result c.from_residual.ensures.1 in
+    err_err _ _ _ p.1 (inl (seen ∙ ap Some (sym p.2), refl))
+
+pub returns-in_err-may_update-clause-led_to_refusal : goal.returns-in_err-may_update-clause-led_to_refusal
+returns-in_err-may_update-clause-led_to_refusal c =
+    let refused = refusal_here _ _ _ c.me.invariant c.me.inside.badge.table_id (call.UpdateIf c.args.component c.args.expected c.args.value) ∙ c.in_err-may_update.ensures.err in
+    let seen : refusal c.args.me.now (call.UpdateIf c.args.component c.args.expected c.args.value) ≡ Some c.in_err-may_update.field-0.0 =
+    ap (λ (p : PortView). refusal p (call.UpdateIf c.args.component c.args.expected c.args.value)) (sym c.me.view_is) ∙ refused in
+    let p = err_from_is_err_and c.from_residual.result c.from_residual.ensures.1 in
+    err_err _ _ _ p.1 (at_once _ _ _ _ (seen ∙ ap Some (sym p.2)))
 
 pub returns-clause-same : goal.returns-clause-same
 returns-clause-same c = same_memory _ _ (one_in c.me.inside.badge.views) (one_in c.update.new.badge.views) _ _ c.me.view_is c.requires c.update.ensures.table c.update.ensures.ended.made.about

@@ -1,18 +1,34 @@
-use Rattle.std.proofs.Common.{◌≡◌, ◌∙◌, refl, sym, subst}
-use Rattle.partial_pipeline.specs.Stages.{IsWorking}
+use Rattle.std.proofs.Common.{ℕ, ◌≡◌, ◌∙◌, refl, sym, ap, subst, Some}
+use Rattle.partial_memory.specs.Ports.{MemoryView}
+use Rattle.partial_pipeline.specs.Stages.{IsDone, IsWorking}
 use Rattle.partial_pipeline.specs.declared.stage.Stage.{Stage}
+use Rattle.partial_pipeline.specs.declared.stage.StageEnd.{StageEnd}
+use Rattle.partial_pipeline.specs.declared.stage.StageEnd.TheVariants.{Finished, Stopped}
 use Rattle.partial_pipeline.proofs.Stages.{is_done}
 use Rattle.partial_pipeline.proofs.stage.Stage.run.Goals as goal
 use Rattle.partial_pipeline.proofs.stage.Stage.run.Goals.{else-loop-turn-test, then-loop-turn-test+in-Some}
+
+-- a stage at work of this number, with so many items, that has published all of them if it has finished
+abbrev Ends : MemoryView → ℕ → ℕ → Stage → StageEnd → Type 0
+Ends m k items x end = IsWorking m x × (x.port.number ≡ k) × (x.items ≡ items) × (end ≡ Finished → x.count ≡ x.items)
 
 pub returns : goal.returns
 returns g c =
     let m = c.args.memory.now in
     let k = c.args.self.port.number in
+    let items = c.args.self.items in
     let x : Stage = c.loop-turn-test.self in
-    let both : IsWorking m x × (x.port.number ≡ k) =
+    let end : StageEnd = c.loop-turn-test.end in
+    let ends : Ends m k items x end =
     elim c.loop-turn-test.branch [
-      | else-loop-turn-test w ↦ subst (λ (y : Stage). IsWorking m y × (y.port.number ≡ k)) (sym w.self-is) (c.loop-turn.invariant.working, c.loop-turn.invariant.number)
-      | then-loop-turn-test+in-Some w ↦ subst (λ (y : Stage). IsWorking m y × (y.port.number ≡ k)) (sym w.self-is) (w.turn.ensures.working, w.turn.ensures.number ∙ c.loop-turn.invariant.number)
+      | else-loop-turn-test w ↦
+          let at = c.loop-turn.invariant in
+          subst (Ends m k items x) (sym w.end-is)
+          (subst (λ (y : Stage). Ends m k items y c.loop-turn.end-1) (sym w.self-is) (at.working, at.number, at.items, λ is. let bad : Stopped ≡ Finished = sym at.end ∙ is in cc))
+      | then-loop-turn-test+in-Some w ↦
+          let at = c.loop-turn.invariant in
+          subst (Ends m k items x) (sym w.end-is)
+          (subst (λ (y : Stage). Ends m k items y w.in-Some.reason) (sym w.self-is)
+          (w.turn.ensures.working, w.turn.ensures.number ∙ at.number, w.turn.ensures.items ∙ at.items, λ is. w.turn.ensures.finished (w.in-Some.is ∙ ap Some is)))
     ] in
-    is_done m x k (record { port = x.port; end = c.loop-turn-test.end }) both.0 both.1 refl
+    subst (λ i. IsDone m i k (record { port = x.port; end = end })) ends.2 (is_done m x k (record { port = x.port; end = end }) ends.0 ends.1 refl ends.3)

@@ -1,5 +1,6 @@
 use Rattle.std.proofs.Common.{◌≡◌}
 use Rattle.partial_pipeline.specs.Stages.{IsWorking}
+use Rattle.partial_pipeline.specs.declared.stage.StageEnd.TheVariants.{Stopped}
 use Rattle.partial_pipeline.proofs.stage.Stage.run.Given as goal
 
 -- the stage between two turns
@@ -7,4 +8,6 @@ abbrev pub invariant-loop-turn : goal.invariant-loop-turn
 invariant-loop-turn g l = record {
   working : IsWorking l.memory l.self;
   number : l.self.port.number ≡ l.fn.self.port.number;
+  items : l.self.items ≡ l.fn.self.items;
+  end : l.end ≡ Stopped;
 }

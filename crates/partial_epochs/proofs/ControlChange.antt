@@ -1,0 +1,126 @@
+-- A step on the control words alone.
+use Rattle.std.proofs.Common.{ℕ, ◌≡◌, ◌≢◌, ◌+◌, ◌<◌, ◌==◌, ◌⊎◌, true, false, Option, Some, None, IfSome, List, length, get_or, set, sym, ap, subst, ◌∙◌, inl, inr, arith}
+use Rattle.std.proofs.lemmas.Bool.Decides.{eqb_tells}
+use Rattle.std.proofs.lemmas.List.{get_or-set_same, get_or-set_other}
+use Rattle.partial_epochs.specs.Lists.{put}
+use Rattle.partial_epochs.specs.Layout.{Plan, Place, IsPlace, at_word, control_size, current_word, marked, packed}
+use Rattle.partial_epochs.specs.Ports.{Control, Entering, Owned}
+use Rattle.partial_epochs.specs.Control.{IsAt, IsEarlier, IsMarked, IsOld, IsOut, IsOwner, LawfulControl, MayPut, NotInto}
+use Rattle.partial_epochs.specs.Ports.Entering.{Stands, Marks, Loaded}
+use Rattle.partial_epochs.proofs.Lists.{put_all, put_other, put_same}
+
+-- port k, which owns no arena, changes what it does, and its word
+module _ (e : Plan) (words : List ℕ) (cs : ℕ → Control) (now : Place) (holds : ℕ → Option ℕ) (w : LawfulControl e words cs now holds) (k : ℕ) (below : k < e.ports) (c : Control) (v : ℕ)
+    (free : (cs k).owned ≡ None) (free' : c.owned ≡ None) (long : length words ≡ control_size e) where
+  abbrev words' : List ℕ
+  words' = set words (at_word k) v
+
+  abbrev cs' : ℕ → Control
+  cs' = put k c cs
+
+  pub own : get_or words' (at_word k) 0 ≡ v
+  own = get_or-set_same words (at_word k) v 0 (omega (arith, long, below))
+
+  other : (i : ℕ) → i ≢ at_word k → get_or words' i 0 ≡ get_or words i 0
+  other i ne = get_or-set_other words (at_word k) i v 0 ne
+
+  other_at : (q : ℕ) → q ≢ k → get_or words' (at_word q) 0 ≡ get_or words (at_word q) 0
+  other_at q ne = other (at_word q) (omega (arith, ne))
+
+  none_some : (o : Owned) → None ≡ Some o → ⊥
+  none_some o e = cc
+
+  -- a port that may put another isn't k
+  not_putter : (q j : ℕ) (a : Place) → MayPut (cs q) j a → q ≢ k
+  not_putter q j a may same = none_some may.owned (sym free ∙ sym (ap (λ i. (cs i).owned) same) ∙ may.is)
+
+  pub putter : (q j : ℕ) (a : Place) → MayPut (cs' q) j a → MayPut (cs q) j a × (q ≢ k)
+  putter q j a = put_all (λ i (d : Control). MayPut d j a → MayPut (cs i) j a × (i ≢ k)) k c cs q
+      (λ _ may. absurd (none_some may.owned (sym free' ∙ may.is))) (λ ne may. (may, ne))
+
+  -- another port is out as before
+  out_other : (x q : ℕ) → q ≢ k → IsOut e words cs x q → IsOut e words' cs' x q
+  out_other x q ne h = record {
+    unmarked = λ d place at. h.unmarked d place (sym (other_at q ne) ∙ at);
+    loaded = λ at. subst (λ (d : Control). NotInto x d.entering) (sym (put_other k c cs q ne))
+        (h.loaded (sym (other_at q ne) ∙ at ∙ ap (λ (d : Control). marked d.here) (put_other k c cs q ne)));
+    put = λ p a inside may at.
+        let was = putter p q a may in
+        subst (λ (d : Control). d.here.arena ≢ x) (sym (put_other k c cs p was.1)) (h.put p a inside was.0 (sym (other_at q ne) ∙ at));
+  }
+
+  -- what is asked of k
+  pub record Goes : Type 0 where
+    pub place : IsPlace e c.here
+    pub at : IsAt e words' k c.here c.entering
+    pub old : IsOld e now.epoch c.here c.entering
+    pub past : c.past ≡ true → c.here.epoch < now.epoch
+    pub stands : (d : Place) → IsPlace e d → v ≡ packed d → holds d.arena ≡ Some d.epoch
+    pub comes : (d : Place) → c.entering ≡ Loaded d → v ≡ marked c.here → holds d.arena ≡ Some d.epoch
+    pub out : (x : ℕ) → now.arena ≢ x → IsOut e words cs x k → IsOut e words' cs' x k
+    pub earlier : (a : Place) → IsEarlier a (cs k).here (cs k).entering → IsEarlier a c.here c.entering
+
+  module _ (g : Goes) where
+    owner_then : (q : ℕ) (o : Owned) → q < e.ports → q ≢ k → IsOwner e words cs now holds q o → IsOwner e words' cs' now holds q o
+    owner_then q o inside ne h = record {
+      stands = subst (λ (d : Control). d.entering ≡ Stands) (sym (put_other k c cs q ne)) h.stands;
+      arena = h.arena;
+      apart = subst (λ (d : Control). d.here.arena ≢ o.arena) (sym (put_other k c cs q ne)) h.apart;
+      word = other (1 + e.ports + o.arena) (omega (arith, below)) ∙ h.word;
+      looked = h.looked;
+      order = h.order;
+      few = h.few;
+      out = λ p low within apart. by (eqb_tells p k) low within (h.out p low within apart) h;
+      older = subst (λ (d : Control). o.again ≡ true → IfSome o.mark (λ a. a.epoch < d.here.epoch)) (sym (put_other k c cs q ne)) h.older;
+      held = held (eqb_tells o.clean k) o.mark h.held;
+      all = h.all;
+      none = h.none;
+    }
+      where
+        by : {p : ℕ} → (((p == k) ≡ true) × (p ≡ k)) ⊎ (((p == k) ≡ false) × (p ≢ k)) → p < o.clean → p < e.ports → IsOut e words cs o.arena p → IsOwner e words cs now holds q o → IsOut e words' cs' o.arena p
+        by (inl same) low within h own =
+            let looked = own.looked (own.order (omega (arith, low))) in
+            subst (IsOut e words' cs' o.arena) (sym same.1) (g.out o.arena looked (subst (IsOut e words cs o.arena) same.1 h))
+        by {p} (inr ne) low within h own = out_other o.arena p ne.1 h
+
+        held : (((o.clean == k) ≡ true) × (o.clean ≡ k)) ⊎ (((o.clean == k) ≡ false) × (o.clean ≢ k)) → (m : Option Place) → IfSome m (λ a. IsPlace e a × IsEarlier a (cs o.clean).here (cs o.clean).entering) →
+            IfSome m (λ a. IsPlace e a × IsEarlier a (cs' o.clean).here (cs' o.clean).entering)
+        held t None h = tt
+        held (inl same) (Some a) h =
+            let here : IsEarlier a (cs k).here (cs k).entering = subst (λ i. IsEarlier a (cs i).here (cs i).entering) same.1 h.1 in
+            (h.0, subst (λ i. IsEarlier a (cs' i).here (cs' i).entering) (sym same.1) (subst (λ (d : Control). IsEarlier a d.here d.entering) (sym (put_same k c cs)) (g.earlier a here)))
+        held (inr ne) (Some a) h = (h.0, subst (λ (d : Control). IsEarlier a d.here d.entering) (sym (put_other k c cs o.clean ne.1)) h.1)
+
+    pub control_goes : LawfulControl e words' cs' now holds
+    control_goes = record {
+      current = other current_word (omega arith) ∙ w.current;
+      place = w.place;
+      present = w.present;
+      earlier = w.earlier;
+      within = w.within;
+      places = λ q inside. put_all (λ i (d : Control). i < e.ports → IsPlace e d.here) k c cs q (λ _ _. g.place) (λ _ inside. w.places q inside) inside;
+      at = λ q inside. put_all (λ i (d : Control). i < e.ports → IsAt e words' i d.here d.entering) k c cs q (λ _ _. g.at) (λ ne inside. at_other q (cs q).here (cs q).entering ne (w.at q inside)) inside;
+      old = λ q inside. put_all (λ i (d : Control). i < e.ports → IsOld e now.epoch d.here d.entering) k c cs q (λ _ _. g.old) (λ _ inside. w.old q inside) inside;
+      past = λ q inside. put_all (λ i (d : Control). i < e.ports → d.past ≡ true → d.here.epoch < now.epoch) k c cs q (λ _ _. g.past) (λ _ inside. w.past q inside) inside;
+      stands = λ q d inside place at. stands (eqb_tells q k) d inside place at;
+      comes = λ q d inside. put_all (λ i (f : Control). i < e.ports → f.entering ≡ Loaded d → IsMarked words' f i → holds d.arena ≡ Some d.epoch) k c cs q
+          (λ _ _ is at. g.comes d is (sym own ∙ at)) (λ ne inside is at. w.comes q d inside is (sym (other_at q ne) ∙ at)) inside;
+      owners = λ q inside. put_all (λ i (d : Control). i < e.ports → IfSome d.owned (IsOwner e words' cs' now holds i)) k c cs q
+          (λ _ _. subst (λ (o : Option Owned). IfSome o (IsOwner e words' cs' now holds k)) (sym free') tt)
+          (λ ne inside. owners q (cs q).owned ne inside (w.owners q inside)) inside;
+    }
+      where
+        at_other : (q : ℕ) (here : Place) (t : Entering) → q ≢ k → IsAt e words q here t → IsAt e words' q here t
+        at_other q here Stands ne h = other_at q ne ∙ h
+        at_other q here Marks ne (inl h) = inl (other_at q ne ∙ h)
+        at_other q here Marks ne (inr h) = inr (h.0, h.1, other_at q ne ∙ h.2, h.3)
+        at_other q here (Loaded d) ne (inl h) = inl (other_at q ne ∙ h)
+        at_other q here (Loaded d) ne (inr h) = inr (h.0, h.1, other_at q ne ∙ h.2, h.3)
+
+        stands : {q : ℕ} → (((q == k) ≡ true) × (q ≡ k)) ⊎ (((q == k) ≡ false) × (q ≢ k)) → (d : Place) → q < e.ports → IsPlace e d → get_or words' (at_word q) 0 ≡ packed d → holds d.arena ≡ Some d.epoch
+        stands (inl same) d inside place at = g.stands d place (sym own ∙ sym (ap (λ i. get_or words' (at_word i) 0) same.1) ∙ at)
+        stands {q} (inr ne) d inside place at = w.stands q d inside place (sym (other_at q ne.1) ∙ at)
+
+        owners : (q : ℕ) (t : Option Owned) → q ≢ k → q < e.ports → IfSome t (IsOwner e words cs now holds q) → IfSome t (IsOwner e words' cs' now holds q)
+        owners q None ne inside h = tt
+        owners q (Some o) ne inside h = owner_then q o inside ne h

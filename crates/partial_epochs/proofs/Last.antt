@@ -1,0 +1,136 @@
+-- What the words of an epoch tell last, and that it stays.
+use Rattle.std.proofs.Common.{ℕ, ◌≡◌, ◌≢◌, ◌+◌, ◌<◌, ◌≤◌, ◌==◌, ◌⊎◌, ◌++◌, Bool, true, false, cond, Option, Some, None, List, [], ◌∷◌, length, take, get_or, refl, sym, ap, subst, ◌∙◌, inl, inr, arith}
+use Rattle.std.specs.List.{AllByRecursion}
+use Rattle.std.specs.Option.{option_map_or}
+use Rattle.std.proofs.lemmas.Bool.Decides.{eqb_tells}
+use Rattle.std.proofs.lemmas.List.{take_all}
+use Rattle.partial_model.specs.declared.history.Applied.{Applied}
+use Rattle.partial_model.specs.declared.history.Opening.{Opening}
+use Rattle.partial_model.specs.History.{last_from, initial_stamp, stamp_of, value_of}
+use Rattle.partial_model.proofs.HistoryLemmas.{stamp_all}
+use Rattle.partial_words.specs.Layout.{total}
+use Rattle.partial_words.specs.Record.{value_word}
+use Rattle.partial_words.proofs.ChainLemmas.{records_within, value_behind_stamp}
+use Rattle.partial_core.specs.Lawful as one
+use Rattle.partial_core.proofs.Laws.{lawful_records_are_within}
+use Rattle.partial_epochs.specs.Lists.{list_of}
+use Rattle.partial_epochs.specs.Layout.{Plan, IsSealed, arena_words, base, component_words, plain, unsealed}
+use Rattle.partial_epochs.specs.History.{history_of, opening_behind}
+use Rattle.partial_epochs.specs.Ports.{Port}
+use Rattle.partial_epochs.specs.Ports.Entering.{Stands}
+use Rattle.partial_epochs.specs.Epochs.{Beside, IsStanding, LawfulEpochs}
+use Rattle.partial_epochs.specs.Reads.{LastWordsAreFinal, TellTheLast, read_stamp}
+use Rattle.partial_epochs.proofs.Continue.{behind_both, epochs_continue, history_took, reads_tell_all_epochs}
+use Rattle.partial_epochs.proofs.Worded.{plain_at, plain_component, plain_other}
+
+-- entries for other components leave a component as it was
+none_here : (j : ℕ) (h : List Applied) → AllByRecursion (λ (a : Applied). a.component ≢ j) h → last_from None j h ≡ None
+unfolding last_from
+none_here j [] all = refl
+none_here j (a ∷ h) all = ap (λ (t : Option Applied). last_from t j h) (other (a.component == j) (eqb_tells a.component j)) ∙ none_here j h all.1
+  where
+    other : (c : Bool) → ((c ≡ true) × (a.component ≡ j)) ⊎ ((c ≡ false) × (a.component ≢ j)) → cond c (Some a) None ≡ None
+    other c (inl is) = absurd (all.0 is.1)
+    other c (inr ne) = ap (λ (t : Bool). cond t (Some a) None) ne.0
+
+pub stays : (o : Opening) (log entries : List Applied) (j : ℕ) → AllByRecursion (λ (a : Applied). a.component ≢ j) entries →
+    (value_of o (log ++ entries) j ≡ value_of o log j) × (stamp_of o (log ++ entries) j ≡ stamp_of o log j)
+stays o log entries j all = (
+  behind_both (λ (a : Applied). a.value) log entries j (get_or o.values j 0) ∙ ap (λ (t : Option Applied). option_map_or (λ (a : Applied). a.value) t (value_of o log j)) (none_here j entries all),
+  behind_both (λ (a : Applied). a.stamp) log entries j (initial_stamp o j) ∙ ap (λ (t : Option Applied). option_map_or (λ (a : Applied). a.stamp) t (stamp_of o log j)) (none_here j entries all),
+)
+
+others : (e : Plan) (words : List ℕ) (x j : ℕ) (h : List Applied) → IsSealed (get_or (component_words e words x) j 0) →
+    AllByRecursion (λ (a : Applied). ¬ IsSealed (get_or (component_words e words x) a.component 0)) h → AllByRecursion (λ (a : Applied). a.component ≢ j) h
+others e words x j [] sealed all = tt
+others e words x j (a ∷ h) sealed all = (λ same. all.0 (subst (λ i. IsSealed (get_or (component_words e words x) i 0)) (sym same) sealed), others e words x j h sealed all.1)
+
+module _ (e : Plan) (words : List ℕ) (ports : ℕ → Port) (b : Beside) (k j : ℕ) (w : LawfulEpochs e words ports b) (below : k < e.ports) (stands : (ports k).control.entering ≡ Stands) (inside : j < e.sizes.m)
+    (s : IsStanding b k (ports k)) where
+  abbrev x : ℕ
+  x = (ports k).control.here.arena
+
+  abbrev log : List Applied
+  log = s.epoch.log
+
+  abbrev o : Opening
+  o = opening_behind e.opening (ports k).before
+
+  abbrev bw : List ℕ
+  bw = arena_words e words x
+
+  lawful : one.Lawful e.sizes (opening_behind e.opening (ports k).before) bw (list_of s.epoch.part 0 e.ports) s.epoch.log
+  lawful = subst (λ (l : List (List Applied)). one.Lawful e.sizes (opening_behind e.opening l) bw (list_of s.epoch.part 0 e.ports) s.epoch.log) s.before (w.arenas x s.epoch s.is).lawful
+
+  long : length (opening_behind e.opening (ports k).before).values ≡ e.sizes.m
+  long = lawful.memory.values
+
+  last : get_or bw j 0 ≡ stamp_of (opening_behind e.opening (ports k).before) s.epoch.log j
+  last = (lawful.memory.agrees j (let l = long in omega (arith, l, inside))).0
+
+  abbrev raw : ℕ
+  raw = get_or words (base e x + j) 0
+
+  low : j < total e.sizes
+  low = omega (arith, inside)
+
+  is_raw : get_or bw j 0 ≡ unsealed raw
+  is_raw = plain_at e words x j low ∙ plain_component e words x j raw inside
+
+  named : unsealed raw ≡ stamp_of (opening_behind e.opening (ports k).before) s.epoch.log j
+  named = sym is_raw ∙ last
+
+  -- the record lies behind the component words, and within the arena
+  above : e.sizes.m ≤ stamp_of (opening_behind e.opening (ports k).before) s.epoch.log j
+  above =
+      let r = lawful_records_are_within e.sizes (opening_behind e.opening (ports k).before) bw (list_of s.epoch.part 0 e.ports) s.epoch.log lawful in
+      stamp_all (λ n. e.sizes.m ≤ n) (opening_behind e.opening (ports k).before) j s.epoch.log
+      (weaker s.epoch.log r.entries) (r.initial j inside).0
+    where
+      weaker : (h : List Applied) → AllByRecursion (λ (a : Applied). (e.sizes.m ≤ a.stamp) × (a.stamp + 2 < length bw)) h → AllByRecursion (λ (a : Applied). e.sizes.m ≤ a.stamp) h
+      weaker [] all = tt
+      weaker (a ∷ h) all = (all.0.0, weaker h all.1)
+
+  within : get_or bw j 0 + 2 < total e.sizes
+  within =
+      let l = long in
+      let c = lawful.memory.count in
+      let r = (records_within (opening_behind e.opening (ports k).before) bw s.epoch.log lawful.memory.agrees).components j (omega (arith, l, inside)) in
+      omega (arith, r, c)
+
+  value : get_or words (base e x + value_word (unsealed raw)) 0 ≡ value_of e.opening (history_of (s.epoch.log ∷ (ports k).before)) j
+  value =
+      let l = long in
+      let at = named in
+      let from = above in
+      let up = within in
+      let is = is_raw in
+      let v : ℕ = unsealed raw + 1 in
+      let there : get_or bw (unsealed raw + 1) 0 ≡ plain e (unsealed raw + 1) (get_or words (base e x + (unsealed raw + 1)) 0) = plain_at e words x (unsealed raw + 1) (omega (arith, up, is)) in
+      let values = w.plan.values in
+      sym (there ∙ plain_other e words x (unsealed raw + 1) (get_or words (base e x + (unsealed raw + 1)) 0) (omega (arith, at, from)))
+      ∙ ap (λ n. get_or bw (n + 1) 0) named
+      ∙ ap (λ (h : List Applied). get_or bw (stamp_of (opening_behind e.opening (ports k).before) h j + 1) 0) (sym (take_all (length s.epoch.log) s.epoch.log (omega arith)))
+      ∙ value_behind_stamp (opening_behind e.opening (ports k).before) bw s.epoch.log j (length s.epoch.log) lawful.memory.agrees (omega (arith, l, inside))
+      ∙ ap (λ (h : List Applied). value_of (opening_behind e.opening (ports k).before) h j) (take_all (length s.epoch.log) s.epoch.log (omega arith))
+      ∙ sym (epochs_continue e.opening s.epoch.log (ports k).before j (omega (arith, values, inside))).value
+
+  public : read_stamp e words (ports k) j (unsealed raw) ≡ stamp_of e.opening (history_of (s.epoch.log ∷ (ports k).before)) j
+  public =
+      let n : ℕ = length s.epoch.log in
+      let all : take (length s.epoch.log) s.epoch.log ≡ s.epoch.log = take_all (length s.epoch.log) s.epoch.log (omega arith) in
+      let told = reads_tell_all_epochs e words ports b k j (length s.epoch.log) w below stands inside s (omega arith) in
+      ap (read_stamp e words (ports k) j) named
+      ∙ ap (λ (h : List Applied). read_stamp e words (ports k) j (stamp_of (opening_behind e.opening (ports k).before) h j)) (sym all)
+      ∙ told.2
+      ∙ ap (λ (h : List Applied). stamp_of e.opening h j) (history_took s.epoch.log (ports k).before (length s.epoch.log))
+      ∙ ap (λ (h : List Applied). stamp_of e.opening (history_of (h ∷ (ports k).before)) j) all
+
+  pub tell : TellTheLast e words (ports k) s.epoch.log j
+  tell = record { stamp = named; value = value; public = public }
+
+pub last_words_are_final : LastWordsAreFinal
+last_words_are_final e words ports b k j w below stands inside s = (
+  tell e words ports b k j w below stands inside s,
+  λ q c step lead sealed o log. stays o log lead.entries j (others e words (ports q).control.here.arena j lead.entries sealed lead.free),
+)

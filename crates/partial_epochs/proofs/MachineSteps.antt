@@ -1,0 +1,239 @@
+-- Each due step of a machine in the arena where its port stands keeps the lawful state of all epochs.
+use Rattle.std.proofs.Common.{ℕ, ◌≡◌, ◌≢◌, ◌+◌, ◌*◌, ◌%◌, ◌^◌, ◌<◌, ◌≤◌, ◌==◌, ◌⊎◌, ◌++◌, Bool, true, false, cond, Some, List, [], ◌∷◌, length, get_or, set, refl, sym, ap, subst, ◌∙◌, inl, inr, arith}
+use Rattle.std.specs.Prelude.{◌&&◌, ◌||◌, nat_lt}
+use Rattle.std.specs.List.{AllByRecursion}
+use Rattle.std.proofs.lemmas.Bool.{cases_lt, lt-ltb}
+use Rattle.std.proofs.lemmas.Bool.Decides.{eqb_tells}
+use Rattle.std.proofs.lemmas.List.{get_or-set_same, get_or-set_other}
+use Rattle.partial_model.specs.declared.history.Applied.{Applied}
+use Rattle.partial_model.specs.declared.history.Opening.{Opening}
+use Rattle.partial_words.specs.declared.step.Step.{Step}
+use Rattle.partial_words.specs.declared.step.Step.TheVariants.{Load, Store, Exchange, Add}
+use Rattle.partial_words.specs.Layout.{Layout, total, pool_counter, greatest_record}
+use Rattle.partial_words.specs.Step.{answer_of, word_of, words_after}
+use Rattle.partial_machine.specs.Machine.{CoreState, step_of}
+use Rattle.partial_core.specs.Part.{Part, IsMachineOf, port_of}
+use Rattle.partial_core.specs.Lawful as one
+use Rattle.partial_core.specs.Steps.{LeadsOn, Tells, added_by}
+use Rattle.partial_core.proofs.Laws.{steps_stay_lawful}
+use Rattle.partial_epochs.specs.Lists.{count, list_of, put}
+use Rattle.partial_epochs.specs.Layout.{Plan, arena_words, carried_words, component_words, placed}
+use Rattle.partial_epochs.specs.History.{opening_behind}
+use Rattle.partial_epochs.specs.Ports.{Port, Epoch}
+use Rattle.partial_epochs.specs.Epochs.{Beside, IsArena, IsStanding, LawfulEpochs, IsPresent}
+use Rattle.partial_epochs.specs.MachineSteps.{MachineLeads, MachineStepsStayLawful, MayClaim, MeetsSeal, ends_over}
+use Rattle.partial_epochs.specs.Ports.Entering.{Stands}
+use Rattle.partial_epochs.proofs.Apart.{IsApart, due_apart}
+use Rattle.partial_epochs.proofs.Change.{Changes, beside_then, change_kept}
+use Rattle.partial_epochs.proofs.Lists.{Around, around_of, count_more, count_same, length_of, put_all, put_other, put_same}
+use Rattle.partial_epochs.proofs.Places.{below_whole, not_below}
+use Rattle.partial_epochs.proofs.Present.{by_seal, standing}
+use Rattle.partial_epochs.proofs.Worded.{Words, worded}
+
+or_none : (b c : Bool) → c ≡ false → (b || c) ≡ b
+or_none true c e = refl
+or_none false c e = e
+
+-- The reserve: a claim that ends past the limit is its port's last.
+module _ (e : Plan) (words : List ℕ) (over : ℕ → Bool) (k : ℕ) (below : k < e.ports) (there : pool_counter e.sizes < length words)
+    (reserve : get_or words (pool_counter e.sizes) 0 ≤ e.limit + greatest_record e.sizes * count over 0 e.ports) where
+  abbrev Reserved : Bool → List ℕ → Type 0
+  Reserved v words' = get_or words' (pool_counter e.sizes) 0 ≤ e.limit + greatest_record e.sizes * count (put k v over) 0 e.ports
+
+  unchanged : (v : Bool) → v ≡ over k → count (put k v over) 0 e.ports ≡ count over 0 e.ports
+  unchanged v is = count_same (put k v over) over 0 e.ports (λ i low high. put_all (λ j u. u ≡ over j) k v over i (λ _. is) (λ _. refl))
+
+  reserved_same : (v : Bool) (words' : List ℕ) → v ≡ over k → get_or words' (pool_counter e.sizes) 0 ≡ get_or words (pool_counter e.sizes) 0 → Reserved v words'
+  reserved_same v words' is same =
+      let times : greatest_record e.sizes * count (put k v over) 0 e.ports ≡ greatest_record e.sizes * count over 0 e.ports = ap (λ n. greatest_record e.sizes * n) (unchanged v is) in
+      omega (arith, times, same, reserve)
+
+  reserved_by : (step : Step) → IsApart e.sizes step → MayClaim e (over k) step → Reserved (over k || ends_over e words step) (words_after words step)
+  reserved_by (Load w) apart may = reserved_same (over k || false) words (or_none (over k) false refl) refl
+  reserved_by (Store w v) apart may = reserved_same (over k || false) (set words w v) (or_none (over k) false refl)
+      (get_or-set_other words w (pool_counter e.sizes) v 0 (omega (arith, apart)))
+  reserved_by (Exchange w old new) apart may = reserved_same (over k || false) (words_after words (Exchange w old new)) (or_none (over k) false refl)
+      (get_or-set_other words w (pool_counter e.sizes) (cond (get_or words w 0 == old) new (get_or words w 0)) 0 (omega (arith, apart)))
+  reserved_by (Add w n) apart may = elim (eqb_tells w (pool_counter e.sizes)) [
+    | inl same ↦ claimed same.0 same.1
+    | inr other ↦
+        let ne = other.1 in
+        reserved_same (over k || ends_over e words (Add w n)) (words_after words (Add w n))
+        (or_none (over k) (ends_over e words (Add w n)) (ap (λ (b : Bool). b && nat_lt e.limit (get_or words w 0 + n)) other.0))
+        (get_or-set_other words w (pool_counter e.sizes) ((get_or words w 0 + n) % 2 ^ 64) 0 (omega (arith, ne)))
+  ]
+    where
+      claimed : (w == pool_counter e.sizes) ≡ true → w ≡ pool_counter e.sizes → Reserved (over k || ends_over e words (Add w n)) (words_after words (Add w n))
+      claimed test is =
+          let at : get_or words w 0 ≡ get_or words (pool_counter e.sizes) 0 = ap (λ i. get_or words i 0) is in
+          let few : n ≤ greatest_record e.sizes = omega (arith, apart, is) in
+          let found : get_or (words_after words (Add w n)) (pool_counter e.sizes) 0 ≡ (get_or words w 0 + n) % 2 ^ 64 =
+          ap (λ i. get_or (words_after words (Add w n)) i 0) (sym is) ∙ get_or-set_same words w ((get_or words w 0 + n) % 2 ^ 64) 0 (subst (λ i. i < length words) (sym is) there) in
+          let less : (get_or words w 0 + n) % 2 ^ 64 ≤ get_or words w 0 + n = omega arith in
+          let free = may is in
+          let v : Bool = over k || ends_over e words (Add w n) in
+          let v_is : v ≡ nat_lt e.limit (get_or words w 0 + n) = ap (λ (b : Bool). b || ends_over e words (Add w n)) free ∙ ap (λ (b : Bool). b && nat_lt e.limit (get_or words w 0 + n)) test in
+          elim (cases_lt e.limit (get_or words w 0 + n)) [
+            | inl past ↦
+                let on : put k v over k ≡ true = put_same k v over ∙ v_is ∙ lt-ltb e.limit (get_or words w 0 + n) past in
+                let more : count (put k v over) 0 e.ports ≡ count over 0 e.ports + 1 = count_more over (put k v over) 0 e.ports k (omega arith) (omega (arith, below)) free on (λ i ne. put_other k v over i ne) in
+                let times : greatest_record e.sizes * count (put k v over) 0 e.ports ≡ greatest_record e.sizes * (count over 0 e.ports + 1) = ap (λ q. greatest_record e.sizes * q) more in
+                omega (arith, found, less, reserve, at, few, times)
+            | inr within ↦
+                let off : v ≡ over k = v_is ∙ not_below e.limit (get_or words w 0 + n) within ∙ sym free in
+                let times : greatest_record e.sizes * count (put k v over) 0 e.ports ≡ greatest_record e.sizes * count over 0 e.ports = ap (λ q. greatest_record e.sizes * q) (unchanged v off) in
+                omega (arith, found, less, within, times)
+          ]
+
+-- the entries of a step are by its port
+added_own : (z : Layout) (p : ℕ) (words : List ℕ) (step : Step) → AllByRecursion (λ (a : Applied). a.port ≡ p) (added_by z p words step)
+added_own z p words (Load v) = tt
+added_own z p words (Store v u) = tt
+added_own z p words (Add v u) = tt
+added_own z p words (Exchange v old new) = by (nat_lt v z.m) (get_or words v 0 == old)
+  where
+    by : (b c : Bool) → AllByRecursion (λ (a : Applied). a.port ≡ p) (cond b (cond c (record { port = p; component = v; value = get_or words (new + 1) 0; stamp = new } ∷ []) []) [])
+    by true true = (refl, tt)
+    by true false = tt
+    by false c = tt
+
+module _ (e : Plan) (words : List ℕ) (ports : ℕ → Port) (b : Beside) (k : ℕ) (c : CoreState) (step : Step) (w : LawfulEpochs e words ports b) (below : k < e.ports)
+    (stands : (ports k).control.entering ≡ Stands) (machine : IsMachineOf c (ports k).part) (due : step_of c ≡ Some step) (may : MayClaim e (ports k).over step) where
+  abbrev s : IsStanding b k (ports k)
+  s = standing e words ports b k w below stands
+
+  abbrev x : ℕ
+  x = (ports k).control.here.arena
+
+  abbrev r : Epoch
+  r = s.epoch
+
+  abbrev o : Opening
+  o = opening_behind e.opening r.before
+
+  abbrev bw : List ℕ
+  bw = arena_words e words x
+
+  arena : IsArena e bw (component_words e words x) (carried_words e words x) r (x ≢ b.arena)
+  arena = w.arenas x r s.is
+
+  around : Around r.part 0 e.ports k
+  around = around_of r.part 0 e.ports k (omega arith) (omega (arith, below))
+
+  lawful_here : one.Lawful e.sizes o bw (around.before ++ r.part k ∷ around.after) r.log
+  lawful_here = subst (λ (l : List Part). one.Lawful e.sizes o bw l r.log) around.is arena.lawful
+
+  machine_here : IsMachineOf c (r.part k)
+  machine_here = subst (IsMachineOf c) (sym s.part) machine
+
+  leads : LeadsOn e.sizes o bw around.before (r.part k) around.after r.log c step
+  leads = steps_stay_lawful e.sizes o bw around.before (r.part k) around.after r.log c step lawful_here machine_here due
+
+  apart : IsApart e.sizes step
+  apart = due_apart e.sizes o bw around.before (r.part k) around.after r.log lawful_here c step machine_here due
+
+  low : word_of step < total e.sizes
+  low = let within = leads.answers.within in let count = length_of (λ i. i) 0 0 in subst (λ n. word_of step < n) lawful_here.memory.count within
+
+  abbrev entries : List Applied
+  entries = added_by e.sizes (port_of (r.part k)) bw step
+
+  abbrev words' : List ℕ
+  words' = words_after words (placed e x step)
+
+  module _ (h : Words e words x step (words_after words (placed e (ports k).control.here.arena step))) where
+    abbrev over' : Bool
+    over' = (ports k).over || ends_over e bw step
+
+    abbrev p' : Port
+    p' = record (ports k) { part = leads.y; over = over' }
+
+    abbrev r' : Epoch
+    r' = record r { log = r.log ++ entries; part = put k leads.y r.part; over = put k over' r.over }
+
+    same_over : over' ≡ (r.over k || ends_over e bw step)
+    same_over = ap (λ (v : Bool). v || ends_over e bw step) (sym s.over)
+
+    arena_then : IsArena e (arena_words e words' x) (component_words e words' x) (carried_words e words x) r' (x ≢ b.arena)
+    arena_then =
+        let list : list_of (put k leads.y r.part) 0 e.ports ≡ around.before ++ leads.y ∷ around.after =
+        around.then (put k leads.y r.part) (λ i ne. put_other k leads.y r.part i ne) ∙ ap (λ (y : Part). around.before ++ y ∷ around.after) (put_same k leads.y r.part) in
+        let there : pool_counter e.sizes < length bw = let count = lawful_here.memory.count in let pool = lawful_here.memory.sizes.pool.0 in let some = lawful_here.memory.sizes.slots.0 in let m = lawful_here.memory.sizes.components.0 in omega (arith, count, pool, some, m) in
+        let claim : MayClaim e (r.over k) step = subst (λ (v : Bool). MayClaim e v step) (sym s.over) may in
+        record {
+          lawful = subst (λ (l : List ℕ). one.Lawful e.sizes o l (list_of (put k leads.y r.part) 0 e.ports) (r.log ++ entries)) (sym h.arena)
+              (subst (λ (l : List Part). one.Lawful e.sizes o (words_after bw step) l (r.log ++ entries)) (sym list) leads.lawful);
+          numbers = λ q inside. put_all (λ i (y : Part). i < e.ports → port_of y ≡ i) k leads.y r.part q (λ _ _. leads.tells.port ∙ arena.numbers k below) (λ _ inside. arena.numbers q inside) inside;
+          stamps = arena.stamps;
+          few = λ j inside. let same = (h.seals j inside).0 in let few = arena.few j inside in omega (arith, same, few);
+          passed = λ q j in_ports in_passed inside. (h.seals j inside).1 (arena.passed q j in_ports in_passed inside);
+          sealed = λ finished j inside. (h.seals j inside).1 (arena.sealed finished j inside);
+          reserve = subst (λ (l : List ℕ). get_or l (pool_counter e.sizes) 0 ≤ e.limit + greatest_record e.sizes * count (put k over' r.over) 0 e.ports) (sym h.arena)
+              (subst (λ (v : Bool). get_or (words_after bw step) (pool_counter e.sizes) 0 ≤ e.limit + greatest_record e.sizes * count (put k v r.over) 0 e.ports) (sym same_over)
+              (reserved_by e bw r.over k below there arena.reserve step apart claim));
+        }
+
+    changes : Changes e words b k x (ports k) r words' p' r' entries
+    changes = record {
+      count = h.count;
+      outside = h.outside;
+      log = refl;
+      before = refl;
+      parts = λ q ne. put_other k leads.y r.part q ne;
+      passes = λ q ne. refl;
+      overs = λ q ne. put_other k over' r.over q ne;
+      part = put_same k leads.y r.part;
+      passed = s.passed;
+      over = put_same k over' r.over;
+      more = omega arith;
+      control = refl;
+      earlier = refl;
+      grows = h.grows (port_of (r.part k));
+      arena = arena_then;
+    }
+
+    present : (entries ≡ []) ⊎ IsPresent b k (ports k)
+    present = elim (h.grows (port_of (r.part k))) [
+      | inl none ↦ inl none
+      | inr free ↦ inr (by_seal e words ports b k w below stands free.0 free.1 free.2)
+    ]
+
+    tells : Tells e.sizes (opening_behind e.opening (ports k).before) r.log entries (ports k).part c (answer_of bw step) leads.y
+    tells = subst (λ (l : List (List Applied)). Tells e.sizes (opening_behind e.opening l) r.log entries (ports k).part c (answer_of bw step) leads.y) s.before
+        (subst (λ (y : Part). Tells e.sizes o r.log entries y c (answer_of bw step) leads.y) s.part leads.tells)
+
+    pub machine_leads : MachineLeads e words ports b k c step
+    machine_leads = record {
+      standing = s;
+      within = there step low;
+      gives = h.gives;
+      port = p';
+      entries = entries;
+      control = refl;
+      before = refl;
+      passed = refl;
+      over = refl;
+      tells = tells;
+      present = present;
+      own = subst (λ n. AllByRecursion (λ (a : Applied). a.port ≡ n) entries) (arena.numbers k below) (added_own e.sizes (port_of (r.part k)) bw step);
+      free = h.free (port_of (r.part k));
+      beside = beside_then b x r' entries;
+      log = refl;
+      epochs = refl;
+      lawful = change_kept e words ports b k w below stands words' p' r' entries changes;
+    }
+      where
+        there : (t : Step) → word_of t < total e.sizes → word_of (placed e x t) < length words
+        there (Load v) low = let up = below_whole e x v (w.control.places k below).arena (omega (arith, low)) in let count = w.count in omega (arith, up, count)
+        there (Store v u) low = let up = below_whole e x v (w.control.places k below).arena (omega (arith, low)) in let count = w.count in omega (arith, up, count)
+        there (Exchange v u n) low = let up = below_whole e x v (w.control.places k below).arena (omega (arith, low)) in let count = w.count in omega (arith, up, count)
+        there (Add v u) low = let up = below_whole e x v (w.control.places k below).arena (omega (arith, low)) in let count = w.count in omega (arith, up, count)
+
+  pub machine_kept : (MeetsSeal e (component_words e words (ports k).control.here.arena) step × (words_after words (placed e (ports k).control.here.arena step) ≡ words)) ⊎ MachineLeads e words ports b k c step
+  machine_kept = elim (worded e words x step (w.control.places k below).arena w.count low apart w.plan.sizes.slots.0) [
+    | inl met ↦ inl met
+    | inr h ↦ inr (machine_leads h)
+  ]
+
+pub machine_steps_stay_lawful : MachineStepsStayLawful
+machine_steps_stay_lawful e words ports b k c step w below stands machine due may = machine_kept e words ports b k c step w below stands machine due may

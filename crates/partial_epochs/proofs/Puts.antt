@@ -1,0 +1,214 @@
+-- A port puts another one where it stands itself.
+use Rattle.std.proofs.Common.{ℕ, ◌≡◌, ◌≢◌, ◌+◌, ◌<◌, ◌≤◌, ◌==◌, ◌⊎◌, Bool, true, false, cond, Option, Some, None, IfSome, List, length, get_or, set, refl, sym, ap, subst, ◌∙◌, inl, inr, arith}
+use Rattle.std.proofs.lemmas.Bool.Decides.{eqb_tells}
+use Rattle.std.proofs.lemmas.List.{get_or-set_same, get_or-set_other, length-set}
+use Rattle.partial_epochs.specs.Lists.{put}
+use Rattle.partial_epochs.specs.Layout.{Plan, Place, IsPlace, at_word, control_size, control_words, current_word, marked, packed, arena_limit}
+use Rattle.partial_epochs.specs.Ports.{Control, Entering, Owned, Port}
+use Rattle.partial_epochs.specs.Control.{IsAt, IsEarlier, IsMarked, IsOut, IsOwner, LawfulControl, MayPut}
+use Rattle.partial_epochs.specs.Epochs.{Beside, LawfulEpochs, controls, numbers, place_now}
+use Rattle.partial_epochs.specs.Owning.{PutsStayLawful, cleaner, having_put}
+use Rattle.partial_epochs.specs.Ports.Entering.{Stands, Marks, Loaded}
+use Rattle.partial_epochs.proofs.Entering.{control_lifted, cw_at, cw_long, marked_epoch, not_marked}
+use Rattle.partial_epochs.proofs.Lists.{set_of}
+use Rattle.partial_epochs.proofs.Owning.{knows_more}
+use Rattle.partial_epochs.proofs.Places.{packed_arena}
+use Rattle.partial_epochs.proofs.Present.{same_place}
+
+-- the word of port q is set, which port k holds the mark of
+module _ (e : Plan) (words : List ℕ) (cs : ℕ → Control) (now : Place) (holds : ℕ → Option ℕ) (w : LawfulControl e words cs now holds) (k : ℕ) (below : k < e.ports) (o : Owned) (a : Place)
+    (few : e.arenas ≤ arena_limit) (long : length words ≡ control_size e) (owned : (cs k).owned ≡ Some o) (within : o.clean < e.ports) (none : o.set ≡ 0) (looked : o.looked ≡ true)
+    (mark : o.mark ≡ Some a) (again : o.again ≡ true) (there : get_or words (at_word o.clean) 0 ≡ marked a) where
+  abbrev q : ℕ
+  q = o.clean
+
+  abbrev here : Place
+  here = (cs k).here
+
+  abbrev words' : List ℕ
+  words' = set words (at_word o.clean) (packed (cs k).here)
+
+  own : IsOwner e words cs now holds k o
+  own = subst (λ (t : Option Owned). IfSome t (IsOwner e words cs now holds k)) owned (w.owners k below)
+
+  place : IsPlace e (cs k).here
+  place = w.places k below
+
+  mine : get_or words (at_word k) 0 ≡ packed (cs k).here
+  mine = subst (IsAt e words k (cs k).here) own.stands (w.at k below)
+
+  may : MayPut (cs k) o.clean a
+  may = record { owned = o; is = owned; port = refl; mark = mark; again = again }
+
+  held : IsPlace e a × IsEarlier a (cs o.clean).here (cs o.clean).entering
+  held = subst (λ (m : Option Place). IfSome m (λ a. IsPlace e a × IsEarlier a (cs o.clean).here (cs o.clean).entering)) mark own.held
+
+  older : a.epoch < (cs k).here.epoch
+  older = subst (λ (m : Option Place). IfSome m (λ a. a.epoch < (cs k).here.epoch)) mark (own.older again)
+
+  set_at : get_or words' (at_word o.clean) 0 ≡ packed (cs k).here
+  set_at = get_or-set_same words (at_word o.clean) (packed (cs k).here) 0 (omega (arith, long, within))
+
+  other : (i : ℕ) → i ≢ at_word o.clean → get_or words' i 0 ≡ get_or words i 0
+  other i ne = get_or-set_other words (at_word o.clean) i (packed (cs k).here) 0 ne
+
+  other_at : (r : ℕ) → r ≢ o.clean → get_or words' (at_word r) 0 ≡ get_or words (at_word r) 0
+  other_at r ne = other (at_word r) (omega (arith, ne))
+
+  is_here : (d : Place) → IsPlace e d → packed (cs k).here ≡ packed d → (cs k).here ≡ d
+  is_here d there is = let both = packed_arena e (cs k).here d few place.arena there.arena is in same_place (cs k).here d both.0 both.1
+
+  out_q : (x : ℕ) → (cs k).here.arena ≢ x → IsOut e words' cs x o.clean
+  out_q x ne = record {
+    unmarked = λ d there is. subst (λ (d : Place). d.arena ≢ x) (is_here d there (sym set_at ∙ is)) ne;
+    loaded = λ is. absurd (not_marked e (cs k).here (cs o.clean).here few place (sym set_at ∙ is));
+    put = λ p a low may is. absurd (not_marked e (cs k).here a few place (sym set_at ∙ is));
+  }
+
+  out_then : (x r : ℕ) → IsOut e words cs x r → IsOut e words' cs x r
+  out_then x r h = elim (eqb_tells r o.clean) [
+    | inl same ↦
+        let was : IsOut e words cs x o.clean = subst (IsOut e words cs x) same.1 h in
+        subst (IsOut e words' cs x) (sym same.1) (out_q x (was.put k a below may there))
+    | inr ne ↦ record {
+      unmarked = λ d place at. h.unmarked d place (sym (other_at r ne.1) ∙ at);
+      loaded = λ at. h.loaded (sym (other_at r ne.1) ∙ at);
+      put = λ p a low may at. h.put p a low may (sym (other_at r ne.1) ∙ at);
+    }
+  ]
+
+  owner_then : (r : ℕ) (t : Owned) → IsOwner e words cs now holds r t → IsOwner e words' cs now holds r t
+  owner_then r t h = record {
+    stands = h.stands;
+    arena = h.arena;
+    apart = h.apart;
+    word = other (1 + e.ports + t.arena) (omega (arith, within)) ∙ h.word;
+    looked = h.looked;
+    order = h.order;
+    few = h.few;
+    out = λ p less low ne. out_then t.arena p (h.out p less low ne);
+    older = h.older;
+    held = h.held;
+    all = h.all;
+    none = h.none;
+  }
+
+  owner_of : (r : ℕ) (t : Option Owned) → IfSome t (IsOwner e words cs now holds r) → IfSome t (IsOwner e words' cs now holds r)
+  owner_of r None h = tt
+  owner_of r (Some t) h = owner_then r t h
+
+  at_q : (t : Entering) → (cs o.clean).entering ≡ t → IsAt e words o.clean (cs o.clean).here t → IsAt e words' o.clean (cs o.clean).here t
+  at_q Stands is h = absurd (not_marked e (cs o.clean).here a few (w.places o.clean within) (sym h ∙ there))
+  at_q Marks is (inl h) = let same = marked_epoch e a (cs o.clean).here few held.0 (w.places o.clean within) (sym there ∙ h) in let less = older in inr ((cs k).here, place, set_at, omega (arith, same, less))
+  at_q Marks is (inr h) = absurd (not_marked e h.0 a few h.1 (sym h.2 ∙ there))
+  at_q (Loaded d) is (inl h) = let same = marked_epoch e a (cs o.clean).here few held.0 (w.places o.clean within) (sym there ∙ h) in let less = older in inr ((cs k).here, place, set_at, omega (arith, same, less))
+  at_q (Loaded d) is (inr h) = absurd (not_marked e h.0 a few h.1 (sym h.2 ∙ there))
+
+  at_other : (r : ℕ) (d : Place) (t : Entering) → r ≢ o.clean → IsAt e words r d t → IsAt e words' r d t
+  at_other r d Stands ne h = other_at r ne ∙ h
+  at_other r d Marks ne (inl h) = inl (other_at r ne ∙ h)
+  at_other r d Marks ne (inr h) = inr (h.0, h.1, other_at r ne ∙ h.2, h.3)
+  at_other r d (Loaded f) ne (inl h) = inl (other_at r ne ∙ h)
+  at_other r d (Loaded f) ne (inr h) = inr (h.0, h.1, other_at r ne ∙ h.2, h.3)
+
+  at_then : (r : ℕ) → r < e.ports → IsAt e words' r (cs r).here (cs r).entering
+  at_then r low = elim (eqb_tells r o.clean) [
+    | inl same ↦ subst (λ i. IsAt e words' i (cs i).here (cs i).entering) (sym same.1) (at_q (cs o.clean).entering refl (w.at o.clean within))
+    | inr ne ↦ at_other r (cs r).here (cs r).entering ne.1 (w.at r low)
+  ]
+
+  stands_then : (r : ℕ) (d : Place) → r < e.ports → IsPlace e d → get_or words' (at_word r) 0 ≡ packed d → holds d.arena ≡ Some d.epoch
+  stands_then r d low there at = elim (eqb_tells r o.clean) [
+    | inl same ↦ subst (λ (d : Place). holds d.arena ≡ Some d.epoch) (is_here d there (sym set_at ∙ sym (ap (λ i. get_or words' (at_word i) 0) same.1) ∙ at)) (w.stands k (cs k).here below place mine)
+    | inr ne ↦ w.stands r d low there (sym (other_at r ne.1) ∙ at)
+  ]
+
+  comes_then : (r : ℕ) (d : Place) → r < e.ports → (cs r).entering ≡ Loaded d → IsMarked words' (cs r) r → holds d.arena ≡ Some d.epoch
+  comes_then r d low is at = elim (eqb_tells r o.clean) [
+    | inl same ↦ absurd (not_marked e (cs k).here (cs r).here few place (sym set_at ∙ sym (ap (λ i. get_or words' (at_word i) 0) same.1) ∙ at))
+    | inr ne ↦ w.comes r d low is (sym (other_at r ne.1) ∙ at)
+  ]
+
+  helped : LawfulControl e words' cs now holds
+  helped = record {
+    current = other current_word (omega arith) ∙ w.current;
+    place = w.place;
+    present = w.present;
+    earlier = w.earlier;
+    within = w.within;
+    places = w.places;
+    at = at_then;
+    old = w.old;
+    past = w.past;
+    stands = stands_then;
+    comes = comes_then;
+    owners = λ r low. owner_of r (cs r).owned (w.owners r low);
+  }
+
+  abbrev c : Control
+  c = record (cs k) { owned = Some (cleaner o) }
+
+  own_cleaner : IsOwner e words' cs now holds k (cleaner o)
+  own_cleaner = record {
+    stands = own.stands;
+    arena = own.arena;
+    apart = own.apart;
+    word = other (1 + e.ports + o.arena) (omega (arith, within)) ∙ own.word;
+    looked = own.looked;
+    order = λ _. looked;
+    few = omega (arith, within);
+    out = λ p less low ne. last p less low ne (eqb_tells p o.clean);
+    older = λ _. tt;
+    held = tt;
+    all = λ some. absurd (omega (arith, some, none));
+    none = λ some. absurd (omega (arith, some, none));
+  }
+    where
+      last : (p : ℕ) → p < o.clean + 1 → p < e.ports → p ≢ k → (((p == o.clean) ≡ true) × (p ≡ o.clean)) ⊎ (((p == o.clean) ≡ false) × (p ≢ o.clean)) → IsOut e words' cs o.arena p
+      last p less low ne (inl same) = subst (IsOut e words' cs o.arena) (sym same.1) (out_q o.arena own.apart)
+      last p less low ne (inr apart) = let other = apart.1 in out_then o.arena p (own.out p (omega (arith, less, other)) low ne)
+
+  no_puts : (j : ℕ) (d : Place) → MayPut c j d → ⊥
+  no_puts j d may =
+      let same : cleaner o ≡ may.owned = cc in
+      let bad : None ≡ Some d = ap (λ (t : Owned). t.mark) same ∙ may.mark in
+      cc
+
+  pub puts_on : LawfulControl e words' (put k c cs) now holds
+  puts_on = knows_more e words' cs now holds helped k below c refl refl (w.past k below) (λ j d may. absurd (no_puts j d may)) own_cleaner
+
+module _ (e : Plan) (words : List ℕ) (ports : ℕ → Port) (b : Beside) (k : ℕ) (o : Owned) (a : Place) (w : LawfulEpochs e words ports b) (below : k < e.ports) (owned : (ports k).control.owned ≡ Some o)
+    (looked : o.looked ≡ true) (within : o.clean < e.ports) (none : o.set ≡ 0) (mark : o.mark ≡ Some a) (again : o.again ≡ true) (there : get_or words (at_word o.clean) 0 ≡ marked a) where
+  abbrev put_to : ℕ
+  put_to = packed (ports k).control.here
+
+  abbrev words_put : List ℕ
+  words_put = set words (at_word o.clean) put_to
+
+  set_control : control_words e words_put ≡ set (control_words e words) (at_word o.clean) put_to
+  set_control =
+      let count = w.count in
+      let zero_here : 0 + at_word o.clean ≡ at_word o.clean = omega arith in
+      set_of (λ i. get_or words i 0) (λ i. get_or words_put i 0) 0 (control_size e) (at_word o.clean) (omega (arith, within)) (λ j ne. get_or-set_other words (at_word o.clean) j put_to 0 (omega (arith, ne)))
+      ∙ ap (λ i. set (control_words e words) (at_word o.clean) (get_or words_put i 0)) zero_here
+      ∙ ap (λ u. set (control_words e words) (at_word o.clean) u) (get_or-set_same words (at_word o.clean) put_to 0 (omega (arith, count, within)))
+
+  pub put_kept : LawfulEpochs e words_put (put k (having_put (ports k) o) ports) b
+  put_kept =
+      let p' : Port = having_put (ports k) o in
+      let at = cw_at e words ports b k (ports k) 0 w below (at_word o.clean) (omega (arith, within)) in
+      let control = puts_on e (control_words e words) (controls ports) (place_now b) (numbers b) w.control k below o a w.plan.arenas (cw_long e words) owned within none looked mark again (at ∙ there) in
+      let own : IsOwner e (control_words e words) (controls ports) (place_now b) (numbers b) k o =
+      subst (λ (t : Option Owned). IfSome t (IsOwner e (control_words e words) (controls ports) (place_now b) (numbers b) k)) owned (w.control.owners k below) in
+      control_lifted e words words_put (λ i from. get_or-set_other words (at_word o.clean) i put_to 0 (omega (arith, from, within))) ports b k p' w (length-set words (at_word o.clean) put_to)
+      (get_or-set_other words (at_word o.clean) current_word put_to 0 (omega arith))
+      (record { few = omega (arith, none); sealed = λ some. absurd (omega (arith, some, none)); each = λ at i less. absurd (omega (arith, less, none)) })
+      (subst (λ (l : List ℕ). LawfulControl e l (put k p'.control (controls ports)) (place_now b) (numbers b)) (sym set_control) control)
+      (λ _. let s = w.standing k below own.stands in record { epoch = s.epoch; is = s.is; before = s.before; part = s.part; passed = s.passed; over = s.over })
+      (omega arith) below
+
+pub puts_stay_lawful : PutsStayLawful
+puts_stay_lawful e words ports b k o a w below owned looked within none mark again there =
+    let won : (get_or words (at_word o.clean) 0 == marked a) ≡ true = (elim (eqb_tells (get_or words (at_word o.clean) 0) (marked a)) [ inl t ↦ t.0 | inr f ↦ absurd (f.1 there) ]) in
+    subst (λ (t : Bool). LawfulEpochs e (set words (at_word o.clean) (cond t (packed (ports k).control.here) (get_or words (at_word o.clean) 0))) (put k (having_put (ports k) o) ports) b) (sym won)
+    (put_kept e words ports b k o a w below owned looked within none mark again there)

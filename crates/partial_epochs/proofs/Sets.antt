@@ -1,0 +1,297 @@
+-- A word of an owned arena is set.
+use Rattle.std.proofs.Common.{ℕ, ◌≡◌, ◌≢◌, ◌+◌, ◌-◌, ◌<◌, ◌≤◌, Bool, cond, Option, Some, None, IfSome, List, length, get_or, set, refl, sym, ap, subst, ◌∙◌, inl, inr, arith}
+use Rattle.std.specs.Option.{option_map}
+use Rattle.std.proofs.lemmas.Bool.{cases_lt, lt-ltb}
+use Rattle.std.proofs.lemmas.Bool.Decides.{eqb_tells}
+use Rattle.std.proofs.lemmas.List.{get_or-set_same, get_or-set_other, length-set}
+use Rattle.partial_words.specs.Layout.{first_free, total}
+use Rattle.partial_epochs.specs.Lists.{put}
+use Rattle.partial_epochs.specs.Layout.{Plan, Place, IsPlace, at_word, arena_words, base, carried_word, carried_words, component_words, control_size, control_words, current_word, packed, plain, span, set_word}
+use Rattle.partial_epochs.specs.Ports.{Control, Owned, Port, Epoch}
+use Rattle.partial_epochs.specs.Control.{IsAt, IsMarked, IsOwner, LawfulControl, MayPut, NotInto}
+use Rattle.partial_epochs.specs.Epochs.{Beside, IsArena, IsNew, IsSetting, IsStanding, LawfulEpochs, controls, next_word, numbers, place_now}
+use Rattle.partial_epochs.specs.Publishing.{SetsStayLawful, having_set, vacated}
+use Rattle.partial_epochs.specs.Ports.Entering.{Stands, Loaded}
+use Rattle.partial_epochs.proofs.Lists.{put_all, put_other, put_same, same_of}
+use Rattle.partial_epochs.proofs.Owning.{knows_more}
+use Rattle.partial_epochs.proofs.Places.{bases_up, below_whole, not_below, packed_arena, set_place}
+
+-- an arena that port k owns, of which all ports are out, holds no epoch
+module _ (e : Plan) (words : List ℕ) (cs : ℕ → Control) (now : Place) (holds : ℕ → Option ℕ) (w : LawfulControl e words cs now holds) (k : ℕ) (below : k < e.ports) (o : Owned)
+    (owned : (cs k).owned ≡ Some o) (done : o.clean ≡ e.ports) where
+  pub own : IsOwner e words cs now holds k o
+  own = subst (λ (t : Option Owned). IfSome t (IsOwner e words cs now holds k)) owned (w.owners k below)
+
+  pub unlike : now.arena ≢ o.arena
+  unlike = let h = own in h.looked (h.order (omega (arith, done, below)))
+
+  pub not_stood : (q : ℕ) (d : Place) → q < e.ports → IsPlace e d → get_or words (at_word q) 0 ≡ packed d → q ≢ k → d.arena ≢ o.arena
+  not_stood q d low place at ne = let h = own in (h.out q (omega (arith, done, low)) low ne).unmarked d place at
+
+  abbrev holds' : ℕ → Option ℕ
+  holds' = put o.arena None holds
+
+  keeps : (x g : ℕ) → holds' x ≡ Some g → holds x ≡ Some g
+  keeps x g = put_all (λ i (t : Option ℕ). t ≡ Some g → holds i ≡ Some g) o.arena None holds x (λ _ is. absurd cc) (λ _ is. is)
+
+  -- of the words where ports stand: their places aren't in the arena
+  module _ (own_place : (d : Place) → IsPlace e d → get_or words (at_word k) 0 ≡ packed d → d.arena ≢ o.arena) where
+    stood : (q : ℕ) (d : Place) → q < e.ports → IsPlace e d → get_or words (at_word q) 0 ≡ packed d → d.arena ≢ o.arena
+    stood q d low place at = elim (eqb_tells q k) [
+      | inl same ↦ own_place d place (ap (λ i. get_or words (at_word i) 0) (sym same.1) ∙ at)
+      | inr ne ↦ not_stood q d low place at ne.1
+    ]
+
+    coming : (q : ℕ) (d : Place) → q < e.ports → (cs q).entering ≡ Loaded d → IsMarked words (cs q) q → d.arena ≢ o.arena
+    coming q d low is at = elim (eqb_tells q k) [
+      | inl same ↦ let h = own in let bad : Stands ≡ Loaded d = sym h.stands ∙ sym (ap (λ i. (cs i).entering) same.1) ∙ is in absurd cc
+      | inr ne ↦ let h = own in subst (NotInto o.arena) is ((h.out q (omega (arith, done, low)) low ne.1).loaded at)
+    ]
+
+    owner_then : (q : ℕ) (t : Owned) → IsOwner e words cs now holds q t → IsOwner e words cs now holds' q t
+    owner_then q t h = record {
+      stands = h.stands;
+      arena = h.arena;
+      apart = h.apart;
+      word = h.word;
+      looked = h.looked;
+      order = h.order;
+      few = h.few;
+      out = h.out;
+      older = h.older;
+      held = h.held;
+      all = h.all;
+      none = λ some. put_all (λ i (u : Option ℕ). holds i ≡ None → u ≡ None) o.arena None holds t.arena (λ _ _. refl) (λ _ is. is) (h.none some);
+    }
+
+    owner_of : (q : ℕ) (t : Option Owned) → IfSome t (IsOwner e words cs now holds q) → IfSome t (IsOwner e words cs now holds' q)
+    owner_of q None h = tt
+    owner_of q (Some t) h = owner_then q t h
+
+    emptied : LawfulControl e words cs now holds'
+    emptied = record {
+      current = w.current;
+      place = w.place;
+      present = put_other o.arena None holds now.arena unlike ∙ w.present;
+      earlier = λ x g is. w.earlier x g (keeps x g is);
+      within = λ x g is. w.within x g (keeps x g is);
+      places = w.places;
+      at = w.at;
+      old = w.old;
+      past = w.past;
+      stands = λ q d low place at. put_other o.arena None holds d.arena (stood q d low place at) ∙ w.stands q d low place at;
+      comes = λ q d low is at. put_other o.arena None holds d.arena (coming q d low is at) ∙ w.comes q d low is at;
+      owners = λ q low. owner_of q (cs q).owned (w.owners q low);
+    }
+
+    abbrev c : Control
+    c = record (cs k) { owned = Some (record o { set = o.set + 1 }) }
+
+    same_put : (j : ℕ) (a : Place) → MayPut c j a → MayPut (cs k) j a
+    same_put j a may =
+        let same : record o { set = o.set + 1 } ≡ may.owned = cc in
+        record {
+          owned = o;
+          is = owned;
+          port = ap (λ (t : Owned). t.clean) same ∙ may.port;
+          mark = ap (λ (t : Owned). t.mark) same ∙ may.mark;
+          again = ap (λ (t : Owned). t.again) same ∙ may.again;
+        }
+
+    own_more : IsOwner e words cs now holds' k (record o { set = o.set + 1 })
+    own_more = let h = own in record {
+      stands = h.stands;
+      arena = h.arena;
+      apart = h.apart;
+      word = h.word;
+      looked = h.looked;
+      order = h.order;
+      few = h.few;
+      out = h.out;
+      older = h.older;
+      held = h.held;
+      all = λ _. done;
+      none = λ _. put_same o.arena None holds;
+    }
+
+    pub set_control : LawfulControl e words (put k c cs) now holds'
+    set_control = knows_more e words cs now holds' emptied k below c refl refl (w.past k below) same_put own_more
+
+module _ (e : Plan) (words : List ℕ) (ports : ℕ → Port) (b : Beside) (k : ℕ) (o : Owned) (v : ℕ) (w : LawfulEpochs e words ports b) (below : k < e.ports) (owned : (ports k).control.owned ≡ Some o)
+    (done : o.clean ≡ e.ports) (more : o.set < first_free e.sizes + e.sizes.m) (passed : e.sizes.m ≤ (ports k).passed)
+    (value : get_or words current_word 0 ≡ packed (ports k).control.here → v ≡ next_word e b o.set) where
+  mine : IsOwner e (control_words e words) (controls ports) (place_now b) (numbers b) k o
+  mine = own e (control_words e words) (controls ports) (place_now b) (numbers b) w.control k below o owned done
+
+  abbrev spot : ℕ
+  spot = set_word e o.arena o.set
+
+  place : (j : ℕ) × (j < span e) × (set_word e o.arena o.set ≡ base e o.arena + j)
+  place = let pool = w.plan.sizes.pool.0 in set_place e o.arena o.set pool more
+
+  abbrev after : List ℕ
+  after = set words (set_word e o.arena o.set) v
+
+  spot_high : control_size e ≤ set_word e o.arena o.set
+  spot_high = let p = place in let at = p.2 in omega (arith, at)
+
+  other : (i : ℕ) → i ≢ set_word e o.arena o.set → get_or after i 0 ≡ get_or words i 0
+  other i ne = get_or-set_other words (set_word e o.arena o.set) i v 0 ne
+
+  control_is : control_words e after ≡ control_words e words
+  control_is = same_of (λ i. get_or after i 0) (λ i. get_or words i 0) 0 (control_size e) (λ i _ high. let up = spot_high in other i (omega (arith, up, high)))
+
+  -- a word of another arena
+  away : (y i : ℕ) → y ≢ o.arena → i < span e → base e y + i ≢ set_word e o.arena o.set
+  away y i ne low = let p = place in let at = p.2 in let less = p.1 in (λ same. far y i p.0 ne low less (same ∙ at))
+    where
+      far : (y i j : ℕ) → y ≢ o.arena → i < span e → j < span e → base e y + i ≡ base e o.arena + j → ⊥
+      far y i j ne low less same = elim (cases_lt y o.arena) [
+        | inl under ↦ let up = bases_up e y o.arena under in omega (arith, up, low, same)
+        | inr over ↦ let up = bases_up e o.arena y (omega (arith, over, ne)) in omega (arith, up, less, same)
+      ]
+
+  -- another arena is as it was
+  arena_kept : (y : ℕ) → y ≢ o.arena → (r : Epoch) (F : Type 0) → IsArena e (arena_words e words y) (component_words e words y) (carried_words e words y) r F →
+      IsArena e (arena_words e after y) (component_words e after y) (carried_words e after y) r F
+  arena_kept y ne r F h =
+      let ws : arena_words e after y ≡ arena_words e words y = same_of (λ i. plain e i (get_or after (base e y + i) 0)) (λ i. plain e i (get_or words (base e y + i) 0)) 0 (total e.sizes)
+      (λ i _ high. ap (plain e i) (other (base e y + i) (away y i ne (omega (arith, high))))) in
+      let cs : component_words e after y ≡ component_words e words y = same_of (λ j. get_or after (base e y + j) 0) (λ j. get_or words (base e y + j) 0) 0 e.sizes.m
+      (λ j _ high. other (base e y + j) (away y j ne (omega (arith, high)))) in
+      let ss : carried_words e after y ≡ carried_words e words y = same_of (λ j. get_or after (carried_word e y j) 0) (λ j. get_or words (carried_word e y j) 0) 0 e.sizes.m
+      (λ j _ high. other (carried_word e y j) (λ is. away y (total e.sizes + j) ne (omega (arith, high)) (omega (arith, is)))) in
+      subst (λ (l : List ℕ). IsArena e (arena_words e after y) (component_words e after y) l r F) (sym ss)
+      (subst (λ (l : List ℕ). IsArena e (arena_words e after y) l (carried_words e words y) r F) (sym cs)
+      (subst (λ (l : List ℕ). IsArena e l (component_words e words y) (carried_words e words y) r F) (sym ws) h))
+
+  abbrev q' : Port
+  q' = having_set (ports k) o
+
+  abbrev b' : Beside
+  b' = vacated b o.arena
+
+  held : (y : ℕ) (r : Epoch) → b'.holds y ≡ Some r → (y ≢ o.arena) × (b.holds y ≡ Some r)
+  held y r is = elim (eqb_tells y o.arena) [
+    | inl same ↦ let none : None ≡ Some r = sym (put_same o.arena None b.holds) ∙ sym (ap b'.holds same.1) ∙ is in absurd cc
+    | inr ne ↦ (ne.1, sym (put_other o.arena None b.holds y ne.1) ∙ is)
+  ]
+
+  placed_word : (q : ℕ) → q < e.ports → (ports q).control.entering ≡ Stands → get_or (control_words e words) (at_word q) 0 ≡ packed (ports q).control.here
+  placed_word q low is = subst (IsAt e (control_words e words) q (ports q).control.here) is (w.control.at q low)
+
+  own_place : (d : Place) → IsPlace e d → get_or (control_words e words) (at_word k) 0 ≡ packed d → d.arena ≢ o.arena
+  own_place d there at =
+      let h = mine in
+      let both = packed_arena e (ports k).control.here d w.plan.arenas (w.control.places k below).arena there.arena (sym (placed_word k below h.stands) ∙ at) in
+      λ is. h.apart (both.1 ∙ is)
+
+  not_here : (q : ℕ) → q < e.ports → (ports q).control.entering ≡ Stands → (ports q).control.here.arena ≢ o.arena
+  not_here q low is = elim (eqb_tells q k) [
+    | inl same ↦ let h = mine in λ same_arena. h.apart (ap (λ i. (ports i).control.here.arena) (sym same.1) ∙ same_arena)
+    | inr ne ↦ not_stood e (control_words e words) (controls ports) (place_now b) (numbers b) w.control k below o owned done q (ports q).control.here low (w.control.places q low) (placed_word q low is) ne.1
+  ]
+
+  control_then : LawfulControl e (control_words e after) (controls (put k q' ports)) (place_now b') (numbers b')
+  control_then =
+      let c : Control = record (ports k).control { owned = Some (record o { set = o.set + 1 }) } in
+      let h = set_control e (control_words e words) (controls ports) (place_now b) (numbers b) w.control k below o owned done own_place in
+      let cs_is : (q : ℕ) → put k c (controls ports) q ≡ controls (put k q' ports) q = λ q. put_all (λ i (d : Control). d ≡ (put k q' ports i).control) k c (controls ports) q
+      (λ _. sym (ap (λ (p : Port). p.control) (put_same k q' ports))) (λ ne. sym (ap (λ (p : Port). p.control) (put_other k q' ports q ne))) in
+      let ns_is : (y : ℕ) → put o.arena None (numbers b) y ≡ numbers b' y = λ y. put_all (λ i (t : Option ℕ). t ≡ numbers b' i) o.arena None (numbers b) y
+      (λ _. sym (ap (option_map (λ (r : Epoch). length r.before)) (put_same o.arena None b.holds)))
+      (λ ne. sym (ap (option_map (λ (r : Epoch). length r.before)) (put_other o.arena None b.holds y ne))) in
+      subst (λ (l : List ℕ). LawfulControl e l (controls (put k q' ports)) (place_now b') (numbers b')) (sym control_is)
+      (subst (λ (f : ℕ → Option ℕ). LawfulControl e (control_words e words) (controls (put k q' ports)) (place_now b) f) (λ i y. ns_is y i)
+      (subst (λ (f : ℕ → Control). LawfulControl e (control_words e words) f (place_now b) (put o.arena None (numbers b))) (λ i q. cs_is q i) h))
+
+  stands_on : (q : ℕ) (p : Port) → p.control.here.arena ≢ o.arena → IsStanding b q p → IsStanding b' q p
+  stands_on q p ne s = record { epoch = s.epoch; is = put_other o.arena None b.holds p.control.here.arena ne ∙ s.is; before = s.before; part = s.part; passed = s.passed; over = s.over }
+
+  -- what another port has set is as it was
+  set_other : (q : ℕ) (t : Owned) → q < e.ports → q ≢ k → (ports q).control.owned ≡ Some t → IsSetting e words b (ports q) t → IsSetting e after b' (ports q) t
+  set_other q t low ne is h =
+      let theirs : IsOwner e (control_words e words) (controls ports) (place_now b) (numbers b) q t =
+      subst (λ (t : Option Owned). IfSome t (IsOwner e (control_words e words) (controls ports) (place_now b) (numbers b) q)) is (w.control.owners q low) in
+      let m = mine in
+      let a = theirs.word in
+      let c = m.word in
+      let apart : t.arena ≢ o.arena = (λ same. let moved = ap (λ y. get_or (control_words e words) (1 + e.ports + y) 0) same in ne (omega (arith, a, c, moved))) in
+      let up = spot_high in
+      record {
+        few = h.few;
+        sealed = h.sealed;
+        each = λ at i less.
+            let few = h.few in
+            let pool = w.plan.sizes.pool.0 in
+            let p = set_place e t.arena i pool (omega (arith, less, few)) in
+            other (set_word e t.arena i) (λ same. away t.arena p.0 apart p.1 (sym p.2 ∙ same)) ∙ h.each (sym (other current_word (omega (arith, up))) ∙ at) i less;
+      }
+
+  set_more : IsSetting e after b' q' (record o { set = o.set + 1 })
+  set_more =
+      let h : IsSetting e words b (ports k) o = subst (λ (t : Option Owned). IfSome t (IsSetting e words b (ports k))) owned (w.setting k below) in
+      let up = spot_high in
+      let p = place in
+      let there = below_whole e o.arena p.0 mine.arena p.1 in
+      let count = w.count in
+      let at_is = p.2 in
+      record {
+        few = omega (arith, more);
+        sealed = λ _. passed;
+        each = λ at i less.
+            let was : get_or words current_word 0 ≡ packed (ports k).control.here = sym (other current_word (omega (arith, up))) ∙ at in
+            elim (eqb_tells i o.set) [
+              | inl same ↦ ap (λ n. get_or after (set_word e o.arena n) 0) same.1 ∙ get_or-set_same words (set_word e o.arena o.set) v 0 (omega (arith, there, count, at_is)) ∙ value was
+                  ∙ ap (next_word e b) (sym same.1)
+              | inr ne ↦
+                  let low : i < o.set = (let other_number = ne.1 in omega (arith, less, other_number)) in
+                  other (set_word e o.arena i) (apart i low) ∙ h.each was i low
+            ];
+      }
+    where
+      apart : (i : ℕ) → i < o.set → set_word e o.arena i ≢ set_word e o.arena o.set
+      apart i low same =
+          let pool = w.plan.sizes.pool.0 in
+          elim (cases_lt i (first_free e.sizes)) [
+            | inl under ↦ elim (cases_lt o.set (first_free e.sizes)) [
+              | inl under' ↦ let a = low_word i under in let c = low_word o.set under' in omega (arith, a, c, same, low)
+              | inr over ↦ let a = low_word i under in let c = high_word o.set over in omega (arith, a, c, same, under, over, pool)
+            ]
+            | inr over ↦ let a = high_word i over in let c = high_word o.set (omega (arith, over, low)) in omega (arith, a, c, same, low, over)
+          ]
+        where
+          low_word : (i : ℕ) → i < first_free e.sizes → set_word e o.arena i ≡ base e o.arena + i
+          low_word i under = ap (λ (c : Bool). cond c (base e o.arena + i) (base e o.arena + total e.sizes + (i - first_free e.sizes))) (lt-ltb i (first_free e.sizes) under)
+
+          high_word : (i : ℕ) → first_free e.sizes ≤ i → set_word e o.arena i ≡ base e o.arena + total e.sizes + (i - first_free e.sizes)
+          high_word i over = ap (λ (c : Bool). cond c (base e o.arena + i) (base e o.arena + total e.sizes + (i - first_free e.sizes))) (not_below i (first_free e.sizes) over)
+
+  setting_then : (q : ℕ) → q < e.ports → IfSome (put k q' ports q).control.owned (IsSetting e after b' (put k q' ports q))
+  setting_then q low = put_all (λ i (p : Port). i < e.ports → IfSome p.control.owned (IsSetting e after b' p)) k q' ports q
+      (λ _ _. set_more) (λ ne low. by q ne (ports q).control.owned refl low (w.setting q low)) low
+    where
+      by : (q : ℕ) → q ≢ k → (t : Option Owned) → (ports q).control.owned ≡ t → q < e.ports → IfSome t (IsSetting e words b (ports q)) → IfSome t (IsSetting e after b' (ports q))
+      by q ne None is low h = tt
+      by q ne (Some t) is low h = set_other q t low ne is h
+
+  pub sets_on : LawfulEpochs e after (put k q' ports) b'
+  sets_on =
+      let apart = unlike e (control_words e words) (controls ports) (place_now b) (numbers b) w.control k below o owned done in
+      record {
+        plan = w.plan;
+        count = length-set words (set_word e o.arena o.set) v ∙ w.count;
+        control = control_then;
+        now = (w.now.0, put_other o.arena None b.holds b.arena apart ∙ w.now.1, w.now.2, w.now.3);
+        finished = λ y r is ne. w.finished y r (held y r is).1 ne;
+        arenas = λ y r is. arena_kept y (held y r is).0 r (y ≢ b.arena) (w.arenas y r (held y r is).1);
+        standing = λ q low. put_all (λ i (p : Port). i < e.ports → p.control.entering ≡ Stands → IsStanding b' i p) k q' ports q
+            (λ _ _ is. let s = w.standing k below is in stands_on k q' (not_here k below is) (record { epoch = s.epoch; is = s.is; before = s.before; part = s.part; passed = s.passed; over = s.over }))
+            (λ _ low is. stands_on q (ports q) (not_here q low is) (w.standing q low is)) low;
+        new = λ q y r low is. put_all (λ i (p : Port). i < e.ports → p.control.here.epoch < length r.before → IsNew e i r) k q' ports q
+            (λ _ low less. w.new k y r low (held y r is).1 less) (λ _ low less. w.new q y r low (held y r is).1 less) low;
+        setting = setting_then;
+      }
+
+pub sets_stay_lawful : SetsStayLawful
+sets_stay_lawful e words ports b k o v w below owned done more passed value = sets_on e words ports b k o v w below owned done more passed value

@@ -1,0 +1,5 @@
+use Rattle.partial_epochs.proofs.Refused.{resetting_current_is_unlawful}
+use Rattle.partial_epochs.proofs.variants.resetting_current_is_unlawful.Goals as goal
+
+pub returns : goal.returns
+returns c = resetting_current_is_unlawful

@@ -1,0 +1,144 @@
+-- The lawful state of a memory over all epochs.
+use Rattle.std.specs.Prelude.{ℕ, ◌+◌, ◌*◌, ◌<◌, ◌≤◌, nat_lt, List, ◌∷◌, slice_index, if◌then◌else◌, ◌++◌, length, Option, ◌≡◌, ◌≢◌, Some, IfSome, ◌-◌, false}
+use Rattle.partial_words.specs.Layout.{IsLayout, pool_base, pool_counter, pool_end, first_free, greatest_record}
+use Rattle.std.specs.Option.{option_map}
+use Rattle.partial_model.specs.declared.history.Applied.{Applied}
+use Rattle.partial_core.specs.Part.{port_of, fresh_part}
+use Rattle.partial_words.specs.Chain.{opening_word}
+use Rattle.partial_core.specs.Lawful.{Lawful}
+use Rattle.partial_core.specs.Lawful as one
+use Rattle.partial_epochs.specs.Lists.{list_of, count}
+use Rattle.partial_epochs.specs.Layout.{arena_limit, Plan, Place, packed, current_word, control_words, component_words, carried_words, whole, seals, IsSealed, arena_words, set_word}
+use Rattle.partial_epochs.specs.History.{opening_behind, carried_behind}
+use Rattle.partial_epochs.specs.Ports.{Owned, Control, Port, Epoch}
+use Rattle.partial_epochs.specs.Control.{LawfulControl}
+use Rattle.partial_epochs.specs.Ports.Entering.{Stands}
+
+-- the sizes of a plan: above each port's greatest claim there is room behind the limit
+pub record IsPlan (e : Plan) : Type 0 where
+  -- an arena has the sizes of one memory
+  pub sizes : IsLayout e.sizes
+  -- there are 1 to 64 ports
+  pub some : 1 ≤ e.ports
+  pub few : e.ports ≤ 64
+  -- a place fits a word
+  pub arenas : e.arenas ≤ arena_limit
+  -- each component has an opening value, and the initial stamps are the initial records
+  pub values : length e.opening.values ≡ e.sizes.m
+  pub first : e.opening.first ≡ pool_base e.sizes
+  -- the limit lies behind the initial records
+  pub opens : first_free e.sizes ≤ e.limit
+  -- behind the limit there is room for the greatest claim of each port
+  pub limit : e.limit + greatest_record e.sizes * e.ports ≤ pool_end e.sizes
+
+-- What stands beside words and ports (ghost state).
+pub record Beside : Type 0 where
+  -- the history of the current epoch
+  pub log : List Applied
+  -- those of the finished epochs, the last one first
+  pub before : List (List Applied)
+  -- the arena of the current epoch
+  pub arena : ℕ
+  -- the epoch that each arena holds, or none while it is being set
+  pub holds : ℕ → Option Epoch
+
+-- the current place
+abbrev pub place_now : Beside → Place
+place_now b = record { epoch = length b.before; arena = b.arena }
+
+-- the number of the epoch that each arena holds
+abbrev pub numbers : Beside → ℕ → Option ℕ
+numbers b x = option_map (λ r. length r.before) (b.holds x)
+
+-- what each port does with the control words
+abbrev pub controls : (ℕ → Port) → ℕ → Control
+controls ports k = (ports k).control
+
+-- the epoch is a finished one
+abbrev pub IsFinished : Beside → Epoch → Type 0
+IsFinished b r = (later : List (List Applied)) × (b.before ≡ later ++ r.log ∷ r.before)
+
+-- What is so of an arena that holds the epoch r: of its words without the seals, its component words with them, and its
+-- carried stamps.
+pub record IsArena (e : Plan) (words components carried : List ℕ) (r : Epoch) (finished : Type 0) : Type 0 where
+  -- its words without the seals are lawful, with a part for each port, over what the epochs before have left
+  pub lawful : one.Lawful e.sizes (opening_behind e.opening r.before) words (list_of r.part 0 e.ports) r.log
+  -- part k is that of port k
+  pub numbers : (k : ℕ) → k < e.ports → port_of (r.part k) ≡ k
+  -- the carried stamps are the public stamps that the components have behind the epochs before
+  pub stamps : (j : ℕ) → j < e.sizes.m → slice_index carried j ≡ carried_behind e.opening r.before j
+  -- a component has no more seals than ports have passed it, so that they fit above the reference
+  pub few : (j : ℕ) → j < e.sizes.m → seals (slice_index components j) ≤ count (λ k. nat_lt j (r.passed k)) 0 e.ports
+  -- a component that a port has passed is sealed
+  pub passed : (k j : ℕ) → k < e.ports → j < r.passed k → j < e.sizes.m → IsSealed (slice_index components j)
+  -- each component of a finished epoch is sealed
+  pub sealed : finished → (j : ℕ) → j < e.sizes.m → IsSealed (slice_index components j)
+  -- claims that end past the limit are those of ports that make no more
+  pub reserve : slice_index words (pool_counter e.sizes) ≤ e.limit + greatest_record e.sizes * count r.over 0 e.ports
+
+-- a port that stands in an epoch has its own part there
+pub record IsStanding (b : Beside) (k : ℕ) (p : Port) : Type 0 where
+  -- its arena holds an epoch
+  pub epoch : Epoch
+  pub is : b.holds p.control.here.arena ≡ Some epoch
+  -- that epoch follows those that the port has behind it
+  pub before : epoch.before ≡ p.before
+  -- what the epoch has of the port is what the port has
+  pub part : epoch.part k ≡ p.part
+  pub passed : epoch.passed k ≡ p.passed
+  pub over : epoch.over k ≡ p.over
+
+-- a port has a new part in an epoch to which it hasn't come
+pub record IsNew (e : Plan) (k : ℕ) (r : Epoch) : Type 0 where
+  pub part : r.part k ≡ fresh_part e.sizes k
+  pub passed : r.passed k ≡ 0
+  pub over : r.over k ≡ false
+
+-- the words of the next epoch are those of an opening, with the values and the stamps behind all epochs
+abbrev pub next_word : Plan → Beside → ℕ → ℕ
+next_word e b i =
+    if nat_lt i (first_free e.sizes) then opening_word e.sizes (opening_behind e.opening (b.log ∷ b.before)).values i
+    else carried_behind e.opening (b.log ∷ b.before) (i - first_free e.sizes)
+
+-- what the port p has set in the arena that it owns
+pub record IsSetting (e : Plan) (words : List ℕ) (b : Beside) (p : Port) (w : Owned) : Type 0 where
+  -- it sets no more words than an opening has
+  pub few : w.set ≤ first_free e.sizes + e.sizes.m
+  -- it has passed each component of its own epoch before
+  pub sealed : 0 < w.set → e.sizes.m ≤ p.passed
+  -- while its epoch is the current one, the words that it has set are those of the next epoch
+  pub each : slice_index words current_word ≡ packed p.control.here → (i : ℕ) → i < w.set →
+      slice_index words (set_word e w.arena i) ≡ next_word e b i
+
+-- The lawful state of a memory over all epochs.
+pub record LawfulEpochs (e : Plan) (words : List ℕ) (ports : ℕ → Port) (b : Beside) : Type 0 where
+  -- the sizes are in range
+  pub plan : IsPlan e
+  -- there are so many words
+  pub count : length words ≡ whole e
+  -- the control words are lawful
+  pub control : LawfulControl e (control_words e words) (controls ports) (place_now b) (numbers b)
+  -- the current arena holds the current epoch, with its history
+  pub now : (r : Epoch) × (b.holds b.arena ≡ Some r) × (r.log ≡ b.log) × (r.before ≡ b.before)
+  -- each other arena that holds an epoch holds a finished one, with its final history
+  pub finished : (x : ℕ) (r : Epoch) → b.holds x ≡ Some r → x ≢ b.arena → IsFinished b r
+  -- the words of each arena that holds an epoch are lawful
+  pub arenas : (x : ℕ) (r : Epoch) → b.holds x ≡ Some r →
+      IsArena e (arena_words e words x) (component_words e words x) (carried_words e words x) r (x ≢ b.arena)
+  -- a port's part in the epoch where it stands is its own
+  pub standing : (k : ℕ) → k < e.ports → (ports k).control.entering ≡ Stands → IsStanding b k (ports k)
+  -- a port's part in an epoch to which it hasn't come is a new one
+  pub new : (k x : ℕ) (r : Epoch) → k < e.ports → b.holds x ≡ Some r →
+      (ports k).control.here.epoch < length r.before → IsNew e k r
+  -- what an owner has set in its arena is the beginning of the next epoch
+  pub setting : (k : ℕ) → k < e.ports → IfSome (ports k).control.owned (IsSetting e words b (ports k))
+
+-- the port stands in the current epoch
+pub record IsPresent (b : Beside) (k : ℕ) (p : Port) : Type 0 where
+  -- it stands in the epoch of its arena
+  pub standing : IsStanding b k p
+  -- its place is the current one
+  pub here : p.control.here ≡ place_now b
+  -- its epoch has the current history, and the finished epochs before it
+  pub log : standing.epoch.log ≡ b.log
+  pub before : p.before ≡ b.before

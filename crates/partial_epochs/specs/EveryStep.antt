@@ -1,0 +1,105 @@
+-- Every step that a port of a long-lived memory makes, and the one law of them.
+use Rattle.std.specs.Prelude.{ℕ, ◌≡◌, ◌≢◌, ◌+◌, ◌<◌, ◌≤◌, ◌⊎◌, true, List, [], slice_index, Some, None}
+use Rattle.partial_model.specs.Notes.{Noted}
+use Rattle.partial_words.specs.Layout.{first_free}
+use Rattle.partial_words.specs.Step.{words_after}
+use Rattle.partial_words.specs.declared.step.Step.{Step}
+use Rattle.partial_words.specs.declared.step.Step.TheVariants.{Add, Exchange, Store}
+use Rattle.partial_machine.specs.Machine.{CoreState, step_of}
+use Rattle.partial_core.specs.Part.{IsMachineOf}
+use Rattle.partial_core.specs.Steps.{since_with}
+use Rattle.partial_epochs.specs.Layout.{IsPlace, IsSealed, Place, Plan, at_word, base, component_words, current_word, entering_mark, marked, own_word, packed, placed, seal, set_word}
+use Rattle.partial_epochs.specs.Ports.{Owned, Port}
+use Rattle.partial_epochs.specs.Ports.Entering.{Stands, Marks, Loaded}
+use Rattle.partial_epochs.specs.Epochs.{Beside, IsStanding, next_word}
+use Rattle.partial_epochs.specs.MachineSteps.{MachineLeads, MayClaim}
+use Rattle.partial_epochs.specs.Publishing.{IsWhole, next_place}
+use Rattle.partial_epochs.specs.Opening.{OpensAll, first_beside, first_ports}
+use Rattle.partial_epochs.specs.Notes.{IsSight, LawfulMemory, MayNote}
+
+-- what a port may do next
+pub data Move : Type 0 where
+  -- the due step of its machine, in the arena where it stands
+  Makes : CoreState → Step → Move
+  -- a seal on the next component, and the load of one that is sealed
+  Seals : Move
+  PassesSealed : Move
+  -- a load of the current word, by a port that owns no arena, and by an owner
+  Looks : Move
+  LooksAsOwner : Owned → Move
+  -- the three steps of entering
+  StoresMark : Move
+  LoadsCurrent : Move
+  ExchangesMark : Place → Move
+  -- the won exchange of an owner word, and the store that gives the arena back
+  Takes : ℕ → Move
+  Gives : Owned → Move
+  -- an owner finds the next port elsewhere, loads its mark, or puts it where it stands itself
+  FindsElsewhere : Owned → Place → Move
+  LoadsMark : Owned → Move
+  Puts : Owned → Place → Move
+  -- an owner sets the next word, and publishes
+  Sets : Owned → ℕ → Move
+  Publishes : Owned → Move
+  -- a port notes what it has seen by a look
+  Notes : Noted → ℕ → Move
+
+-- the words after the move
+abbrev pub moved_words : Plan → List ℕ → Port → ℕ → Move → List ℕ
+moved_words e words p k (Makes c step) = words_after words (placed e p.control.here.arena step)
+moved_words e words p k Seals = words_after words (Add (base e p.control.here.arena + p.passed) seal)
+moved_words e words p k StoresMark = words_after words (Store (at_word k) (marked p.control.here))
+moved_words e words p k (ExchangesMark c) = words_after words (Exchange (at_word k) (marked p.control.here) (packed c))
+moved_words e words p k (Takes x) = words_after words (Exchange (own_word e x) 0 (k + 1))
+moved_words e words p k (Gives o) = words_after words (Store (own_word e o.arena) 0)
+moved_words e words p k (Puts o a) = words_after words (Exchange (at_word o.clean) (marked a) (packed p.control.here))
+moved_words e words p k (Sets o v) = words_after words (Store (set_word e o.arena o.set) v)
+moved_words e words p k (Publishes o) = words_after words (Exchange current_word (packed p.control.here) (packed (next_place p.control.here o.arena)))
+moved_words e words p k _ = words
+
+-- what has to hold where a port makes the move: of the words, and of what the port itself knows
+abbrev pub MayMove : Plan → List ℕ → (ℕ → Port) → Beside → (ℕ → List Noted) → ℕ → Move → Type 0
+MayMove e words ports b notes k (Makes c step) =
+    ((ports k).control.entering ≡ Stands) × IsMachineOf c (ports k).part × (step_of c ≡ Some step) × MayClaim e (ports k).over step
+    × ((lead : MachineLeads e words ports b k c step) → (added : List Noted)
+    × MayNote e (ports k) (notes k) (since_with c (ports k).part) lead.port.part.seen lead.tells.new added)
+MayMove e words ports b notes k Seals = ((ports k).control.entering ≡ Stands) × ((ports k).passed < e.sizes.m)
+MayMove e words ports b notes k PassesSealed = ((ports k).control.entering ≡ Stands) × ((ports k).passed < e.sizes.m)
+    × IsSealed (slice_index (component_words e words (ports k).control.here.arena) (ports k).passed)
+MayMove e words ports b notes k Looks = ((ports k).control.entering ≡ Stands) × ((ports k).control.owned ≡ None)
+MayMove e words ports b notes k (LooksAsOwner o) = ((ports k).control.owned ≡ Some o) × ((o.mark ≡ None) ⊎ (o.clean < e.ports))
+MayMove e words ports b notes k StoresMark = ((ports k).control.entering ≡ Stands) × ((ports k).control.past ≡ true) × ((ports k).control.owned ≡ None)
+MayMove e words ports b notes k LoadsCurrent = (ports k).control.entering ≡ Marks
+MayMove e words ports b notes k (ExchangesMark c) = (ports k).control.entering ≡ Loaded c
+MayMove e words ports b notes k (Takes x) = ((ports k).control.entering ≡ Stands) × ((ports k).control.owned ≡ None) × (x < e.arenas)
+    × ((ports k).control.here.arena ≢ x) × (slice_index words (own_word e x) ≡ 0)
+MayMove e words ports b notes k (Gives o) = (ports k).control.owned ≡ Some o
+MayMove e words ports b notes k (FindsElsewhere o d) = ((ports k).control.owned ≡ Some o) × (o.looked ≡ true) × (o.set ≡ 0) × (o.clean < e.ports)
+    × IsPlace e d × (slice_index words (at_word o.clean) ≡ packed d) × (d.arena ≢ o.arena)
+MayMove e words ports b notes k (LoadsMark o) =
+    ((ports k).control.owned ≡ Some o) × (o.clean < e.ports) × (entering_mark ≤ slice_index words (at_word o.clean))
+MayMove e words ports b notes k (Puts o a) = ((ports k).control.owned ≡ Some o) × (o.looked ≡ true) × (o.clean < e.ports) × (o.set ≡ 0)
+    × (o.mark ≡ Some a) × (o.again ≡ true) × (slice_index words (at_word o.clean) ≡ marked a)
+MayMove e words ports b notes k (Sets o v) = ((ports k).control.owned ≡ Some o) × (o.clean ≡ e.ports) × (o.set < first_free e.sizes + e.sizes.m)
+    × (e.sizes.m ≤ (ports k).passed) × (slice_index words current_word ≡ packed (ports k).control.here → v ≡ next_word e b o.set)
+MayMove e words ports b notes k (Publishes o) = IsWhole e (ports k) o
+MayMove e words ports b notes k (Notes n i) = ((ports k).control.entering ≡ Stands)
+    × ((s : IsStanding b k (ports k)) × IsSight e k (ports k) s.epoch.log (notes k) n i)
+
+-- what the move leads to: a lawful memory, in which all other ports are as they were
+pub record MoveLeads (e : Plan) (words : List ℕ) (ports : ℕ → Port) (notes : ℕ → List Noted) (k : ℕ) : Type 0 where
+  pub ports_then : ℕ → Port
+  pub beside : Beside
+  pub notes_then : ℕ → List Noted
+  pub lawful : LawfulMemory e words ports_then beside notes_then
+  pub others : (q : ℕ) → q ≢ k → (ports_then q ≡ ports q) × (notes_then q ≡ notes q)
+
+-- every step of every port keeps the memory lawful
+abbrev pub EveryStepStaysLawful : Type 0
+EveryStepStaysLawful = (e : Plan) (words : List ℕ) (ports : ℕ → Port) (b : Beside) (notes : ℕ → List Noted) (k : ℕ) (m : Move) →
+    LawfulMemory e words ports b notes → k < e.ports → MayMove e words ports b notes k m →
+    MoveLeads e (moved_words e words (ports k) k m) ports notes k
+
+-- a memory as it opens is lawful, and nobody has noted anything
+abbrev pub MemoriesOpenLawful : Type 0
+MemoriesOpenLawful = (e : Plan) (words : List ℕ) → OpensAll e words → LawfulMemory e words (first_ports e) (first_beside e) (λ _. [])

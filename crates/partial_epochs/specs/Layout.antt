@@ -1,0 +1,133 @@
+-- The words of a memory whose arenas are used again and again, one place for each offset: control words, and arenas.
+use Rattle.std.specs.Prelude.{ℕ, ◌+◌, ◌*◌, ◌/◌, ◌%◌, ◌<◌, ◌≤◌, nat_lt, List, slice_index, if◌then◌else◌, ◌-◌}
+use Rattle.partial_model.specs.declared.history.Opening.{Opening}
+use Rattle.partial_words.specs.Layout.{Layout, total, first_free}
+use Rattle.partial_words.specs.declared.step.Step.{Step}
+use Rattle.partial_words.specs.declared.step.Step.TheVariants.{Load, Store, Exchange, Add}
+use Rattle.partial_epochs.specs.Lists.{list_of}
+
+-- what a long-lived memory is opened with
+pub record Plan : Type 0 where
+  -- the sizes of an arena
+  pub sizes : Layout
+  -- how many ports there are
+  pub ports : ℕ
+  -- how many arenas there are
+  pub arenas : ℕ
+  -- the opening values of the components
+  pub opening : Opening
+  -- an update's claim ends at this word of an arena, or it is the port's last one in the epoch
+  pub limit : ℕ
+
+-- a place: an epoch, and the arena that holds it
+pub record Place : Type 0 where
+  pub epoch : ℕ
+  pub arena : ℕ
+
+-- there are at most so many arenas, so that a place is the number of its epoch and of its arena in one word
+abbrev pub arena_limit : ℕ
+arena_limit = 65536
+
+-- each epoch's number is below this one, so that a public stamp fits a word
+abbrev pub epoch_limit : ℕ
+epoch_limit = 2199023255552
+
+-- the entering mark: the highest bit of a word
+abbrev pub entering_mark : ℕ
+entering_mark = 9223372036854775808
+
+-- the word of a place
+abbrev pub packed : Place → ℕ
+packed p = p.epoch * arena_limit + p.arena
+
+-- the word of a place with the entering mark: its port is entering from there
+abbrev pub marked : Place → ℕ
+marked p = entering_mark + packed p
+
+-- the place fits a word, beside the mark
+pub record IsPlace (e : Plan) (p : Place) : Type 0 where
+  pub epoch : p.epoch < epoch_limit
+  pub arena : p.arena < e.arenas
+
+-- the current word: it names the current place
+abbrev pub current_word : ℕ
+current_word = 0
+
+-- the word of port k: it names the place where the port stands
+abbrev pub at_word : ℕ → ℕ
+at_word k = 1 + k
+
+-- the owner word of arena x: it is 0, or 1 and the number of the arena's owner
+abbrev pub own_word : Plan → ℕ → ℕ
+own_word e x = 1 + e.ports + x
+
+-- how many control words there are
+abbrev pub control_size : Plan → ℕ
+control_size e = 1 + e.ports + e.arenas
+
+-- how many words an arena has: those of one memory, and a carried stamp for each component
+abbrev pub span : Plan → ℕ
+span e = total e.sizes + e.sizes.m
+
+-- the first word of an arena
+abbrev pub base : Plan → ℕ → ℕ
+base e x = control_size e + x * span e
+
+-- the word of the stamp that component j carries from the epochs before
+abbrev pub carried_word : Plan → ℕ → ℕ → ℕ
+carried_word e x j = base e x + total e.sizes + j
+
+-- the control words alone
+abbrev pub control_words : Plan → List ℕ → List ℕ
+control_words e words = list_of (slice_index words) 0 (control_size e)
+
+-- the component words of arena x, with their seals
+abbrev pub component_words : Plan → List ℕ → ℕ → List ℕ
+component_words e words x = list_of (λ j. slice_index words (base e x + j)) 0 e.sizes.m
+
+-- the carried stamps of arena x
+abbrev pub carried_words : Plan → List ℕ → ℕ → List ℕ
+carried_words e words x = list_of (λ j. slice_index words (carried_word e x j)) 0 e.sizes.m
+
+-- how many words there are
+abbrev pub whole : Plan → ℕ
+whole e = base e e.arenas
+
+-- what a seal adds to a component word: the seals are counted above the reference
+abbrev pub seal : ℕ
+seal = 72057594037927936
+
+-- the record of a component word: its seals are taken off
+abbrev pub unsealed : ℕ → ℕ
+unsealed w = w % seal
+
+-- how many seals a component word has
+abbrev pub seals : ℕ → ℕ
+seals w = w / seal
+
+-- the component word has a seal
+abbrev pub IsSealed : ℕ → Type 0
+IsSealed w = seal ≤ w
+
+-- a word of an arena as the inner memory has it: a component word without its seals, each other word as it is
+abbrev pub plain : Plan → ℕ → ℕ → ℕ
+plain e w v = if nat_lt w e.sizes.m then unsealed v else v
+
+-- word w of arena x so
+abbrev pub plain_word : Plan → List ℕ → ℕ → ℕ → ℕ
+plain_word e words x w = plain e w (slice_index words (base e x + w))
+
+-- the words of the inner memory in arena x
+abbrev pub arena_words : Plan → List ℕ → ℕ → List ℕ
+arena_words e words x = list_of (plain_word e words x) 0 (total e.sizes)
+
+-- the step of an inner memory, made in the words of arena x
+abbrev pub placed : Plan → ℕ → Step → Step
+placed e x (Load w) = Load (base e x + w)
+placed e x (Store w v) = Store (base e x + w) v
+placed e x (Exchange w old new) = Exchange (base e x + w) old new
+placed e x (Add w k) = Add (base e x + w) k
+
+-- the word that an owner sets as number i: those of an opening first, and then the carried stamps
+abbrev pub set_word : Plan → ℕ → ℕ → ℕ
+set_word e x i = if nat_lt i (first_free e.sizes) then base e x + i else base e x + total e.sizes + (i - first_free e.sizes)

@@ -1,0 +1,16 @@
+pub mod Lists
+pub mod Layout
+pub mod History
+pub mod Ports
+pub mod Control
+pub mod Epochs
+pub mod MachineSteps
+pub mod Sealing
+pub mod Entering
+pub mod Owning
+pub mod Publishing
+pub mod Opening
+pub mod Reads
+pub mod Notes
+pub mod EveryStep
+pub mod Variants

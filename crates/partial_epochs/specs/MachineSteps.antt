@@ -1,0 +1,79 @@
+-- The steps of a port's machine, made in the arena where the port stands.
+use Rattle.std.specs.Prelude.{ℕ, ◌+◌, ◌<◌, ◌≤◌, ◌==◌, nat_lt, Bool, List, [], slice_index, ◌++◌, length, ◌≡◌, ◌⊎◌, ⊤, Some, false, ◌&&◌, ◌||◌}
+use Rattle.partial_words.specs.Layout.{pool_counter, pool_end, greatest_record}
+use Rattle.partial_words.specs.declared.step.Step.{Step}
+use Rattle.partial_words.specs.declared.step.Step.TheVariants.{Exchange, Add}
+use Rattle.std.specs.List.{AllByRecursion}
+use Rattle.partial_model.specs.declared.history.Applied.{Applied}
+use Rattle.partial_core.specs.Part.{IsMachineOf}
+use Rattle.partial_words.specs.Step.{answer_of, word_of, words_after}
+use Rattle.partial_machine.specs.Machine.{CoreState, step_of}
+use Rattle.partial_core.specs.Steps.{Tells}
+use Rattle.partial_epochs.specs.Lists.{put}
+use Rattle.partial_epochs.specs.Layout.{Plan, component_words, unsealed, IsSealed, plain, arena_words, placed}
+use Rattle.partial_epochs.specs.History.{opening_behind}
+use Rattle.partial_epochs.specs.Ports.{Port}
+use Rattle.partial_epochs.specs.Epochs.{Beside, IsStanding, LawfulEpochs, IsPresent}
+use Rattle.partial_epochs.specs.Ports.Entering.{Stands}
+
+-- an unsealed component word of the arena where a port stands shows that its epoch is the current one
+abbrev pub UnsealedIsPresent : Type 0
+UnsealedIsPresent = (e : Plan) (words : List ℕ) (ports : ℕ → Port) (b : Beside) (k j : ℕ) → LawfulEpochs e words ports b →
+    k < e.ports → (ports k).control.entering ≡ Stands → j < e.sizes.m →
+    ¬ IsSealed (slice_index (component_words e words (ports k).control.here.arena) j) → IsPresent b k (ports k)
+
+-- the exchange of a component finds the record that it expects, but sealed: it isn't won, and tells the machine nothing
+abbrev pub MeetsSeal : Plan → List ℕ → Step → Type 0
+MeetsSeal e components (Exchange w old new) =
+    (w < e.sizes.m) × IsSealed (slice_index components w) × (unsealed (slice_index components w) ≡ old)
+MeetsSeal e components _ = ⊥
+
+-- whether the step is a claim of the pool that ends past the limit, and that a port makes none once it has made such a claim
+abbrev pub ends_over : Plan → List ℕ → Step → Bool
+ends_over e words (Add w n) = (w == pool_counter e.sizes) && nat_lt e.limit (slice_index words w + n)
+ends_over e words _ = false
+
+abbrev pub MayClaim : Plan → Bool → Step → Type 0
+MayClaim e over (Add w n) = w ≡ pool_counter e.sizes → over ≡ false
+MayClaim e over _ = ⊤
+
+-- What the due step of a port's machine leads to, made in the arena where the port stands: the machine's answer is the one that the words
+-- give without their seals, and the one law of steps tells the port what it tells.
+pub record MachineLeads (e : Plan) (words : List ℕ) (ports : ℕ → Port) (b : Beside) (k : ℕ) (c : CoreState) (step : Step) : Type 0 where
+  pub standing : IsStanding b k (ports k)
+  pub within : word_of (placed e (ports k).control.here.arena step) < length words
+  pub gives : plain e (word_of step) (answer_of words (placed e (ports k).control.here.arena step))
+      ≡ answer_of (arena_words e words (ports k).control.here.arena) step
+  pub port : Port
+  pub entries : List Applied
+  pub control : port.control ≡ (ports k).control
+  pub before : port.before ≡ (ports k).before
+  pub passed : port.passed ≡ (ports k).passed
+  pub over : port.over ≡ ((ports k).over || ends_over e (arena_words e words (ports k).control.here.arena) step)
+  pub tells : Tells e.sizes (opening_behind e.opening (ports k).before) standing.epoch.log entries (ports k).part c
+      (answer_of (arena_words e words (ports k).control.here.arena) step) port.part
+  -- the history grows in the current epoch alone
+  pub present : (entries ≡ []) ⊎ IsPresent b k (ports k)
+  -- each entry is the port's own
+  pub own : AllByRecursion (λ a. a.port ≡ k) entries
+  -- nothing is applied to a component that is sealed
+  pub free : AllByRecursion (λ a. ¬ IsSealed (slice_index (component_words e words (ports k).control.here.arena) a.component)) entries
+  pub beside : Beside
+  pub log : beside.log ≡ b.log ++ entries
+  pub epochs : beside.before ≡ b.before
+  pub lawful : LawfulEpochs e (words_after words (placed e (ports k).control.here.arena step)) (put k port ports) beside
+
+-- each due step of a machine keeps the lawful state; where it meets a seal nothing changes
+abbrev pub MachineStepsStayLawful : Type 0
+MachineStepsStayLawful = (e : Plan) (words : List ℕ) (ports : ℕ → Port) (b : Beside) (k : ℕ) (c : CoreState) (step : Step) →
+    LawfulEpochs e words ports b → k < e.ports → (ports k).control.entering ≡ Stands → IsMachineOf c (ports k).part →
+    step_of c ≡ Some step → MayClaim e (ports k).over step →
+    (MeetsSeal e (component_words e words (ports k).control.here.arena) step
+    × (words_after words (placed e (ports k).control.here.arena step) ≡ words))
+    ⊎ MachineLeads e words ports b k c step
+
+-- a port that has made no claim past the limit has room for its next one
+abbrev pub ClaimsHaveRoom : Type 0
+ClaimsHaveRoom = (e : Plan) (words : List ℕ) (ports : ℕ → Port) (b : Beside) (k : ℕ) → LawfulEpochs e words ports b → k < e.ports →
+    (ports k).control.entering ≡ Stands → (ports k).over ≡ false →
+    slice_index (arena_words e words (ports k).control.here.arena) (pool_counter e.sizes) + greatest_record e.sizes ≤ pool_end e.sizes

@@ -1,0 +1,53 @@
+-- A memory as it opens, and an arena that opens again.
+use Rattle.std.specs.Prelude.{ℕ, ◌+◌, ◌<◌, ◌≤◌, List, [], slice_index, length, Option, ◌≡◌, Some, None, false}
+use Rattle.partial_model.specs.declared.history.Opening.{Opening}
+use Rattle.partial_words.specs.Layout.{Layout, total, IsLayout, pool_base, first_free}
+use Rattle.partial_model.specs.History.{initial_stamp}
+use Rattle.partial_core.specs.Part.{fresh_part, fresh_parts}
+use Rattle.partial_words.specs.Chain.{opening_word}
+use Rattle.partial_core.specs.Lawful.{Lawful}
+use Rattle.partial_epochs.specs.Lists.{put}
+use Rattle.partial_epochs.specs.Layout.{Plan, Place, base, carried_word, control_size, whole}
+use Rattle.partial_epochs.specs.Ports.{Port, Epoch}
+use Rattle.partial_epochs.specs.Epochs.{IsPlan, Beside, LawfulEpochs}
+use Rattle.partial_epochs.specs.Entering.{arrived}
+
+-- the words below the first free one are those of an opening; behind it anything may stand
+pub record OpensOver (s : Layout) (o : Opening) (words : List ℕ) : Type 0 where
+  pub sizes : IsLayout s
+  pub values : length o.values ≡ s.m
+  pub stamps : o.first ≡ pool_base s
+  pub count : length words ≡ total s
+  pub each : (w : ℕ) → w < first_free s → slice_index words w ≡ opening_word s o.values w
+
+-- such words are lawful, with nothing applied
+abbrev pub OpensOverLawful : Type 0
+OpensOverLawful = (z : Layout) (o : Opening) (words : List ℕ) (n : ℕ) → OpensOver z o words → n ≤ 64 → Lawful z o words (fresh_parts z 0 n) []
+
+-- the words at opening: no arena is owned, each port stands in epoch 0, and arena 0 is set; the other arenas may hold anything
+pub record OpensAll (e : Plan) (words : List ℕ) : Type 0 where
+  pub plan : IsPlan e
+  pub some : 0 < e.arenas
+  pub count : length words ≡ whole e
+  pub control : (i : ℕ) → i < control_size e → slice_index words i ≡ 0
+  pub each : (i : ℕ) → i < first_free e.sizes → slice_index words (base e 0 + i) ≡ opening_word e.sizes e.opening.values i
+  pub carried : (j : ℕ) → j < e.sizes.m → slice_index words (carried_word e 0 j) ≡ initial_stamp e.opening j
+
+abbrev pub first_place : Place
+first_place = record { epoch = 0; arena = 0 }
+
+abbrev pub first_epoch : Plan → Epoch
+first_epoch e = record { log = []; before = []; part = fresh_part e.sizes; passed = λ _. 0; over = λ _. false }
+
+abbrev pub nothing_held : ℕ → Option Epoch
+nothing_held x = None
+
+abbrev pub first_beside : Plan → Beside
+first_beside e = record { log = []; before = []; arena = 0; holds = put 0 (Some (first_epoch e)) nothing_held }
+
+abbrev pub first_ports : Plan → ℕ → Port
+first_ports e k = arrived e k first_place []
+
+-- such a memory is lawful, with nothing applied
+abbrev pub EpochsOpenLawful : Type 0
+EpochsOpenLawful = (e : Plan) (words : List ℕ) → OpensAll e words → LawfulEpochs e words (first_ports e) (first_beside e)

@@ -1,0 +1,62 @@
+-- What is known of a port, and of an arena that holds an epoch.
+use Rattle.std.specs.Prelude.{ℕ, Bool, List, Option}
+use Rattle.partial_model.specs.declared.history.Applied.{Applied}
+use Rattle.partial_core.specs.Part.{Part}
+use Rattle.partial_epochs.specs.Layout.{Place}
+
+-- whether a port is entering: it stands, it has stored the mark, or it has loaded the current place since
+pub data Entering : Type 0 where
+  Stands : Entering
+  Marks : Entering
+  Loaded : Place → Entering
+
+-- an arena that a port owns
+pub record Owned : Type 0 where
+  pub arena : ℕ
+  -- it has seen that its epoch is the current one, since it owns the arena and hasn't published it
+  pub looked : Bool
+  -- it is done with the ports below this one
+  pub clean : ℕ
+  -- the mark of port `clean` that it has loaded, and whether it has seen since that its epoch is the current one
+  pub mark : Option Place
+  pub again : Bool
+  -- how many words it has set
+  pub set : ℕ
+
+-- what a port does with the control words
+pub record Control : Type 0 where
+  -- where it stands, or from where it is entering
+  pub here : Place
+  -- whether it is entering
+  pub entering : Entering
+  -- it has seen that another epoch is the current one
+  pub past : Bool
+  -- the arena that it owns
+  pub owned : Option Owned
+
+-- A port, as its own steps alone change it.
+pub record Port : Type 0 where
+  -- what it does with the control words
+  pub control : Control
+  -- its part in the epoch where it stands, or where it stood last
+  pub part : Part
+  -- how many components it has passed there in a change of epoch: each of them is sealed
+  pub passed : ℕ
+  -- it has made a claim there that ends past the limit
+  pub over : Bool
+  -- the epochs before that one, the last one first
+  pub before : List (List Applied)
+
+-- An epoch that an arena holds, with a part for each port: its own where it stands there, that of a stopped port where
+-- it has left, and that of a new one where it hasn't come yet.
+pub record Epoch : Type 0 where
+  -- its history
+  pub log : List Applied
+  -- the histories of the epochs before, the last one first
+  pub before : List (List Applied)
+  -- the part of each port
+  pub part : ℕ → Part
+  -- how many components each port has passed
+  pub passed : ℕ → ℕ
+  -- whether each port has made a claim past the limit
+  pub over : ℕ → Bool

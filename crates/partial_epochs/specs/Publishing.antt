@@ -1,0 +1,63 @@
+-- A port sets the words of its arena, and publishes it as that of the next epoch.
+use Rattle.std.specs.Prelude.{ℕ, ◌+◌, ◌<◌, ◌≤◌, List, [], ◌∷◌, slice_index, ◌≡◌, ◌≢◌, ◌⊎◌, true, Some, None, false}
+use Rattle.partial_words.specs.Layout.{first_free}
+use Rattle.partial_words.specs.declared.step.Step.TheVariants.{Store, Exchange}
+use Rattle.partial_core.specs.Part.{fresh_part}
+use Rattle.partial_words.specs.Step.{words_after}
+use Rattle.partial_epochs.specs.Lists.{put}
+use Rattle.partial_epochs.specs.Layout.{epoch_limit, Plan, Place, packed, current_word, set_word}
+use Rattle.partial_epochs.specs.Ports.{Owned, Port, Epoch}
+use Rattle.partial_epochs.specs.Epochs.{Beside, next_word, LawfulEpochs, IsPresent}
+
+-- a port that has set one word more of its arena
+abbrev pub having_set : Port → Owned → Port
+having_set p o = record p { control = record p.control { owned = Some (record o { set = o.set + 1 }) } }
+
+-- the arena x holds no epoch then
+abbrev pub vacated : Beside → ℕ → Beside
+vacated b x = record b { holds = put x None b.holds }
+
+-- A port that is done with all others, and has found all components of its epoch sealed, sets the next word of its arena: to the word of
+-- the next epoch, if its own epoch is the current one yet.
+abbrev pub SetsStayLawful : Type 0
+SetsStayLawful = (e : Plan) (words : List ℕ) (ports : ℕ → Port) (b : Beside) (k : ℕ) (o : Owned) (v : ℕ) → LawfulEpochs e words ports b →
+    k < e.ports → (ports k).control.owned ≡ Some o → o.clean ≡ e.ports → o.set < first_free e.sizes + e.sizes.m →
+    e.sizes.m ≤ (ports k).passed → (slice_index words current_word ≡ packed (ports k).control.here → v ≡ next_word e b o.set) →
+    LawfulEpochs e (words_after words (Store (set_word e o.arena o.set) v)) (put k (having_set (ports k) o) ports) (vacated b o.arena)
+
+-- an arena that a port owns, as it was when it came to own it
+abbrev pub resting : Owned → Owned
+resting o = record o { looked = false; clean = 0; mark = None; again = false; set = 0 }
+
+-- a port that has exchanged the current word: its epoch has passed, and it has yet to give back the arena
+abbrev pub having_published : Port → Owned → Port
+having_published p o = record p { control = record p.control { past = true; owned = Some (resting o) } }
+
+-- the next epoch as it opens
+abbrev pub next_epoch : Plan → Beside → Epoch
+next_epoch e b = record { log = []; before = b.log ∷ b.before; part = fresh_part e.sizes; passed = λ _. 0; over = λ _. false }
+
+-- what stands beside the words once the next epoch is open, in arena x
+abbrev pub next_beside : Plan → Beside → ℕ → Beside
+next_beside e b x = record { log = []; before = b.log ∷ b.before; arena = x; holds = put x (Some (next_epoch e b)) b.holds }
+
+-- the place of the next epoch, in arena x
+abbrev pub next_place : Place → ℕ → Place
+next_place here x = record { epoch = here.epoch + 1; arena = x }
+
+-- port k has set all words of the arena that it owns, and its epoch isn't the last one that a word can name
+pub record IsWhole (e : Plan) (p : Port) (o : Owned) : Type 0 where
+  pub owned : p.control.owned ≡ Some o
+  pub set : o.set ≡ first_free e.sizes + e.sizes.m
+  pub room : p.control.here.epoch + 1 < epoch_limit
+
+-- The exchange of the current word is won, and opens the next epoch, where the port's epoch is the current one; else the epoch has passed.
+abbrev pub PublishesStayLawful : Type 0
+PublishesStayLawful = (e : Plan) (words : List ℕ) (ports : ℕ → Port) (b : Beside) (k : ℕ) (o : Owned) → LawfulEpochs e words ports b →
+    k < e.ports → IsWhole e (ports k) o →
+    ((slice_index words current_word ≡ packed (ports k).control.here) × IsPresent b k (ports k)
+    × LawfulEpochs e (words_after words (Exchange current_word (packed (ports k).control.here) (packed (next_place (ports k).control.here o.arena))))
+    (put k (having_published (ports k) o) ports) (next_beside e b o.arena))
+    ⊎ ((slice_index words current_word ≢ packed (ports k).control.here)
+    × LawfulEpochs e (words_after words (Exchange current_word (packed (ports k).control.here) (packed (next_place (ports k).control.here o.arena))))
+    (put k (having_published (ports k) o) ports) b)

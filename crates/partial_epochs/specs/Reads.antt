@@ -1,0 +1,50 @@
+-- What a read answers is true of the one history.
+use Rattle.std.specs.Prelude.{◌++◌, ℕ, ◌+◌, ◌<◌, ◌≤◌, nat_lt, List, ◌∷◌, slice_index, if◌then◌else◌, length, ◌≡◌, take}
+use Rattle.partial_words.specs.Layout.{first_free}
+use Rattle.partial_words.specs.Record.{value_word}
+use Rattle.partial_words.specs.declared.step.Step.{Step}
+use Rattle.partial_machine.specs.Machine.{CoreState}
+use Rattle.partial_model.specs.declared.history.Applied.{Applied}
+use Rattle.partial_model.specs.declared.history.Opening.{Opening}
+use Rattle.partial_model.specs.History.{value_of, stamp_of}
+use Rattle.partial_model.specs.Notes.{IsTrueOf}
+use Rattle.partial_model.specs.declared.call.Call.TheVariants as call
+use Rattle.partial_model.specs.declared.call.Answer.TheVariants as answer
+use Rattle.partial_model.specs.declared.call.Note.TheVariants as note
+use Rattle.partial_epochs.specs.Layout.{Plan, IsSealed, base, carried_word, component_words, unsealed}
+use Rattle.partial_epochs.specs.History.{public_stamp, history_of, opening_behind}
+use Rattle.partial_epochs.specs.Ports.{Port}
+use Rattle.partial_epochs.specs.Epochs.{Beside, IsStanding, LawfulEpochs}
+use Rattle.partial_epochs.specs.Ports.Entering.{Stands}
+use Rattle.partial_epochs.specs.MachineSteps.{MachineLeads}
+
+-- the public stamp of the record at s of component j, as a port reads it in its arena
+abbrev pub read_stamp : Plan → List ℕ → Port → ℕ → ℕ → ℕ
+read_stamp e words p j s =
+    if nat_lt s (first_free e.sizes) then slice_index words (carried_word e p.control.here.arena j) else public_stamp p.control.here.epoch s
+
+-- what a read answers that saw n entries of its epoch is true of the history of all epochs, at the place behind those entries
+abbrev pub ReadsTellAllEpochs : Type 0
+ReadsTellAllEpochs = (e : Plan) (words : List ℕ) (ports : ℕ → Port) (b : Beside) (k j n : ℕ) → LawfulEpochs e words ports b → k < e.ports →
+    (ports k).control.entering ≡ Stands → j < e.sizes.m → (s : IsStanding b k (ports k)) → n ≤ length s.epoch.log →
+    IsTrueOf e.opening (history_of (s.epoch.log ∷ (ports k).before)) k (call.Read j)
+    (answer.Read (value_of (opening_behind e.opening (ports k).before) (take n s.epoch.log) j)
+    (read_stamp e words (ports k) j (stamp_of (opening_behind e.opening (ports k).before) (take n s.epoch.log) j)))
+    (note.Saw (length (history_of (ports k).before) + n))
+
+-- what the words of the arena where a port stands tell of component j, of an epoch with this history: its record is the last one, with the
+-- value and the public stamp that the component has in the one history
+pub record TellTheLast (e : Plan) (words : List ℕ) (p : Port) (log : List Applied) (j : ℕ) : Type 0 where
+  pub stamp : unsealed (slice_index words (base e p.control.here.arena + j)) ≡ stamp_of (opening_behind e.opening p.before) log j
+  pub value : slice_index words (base e p.control.here.arena + value_word (unsealed (slice_index words (base e p.control.here.arena + j))))
+      ≡ value_of e.opening (history_of (log ∷ p.before)) j
+  pub public : read_stamp e words p j (unsealed (slice_index words (base e p.control.here.arena + j))) ≡ stamp_of e.opening (history_of (log ∷ p.before)) j
+
+-- No step of a machine applies anything to a component that is sealed, so what its words tell then stays.
+abbrev pub LastWordsAreFinal : Type 0
+LastWordsAreFinal = (e : Plan) (words : List ℕ) (ports : ℕ → Port) (b : Beside) (k j : ℕ) → LawfulEpochs e words ports b → k < e.ports →
+    (ports k).control.entering ≡ Stands → j < e.sizes.m → (s : IsStanding b k (ports k)) →
+    TellTheLast e words (ports k) s.epoch.log j
+    × ((q : ℕ) (c : CoreState) (step : Step) (lead : MachineLeads e words ports b q c step) →
+    IsSealed (slice_index (component_words e words (ports q).control.here.arena) j) → (o : Opening) (log : List Applied) →
+    (value_of o (log ++ lead.entries) j ≡ value_of o log j) × (stamp_of o (log ++ lead.entries) j ≡ stamp_of o log j))

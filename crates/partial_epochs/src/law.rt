@@ -1,0 +1,193 @@
+//! Laws about a memory whose arenas are used again and again. The functions have no code: their contracts hold of the
+//! definitions by which the memory's own contracts are to be stated.
+
+ghost use Rattle.partial_epochs.specs.History.{EpochsContinue};
+ghost use Rattle.partial_epochs.specs.MachineSteps.{UnsealedIsPresent, MachineStepsStayLawful, ClaimsHaveRoom};
+ghost use Rattle.partial_epochs.specs.Sealing.{SealsStayLawful, SealedPassesStayLawful};
+ghost use Rattle.partial_epochs.specs.Entering.{LooksAreTrue, MarksStayLawful, EntriesLoad, ArrivalsStayLawful};
+ghost use Rattle.partial_epochs.specs.Owning.{TakesStayLawful, GivesStayLawful, OwnersLook, OwnersLookAway, OthersAreElsewhere, MarksAreLoaded, PutsStayLawful};
+ghost use Rattle.partial_epochs.specs.Publishing.{SetsStayLawful, PublishesStayLawful};
+ghost use Rattle.partial_epochs.specs.Opening.{OpensOverLawful, EpochsOpenLawful};
+ghost use Rattle.partial_epochs.specs.Notes.{EpochsFitOneHistory, NotesStayLawful, SightsStayLawful, AsidesStayLawful, ArrivalsKeepNotes, PublishesKeepNotes, PublicStampsAreUnique};
+ghost use Rattle.partial_epochs.specs.EveryStep.{EveryStepStaysLawful, MemoriesOpenLawful};
+ghost use Rattle.partial_epochs.specs.Reads.{ReadsTellAllEpochs, LastWordsAreFinal};
+
+/// A memory as it opens is lawful, with nothing applied, whatever stands in the arenas that hold no epoch.
+pub fn epochs_open_lawful()
+    ensures { EpochsOpenLawful }
+{}
+
+/// An unsealed component word of the arena where a port stands shows that the port's epoch is the current one.
+pub fn unsealed_is_present()
+    ensures { UnsealedIsPresent }
+{}
+
+/// The due step of a port's machine, made in the arena where the port stands, keeps the memory lawful. This rests on
+/// the law of steps of one memory, unchanged. An exchange that meets a seal over the very record that it expects
+/// changes no word, and the machine is not told of it.
+pub fn machine_steps_stay_lawful()
+    ensures { MachineStepsStayLawful }
+{}
+
+/// The next claim of a port that has made no claim past the limit ends within the pool, so it is never refused.
+pub fn claims_have_room()
+    ensures { ClaimsHaveRoom }
+{}
+
+/// A fetch-and-add that seals the next component of the port's epoch keeps the memory lawful.
+pub fn seals_stay_lawful()
+    ensures { SealsStayLawful }
+{}
+
+/// So does a load that finds the next component sealed already.
+pub fn sealed_passes_stay_lawful()
+    ensures { SealedPassesStayLawful }
+{}
+
+/// A load of the current word tells a port whether its epoch is the current one. If it is not, that epoch has ended for
+/// ever, and the port knows so from then on.
+pub fn looks_are_true()
+    ensures { LooksAreTrue }
+{}
+
+/// The first step of entering keeps the memory lawful: a port that knows that its epoch has ended stores its place with
+/// the entering mark.
+pub fn marks_stay_lawful()
+    ensures { MarksStayLawful }
+{}
+
+/// The second step of entering loads the current place, and keeps the memory lawful.
+pub fn entries_load()
+    ensures { EntriesLoad }
+{}
+
+/// The third step of entering exchanges the mark. The port then stands in the place that it loaded, or in a later one
+/// that another port has put there, and the memory is lawful.
+pub fn arrivals_stay_lawful()
+    ensures { ArrivalsStayLawful }
+{}
+
+/// A port takes an arena in which it does not stand, by an exchange of the arena's owner word that is won. The memory
+/// stays lawful.
+pub fn takes_stay_lawful()
+    ensures { TakesStayLawful }
+{}
+
+/// An owner may give its arena back at any time. The memory stays lawful.
+pub fn gives_stay_lawful()
+    ensures { GivesStayLawful }
+{}
+
+/// An owner that loads its own place as the current one keeps the memory lawful: its arena is not the current one.
+pub fn owners_look()
+    ensures { OwnersLook }
+{}
+
+/// An owner that loads another current place knows from then on that its epoch has ended. The memory stays lawful.
+pub fn owners_look_away()
+    ensures { OwnersLookAway }
+{}
+
+/// An owner that has looked, and finds the next port in another arena than its own, is done with that port. The memory
+/// stays lawful: that port will not enter the owner's arena either.
+pub fn others_are_elsewhere()
+    ensures { OthersAreElsewhere }
+{}
+
+/// An owner that loads a port's word with the entering mark may hold that mark. The memory stays lawful.
+pub fn marks_are_loaded()
+    ensures { MarksAreLoaded }
+{}
+
+/// An owner that holds the mark of an entering port, and has since seen that its own epoch is the current one, may put
+/// that port where it stands itself. Where its exchange of the mark is won, the memory stays lawful.
+pub fn puts_stay_lawful()
+    ensures { PutsStayLawful }
+{}
+
+/// An owner that is done with all other ports, and has found each component of its epoch sealed, sets the next word of
+/// its arena. The memory stays lawful if it stores the next epoch's word, or if its epoch has ended.
+pub fn sets_stay_lawful()
+    ensures { SetsStayLawful }
+{}
+
+/// The exchange of the current word, by an owner that has set its whole arena, opens the next epoch where it is won, and
+/// changes nothing where it is lost. Either way the memory is lawful.
+pub fn publishes_stay_lawful()
+    ensures { PublishesStayLawful }
+{}
+
+/// An arena that was used before opens lawful again once the words below the first free one are set, whatever stands
+/// behind them.
+pub fn opens_over()
+    ensures { OpensOverLawful }
+{}
+
+/// In the one history each epoch goes on with the values and the stamps that the epochs before it have left.
+pub fn epochs_continue()
+    ensures { EpochsContinue }
+{}
+
+/// What a read answers that saw some entries of its epoch is true of the one history, at the place behind them.
+pub fn reads_tell_all_epochs()
+    ensures { ReadsTellAllEpochs }
+{}
+
+/// The histories of all epochs of a lawful memory, one behind the other and with public stamps, are one history over the
+/// first opening. Each port's notes are legal in it, and its entries there are those of its notes, each once and in
+/// their order.
+pub fn epochs_fit_one_history()
+    ensures { EpochsFitOneHistory }
+{}
+
+/// No two entries of the one history have one public stamp, whatever their epochs, and each public stamp fits a word.
+pub fn public_stamps_are_unique()
+    ensures { PublicStampsAreUnique }
+{}
+
+/// The words of the arena where a port stands name the last record of each component, with the value and the public
+/// stamp that it has in the one history. No step of a machine applies anything to a component that is sealed, so what
+/// a port reads behind its last seal is final.
+pub fn last_words_are_final()
+    ensures { LastWordsAreFinal }
+{}
+
+/// Each step of a port's machine keeps the memory lawful with its notes. What the port notes of its epoch it notes over
+/// all epochs with public stamps, if its earlier notes show no more than it had seen as the call began. A call that has
+/// no entry in the history may go unnoted, as a scan does that is made again in a later epoch.
+pub fn notes_stay_lawful()
+    ensures { NotesStayLawful }
+{}
+
+/// A port that has looked at its epoch may note an answer that is true there, at a place behind all that its notes show,
+/// and keeps the memory lawful. So reads, and conditional updates that find another stamp, need no step of a machine.
+pub fn sights_stay_lawful()
+    ensures { SightsStayLawful }
+{}
+
+/// A step that changes neither histories nor what its port has seen, its place or its notes keeps the memory lawful with
+/// all notes, where it keeps its lawful state of all epochs.
+pub fn asides_stay_lawful()
+    ensures { AsidesStayLawful }
+{}
+
+/// A port that comes to a later epoch keeps the memory lawful with all notes.
+pub fn arrivals_keep_notes()
+    ensures { ArrivalsKeepNotes }
+{}
+
+/// The exchange that opens the next epoch keeps the memory lawful with all notes. In the one history nothing changes.
+pub fn publishes_keep_notes()
+    ensures { PublishesKeepNotes }
+{}
+
+/// A memory as it opens is lawful, and nobody has noted anything.
+pub fn memories_open_lawful()
+    ensures { MemoriesOpenLawful }
+{}
+
+/// The one law of the long-lived memory: from a lawful memory, whatever step a port makes next, the memory is lawful
+/// again, and all other ports and their notes are as they were.
+pub fn every_step_stays_lawful()
+    ensures { EveryStepStaysLawful }
+{}

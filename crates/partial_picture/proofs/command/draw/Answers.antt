@@ -1,0 +1,5 @@
+use Rattle.std.proofs.Common.{arith}
+use Rattle.partial_picture.proofs.command.draw.Goals as goal
+
+pub returns-clause-written : goal.returns-clause-written
+returns-clause-written g c = (c.as_bytes.result.now, omega (arith, c.as_bytes.ensures.len, c.in_ok-text.ensures.some), c.in_ok-write_text.ensures.ok)
