@@ -1,8 +1,8 @@
 #!/bin/sh
 # bitcode.sh [OUT]: builds the proved static library `partial_door` as bitcode of LLVM, into OUT or into
 # crates/partial_door/out/bitcode/libpartial_door.a. The linker of a Rust program then generates the door's code, and
-# can put that of a call in the place of the call (docs/door.md). What it writes to standard output is one line, the
-# words for RUSTFLAGS to link so.
+# can put that of a call in the place of the call (docs/using/c-and-rust.md). What it writes to standard output is one
+# line, the words for RUSTFLAGS to link so.
 #
 # It wants `rt` on the path. `rt lib` proves and builds all, and takes no toolchain but the kit's. So its last step is
 # made once more here, in its words: `rattle build`, which builds nothing but what is proved, with a toolchain in which
@@ -21,7 +21,7 @@ esac
 top=$(cd "$(dirname "$0")/.." && pwd)
 crate=$top/crates/partial_door
 out=${out:-$crate/out/bitcode/libpartial_door.a}
-command -v rt >/dev/null || stop "there is no rt on the path"
+. "$top/scripts/need.sh" && need rt
 kit=$(dirname "$(rt doc)")
 for part in bin/rattle toolchain/bin/clang toolchain/bin/llvm-ar toolchain/lib rlibs logic_built \
     rattle/logic/antt-project.json; do

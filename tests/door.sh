@@ -4,6 +4,7 @@
 # The last line is 'N passed, M failed'. It wants cc and, for the bindings, cargo.
 set -u
 cd "$(dirname "$0")/.." || exit 2
+. scripts/need.sh && need rt "${CC:-cc}"
 made=$(mktemp -d) || exit 2
 trap 'rm -rf "$made"' EXIT
 passed=0

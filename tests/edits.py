@@ -3,32 +3,51 @@
 
 An edit is a file of lines: `refused: PATH` names each function whose contract has to refuse it, as the prover
 prints it, below its crate; `file: PATH` a file of the crate; and then `old: TEXT` and `new: TEXT` in turn, where the
-old text stands exactly once in that file as it is.
+old text stands exactly once in that file as it is. Where what a function promises is carried by what it has to show to
+a function that it calls, as that a step is the due one, a line `by: GOAL` names the open goal that refuses it.
 
 Much of a check's time passes before its first proof, so a crate's edits are tried together, in rounds in each of
-which no function is turned twice. Each edit is judged by itself: of its function the check has to say that a goal of
-its own can't be proved. That a function calls one that isn't proved is said apart, and counts for nothing; where its
-goals weren't tried for that reason, its edit waits for a later round. No function may have such a goal that none of
-the round's edits turns. A later round begins with what the earlier ones have proved.
+which no function is turned twice. Each edit is judged by itself: of its function the check has to say that it did not
+prove a goal of meaning, which is one of what the function ensures, of its type's invariant or of a loop's, or the one
+that the edit names, or that a loop has no measure, since each call has to end. Nothing else refuses an edit: no open
+goal of an overflow, a bound, a cast or of what a called function requires, no proof that names what the edit took
+away, and no run out of steps. Where a written answer of a goal of meaning doesn't
+fit the turned function, that alone is no refusal either: the check is made again without the answers that are refused,
+and a goal of meaning has to stay open then. A check that ends without a verdict, or not in time, refuses nothing.
 
-With words, it takes the crates with these names alone. What isn't proved yet of the crates below is proved first.
-The last line is 'N passed, M failed', where each edit counts once.
+That a function calls one that isn't proved is said apart, and counts for nothing; where its goals weren't tried for
+that reason, its edit waits for a later round. No function may have an open goal that none of the round's edits turns.
+A later round begins with what the earlier ones have proved.
+
+With words, it takes the crates with these names alone; with --jobs N, so many crates side by side. What isn't proved
+yet of the crates below is proved first. The last line is 'N passed, M failed', where each edit counts once.
 """
+import argparse
 import os
 import re
 import shutil
+import signal
 import subprocess
 import sys
 import tempfile
 from concurrent.futures import ThreadPoolExecutor
-from dataclasses import dataclass
+from dataclasses import dataclass, field
 from pathlib import Path
 
 TOP = Path(__file__).resolve().parent.parent
 KIT = Path(shutil.which('rt')).resolve().parent.parent
 PARTS = ('src', 'specs', 'proofs')
-# What the prover says of a proof that names what an edit took away. It tells nothing of the contract.
-LACKING = re.compile(r'has no field|is not in scope|has no `|was not admitted')
+# Seconds for one check, which may have to prove a whole crate.
+LIMIT = 3600
+# Goals of meaning: what a function ensures, the invariant of a type, and that of a loop.
+MEANING = re.compile(r'(returns|invariant_of)(-|$)|loop(-\S+)?-(init|preserved)(-|$)')
+# Goals that an edit may name: what a called function requires, but for those of an index and of what can't be.
+BY = re.compile(r'(?<!index)(?<!unreachable)(?<!unwrap)(?<!expect)-requires(-|$)')
+# What the prover says of an answer that names what an edit took away.
+LACKING = re.compile(r'has no field|is not in scope|has no `|was not admitted|is no name')
+# What it says besides of answers that cite one which it has refused.
+CITING = re.compile(r'\d+ declarations? that depends? on')
+SPENT = re.compile(r'r[ua]n out of|could not tell')
 
 
 @dataclass
@@ -38,6 +57,7 @@ class Edit:
     name: str
     refused: list[str]
     changes: list[tuple[str, str, str]]
+    by: str | None = None
 
 
 class BadEdit(Exception):
@@ -45,12 +65,14 @@ class BadEdit(Exception):
 
 
 def read_edit(path):
-    refused, file, old, changes = [], None, None, []
+    refused, file, old, changes, by = [], None, None, [], None
     for line in path.read_text(encoding='utf-8').splitlines():
         word, _, text = line.partition(':')
         text = text.removeprefix(' ')
         if word == 'refused':
             refused.append(text)
+        elif word == 'by' and BY.search(text):
+            by = text
         elif word == 'file':
             file = text
         elif word == 'old':
@@ -62,7 +84,7 @@ def read_edit(path):
             raise BadEdit(f'its line is none of an edit: {line}')
     if not refused or not changes:
         raise BadEdit('it names no function, or changes nothing')
-    return Edit(path.stem, refused, changes)
+    return Edit(path.stem, refused, changes, by)
 
 
 def places_of(edit, crate):
@@ -131,8 +153,21 @@ def command_of(name, crates):
             '--incremental', 'kept']
 
 
-def check(room, name, places, command):
-    """What a check of the crate in this folder says with these places of it turned."""
+def run(command, room, limit):
+    """The exit status of a command and what it says; there is no status where it has to be stopped at the limit."""
+    with subprocess.Popen(command, cwd=room, stdin=subprocess.DEVNULL, stdout=subprocess.PIPE,
+                          stderr=subprocess.STDOUT, text=True, errors='replace', start_new_session=True) as started:
+        try:
+            said, _ = started.communicate(timeout=limit)
+            return started.returncode, said
+        except subprocess.TimeoutExpired:
+            os.killpg(started.pid, signal.SIGKILL)
+            return None, started.communicate()[0]
+
+
+def check(room, name, places, command, without=()):
+    """The status of a check of the crate in this folder, with these places of it turned and without these answers,
+    each a function and a goal of it, and what the check says."""
     for part in PARTS:
         shutil.rmtree(room / part, ignore_errors=True)
         if (TOP / 'crates' / name / part).is_dir():
@@ -140,16 +175,74 @@ def check(room, name, places, command):
     for file, begin, end, new in sorted(places, reverse=True):
         text = (room / file).read_text(encoding='utf-8')
         (room / file).write_text(text[:begin] + new + text[end:], encoding='utf-8')
-    ran = subprocess.run(command, cwd=room, stdin=subprocess.DEVNULL, stdout=subprocess.PIPE,
-                         stderr=subprocess.STDOUT, text=True, errors='replace')
-    return ran.stdout
+    for function, goal in without:
+        path = room / 'proofs' / function.replace('::', '/') / 'Answers.antt'
+        path.write_text(without_answer(path.read_text(encoding='utf-8'), goal), encoding='utf-8')
+    return run(command, room, LIMIT)
 
 
-def with_open_goals(name, said):
-    """The functions of the crate of which a goal of their own wasn't proved, or a loop of their own has no measure."""
-    searched = re.findall(rf'^fn {name}::(\S+): no proof: .*(?:`search` did not prove|expected a measure)', said, re.M)
-    answered = re.findall(r'^\./proofs/(\S+)/Answers\.antt\S*: error: (.*)$', said, re.M)
-    return {*searched, *[folder.replace('/', '::') for folder, why in answered if not LACKING.search(why)]}
+def without_answer(text, goal):
+    """A file of answers without the one of this goal: its type, and the lines of it."""
+    name = re.escape(goal)
+    return re.sub(rf'^(?:pub )?{name} : .*\n(?:[ \t].*\n|\n(?=[ \t]))*(?:{name}(?: .*)?\n(?:[ \t].*\n|\n(?=[ \t]))*)*', '',
+                  text + '\n', flags=re.M)
+
+
+def is_of_meaning(goal, by):
+    """Whether an open goal refuses an edit that names this one."""
+    return goal == by or MEANING.match(goal) is not None
+
+
+@dataclass
+class Told:
+    """What a check says of one function: its goals that the search did not prove, those whose written answers do not
+    fit, those whose answers are refused for whatever reason, and what tells nothing of its contract."""
+
+    unproved: list[str] = field(default_factory=list)
+    misfits: list[str] = field(default_factory=list)
+    broken: list[str] = field(default_factory=list)
+    beside: list[str] = field(default_factory=list)
+    has_no_measure: bool = False
+
+    def is_refused(self, by):
+        return self.has_no_measure or any(is_of_meaning(goal, by) for goal in self.unproved)
+
+    def doubted(self, by):
+        """The goals of meaning whose answers do not fit, each once."""
+        return list(dict.fromkeys(goal for goal in self.misfits if is_of_meaning(goal, by)))
+
+    def why_not(self):
+        """Why the contract of the function has not refused an edit."""
+        others = [*self.unproved, *self.misfits]
+        lines = [f'open, and no goal of meaning: {", ".join(others)}'] if others else []
+        return lines + self.beside or ['it has no open goal']
+
+
+def told_by(name, said):
+    """What a check of the crate says of each function of which it says more than that it calls what isn't proved."""
+    told = {}
+    for function, line in re.findall(rf'^fn {name}::(\S+): (.*)$', said, re.M):
+        # Paths hold dots and slashes, and goals neither; what comes behind the semicolon is of other functions.
+        for goals in re.findall(r'`search` did not prove ([^;]*)', line):
+            told.setdefault(function, Told()).unproved += re.findall(r'`([^`]+)`', goals)
+        if SPENT.search(line):
+            told.setdefault(function, Told()).beside.append(f'no verdict: {line}')
+        if 'expected a measure' in line:
+            told.setdefault(function, Told()).has_no_measure = True
+    for folder, goal, why in re.findall(r'^\./proofs/(\S+)/(?:Answers|Invariants|Proof)\.antt\S*: error: (?:`([^`]+)`: )?'
+                                        r'(.*(?:\n  .*)*)', said, re.M):
+        one = told.setdefault(folder.replace('/', '::'), Told())
+        first = why.splitlines()[0]
+        one.broken += [goal] if goal else []
+        if LACKING.search(why):
+            one.beside.append(f'an answer names what is gone: {goal}: {first}')
+        elif SPENT.search(why):
+            one.beside.append(f'a run out of steps: {goal}: {first}')
+        elif goal:
+            one.misfits.append(goal)
+        elif not CITING.match(why):
+            one.beside.append(f'a fault of a proof file: {first}')
+    return told
 
 
 def wait(functions, name, said):
@@ -157,26 +250,56 @@ def wait(functions, name, said):
     return any(f'`search` has not tried the goals of `{name}::{it}`' in said for it in functions)
 
 
-def try_round(name, members, said):
-    """The members of a round that were tried, and what is wrong with them, by what their check said."""
-    refused, lines, faults = with_open_goals(name, said), said.splitlines(), []
-    not_refused = {it.name: [function for function in it.refused if function not in refused] for it in members}
+def with_more(told, name, members, again):
+    """What is told of the members' functions, with the goals of meaning that stay open without the answers that do
+    not fit, by this second check, and how many functions are refused by these."""
+    doubts = {function: it.by for it in members for function in it.refused
+              if function in told and not told[function].is_refused(it.by) and told[function].doubted(it.by)}
+    if not doubts:
+        return 0
+    # The search is asked only where no answer of the function is refused any more. Where an answer for all clauses at
+    # once is taken away, the goals of single clauses are open.
+    status, said = again([(function, goal) for function in doubts for goal in dict.fromkeys(told[function].broken)])
+    later = told_by(name, said) if status == 1 else {}
+    more = set()
+    for function, by in doubts.items():
+        still = [goal for goal in later.get(function, Told()).unproved if is_of_meaning(goal, by)]
+        if still:
+            told[function].unproved += still
+            more.add(function)
+        else:
+            told[function].beside += [f'its answer does not fit, and without it no goal of meaning is open: {goal}'
+                                      for goal in told[function].doubted(by)]
+    return len(more)
+
+
+def try_round(name, members, status, said, again):
+    """The members of a round that were tried, what is wrong with them, by what their check said, and how many
+    functions a second check refused, without answers that do not fit."""
+    if status not in (0, 1):
+        ended = f'with status {status}' if status is not None else f'not within {LIMIT} s'
+        return members, [f'{name}/{it.name}.edit: the check ended {ended}' for it in members], 0
+    told, faults = told_by(name, said), []
+    more = with_more(told, name, members, again)
+    not_refused = {it.name: [function for function in it.refused
+                             if not told.get(function, Told()).is_refused(it.by)] for it in members}
     tried = [it for it in members if not wait(not_refused[it.name], name, said)] or members
     for edit in tried:
         for function in not_refused[edit.name]:
-            own = f'fn {name}::{function}:', f'./proofs/{function.replace("::", "/")}/'
-            told = [it for it in lines if it.startswith(own)] or [it for it in lines if ': error' in it]
-            faults.append('\n    '.join([f'{name}/{edit.name}.edit: {function} is not refused', *told[:6]]))
-    for other in sorted(refused - {function for it in members for function in it.refused}):
+            why = told.get(function, Told()).why_not()
+            faults.append('\n    '.join([f'{name}/{edit.name}.edit: {function} is not refused', *why[:6]]))
+    for other in sorted(set(told) - {function for it in members for function in it.refused}):
         turned = ', '.join(it.name for it in members)
-        faults.append(f'{name}: {other} is refused, and none of these edits turns it: {turned}')
-    return tried, faults
+        faults.append(f'{name}: {other} has open goals, and none of these edits turns it: {turned}\n    '
+                      + '\n    '.join(told[other].why_not()[:3]))
+    return tried, faults, more
 
 
 def try_crate(name, crates):
-    """Tries a crate's edits: how many there are, and what is wrong with them."""
+    """Tries a crate's edits: how many there are, how many functions were refused without an answer that did not fit,
+    and what is wrong."""
     crate = TOP / 'crates' / name
-    edits, faults = [], []
+    edits, faults, more = [], [], 0
     for path in sorted((crate / 'edits').glob('*')):
         try:
             edit = read_edit(path)
@@ -190,24 +313,35 @@ def try_crate(name, crates):
         shutil.copytree(kept, f'{room}/kept') if kept.is_dir() else os.mkdir(f'{room}/kept')
         while left:
             members, places = first_round(left, crate)
-            tried, wrong = try_round(name, members, check(Path(room), name, places, command))
+
+            def again(without):
+                return check(Path(room), name, places, command, without)
+
+            tried, wrong, others = try_round(name, members, *again(()), again)
             faults += wrong
+            more += others
             left = [it for it in left if it not in tried]
-    return len(edits), faults
+    return len(edits), more, faults
 
 
-def main(names):
+def main():
+    words = argparse.ArgumentParser(description=__doc__.splitlines()[0])
+    words.add_argument('--jobs', type=int, default=len(os.sched_getaffinity(0)))
+    words.add_argument('names', nargs='*')
+    given = words.parse_args()
     crates = crates_of(TOP)
-    chosen = [it for it in crates if (TOP / 'crates' / it / 'edits').is_dir() and (not names or it in names)]
+    chosen = [it for it in crates
+              if (TOP / 'crates' / it / 'edits').is_dir() and (not given.names or it in given.names)]
     size = {it: sum(path.stat().st_size for path in (TOP / 'crates' / it / 'src').glob('**/*.rt')) for it in chosen}
     passed, failed = 0, 0
     if not all(is_built(it) for name in chosen for it in below(name, crates)):
         subprocess.run(['rt', 'all', 'check'], cwd=TOP, stdin=subprocess.DEVNULL, stdout=subprocess.DEVNULL, check=True)
-    with ThreadPoolExecutor(len(os.sched_getaffinity(0))) as pool:
+    with ThreadPoolExecutor(given.jobs) as pool:
         tried = {it: pool.submit(try_crate, it, crates) for it in sorted(chosen, key=lambda it: -size[it])}
         for name in chosen:
-            edits, faults = tried[name].result()
-            print(f'{name}: {edits} edits', *faults, sep='\n', flush=True)
+            edits, more, faults = tried[name].result()
+            print(f'{name}: {edits} edits; {more} functions were refused without an answer that did not fit', *faults,
+                  sep='\n', flush=True)
             passed += max(edits - len(faults), 0)
             failed += len(faults)
     print(f'{passed} passed, {failed} failed')
@@ -215,4 +349,4 @@ def main(names):
 
 
 if __name__ == '__main__':
-    sys.exit(main(sys.argv[1:]))
+    sys.exit(main())

@@ -1,22 +1,25 @@
 #!/usr/bin/env python3
-"""Compares each example in Rust of README.md and docs/ with the test that runs it.
+"""Compares each example in Rust and in C of README.md and docs/ with the test that runs it.
 
-A block begins with the line ```rust, and the line before names the test's file: <!-- runs in crates/NAME/FILE -->.
-The lines of the block stand in that file one behind the other, all moved to the right by as much. The last line
-that is printed is 'N passed, M failed'.
+A block begins with the line ```rust or ```c, and the line before names the test's file, which is one of a crate or of
+the bindings: <!-- runs in FILE -->. The lines of the block stand in that file one behind the other, all moved to the
+right by as much, or behind the marks of a comment that is tested as an example. The last line that is printed is
+'N passed, M failed'.
 """
 import re
 import sys
 from pathlib import Path
 
 TOP = Path(__file__).resolve().parent.parent
-NAMED = re.compile(r'<!-- runs in (crates/\S+\.rt) -->')
+NAMED = re.compile(r'<!-- runs in ((?:crates|bindings)/\S+\.(?:rt|rs|c)) -->')
+# What says that a file is one of tests, by its ending.
+TESTS = {'.rt': '#[test]', '.rs': '//! ```', '.c': 'int main('}
 
 
 def examples(document):
     """Each block of the document: its first line's number, the line before it, and its lines."""
     lines = document.read_text(encoding='utf-8').split('\n')
-    starts = [number for number, line in enumerate(lines) if line == '```rust']
+    starts = [number for number, line in enumerate(lines) if line in ('```rust', '```c')]
     for start in starts:
         end = lines.index('```', start)
         yield start + 1, lines[start - 1], lines[start + 1:end]
@@ -25,9 +28,11 @@ def examples(document):
 def stands_in(block, lines):
     """Whether the block's lines stand one behind the other among these, moved to the right by as much."""
     for start in range(len(lines) - len(block) + 1):
-        moved = len(lines[start]) - len(lines[start].lstrip())
-        if all(line == (' ' * moved + wanted if wanted else '')
-               for line, wanted in zip(lines[start:], block)):
+        if not lines[start].endswith(block[0]):
+            continue
+        moved = lines[start][:len(lines[start]) - len(block[0])]
+        if moved.strip() in ('', '//!') and all(
+                line == (moved + wanted).rstrip() for line, wanted in zip(lines[start:], block)):
             return True
     return False
 
@@ -41,7 +46,7 @@ def fault(before, block):
     if not test.is_file():
         return f'{named[1]} is not there'
     text = test.read_text(encoding='utf-8')
-    if '#[test]' not in text:
+    if TESTS[test.suffix] not in text:
         return f'{named[1]} has no tests'
     if not block or not stands_in(block, text.split('\n')):
         return f'it does not stand in {named[1]}'
@@ -50,7 +55,7 @@ def fault(before, block):
 
 def main():
     passed = failed = 0
-    for document in [TOP / 'README.md', *sorted((TOP / 'docs').glob('*.md'))]:
+    for document in [TOP / 'README.md', *sorted((TOP / 'docs').rglob('*.md'))]:
         for number, before, block in examples(document):
             wrong = fault(before, block)
             if wrong is None:

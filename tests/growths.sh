@@ -7,7 +7,8 @@
 set -u
 
 top=$(cd "$(dirname "${BASH_SOURCE[0]}")/.." && pwd) || exit 1
-. "$top/fresh.sh" || exit 1
+. "$top/scripts/fresh.sh" || exit 1
+. "$top/scripts/need.sh" && need rt "${CC:-cc}"
 room=$(mktemp -d) || exit 1
 trap 'rm -rf "$room"' EXIT
 wanted=" $* "

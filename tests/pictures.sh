@@ -1,6 +1,7 @@
 #!/usr/bin/env bash
-# Draws the pictures that stand in docs/pictures/. With --check it changes nothing, and says whether they are those
-# of their plans. The last line is 'N passed, M failed'. PICTURE may name a built program; else it is ./picture.
+# Draws the pictures that stand in docs/pictures/. With --check it changes nothing, and says whether the program draws
+# the same again; that alone tells nothing of what they show, so each is compared with its plan and its outcome too.
+# The last line is 'N passed, M failed'. PICTURE may name a built program; else it is ./picture.
 set -u
 
 top=$(cd "$(dirname "${BASH_SOURCE[0]}")/.." && pwd) || exit 1
@@ -16,7 +17,8 @@ picture() {
     local name=$1 kept=$top/docs/pictures/$1.svg
     shift
     if "$program" "$top/plans/$name.plan" "$@" >"$room/drawn" &&
-        { [ "$check" = --check ] || cp "$room/drawn" "$kept"; } && cmp "$room/drawn" "$kept"; then
+        { [ "$check" = --check ] || cp "$room/drawn" "$kept"; } && cmp "$room/drawn" "$kept" &&
+        "$top/tests/drawing.py" "$kept" "$top/plans/$name.plan" "$top/plans/$name.expected"; then
         passed=$((passed + 1))
     else
         failed=$((failed + 1))

@@ -5,7 +5,9 @@
 set -u
 
 top=$(cd "$(dirname "${BASH_SOURCE[0]}")/.." && pwd) || exit 1
-. "$top/fresh.sh" || exit 1
+. "$top/scripts/fresh.sh" || exit 1
+. "$top/tests/count.sh" || exit 1
+. "$top/scripts/need.sh" && need rt python3
 program=${PARTIAL:-}
 if [ -z "$program" ]; then
     program=$top/crates/partial/out/partial
@@ -17,8 +19,6 @@ fi
 
 room=$(mktemp -d) || exit 1
 trap 'rm -rf "$room"' EXIT
-passed=0
-failed=0
 
 # case NAME STATUS WORD..: the program reads $room/in, and must write $room/out and $room/err.
 case_of() {
@@ -87,24 +87,11 @@ if [ "$one_report" -lt 5 ]; then
     echo "failed: only $one_report plans with one report"
 fi
 
-# Runs a test of random plans, and adds what its last line counts. Without such a line it has failed once.
-count_plans() {
-    local said
-    said=$("$top/tests/$1" "$program")
-    echo "$said"
-    if [[ $said =~ ([0-9]+)\ passed,\ ([0-9]+)\ failed$ ]]; then
-        passed=$((passed + BASH_REMATCH[1]))
-        failed=$((failed + BASH_REMATCH[2]))
-    else
-        failed=$((failed + 1))
-    fi
-}
-
 # Random plans of 2 to 64 ports, each run many times on all cores.
-count_plans runs.py
+count "$top/tests/runs.py" "$program"
 
 # Random plans of one port: what is run is what is replayed.
-count_plans alone.py
+count "$top/tests/alone.py" "$program"
 
 # 64 ports where there is no room for 64 threads: nothing is written, once the started ones have ended.
 {
@@ -114,6 +101,16 @@ count_plans alone.py
 } >"$room/threads.plan"
 expect "" "" $'partial: refused 6: out of memory\n'
 if (failed=0 && ulimit -v 100000 && case_of too_many_threads 1 run "$room/threads.plan" && [ "$failed" -eq 0 ]); then
+    passed=$((passed + 1))
+else
+    failed=$((failed + 1))
+fi
+
+# Nothing of that first plan is run where the second one has fewer components: its refusal comes first.
+expect "" "" $'partial: refused 13: fewer components than before\n'
+printf '%s' $'sizes 1 4 8 64\ninitial 0\nport\nsteps\n' >"$room/small.plan"
+if (failed=0 && ulimit -v 100000 && case_of fewer_components_before_threads 1 run "$room/threads.plan" "$room/small.plan" &&
+    [ "$failed" -eq 0 ]); then
     passed=$((passed + 1))
 else
     failed=$((failed + 1))
@@ -342,15 +339,28 @@ draws_all() {
         [ "$arrows" -ge $((lost + borrowed)) ] && [ "$arrows" -le $((lost + borrowed + changed)) ]
 }
 
-# Every plan, from a file and from standard input: the same bytes, and each shape once for its event.
+# Whether a drawing from which one mark, the words of one pin or one bar was taken is told from what its outcome says.
+tells_apart() {
+    local told=0 turned
+    for turned in '0,/class="mark /s//class="/' '0,/<title>applied 0/s//<title>applied 1/' '0,/class="bar"/s//class=""/'; do
+        sed "$turned" "$room/drawn" >"$room/turned"
+        "$top/tests/drawing.py" "$room/turned" "$1" "$2" >/dev/null && told=1
+    done
+    return "$told"
+}
+
+# Every plan: what is drawn is what the plan and its outcome say, each shape once for its event. That standard input
+# gives the same bytes as the file shows no more than that: the same drawing, twice.
 for plan in "$top"/plans/*.plan; do
     name=$(basename "$plan" .plan)
     "$program" --words "$plan" >"$room/drawn"
+    holds "picture: the contents of $name" "$top/tests/drawing.py" "$room/drawn" "$plan" "$top/plans/$name.expected"
+    holds "picture: what stands in $name" draws_all "$top/plans/$name.expected"
+    [ "$name" != lost_exchange ] || holds "picture: a turned drawing" tells_apart "$plan" "$top/plans/$name.expected"
     cp "$plan" "$room/in"
     cp "$room/drawn" "$room/out"
     : >"$room/err"
-    case_of "picture: $name" 0 --words
-    holds "picture: what stands in $name" draws_all "$top/plans/$name.expected"
+    case_of "picture: the same drawing twice of $name" 0 --words
     holds "picture: the table of $name" test "$("$program" --text "$plan" | grep -cE '^ +[0-9]+  ')" -eq \
         "$(sed -n 's/^total //p' "$top/plans/$name.expected")"
 done
@@ -397,21 +407,14 @@ if [ -w /dev/full ]; then
     holds "picture: a full device" test "$status: $(cat "$room/given-err")" = "1: picture: refused 12: write fault"
 fi
 
-# The pictures in docs/ are those of their plans.
-said=$(PICTURE=$program "$top/tests/pictures.sh" --check)
-echo "$said"
-if [[ $said =~ ([0-9]+)\ passed,\ ([0-9]+)\ failed$ ]]; then
-    passed=$((passed + BASH_REMATCH[1]))
-    failed=$((failed + BASH_REMATCH[2]))
-else
-    failed=$((failed + 1))
-fi
+# The pictures in docs/ are the same drawings as now, and hold what their plans' outcomes say.
+PICTURE=$program count "$top/tests/pictures.sh" --check
 program=$partial
 
 # ./partial from another folder, in a copy of the sources: first with no proved program, then with one.
 copy=$room/copy
 mkdir -p "$copy/elsewhere" "$room/bin"
-tar -C "$top" --exclude=out -cf - crates crates.txt partial program.sh fresh.sh | tar -C "$copy" -xf -
+tar -C "$top" --exclude=out -cf - crates crates.txt partial scripts | tar -C "$copy" -xf -
 cp "$top/plans/lost_exchange.plan" "$copy/lost.plan"
 built=$program
 program=$copy/partial

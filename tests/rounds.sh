@@ -5,7 +5,8 @@
 set -u
 
 top=$(cd "$(dirname "${BASH_SOURCE[0]}")/.." && pwd) || exit 1
-. "$top/fresh.sh" || exit 1
+. "$top/scripts/fresh.sh" || exit 1
+. "$top/scripts/need.sh" && need rt
 tests=$top/crates/client_tests/out/client_tests_tests
 is_fresh "$tests" || (cd "$top/crates/client_tests" && rt test) || exit 1
 

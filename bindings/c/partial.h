@@ -1,7 +1,8 @@
 /*
- * A partial snapshot object for programs in C: components of 64 bits that many
- * threads share. Any port may update or read any component, and scan any few of
- * them as they stood together at one moment. No call waits for another.
+ * A wait-free, linearizable partial snapshot object for programs in C: components of
+ * 64 bits that many threads share. Any port may update or read any component, and scan
+ * any few of them as they stood together at one moment. No call waits for another. An
+ * opening wears out: `docs/using/choosing.md` says what a program does then.
  *
  * What is proved, and what isn't
  * ------------------------------
@@ -9,7 +10,7 @@
  * Their contracts are proved over all orders of the threads' single steps: what
  * an update, a read, a scan, a meeting and a close answer, that each call ends,
  * that no index leaves its memory, that each refusal has its cause and what it
- * leaves. `docs/door.md` says them in words.
+ * leaves. `docs/using/c-and-rust.md` says them in words.
  *
  * To that, a program that uses this header adds as trusted:
  * - that the program keeps to the rules for pointers and handles below; but for
@@ -45,6 +46,9 @@
 #ifndef PARTIAL_H
 #define PARTIAL_H
 
+/* The version of this header and of the library. */
+#define PARTIAL_VERSION "0.1.0"
+
 #include <stddef.h>
 #include <stdint.h>
 
@@ -76,9 +80,10 @@ enum {
     PARTIAL_HOLDS_ONE = 18,    /* the handle holds something already */
     PARTIAL_LENGTH = 19,       /* two lengths differ, or one is too large */
     PARTIAL_TWO_MEMORIES = 20, /* the handles are of two memories */
-    PARTIAL_NONE_HOME = 21,    /* no port is at home */
-    PARTIAL_NOT_ALL_HOME = 22, /* not all ports are at home */
-    PARTIAL_NULL = 23          /* a pointer is null */
+    PARTIAL_NONE_HOME = 21,    /* the memory holds no port */
+    PARTIAL_NOT_ALL_HOME = 22, /* not all ports were returned */
+    PARTIAL_NULL = 23,         /* a pointer is null */
+    PARTIAL_SHARED = 24        /* a share of the memory is in use */
 };
 
 /* The sizes of a memory, but for its components. */
@@ -138,7 +143,7 @@ uint32_t partial_door_free(partial_handle *handle);
 
 /*
  * Opens a memory into the handle `memory`: as many components as there are values in
- * `initial`, which hold these values, and `ports` ports, all at home. `opening` is a
+ * `initial`, which hold these values, and `ports` ports, which the memory holds. `opening` is a
  * number of the caller's own, by which memories are told apart: no two memories that
  * are there at once have the same.
  *
@@ -181,11 +186,11 @@ static inline uint32_t partial_reopen(uint64_t opening, partial_handle *closed,
 }
 
 /*
- * Takes a port out of a memory into an empty handle: the last one that is at home. The
+ * Takes a port out of a memory into an empty handle: the last one that it holds. The
  * ports of a new memory stand in the order of their numbers, 0 and so on.
  *
  * 23: a pointer is null. 18: `port` holds something. 17: `memory` holds no open
- * memory. 21: no port is at home. 6: a growth was refused. Both handles are as they
+ * memory. 21: the memory holds no port. 6: a growth was refused. Both handles are as they
  * were.
  */
 static inline uint32_t partial_take_port(partial_handle *memory, partial_handle *port)
@@ -197,7 +202,7 @@ static inline uint32_t partial_take_port(partial_handle *memory, partial_handle 
 }
 
 /*
- * Lets a port come home to its memory. Its handle is empty then.
+ * Returns a port to its memory. Its handle is empty then.
  *
  * 23: a pointer is null. 17: `memory` holds no open memory, or `port` no port. 20: the
  * port is of another memory. 6: a growth was refused. Both handles are as they were.
@@ -298,7 +303,7 @@ static inline uint32_t partial_state(partial_handle *port, partial_port_state *a
 }
 
 /*
- * Lets two ports of one memory see all that either has seen: two values of one
+ * Merges what two ports of one memory have observed: two values of one
  * component that they read one after the other never go back then.
  *
  * 23: a pointer is null. 17: a handle holds no port. 20: the ports are of two memories.
@@ -314,11 +319,12 @@ static inline uint32_t partial_meet(partial_handle *first, partial_handle *secon
 
 /*
  * Closes the memory that the handle holds: it holds the closed memory then, with the
- * values after one history that begins with all that each port has seen.
+ * values after one history that begins with all that each port has observed.
  *
- * 23: the pointer is null. 17: the handle holds no open memory. 22: not all ports are at
- * home. The handle is as it was. 6: a growth was refused, the contents are lost, and the
- * handle is empty.
+ * 23: the pointer is null. 17: the handle holds no open memory. 22: not all ports were
+ * returned. 24: all were, and a reference of the memory is in use; a port that is returned
+ * gives up its reference, so this isn't seen. The handle is as it was. 6: a growth was
+ * refused, the contents are lost, and the handle is empty.
  */
 static inline uint32_t partial_close(partial_handle *memory)
 {

@@ -67,6 +67,24 @@ static void test_one_port(void)
     partial_free(&memory);
 }
 
+/* The example of README.md. */
+static void test_example(void)
+{
+    const uint64_t initial[3] = {10, 20, 30};
+    const partial_sizes sizes = {.slots = 1000, .list_words = 1000, .pool_words = 100000};
+    partial_handle memory = PARTIAL_EMPTY, port = PARTIAL_EMPTY;
+    partial_update_answer set;
+    partial_scan_answer scanned;
+    uint64_t into[2];
+    int fine = partial_open(7, initial, 3, &sizes, 1, &memory) == 0 && partial_take_port(&memory, &port) == 0
+        && partial_update(&port, 0, 11, &set) == 0
+        && partial_scan(&port, (const uint32_t[]){2, 0}, 2, into, 2, &scanned) == 0;
+    check(fine, "the example is answered");
+    check(fine && into[0] == 30 && into[1] == 11, "the example's scan gives the values in its order");
+    partial_free(&port);
+    partial_free(&memory);
+}
+
 static void test_refused_openings(void)
 {
     const uint64_t initial[2] = {1, 2};
@@ -371,6 +389,7 @@ static void test_threads(void)
 int main(void)
 {
     test_one_port();
+    test_example();
     test_refused_openings();
     test_refused_calls();
     test_spent_pool();

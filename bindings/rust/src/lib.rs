@@ -1,6 +1,7 @@
-//! A partial snapshot object: components of 64 bits that many threads share. Any port may update or
-//! read any component, and scan any few of them as they stood together at one moment. No call waits
-//! for another, and each makes a bounded number of atomic steps.
+//! A wait-free, linearizable partial snapshot object: components of 64 bits that many threads share. Any
+//! port may update or read any component, and scan any few of them as they stood together at one moment.
+//! Each call finishes within a bounded number of atomic steps, whatever other threads do. An opening wears
+//! out: `docs/using/choosing.md` says what a program does then.
 //!
 //! ```
 //! use partial_door::{open, Sizes};
@@ -9,16 +10,17 @@
 //! let (memory, mut ports) = open(&[10, 20, 30], sizes, 2)?;
 //! let mut second = ports.pop().expect("two ports");
 //! let mut first = ports.pop().expect("two ports");
-//!
-//! std::thread::scope(|scope| {
-//!     scope.spawn(|| first.update(0, 11));
-//!     scope.spawn(|| second.update(2, 33));
-//! });
-//!
+//! first.update(0, 11)?;
+//! second.update(2, 33)?;
 //! let mut values = [0; 2];
 //! first.scan(&[2, 0], &mut values)?;
 //! assert_eq!(values, [33, 11]);
-//! assert_eq!(memory.close(vec![first, second])?.values(), [11, 20, 33]);
+//!
+//! std::thread::scope(|scope| {
+//!     scope.spawn(|| first.update(1, 21));
+//!     scope.spawn(|| second.update(2, 34));
+//! });
+//! assert_eq!(memory.close(vec![first, second])?.values(), [11, 21, 34]);
 //! # Ok::<(), Box<dyn std::error::Error>>(())
 //! ```
 //!
@@ -40,7 +42,7 @@
 //! `PARTIAL_DOOR_HEAP` names the kit's `c/liblibc_c.a`. Linked so, each call of a port is a call of the
 //! library. Linked with the library that `bindings/bitcode.sh` builds, and with the flags in `RUSTFLAGS`
 //! that it prints, an optimised program has the code of a read where the read stands. The compiler and
-//! the linker then generate the library's code too. `docs/door.md` says what that wants.
+//! the linker then generate the library's code too. `docs/using/c-and-rust.md` says what that wants.
 
 mod error;
 mod raw;
@@ -231,7 +233,7 @@ impl Memory {
                 handle: std::mem::replace(&mut self.handle, Handle::empty()),
                 components: self.components,
             }),
-            22 => {
+            22 | 24 => {
                 left.extend((0..home).filter_map(|_| self.take_port().ok()));
                 Err(CloseError::NotAll(self, left))
             }
@@ -372,7 +374,7 @@ impl Port {
         state
     }
 
-    /// Lets two ports see all that either has seen: two values of one component that they read one
+    /// Merges what two ports have observed: two values of one component that they read one
     /// after the other never go back then.
     ///
     /// # Errors

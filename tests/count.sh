@@ -1,0 +1,40 @@
+# For the scripts that add up the parts of a gate: `passed` and `failed` are their counts.
+passed=0
+failed=0
+
+# add_counts NAME STATUS FILE: adds what the last line of this output counts. A part without such a line has failed
+# once. So has one that counts no failure, and still ended with another status than 0, or passed nothing.
+add_counts() {
+    local name=$1 status=$2 here there
+    if ! [[ $(tail -n 1 "$3") =~ ^([0-9]+)\ passed,\ ([0-9]+)\ failed$ ]]; then
+        echo "failed: $name: its last line counts nothing (status $status)"
+        failed=$((failed + 1))
+        return
+    fi
+    here=$((10#${BASH_REMATCH[1]}))
+    there=$((10#${BASH_REMATCH[2]}))
+    if [ "$there" -eq 0 ] && { [ "$status" -ne 0 ] || [ "$here" -eq 0 ]; }; then
+        echo "failed: $name: its last line counts $here passed, 0 failed (status $status)"
+        there=1
+    fi
+    passed=$((passed + here))
+    failed=$((failed + there))
+}
+
+# count COMMAND..: runs a part, shows what it says, and adds what it counts.
+count() {
+    local said
+    said=$(mktemp) || exit 1
+    "$@" 2>&1 | tee "$said"
+    add_counts "$1" "${PIPESTATUS[0]}" "$said"
+    rm -f "$said"
+}
+
+# count_started NAME PROCESS FILE: waits for a part that was started with its output in this file, shows what it said,
+# and adds what it counts.
+count_started() {
+    local status=0
+    wait "$2" || status=$?
+    cat "$3"
+    add_counts "$1" "$status" "$3"
+}

@@ -1,0 +1,150 @@
+#!/usr/bin/env python3
+"""Tests how tests/edits.py judges what a check says: each kind of text that refuses an edit, and each that doesn't.
+
+The texts are those of the prover, of checks of this repository's crates with a function turned; long ones are cut.
+The last line is 'N passed, M failed'.
+"""
+import sys
+import tempfile
+from pathlib import Path
+
+sys.path.insert(0, str(Path(__file__).resolve().parent))
+import edits  # noqa: E402
+
+EXPECTED = 'no proof: expected answers in ./proofs/a/f/Answers.antt; '
+REFUSED = {
+    'a goal of what the function ensures':
+        f'fn low::a::f: {EXPECTED}`search` did not prove `returns`',
+    'a goal of one clause, behind a call that is not proved':
+        f'fn low::a::f: {EXPECTED}`search` did not prove `returns-clause-count`; '
+        'it calls `low::a::g`, which is not proved',
+    "a goal of a type's invariant beside an overflow":
+        f'fn low::a::f: {EXPECTED}`search` did not prove `overflow_add-result`, `invariant_of-self`',
+    "a goal of a loop's invariant":
+        f'fn low::a::f: {EXPECTED}`search` did not prove `loop-index-preserved`',
+    'a loop without a measure':
+        'fn low::a::f: no proof: expected a measure in ./proofs/a/f/Invariants.antt; '
+        'it calls `low::a::g`, which is not proved',
+}
+MISFIT = '''\
+./proofs/a/f/Answers.antt:6:124: error: `{goal}`: as printed, the two types first differ where one has `0` (expected)
+  and the other has `A = Rattle.low.specs.A.Pair` (found)
+  computed as far as they go, the two types differ only where one has `c.g.result` (expected) and the other has `1`
+fn low::a::f: not proved
+'''
+# What is said of each of these, in which the reason stands.
+NOT_REFUSED = {
+    'nothing': ('fn low::a::f: proved', 'it has no open goal'),
+    'an overflow': (f'fn low::a::f: {EXPECTED}`search` did not prove `overflow_add-result`', 'overflow_add-result'),
+    'a cast': (f'fn low::a::f: {EXPECTED}`search` did not prove `overflow_cast-stages`', 'overflow_cast-stages'),
+    'a bound': (f'fn low::a::f: {EXPECTED}`search` did not prove `index-requires`', 'index-requires'),
+    'a measure that does not fall':
+        (f'fn low::a::f: {EXPECTED}`search` did not prove `loop-at-smaller`', 'loop-at-smaller'),
+    'what a called function requires':
+        (f'fn low::a::f: {EXPECTED}`search` did not prove `make-requires-clause-due`', 'make-requires-clause-due'),
+    'a goal of another function': (f'fn low::a::g: {EXPECTED}`search` did not prove `returns`', 'it has no open goal'),
+    'a call that is not proved':
+        ('fn low::a::f: no proof: it calls `low::a::returns`, which is not proved', 'it has no open goal'),
+    'an answer that does not fit, of no goal of meaning': (MISFIT.format(goal='make-requires-clause-due'), 'make-requires'),
+    'an answer that names a field that is gone': (
+        './proofs/a/f/Answers.antt:10:26: error: `returns`: record `Rattle.low.proofs.a.f.Lts.After-g` (nearest: .self)\n'
+        '  has no field `self`. A record further in has one: write `.before.self` in place of `.self`\n'
+        'fn low::a::f: not proved', 'an answer names what is gone'),
+    'an answer of a goal that is gone': (
+        './proofs/a/f/Answers.antt:4:20: error: `returns-then`: `goal.returns-then`: module `Rattle.low.proofs.a.f.Goals` '
+        'has no `returns-then`\n  that can be named from here\nfn low::a::f: not proved', 'an answer names what is gone'),
+    'a goal that is no name': (
+        './proofs/a/f/Answers.antt:4:20: error: `returns-then`: `goal.returns-then` is no name\n'
+        'fn low::a::f: not proved', 'an answer names what is gone'),
+    'a run out of steps': (
+        './proofs/a/f/Answers.antt:4:20: error: `returns`: antt ran out of the steps that it may take\n'
+        'fn low::a::f: could not tell', 'a run out of steps'),
+    'a function of which the check could not tell': ('fn low::a::f: could not tell', 'no verdict'),
+    'a fault of an invariant': (
+        './proofs/a/f/Invariants.antt:4:20: error: `x` is not in scope\nfn low::a::f: not proved',
+        'an answer names what is gone'),
+}
+OPEN = f'fn low::a::f: {EXPECTED}`search` did not prove `returns-clause-at`'
+ANSWERS = '''use Rattle.low.proofs.a.f.Goals as goal
+
+-- The first.
+pub returns-clause-at : goal.returns-clause-at
+returns-clause-at g c = first g c
+    c.requires
+
+    c.more
+
+pub returns-clause-at-2 : goal.returns-clause-at-2
+returns-clause-at-2 c = second c
+'''
+
+
+def edit(by=None):
+    return edits.Edit('turned', ['a::f'], [('src/lib.rt', 'old', 'new')], by)
+
+
+def faults(said, status=1, again=(1, ''), by=None):
+    """What is wrong with the one edit of a round, by what its check says, and a second check."""
+    _, wrong, _ = edits.try_round('low', [edit(by)], status, said, lambda without: again)
+    return wrong
+
+
+def cases():
+    """Each case: its name, and whether it holds."""
+    for name, said in REFUSED.items():
+        yield f'{name} refuses', faults(said) == []
+    for name, (said, reason) in NOT_REFUSED.items():
+        wrong = '\n'.join(faults(said))
+        yield f'{name} does not refuse', 'low/turned.edit: a::f is not refused' in wrong and reason in wrong
+    by = 'make-requires-clause-due'
+    yield 'the goal that an edit names refuses it', faults(
+        f'fn low::a::f: {EXPECTED}`search` did not prove `{by}`', by=by) == []
+    misfit = MISFIT.format(goal='returns-clause-at')
+    yield 'an answer that does not fit, whose goal is open without it, refuses', faults(misfit, again=(1, OPEN)) == []
+    yield 'an answer that does not fit, without which a clause that had no answer is open, refuses', faults(
+        misfit, again=(1, f'fn low::a::f: {EXPECTED}`search` did not prove `returns-then`')) == []
+    for why, again in (('is proved', (0, 'fn low::a::f: proved')), ('has no verdict', (3, OPEN)),
+                       ('comes not in time', (None, OPEN)),
+                       ('leaves an overflow open', (1, f'fn low::a::f: {EXPECTED}`search` did not prove `overflow_add`'))):
+        yield (f'an answer that does not fit does not refuse where the check without it {why}',
+               'without it no goal of meaning is open' in '\n'.join(faults(misfit, again=again)))
+    for status in (2, 3, -9, None):
+        wrong = '\n'.join(faults(REFUSED['a goal of what the function ensures'], status))
+        yield f'a check that ends with {status} refuses nothing', 'low/turned.edit: the check ended' in wrong
+    yield 'an open goal that no edit turns is a fault', any(
+        'low: a::g has open goals' in it for it in faults(f'{OPEN}\nfn low::a::g: {EXPECTED}`search` did not prove `returns`'))
+    left = edits.without_answer(ANSWERS, 'returns-clause-at')
+    yield 'an answer is taken away whole', 'first g' not in left and 'c.more' not in left and 'second c' in left
+    yield from of_runs()
+
+
+def of_runs():
+    """The cases of commands that are run."""
+    with tempfile.TemporaryDirectory() as room:
+        yield 'the status of a command is seen', edits.run(['sh', '-c', 'echo said; exit 3'], room, 60) == (3, 'said\n')
+        yield 'a command is stopped at its limit', edits.run(['sh', '-c', 'echo said; sleep 60'], room, 0.5) == (None, 'said\n')
+        path = Path(room) / 'named.edit'
+        for by, well in (('make-requires-clause-due', True), ('returns', False), ('index-requires', False),
+                         ('overflow_add-result', False)):
+            path.write_text(f'refused: a::f\nby: {by}\nfile: src/lib.rt\nold: a\nnew: b\n', encoding='utf-8')
+            try:
+                read = edits.read_edit(path).by == by
+            except edits.BadEdit:
+                read = False
+            yield f'an edit {"may" if well else "may not"} name {by}', read == well
+
+
+def main():
+    passed = failed = 0
+    for name, holds in cases():
+        if holds:
+            passed += 1
+        else:
+            failed += 1
+            print(f'failed: {name}')
+    print(f'{passed} passed, {failed} failed')
+    return failed != 0
+
+
+if __name__ == '__main__':
+    sys.exit(main())
