@@ -4,6 +4,7 @@
 # It wants `rt` on the path, cargo and Python 3. bindings/bitcode.sh proves and builds both libraries.
 set -eu
 cd "$(dirname "$0")/.."
+. scripts/need.sh && need rt cargo python3
 made=$(mktemp -d)
 trap 'rm -rf "$made"' EXIT
 PARTIAL_DOOR_HEAP=$(dirname "$(rt doc)")/c/liblibc_c.a

@@ -1,5 +1,5 @@
 //! The same algorithm in plain Rust, with nothing proved: the layout, the blocks and the steps of
-//! docs/words-and-steps.md, in the same order, in straight lines over one slice of atomics. All buffers
+//! docs/reference/words-and-steps.md, in the same order, in straight lines over one slice of atomics. All buffers
 //! are taken at opening. The slice is indexed with bounds checks, as safe Rust does it.
 
 use partial_door::{Refused, Scanned, Sizes, Updated, UpdatedIf, Value};
