@@ -8,28 +8,37 @@ use std::alloc::Global;
 /// What the program is asked for.
 #[derive(Clone, Copy, Debug)]
 pub struct Request<'a> {
-    /// The path of the plan. Without one the plan comes from standard input.
+    /// The path of the plan. Without one, or with `-`, the plan comes from standard input.
     pub plan: Option<&'a str>,
     pub form: Form,
     pub window: Window,
 }
 
 /// An option without a value.
-fn flag(alloc: Global, name: &str) -> Arg<'_> {
-    Arg::new(alloc, name).long(name).action(ArgAction::SetTrue)
+fn flag<'a>(alloc: Global, name: &'a str, help: &'a str) -> Arg<'a> {
+    Arg::new(alloc, name)
+        .long(name)
+        .action(ArgAction::SetTrue)
+        .help(help)
 }
 
 /// The words that the program takes: `[PLAN] [--window A B] [--words] [--text]`.
 fn command<'a>(alloc: Global) -> Result<Command<'a>, Error> {
+    let plan = Arg::new(alloc, "plan").help("The file of the plan; standard input without it, or with -");
     let window = Arg::new(alloc, "window")
         .long("window")
         .action(ArgAction::Set)
-        .num_args(2);
+        .num_args(2)
+        .value_name("STEP")
+        .help("Draws the steps from the first of these two numbers to the second alone");
+    let words = flag(alloc, "words", "Draws the words of the memory below the ports");
+    let text = flag(alloc, "text", "Writes the steps as a table in place of a drawing").conflicts_with("words")?;
     let picture = Command::new(alloc, "picture")
-        .arg(Arg::new(alloc, "plan"))?
+        .about("Draws the replay of a plan as SVG, to standard output")
+        .arg(plan)?
         .arg(window)?
-        .arg(flag(alloc, "words"))?
-        .arg(flag(alloc, "text"))?;
+        .arg(words)?
+        .arg(text)?;
     Ok(picture)
 }
 
@@ -38,10 +47,10 @@ fn window_of(matches: &ArgMatches<'_>) -> Result<Window, Stop> {
     match matches.get_strs("window") {
         None => Ok(Window::Whole),
         Some([first, last]) => Ok(Window::Steps {
-            first: first.parse().map_err(|_| Stop::Usage)?,
-            last: last.parse().map_err(|_| Stop::Usage)?,
+            first: first.parse().map_err(|_| Stop::Window)?,
+            last: last.parse().map_err(|_| Stop::Window)?,
         }),
-        Some(_) => Err(Stop::Usage),
+        Some(_) => Err(Stop::Window),
     }
 }
 
@@ -49,17 +58,18 @@ fn window_of(matches: &ArgMatches<'_>) -> Result<Window, Stop> {
 ///
 /// # Errors
 ///
-/// `Usage` where they aren't words that the program takes, or ask for help, where a window isn't two numbers, or
-/// where both `--words` and `--text` stand there.
+/// `Words` when they aren't words that the program takes, both `--words` and `--text` among them, or ask for help.
+/// `Window` when a window isn't two numbers.
 pub fn request_of(alloc: Global, words: &[String]) -> Result<Request<'_>, Stop> {
     let matches = command(alloc)?.try_get_matches_from(words)?;
-    let form = match (matches.get_flag("text"), matches.get_flag("words")) {
-        (false, has_words) => Form::Drawing { has_words },
-        (true, false) => Form::Table,
-        (true, true) => return Err(Stop::Usage),
+    let form = match matches.get_flag("text") {
+        true => Form::Table,
+        false => Form::Drawing {
+            has_words: matches.get_flag("words"),
+        },
     };
     Ok(Request {
-        plan: matches.get_str("plan"),
+        plan: matches.get_str("plan").filter(|path| *path != "-"),
         form,
         window: window_of(&matches)?,
     })
