@@ -10,7 +10,7 @@ use std::marker::{Brand, Model, PhantomData};
 pub struct About {
     /// The number of components, slots, list words and pool words.
     pub sizes: Sizes,
-    /// The initial values, and the word number of the first record.
+    /// The initial values, and the stamp of component 0.
     pub opening: Opening,
     /// How many ports it has: 1 to 64.
     pub ports: u32,
