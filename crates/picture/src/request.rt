@@ -1,16 +1,18 @@
-//! The words of the program.
+//! The arguments of the program.
 
 use crate::stop::Stop;
 use clap::{Arg, ArgAction, ArgMatches, Command, Error};
 use partial_picture::{Form, Window};
 use std::alloc::Global;
 
-/// What the program is asked for.
+/// What the arguments ask for.
 #[derive(Clone, Copy, Debug)]
 pub struct Request<'a> {
     /// The path of the plan. Without one the plan comes from standard input.
     pub plan: Option<&'a str>,
+    /// The form of the picture.
     pub form: Form,
+    /// The steps to draw.
     pub window: Window,
 }
 
@@ -19,7 +21,7 @@ fn flag(alloc: Global, name: &str) -> Arg<'_> {
     Arg::new(alloc, name).long(name).action(ArgAction::SetTrue)
 }
 
-/// The words that the program takes: `[PLAN] [--window A B] [--words] [--text]`.
+/// The arguments that the program takes: `[PLAN] [--window A B] [--words] [--text]`.
 fn command<'a>(alloc: Global) -> Result<Command<'a>, Error> {
     let window = Arg::new(alloc, "window")
         .long("window")
@@ -33,7 +35,7 @@ fn command<'a>(alloc: Global) -> Result<Command<'a>, Error> {
     Ok(picture)
 }
 
-/// The window that is asked for.
+/// Reads the window.
 fn window_of(matches: &ArgMatches<'_>) -> Result<Window, Stop> {
     match matches.get_strs("window") {
         None => Ok(Window::Whole),
@@ -45,12 +47,12 @@ fn window_of(matches: &ArgMatches<'_>) -> Result<Window, Stop> {
     }
 }
 
-/// What these words ask for, of which the first is the program's name.
+/// Reads the arguments. The first of them is the program's name.
 ///
 /// # Errors
 ///
-/// `Usage` where they aren't words that the program takes, or ask for help, where a window isn't two numbers, or
-/// where both `--words` and `--text` stand there.
+/// `Usage` when the program doesn't take these arguments, when they ask for help, when a window isn't two
+/// numbers, or when both `--words` and `--text` are given.
 pub fn request_of(alloc: Global, words: &[String]) -> Result<Request<'_>, Stop> {
     let matches = command(alloc)?.try_get_matches_from(words)?;
     let form = match (matches.get_flag("text"), matches.get_flag("words")) {
