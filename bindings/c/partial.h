@@ -1,46 +1,48 @@
 /*
  * A wait-free, linearizable partial snapshot object for programs in C: components of
  * 64 bits that many threads share. Any port may update or read any component, and scan
- * any few of them as they stood together at one moment. No call waits for another. An
- * opening wears out: `docs/using/choosing.md` says what a program does then.
+ * any few of them as they stood together at one moment. Each call finishes within a fixed
+ * number of atomic steps, whatever other threads do. An opening wears out:
+ * `docs/using/choosing.md` says what a program does then.
  *
  * What is proved, and what isn't
  * ------------------------------
  * The functions below are those of the crate `partial_door`, written in Rattle.
- * Their contracts are proved over all orders of the threads' single steps: what
+ * Their contracts are proved over all orders of the threads' atomic steps: what
  * an update, a read, a scan, a meeting and a close answer, that each call ends,
- * that no index leaves its memory, that each refusal has its cause and what it
+ * that no index leaves its memory, that each refusal has its cause, and what it
  * leaves. `docs/using/c-and-rust.md` says them in words.
  *
- * To that, a program that uses this header adds as trusted:
- * - that the program keeps to the rules for pointers and handles below; but for
- *   null pointers no call looks whether it does, and what follows is undefined
- *   where it doesn't;
+ * A program that uses this header also trusts:
+ * - itself to follow the rules for pointers and handles below: the calls refuse
+ *   null pointers and check nothing else of them, and when a rule is broken the
+ *   behaviour is undefined;
  * - the functions of this header, which refuse null pointers and call the proved
- *   ones, named `partial_door_`, and that these are declared here as they are, in
- *   their parameters and in the layout of the structs;
+ *   ones, named `partial_door_`, and the declarations of these here, with their
+ *   parameters and the layout of the structs;
  * - the C compiler, the linker, and `malloc`, `realloc` and `free`.
  *
  * Rules for pointers and handles
  * ------------------------------
- * - A pointer that isn't null points to what its type says, aligned, which nothing
- *   else reads or writes during the call, and no two pointers of a call point to
- *   one place; a pointer and a number that stand side by side are an array of so
- *   many elements. A null pointer is refused by 23 before anything is done, but for
- *   that of an array of no elements, which may be null.
+ * - A pointer that isn't null points to what its type says, aligned. Nothing else
+ *   reads or writes that during the call, and no two pointers of a call point to
+ *   one place. A pointer with a number beside it is an array of so many elements.
+ *   A null pointer is refused by 23 before anything is done; only the pointer of an
+ *   array of no elements may be null.
  * - A handle begins as PARTIAL_EMPTY, and only these functions change it. It isn't
  *   copied: of two copies of a handle, none may be used. It may be moved, if the
  *   old place is no longer used.
- * - One call at a time uses a handle. It may go to another thread where a lock, the
+ * - One call at a time uses a handle. It may move to another thread when a lock, the
  *   start or the join of a thread, or a sequentially consistent atomic orders its
- *   calls. Calls at different handles may run side by side.
- * - The number `opening` of `partial_open` is another for each memory that is there.
+ *   calls. Calls on different handles may run side by side.
+ * - The number `opening` of `partial_open` differs for each memory that exists at a
+ *   time.
  * - No call is made in a signal handler, or in the child of a fork of a process
  *   with threads.
  *
  * Numbers of refusals
  * -------------------
- * Each function returns 0 where the call was answered, and otherwise the number of
+ * Each function returns 0 when the call was answered, and otherwise the number of
  * the first refusal that holds.
  */
 #ifndef PARTIAL_H
@@ -56,47 +58,47 @@
 extern "C" {
 #endif
 
-/* A handle: nothing, an open memory, a port of one, or a closed memory. */
+/* A handle: it is empty, or holds an open memory, a port of one, or a closed memory. */
 typedef struct partial_handle {
-    void *held; /* for partial_door alone */
+    void *held; /* only the library reads and writes it */
 } partial_handle;
 
-/* A handle that holds nothing. */
+/* An empty handle. */
 #define PARTIAL_EMPTY { 0 }
 
 enum {
     PARTIAL_FINE = 0,
-    PARTIAL_COMPONENTS = 1,    /* there are 1 to 65536 components */
-    PARTIAL_SLOTS = 2,         /* there are 1 to 65536 slots */
-    PARTIAL_LIST_WORDS = 3,    /* there are at most 65536 list words */
-    PARTIAL_POOL_WORDS = 4,    /* there are 3 pool words a component to 4194304 */
-    PARTIAL_PORT_COUNT = 5,    /* there are 1 to 64 ports */
-    PARTIAL_MEMORY = 6,        /* out of memory */
+    PARTIAL_COMPONENTS = 1,    /* there are not 1 to 65536 components */
+    PARTIAL_SLOTS = 2,         /* there are not 1 to 65536 slots */
+    PARTIAL_LIST_WORDS = 3,    /* there are more than 65536 list words */
+    PARTIAL_POOL_WORDS = 4,    /* not 3 pool words a component to 4194304 */
+    PARTIAL_PORT_COUNT = 5,    /* there are not 1 to 64 ports */
+    PARTIAL_MEMORY = 6,        /* an allocation was refused */
     PARTIAL_COMPONENT = 7,     /* an index isn't below the number of components */
     PARTIAL_SLOTS_SPENT = 8,   /* the slots are used up for this port */
     PARTIAL_POOL_SPENT = 9,    /* the pool is used up for this port */
-    PARTIAL_TOO_SMALL = 13,    /* there are fewer components than before */
-    PARTIAL_HOLDS_NONE = 17,   /* the handle holds none of what is asked for */
+    PARTIAL_TOO_SMALL = 13,    /* the closed memory has more components */
+    PARTIAL_HOLDS_NONE = 17,   /* the handle doesn't hold what the call needs */
     PARTIAL_HOLDS_ONE = 18,    /* the handle holds something already */
     PARTIAL_LENGTH = 19,       /* two lengths differ, or one is too large */
     PARTIAL_TWO_MEMORIES = 20, /* the handles are of two memories */
     PARTIAL_NONE_HOME = 21,    /* the memory holds no port */
     PARTIAL_NOT_ALL_HOME = 22, /* not all ports were returned */
     PARTIAL_NULL = 23,         /* a pointer is null */
-    PARTIAL_SHARED = 24        /* a share of the memory is in use */
+    PARTIAL_SHARED = 24        /* all were, and a reference of the memory is in use */
 };
 
-/* The sizes of a memory, but for its components. */
+/* The sizes of a memory, apart from the number of its components. */
 typedef struct partial_sizes {
     uint32_t slots;      /* how many scans may announce themselves, in an opening */
-    uint32_t list_words; /* room for lists of slots that are vacant again */
-    uint32_t pool_words; /* room for the records and announcements of an opening */
+    uint32_t list_words; /* for the lists of vacated slots of an opening */
+    uint32_t pool_words; /* for the records and announcements of an opening */
 } partial_sizes;
 
 typedef struct partial_update_answer {
-    uint64_t stamp;   /* of this update where it was applied, and otherwise of the
-                         one that stood in its way */
-    uint32_t applied; /* 1 where it was applied, and otherwise 0 */
+    uint64_t stamp;   /* of this update when it was applied, otherwise the stamp that
+                         the component had instead */
+    uint32_t applied; /* 1 when it was applied, otherwise 0 */
 } partial_update_answer;
 
 typedef struct partial_read_answer {
@@ -105,18 +107,18 @@ typedef struct partial_read_answer {
 } partial_read_answer;
 
 typedef struct partial_scan_answer {
-    uint64_t stamp;    /* of the record whose view was borrowed, 0 where none was */
-    uint32_t collects; /* how often the components were collected */
-    uint32_t borrowed; /* 1 where a view was borrowed, and otherwise 0 */
+    uint64_t stamp;    /* of the update whose view the scan took, 0 when it took none */
+    uint32_t collects; /* how many collects it made: 0 for no position, else 2 to r + 2 */
+    uint32_t borrowed; /* 1 when it took a view, otherwise 0 */
 } partial_scan_answer;
 
 typedef struct partial_port_state {
-    uint32_t number;      /* 0, 1 and so on */
-    uint32_t pool_spent;  /* 1 where the port is marked for the pool, otherwise 0 */
-    uint32_t slots_spent; /* 1 where it is marked for the slots, otherwise 0 */
+    uint32_t number;      /* counted from 0 */
+    uint32_t pool_spent;  /* 1 when the port is marked for the pool, otherwise 0 */
+    uint32_t slots_spent; /* 1 when it is marked for the slots, otherwise 0 */
 } partial_port_state;
 
-/* The proved functions, at which no pointer is null. */
+/* The proved functions. No pointer that they are given may be null. */
 uint32_t partial_door_open(uint64_t opening, const uint64_t *initial, size_t components,
                            const partial_sizes *sizes, uint32_t ports,
                            partial_handle *memory);
@@ -142,13 +144,12 @@ uint32_t partial_door_values(partial_handle *closed, uint64_t *into, size_t room
 uint32_t partial_door_free(partial_handle *handle);
 
 /*
- * Opens a memory into the handle `memory`: as many components as there are values in
- * `initial`, which hold these values, and `ports` ports, which the memory holds. `opening` is a
- * number of the caller's own, by which memories are told apart: no two memories that
- * are there at once have the same.
+ * Opens a memory into the handle `memory`. It has a component for each value in
+ * `initial`, and holds `ports` ports. `opening` is a number that the caller picks to tell
+ * memories apart: no two memories that exist at a time have the same.
  *
  * 23: a pointer is null. 18: the handle holds something. 1 to 4: the first size that
- * is out of its range. 5: there are not 1 to 64 ports. 6: a growth was refused. The
+ * is out of its range. 5: there are not 1 to 64 ports. 6: an allocation was refused. The
  * handle is as it was.
  */
 static inline uint32_t partial_open(uint64_t opening,
@@ -166,13 +167,13 @@ static inline uint32_t partial_open(uint64_t opening,
 
 /*
  * Opens a memory that goes on with the values of a closed one into the handle
- * `memory`: it has `components` components, and those that the closed memory didn't
- * have begin at 0. Stamps start anew. The closed memory stays, and can be opened so
+ * `memory`. It has `components` components, and those that the closed memory didn't
+ * have begin at 0. Stamps start anew. The closed memory stays, and can be reopened
  * again. `opening` and `ports` as for `partial_open`.
  *
  * 23: a pointer is null. 18: `memory` holds something. 17: `closed` holds no closed
  * memory. 1 to 4: the first size that is out of its range. 5: there are not 1 to 64
- * ports. 13: the closed memory has more components. 6: a growth was refused. Both
+ * ports. 13: the closed memory has more components. 6: an allocation was refused. Both
  * handles are as they were.
  */
 static inline uint32_t partial_reopen(uint64_t opening, partial_handle *closed,
@@ -186,12 +187,12 @@ static inline uint32_t partial_reopen(uint64_t opening, partial_handle *closed,
 }
 
 /*
- * Takes a port out of a memory into an empty handle: the last one that it holds. The
- * ports of a new memory stand in the order of their numbers, 0 and so on.
+ * Takes the last port that a memory holds out of it, into an empty handle. A new memory
+ * holds its ports in the order of their numbers, which are counted from 0.
  *
  * 23: a pointer is null. 18: `port` holds something. 17: `memory` holds no open
- * memory. 21: the memory holds no port. 6: a growth was refused. Both handles are as they
- * were.
+ * memory. 21: the memory holds no port. 6: an allocation was refused. Both handles are as
+ * they were.
  */
 static inline uint32_t partial_take_port(partial_handle *memory, partial_handle *port)
 {
@@ -202,10 +203,11 @@ static inline uint32_t partial_take_port(partial_handle *memory, partial_handle 
 }
 
 /*
- * Returns a port to its memory. Its handle is empty then.
+ * Returns a port to its memory. Its handle is empty afterwards.
  *
  * 23: a pointer is null. 17: `memory` holds no open memory, or `port` no port. 20: the
- * port is of another memory. 6: a growth was refused. Both handles are as they were.
+ * port is of another memory. 6: an allocation was refused. Both handles are as they
+ * were.
  */
 static inline uint32_t partial_give_port(partial_handle *memory, partial_handle *port)
 {
@@ -218,13 +220,13 @@ static inline uint32_t partial_give_port(partial_handle *memory, partial_handle 
 /*
  * Sets component `component` to `value`.
  *
- * It was applied: it is the last update of the history that the port has seen then,
- * and its stamp is no other update's. Or it wasn't: during the call it was
- * overwritten by the update with the stamp in `answer`.
+ * When it was applied, it is the last entry of the history that the port has observed
+ * afterwards, and no other update has its stamp. Otherwise another update, with the
+ * stamp in `answer`, took effect during the call and overwrote it.
  *
- * 23: a pointer is null. 17: the handle holds no port. 7: `component` isn't there. 9:
- * the port is marked for the pool, or is marked by this call. `answer` is as it was,
- * and nothing was applied.
+ * 23: a pointer is null. 17: the handle holds no port. 7: `component` isn't below the
+ * number of components. 9: the port is marked for the pool, or this call marks it.
+ * `answer` is as it was, and nothing was applied.
  */
 static inline uint32_t partial_update(partial_handle *port, uint32_t component,
                                       uint64_t value, partial_update_answer *answer)
@@ -236,8 +238,9 @@ static inline uint32_t partial_update(partial_handle *port, uint32_t component,
 }
 
 /*
- * Sets component `component` to `value` where it has the stamp `expected`. Where it
- * wasn't applied, the component had the stamp in `answer` at a moment of the call.
+ * Sets component `component` to `value` if it has the stamp `expected`. When it wasn't
+ * applied, the component had the stamp in `answer`, not the expected one, at a moment of
+ * the call.
  *
  * Refusals as those of `partial_update`.
  */
@@ -254,8 +257,8 @@ static inline uint32_t partial_update_if(partial_handle *port, uint32_t componen
 /*
  * Reads component `component`: its value and its stamp at a moment of the call.
  *
- * 23: a pointer is null. 17: the handle holds no port. 7: `component` isn't there.
- * `answer` is as it was.
+ * 23: a pointer is null. 17: the handle holds no port. 7: `component` isn't below the
+ * number of components. `answer` is as it was.
  */
 static inline uint32_t partial_read(partial_handle *port, uint32_t component,
                                     partial_read_answer *answer)
@@ -271,9 +274,9 @@ static inline uint32_t partial_read(partial_handle *port, uint32_t component,
  * values as they stood together at one moment of the call.
  *
  * 23: a pointer is null. 17: the handle holds no port. 19: `positions` and `room`
- * differ, or there are more positions than components. 7: a component of `which` isn't
- * there. 9, 8: the port is marked for the pool or the slots, or is marked by this call.
- * `into` and `answer` are as they were.
+ * differ, or there are more positions than components. 7: an index in `which` isn't below
+ * the number of components. 9, 8: the port is marked for the pool or the slots, or this
+ * call marks it. `into` and `answer` are as they were.
  */
 static inline uint32_t partial_scan(partial_handle *port,
                                     const uint32_t *which, size_t positions,
@@ -290,7 +293,7 @@ static inline uint32_t partial_scan(partial_handle *port,
 }
 
 /*
- * Gives the number of a port and its marks for the pool and the slots.
+ * Reports the number of a port and its marks for the pool and the slots.
  *
  * 23: a pointer is null. 17: the handle holds no port. `answer` is as it was.
  */
@@ -303,8 +306,8 @@ static inline uint32_t partial_state(partial_handle *port, partial_port_state *a
 }
 
 /*
- * Merges what two ports of one memory have observed: two values of one
- * component that they read one after the other never go back then.
+ * Merges what two ports of one memory have observed. When the two then read one
+ * component one after the other, the second value isn't an earlier one than the first.
  *
  * 23: a pointer is null. 17: a handle holds no port. 20: the ports are of two memories.
  * Both are as they were.
@@ -318,13 +321,14 @@ static inline uint32_t partial_meet(partial_handle *first, partial_handle *secon
 }
 
 /*
- * Closes the memory that the handle holds: it holds the closed memory then, with the
- * values after one history that begins with all that each port has observed.
+ * Closes the memory that the handle holds. The handle holds the closed memory afterwards,
+ * with the values after one history, which begins with all that each port had observed.
  *
  * 23: the pointer is null. 17: the handle holds no open memory. 22: not all ports were
  * returned. 24: all were, and a reference of the memory is in use; a port that is returned
- * gives up its reference, so this isn't seen. The handle is as it was. 6: a growth was
- * refused, the contents are lost, and the handle is empty.
+ * gives up its reference, so a caller who follows the rules above doesn't get it. After
+ * these the handle is as it was. 6: an allocation was refused; the contents are lost, and
+ * the handle is empty.
  */
 static inline uint32_t partial_close(partial_handle *memory)
 {
@@ -350,9 +354,9 @@ static inline uint32_t partial_values(partial_handle *closed, uint64_t *into, si
 }
 
 /*
- * Empties the handle and frees what it held. A memory is freed with the last handle
- * that has a share of it; it can't be closed once a port of it was freed. Returns 0, or
- * 23 where the pointer is null.
+ * Empties the handle and frees what it held. A memory is freed when its own handle and
+ * the handles of all its ports are empty. Once a port was freed, its memory can't be
+ * closed. Returns 0, or 23 when the pointer is null.
  */
 static inline uint32_t partial_free(partial_handle *handle)
 {

@@ -3,44 +3,49 @@
 use std::error::Error;
 use std::fmt;
 
-/// Why a memory was not opened. Nothing was made then.
+/// Why a memory was not opened. Nothing is left of the attempt.
 #[derive(Clone, Copy, Debug, PartialEq, Eq)]
 pub enum OpenError {
-    /// There are 1 to 65,536 components.
+    /// There are not 1 to 65,536 components.
     Components,
-    /// There are 1 to 65,536 slots.
+    /// There are not 1 to 65,536 slots.
     Slots,
-    /// There are at most 65,536 list words.
+    /// There are more than 65,536 list words.
     ListWords,
-    /// There are three pool words for each component at least, and at most 4,194,304.
+    /// There are fewer than three pool words for each component, or more than 4,194,304.
     PoolWords,
-    /// There are 1 to 64 ports.
+    /// There are not 1 to 64 ports.
     Ports,
-    /// A memory that is opened again has at least as many components as before.
+    /// The closed memory has more components than the new one would have.
     TooSmall,
-    /// A growth was refused.
+    /// An allocation was refused.
     Memory,
 }
 
-/// Why an update, a read or a scan was not made. Nothing was applied then.
+/// Why an update, a read or a scan was refused. It applied nothing.
 #[derive(Clone, Copy, Debug, PartialEq, Eq)]
 pub enum Refused {
     /// An index isn't below the number of components.
     Component,
-    /// The slots are used up for this port: its scans are refused from now on.
+    /// The slots are used up for this port: its scans of some position are refused from now on.
     SlotsSpent,
-    /// The pool is used up for this port: its updates and scans are refused from now on.
+    /// The pool is used up for this port: its updates and its scans of some position are refused
+    /// from now on.
     PoolSpent,
-    /// There is not one place for each position, or there are more positions than components.
+    /// The two lengths differ, or there are more positions than components.
     Length,
 }
 
 /// Why a memory was not closed.
 #[derive(Debug)]
 pub enum CloseError {
-    /// These aren't all ports of the memory. It is as it was, and so is each port.
+    /// The memory could not be closed with these ports. Not all of its ports are among them, one is
+    /// of another memory, or an allocation was refused when one was returned. The memory and the
+    /// ports come back, and nothing of them has changed. When an allocation is refused as a port is
+    /// taken out again, the memory keeps that port: it isn't in the list, and the next close has
+    /// it.
     NotAll(crate::Memory, Vec<crate::Port>),
-    /// A growth was refused: the contents are lost.
+    /// An allocation was refused, and the contents are lost.
     Memory,
 }
 
@@ -61,7 +66,8 @@ impl OpenError {
         }
     }
 
-    /// The number of the refusal: 1 to 6, or 13.
+    /// The number of the refusal: 1 to 4 for a size, in their order, 5 for `Ports`, 6 for `Memory`,
+    /// 13 for `TooSmall`.
     pub fn code(self) -> u32 {
         match self {
             OpenError::Components => 1,
@@ -86,7 +92,8 @@ impl Refused {
         }
     }
 
-    /// The number of the refusal: 7 to 9, or 19.
+    /// The number of the refusal: 7 for `Component`, 8 for `SlotsSpent`, 9 for `PoolSpent`, 19 for
+    /// `Length`.
     pub fn code(self) -> u32 {
         match self {
             Refused::Component => 7,
@@ -98,7 +105,9 @@ impl Refused {
 }
 
 impl CloseError {
-    /// The number of the refusal: 22 or 6.
+    /// The number of the refusal: 22 for `NotAll`, 6 for `Memory`. When the library returns 24, a
+    /// reference of the memory is in use, `close` reports `NotAll` too; one call after the other on
+    /// a memory never leads there.
     pub fn code(&self) -> u32 {
         match self {
             CloseError::NotAll(..) => 22,

@@ -1,6 +1,6 @@
 //! A wait-free, linearizable partial snapshot object: components of 64 bits that many threads share. Any
 //! port may update or read any component, and scan any few of them as they stood together at one moment.
-//! Each call finishes within a bounded number of atomic steps, whatever other threads do. An opening wears
+//! Each call finishes within a fixed number of atomic steps, whatever other threads do. An opening wears
 //! out: `docs/using/choosing.md` says what a program does then.
 //!
 //! ```
@@ -26,23 +26,23 @@
 //!
 //! # What is proved, and what isn't
 //!
-//! This crate is a safe face on a static library that is written in Rattle. There the contracts are
-//! proved over all orders of the threads' single steps: what an update, a read, a scan, a meeting and
+//! This crate is a safe interface to a static library that is written in Rattle. The library's contracts
+//! are proved over all orders of the threads' atomic steps: what an update, a read, a scan, a meeting and
 //! a close answer, that each call ends, and what each refusal leaves. Nothing in this crate is proved.
-//! It adds as trusted:
+//! To what is trusted it adds:
 //!
 //! - its `unsafe` blocks: each passes pointers that are borrowed for the call, and handles that no
 //!   other call uses, as the library's header asks;
-//! - that its declarations agree with the functions of the library;
+//! - its declarations, which have to agree with the functions of the library;
 //! - the Rust compiler, the linker and the C library's `malloc`, `realloc` and `free`.
 //!
 //! # Linking
 //!
-//! `PARTIAL_DOOR_LIB` names the static library, or it lies where `rt lib` puts it, and
-//! `PARTIAL_DOOR_HEAP` names the kit's `c/liblibc_c.a`. Linked so, each call of a port is a call of the
-//! library. Linked with the library that `bindings/bitcode.sh` builds, and with the flags in `RUSTFLAGS`
-//! that it prints, an optimised program has the code of a read where the read stands. The compiler and
-//! the linker then generate the library's code too. `docs/using/c-and-rust.md` says what that wants.
+//! `PARTIAL_DOOR_LIB` names the static library; without it the library is taken from where `rt lib` puts
+//! it. `PARTIAL_DOOR_HEAP` names the kit's `c/liblibc_c.a`. Linked so, each call of a port is a call of the
+//! library. Linked with the library that `bindings/bitcode.sh` builds, and with the flags that it prints in
+//! `RUSTFLAGS`, an optimised program has the code of a read inlined. The compiler and the linker then
+//! generate the library's code too. `docs/using/c-and-rust.md` says what that needs.
 
 mod error;
 mod raw;
@@ -52,67 +52,71 @@ pub use error::{CloseError, OpenError, Refused, TwoMemories};
 use raw::Handle;
 use std::sync::atomic::{AtomicU64, Ordering};
 
-// Each opening has a number of its own.
+// The number of the next opening. Each opening has a number of its own.
 static OPENINGS: AtomicU64 = AtomicU64::new(0);
 
-/// The sizes of a memory, but for its components. They say how long an opening lives.
+/// The sizes of a memory, apart from the number of its components. They say how long an opening lives.
 #[derive(Clone, Copy, Debug, PartialEq, Eq)]
 pub struct Sizes {
-    /// How many scans of some positions may announce themselves: 1 to 65,536.
+    /// How many scans of some position may announce themselves: 1 to 65,536.
     pub slots: u32,
-    /// Room for lists of slots that are vacant again: at most 65,536.
+    /// How many list words there are, for lists of vacated slots: at most 65,536.
     pub list_words: u32,
-    /// Room for records and announcements: 3 for each component at least, and at most 4,194,304.
+    /// How many pool words there are, for records and announcements: at least 3 for each component, and at most
+    /// 4,194,304.
     pub pool_words: u32,
 }
 
 /// How an update ended.
 #[derive(Clone, Copy, Debug, PartialEq, Eq)]
 pub enum Updated {
-    /// It was applied, and its record has this stamp.
+    /// It took effect: its entry is in the history, and its record has this stamp.
     Applied { stamp: u64 },
-    /// It was overwritten during the call by the update with this stamp.
+    /// Another update to the same component, with this stamp, took effect during the call and overwrote it.
     Lost { by: u64 },
 }
 
 /// How a conditional update ended.
 #[derive(Clone, Copy, Debug, PartialEq, Eq)]
 pub enum UpdatedIf {
-    /// It was applied, and its record has this stamp.
+    /// It took effect: its entry is in the history, and its record has this stamp.
     Applied { stamp: u64 },
-    /// The component had this stamp in place of the expected one.
+    /// It had no effect: the component had this stamp, which is not the expected one.
     Changed { by: u64 },
 }
 
 /// A value, and the stamp of the update that wrote it.
 #[derive(Clone, Copy, Debug, PartialEq, Eq)]
 pub struct Value {
+    /// The value of the component.
     pub value: u64,
+    /// The stamp of the update that wrote it, unique in one opening.
     pub stamp: u64,
 }
 
 /// How a scan was made.
 #[derive(Clone, Copy, Debug, PartialEq, Eq)]
 pub struct Scanned {
-    /// How often its components were collected: 0 for a scan of no position.
+    /// How many collects it made: 0 for a scan of no position, otherwise 2 to r + 2 for r positions.
     pub collects: u32,
-    /// The stamp of the record whose view was borrowed, if one was.
+    /// The stamp of the update whose view the scan took, if it was helped.
     pub borrowed: Option<u64>,
 }
 
-/// A port of an open memory. It may go to another thread, and is used by one thread at a time.
+/// A port of an open memory: a caller's token. One thread at a time uses it; it may move to another thread.
 ///
 /// ```compile_fail
 /// fn shared<T: Sync>() {}
 /// shared::<partial_door::Port>();
 /// ```
 ///
-/// A memory is freed with its last port and its [`Memory`]. It can't be closed once a port was dropped.
+/// A memory is freed when its [`Memory`] and all its ports are dropped. Once a port was dropped, the memory
+/// can't be closed.
 pub struct Port {
     handle: Handle,
 }
 
-/// An open memory, by which it is closed.
+/// An open memory. It is needed to close it.
 pub struct Memory {
     handle: Handle,
     components: usize,
@@ -124,7 +128,7 @@ pub struct Closed {
     components: usize,
 }
 
-// SAFETY: that what a handle holds may go to another thread is proved of its type. The calls take
+// SAFETY: it is proved of the type of what a handle holds that it may move to another thread. The calls take
 // `&mut self` or the value, so one thread at a time uses it, and Rust orders its moves between threads.
 unsafe impl Send for Port {}
 unsafe impl Send for Memory {}
@@ -140,11 +144,13 @@ impl Sizes {
     }
 }
 
-/// Opens a memory whose components hold these values, and its ports, numbered from 0 in their order.
+/// Opens a memory whose components hold these values. Returns it with its ports, which are numbered from 0 in
+/// their order.
 ///
 /// # Errors
-/// The first that holds: a size out of its range, in their order; not 1 to 64 ports; a growth that
-/// was refused.
+/// The first that holds: [`OpenError::Components`], [`OpenError::Slots`], [`OpenError::ListWords`] or
+/// [`OpenError::PoolWords`] for a size out of its range; [`OpenError::Ports`] when there are not 1 to 64
+/// ports; [`OpenError::Memory`] when an allocation was refused. Nothing is left of the attempt.
 pub fn open(initial: &[u64], sizes: Sizes, ports: u32) -> Result<(Memory, Vec<Port>), OpenError> {
     let mut memory = Memory {
         handle: Handle::empty(),
@@ -170,7 +176,7 @@ pub fn open(initial: &[u64], sizes: Sizes, ports: u32) -> Result<(Memory, Vec<Po
 }
 
 impl Memory {
-    // The memory, which has just opened, and its ports.
+    // Takes all ports out of a memory that has just opened.
     fn with_ports(mut self, count: u32) -> Result<(Memory, Vec<Port>), OpenError> {
         let mut ports = Vec::with_capacity(count as usize);
         for _ in 0..count {
@@ -180,7 +186,7 @@ impl Memory {
         Ok((self, ports))
     }
 
-    // Takes the last port that is at home out of the memory, or gives the number of the refusal.
+    // Takes the last port that the memory holds out of it. Returns the number of the refusal otherwise.
     fn take_port(&mut self) -> Result<Port, u32> {
         let mut port = Port {
             handle: Handle::empty(),
@@ -194,8 +200,8 @@ impl Memory {
 }
 
 impl Memory {
-    /// Closes the memory whose ports these are, all of them and in any order. The values are those
-    /// after one history that begins with all that each port has seen.
+    /// Closes the memory with all its ports, in any order. The values are those after one history, which
+    /// begins with all that each port had observed.
     ///
     /// ```
     /// use partial_door::{open, CloseError, Sizes};
@@ -211,8 +217,8 @@ impl Memory {
     /// ```
     ///
     /// # Errors
-    /// [`CloseError::NotAll`] where these aren't all ports of the memory, and [`CloseError::Memory`]
-    /// where a growth was refused.
+    /// [`CloseError::NotAll`] when not all ports of the memory were given, or one of another memory: it has
+    /// the memory and the ports. [`CloseError::Memory`] when an allocation was refused: the contents are lost.
     pub fn close(mut self, ports: Vec<Port>) -> Result<Closed, CloseError> {
         let mut left = Vec::new();
         let mut home = 0;
@@ -243,11 +249,13 @@ impl Memory {
 }
 
 impl Port {
-    /// Sets component `component` to `value`. An applied update is the last of the history that the
-    /// port has seen then. A lost one was overwritten during the call by the update that it names.
+    /// Sets component `component` to `value`. An applied update is the last entry of the history that the
+    /// port has observed afterwards. A lost one was overwritten, during the call, by the update that it names.
     ///
     /// # Errors
-    /// [`Refused::Component`] and [`Refused::PoolSpent`].
+    /// [`Refused::Component`] when `component` isn't below the number of components.
+    /// [`Refused::PoolSpent`] when the port is marked for the pool, or when this call's claim went past the
+    /// end of the pool, which marks it. Nothing was applied.
     #[inline]
     pub fn update(&mut self, component: u32, value: u64) -> Result<Updated, Refused> {
         let mut answer = raw::UpdateAnswer::default();
@@ -259,7 +267,8 @@ impl Port {
         }
     }
 
-    /// Sets component `component` to `value` where it has the stamp `expected`.
+    /// Sets component `component` to `value` if it has the stamp `expected`. Otherwise the component had
+    /// another stamp, which the answer names, at a moment of the call.
     ///
     /// ```
     /// use partial_door::{open, Sizes, UpdatedIf};
@@ -274,7 +283,7 @@ impl Port {
     /// ```
     ///
     /// # Errors
-    /// [`Refused::Component`] and [`Refused::PoolSpent`].
+    /// As those of [`Port::update`].
     #[inline]
     pub fn update_if(
         &mut self,
@@ -297,7 +306,7 @@ impl Port {
     /// Reads component `component`: its value and its stamp at a moment of the call.
     ///
     /// # Errors
-    /// [`Refused::Component`].
+    /// [`Refused::Component`] when `component` isn't below the number of components.
     #[inline]
     pub fn read(&mut self, component: u32) -> Result<Value, Refused> {
         let mut answer = raw::ReadAnswer::default();
@@ -315,8 +324,10 @@ impl Port {
     /// together at one moment of the call.
     ///
     /// # Errors
-    /// [`Refused::Length`], [`Refused::Component`], [`Refused::PoolSpent`] and
-    /// [`Refused::SlotsSpent`]. `into` is as it was then.
+    /// [`Refused::Length`] when the two lengths differ, or there are more positions than components.
+    /// [`Refused::Component`] when an index isn't below the number of components. [`Refused::PoolSpent`] or
+    /// [`Refused::SlotsSpent`] when the port is marked for the pool or the slots, or when a claim of this call
+    /// went past their end, which marks it. `into` is as it was.
     #[inline]
     pub fn scan(&mut self, which: &[u32], into: &mut [u64]) -> Result<Scanned, Refused> {
         let mut answer = raw::ScanAnswer::default();
@@ -340,12 +351,12 @@ impl Port {
         }
     }
 
-    /// The number of the port: 0, 1 and so on, in the order in which [`open`] gives them.
+    /// The number of the port: ports are numbered from 0 in the order in which [`open`] returns them.
     pub fn number(&mut self) -> u32 {
         self.state().number
     }
 
-    /// Whether the port is marked for the pool: its updates and scans are refused from then on.
+    /// Whether the port is marked for the pool. If so, its updates and its scans of some position are refused.
     ///
     /// ```
     /// use partial_door::{open, Refused, Sizes};
@@ -361,7 +372,7 @@ impl Port {
         self.state().pool_spent == 1
     }
 
-    /// Whether the port is marked for the slots: its scans are refused from then on.
+    /// Whether the port is marked for the slots. If so, its scans of some position are refused.
     pub fn slots_spent(&mut self) -> bool {
         self.state().slots_spent == 1
     }
@@ -374,11 +385,11 @@ impl Port {
         state
     }
 
-    /// Merges what two ports have observed: two values of one component that they read one
-    /// after the other never go back then.
+    /// Merges what two ports have observed. When the two then read one component one after the other, the
+    /// second value isn't an earlier one than the first.
     ///
     /// # Errors
-    /// [`TwoMemories`] where the ports are of two memories.
+    /// [`TwoMemories`] when the ports are of two memories. Both are as they were.
     pub fn meet(&mut self, other: &mut Port) -> Result<(), TwoMemories> {
         // SAFETY: both handles are borrowed for the call, and Rust keeps them apart.
         match unsafe { raw::partial_door_meet(&mut self.handle, &mut other.handle) } {
@@ -389,9 +400,9 @@ impl Port {
 }
 
 impl Closed {
-    /// Opens a memory of `components` components that goes on with these values, and its ports. Components
-    /// that the closed memory didn't have begin at 0. Stamps start anew. The closed memory stays, and can
-    /// be opened so again.
+    /// Opens a memory of `components` components that goes on with these values. Returns it with its ports.
+    /// Components that the closed memory didn't have begin at 0. Stamps start anew: one of the closed memory
+    /// has no meaning in this one. The closed memory stays, and can be reopened again.
     ///
     /// ```
     /// use partial_door::{open, Sizes};
@@ -406,8 +417,8 @@ impl Closed {
     /// ```
     ///
     /// # Errors
-    /// The first that holds: a size out of its range, in their order; not 1 to 64 ports;
-    /// [`OpenError::TooSmall`] where the closed memory has more components; a growth that was refused.
+    /// The first that holds: as those of [`open`], and before [`OpenError::Memory`] [`OpenError::TooSmall`]
+    /// when the closed memory has more components. Nothing is left of the attempt.
     pub fn reopen(
         &mut self,
         components: u32,
@@ -436,7 +447,7 @@ impl Closed {
         }
     }
 
-    /// The value of each component.
+    /// The value of each component, by its index.
     pub fn values(&mut self) -> Vec<u64> {
         let mut values = vec![0; self.components];
         // SAFETY: the handle and the values are borrowed for the call.

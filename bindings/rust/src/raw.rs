@@ -1,6 +1,7 @@
-//! The proved functions of the static library, as `bindings/c/partial.h` declares them.
+//! The proved functions of the static library, as `bindings/c/partial.h` declares them. That header
+//! says what each number means.
 
-/// One pointer that the library alone reads and writes. Zero bits are an empty handle.
+/// A handle: one pointer that only the library reads and writes. Zero bits are an empty handle.
 #[repr(C)]
 pub struct Handle {
     held: *mut core::ffi::c_void,

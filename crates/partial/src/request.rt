@@ -1,21 +1,22 @@
-//! The words of the program.
+//! The arguments of the program.
 
 use crate::stop::Stop;
 use clap::{Arg, Command, Error};
 use partial_cmd::Verb;
 use std::alloc::Global;
 
-/// What the program is asked for.
+/// What the arguments ask for.
 #[derive(Drop)]
 pub struct Request<'a> {
+    /// What to do with the plan.
     pub verb: Verb,
     /// The path of the plan. Without one the plan comes from standard input.
     pub plan: Option<&'a str>,
-    /// The path of the plan whose run goes on where that of the first one ends.
+    /// The path of a second plan, whose run goes on with the memory of the first.
     pub next: Option<&'a str>,
 }
 
-/// The words that the program takes: `replay [PLAN]`, `check [PLAN]` and `run [PLAN] [NEXT]`.
+/// The arguments that the program takes: `replay [PLAN]`, `check [PLAN]` and `run [PLAN] [NEXT]`.
 fn command<'a>(alloc: Global) -> Result<Command<'a>, Error> {
     let replay = Command::new(alloc, "replay").arg(Arg::new(alloc, "plan"))?;
     let check = Command::new(alloc, "check").arg(Arg::new(alloc, "plan"))?;
@@ -30,11 +31,11 @@ fn command<'a>(alloc: Global) -> Result<Command<'a>, Error> {
     Ok(partial)
 }
 
-/// What these words ask for, of which the first is the program's name.
+/// Reads the arguments. The first of them is the program's name.
 ///
 /// # Errors
 ///
-/// `Usage` where they aren't words that the program takes, or ask for help.
+/// `Usage` when the program doesn't take these arguments, or they ask for help.
 pub fn request_of(alloc: Global, words: &[String]) -> Result<Request<'_>, Stop> {
     let matches = command(alloc)?.try_get_matches_from(words)?;
     let (verb, found, next) = match matches.subcommand() {

@@ -10,9 +10,9 @@ use std::{fmt, io};
 /// Why the program ends with nothing done.
 #[derive(Debug, Drop)]
 pub enum Stop {
-    /// The words aren't those of the program, or ask for help.
+    /// The program doesn't take these arguments, or they ask for help.
     Usage,
-    /// What was asked for was refused.
+    /// The request was refused.
     Refused(Fault),
 }
 
@@ -47,7 +47,7 @@ impl From<AllocError> for Stop {
     }
 }
 
-// The words that can't be had are those that aren't text.
+// Only arguments that aren't text can't be read.
 impl From<io::Error> for Stop {
     fn from(error: io::Error) -> Stop {
         match error.kind() {

@@ -68,11 +68,11 @@ step_at s head Done = None
 abbrev pub step_of : GetSetState → Option Step
 step_of g = step_at g.sizes g.head g.stage
 
--- the walk is over: a list is published where a slot was noted and the port isn't marked for lists
+-- the walk is over: a list is published when a slot was noted and the port isn't marked for the list words
 abbrev pub after_walk : Pair → Pair
 after_walk p = (record p.0 { stage = if p.0.noted && not p.0.lists_spent then Claim (next_words p.1) else Done }, p.1)
 
--- the walk stands at a slot that is in no interval of the list read
+-- the walk is at a slot that is in no interval of the list that was read
 abbrev pub at_slot : Pair → ℕ → Pair
 at_slot p slot = if nat_lt slot p.0.end then (record p.0 { stage = Slot slot }, p.1) else after_walk p
 
@@ -82,7 +82,7 @@ pass_interval p =
     let next : Ranges = extended p.1.next (lowest p.1.read p.0.passed) (highest p.1.read p.0.passed) in
     (record p.0 { passed = p.0.passed + 1 }, record p.1 { next = next })
 
--- the walk comes to a slot, and leaves out an interval of the list read that begins there
+-- the walk comes to a slot, and skips an interval of the list that was read when one begins there
 abbrev pub come_to : Pair → ℕ → Pair
 come_to p slot = if begins_at p.1.read p.0.passed slot then at_slot (pass_interval p) (highest p.1.read p.0.passed + 1) else at_slot p slot
 

@@ -1,4 +1,4 @@
--- A list of indices without repeats, and the marks that tell which ones it has.
+-- A list of indices without repeats, and the marks of those that it has.
 use Rattle.std.specs.Prelude.{ℕ, ◌≡◌, ◌<◌, ◌≤◌, ◌==◌, Bool, false, List, [], ◌∷◌, ◌++◌, length, slice_index, slice_index_or, count_by, nat_eq, if◌then◌else◌}
 use Rattle.std.specs.List.{IsDistinct, list_any}
 
@@ -15,7 +15,7 @@ has_index items index = list_any (λ i. i == index) items
 abbrev pub with_index : List ℕ → ℕ → List ℕ
 with_index items index = if has_index items index then items else items ++ index ∷ []
 
--- each index is marked exactly where it is in the list, and as many are marked as the list has
+-- an index is marked exactly when it is in the list, and as many are marked as the list has
 pub record IsMarked (items : List ℕ) (marks : List Bool) (room : ℕ) : Type 0 where
   pub marked : (j : ℕ) → j < length marks → slice_index_or marks j false ≡ has_index items j
   pub below : (k : ℕ) → k < length items → slice_index items k < length marks

@@ -6,7 +6,7 @@ use Rattle.partial_words.specs.Layout.{Layout, slot_counter, slot_word}
 use Rattle.partial_active.specs.declared.join.JoinStage.{JoinStage}
 use Rattle.partial_active.specs.declared.join.JoinStage.TheVariants.{Claiming, Storing, Joined, Spent}
 
--- the sizes, the reference of the announcement, and where the join is
+-- the sizes, the reference of the announcement, and the stage of the join
 pub record JoinState : Type 0 where
   pub sizes : Layout
   pub announcement : ℕ

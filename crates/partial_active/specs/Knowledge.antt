@@ -1,4 +1,4 @@
--- What a getSet knows at each of its stages, by facts that the words tell it.
+-- What a getSet knows at each of its stages, by facts of the words that it loaded.
 use Rattle.std.specs.Prelude.{ℕ, ◌≡◌, ◌+◌, ◌<◌, ◌≤◌, true, false, List, length, take, slice_index}
 use Rattle.partial_intervals.specs.Intervals.{Ranges, lowest, Holds}
 use Rattle.partial_words.specs.Announcement.{announced_word}
@@ -56,7 +56,7 @@ walks t p slot = HasWalked t p.0.end p.1.read p.1.next p.1.indices slot
 abbrev pub has_found : Facts → Pair → Type 0
 has_found t p = AreVacated t p.1.next × ((l : ℕ) → t.complete p.1.indices l)
 
--- what is known at a stage; a claim is made only where the port isn't marked
+-- what is known at a stage; a claim is made only when the port isn't marked
 abbrev pub knows_by : Facts → Stage → Pair → Type 0
 knows_by t Head p = Unit {0}
 knows_by t (ListLen at) p = (list : Ranges) × t.lists at list
@@ -75,6 +75,6 @@ knows_by t (Write at k count word) p = has_found t p
 knows_by t (Publish at) p = has_found t p
 knows_by t Done p = has_found t p
 
--- what a getSet knows where it is
+-- what a getSet knows at its stage
 abbrev pub KnowsBy : Facts → Pair → Type 0
 KnowsBy t p = knows_by t p.0.stage p

@@ -1,4 +1,4 @@
--- A getSet that is made to its end by whoever makes its steps.
+-- A getSet that is made to its end, with steps that the caller supplies.
 use Rattle.std.specs.Prelude.{◌≡◌}
 use Rattle.partial_active.specs.IndexSet.{AreIndices}
 use Rattle.partial_active.specs.GetSet.{Pair}

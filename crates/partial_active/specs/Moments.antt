@@ -52,7 +52,7 @@ MakesOwn own p words (e ∷ es) q = MatchBool (e.port == own)
     ((step_of p.0 ≡ Some e.step) × MakesOwn own (advance p (answer_of words e.step)) (words_after words e.step) es q)
     (MakesOwn own p (words_after words e.step) es q)
 
--- the machine once its step is answered from the words
+-- the machine after its step is answered from the words
 abbrev pub answered_from : Pair → List ℕ → Pair
 answered_from p words = option_map_or (λ step. advance p (answer_of words step)) (step_of p.0) p
 

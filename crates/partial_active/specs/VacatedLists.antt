@@ -44,7 +44,7 @@ IsFirstList s (first ∷ more) list = IsListOf s first list
 abbrev pub FindsVacated : Layout → ℕ → Pair → List ℕ → Type 0
 FindsVacated s slot p words = (p.0.stage ≡ Slot slot) × (slot_at s words slot ≡ 1)
 
--- the machine claims so many list words, and is given those from that word on
+-- the machine claims so many list words, and gets those from that word on
 abbrev pub ClaimsWords : Layout → ℕ → ℕ → Pair → List ℕ → Type 0
 ClaimsWords s count at p words = (p.0.stage ≡ Claim count) × (slice_index words (list_counter s) ≡ at)
 
@@ -64,7 +64,7 @@ pub record IsStored (s : Layout) (start : Pair) (moments : List (List ℕ)) (q :
   pub to : at + length (list_block q.1.next) ≤ list_end s
   pub stored : (k : ℕ) → k < n → AtSomeStep (StoresWord (at + k) (slice_index (list_block q.1.next) k)) start moments
 
--- what a getSet does with lists of vacated slots, once it has come to q by these moments
+-- what a getSet does with lists of vacated slots on its way to the state q by these moments
 pub record KeepsLists (s : Layout) (start : Pair) (moments : List (List ℕ)) (q : Pair) : Type 0 where
   -- the list that it read is the one at the list head at its first step
   pub reads : is_reading q.0.stage ≡ false → IsFirstList s moments q.1.read
@@ -85,7 +85,7 @@ pub record KeepsLists (s : Layout) (start : Pair) (moments : List (List ℕ)) (q
   pub refused : (count x : ℕ) → q.0.stage ≡ Claim count → list_end q.0.sizes < x + count →
       (step_of (advance q x).0 ≡ None) × ((advance q x).0.lists_spent ≡ true) × ((advance q x).1 ≡ q.1)
 
--- a getSet keeps the lists, wherever it has come to
+-- a getSet keeps the lists at each of its stages
 abbrev pub GetSetsKeepLists : Type 0
 GetSetsKeepLists = (s : Layout) (spent : Bool) (f : Buffers) (own : ℕ) (words : List ℕ) (events : List Event) (q : Pair) →
     IsLayout s → IsFor s f → IsOrderlyRun s words events → MakesOwn own (fresh s spent, f) words events q →

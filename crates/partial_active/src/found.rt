@@ -13,8 +13,9 @@ use partial_words::{Sizes, list_block_word};
 use std::alloc::{AllocError, Global};
 use std::marker::Model;
 
-/// What a getSet has found: the indices of the announcements, the list of vacated slots that it read,
-/// and the list with the slots that it found vacated. Contracts see the three lists and their room.
+/// What a getSet has found: the indices of the announcements, the list of vacated slots that it read, and
+/// the next list, which also has the slots that it found vacated. Contracts see the three lists and their
+/// room.
 #[derive(Debug, Drop)]
 pub struct Found {
     indices: IndexSet,
@@ -40,8 +41,10 @@ impl Model for Found {
 }
 
 impl Found {
-    /// The buffers for a memory of these sizes, with all the room that a getSet needs. They are refused
-    /// where the memory for them is.
+    /// Makes the buffers for a memory of these sizes, with all the room that a getSet needs.
+    ///
+    /// # Errors
+    /// [`AllocError`] when an allocation was refused.
     pub fn new(alloc: Global, sizes: Sizes) -> Result<Found, AllocError>
         ensures sizes { IfOk result (λ found. IsFor sizes found) }
         ensures indices { IfOk result (λ found. found.indices ≡ []) }
@@ -56,7 +59,7 @@ impl Found {
         })
     }
 
-    /// The indices found, without repeats, in the order of the slots and then of the positions.
+    /// The indices that were found, each once, in the order of the slots and then of the positions.
     #[inline(always)]
     pub fn indices(&self) -> &[u32]
         ensures { result.now ≡ self.now.indices }
@@ -64,7 +67,7 @@ impl Found {
         self.indices.as_slice()
     }
 
-    // Empties the buffers, by what was filled.
+    // Empties the buffers. The work is that of what they held.
     #[inline(always)]
     pub(crate) fn clear(&mut self)
         ensures { self.new ≡ record self.old { indices = []; read = []; next = [] } }
@@ -74,7 +77,7 @@ impl Found {
         self.next.clear();
     }
 
-    // Puts an index at the end, where it is not there yet.
+    // Appends an index if it isn't there yet.
     #[inline(always)]
     pub(crate) fn insert(&mut self, index: u32)
         requires { index < self.old.limit }
@@ -83,7 +86,7 @@ impl Found {
         self.indices.insert(index);
     }
 
-    // Takes one more interval into the list that is read.
+    // Appends an interval to the list that is read.
     #[inline(always)]
     pub(crate) fn read_interval(&mut self, lo: u32, hi: u32)
         requires room { length self.old.read < self.old.room }
@@ -93,7 +96,7 @@ impl Found {
         self.read.push_last(lo, hi);
     }
 
-    // Adds the slots from lo to hi to the next list, behind those that it has.
+    // Appends the slots from lo to hi to the next list.
     #[inline(always)]
     pub(crate) fn note(&mut self, lo: u32, hi: u32)
         requires room { length self.old.next < self.old.room }

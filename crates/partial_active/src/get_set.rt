@@ -1,4 +1,4 @@
-//! The getSet of an active set: it reads the list of vacated slots, walks the other slots for
+//! The getSet of an active set. It reads the list of vacated slots, walks the other slots for
 //! announcements, and publishes the list with the slots that it found vacated.
 
 ghost use Rattle.std.specs.Prelude.{◌≡◌, ◌+◌, ◌*◌, ◌<◌, ◌≤◌, ◌↔◌, [], IsSome, IsTrue};
@@ -11,7 +11,7 @@ use crate::found::Found;
 use partial_words::{Sizes, Step, list_size};
 use std::marker::Model;
 
-/// Where a getSet is: the step that is due, and what it needs for it.
+/// The stage of a getSet: the step that is due, and what it needs. `at` is the number of the word.
 #[derive(Clone, Copy, Debug, PartialEq, Eq)]
 pub enum Stage {
     /// Load the list head.
@@ -20,7 +20,7 @@ pub enum Stage {
     ListLen {
         at: u32,
     },
-    /// Load the lowest slot of an interval. So many intervals are left, this one with them.
+    /// Load the lowest slot of an interval. `left` intervals are left, this one included.
     ListLow {
         at: u32,
         left: u32,
@@ -37,12 +37,12 @@ pub enum Stage {
     Slot {
         slot: u32,
     },
-    /// Load the number of indices of the announcement at this word, which stood in the slot.
+    /// Load the number of indices of the announcement at this word, which the slot refers to.
     Len {
         slot: u32,
         at: u32,
     },
-    /// Load an index of that announcement. So many are left, this one with them.
+    /// Load an index of that announcement. `left` indices are left, this one included.
     Index {
         slot: u32,
         at: u32,
@@ -59,17 +59,17 @@ pub enum Stage {
         words: u32,
         word: u64,
     },
-    /// Exchange the list head for the next list.
+    /// Exchange the list head to the next list.
     Publish {
         at: u32,
     },
-    /// Nothing is due.
+    /// No step is due.
     Done,
 }
 
-/// A getSet under way. It names every announcement that stands in a slot from its first step to its
-/// last, and loads no slot of the list that it read.
-// The wide fields come first, so that no room is left between fields: it would be written with them.
+/// A getSet under way. It finds every announcement that stands in a slot from its first step to its last,
+/// and loads no slot of the list that it read.
+// The wide fields come first, so that there is no padding: padding would be written with them.
 #[derive(Debug, Drop)]
 pub struct GetSet {
     head: u64,
@@ -106,15 +106,15 @@ impl GetSet {
     ghost use Rattle.partial_active.specs.GetSet.{step_of, advance, left_of, most_steps, fresh, after_walk, at_slot, come_to, after_head, after_list_len, after_interval, after_counter, after_slot, after_len, after_index, after_claim, after_write};
     ghost use Rattle.partial_active.specs.GetSetAnswers.{IsPossible, GoTogether, IsWalking, IsAtSlot, IsReading, IsNextLow, IsListHead, IsListLen, IsSlotWord, IsAnnouncedLen, IsListClaim, EndsBelow, HasRead, HasNext};
 
-    /// A getSet of a port that is marked for the list words, or isn't. It takes no memory: the buffers
-    /// that its answers are taken with were made for the same sizes.
+    /// Makes a getSet of a port. `lists_spent` says whether the port is marked for the list words. It takes
+    /// no memory: the buffers for its answers were made for the same sizes.
     #[inline(always)]
     pub fn new(sizes: Sizes, lists_spent: bool) -> GetSet
         ensures state { result ≡ fresh sizes lists_spent }
         ensures together { (f : Buffers) → IsFor sizes f → GoTogether (result, f) }
         ensures steps { left_of result ≡ most_steps sizes }
     {
-        // The getter tells that the sizes are in their ranges.
+        // The contract of the getter says that the sizes are in their ranges.
         let _slots = sizes.slots();
         GetSet {
             sizes,
@@ -127,7 +127,7 @@ impl GetSet {
         }
     }
 
-    /// The step that is due, or `None` once the getSet is finished.
+    /// The step that is due. `None` when the getSet is finished.
     #[inline(always)]
     pub fn step(&self) -> Option<Step>
         ensures { result ≡ step_of self.now }
@@ -154,8 +154,8 @@ impl GetSet {
         }
     }
 
-    /// Whether the port is marked for the list words: it was before, or the claim of this getSet went
-    /// past their end.
+    /// Whether the port is marked for the list words: it was before, or the claim of this getSet went past
+    /// their end.
     #[inline(always)]
     pub fn lists_spent(&self) -> bool
         ensures { result ≡ self.now.lists_spent }
@@ -172,8 +172,8 @@ impl GetSet {
         self.lists_spent = other.lists_spent;
     }
 
-    /// Takes the answer of the step that was due, with the buffers of this getSet. The first answer
-    /// empties them. Once the getSet is finished they name the indices found.
+    /// Takes the answer of the step that was due, with the buffers of this getSet. The first answer empties
+    /// them. When the getSet is finished, they have the indices that it found.
     #[inline(always)]
     pub fn answer(&mut self, found: &mut Found, x: u64)
         requires due { IsSome (step_of self.old) }
@@ -206,7 +206,7 @@ impl GetSet {
         }
     }
 
-    // The list head was loaded.
+    // Takes the answer of the load of the list head.
     #[inline(always)]
     fn after_head(&mut self, found: &mut Found, x: u64)
         requires layout { IsLayout self.old.sizes }
@@ -222,7 +222,7 @@ impl GetSet {
         };
     }
 
-    // The number of intervals was loaded.
+    // Takes the answer of the load of the number of intervals.
     #[inline(always)]
     fn after_list_len(&mut self, at: u32, x: u64)
         requires layout { IsLayout self.old.sizes }
@@ -239,7 +239,7 @@ impl GetSet {
         };
     }
 
-    // The highest slot of an interval was loaded.
+    // Takes the answer of the load of an interval's highest slot.
     #[inline(always)]
     fn after_interval(&mut self, found: &mut Found, at: u32, left: u32, lo: u32, x: u32)
         requires layout { IsLayout self.old.sizes }
@@ -261,7 +261,7 @@ impl GetSet {
         };
     }
 
-    // The slot counter was loaded, and the walk begins.
+    // Takes the answer of the load of the slot counter, and begins the walk.
     #[inline(always)]
     fn after_counter(&mut self, found: &mut Found, x: u64)
         requires list { HasRead self.old.sizes found.old.read }
@@ -275,7 +275,7 @@ impl GetSet {
         self.come_to(found, 0);
     }
 
-    // A slot was loaded.
+    // Takes the answer of the load of a slot.
     #[inline(always)]
     fn after_slot(&mut self, found: &mut Found, slot: u32, x: u64)
         requires layout { IsLayout self.old.sizes }
@@ -297,7 +297,7 @@ impl GetSet {
         }
     }
 
-    // The number of indices of an announcement was loaded.
+    // Takes the answer of the load of an announcement's number of indices.
     #[inline(always)]
     fn after_len(&mut self, found: &mut Found, slot: u32, at: u32, x: u64)
         requires layout { IsLayout self.old.sizes }
@@ -317,7 +317,7 @@ impl GetSet {
         }
     }
 
-    // An index of an announcement was loaded.
+    // Takes the answer of the load of an announcement's index.
     #[inline(always)]
     fn after_index(&mut self, found: &mut Found, slot: u32, at: u32, left: u32, x: u32)
         requires layout { IsLayout self.old.sizes }
@@ -340,7 +340,7 @@ impl GetSet {
         }
     }
 
-    // List words were claimed, or the claim was refused.
+    // Takes the answer of the claim of list words, which may have gone past their end.
     #[inline(always)]
     fn after_claim(&mut self, found: &Found, words: u32, x: u64)
         requires layout { IsLayout self.old.sizes }
@@ -361,7 +361,7 @@ impl GetSet {
         }
     }
 
-    // A word of the next list was written.
+    // Goes on after a word of the next list was stored.
     #[inline(always)]
     fn after_write(&mut self, found: &Found, at: u32, k: u32, words: u32)
         requires next { HasNext (self.old, found.now) words }
@@ -381,7 +381,7 @@ impl GetSet {
         };
     }
 
-    // The walk is over: a list is published where a slot was noted and the port isn't marked.
+    // Ends the walk. The next list is published when a slot was noted and the port isn't marked.
     #[inline(always)]
     fn after_walk(&mut self, found: &Found)
         requires { EndsBelow found.now.next self.old.sizes.slots }
@@ -396,7 +396,7 @@ impl GetSet {
         };
     }
 
-    // The walk stands at a slot that is in no interval of the list read.
+    // The walk is at a slot that is in no interval of the list that was read.
     #[inline(always)]
     fn at_slot(&mut self, found: &Found, slot: u32)
         requires { IsWalking (self.old, found.now) slot }
@@ -409,7 +409,7 @@ impl GetSet {
         }
     }
 
-    // The walk comes to a slot, and leaves out an interval of the list read that begins there.
+    // The walk comes to a slot. It skips an interval of the list that was read when one begins there.
     #[inline(always)]
     fn come_to(&mut self, found: &mut Found, slot: u32)
         requires walking { IsWalking (self.old, found.old) slot }
@@ -431,7 +431,8 @@ impl GetSet {
 impl GetSet {
     ghost use Rattle.partial_active.specs.GetSetAnswers.{IsPossible};
 
-    // Whether the number may answer the step that is due. It asks a little more than is needed.
+    // Whether the number is a possible answer of the step that is due. It asks for a little more than is
+    // needed.
     pub(crate) fn may_answer(&self, found: &Found, x: u64) -> bool
         ensures { IsTrue result → IsPossible (self.now, found.now) x }
     {

@@ -1,4 +1,4 @@
-//! Indices without repeats, in the order in which they came, with a mark for each one.
+//! Indices without repeats, in the order in which they came.
 
 ghost use Rattle.std.specs.Prelude.{◌≡◌, [], IfOk, ◌<◌};
 ghost use Rattle.partial_active.specs.IndexSet.{with_index};
@@ -6,7 +6,7 @@ ghost use Rattle.partial_active.specs.IndexSet.{with_index};
 use std::alloc::{AllocError, Global};
 use std::marker::Model;
 
-/// Indices below a limit, each at most once. Room for all of them is taken when the set is made.
+/// Indices below a limit, each at most once. The set takes room for all of them when it is made.
 #[derive(Debug, Drop)]
 pub struct IndexSet {
     items: Vec<u32>,
@@ -25,7 +25,10 @@ impl Model for IndexSet {
 }
 
 impl IndexSet {
-    /// The empty set of indices below `limit`. It is refused where the memory for them is.
+    /// Makes the empty set of indices below `limit`.
+    ///
+    /// # Errors
+    /// [`AllocError`] when an allocation was refused.
     pub fn with_limit(alloc: Global, limit: usize) -> Result<IndexSet, AllocError>
         ensures limit { IfOk result (λ set. set.limit ≡ limit) }
         ensures empty { IfOk result (λ set. set.items ≡ []) }
@@ -44,7 +47,7 @@ impl IndexSet {
         &self.items
     }
 
-    /// Puts the index at the end, where it is not there yet.
+    /// Appends the index if it isn't there yet.
     #[inline(always)]
     pub fn insert(&mut self, index: u32)
         requires { index < self.old.limit }
@@ -57,7 +60,7 @@ impl IndexSet {
         }
     }
 
-    /// Takes all indices out, one after another.
+    /// Removes all indices, one after another.
     #[inline(always)]
     pub fn clear(&mut self)
         ensures { self.new ≡ record self.old { items = [] } }

@@ -1,24 +1,25 @@
-//! The join of an active set: one claim of a slot, and one store.
+//! The join of an active set: one claim of a slot (fetch-and-add), and one store.
 
 ghost use Rattle.std.specs.Prelude.{◌≡◌, ◌<◌, IsSome};
 
 use partial_words::{Sizes, Step};
 use std::marker::Model;
 
-/// Where a join is.
+/// The stage of a join.
 #[derive(Clone, Copy, Debug, PartialEq, Eq)]
 pub enum JoinStage {
-    /// It is due to claim a slot.
+    /// The claim of a slot is due.
     Claiming,
-    /// It is due to store its announcement in this slot.
+    /// The store of its announcement in this slot is due.
     Storing(u32),
     /// Its announcement stands in this slot.
     Joined(u32),
-    /// All slots were claimed before.
+    /// The claim went past the last slot.
     Spent,
 }
 
-/// A join under way: it takes a fresh slot and stores the reference of an announcement there.
+/// A join under way. It claims a slot that was never used, and stores the reference of an announcement
+/// there.
 #[derive(Debug, Drop)]
 pub struct Join {
     sizes: Sizes,
@@ -40,7 +41,7 @@ impl Model for Join {
 impl Join {
     ghost use Rattle.partial_active.specs.Join.{step_of_join, advance_join, slot_joined, is_spent, join_left};
 
-    /// A join with the announcement at that reference, which stands whole in the words.
+    /// Makes a join with the announcement at this reference, which is stored whole.
     #[inline(always)]
     pub fn new(sizes: Sizes, announcement: u64) -> Join
         ensures { result ≡ record { sizes = sizes; announcement = announcement; stage = JoinStage.Claiming } }
@@ -52,7 +53,7 @@ impl Join {
         }
     }
 
-    /// The step that is due, or `None` once the join is finished.
+    /// The step that is due. `None` when the join is finished.
     #[inline(always)]
     pub fn step(&self) -> Option<Step>
         ensures { result ≡ step_of_join self.now }
@@ -88,7 +89,7 @@ impl Join {
         }
     }
 
-    /// The slot, once the join is finished and its claim was not refused.
+    /// The slot of a finished join. `None` before that, and when the claim was refused.
     #[inline(always)]
     pub fn joined(&self) -> Option<u32>
         ensures { result ≡ slot_joined self.now.stage }

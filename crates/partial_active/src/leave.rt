@@ -5,7 +5,7 @@ ghost use Rattle.std.specs.Prelude.{◌≡◌, ◌<◌, false, IsSome};
 use partial_words::{Sizes, Step};
 use std::marker::Model;
 
-/// A leave under way: it marks a slot as vacated.
+/// A leave under way. It marks a slot as vacated.
 #[derive(Debug, Drop)]
 pub struct Leave {
     sizes: Sizes,
@@ -27,7 +27,7 @@ impl Model for Leave {
 impl Leave {
     ghost use Rattle.partial_active.specs.Leave.{step_of_leave, advance_leave};
 
-    /// A leave of the slot.
+    /// Makes a leave of the slot.
     #[inline(always)]
     pub fn new(sizes: Sizes, slot: u32) -> Leave
         requires { slot < sizes.slots }
@@ -40,7 +40,7 @@ impl Leave {
         }
     }
 
-    /// The step that is due, or `None` once the leave is finished.
+    /// The step that is due. `None` when the leave is finished.
     #[inline(always)]
     pub fn step(&self) -> Option<Step>
         ensures { result ≡ step_of_leave self.now }
@@ -52,7 +52,7 @@ impl Leave {
         }
     }
 
-    /// Takes the answer of the step that was due, which says nothing.
+    /// Takes the answer of the step that was due, which has no meaning.
     #[inline(always)]
     pub fn answer(&mut self, _x: u64)
         requires { IsSome (step_of_leave self.old) }

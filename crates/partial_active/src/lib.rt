@@ -1,6 +1,6 @@
-//! The active set of a partial snapshot object as pure machines: a join, a leave, and a getSet that finds the
-//! announcements that stand in the slots. A machine says which atomic step is due and takes its answer. A getSet
-//! also makes its step on plain words, or all its steps through whoever makes them ([`Steps`]).
+//! The active set of a partial snapshot object, as pure machines: a join, a leave, and a getSet, which
+//! finds the announcements in the slots. A machine says which atomic step is due and takes its answer. A
+//! getSet can also make its step on plain words, or make all its steps through [`Steps`].
 #![tactic(auto)]
 
 pub mod found;

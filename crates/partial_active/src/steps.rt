@@ -1,4 +1,4 @@
-//! What a getSet asks of the words that it works on.
+//! What a getSet needs of the words on which it works.
 
 ghost use Rattle.std.specs.Prelude.{◌≡◌, Some};
 ghost use Rattle.partial_active.specs.GetSet.{Pair, advance, step_of};
@@ -6,19 +6,19 @@ ghost use Rattle.partial_active.specs.GetSetAnswers.{IsPossible};
 
 use partial_words::Step;
 
-/// The steps of one getSet, which other ports' steps may come between. To contracts it is what it has come to:
-/// the getSet with its buffers.
+/// The steps of one getSet. Other ports may make steps between them. To contracts it is the getSet with its
+/// buffers, as its answers so far have left them.
 pub trait Steps {
-    /// A call is under way that makes the steps.
+    /// The call that makes the steps is under way.
     ghost goes: { Self → Type 0 };
 
-    /// The getSet and its buffers, with all answers so far.
+    /// The getSet and its buffers, after all answers so far.
     ghost set: { Self → Pair };
 
-    /// The first has come to the second by further steps of that getSet alone.
+    /// From the first to the second only further steps of that getSet were made.
     ghost follows: { Self → Self → Type 0 };
 
-    /// Makes the step that is due, and gives its answer.
+    /// Makes the step that is due, and returns its answer.
     fn make(&mut self, step: Step) -> u64
         requires goes { goes self.old }
         requires due { step_of (set self.old).0 ≡ Some step }
@@ -27,9 +27,9 @@ pub trait Steps {
         ensures set { set self.new ≡ advance (set self.old) result }
         ensures follows { follows self.old self.new };
 
-    /// By no step it stays where it is.
+    /// Without a step it stays the same.
     ghost follows_itself: { (x : Self) → follows x x };
 
-    /// Steps follow on steps.
+    /// Further steps of further steps are further steps.
     ghost follows_on: { (x y z : Self) → follows x y → follows y z → follows x z };
 }

@@ -1,4 +1,4 @@
-//! The machines driven over a plain list of words, and refused growths.
+//! The machines, driven over a plain list of words, and refused allocations.
 
 ghost use Rattle.std.specs.Prelude.{OnOk};
 ghost use Rattle.partial_active.specs.Found.{IsFor};
@@ -10,7 +10,7 @@ use std::alloc::{AllocError, Global};
 use std::process::Abort;
 use std::test::Fail;
 
-// Words of a memory that are all 0 but for these.
+// Words of a memory that are all 0, apart from these.
 fn words_with(
     rt: &impl Abort,
     alloc: Global,
@@ -55,7 +55,7 @@ fn drive_new(
     drive(rt, alloc, words, &mut get, found)
 }
 
-// Makes so many steps of a getSet on the words, or all that are left of it.
+// Makes so many steps of a getSet on the words, or fewer when it ends.
 fn drive_for(
     rt: &impl Abort,
     alloc: Global,
@@ -200,7 +200,7 @@ fn vacated_list(rt: HostRuntime) -> Result<(), Fail> {
     Ok(())
 }
 
-// Makes a getSet that notes slot 0 and exchanges the list head for its list at word 13.
+// Makes a getSet that notes slot 0 and wins the exchange of the list head to its list at word 13.
 fn win_exchange(
     rt: &impl Abort,
     alloc: Global,
@@ -214,7 +214,7 @@ fn win_exchange(
     Ok(())
 }
 
-// Makes a getSet that notes slot 0 and whose exchange of the list head is lost to another's.
+// Makes a getSet that notes slot 0 and whose exchange of the list head fails, since another one came first.
 fn lose_exchange(
     rt: &impl Abort,
     alloc: Global,
@@ -234,9 +234,9 @@ fn lose_exchange(
     Ok(())
 }
 
-// Two getSets note slot 0 while the list head is 0, and each claims words for a list of its own. The
-// second exchanges the head first. The first loses its exchange, which changes nothing: the head stays,
-// and the next getSet finds the list of the second and loads no slot of it.
+// Two getSets note slot 0 while the list head is 0, and each claims words for a list of its own. The second
+// exchanges the head first. The exchange of the first fails, which changes nothing: the head stays, and the
+// next getSet finds the list of the second and loads no slot of it.
 #[test]
 fn lost_exchange_of_the_list_head(rt: HostRuntime) -> Result<(), Fail> {
     let sizes = Sizes::new(2, 4, 8, 64)?;
@@ -250,8 +250,8 @@ fn lost_exchange_of_the_list_head(rt: HostRuntime) -> Result<(), Fail> {
     Ok(())
 }
 
-// The list words hold two words, and a list of slot 0 takes three: the port is marked. A getSet of a
-// marked port claims nothing.
+// There are two list words, and a list of slot 0 takes three: the port is marked. A getSet of a marked port
+// claims nothing.
 #[test]
 fn too_few_list_words(rt: HostRuntime) -> Result<(), Fail> {
     let sizes = Sizes::new(2, 4, 2, 64)?;
@@ -271,8 +271,8 @@ fn too_few_list_words(rt: HostRuntime) -> Result<(), Fail> {
     Ok(())
 }
 
-// The list (0, 0) grows by slot 1, and slot 3 stands apart. The next getSet empties the buffers first,
-// and is given too few list words: it marks its port.
+// The list (0, 0) grows by slot 1, and slot 3 stands apart. The next getSet empties the buffers first, and
+// gets too few list words: it marks its port.
 #[test]
 fn lists_spent(rt: HostRuntime) -> Result<(), Fail> {
     let sizes = Sizes::new(2, 4, 8, 64)?;
@@ -304,7 +304,7 @@ fn lists_spent(rt: HostRuntime) -> Result<(), Fail> {
     Ok(())
 }
 
-// Slot 2, too, is vacated.
+// Marks slot 2 as vacated too.
 fn words_mark_slot(rt: &impl Abort, words: &mut [u64]) {
     assert!(rt; words.len() > 8);
     words[8] = 1;

@@ -46,7 +46,7 @@ abbrev pub IsRead : Result PlanView PlanError → Type 0
 IsRead judged = (p : PlanView) × (judged ≡ Ok p)
 
 -- The plan was refused with the fault that judging its text gives, unless memory ran out, and it was
--- replayed or run only where judging gives a plan.
+-- replayed or run only when judging gives a plan.
 abbrev pub IsJudged : Result Verdict Fault → Result PlanView PlanError → Type 0
 IsJudged (Ok v) judged = IsRead judged
 IsJudged (Err (fault.Plan e)) judged = text.Fails e judged

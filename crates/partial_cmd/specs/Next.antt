@@ -1,4 +1,4 @@
--- What comes of two plans, of which the second goes on where the first ended.
+-- The result of two plans, when the second goes on with the memory of the first.
 use Rattle.std.specs.Prelude.{ℕ, ◌≡◌, ◌<◌, ◌≤◌, ◌⊎◌, List, ◌++◌, take, Option, Result, Ok, Err}
 use Rattle.std.specs.Io.KnownBytes.{Appends}
 use Rattle.partial_model.specs.declared.history.Opening.{Opening}
@@ -42,7 +42,7 @@ abbrev pub WritesReportsPart : Option (List ℕ) → Option (List ℕ) → Optio
 WritesReportsPart text next before after =
     (answer : List ℕ) × (n : ℕ) × AreReportsText text next answer × Appends before after (take n answer)
 
--- what comes of two plans that are read: 13 exactly where the second has fewer components, and no fault of reading
+-- the result of two plans that are read: 13 exactly when the second has fewer components, and no fault of reading
 abbrev pub AreRun : Result Verdict Fault → PlanView → PlanView → Type 0
 AreRun (Err fault.TooSmall) p q = q.sizes.m < p.sizes.m
 AreRun (Err e) p q = IsBehindReading e × (p.sizes.m ≤ q.sizes.m)

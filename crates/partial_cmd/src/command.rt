@@ -1,4 +1,4 @@
-//! A command, from the text of a plan to the text of what came of it.
+//! The commands: each reads the text of a plan and writes the text of its result.
 
 ghost use Rattle.std.specs.Prelude.{ℕ, ◌≡◌, ◌↔◌, ◌≢◌, List, true, false, take, OnOk, IfOk, IfErr, IfSome, IsErrOf};
 ghost use Rattle.std.specs.Io.KnownBytes.{Appends};
@@ -16,12 +16,12 @@ use std::io::{Read, Write};
 use std::sync::Wait;
 use std::thread::Threads;
 
-/// What is to be done with a plan.
+/// What to do with a plan.
 #[derive(Clone, Copy, Debug, PartialEq, Eq)]
 pub enum Verb {
     /// Replay it, and write the outcome.
     Replay,
-    /// Replay it, and write whether the outcome is lawful.
+    /// Replay it, and write whether the outcome is legal.
     Check,
     /// Run its ports side by side, each in a thread of its own, and write the report.
     Run,
@@ -32,22 +32,22 @@ pub enum Verb {
 pub enum Verdict {
     /// What was asked for was done.
     Done,
-    /// The outcome is lawful.
+    /// The outcome is legal.
     Lawful,
-    /// The outcome isn't lawful. The contract of `execute` says that no plan comes to this.
+    /// The outcome isn't legal. By the contract of `execute`, no plan leads to this.
     Unlawful,
 }
 
-/// Reads a plan, does with it what the verb says, and writes what came of it: the outcome of its replay,
-/// the line `lawful` or `unlawful` by the slow check of that outcome, or the report of a run, in which the
-/// plan's turns play no part.
+/// Reads a plan, does with it what the verb says, and writes the result: the outcome of its replay; the
+/// line `lawful` or `unlawful`, by the slow check of that outcome; or the report of a run, which ignores
+/// the plan's turns.
 ///
 /// # Errors
 ///
-/// The first fault of the plan's text, where it isn't the text of a plan; code 6 where a growth was
-/// refused or a worker couldn't be started, and then no thread is left running; code 11 where the reader
-/// failed, and code 12 where the writer failed or took 0 bytes. Nothing is written but after code 12, and
-/// then a part of the text from its front.
+/// The first fault of the text, when it isn't the text of a plan. Code 6 when an allocation was refused or
+/// a worker couldn't be started; then no thread is left running. Code 11 when the reader failed, and code
+/// 12 when the writer failed or took 0 bytes. After code 12 a part of the text from its front has been
+/// written, after any other error nothing.
 pub fn execute<H: Threads + Wait + Sync, R: Read, W: Write>(
     rt: &H,
     alloc: Global,
@@ -59,17 +59,17 @@ pub fn execute<H: Threads + Wait + Sync, R: Read, W: Write>(
     requires out { out.old.failed ≡ false }
     ensures read_fault { IsErrOf result reader_fault ↔ (plan.new.failed ≡ true) }
     ensures write_fault { IsErrOf result writer_fault ↔ (out.new.failed ≡ true) }
-    // Which fault of the plan it is, and that a plan without a fault isn't refused.
+    // The fault is that of the plan, and a plan without a fault isn't refused for one.
     ensures plan { plan.new.failed ≡ false → IfSome (R.remaining plan.old.inner)
         (λ bytes. IsJudged result (judged bytes)) }
-    // A replay and a run are done, and a check finds the outcome lawful, whatever the plan.
+    // A replay and a run end with `Done`, and a check finds the outcome legal, whatever the plan.
     ensures verdict { IfOk result (λ verdict. verdict ≡ verdict_of verb) }
-    // Exactly the text that the verb asks for is written: of a legal outcome of the plan's calls, made in the
-    // plan's turns (`plans_have_one_answer` says that this is one text for each text of a plan), or of a
-    // report whose answers are right in one history.
+    // Exactly the text that the verb asks for is written. Of a replay it is that of a legal outcome of the
+    // plan's calls in the plan's turns; by `plans_have_one_answer` there is one such text for each plan. Of
+    // a run it is a report whose answers are right in one history.
     ensures written { OnOk result (WritesOutcome verb (R.remaining plan.old.inner)
         (W.contents out.old.inner) (W.contents out.new.inner)) }
-    // Nothing is written but after a fault of the writer, and then a part of such a text.
+    // Nothing is written, except after a fault of the writer, and then a part of such a text.
     ensures unwritten { IfErr result (λ fault. fault ≢ writer_fault → out.new ≡ out.old) }
     ensures part { IsErrOf result writer_fault
         → WritesPart verb (R.remaining plan.old.inner) (W.contents out.old.inner) (W.contents out.new.inner) }
@@ -78,7 +78,7 @@ pub fn execute<H: Threads + Wait + Sync, R: Read, W: Write>(
     write_answer(rt, alloc, verb, &plan, out)
 }
 
-// Writes what the verb asks for of a plan. Every outcome of a replay is legal, so none is unlawful.
+// Writes what the verb asks for. Every outcome of a replay is legal, so the verdict is never `Unlawful`.
 fn write_answer<H: Threads + Wait + Sync, W: Write>(
     rt: &H,
     alloc: Global,

@@ -9,16 +9,16 @@ use thiserror::Error;
 /// Why a command was refused.
 #[derive(Clone, Copy, Debug, PartialEq, Eq, Error)]
 pub enum Fault {
-    /// The plan wasn't read.
+    /// The plan couldn't be read. Nothing was written.
     #[error("{0}")]
     Plan(PlanError),
-    /// The plan wasn't replayed.
+    /// The plan couldn't be replayed. Nothing was written.
     #[error("{0}")]
     Replay(ReplayError),
-    /// The second plan has fewer components than the first one.
+    /// The second plan has fewer components than the first one. Nothing was run.
     #[error("fewer components than before")]
     TooSmall,
-    /// The plan wasn't run.
+    /// The plan couldn't be run. No thread is left running, and nothing was written.
     #[error("{0}")]
     Run(RunError),
     /// The outcome or the report wasn't written whole.
@@ -29,8 +29,8 @@ pub enum Fault {
 impl Fault {
     ghost use Rattle.partial_cmd.specs.Execution.{code_of, line_of};
 
-    /// The number of the refusal: 1 to 4 for the sizes, 5 for the ports, 6 for memory, 10 for a line of
-    /// the plan, 11 for the reader, 12 for the writer, 13 for fewer components in a second plan.
+    /// The number of the refusal: 1 to 4 for a size, 5 for the number of ports, 6 for memory, 10 for a line
+    /// of the plan, 11 for the reader, 12 for the writer, 13 for fewer components in a second plan.
     pub fn code(&self) -> u8
         ensures { result ≡ code_of self.now }
     {
@@ -43,7 +43,8 @@ impl Fault {
         }
     }
 
-    /// The line of the plan, counted from 1, and what is wrong with it. None where no line is to blame.
+    /// The faulty line of the plan, counted from 1, and its cause. `None` when the fault isn't that of a
+    /// line.
     pub fn at(&self) -> Option<(u32, Cause)>
         ensures { result ≡ line_of self.now }
     {

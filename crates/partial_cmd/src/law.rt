@@ -3,8 +3,8 @@
 
 ghost use Rattle.partial_cmd.specs.Execution.{PlansHaveOneAnswer};
 
-/// What a verb asks to be written of a plan is told by the bytes of the plan's text alone, so two commands
-/// that succeed with one plan write the same.
+/// The bytes of a plan's text determine what a verb asks to be written, so two commands that succeed with
+/// one plan write the same.
 pub fn plans_have_one_answer()
     ensures { PlansHaveOneAnswer }
 {}

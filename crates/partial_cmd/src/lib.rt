@@ -1,4 +1,4 @@
-//! The commands of the program: a plan comes in by a reader, and a text goes out by a writer.
+//! The commands of the program: a reader supplies a plan, and a writer takes the text of the result.
 #![tactic(auto)]
 
 mod command;

@@ -1,4 +1,4 @@
-//! Two runs, of which the second goes on where the first ended.
+//! Two runs: the second one goes on with the memory of the first.
 
 ghost use Rattle.std.specs.Prelude.{◌≡◌, ◌↔◌, ◌≢◌, ◌⊎◌, true, false, IfOk, IfErr, IfSome, IsErr, IsErrOf, OnOk};
 ghost use Rattle.partial_text.specs.Judging.{judged};
@@ -18,15 +18,16 @@ use std::io::{Read, Write};
 use std::sync::Wait;
 use std::thread::Threads;
 
-/// Reads two plans, runs the first one, opens its closed memory again with the second one's sizes and ports,
-/// runs the second one there, and writes both reports, the first one first. The second plan's initial values
-/// aren't used, nor are the turns of either.
+/// Reads two plans, runs the first one, reopens its closed memory with the second one's sizes and ports,
+/// runs the second one there, and writes both reports, the first one first. The second plan's initial
+/// values and the turns of both are ignored.
 ///
 /// # Errors
 ///
-/// As those of [`execute`](crate::execute), of the first plan and then of the second, which isn't read where
-/// the first is refused; and code 13 where the second plan has fewer components than the first, before any
-/// worker starts. Nothing is written but after code 12, and then a part of the text from its front.
+/// Those of [`execute`](crate::execute), of the first plan and then of the second, which isn't read when
+/// the first is refused. Code 13 when the second plan has fewer components than the first; then no worker
+/// was started. After code 12 a part of the text from its front has been written, after any other error
+/// nothing.
 pub fn execute_next<H: Threads + Wait + Sync, R: Read, N: Read, W: Write>(
     rt: &H,
     alloc: Global,
@@ -63,7 +64,7 @@ pub fn execute_next<H: Threads + Wait + Sync, R: Read, N: Read, W: Write>(
     Ok(Verdict::Done)
 }
 
-// Runs a plan, and then the next one on the memory that it leaves.
+// Runs a plan, and then the next one on the memory that the first leaves.
 fn run_both<H: Threads + Wait + Sync>(
     rt: &H,
     alloc: Global,

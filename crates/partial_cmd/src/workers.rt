@@ -1,4 +1,4 @@
-//! All ports of a plan at work, side by side, each in a thread of its own.
+//! All ports of a plan at work side by side, each in a thread of its own.
 
 ghost use Rattle.std.specs.Prelude.{◌≡◌, IfOk};
 ghost use Rattle.partial_workers.specs.Work.{IsOpenedFor};
@@ -11,8 +11,12 @@ use std::alloc::Global;
 use std::sync::Wait;
 use std::thread::Threads;
 
-/// Has the workers of a memory make all calls of a plan, and closes it. It was opened for the plan's sizes and
-/// number of ports.
+/// Makes all calls of a plan by the workers of a memory, and closes it. The memory was opened for the
+/// plan's sizes and number of ports.
+///
+/// # Errors
+///
+/// As [`run_workers`].
 pub fn run_plan<R: Threads + Wait + Sync, G: Gate>(
     rt: &R,
     alloc: Global,
@@ -29,7 +33,7 @@ pub fn run_plan<R: Threads + Wait + Sync, G: Gate>(
     run_on(rt, alloc, memory, ports, &calls, Until::Made, gate)
 }
 
-/// The report of the workers.
+/// Turns the result of the workers into a report.
 pub fn into_report(ran: Ran) -> RunReport
     ensures { result ≡ report_of ran }
 {
@@ -40,16 +44,16 @@ pub fn into_report(ran: Ran) -> RunReport
     }
 }
 
-/// Runs the calls of a plan: it opens a memory with the plan's sizes and initial values, gives each port's
-/// calls to a worker, joins all workers, and closes the memory. Each worker is a thread of its own and makes
-/// its calls in order; before and after each call it passes the gate. The plan's turns play no part.
+/// Runs the calls of a plan. It opens a memory with the plan's sizes and initial values, gives each port's
+/// calls to a worker, joins all workers, and closes the memory. Each worker is a thread of its own, which
+/// makes its calls in order and calls the gate before and after each. The plan's turns are ignored.
 ///
-/// All memory but that of closing is taken before the first worker starts.
+/// All memory, apart from that of closing, is taken before the first worker starts.
 ///
 /// # Errors
 ///
-/// [`RunError::Memory`] where a growth was refused or a worker couldn't be started. It comes once all workers
-/// that were started have ended, and nothing is left of the run.
+/// [`RunError::Memory`] when an allocation was refused or a worker couldn't be started. It returns when all
+/// workers that were started have ended, and nothing is left of the run.
 pub fn run_workers<R: Threads + Wait + Sync, G: Gate>(
     rt: &R,
     alloc: Global,

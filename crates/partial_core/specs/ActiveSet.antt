@@ -125,7 +125,7 @@ UpdatesFindInOrder = (z : Layout) (o : Opening) (own : ℕ) (moves : List Move) 
     ¬ IsGetting (core_of gets.last.part) →
     AreInOrder z (getting (core_of gets.first.part)) (moments_in own moves s) (core_of gets.last.part).found.indices
 
--- it keeps the lists of vacated slots, wherever it has come to
+-- it keeps the lists of vacated slots at each of its stages
 abbrev pub UpdatesKeepLists : Type 0
 UpdatesKeepLists = (z : Layout) (o : Opening) (own : ℕ) (moves : List Move) (s t : State) (gets : RunsGetSet z o own moves s t) →
     KeepsLists z (getting (core_of gets.first.part)) (moments_in own moves s) (getting (core_of gets.last.part))

@@ -92,7 +92,7 @@ pub record BeginsBetween (x : Part) (core : CoreState) : Type 0 where
 abbrev pub CallsBeginBetween : Type 0
 CallsBeginBetween = (x : Part) (core : CoreState) → IsBetween x core → BeginsBetween x core
 
--- a port is between calls as it is made, and where a call has ended and its reply was taken
+-- a port is between calls when it is made, and when a call has ended and its reply was taken
 abbrev pub PortsComeBetween : Type 0
 PortsComeBetween =
     ((z : Layout) (port : ℕ) → IsBetween (fresh_part z port) (fresh z port))

@@ -25,7 +25,7 @@ abbrev pub joins_at : CoreState → Stage → Bool
 joins_at s Joining = is_storing s.join.stage
 joins_at s _ = false
 
--- how long the history was when the port joined in this call, where it did
+-- how long the history was when the port joined in this call, if it did
 abbrev pub joined_from : ℕ → CoreState → List Kept → ℕ
 joined_from since s [] = since
 joined_from since s (k ∷ ks) = joined_from (if joins_at s s.stage then k.at else since) (advance s k.answer) ks
@@ -83,7 +83,7 @@ abbrev pub due_at : Stage → Option Due
 due_at (Exchanging c old at) = Some (record { component = c.component; old = old; value = c.value; at = at })
 due_at _ = None
 
--- what a machine holds in the words, where its port has joined at that length of the history
+-- what a machine holds in the words, when its port joined at that length of the history
 abbrev pub holding_at : CoreState → ℕ → Holding
 holding_at s since = record {
   port = s.port;

@@ -1,4 +1,4 @@
--- What a port knows, and what the answers that it keeps tell.
+-- What a port knows, and what follows from the answers that it keeps.
 use Rattle.std.specs.Prelude.{ℕ, ◌≡◌, ◌+◌, ◌<◌, ◌≤◌, ◌==◌, ⊤, true, false, List, [], ◌∷◌, ◌++◌, length, take, Option, Some, if◌then◌else◌}
 use Rattle.partial_model.specs.declared.history.Applied.{Applied}
 use Rattle.partial_model.specs.declared.history.Opening.{Opening}
@@ -14,7 +14,7 @@ use Rattle.partial_state.specs.Holdings.{Holding}
 use Rattle.partial_state.specs.Loads.{Kept, IsLoaded}
 use Rattle.partial_core.specs.Part.{Part, core_of, port_of, has_no_step}
 
--- what a load answered goes on being true
+-- what a load returned stays true
 abbrev pub IsTrueYet : Layout → Opening → List ℕ → List Holding → List Applied → Option Step → Kept → Type 0
 IsTrueYet z o words hs log (Some (Load w)) k = IsLoaded z o words hs log w k
 IsTrueYet z o words hs log _ k = ⊤

@@ -10,7 +10,7 @@ use Rattle.partial_machine.specs.Calls.{is_begun, is_at_rest}
 use Rattle.partial_machine.specs.Sound.{IsSound}
 pub use Rattle.partial_state.specs.Loads.{Kept}
 
--- A port's part of the state. `since` and `past` tell of the time at which its last call that made a step began.
+-- A port's part of the state. `since` and `past` are of the time at which its last call that made a step began.
 pub record Part : Type 0 where
   -- the beginning of the history that it has seen
   pub seen : List Applied
@@ -62,7 +62,7 @@ pub record IsMarkedLike (s c : CoreState) : Type 0 where
   pub slots : c.slots_spent ≡ s.slots_spent
   pub lists : lists_spent c ≡ lists_spent s
 
--- the machine c has begun a call where the port's machine was at rest
+-- the machine c has begun a call on the port's machine, which was at rest
 pub record HasBegun (c : CoreState) (x : Part) : Type 0 where
   pub begun : is_begun c.stage ≡ true
   pub rest : is_at_rest (core_of x).stage ≡ true
@@ -85,7 +85,7 @@ pub record IsBetween (x : Part) (core : CoreState) : Type 0 where
   pub idle : core.stage ≡ Idle
   pub sound : IsSound core
 
--- the part once its port has seen that history
+-- the part after its port has observed that history
 abbrev pub with_seen : List Applied → Part → Part
 with_seen log x = record x { seen = log }
 

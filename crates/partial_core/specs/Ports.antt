@@ -1,4 +1,4 @@
--- What a lawful state says of its ports: how they fit the history, what a look tells, and how many steps their calls have made.
+-- What a lawful state says of its ports: how they fit the history, what they learn by a look, and how many steps their calls have made.
 use Rattle.std.specs.Prelude.{ℕ, ◌≡◌, ◌+◌, ◌<◌, ◌≤◌, List, ◌∷◌, ◌++◌, length, map, take, Contains, Some, is_some, not}
 use Rattle.std.specs.List.{AllByRecursion}
 use Rattle.partial_model.specs.declared.call.Call.{Call}

@@ -1,4 +1,4 @@
--- The one law of steps: what the due step of a port leads to, and what it tells that port.
+-- The law of steps: what the due step of a port leads to, and what the port learns by it.
 use Rattle.std.specs.Prelude.{ℕ, ◌≡◌, ◌+◌, ◌<◌, ◌≤◌, ◌==◌, ⊤, List, [], ◌∷◌, ◌++◌, length, take, slice_index, nat_lt, Option, Some, None, if◌then◌else◌}
 use Rattle.partial_model.specs.declared.history.Applied.{Applied}
 use Rattle.partial_model.specs.declared.history.Opening.{Opening}
@@ -43,7 +43,7 @@ PublishesWithin z words _ = ⊤
 abbrev pub begun_with : CoreState → Part → CoreState
 begun_with c x = if is_begun c.stage then c else x.begun
 
--- the answers that are kept as the machine's next one comes: none where the call makes its first step
+-- the answers that were kept before the machine's next one: none when the call makes its first step
 abbrev pub kept_with : CoreState → Part → List Kept
 kept_with c x = if is_begun c.stage then [] else x.kept
 
@@ -93,7 +93,7 @@ pub record IsRefusal (y : Part) (cause : Refused) (new : List Noted) : Type 0 wh
   pub made : call_of y.begun ≡ Some call
   pub may : MayBeRefused y.begun.sizes.m call cause
 
--- nothing is noted while the call goes on, nor where it is refused
+-- nothing is noted while the call goes on, nor when it is refused
 abbrev pub AreNotesOf : Part → Option Reply → List Noted → Type 0
 AreNotesOf y None new = new ≡ []
 AreNotesOf y (Some (reply.Refused cause)) new = IsRefusal y cause new
@@ -133,7 +133,7 @@ pub record LeadsOn (z : Layout) (o : Opening) (words : List ℕ) (before : List 
   pub y : Part
   pub tells : Tells z o log (added_by z (port_of x) words step) x c (answer_of words step) y
   pub lawful : Lawful z o (words_after words step) (before ++ y ∷ after) (log ++ added_by z (port_of x) words step)
-  -- a published word is the same for ever
+  -- a published word stays the same forever
   pub keeps : (w : ℕ) → list_base z ≤ w → w < total z → IsPublished z words (unpublished (holdings (before ++ x ∷ after))) w →
       (slice_index (words_after words step) w ≡ slice_index words w)
       × IsPublished z (words_after words step) (unpublished (holdings (before ++ y ∷ after))) w

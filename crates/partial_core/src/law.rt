@@ -8,15 +8,15 @@ ghost use Rattle.partial_core.specs.Calls.{FirstStepsMakeCalls, FurtherStepsMake
 ghost use Rattle.partial_core.specs.Orderly.{LawfulIsOrderly, StepsAreOrderly};
 ghost use Rattle.partial_core.specs.ActiveSet.{LawfulRunsAreOrderly, UpdatesFind, UpdatesFindInOrder, UpdatesKeepLists};
 
-/// A memory as it opens is lawful, with nothing applied and no call made.
+/// A memory opens in a lawful state, with the empty history and no call made.
 pub fn memory_opens_lawful()
     ensures { OpensLawful }
 {}
 
-/// The one law of steps: from a lawful state the due step of any port, answered by the plain meaning
-/// of that step on the words, leads to a lawful state. The answer is a possible one; the history
-/// gains one entry exactly at a won exchange of a component word; and when the step ends a call
-/// that isn't refused, the port notes the call with its answer and its place, within the call.
+/// The law of steps: from a lawful state the due step of any port, answered by the plain meaning of that
+/// step on the words, leads to a lawful state. The answer is a possible one. The history gains one entry
+/// exactly when the step wins the exchange of a component word. When the step ends a call that isn't
+/// refused, the port notes the call with its answer and its place, which lies within the call.
 pub fn steps_stay_lawful()
     ensures { StepsStayLawful }
 {}
@@ -37,20 +37,20 @@ pub fn lawful_machines_are_ready()
     ensures { LawfulMachinesAreReady }
 {}
 
-/// A look by a port, the load of a component word, leads to a lawful state in which it has seen the whole
-/// history.
+/// A look by a port, the load of a component word, leads to a lawful state in which the port has observed
+/// the whole history.
 pub fn looks_stay_lawful()
     ensures { LooksStayLawful }
 {}
 
-/// In a lawful state each port's call has made no more steps than such a call may, with those that are left
-/// of it at most.
+/// In a lawful state the steps that a port's call has made, and the most that are left of it, are together
+/// no more than such a call may make.
 pub fn lawful_calls_are_bounded()
     ensures { LawfulCallsAreBounded }
 {}
 
-/// The first step of a call makes it a call that has made steps: what it keeps leads from its begin to where
-/// it is, and what it notes lies behind all that its port had seen before.
+/// The first step of a call makes it a call that has made steps: the answers that it keeps lead from its
+/// begin to where it is, and what it notes lies behind all that its port had observed before.
 pub fn first_steps_make_calls()
     ensures { FirstStepsMakeCalls }
 {}
@@ -60,24 +60,24 @@ pub fn further_steps_make_calls()
     ensures { FurtherStepsMakeCalls }
 {}
 
-/// By its kept answers a call has made no more steps than it may, a read 2, and a scan those of its positions
-/// and collects.
+/// By its kept answers a call has made no more steps than it may: a read 2, and a scan those of its
+/// positions and collects.
 pub fn made_calls_make_their_steps()
     ensures { MadeCallsMakeTheirSteps }
 {}
 
-/// A call that isn't refused at once is the next one of a port between calls; a scan of no position leaves
-/// the port there.
+/// A call that isn't refused at once is the next one of a port between calls. A scan of no position leaves
+/// the port between calls.
 pub fn calls_begin_between()
     ensures { CallsBeginBetween }
 {}
 
-/// A port is between calls as it is made, and when a call has ended and its reply was taken.
+/// A port is between calls when it is made, and when a call has ended and its reply was taken.
 pub fn ports_come_between()
     ensures { PortsComeBetween }
 {}
 
-/// The words of a lawful state are orderly, as the active set asks of the words that answer a getSet.
+/// The words of a lawful state are orderly, as the active set requires of the words that answer a getSet.
 pub fn lawful_words_are_orderly()
     ensures { LawfulIsOrderly }
 {}
@@ -94,17 +94,17 @@ pub fn lawful_runs_are_orderly()
     ensures { LawfulRunsAreOrderly }
 {}
 
-/// What the getSet of an update finds, in every run from a lawful state: it names every index of each
-/// announcement that stood in a slot from its first step to its last, and no index but those of announcements
-/// that stood in a slot at some moment of it, each once, in the order of the slots and then of the positions.
+/// What the getSet of an update finds, in every run from a lawful state: every index of each announcement
+/// that stood in a slot from its first step to its last, and no index but those of announcements that stood
+/// in a slot at some moment of it, each once, in the order of the slots and then of the positions.
 pub fn updates_find_the_active_set()
     ensures finds { UpdatesFind }
     ensures order { UpdatesFindInOrder }
 {}
 
-/// What that getSet does with the lists of vacated slots, wherever it has come to: it reads the list at the
-/// list head and loads no slot of it, and publishes whole lists alone, of the slots of the list that it read
-/// and of those that it found vacated.
+/// What that getSet does with the lists of vacated slots, at each stage: it reads the list at the list head
+/// and loads no slot of it, and it publishes whole lists only, of the slots of the list that it read and of
+/// those that it found vacated.
 pub fn updates_keep_lists()
     ensures { UpdatesKeepLists }
 {}

@@ -1,5 +1,5 @@
-//! The lawful state of a memory with the ports that work on it, and the one law of steps. The machine of
-//! a port is passed on.
+//! The lawful state of a memory with the ports that work on it, and the law of steps. The crate re-exports
+//! the machine of a port.
 #![tactic(auto)]
 
 pub mod law;

@@ -19,7 +19,7 @@ use Rattle.partial_door.specs.declared.held.Held.{Held}
 use Rattle.partial_door.specs.declared.held.Held.TheVariants as held
 use Rattle.partial_model.specs.Refusals.{refused_code}
 
--- the port's share of its memory stays
+-- the port's reference of its memory stays
 pub record IsSame (p q : OwnedPort) : Type 0 where
   pub opening : q.opening ≡ p.opening
   pub memory : arc_value q.memory ≡ arc_value p.memory
@@ -29,7 +29,7 @@ abbrev pub HoldsNoPort : Held → Type 0
 HoldsNoPort (held.Port p) = ⊥
 HoldsNoPort _ = Unit {0}
 
--- A call of a port at what is held: where that is no port the number is 17, nothing changes, and the caller's answer stays, and otherwise
+-- A call of a port on what is held: when that is no port the number is 17, nothing changes, and the caller's answer stays; otherwise
 -- the port is of the same memory, and the call did to it what is said.
 abbrev pub AtPort : Type 0 → (PortView → ℕ → PortView → Type 0) → Held → ℕ → Held → Type 0
 AtPort stays done h code k =
@@ -64,12 +64,12 @@ ReadEnds j before after p code q =
     ((code ≡ 0) × Reads p j after.value after.stamp q)
     ⊎ ((cause : Refused) × (code ≡ refused_code cause) × (after ≡ before) × (refusal p (call.Read j) ≡ Some cause) × (q ≡ p))
 
--- the stamp, or 0 where there is none
+-- the stamp, or 0 when there is none
 abbrev pub stamp_or_zero : Option ℕ → ℕ
 stamp_or_zero None = 0
 stamp_or_zero (Some stamp) = stamp
 
--- 1 where there is a stamp
+-- 1 when there is a stamp
 abbrev pub one_for_some : Option ℕ → ℕ
 one_for_some None = 0
 one_for_some (Some stamp) = 1

@@ -8,13 +8,13 @@ use Rattle.partial_words.specs.Layout.{Layout}
 use Rattle.partial_door.specs.Calls.{AtPort}
 use Rattle.partial_door.specs.Memories.{ClosesAt, CopiesValues, GivesPort, HoldsOpened, HoldsReopened, MayLose, MayNotClose, MayNotGive, MayNotOpenWith, MayNotReopenWith, MayNotTake, MeetsAt, StaysHome, TakesPort}
 
--- a call of a port at a handle: where it holds nothing the number is 17, and the caller's answer stays
+-- a call of a port on a handle: when it holds nothing the number is 17, and the caller's answer stays
 abbrev pub AtHandle : Type 0 → (PortView → ℕ → PortView → Type 0) → Option Held → ℕ → Option Held → Type 0
 AtHandle stays done before code after =
     ((before ≡ None) × (after ≡ None) × (code ≡ 17) × stays)
     ⊎ ((h : Held) × (k : Held) × (before ≡ Some h) × (after ≡ Some k) × AtPort stays done h code k)
 
--- an opening into a handle: one that holds something is as it was, and so is one where nothing opened
+-- an opening into a handle: one that holds something is as it was, and so is one for which nothing opened
 abbrev pub OpensAt : ℕ → Layout → List ℕ → ℕ → Option Held → ℕ → Option Held → Type 0
 OpensAt opening z initial ports before code after =
     ((h : Held) × (before ≡ Some h) × (after ≡ Some h) × (code ≡ 18))
@@ -43,7 +43,7 @@ TakesAt memory port code memory' port' =
     × TakesPort h p k)
     ⊎ ((memory' ≡ memory) × (port' ≡ port) × MayNotTakeAt memory port code)
 
--- a port comes home and leaves its handle empty, and otherwise both are as they were
+-- a port is returned and leaves its handle empty, or both are as they were
 abbrev pub GivesAt : Option Held → Option Held → ℕ → Option Held → Option Held → Type 0
 GivesAt memory port code memory' port' =
     ((h : Held) × (k : Held) × (p : Held) × (memory ≡ Some h) × (port ≡ Some p) × (memory' ≡ Some k) × (port' ≡ None) × (code ≡ 0)
@@ -67,7 +67,7 @@ ClosesHandle before code after =
     ⊎ ((h : Held) × (before ≡ Some h) × (after ≡ before) × MayNotClose h code)
     ⊎ ((h : Held) × (before ≡ Some h) × (after ≡ None) × (code ≡ 6) × MayLose h)
 
--- the values are copied where a closed memory is held, and otherwise the caller's stay
+-- the values are copied when a closed memory is held, and otherwise the caller's stay
 abbrev pub CopiesAt : Option Held → List ℕ → ℕ → List ℕ → Type 0
 CopiesAt held before code after =
     ((held ≡ None) × (code ≡ 17) × (after ≡ before))

@@ -11,6 +11,6 @@ use Rattle.partial_door.specs.contracts.handle.Handle as handle
 abbrev pub with_held : Handle → Held → Handle
 with_held h x = record h { held = Some x }
 
--- it ends with the last value of what was lent, and as it was where it holds nothing
+-- it ends with the last value of what was lent, and as it was when it holds nothing
 abbrev pub LendsHeld : MutBor Handle → Option (MutBor Held) → Fml
 LendsHeld h r = LendsIf handle.the_row held.the_row h r (with_held h.now) h.now

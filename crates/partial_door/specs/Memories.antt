@@ -32,7 +32,7 @@ HoldsNoClosed _ = Unit {0}
 abbrev pub layout_of : ℕ → RoomSizes → Layout
 layout_of m z = record { m = m; slots = z.slots; lists = z.lists; pool = z.pool }
 
--- a memory that has opened over these sizes with these values: all its ports are at home
+-- a memory that was opened with these sizes and values: it holds all its ports
 pub record HasOpened (opening : ℕ) (z : Layout) (initial : List ℕ) (ports : ℕ) (m : OpenMemory) : Type 0 where
   pub number : m.opening ≡ opening
   pub sizes : (arc_value m.memory).about.sizes ≡ z
@@ -62,7 +62,7 @@ GoesOnWith opening values z ports h =
 abbrev pub HoldsReopened : ℕ → Held → Layout → ℕ → Held → Type 0
 HoldsReopened opening closed z ports h = (c : Closed) × (closed ≡ held.Closed c) × GoesOnWith opening c.values.items z ports h
 
--- why so many values may not go on in such a memory: the first size that is out of its range, then the cause of the reopening
+-- why that many values may not go on in such a memory: the first size that is out of its range, then the cause of the reopening
 abbrev pub MayNotGoOn : ℕ → Layout → ℕ → ℕ → Type 0
 MayNotGoOn count z ports code =
     ((e : SizeError) × (code ≡ code_of e) × IsFirstFault z e)
@@ -74,33 +74,33 @@ MayNotReopenWith closed z ports code =
     (HoldsNoClosed closed × (code ≡ 17))
     ⊎ ((c : Closed) × (closed ≡ held.Closed c) × MayNotGoOn (length c.values.items) z ports code)
 
--- an open memory but for its ports at home
+-- an open memory, apart from the ports that it holds
 pub record IsSameMemory (m n : OpenMemory) : Type 0 where
   pub opening : n.opening ≡ m.opening
   pub count : n.count ≡ m.count
   pub memory : arc_value n.memory ≡ arc_value m.memory
 
--- the last port at home is taken out
+-- the last port that the memory holds is taken out
 abbrev pub TakesPort : Held → Held → Held → Type 0
 TakesPort h taken k =
     (m : OpenMemory) × (n : OpenMemory) × (p : OwnedPort) × (h ≡ held.Memory m) × (k ≡ held.Memory n) × (taken ≡ held.Port p)
     × IsSameMemory m n × (m.ports.items ≡ n.ports.items ++ p.port ∷ [])
     × (p.opening ≡ m.opening) × (arc_value p.memory ≡ arc_value m.memory)
 
--- why no port is taken out: there is no open memory, or no port is at home, or one is and memory is wanting
+-- why no port is taken out: there is no open memory, or it holds no port, or it holds one and an allocation was refused
 abbrev pub MayNotTake : Held → ℕ → Type 0
 MayNotTake h code =
     (HoldsNoMemory h × (code ≡ 17))
     ⊎ ((m : OpenMemory) × (h ≡ held.Memory m) × (length m.ports.items ≡ 0) × (code ≡ 21))
     ⊎ ((m : OpenMemory) × (h ≡ held.Memory m) × (0 < length m.ports.items) × (code ≡ 6))
 
--- a port comes home to its memory
+-- a port is returned to its memory
 abbrev pub GivesPort : Held → Held → Held → Type 0
 GivesPort h given k =
     (m : OpenMemory) × (n : OpenMemory) × (p : OwnedPort) × (h ≡ held.Memory m) × (k ≡ held.Memory n) × (given ≡ held.Port p)
     × (p.opening ≡ m.opening) × IsSameMemory m n × (n.ports.items ≡ m.ports.items ++ p.port ∷ [])
 
--- why a port doesn't come home: there is no open memory or no port, or the two are of two openings, or memory is wanting
+-- why a port isn't returned: there is no open memory or no port, or the two are of two openings, or an allocation was refused
 abbrev pub MayNotGive : Held → Held → ℕ → Type 0
 MayNotGive h given code =
     (HoldsNoMemory h × (code ≡ 17))
@@ -108,7 +108,7 @@ MayNotGive h given code =
     ⊎ ((m : OpenMemory) × (p : OwnedPort) × (h ≡ held.Memory m) × (given ≡ held.Port p) × (p.opening ≡ m.opening → ⊥) × (code ≡ 20))
     ⊎ ((m : OpenMemory) × (p : OwnedPort) × (h ≡ held.Memory m) × (given ≡ held.Port p) × (p.opening ≡ m.opening) × (code ≡ 6))
 
--- nothing comes home, and nothing leaves
+-- the memory holds the same ports as before
 abbrev pub StaysHome : Held → Held → Type 0
 StaysHome h k =
     (k ≡ h)
@@ -138,32 +138,32 @@ MayNotMeet g h code =
 abbrev pub MeetsAt : Held → Held → ℕ → Held → Held → Type 0
 MeetsAt g h code k l = ((code ≡ 0) × MeetPorts g h k l) ⊎ (MayNotMeet g h code × (k ≡ g) × (l ≡ h))
 
--- the closed memory is what an open one held whose ports, `front` and `last`, are all at home
+-- the closed memory is what an open one held, which holds all its ports, `front` and `last`
 abbrev pub IsClosedHome : OpenMemory → Closed → Type 0
 IsClosedHome m closed =
     (front : List PortView) × (last : PortView) × (m.ports.items ≡ front ++ last ∷ []) × (length m.ports.items ≡ m.count)
     × Closes (arc_value m.memory) (last ∷ front) closed
 
--- a memory whose ports are all at home is closed
+-- a memory that holds all its ports is closed
 abbrev pub ClosesAt : Held → Held → Type 0
 ClosesAt h k = (m : OpenMemory) × (closed : Closed) × (h ≡ held.Memory m) × (k ≡ held.Closed closed) × IsClosedHome m closed
 
--- not all ports of the memory are at home, or none is
+-- the memory doesn't hold all its ports, or holds none
 abbrev pub IsAway : OpenMemory → Type 0
 IsAway m = (length m.ports.items ≡ 0) ⊎ (length m.ports.items ≡ m.count → ⊥)
 
--- why a memory stays open: there is none, or a port isn't at home, or all are and a share of the memory is elsewhere
+-- why a memory stays open: there is none, or a port wasn't returned, or all were and a reference of the memory is in use
 abbrev pub MayNotClose : Held → ℕ → Type 0
 MayNotClose h code =
     (HoldsNoMemory h × (code ≡ 17))
     ⊎ ((m : OpenMemory) × (h ≡ held.Memory m) × (code ≡ 22) × IsAway m)
     ⊎ ((m : OpenMemory) × (h ≡ held.Memory m) × (code ≡ 24) × (length m.ports.items ≡ m.count))
 
--- where memory is wanting, the contents are lost of a memory whose ports were all at home
+-- when an allocation is refused, the contents are lost of a memory that held all its ports
 abbrev pub MayLose : Held → Type 0
 MayLose h = (m : OpenMemory) × (h ≡ held.Memory m) × (length m.ports.items ≡ m.count)
 
--- the values of a closed memory are copied where there is room for just as many, and otherwise the room is as it was
+-- the values of a closed memory are copied when there is room for just as many, and otherwise the room is as it was
 abbrev pub CopiesValues : Held → List ℕ → ℕ → List ℕ → Type 0
 CopiesValues h before code after =
     ((closed : Closed) × (h ≡ held.Closed closed) × (code ≡ 0) × (after ≡ closed.values.items))

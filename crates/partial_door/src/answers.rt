@@ -1,17 +1,18 @@
-//! What the calls answer to the caller.
+//! The answers of the calls, laid out as in C.
 
 ghost use Rattle.std.specs.Prelude.{◌≡◌};
 ghost use Rattle.partial_door.specs.Calls.{port_state as state_of, scan_answer as answer_of};
 
 use partial_memory::{Port, Scanned};
 
-/// The answer of an update.
+/// The answer of an update or a conditional update.
 #[repr(C)]
 #[derive(Clone, Copy)]
 pub struct UpdateAnswer {
-    /// The stamp of the update where it was applied, and otherwise of the one that stood in its way.
+    /// The stamp of this update when it was applied. Otherwise the stamp that the component had instead:
+    /// that of the update that overwrote this one, or another one than the expected.
     pub stamp: u64,
-    /// 1 where the update was applied, and otherwise 0.
+    /// 1 when the update was applied, otherwise 0.
     pub applied: u32,
 }
 
@@ -29,11 +30,11 @@ pub struct ReadAnswer {
 #[repr(C)]
 #[derive(Clone, Copy)]
 pub struct ScanAnswer {
-    /// The stamp of the record whose view was borrowed, or 0 where none was.
+    /// The stamp of the update whose view the scan took, or 0 when it took none.
     pub stamp: u64,
-    /// How often the components were collected.
+    /// How many collects it made: 0 for a scan of no position, otherwise 2 to r + 2 for r positions.
     pub collects: u32,
-    /// 1 where a view was borrowed, and otherwise 0.
+    /// 1 when the scan took a view, otherwise 0.
     pub borrowed: u32,
 }
 
@@ -41,27 +42,27 @@ pub struct ScanAnswer {
 #[repr(C)]
 #[derive(Clone, Copy)]
 pub struct PortState {
-    /// The number of the port: 0, 1 and so on.
+    /// The number of the port, counted from 0.
     pub number: u32,
-    /// 1 where the port is marked for the pool, and otherwise 0.
+    /// 1 when the port is marked for the pool, otherwise 0.
     pub pool_spent: u32,
-    /// 1 where the port is marked for the slots, and otherwise 0.
+    /// 1 when the port is marked for the slots, otherwise 0.
     pub slots_spent: u32,
 }
 
-/// The sizes of a memory, but for its components.
+/// The sizes of a memory, apart from the number of its components.
 #[repr(C)]
 #[derive(Clone, Copy)]
 pub struct RoomSizes {
-    /// How many scans may announce themselves.
+    /// How many scans may announce themselves: 1 to 65,536.
     pub slots: u32,
-    /// Room for lists of slots that are vacant again.
+    /// How many list words there are, for lists of vacated slots: at most 65,536.
     pub lists: u32,
-    /// Room for records and announcements.
+    /// How many pool words there are, for records and announcements: 3 for each component to 4,194,304.
     pub pool: u32,
 }
 
-/// How a scan was made, as the caller sees it.
+/// Lays out how a scan was made.
 pub fn scan_answer(scanned: Scanned) -> ScanAnswer
     ensures { result ≡ answer_of scanned }
 {
@@ -80,7 +81,7 @@ pub fn scan_answer(scanned: Scanned) -> ScanAnswer
     }
 }
 
-/// The number and the marks of a port, as the caller sees them.
+/// Lays out the number and the marks of a port.
 pub fn port_state(port: &Port) -> PortState
     ensures { result ≡ state_of port.now }
 {

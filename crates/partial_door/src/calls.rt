@@ -1,4 +1,5 @@
-//! The calls of a port, made at what a handle holds.
+//! The calls of a port, made on what a handle holds. Each returns 0 when it was answered and otherwise the
+//! number of the refusal. A refused call leaves the caller's places as they were.
 
 ghost use Rattle.std.specs.Prelude.{◌≡◌};
 ghost use Rattle.partial_door.specs.Calls.{AtPort, ReadEnds, ScanEnds, StateEnds, UpdateEnds, UpdateIfEnds};
@@ -10,6 +11,9 @@ use partial_memory::{Updated, UpdatedIf};
 
 impl Held {
     /// Sets a component.
+    ///
+    /// Returns 17 when this isn't a port, 7 when `component` isn't below the number of components, and 9
+    /// when the port is marked for the pool or this call marks it.
     pub fn update(&mut self, component: u32, value: u64, answer: &mut UpdateAnswer) -> u32
         ensures { AtPort (answer.new ≡ answer.old) (UpdateEnds component value answer.old answer.new)
             self.old result self.new }
@@ -33,7 +37,9 @@ impl Held {
         }
     }
 
-    /// Sets a component where it has the expected stamp.
+    /// Sets a component if it has the expected stamp.
+    ///
+    /// Returns numbers as [`Held::update`].
     pub fn update_if(
         &mut self,
         component: u32,
@@ -69,6 +75,8 @@ impl Held {
     }
 
     /// Reads a component.
+    ///
+    /// Returns 17 when this isn't a port, and 7 when `component` isn't below the number of components.
     pub fn read(&mut self, component: u32, answer: &mut ReadAnswer) -> u32
         ensures { AtPort (answer.new ≡ answer.old) (ReadEnds component answer.old answer.new)
             self.old result self.new }
@@ -85,7 +93,11 @@ impl Held {
         }
     }
 
-    /// Scans components.
+    /// Scans the components `which` into `into`.
+    ///
+    /// Returns 17 when this isn't a port, 19 when the two lengths differ or exceed the number of
+    /// components, 7 when an index isn't below that number, and 9 or 8 when the port is marked for the pool
+    /// or the slots, or this call marks it.
     pub fn scan(&mut self, which: &[u32], into: &mut [u64], answer: &mut ScanAnswer) -> u32
         ensures { AtPort ((into.new ≡ into.old) × (answer.new ≡ answer.old))
             (ScanEnds which.now into.old into.new answer.old answer.new) self.old result self.new }
@@ -110,7 +122,9 @@ impl Held {
         }
     }
 
-    /// Gives the number and the marks of a port.
+    /// Reports the number and the marks of a port.
+    ///
+    /// Returns 17 when this isn't a port.
     pub fn state(&self, answer: &mut PortState) -> u32
         ensures { AtPort (answer.new ≡ answer.old) (StateEnds answer.new) self.now result self.now }
     {

@@ -1,21 +1,22 @@
-//! The numbers that the calls return: 0 where all is well, and otherwise that of the refusal.
+//! The numbers that the calls return: 0 for an answer, otherwise the number of the refusal. Calls refused
+//! by the memory return the numbers of its own errors.
 
 /// The call was answered.
 pub const FINE: u32 = 0;
-/// A growth was refused.
+/// An allocation was refused.
 pub const MEMORY: u32 = 6;
-/// The handle holds none of what is asked for.
+/// The handle doesn't hold what the call needs.
 pub const HOLDS_NONE: u32 = 17;
-/// The handle holds something already.
+/// The handle that is to be filled holds something already.
 pub const HOLDS_ONE: u32 = 18;
-/// Two lengths differ, or one is too large.
+/// Two lengths differ, or exceed the number of components.
 pub const LENGTH: u32 = 19;
 /// The two handles are of two memories.
 pub const TWO_MEMORIES: u32 = 20;
-/// No port is at home.
+/// The memory holds no port.
 pub const NONE_HOME: u32 = 21;
-/// Not all ports are at home.
+/// Not all ports were returned to the memory.
 pub const NOT_ALL_HOME: u32 = 22;
-/// All ports are at home, and a share of the memory is in use. A port gives up its share when it comes home, so a
-/// caller who makes one call after the other at a handle doesn't get this number.
+/// All ports were returned, and a reference of the memory is in use. A port that is returned gives up its
+/// reference, so a caller who makes one call after the other on a handle doesn't get this number.
 pub const SHARED: u32 = 24;

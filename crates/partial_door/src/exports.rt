@@ -1,4 +1,6 @@
-//! The functions that are called from C.
+//! The functions that are called from C. Each returns 0 when the call was answered, and otherwise the
+//! number of the first refusal that holds. When it is refused, handles and answers stay as they were, apart
+//! from the one case named at [`partial_door_close`].
 
 ghost use Rattle.std.specs.Prelude.{◌≡◌, length, None, Some};
 ghost use Rattle.partial_door.specs.declared.held.Held.{Held as HeldType};
@@ -13,6 +15,9 @@ use crate::memories::{Unclosed, open};
 use std::alloc::Global;
 
 /// Sets a component.
+///
+/// Returns 17 when the handle holds no port, 7 when `component` isn't below the number of components, and 9
+/// when the port is marked for the pool or this call marks it.
 #[unsafe(no_mangle)]
 pub extern "C" fn partial_door_update(
     port: &mut Handle,
@@ -29,7 +34,9 @@ pub extern "C" fn partial_door_update(
     held.update(component, value, answer)
 }
 
-/// Sets a component where it has the expected stamp.
+/// Sets a component if it has the expected stamp.
+///
+/// Returns numbers as [`partial_door_update`].
 #[unsafe(no_mangle)]
 pub extern "C" fn partial_door_update_if(
     port: &mut Handle,
@@ -47,7 +54,9 @@ pub extern "C" fn partial_door_update_if(
     held.update_if(component, expected, value, answer)
 }
 
-/// Reads a component.
+/// Reads a component: its value and its stamp.
+///
+/// Returns 17 when the handle holds no port, and 7 when `component` isn't below the number of components.
 #[unsafe(no_mangle)]
 pub extern "C" fn partial_door_read(
     port: &mut Handle,
@@ -63,7 +72,11 @@ pub extern "C" fn partial_door_read(
     held.read(component, answer)
 }
 
-/// Scans components.
+/// Scans the components `which` into `into`.
+///
+/// Returns 17 when the handle holds no port, 19 when the two lengths differ or exceed the number of
+/// components, 7 when an index isn't below that number, and 9 or 8 when the port is marked for the pool or
+/// the slots, or this call marks it.
 #[unsafe(no_mangle)]
 pub extern "C" fn partial_door_scan(
     port: &mut Handle,
@@ -80,7 +93,9 @@ pub extern "C" fn partial_door_scan(
     held.scan(which, into, answer)
 }
 
-/// Gives the number and the marks of a port.
+/// Reports the number and the marks of a port.
+///
+/// Returns 17 when the handle holds no port.
 #[unsafe(no_mangle)]
 pub extern "C" fn partial_door_state(port: &mut Handle, answer: &mut PortState) -> u32
     ensures { AtHandle (answer.new ≡ answer.old) (StateEnds answer.new) port.old.held result port.new.held }
@@ -91,7 +106,10 @@ pub extern "C" fn partial_door_state(port: &mut Handle, answer: &mut PortState) 
     held.state(answer)
 }
 
-/// Opens a memory, with all its ports at home.
+/// Opens a memory into an empty handle. The memory holds all its ports.
+///
+/// Returns 18 when the handle holds something, 1 to 4 for the first size out of its range, 5 when there are
+/// not 1 to 64 ports, and 6 when an allocation was refused.
 #[unsafe(no_mangle)]
 pub extern "C" fn partial_door_open(
     alloc: Global,
@@ -117,7 +135,12 @@ pub extern "C" fn partial_door_open(
     }
 }
 
-/// Opens a memory that goes on with the values of a closed one, with all its ports at home.
+/// Opens a memory that goes on with the values of a closed one into an empty handle. The memory holds all
+/// its ports.
+///
+/// Returns 18 when `memory` holds something, 17 when `closed` holds no closed memory, 1 to 4 for the first
+/// size out of its range, 5 when there are not 1 to 64 ports, 13 when the closed memory has more
+/// components, and 6 when an allocation was refused.
 #[unsafe(no_mangle)]
 pub extern "C" fn partial_door_reopen(
     alloc: Global,
@@ -150,7 +173,10 @@ pub extern "C" fn partial_door_reopen(
     }
 }
 
-/// Takes the last port that is at home out of a memory.
+/// Takes the last port that a memory holds out of it, into an empty handle.
+///
+/// Returns 18 when `port` holds something, 17 when `memory` holds no open memory, 21 when that memory holds
+/// no port, and 6 when an allocation was refused.
 #[unsafe(no_mangle)]
 pub extern "C" fn partial_door_take_port(
     alloc: Global,
@@ -177,7 +203,10 @@ pub extern "C" fn partial_door_take_port(
     }
 }
 
-/// Lets a port come home to its memory.
+/// Returns a port to its memory. Its handle is empty afterwards.
+///
+/// Returns 17 when `memory` holds no open memory or `port` no port, 20 when the port is of another memory,
+/// and 6 when an allocation was refused.
 #[unsafe(no_mangle)]
 pub extern "C" fn partial_door_give_port(
     alloc: Global,
@@ -202,7 +231,9 @@ pub extern "C" fn partial_door_give_port(
     }
 }
 
-/// Lets two ports of a memory see all that either has seen.
+/// Merges what two ports of a memory have observed.
+///
+/// Returns 17 when a handle holds no port, and 20 when the ports are of two memories.
 #[unsafe(no_mangle)]
 pub extern "C" fn partial_door_meet(first: &mut Handle, second: &mut Handle) -> u32
     requires { (h k : HeldType) → first.old.held ≡ Some h → second.old.held ≡ Some k → AreApart h k }
@@ -217,7 +248,11 @@ pub extern "C" fn partial_door_meet(first: &mut Handle, second: &mut Handle) -> 
     one.meet(other)
 }
 
-/// Closes a memory whose ports are all at home.
+/// Closes a memory to which all ports were returned. Its handle holds the closed memory afterwards.
+///
+/// Returns 17 when the handle holds no open memory, 22 when not all ports were returned, and 24 when all
+/// were and a reference of the memory is in use. Returns 6 when an allocation was refused: then the
+/// contents are lost and the handle is empty.
 #[unsafe(no_mangle)]
 pub extern "C" fn partial_door_close(alloc: Global, memory: &mut Handle) -> u32
     ensures { ClosesHandle memory.old.held result memory.new.held }
@@ -236,6 +271,9 @@ pub extern "C" fn partial_door_close(alloc: Global, memory: &mut Handle) -> u32
 }
 
 /// Copies the values of a closed memory.
+///
+/// Returns 17 when the handle holds no closed memory, and 19 when `into` isn't as long as that memory has
+/// components.
 #[unsafe(no_mangle)]
 pub extern "C" fn partial_door_values(closed: &mut Handle, into: &mut [u64]) -> u32
     ensures same { closed.new.held ≡ closed.old.held }
@@ -247,7 +285,7 @@ pub extern "C" fn partial_door_values(closed: &mut Handle, into: &mut [u64]) -> 
     held.copy_values(into)
 }
 
-/// Empties a handle.
+/// Empties a handle and frees what it held. Returns 0.
 #[unsafe(no_mangle)]
 pub extern "C" fn partial_door_free(alloc: Global, handle: &mut Handle) -> u32
     ensures code { result ≡ 0 }

@@ -1,4 +1,4 @@
-//! The handle that the caller keeps: nothing, or a box of what it holds.
+//! The handle that the caller keeps: a box of what it holds, or nothing.
 
 ghost use Rattle.std.specs.Prelude.{◌≡◌, IfOk, IfErr, Option};
 ghost use Rattle.std.specs.Option.{MatchOption};
@@ -13,7 +13,7 @@ use std::marker::Model;
 use std::mem;
 use std::ptr::null_mut;
 
-/// A handle in the caller's memory. It is one pointer: null where it holds nothing.
+/// A handle in the caller's memory. It is one pointer, which is null when the handle is empty.
 #[repr(C)]
 pub struct Handle {
     ptr: *mut u8,
@@ -26,7 +26,7 @@ impl Model for Handle {
 }
 
 impl Handle {
-    // A handle that holds nothing.
+    // Makes an empty handle.
     fn empty(alloc: Global) -> Handle
         ensures { result.held ≡ None }
     {
@@ -65,7 +65,7 @@ impl Handle {
     ghost use Rattle.std.specs.Borrow.{sem};
     ghost use Rattle.partial_door.specs.Lending.{LendsHeld};
 
-    /// Lends what the handle holds, in its place.
+    /// Borrows what the handle holds.
     pub fn held(&mut self) -> Option<&mut Held>
         ensures* writes_back { sem 𝓛 (LendsHeld self.entry result) }
         ensures lent { MatchOption result (self.old.held ≡ None) (λ r. self.old.held ≡ Some r.now) }
@@ -77,7 +77,7 @@ impl Handle {
         unsafe { Some(&mut *ptr) }
     }
 
-    /// Takes out what the handle holds, and leaves nothing.
+    /// Takes out what the handle holds, and leaves it empty.
     pub fn take(&mut self, alloc: Global) -> Option<Box<Held>>
         ensures left { self.new.held ≡ None }
         ensures taken { MatchOption result (self.old.held ≡ None) (λ b. self.old.held ≡ Some b.value) }
@@ -88,7 +88,7 @@ impl Handle {
         }
     }
 
-    /// Puts this into the handle.
+    /// Puts this into the handle, and frees what it held before.
     pub fn put(&mut self, held: Box<Held>)
         ensures { self.new.held ≡ Some held.value }
     {

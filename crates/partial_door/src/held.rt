@@ -1,4 +1,5 @@
-//! What a handle holds: an open memory with the ports that are at home, one port, or a closed memory.
+//! What a handle holds: an open memory with the ports that were returned to it, one port, or a closed
+//! memory.
 
 ghost use Rattle.std.specs.Prelude.{◌≡◌};
 ghost use Rattle.std.specs.Arc.{arc_value};
@@ -12,28 +13,28 @@ use std::sync::Arc;
 /// An open memory, with those of its ports that nobody has taken.
 #[derive(Drop)]
 pub struct OpenMemory {
-    /// The number of the opening, by which ports of two memories are told apart.
+    /// The number of the opening, which tells ports of two memories apart.
     pub opening: u64,
     /// How many components the memory has.
     pub components: u32,
     /// How many ports the memory was opened with.
     pub count: u32,
-    /// The memory.
+    /// A reference of the memory.
     pub memory: Arc<Memory, Global>,
-    /// The ports that are at home.
+    /// The ports that the memory holds.
     pub ports: Vec<Port>,
     ghost size: { components ≡ (arc_value memory).about.sizes.m },
     ghost of: { AreOf (arc_value memory) ports.items } by { AreOf-prop (arc_value memory) ports.items },
 }
 
-/// A port with its share of the memory that it belongs to, so that it can be used alone.
+/// A port with its own reference of the memory, so that it can be used alone.
 #[derive(Drop)]
 pub struct OwnedPort {
-    /// The number of the opening.
+    /// The number of the opening, which tells ports of two memories apart.
     pub opening: u64,
     /// How many components the memory has.
     pub components: u32,
-    /// The port's share of the memory.
+    /// The port's reference of the memory.
     pub memory: Arc<Memory, Global>,
     /// The port.
     pub port: Port,

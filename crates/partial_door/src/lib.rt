@@ -1,4 +1,4 @@
-//! A door for callers from C to the running memory.
+//! The running memory for callers from C: handles, and functions that return numbers.
 #![tactic(auto)]
 
 mod answers;

@@ -1,4 +1,4 @@
-//! The calls at the handle of a memory.
+//! The calls on the handle of a memory. A refused call returns the number of the refusal.
 
 ghost use Rattle.std.specs.Prelude.{◌≡◌, length, IfOk, IfErr};
 ghost use Rattle.partial_words.specs.Layout.{IsLayout};
@@ -20,7 +20,7 @@ use std::alloc::Global;
 use std::mem;
 use std::sync::Arc;
 
-// The sizes, or the number of the first one that is out of its range.
+// Checks the sizes. Returns the number of the first one that is out of its range.
 fn sizes_of(components: usize, room: &RoomSizes) -> Result<Sizes, u32>
     ensures ok { IfOk result (λ s. (s ≡ layout_of components room.now) × IsLayout s) }
     ensures err { IfErr result (λ code. (e : SizeErrorType) × (code ≡ code_of e) ×
@@ -35,7 +35,7 @@ fn sizes_of(components: usize, room: &RoomSizes) -> Result<Sizes, u32>
     }
 }
 
-// An opened memory, of so many components and so many ports, all of which are at home.
+// Boxes an opened memory with so many components and so many ports, all of which it holds.
 fn at_home(
     alloc: Global,
     opening: u64,
@@ -65,7 +65,11 @@ fn at_home(
     }
 }
 
-/// Opens a memory with all its ports at home.
+/// Opens a memory that holds all its ports.
+///
+/// # Errors
+/// 1 to 4 for the first size out of its range, 5 when there are not 1 to 64 ports, and 6 when an allocation
+/// was refused. Nothing is left of the attempt.
 pub fn open(
     alloc: Global,
     opening: u64,
@@ -106,7 +110,13 @@ fn reopen_closed(
 }
 
 impl Held {
-    /// Opens a memory that goes on with the values of a closed one, with all its ports at home.
+    /// Opens a memory that goes on with the values of a closed one, and holds all its ports. The closed
+    /// memory stays.
+    ///
+    /// # Errors
+    /// 17 when this isn't a closed memory, 1 to 4 for the first size out of its range, 5 when there are not
+    /// 1 to 64 ports, 13 when the closed memory has more components, and 6 when an allocation was refused.
+    /// Nothing is left of the attempt.
     pub fn reopen(
         &self,
         alloc: Global,
@@ -125,7 +135,7 @@ impl Held {
     }
 }
 
-/// What a handle holds that waits for something else.
+/// Makes a closed memory of no component. It stands in a box until something else is put there.
 pub fn nothing(alloc: Global) -> Held {
     Held::Closed(Closed {
         values: Vec::new(alloc),
@@ -134,7 +144,11 @@ pub fn nothing(alloc: Global) -> Held {
 }
 
 impl Held {
-    /// Takes out the last port that is at home.
+    /// Takes out the last port that the memory holds.
+    ///
+    /// # Errors
+    /// 17 when this isn't an open memory, 21 when it holds no port, and 6 when an allocation was refused.
+    /// The memory is as it was.
     pub fn take_port(&mut self, alloc: Global) -> Result<Box<Held>, u32>
         ensures ok { IfOk result (λ b. TakesPort self.old b.value self.new) }
         ensures err { IfErr result (λ code. (self.new ≡ self.old) × MayNotTake self.old code) }
@@ -164,7 +178,12 @@ impl Held {
         Ok(taken)
     }
 
-    /// Lets a port come home.
+    /// Returns a port to its memory.
+    ///
+    /// # Errors
+    /// 17 when this isn't an open memory or `given` isn't a port, 20 when the port is of another memory,
+    /// and 6 when an allocation was refused. The memory is as it was, and `given` comes back with the
+    /// number.
     pub fn give_port(&mut self, given: Box<Held>) -> Result<(), (u32, Box<Held>)>
         requires { AreApart self.old given.value }
         ensures ok { IfOk result (λ _. GivesPort self.old given.value self.new) }
@@ -191,7 +210,7 @@ impl Held {
     }
 }
 
-// What a memory comes to that isn't closed.
+// Why a memory wasn't closed, and what is left of it.
 #[derive(Drop)]
 enum Kept {
     Away(OpenMemory),
@@ -200,7 +219,7 @@ enum Kept {
 }
 
 impl OpenMemory {
-    /// Closes the memory, where all its ports are at home and nobody else has a share of it.
+    /// Closes the memory when it holds all its ports and no other reference of it is in use.
     fn close(self, alloc: Global) -> Result<Closed, Kept>
         ensures ok { IfOk result (λ c. IsClosedHome self c) }
         ensures err { IfErr result (λ k. IsKept self k) }
@@ -238,17 +257,22 @@ impl OpenMemory {
     }
 }
 
-/// Why a memory isn't closed.
+/// Why a memory wasn't closed.
 #[derive(Clone, Copy)]
 pub enum Unclosed {
-    /// It is as it was, for the refusal with this number.
+    /// The memory is as it was. This is the number of the refusal: 17, 22 or 24.
     Kept(u32),
-    /// A growth was refused, and the contents are lost.
+    /// An allocation was refused, and the contents are lost.
     Lost,
 }
 
 impl Held {
-    /// Closes a memory whose ports are all at home.
+    /// Closes a memory to which all ports were returned.
+    ///
+    /// # Errors
+    /// [`Unclosed::Kept`] with 17 when this isn't an open memory, with 22 when not all ports were returned,
+    /// and with 24 when all were and a reference of the memory is in use. [`Unclosed::Lost`] when an
+    /// allocation was refused.
     pub fn close(&mut self, alloc: Global) -> Result<(), Unclosed>
         ensures ok { IfOk result (λ _. ClosesAt self.old self.new) }
         ensures err { IfErr result (IsUnclosed self.old self.new) }
@@ -276,7 +300,10 @@ impl Held {
         }
     }
 
-    /// Lets two ports meet.
+    /// Merges what two ports have observed.
+    ///
+    /// Returns 17 when one of the two isn't a port, and 20 when they are of two memories. Both are as they
+    /// were then.
     pub fn meet(&mut self, other: &mut Held) -> u32
         requires { AreApart self.old other.old }
         ensures { MeetsAt self.old other.old result self.new other.new }
@@ -295,6 +322,9 @@ impl Held {
     }
 
     /// Copies the values of a closed memory.
+    ///
+    /// Returns 17 when this isn't a closed memory, and 19 when `into` isn't as long as it has components.
+    /// `into` is as it was then.
     pub fn copy_values(&self, into: &mut [u64]) -> u32
         ensures { CopiesValues self.now into.old result into.new }
     {

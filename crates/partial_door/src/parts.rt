@@ -1,10 +1,11 @@
-// A box as its pointer and its allocator, in sight of the module that keeps them in a handle.
+// A box as its pointer and its allocator, for the module that keeps them in a handle.
 ghost use Rattle.std.specs.Prelude.{◌≡◌};
 ghost use Rattle.std.specs.Box.Ownership.{box_owns};
 
 use std::alloc::Allocator;
 use std::marker::Model;
 
+/// A box taken apart.
 pub struct Parts<T, A: Allocator> {
     pub(crate) ptr: *mut T,
     pub(crate) alloc: A,
@@ -16,6 +17,7 @@ impl<T, A: Allocator> Model for Parts<T, A> {
 }
 
 impl<T, A: Allocator> Parts<T, A> {
+    /// Takes a box apart.
     pub fn of(b: Box<T, A>) -> Parts<T, A>
     where
         T: Drop,
@@ -25,6 +27,7 @@ impl<T, A: Allocator> Parts<T, A> {
         Parts { ptr, alloc }
     }
 
+    /// Puts the box together again.
     pub fn into_box(self) -> Box<T, A>
         ensures { result.value ≡ self.value }
     {

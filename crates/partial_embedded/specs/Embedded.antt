@@ -83,7 +83,7 @@ noted p k x =
     let changed : List Bool = slice_set p.1.changed k (differs p k x || was_changed p k) in
     (record p.0 { moved = p.0.moved || differs p k x }, record p.1 { last = slice_set p.1.last k x; changed = changed })
 
--- the collect is whole: another one is made where it was the first or has shown a change
+-- the collect is whole: another one is made when it was the first or has shown a change
 abbrev pub after_collect : Pair → Pair
 after_collect p =
     if is_first p || p.0.moved then (record p.0 { collects = p.0.collects + 1; moved = false; stage = Collect 0 }, p.1)
@@ -93,7 +93,7 @@ after_collect p =
 abbrev pub go_on : ℕ → Pair → ℕ → Pair
 go_on r p k = if nat_lt (k + 1) r then at_stage p (Collect (k + 1)) else after_collect p
 
--- a load of position k in a collect: where it differs from the last one and the position had changed before, a view is borrowed
+-- a load of position k in a collect: when it differs from the last one and the position had changed before, a view is borrowed
 abbrev pub after_load : ℕ → Pair → ℕ → ℕ → Pair
 after_load r p k x = if differs p k x && was_changed p k then borrow p x else go_on r (noted p k x) k
 

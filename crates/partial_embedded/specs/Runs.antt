@@ -67,7 +67,7 @@ EndsInEqualCollectsOrAThirdRecord =
     (q.0.stage ≡ Value 0 → LastTwoAreEqual (length indices) xs q.0.collects)
     × ((stamp : ℕ) → q.0.stage ≡ View stamp → ShowsThirdRecord (length indices) xs q.0.collects stamp)
 
--- the values of the components once these loads were taken in, position by position: where one repeats the last load counts
+-- the values of the components after these loads, position by position: when a component is repeated its last load counts
 abbrev pub written : List ℕ → List ℕ → List ℕ → List ℕ
 written [] loads values = values
 written (j ∷ js) [] values = values

@@ -11,7 +11,7 @@ use crate::rows::Rows;
 use partial_words::{Sizes, Step, value_word, view_word};
 use std::marker::Model;
 
-/// Where an embedded scan is: the step that is due, and what it needs for it.
+/// The stage of an embedded scan: the load that is due, and what it needs. `at` is the number of the word.
 #[derive(Clone, Copy, Debug, PartialEq, Eq)]
 pub enum Stage {
     /// Load the component word of a position.
@@ -20,20 +20,20 @@ pub enum Stage {
     View { stamp: u64 },
     /// Load the number of pairs of the view at this word.
     Len { at: u64 },
-    /// Load the index of a pair at this word. So many pairs are left, this one with them.
+    /// Load the index of a pair at this word. `left` pairs are left, this one included.
     Index { at: u64, left: u64 },
     /// Load the value of the pair with this index, at this word.
     PairValue { at: u64, left: u64, index: u32 },
     /// Load the value of a position's record.
     Value { position: usize },
-    /// Nothing is due.
+    /// No step is due.
     Done,
 }
 
-/// An embedded scan under way. It collects the component words of its positions, again and again, until
-/// two collects agree or one position shows a third record. In the first case it loads the values of the
-/// records, in the second it borrows that record's view.
-// The wide fields come first, so that no room is left between fields: it would be copied with them.
+/// An embedded scan under way. It collects the component words of its positions until two collects are
+/// equal (a double collect) or one position shows its third record. In the first case it loads the values
+/// of the records. In the second it is helped: it takes the view of that record.
+// The wide fields come first, so that there is no padding: padding would be copied with them.
 #[derive(Debug, Drop)]
 pub struct Embedded {
     stage: Stage,
@@ -70,8 +70,8 @@ impl Embedded {
     ghost use Rattle.partial_words.specs.declared.step.Step.TheVariants.{Load};
     ghost use Rattle.partial_embedded.specs.Embedded.{ArePositions, fresh, step_of, step_at, advance, left_of, most_steps, after_view, advance_at};
 
-    /// An embedded scan that has made no step. One that shares stops at the reference of a view that it
-    /// borrows; another one loads the pairs.
+    /// Makes an embedded scan before its first step. When `shares` is true it takes the reference of
+    /// another record's view and stops there; otherwise it loads the view's pairs.
     #[inline(always)]
     pub fn new(sizes: Sizes, shares: bool) -> Embedded
         ensures state { result ≡ fresh sizes shares }
@@ -80,7 +80,7 @@ impl Embedded {
         ensures steps { (indices : List ℕ) (rows : RowsState) →
             left_of indices (result, rows) ≡ most_steps sizes (length indices) }
     {
-        // The getter tells that the sizes are in their ranges.
+        // The contract of the getter says that the sizes are in their ranges.
         let _components = sizes.m();
         Embedded {
             sizes,
@@ -93,7 +93,7 @@ impl Embedded {
         }
     }
 
-    /// The step that is due, or `None` once the scan is finished.
+    /// The step that is due. `None` when the scan is finished.
     #[inline(always)]
     pub fn step(&self, rows: &Rows, indices: &[u32]) -> Option<Step>
         requires { GoTogether indices.now (self.now, rows.now) }
@@ -106,7 +106,7 @@ impl Embedded {
         }
     }
 
-    /// How many collects were begun, the one under way with them.
+    /// How many collects were begun, the one under way included.
     #[inline(always)]
     pub fn collects(&self) -> u32
         ensures { result ≡ self.now.collects }
@@ -115,7 +115,7 @@ impl Embedded {
         *collects
     }
 
-    /// The stamp of the record whose view is borrowed, if one is.
+    /// The stamp of the record whose view the scan took, if it took one.
     #[inline(always)]
     pub fn borrowed(&self) -> Option<u64>
         ensures { result ≡ self.now.borrowed }
@@ -124,7 +124,7 @@ impl Embedded {
         *borrowed
     }
 
-    /// The reference of the borrowed view: 0 where it is the empty one, or none is borrowed.
+    /// The reference of the view that the scan took. It is 0 for the empty view, and when it took none.
     #[inline(always)]
     pub fn view(&self) -> u64
         ensures { result ≡ self.now.view }
@@ -133,8 +133,8 @@ impl Embedded {
         *view
     }
 
-    /// Takes the answer of the step that was due, with the buffers and the positions of this scan. Once
-    /// the scan is finished, the buffers have the values.
+    /// Takes the answer of the step that was due, with the buffers and the positions of this scan. When the
+    /// scan is finished, the buffers have the values.
     #[inline(always)]
     pub fn answer(&mut self, rows: &mut Rows, indices: &[u32], x: u64)
         requires together { GoTogether indices.now (self.old, rows.old) }
@@ -146,7 +146,7 @@ impl Embedded {
         self.take_in(rows, indices, x);
     }
 
-    // What the answer makes of the machine and its buffers.
+    // Changes the machine and its buffers by the answer.
     #[inline(always)]
     fn take_in(&mut self, rows: &mut Rows, indices: &[u32], x: u64)
         requires together { GoTogether indices.now (self.old, rows.old) }
@@ -161,7 +161,7 @@ impl Embedded {
         self.after_answer(last, changed, values, indices, x);
     }
 
-    // The word that is due to be loaded.
+    // The number of the word whose load is due.
     #[inline(always)]
     fn due_word(&self, last: &[u64], indices: &[u32]) -> Option<u64>
         requires { ((changed : List Bool) × (values : List ℕ) ×
@@ -184,7 +184,7 @@ impl Embedded {
         })
     }
 
-    // The step that was due was answered.
+    // Takes the answer, with the buffers apart.
     #[inline(always)]
     fn after_answer(
         &mut self,
@@ -225,7 +225,7 @@ impl Embedded {
         }
     }
 
-    // The value of a position's record was loaded.
+    // Takes the answer of the load of a record's value.
     #[inline(always)]
     fn after_value(&mut self, values: &mut [u64], indices: &[u32], position: usize, x: u64)
         requires position { position < length indices.now }
@@ -243,7 +243,7 @@ impl Embedded {
         };
     }
 
-    // The reference of the view of the borrowed record was loaded.
+    // Takes the answer of the load of the view's reference.
     #[inline(always)]
     fn after_view(&mut self, x: u64)
         ensures { self.new ≡ after_view self.old x }
@@ -263,7 +263,7 @@ impl Embedded {
     ghost use Rattle.partial_words.specs.Layout.{pool_base, pool_end};
     ghost use Rattle.partial_embedded.specs.Embedded.{IsPossibleAt};
 
-    // Whether the number may answer the step that is due.
+    // Whether the number is a possible answer of the step that is due.
     pub(crate) fn may_answer(&self, x: u64) -> bool
         ensures { IsTrue result → IsPossibleAt self.now.sizes self.now.stage x }
     {
@@ -293,7 +293,7 @@ impl Embedded {
     }
 }
 
-// The stage with so many pairs left, from that word on.
+// The stage with `left` pairs left, from word `at` on.
 #[inline(always)]
 fn pairs_from(at: u64, left: u64) -> Stage
     ensures { result ≡ pairs_from at left }

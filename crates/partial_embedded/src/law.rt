@@ -13,14 +13,14 @@ pub fn makes_few_collects()
     ensures { MakesFewCollects }
 {}
 
-/// An embedded scan loads values only when its last two collects are equal, and it borrows a view only
-/// from a record that is the third one at some position.
+/// An embedded scan loads values only when its last two collects are equal. It takes a view only of a
+/// record that is the third one at some position.
 pub fn ends_in_equal_collects_or_a_third_record()
     ensures { EndsInEqualCollectsOrAThirdRecord }
 {}
 
-/// A finished embedded scan has the values that it loaded behind two equal collects, or it has borrowed the
-/// view of the record that was the third one at some position, at which it left its collect at once.
+/// A finished embedded scan either has the values that it loaded behind two equal collects, or has taken
+/// the view of the record that was the third one at some position, at which it left its collect at once.
 pub fn finished_scans_end_well()
     ensures { FinishedScansEndWell }
 {}

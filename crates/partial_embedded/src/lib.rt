@@ -1,7 +1,7 @@
-//! The embedded scan as a pure machine: it collects the component words of its positions until two
-//! collects agree or one position shows a third record, and loads the view that this gives. The machine
-//! says which atomic step is due and takes its answer, or makes its loads by itself, to its end, through
-//! whoever loads words for it.
+//! The embedded scan as a pure machine. It collects the component words of its positions until two collects
+//! are equal or one position shows its third record; then it loads the values, or takes that record's view.
+//! The machine says which atomic step is due and takes its answer. It can also make all its loads through
+//! [`Loads`].
 #![tactic(auto)]
 
 pub mod embedded;

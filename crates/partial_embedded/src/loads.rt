@@ -1,25 +1,25 @@
-//! What an embedded scan asks of the words that it loads.
+//! What an embedded scan needs of the words that it loads.
 
 ghost use Rattle.std.specs.Prelude.{◌≡◌, ℕ, List, Some};
 ghost use Rattle.partial_words.specs.declared.step.Step.TheVariants.{Load};
 ghost use Rattle.partial_embedded.specs.Embedded.{Pair, IsPossible, advance, step_of};
 
-/// The loads of one embedded scan, which other ports' steps may come between. To contracts it is what it has
-/// come to: the scan with its buffers, and its positions.
+/// The loads of one embedded scan. Other ports may make steps between them. To contracts it is the scan
+/// with its buffers and its positions, as its answers so far have left them.
 pub trait Loads {
-    /// A call is under way that makes the loads.
+    /// The call that makes the loads is under way.
     ghost goes: { Self → Type 0 };
 
-    /// The embedded scan and its buffers, with all answers so far.
+    /// The embedded scan and its buffers, after all answers so far.
     ghost scan: { Self → Pair };
 
     /// The positions of the embedded scan.
     ghost positions: { Self → List ℕ };
 
-    /// The first has come to the second by further loads of that scan alone.
+    /// From the first to the second only further loads of that scan were made.
     ghost follows: { Self → Self → Type 0 };
 
-    /// Loads the word that is due, and gives what it found there.
+    /// Loads the word that is due, and returns its value.
     fn load(&mut self, word: u64) -> u64
         requires goes { goes self.old }
         requires due { step_of (positions self.old) (scan self.old) ≡ Some (Load word) }
@@ -29,9 +29,9 @@ pub trait Loads {
         ensures positions { positions self.new ≡ positions self.old }
         ensures follows { follows self.old self.new };
 
-    /// By no load it stays where it is.
+    /// Without a load it stays the same.
     ghost follows_itself: { (x : Self) → follows x x };
 
-    /// Loads follow on loads.
+    /// Further loads of further loads are further loads.
     ghost follows_on: { (x y z : Self) → follows x y → follows y z → follows x z };
 }

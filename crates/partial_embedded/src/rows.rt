@@ -7,8 +7,8 @@ use partial_words::Sizes;
 use std::alloc::{AllocError, Global};
 use std::marker::Model;
 
-/// What an embedded scan has loaded: of each position the latest reference and whether it has changed,
-/// and of each component its value. All room is taken when they are made.
+/// What an embedded scan has loaded: of each position the latest reference and whether it has changed, and
+/// of each component its value. All room is taken when they are made.
 #[derive(Debug, Drop)]
 pub struct Rows {
     pub(crate) last: Vec<u64>,
@@ -27,8 +27,10 @@ impl Model for Rows {
 impl Rows {
     ghost use Rattle.partial_embedded.specs.Embedded.{IsFor};
 
-    /// The buffers for a memory of these sizes, in which nothing is loaded. They are refused where the
-    /// memory for them is.
+    /// Makes empty buffers for a memory of these sizes.
+    ///
+    /// # Errors
+    /// [`AllocError`] when an allocation was refused.
     pub fn new(alloc: Global, sizes: Sizes) -> Result<Rows, AllocError>
         ensures sizes { IfOk result (IsFor sizes) }
         ensures empty { IfOk result (λ rows.
@@ -46,8 +48,8 @@ impl Rows {
         })
     }
 
-    /// The value that the finished scan gives the component, where that is one of its positions' or one
-    /// of the borrowed view's.
+    /// The value of a component after a finished scan, for a component of its positions or of the view that
+    /// it took.
     #[inline(always)]
     pub fn value(&self, component: u32) -> u64
         requires { component < length self.now.values }
@@ -57,7 +59,7 @@ impl Rows {
         values[component as usize]
     }
 
-    /// Copies the values of these components, as [`Rows::value`] gives them.
+    /// Copies the values of these components, as [`Rows::value`] returns them.
     pub fn copy_values(&self, components: &[u32], into: &mut [u64])
         requires lengths { length into.old ≡ length components.now }
         requires components { (k : ℕ) → k < length components.now →

@@ -9,7 +9,7 @@ use std::alloc::{AllocError, Global};
 use std::process::Abort;
 use std::test::Fail;
 
-// What came of an embedded scan of a memory with two components.
+// The result of an embedded scan of a memory with two components.
 #[derive(Debug, Drop)]
 struct Scanned {
     steps: Vec<Step>,
@@ -39,8 +39,8 @@ fn are_positions(sizes: Sizes, indices: &[u32]) -> bool
         && indices.iter().all(|component| *component < sizes.m())
 }
 
-// Makes the changes of other ports that come before the step with this number. A change says before
-// which step it comes, counted from 0, which word it sets, and to what.
+// Makes the changes of other ports that come before the step with this number. A change is the number of
+// the step before which it comes, counted from 0, the word that it sets, and the new value.
 fn change(rt: &impl Abort, words: &mut [u64], changes: &[(usize, u32, u64)], step: usize) {
     for (before, word, value) in changes {
         let at = *word as usize;
@@ -76,7 +76,7 @@ fn drive(
     Ok(steps)
 }
 
-// An embedded scan with these buffers, from its first step to its last.
+// Makes an embedded scan with these buffers, from its first step to its last.
 fn scan_into(
     rt: &impl Abort,
     alloc: Global,
@@ -103,7 +103,7 @@ fn scan_into(
     })
 }
 
-// An embedded scan of a memory that opens with the values 5 and 7. Its pool begins at word 18: the
+// Makes an embedded scan of a memory that opens with the values 5 and 7. Its pool begins at word 18: the
 // component words open with 18 and 21, and words 19 and 22 are the values of those records.
 fn scan(
     rt: &impl Abort,
@@ -117,7 +117,7 @@ fn scan(
     Ok(scan_into(rt, alloc, &mut rows, sizes, indices, shares, changes)?)
 }
 
-// The collects agree at once: the second is the last.
+// The first two collects are equal: the second is the last.
 #[test]
 fn equal_collects(rt: HostRuntime) -> Result<(), Fail> {
     let scanned = scan(&rt, rt.alloc(), &[0, 1], false, &[])?;
@@ -130,7 +130,7 @@ fn equal_collects(rt: HostRuntime) -> Result<(), Fail> {
     Ok(())
 }
 
-// Component 0 gets the record at word 24 between the first two collects: it takes a third one.
+// Component 0 gets the record at word 24 between the first two collects: the scan makes a third one.
 #[test]
 fn component_changed_once(rt: HostRuntime) -> Result<(), Fail> {
     let changes = [(2, 25, 9), (2, 0, 24)];
@@ -157,8 +157,8 @@ fn each_component_changed_once(rt: HostRuntime) -> Result<(), Fail> {
     Ok(())
 }
 
-// Component 0 shows its third record in the third collect, which is left at once. That record, at word
-// 27, has a view at word 30 with two pairs.
+// Component 0 shows its third record in the third collect, which ends at once. That record, at word 27, has
+// a view at word 30 with two pairs.
 #[test]
 fn borrowed_view(rt: HostRuntime) -> Result<(), Fail> {
     let changes = [
@@ -201,8 +201,8 @@ fn most_steps_of_one_position(rt: HostRuntime) -> Result<(), Fail> {
     Ok(())
 }
 
-// Component 0 changes between the first two collects, component 1 between the next two and again
-// between the last two. The fourth collect is left at its end, and its record's view has one pair.
+// Component 0 changes between the first two collects, component 1 between the next two and again between
+// the last two. The fourth collect ends there, and its record's view has one pair.
 #[test]
 fn third_record_in_the_last_collect(rt: HostRuntime) -> Result<(), Fail> {
     let changes = [
@@ -237,7 +237,7 @@ fn shared_view(rt: HostRuntime) -> Result<(), Fail> {
     Ok(())
 }
 
-// A scan that shares loads the values of its records where two collects agree, as every scan does.
+// A scan that shares loads the values of its records when two collects are equal, as every scan does.
 #[test]
 fn shares_nothing_without_a_third_record(rt: HostRuntime) -> Result<(), Fail> {
     let scanned = scan(&rt, rt.alloc(), &[1], true, &[])?;
@@ -262,8 +262,8 @@ fn borrowed_empty_view(rt: HostRuntime) -> Result<(), Fail> {
     Ok(())
 }
 
-// One component at two positions, with a new record between its two loads of the first collect: the
-// second collect shows a change at the first of them alone, and the third one none.
+// One component at two positions, with a new record between its two loads of the first collect: the second
+// collect shows a change at the first of them only, and the third one none.
 #[test]
 fn repeated_position(rt: HostRuntime) -> Result<(), Fail> {
     let changes = [(1, 25, 9), (1, 1, 24)];
@@ -275,7 +275,7 @@ fn repeated_position(rt: HostRuntime) -> Result<(), Fail> {
     Ok(())
 }
 
-// Component 0 gets another record with the value that it had: references are compared and not values.
+// Component 0 gets another record with the value that it had: references are compared, not values.
 #[test]
 fn value_set_back(rt: HostRuntime) -> Result<(), Fail> {
     let changes = [(1, 25, 5), (1, 0, 24)];
@@ -287,8 +287,8 @@ fn value_set_back(rt: HostRuntime) -> Result<(), Fail> {
     Ok(())
 }
 
-// The second scan with the same buffers takes nothing of what the first one noted: one change of a
-// position that showed two before is its first.
+// The second scan with the same buffers uses nothing of what the first one noted: the change of a position
+// that changed twice in the first scan counts as its first one.
 #[test]
 fn buffers_used_again(rt: HostRuntime) -> Result<(), Fail> {
     let sizes = Sizes::new(2, 4, 8, 64)?;

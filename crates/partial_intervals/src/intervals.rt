@@ -1,5 +1,5 @@
-//! The set of intervals: its room is fixed when it is made, look-ups go by binary search, and a number
-//! is added by a binary search and one shift.
+//! The set of intervals. Its room is fixed when it is made. A look-up is a binary search; adding a number
+//! is a binary search and one shift.
 
 ghost use Rattle.std.specs.Prelude.{◌≡◌, ℕ, ◌+◌, ◌-◌, ◌≤◌, ◌<◌, ◌↔◌, ◌⊎◌, ◌++◌, ◌∷◌, [], length, IsTrue, IfOk, MatchOption, slice_index_or, slice_set};
 ghost use Rattle.partial_intervals.specs.Intervals.{Holds, IsNormal, GoesOn, IsLeastOutside, IsCountUpTo, lowest, highest};
@@ -7,8 +7,8 @@ ghost use Rattle.partial_intervals.specs.Intervals.{Holds, IsNormal, GoesOn, IsL
 use std::alloc::{AllocError, Global};
 use std::marker::Model;
 
-/// A finite set of numbers below 4,294,967,295, as closed intervals. Contracts see it as its capacity,
-/// counted in intervals, and its list of intervals, which is the one normal form of the set.
+/// A finite set of numbers below 4,294,967,295, as closed intervals. Contracts see its capacity, counted in
+/// intervals, and its list of intervals, which is the one normal form of the set.
 #[derive(Debug, Drop)]
 pub struct Intervals {
     list: Vec<(u32, u32)>,
@@ -26,7 +26,10 @@ impl Model for Intervals {
 }
 
 impl Intervals {
-    /// The empty set with room for `n` intervals. It is refused where the memory for them is.
+    /// Makes the empty set, with room for `n` intervals.
+    ///
+    /// # Errors
+    /// [`AllocError`] when an allocation was refused.
     pub fn with_capacity(alloc: Global, n: usize) -> Result<Intervals, AllocError>
         ensures capacity { IfOk result (λ set. set.capacity ≡ n) }
         ensures empty { IfOk result (λ set. set.list ≡ []) }
@@ -51,7 +54,7 @@ impl Intervals {
         self.list.len()
     }
 
-    /// Whether the set has no number.
+    /// Whether the set is empty.
     pub fn is_empty(&self) -> bool
         ensures { IsTrue result ↔ (self.now.list ≡ []) }
     {
@@ -97,7 +100,7 @@ impl Intervals {
         self.list[last].1 = hi;
     }
 
-    /// Adds the number `l`, where it is not in the set already.
+    /// Adds the number `l` if it isn't in the set yet.
     pub fn add(&mut self, l: u32)
         requires small { l < 4294967295 }
         requires room { length self.old.list < self.old.capacity }
@@ -129,7 +132,7 @@ impl Intervals {
         self.reaches(self.count_up_to(l), l)
     }
 
-    /// The least number from `l` on, below `end`, that is not in the set.
+    /// The least number from `l` on, below `end`, that isn't in the set.
     pub fn next_outside(&self, l: u32, end: u32) -> Option<u32>
         ensures { MatchOption
             result
@@ -145,7 +148,7 @@ impl Intervals {
         if next < end { Some(next) } else { None }
     }
 
-    // Whether the interval before place `count` reaches up to `l`.
+    // Whether the interval before index `count` reaches up to `l`.
     fn reaches(&self, count: usize, l: u32) -> bool
         requires { count ≤ length self.now.list }
         ensures { IsTrue result ↔ ((0 < count) × (l ≤ highest self.now.list (count - 1))) }
@@ -153,7 +156,7 @@ impl Intervals {
         count > 0 && l <= self.list[count - 1].1
     }
 
-    // Whether the interval before place `count` ends just before `l`.
+    // Whether the interval before index `count` ends just below `l`.
     fn touches_before(&self, count: usize, l: u32) -> bool
         requires { count ≤ length self.now.list }
         ensures { IsTrue result ↔ ((0 < count) × (highest self.now.list (count - 1) + 1 ≡ l)) }
@@ -161,7 +164,7 @@ impl Intervals {
         count > 0 && self.list[count - 1].1 + 1 == l
     }
 
-    // Whether the interval at place `count` begins just behind `l`.
+    // Whether the interval at index `count` begins just above `l`.
     fn touches_after(&self, count: usize, l: u32) -> bool
         requires { l < 4294967295 }
         ensures { IsTrue result ↔ ((count < length self.now.list) × (l + 1 ≡ lowest self.now.list count)) }

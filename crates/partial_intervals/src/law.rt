@@ -3,7 +3,7 @@
 
 ghost use Rattle.partial_intervals.specs.Intervals.{NormalFormsAreUnique};
 
-/// Two lists of intervals in normal form that hold the same numbers are one list.
+/// Two lists of intervals in normal form that hold the same numbers are equal.
 pub fn normal_forms_are_unique()
     ensures { NormalFormsAreUnique }
 {}

@@ -1,5 +1,5 @@
 //! A finite set of numbers below 4,294,967,295, kept as closed intervals in rising order that neither
-//! overlap nor touch. Room for the intervals is taken once, when the set is made.
+//! overlap nor touch. It takes room for the intervals once, when it is made.
 #![tactic(auto)]
 
 pub mod intervals;

@@ -1,5 +1,5 @@
-//! What the answers of loads tell in lawful words: a getSet finds each port that joined before it, and
-//! an embedded scan ends with values that stood together.
+//! What the answers of loads say in lawful words: a getSet finds each port that joined before it, and an
+//! embedded scan ends with values that stood together.
 #![tactic(auto)]
 
 pub mod law;

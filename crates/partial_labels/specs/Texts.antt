@@ -3,7 +3,7 @@ use Rattle.std.specs.Prelude.{ℕ, ◌≡◌, ◌==◌, ◌-◌, List, ◌++◌,
 use Rattle.std.specs.List.{flat_map}
 use Rattle.std.specs.Str.{chars}
 
--- a letter, so that no reader of SVG takes it for anything else
+-- a letter, escaped when SVG gives it a meaning
 abbrev pub escaped : ℕ → List ℕ
 escaped letter = if letter == 38 then codes "&amp;" else if letter == 60 then codes "&lt;" else
     if letter == 62 then codes "&gt;" else if letter == 34 then codes "&quot;" else

@@ -25,7 +25,7 @@ call_words (call.Scan js) = codes "scan" ++ flat_map spaced js
 call_words (call.Read j) = codes "read " ++ decimal j
 call_words (call.UpdateIf j s v) = codes "updateif " ++ (decimal j ++ (codes " " ++ (decimal s ++ (codes " " ++ decimal v))))
 
--- what a scan tells behind its values, with a dash where it has borrowed no view
+-- what follows the values of a scan, with a dash when it took no view
 abbrev pub end_words : ℕ → ℕ → Option ℕ → List ℕ
 end_words k c (Some t) = codes " prefix " ++ (decimal k ++ (codes " collects " ++ (decimal c ++ (codes " borrowed " ++ decimal t))))
 end_words k c None = codes " prefix " ++ (decimal k ++ (codes " collects " ++ (decimal c ++ codes " borrowed -")))
@@ -39,7 +39,7 @@ answer_words (answer.Read v t) k = codes "read " ++ (decimal v ++ (codes " " ++ 
 answer_words (answer.Refused r) k = codes "refused " ++ decimal (refused_code r)
 answer_words (answer.Changed t) k = codes "changed " ++ (decimal t ++ (codes " prefix " ++ decimal k))
 
--- the place or the prefix that a note tells, and 0 where there is no note
+-- the place or the prefix of a note, and 0 when there is no note
 abbrev pub told_place : Option Note → ℕ
 told_place None = 0
 told_place (Some note) = place_of note
@@ -58,7 +58,7 @@ entry_words place e = codes "applied " ++ (decimal place ++ (codes " port " ++ (
 abbrev pub exchange_words : ℕ → ℕ → ℕ → List ℕ → List ℕ
 exchange_words w old new end = codes "exchange " ++ (decimal w ++ (codes " " ++ (decimal old ++ (codes " " ++ (decimal new ++ end)))))
 
--- a step with its answer: an exchange has won where it was answered with the value that it expects
+-- a step with its answer: an exchange has won when the answer is the value that it expects
 abbrev pub step_words : Step → ℕ → List ℕ
 step_words (step.Load w) answer = codes "load " ++ (decimal w ++ (codes ": " ++ decimal answer))
 step_words (step.Store w v) answer = codes "store " ++ (decimal w ++ (codes " " ++ decimal v))

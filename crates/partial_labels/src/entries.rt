@@ -1,5 +1,5 @@
-//! Where the words of the entries of the history stand: in tiers above its line, so that those of entries that are
-//! near one another are read whole.
+//! The labels of the history's entries. They stand in tiers above its line, so that labels of near entries
+//! can be read whole.
 
 ghost use Rattle.std.specs.Prelude.{◌≡◌, ◌≤◌, All, length, IfOk};
 ghost use Rattle.partial_labels.specs.Lengths.{product_of};
@@ -7,26 +7,26 @@ ghost use Rattle.partial_labels.specs.Lengths.{product_of};
 use crate::pixels::Pixels;
 use std::alloc::{AllocError, Global};
 
-/// How many tiers there are at most.
+/// The greatest number of tiers.
 pub const TIERS: usize = 3;
 
-/// How wide the words of an entry mostly are.
+/// The width of most labels.
 const WIDTH: u64 = 160;
 
-/// How high a tier is: two lines of words.
+/// The height of a tier: two lines of words.
 const TIER: u64 = 28;
 
-/// Where the words of an entry stand.
+/// Where the label of an entry stands.
 #[derive(Clone, Copy, Debug, PartialEq, Eq)]
 pub struct Label {
     /// Its tier, counted from 0 from the line of the history upwards.
     pub tier: usize,
-    /// How far from their left side they may go: to the next words of their tier.
+    /// The room from its left side to the next label of its tier.
     pub room: Pixels,
 }
 
 impl Label {
-    /// How far above the lowest tier the words stand: 28 for each tier.
+    /// How far above the lowest tier the label stands: 28 for each tier.
     pub fn raised(&self) -> u64
         ensures { result ≡ product_of 28 self.now.tier }
     {
@@ -34,7 +34,8 @@ impl Label {
     }
 }
 
-/// The lowest tier whose words have ended at a place or, where none have, the one whose words end first.
+/// The lowest tier whose labels have ended at a place or, when there is none, the tier whose labels end
+/// first.
 fn tier_at(ends: &[Pixels], place: Pixels) -> usize {
     if let Some(tier) = ends.iter().position(|end| *end <= place) {
         return tier;
@@ -48,11 +49,11 @@ fn tier_at(ends: &[Pixels], place: Pixels) -> usize {
     first.0
 }
 
-/// The labels of entries at rising places, in a drawing that is so wide: one for each place, in order.
+/// Makes the labels of entries at rising places, in a drawing of that width: one for each place, in order.
 ///
 /// # Errors
 ///
-/// An error where a growth was refused.
+/// [`AllocError`] when an allocation was refused.
 pub fn labels_of(alloc: Global, places: &[Pixels], width: Pixels) -> Result<Vec<Label>, AllocError>
     ensures { IfOk result (λ labels. length labels.items ≡ length places.now) }
 {
@@ -80,7 +81,7 @@ fn make_room(labels: &mut [Label], places: &[Pixels], width: Pixels) {
     }
 }
 
-/// How high the tiers of these labels are, but for the lowest one.
+/// The height of these labels' tiers, apart from the lowest one.
 pub fn raised_by(labels: &[Label]) -> u64
     ensures { All (λ label. product_of 28 label.tier ≤ result) labels.now }
 {

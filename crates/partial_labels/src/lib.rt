@@ -1,4 +1,5 @@
-//! Labels of pictures: what they say, how they are cut and written, and in which tiers those of entries stand.
+//! Labels of pictures: what they say, how they are cut and escaped, and in which tiers those of entries
+//! stand.
 #![tactic(auto)]
 
 mod entries;

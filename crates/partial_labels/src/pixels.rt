@@ -3,8 +3,8 @@
 use std::fmt;
 use std::ops::{Add, Mul, Sub};
 
-/// A length or a place in a drawing, in its unit, which is a pixel where it is shown at its own size. None is
-/// below 0, and none grows past the greatest number.
+/// A length or a place in a drawing, in its unit: a pixel when the drawing is shown at its own size. Sums
+/// stop at the greatest number and differences at 0.
 #[derive(Clone, Copy, Debug, PartialEq, Eq, PartialOrd, Ord)]
 pub struct Pixels(pub u64);
 

@@ -6,10 +6,10 @@ ghost use Rattle.partial_labels.specs.Texts.{escaped, Escapes, cut_to};
 use crate::pixels::Pixels;
 use std::alloc::{AllocError, Global};
 
-/// How wide a letter is, with some room.
+/// The width of a letter, with some room.
 const LETTER: u64 = 7;
 
-/// Writes a letter so that no reader of SVG takes it for anything else.
+/// Writes a letter, escaped when SVG gives it a meaning.
 fn push_letter(text: &mut String, letter: char) -> Result<(), AllocError>
     ensures { OnOk result (string_bytes text.new ≡ string_bytes text.old ++ escaped letter) }
 {
@@ -23,11 +23,12 @@ fn push_letter(text: &mut String, letter: char) -> Result<(), AllocError>
     }
 }
 
-/// Writes words so that no reader of SVG takes any part of them for anything else.
+/// Writes words, with each letter escaped to which SVG gives a meaning.
 ///
 /// # Errors
 ///
-/// An error where a growth was refused; a part of the words from their front may then be written.
+/// [`AllocError`] when an allocation was refused. A part of the words from their front may have been
+/// written.
 pub fn push_escaped(text: &mut String, words: &str) -> Result<(), AllocError>
     ensures { OnOk result (Escapes words.now (string_bytes text.old) (string_bytes text.new)) }
 {
@@ -37,11 +38,12 @@ pub fn push_escaped(text: &mut String, words: &str) -> Result<(), AllocError>
     Ok(())
 }
 
-/// The words that fit into a room, cut with three dots where not all do. No words where hardly any do.
+/// Cuts words to a room, with three dots at the end when not all of them fit. Returns no words when hardly
+/// any fit.
 ///
 /// # Errors
 ///
-/// An error where a growth was refused.
+/// [`AllocError`] when an allocation was refused.
 pub fn fitted(alloc: Global, words: &str, room: Pixels) -> Result<String, AllocError>
     // A letter is 7 wide.
     ensures whole { length words.now ≤ room.0 / 7 → IfOk result (λ shown. string_bytes shown ≡ words.now) }

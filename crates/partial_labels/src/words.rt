@@ -8,7 +8,7 @@ use partial_model::{Answer, Applied, Call, Called, Note};
 use partial_words::{Event, Sizes, Step};
 use std::alloc::{AllocError, Global};
 
-/// Writes each index behind a space.
+/// Writes each index with a space before it.
 fn push_indices(words: &mut String, indices: &[u32]) -> Result<(), AllocError>
     ensures { OnOk result (string_bytes words.new ≡ string_bytes words.old ++ flat_map spaced indices.now) }
 {
@@ -18,7 +18,7 @@ fn push_indices(words: &mut String, indices: &[u32]) -> Result<(), AllocError>
     Ok(())
 }
 
-/// Writes each value behind a space.
+/// Writes each value with a space before it.
 fn push_values(words: &mut String, values: &[u64]) -> Result<(), AllocError>
     ensures { OnOk result (string_bytes words.new ≡ string_bytes words.old ++ flat_map spaced values.now) }
 {
@@ -28,11 +28,11 @@ fn push_values(words: &mut String, values: &[u64]) -> Result<(), AllocError>
     Ok(())
 }
 
-/// A call, as in a plan.
+/// The words of a call, as in a plan.
 ///
 /// # Errors
 ///
-/// An error where a growth was refused.
+/// [`AllocError`] when an allocation was refused.
 pub fn call_words(alloc: Global, call: &Call) -> Result<String, AllocError>
     ensures { IfOk result (λ words. string_bytes words ≡ call_words call.now) }
 {
@@ -52,11 +52,11 @@ pub fn call_words(alloc: Global, call: &Call) -> Result<String, AllocError>
     }
 }
 
-/// What came of a call, as in an outcome up to its number of steps.
+/// The words of a call's end, as in an outcome, up to its number of steps.
 ///
 /// # Errors
 ///
-/// An error where a growth was refused.
+/// [`AllocError`] when an allocation was refused.
 pub fn finish_words(alloc: Global, called: &Called) -> Result<String, AllocError>
     ensures { IfOk result (λ words. string_bytes words ≡ finish_words called.now.finish) }
 {
@@ -88,7 +88,7 @@ pub fn finish_words(alloc: Global, called: &Called) -> Result<String, AllocError
     }
 }
 
-/// Writes what a scan tells behind its values.
+/// Writes what follows the values of a scan.
 fn push_end(
     words: &mut String,
     prefix: usize,
@@ -106,11 +106,11 @@ fn push_end(
     }
 }
 
-/// An entry of the history, as in an outcome.
+/// The words of an entry of the history, as in an outcome.
 ///
 /// # Errors
 ///
-/// An error where a growth was refused.
+/// [`AllocError`] when an allocation was refused.
 pub fn entry_words(alloc: Global, place: usize, entry: &Applied) -> Result<String, AllocError>
     ensures { IfOk result (λ words. string_bytes words ≡ entry_words place entry.now) }
 {
@@ -125,11 +125,11 @@ pub fn entry_words(alloc: Global, place: usize, entry: &Applied) -> Result<Strin
     )
 }
 
-/// A step with its answer.
+/// The words of a step with its answer.
 ///
 /// # Errors
 ///
-/// An error where a growth was refused.
+/// [`AllocError`] when an allocation was refused.
 pub fn step_words(alloc: Global, event: &Event) -> Result<String, AllocError>
     ensures { IfOk result (λ words. string_bytes words ≡ step_words event.now.step event.now.answer) }
 {
@@ -147,11 +147,11 @@ pub fn step_words(alloc: Global, event: &Event) -> Result<String, AllocError>
     }
 }
 
-/// What a word of a memory is.
+/// What the word of a memory with this number is for.
 ///
 /// # Errors
 ///
-/// An error where a growth was refused.
+/// [`AllocError`] when an allocation was refused.
 pub fn word_words(alloc: Global, sizes: Sizes, word: u32) -> Result<String, AllocError>
     ensures { IfOk result (λ words. string_bytes words ≡ word_name sizes word) }
 {

@@ -72,7 +72,7 @@ pub record IsBehind (s : CoreState) (x : ℕ) : Type 0 where
   pub fewer : steps_left (advance s x) < steps_left s
   -- a call is refused only by its claim that went past the end, and it wasn't marked before
   pub refused_by : (cause : Refused) → reply_of (advance s x) ≡ Some (reply.Refused cause) → IsRefusedBy s x cause × (¬ IsMarkedFor s cause)
-  -- the marks stay, and the port comes to be marked exactly where its call is refused
+  -- the marks stay, and the port gets a mark exactly when its call is refused
   pub pool : (advance s x).pool_spent ≡ (refuses_pool (reply_of (advance s x)) || s.pool_spent)
   pub slots : (advance s x).slots_spent ≡ (refuses_slots (reply_of (advance s x)) || s.slots_spent)
   -- the mark for the list words stays, and comes by a claim that went past their end

@@ -16,15 +16,15 @@ use Rattle.partial_machine.specs.Machine.{CoreState, at_stage, scanned_values}
 abbrev pub refusal_of : CoreState → Call → Option Refused
 refusal_of s c = refusal_at_once s.sizes.m s.pool_spent s.slots_spent c
 
--- the same of a read
+-- why a read is refused at once
 abbrev pub read_refusal : CoreState → ℕ → Option Refused
 read_refusal s i = refusal_of s (call.Read i)
 
--- the same of an update, whatever its value
+-- why an update is refused at once, whatever its value
 abbrev pub update_refusal : CoreState → ℕ → Option Refused
 update_refusal s i = refusal_of s (call.Update i 0)
 
--- the same of a scan
+-- why a scan is refused at once
 abbrev pub scan_refusal : CoreState → List ℕ → Option Refused
 scan_refusal s indices = refusal_of s (call.Scan indices)
 
@@ -32,7 +32,7 @@ scan_refusal s indices = refusal_of s (call.Scan indices)
 abbrev pub begin_scan : CoreState → List ℕ → CoreState
 begin_scan s indices = record s { asked = indices; stage = if length indices == 0 then Finished (reply.Scanned 0 None) else ScanBegun }
 
--- the machine once it has begun the call
+-- the machine after it has begun the call
 abbrev pub begun_of : CoreState → Call → CoreState
 begun_of s (call.Update j v) = at_stage s (UpdateBegun (record { component = j; expected = None; value = v }))
 begun_of s (call.Scan js) = begin_scan s js
@@ -44,7 +44,7 @@ abbrev pub IsServed : ℕ → Call → Type 0
 IsServed m (call.Scan js) = length js ≤ m
 IsServed m _ = ⊤
 
--- whether a call makes a step where it isn't refused at once: all but a scan of no position
+-- whether a call makes a step when it isn't refused at once: all but a scan of no position
 abbrev pub makes_steps : Call → Bool
 makes_steps (call.Scan []) = false
 makes_steps _ = true
@@ -66,7 +66,7 @@ is_at_rest _ = false
 abbrev pub begun_like : CoreState → CoreState → CoreState
 begun_like s c = record s { asked = c.asked; stage = c.stage }
 
--- an update, conditional where a stamp is expected
+-- an update, which is conditional when a stamp is expected
 abbrev pub update_call : ℕ → Option ℕ → ℕ → Call
 update_call j None v = call.Update j v
 update_call j (Some e) v = call.UpdateIf j e v

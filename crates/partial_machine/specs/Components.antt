@@ -23,7 +23,7 @@ pub record EndsInScan (z : Layout) (shares : Bool) (positions answers : List ℕ
   pub rows : RowsState
   pub runs : RunsTo z shares positions rows own p
 
--- Where a call makes its embedded scan, that is what its last answers are of: a scan's is of its own positions, and an update's, which
+-- While a call makes its embedded scan, its last answers are those of that scan: a scan's is of its own positions, and an update's, which
 -- shares a view that it borrows, of those that its getSet found. Right behind it the embedded scan is finished.
 abbrev pub scans_at : List ℕ → CoreState → Stage → Type 0
 scans_at answers t Scanning = EndsInScan t.sizes false t.asked answers (scanning t)
@@ -47,7 +47,7 @@ pub record HasScanned (positions answers : List ℕ) (p : Pair) : Type 0 where
   pub few : p.0.collects ≤ length positions + 2
   pub ends : EndsWell positions own p
 
--- the embedded scan of a call ends well: a scan's before it leaves, and an update's, where its getSet found anything, before its claim
+-- the embedded scan of a call ends well: a scan's before it leaves, and an update's, when its getSet found anything, before its claim
 pub record EmbeddedScansEndWell : Type 0 where
   pub scan : (s t : CoreState) (c : Call) (xs : List ℕ) → IsLayout s.sizes → IsSound s → call_of s ≡ Some c → Run s xs t →
       t.stage ≡ Leaving → HasScanned t.asked xs (scanning t)

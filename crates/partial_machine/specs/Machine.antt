@@ -87,7 +87,7 @@ abbrev pub with_scanning : CoreState → viewing.Pair → CoreState
 with_scanning s p = record s { embedded = p.0; rows = p.1 }
 
 -- The view of the record that an update writes: its own pairs are those of the indices found with the
--- values loaded, and none where a view is borrowed.
+-- values loaded, and none when a view is borrowed.
 abbrev pub own_pairs : CoreState → List (ℕ × ℕ)
 own_pairs s = option_map_or (λ _. []) s.embedded.borrowed (map (λ j. (j, slice_index s.rows.values j)) s.found.indices)
 
@@ -126,7 +126,7 @@ step_at s (Finished r) = None
 abbrev pub step_of : CoreState → Option Step
 step_of s = step_at s s.stage
 
--- the update may go on where the component has this stamp
+-- the update may go on when the component has this stamp
 abbrev pub expects : Change → ℕ → Bool
 expects c stamp = option_map_or (λ e. e == stamp) c.expected true
 
@@ -150,7 +150,7 @@ slots_refused s = record s { slots_spent = true; stage = Finished (reply.Refused
 abbrev pub begin_getting : CoreState → Change → ℕ → CoreState
 begin_getting s c old = record s { get_set = finding.fresh s.sizes s.get_set.lists_spent; stage = GettingSet c old }
 
--- the getSet goes on, or it is finished and what it found is scanned, where it found anything
+-- the getSet goes on, or it is finished and what it found is scanned, if it found anything
 abbrev pub after_getting : CoreState → Change → ℕ → CoreState
 after_getting s c old = option_map_or (λ _. s) (finding.step_of s.get_set)
     (record s {
@@ -166,7 +166,7 @@ after_scanning s indices next = option_map_or (λ _. s) (viewing.step_of indices
 abbrev pub begin_joining : CoreState → ℕ → CoreState
 begin_joining s at = record s { join = record { sizes = s.sizes; announcement = at; stage = Claiming }; stage = Joining }
 
--- the join goes on; once the announcement stands in its slot the embedded scan begins
+-- the join goes on; when the announcement stands in its slot, the embedded scan begins
 abbrev pub after_joining : CoreState → JoinStage → CoreState
 after_joining s Claiming = s
 after_joining s (Storing slot) = s

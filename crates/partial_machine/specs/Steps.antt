@@ -43,13 +43,13 @@ abbrev pub loads_len : CoreState → Stage → Bool
 loads_len s Scanning = is_len s.embedded.stage
 loads_len s _ = false
 
--- how many pairs the view has that a scan borrows, as the run loads it: none where the view is empty
+-- how many pairs the view has that a scan borrows, as the run loads it: none when the view is empty
 abbrev pub pairs_loaded : CoreState → List ℕ → ℕ
 pairs_loaded s [] = 0
 pairs_loaded s (x ∷ xs) = (if loads_len s s.stage then x else 0) + pairs_loaded (advance s x) xs
 
--- So many steps are what a scan of r positions makes with c collects: an exact number where it borrows
--- nothing, and no more than a bound where it borrows a view of n pairs.
+-- The steps of a scan of r positions with c collects: an exact number when it borrows
+-- nothing, and at most a bound when it borrows a view of n pairs.
 pub record AreOfScan (r c n steps : ℕ) (borrowed : Option ℕ) : Type 0 where
   pub own : borrowed ≡ None → steps ≡ r * (c + 2) + 5
   pub shared : (stamp : ℕ) → borrowed ≡ Some stamp → steps ≤ r * (c + 1) + 2 * n + 7

@@ -1,4 +1,4 @@
--- What a memory that is closed with all its ports tells: one history, of which each entry is in the notes of exactly one port.
+-- What holds of a memory that is closed with all its ports: one history, of which each entry is in the notes of exactly one port.
 use Rattle.std.specs.Prelude.{ℕ, ◌≡◌, ◌<◌, List, ◌∷◌, ◌++◌, length, map, take, Contains, slice_get, Some}
 use Rattle.std.specs.List.{AllByRecursion, range_with_len}
 use Rattle.partial_model.specs.declared.history.Applied.{Applied}
@@ -51,7 +51,7 @@ pub record ClosesWithAll (m : MemoryView) (ports : List PortView) (closed : Clos
   pub values : AreValues m.about.opening log (length m.about.opening.values) closed.values.items
   pub chains : AreChains m.about.opening log (length m.about.opening.values) closed.chains.items
 
--- what a closed memory tells where all its ports were handed in
+-- what holds of a closed memory when all its ports were handed in
 abbrev pub ClosedWithAllPorts : Type 0
 ClosedWithAllPorts =
     (m : MemoryView) (ports : List PortView) (closed : Closed) → AreAllPorts m ports → Closes m ports closed → ClosesWithAll m ports closed

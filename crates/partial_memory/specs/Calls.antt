@@ -34,7 +34,7 @@ Scans p [] values s q = (values ≡ []) × (s.collects ≡ 0) × (s.borrowed ≡
 Scans p (j ∷ js) values s q =
     (n : ℕ) × Answered p q (call.Scan (j ∷ js)) (answer.Scanned values s.collects s.borrowed) (note.Saw n)
 
--- the port once it has seen that history in a meeting
+-- the port after it has observed that history in a meeting
 abbrev pub met : List Applied → PortView → PortView
 met log p = record p { seen = log; steps = p.steps + meeting_steps }
 

@@ -1,4 +1,4 @@
--- What a memory that is closed gives, and what its history tells of the ports that were handed in.
+-- What a closed memory holds, and what its history says of the ports that were handed in.
 use Rattle.std.specs.Prelude.{ℕ, ◌≡◌, ◌+◌, ◌<◌, ◌≤◌, suc, List, [], ◌∷◌, length, take, slice_index}
 use Rattle.std.specs.List.{AllByRecursion}
 use Rattle.std.specs.declared.alloc.Global.{Global}
@@ -54,7 +54,7 @@ Holds words m c =
     (z : Layout) (o : Opening) (log : List Applied)
     → RecordsAreWithin z o words log → z.m ≡ m → AreValues o log m c.values.items × AreChains o log m c.chains.items
 
--- what the history tells of a port that was handed in: it begins with all that the port had seen, the port's notes are legal in it, and
+-- what the history says of a port that was handed in: it begins with all that the port had seen, the port's notes are legal in it, and
 -- the port's entries are those that its notes wrote, in their order
 pub record IsPortOf (log : List Applied) (p : PortView) : Type 0 where
   pub seen : p.seen ≡ take (length p.seen) log

@@ -22,6 +22,6 @@ pub record WasLawful (m : MemoryView) (log : List Applied) (ports : List PortVie
 abbrev pub MeetsLawfully : MemoryView → PortView → PortView → Type 0
 MeetsLawfully m c d = (c.seen ≡ d.seen) × WasLawful m c.seen (c ∷ d ∷ [])
 
--- a memory that is closed, in a lawful state with the history that it tells, among whose ports are those that were handed in
+-- a memory that is closed, in a lawful state with its history, among whose ports are those that were handed in
 abbrev pub ClosesLawfully : MemoryView → List PortView → Closed → Type 0
 ClosesLawfully m ports closed = (w : Closes m ports closed) × WasLawful m w.log ports

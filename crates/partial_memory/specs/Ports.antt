@@ -80,7 +80,7 @@ pub record IsResting (views : List (List Seated)) (core : CoreState) (named : �
   pub fits : Fits (one_in views).about.opening (one_in views).part.seen (one_in views).part
   pub others : AreByOpened (one_in views).about (one_in views).part.seen
 
--- what every call leaves of its port: the history that it has seen goes on, and it has noted these calls more
+-- what every call does to its port: the history that it has observed grows, and it has noted these calls more
 pub record Goes (p q : PortView) (new : List Noted) : Type 0 where
   pub memory : q.memory ≡ p.memory
   pub number : q.number ≡ p.number
@@ -108,12 +108,12 @@ pub record Answered (p q : PortView) (c : Call) (a : Answer) (n : Note) : Type 0
   pub pool : q.pool_spent ≡ p.pool_spent
   pub slots : q.slots_spent ≡ p.slots_spent
 
--- whether a cause is that mark
+-- whether a cause is the mark for the pool
 abbrev pub is_pool : Refused → Bool
 is_pool refused.PoolSpent = true
 is_pool _ = false
 
--- the same of the mark for the slots
+-- whether a cause is the mark for the slots
 abbrev pub is_slots : Refused → Bool
 is_slots refused.SlotsSpent = true
 is_slots _ = false
@@ -143,7 +143,7 @@ pub record RefusedLate (p q : PortView) (c : Call) (cause : Refused) : Type 0 wh
 abbrev pub IsRefused : PortView → Call → Refused → PortView → Type 0
 IsRefused p c cause q = ((refusal p c ≡ Some cause) × (q ≡ p)) ⊎ RefusedLate p q c cause
 
--- why a memory may not open with so many ports: Ports where there are not 1 to 64, and Memory only where there are; TooSmall never
+-- why a memory may not open with that many ports: Ports when there are not 1 to 64, and Memory only when there are; TooSmall never
 abbrev pub MayNotOpen : ℕ → OpenError → Type 0
 MayNotOpen ports Ports = (ports ≡ 0) ⊎ (64 < ports)
 MayNotOpen ports TooSmall = ⊥

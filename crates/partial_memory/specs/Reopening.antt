@@ -23,7 +23,7 @@ Continues first log second =
     (h : List Applied) (j : ℕ) → j < length second.values
     → value_of second h j ≡ value_of (with_zeros (length second.values) first) (log ++ h) j
 
--- the opening goes on where each history ended that left these values
+-- the opening goes on from the end of each history that left these values
 abbrev pub ContinuesAll : List ℕ → Opening → Type 0
 ContinuesAll values second =
     (o : Opening) (log : List Applied) → IsHistory o log → AreValues o log (length o.values) values → Continues o log second
@@ -33,8 +33,8 @@ abbrev pub ClosedMemoriesContinue : Type 0
 ClosedMemoriesContinue =
     (values : List ℕ) (m : ℕ) (second : Opening) → second.values ≡ extended m values → ContinuesAll values second
 
--- Why a memory of m components may not open with so many ports and so many values of a closed one: Ports where there are not 1 to 64,
--- otherwise TooSmall where there are more values than components, and Memory only where neither is so.
+-- Why a memory of m components may not open with these numbers of ports and of values of a closed one: Ports when there are not 1 to 64,
+-- otherwise TooSmall when there are more values than components, and Memory only when neither is so.
 abbrev pub MayNotReopen : ℕ → ℕ → ℕ → OpenError → Type 0
 MayNotReopen ports count m Ports = (ports ≡ 0) ⊎ (64 < ports)
 MayNotReopen ports count m TooSmall = (1 ≤ ports) × (ports ≤ 64) × (m < count)

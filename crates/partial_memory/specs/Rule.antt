@@ -1,4 +1,4 @@
--- The rule of the table: the parts of all views are those of one lawful state. And what its steps tell.
+-- The rule of the table: the parts of all views are those of one lawful state. And what a port learns by its steps.
 use Rattle.std.specs.Prelude.{ℕ, zero, suc, ◌≡◌, ◌+◌, ◌<◌, List, [], ◌∷◌, ◌++◌, length, map, take}
 use Rattle.std.specs.List.{AllByRecursion}
 use Rattle.atomic_table.specs.Table.{State, Step, Me}
@@ -52,7 +52,7 @@ abbrev pub newcomers : About → ℕ → ℕ → List Seated
 newcomers about port zero = []
 newcomers about port (suc n) = newcomer about port ∷ newcomers about (port + 1) n
 
--- what stands for a port where a view has none
+-- what stands for a port when a view has none
 abbrev pub nobody : Seated
 nobody =
     newcomer (record { sizes = record { m = 1; slots = 1; lists = 0; pool = 3 }; opening = record { values = []; first = 0 }; ports = 0 }) 0
@@ -79,7 +79,7 @@ IsBadgeOfOne views = views ≡ (one_in views ∷ []) ∷ []
 abbrev pub AreByOpened : About → List Applied → Type 0
 AreByOpened about h = AllByRecursion (λ e. e.port < about.ports) h
 
--- what a step of the machine c tells its seat: what the law of steps tells its port, and that each entry is by a port that was opened
+-- what a seat learns by a step of the machine c: what its port learns by the law of steps, and that each entry is by a port that was opened
 pub record Told (c : CoreState) (x : Seated) (a : ℕ) (y : Seated) : Type 0 where
   pub about : y.about ≡ x.about
   pub steps : y.steps ≡ x.steps + 1
@@ -89,7 +89,7 @@ pub record Told (c : CoreState) (x : Seated) (a : ℕ) (y : Seated) : Type 0 whe
   pub tells : Tells x.about.sizes x.about.opening log entries x.part c a y.part
   pub others : AreByOpened x.about y.part.seen
 
--- the same of the one port of a seat
+-- the seat is of one port, and learns this by the step
 abbrev pub makes : {S : Type 0} → CoreState → Me S (List Seated) → ℕ → Me S (List Seated) → Type 0
 makes c me a me' = IsOne me' × Told c (one_of me.0) a (one_of me'.0)
 
@@ -119,7 +119,7 @@ others_of (x ∷ xs) = xs
 abbrev pub meeting_steps : ℕ
 meeting_steps = 3
 
--- the port once it has seen that history in a meeting
+-- the port after it has observed that history in a meeting
 abbrev pub having_met : List Applied → Seated → Seated
 having_met log x = record { about = x.about; part = with_seen log x.part; steps = x.steps + meeting_steps }
 
@@ -142,7 +142,7 @@ pub record IsLawfulWith (about : About) (log : List Applied) (here : List Seated
   pub opened : AreOpened about.ports all
   pub lawful : Lawful about.sizes about.opening words (parts_of all) log
 
--- what a look tells of the ports of a seat: each has seen a beginning of the history, which all see then, in a lawful state
+-- what a look says of the ports of a seat: each had observed a beginning of the history, which all observe then, in a lawful state
 pub record LooksAt {S : Type 0} (me me' : Me S (List Seated)) : Type 0 where
   pub log : List Applied
   pub seen : me'.0 ≡ map (having_met log) me.0
@@ -152,6 +152,6 @@ pub record LooksAt {S : Type 0} (me me' : Me S (List Seated)) : Type 0 where
   pub own : AreOf about me.0
   pub lawful : IsLawfulWith about log me'.0
 
--- a look in a meeting tells all ports of the seat the whole history
+-- by a look in a meeting all ports of the seat observe the whole history
 abbrev pub looks : {S : Type 0} → Me S (List Seated) → ℕ → Me S (List Seated) → Type 0
 looks me a me' = LooksAt me me'

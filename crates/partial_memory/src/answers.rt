@@ -1,29 +1,28 @@
-//! What the calls of a memory answer. Stamps are the references of records.
+//! What the calls of a memory return. A stamp is the word number of a record, unique in one opening.
 
 /// How an update ended.
 #[derive(Clone, Copy, Debug, PartialEq, Eq)]
 pub enum Updated {
-    /// It was applied, and its record has this stamp.
+    /// It took effect: its entry is in the history, and its record has this stamp.
     Applied { stamp: u64 },
-    /// It was overwritten by the one with this stamp.
+    /// Another update to the same component, with this stamp, took effect during the call and overwrote it.
     Lost { by: u64 },
 }
 
 /// How a conditional update ended.
 #[derive(Clone, Copy, Debug, PartialEq, Eq)]
 pub enum UpdatedIf {
-    /// It was applied, and its record has this stamp.
+    /// It took effect: the component had the expected stamp, and the new record has this one.
     Applied { stamp: u64 },
-    /// The component had this stamp in place of the expected one.
+    /// It had no effect: the component had this stamp, which is not the expected one.
     Changed { by: u64 },
 }
 
 /// How a scan was made.
 #[derive(Clone, Copy, Debug, PartialEq, Eq)]
 pub struct Scanned {
-    /// How often its components were collected: 0 for a scan of no position, else 2 to its number of
-    /// positions and 2.
+    /// How many collects it made: 0 for a scan of no position, otherwise 2 to r + 2 for r positions.
     pub collects: u32,
-    /// The stamp of the record whose view was borrowed, if one was.
+    /// The stamp of the update whose view the scan took, if it was helped.
     pub borrowed: Option<u64>,
 }

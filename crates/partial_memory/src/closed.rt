@@ -7,20 +7,19 @@ ghost use Rattle.partial_memory.specs.Closing.{AreLinks, HaveChain, HaveRecords,
 use partial_words::{Link, value_word};
 use std::alloc::{AllocError, Global};
 
-/// What a memory held when it was closed: it holds no more than its values and the records that are
-/// behind them.
+/// What a memory held when it was closed. It takes memory for the values and the records alone.
 #[derive(Debug, Drop)]
 pub struct Closed {
-    /// The value of each component.
+    /// The value of each component, by its index.
     pub values: Vec<u64>,
-    /// The records of each component, the newest first; the last one is its initial record.
+    /// The records of each component, by its index, the newest first. The last one is the initial record.
     pub chains: Vec<Vec<Link>>,
 }
 
-/// The words of a table that no thread shares any more.
+/// The words of a table that threads no longer share.
 pub type ClosedWords = atomic_table::Closed<(), Global>;
 
-// The records of a component, from the newest one on, each found by the word of the one before it.
+// Collects the records of a component from the newest on. The first word of each names the one before it.
 fn chain(alloc: Global, words: &ClosedWords, newest: u64) -> Result<Vec<Link>, AllocError>
     requires full { IsFull words.now.words × (slots_len words.now.words < 2 ^ 32) }
     requires count { slots_len words.now.words ≡ length (slots_items words.now.words) }
@@ -37,7 +36,7 @@ fn chain(alloc: Global, words: &ClosedWords, newest: u64) -> Result<Vec<Link>, A
     Ok(links)
 }
 
-/// The values and the chains of the components.
+/// Collects the values and the chains of the components.
 pub fn closed_of(alloc: Global, words: &ClosedWords, m: u32) -> Result<Closed, AllocError>
     requires full { IsFull words.now.words × (slots_len words.now.words < 2 ^ 32) }
     requires count { slots_len words.now.words ≡ length (slots_items words.now.words) }

@@ -1,4 +1,4 @@
-//! The embedded scan of an update or a scan, whose loads are steps of the call of a seat's port.
+//! The embedded scan of an update or a scan. Its loads are atomic steps of the call of a seat's port.
 
 ghost use Rattle.std.specs.Prelude.{◌≡◌, true, false};
 ghost use Rattle.std.proofs.Common.{refl, ◌∙◌};
@@ -14,7 +14,7 @@ use crate::rule::{Place, Words};
 use partial_core::Core;
 use partial_embedded::{Embedded, Loads};
 
-// The loads of the embedded scan that the call of the seat's port has come to.
+// The loads of an embedded scan, made on the shared words. The call of the seat's port is at that scan.
 #[derive(Drop)]
 struct SeatLoads<'a> {
     words: &'a Words,
@@ -44,8 +44,8 @@ impl<'a> Loads for SeatLoads<'a> {
     ) };
 }
 
-/// Makes the embedded scan of a scan of these positions, and gives it back with the seat. The port's machine hasn't
-/// got it while its steps are made, so that its stage needs no memory.
+/// Makes the embedded scan of a scan of these positions, and returns it with the seat. The port's machine
+/// does not hold it meanwhile, so its stage needs no memory.
 #[inline(always)]
 pub fn scan_asked(words: &Words, seat: Place, core: &mut Core, which: &[u32]) -> (Place, Embedded)
     requires going { IsGoing words.now.table_id words.now.key seat.table_id seat.me }
@@ -67,8 +67,9 @@ pub fn scan_asked(words: &Words, seat: Place, core: &mut Core, which: &[u32]) ->
     (seat, embedded)
 }
 
-/// Makes the embedded scan of an update, of the indices found, which the port's machine keeps then. It stands apart,
-/// since mostly nobody scans, and then an update needs no room for it.
+/// Makes the embedded scan of an update, of the indices that its getSet found. The port's machine holds it
+/// afterwards. This function is never inlined: mostly nobody scans, and then an update needs no stack for
+/// it.
 #[inline(never)]
 pub fn scan_found(words: &Words, seat: Place, core: &mut Core) -> Place
     requires going { IsGoing words.now.table_id words.now.key seat.table_id seat.me }

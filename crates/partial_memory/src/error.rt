@@ -5,16 +5,16 @@ ghost use Rattle.std.specs.Prelude.{◌≡◌};
 use std::alloc::AllocError;
 use thiserror::Error;
 
-/// Why a memory was not opened. Nothing was made then.
+/// Why a memory was not opened. Nothing is left of the attempt.
 #[derive(Clone, Copy, Debug, PartialEq, Eq, Error)]
 pub enum OpenError {
-    /// There are 1 to 64 ports.
+    /// There are not 1 to 64 ports.
     #[error("ports out of range")]
     Ports,
-    /// A memory that is opened again has at least as many components as before.
+    /// The closed memory has more components than the new sizes.
     #[error("fewer components than before")]
     TooSmall,
-    /// A growth was refused.
+    /// An allocation was refused.
     #[error("out of memory")]
     Memory,
 }
@@ -22,7 +22,7 @@ pub enum OpenError {
 impl OpenError {
     ghost use Rattle.partial_memory.specs.Ports.{open_code};
 
-    /// The number of the refusal: 5, 13 or 6.
+    /// The number of the refusal: 5 for `Ports`, 13 for `TooSmall`, 6 for `Memory`.
     pub fn code(&self) -> u8
         ensures { result ≡ open_code self.now }
     {
@@ -44,10 +44,10 @@ impl From<AllocError> for OpenError {
     }
 }
 
-/// Why a memory was not closed. Its contents are lost then, and nothing is handed back.
+/// Why a memory was not closed. Its contents are lost, and nothing is returned.
 #[derive(Clone, Copy, Debug, PartialEq, Eq, Error)]
 pub enum CloseError {
-    /// A growth was refused.
+    /// An allocation was refused.
     #[error("out of memory")]
     Memory,
 }

@@ -1,4 +1,4 @@
-//! The getSet of an update, whose steps are steps of the call of a seat's port.
+//! The getSet of an update. Its steps are atomic steps of the call of a seat's port.
 
 ghost use Rattle.std.specs.Prelude.{◌≡◌};
 ghost use Rattle.std.proofs.Common.{refl, ◌∙◌};
@@ -11,10 +11,12 @@ use crate::rule::{Place, Words};
 use partial_active::Steps;
 use partial_words::Step;
 
-/// The steps of the getSet that the call of the seat's port has come to.
+/// The steps of a getSet, made on the shared words. The call of the seat's port is at that getSet.
 #[derive(Drop)]
 pub struct SeatSteps<'a> {
+    /// The words that all threads share.
     pub words: &'a Words,
+    /// The seat of the port.
     pub seat: Place,
 }
 

@@ -1,4 +1,4 @@
-//! Laws about the ports of a memory: what a call notes, what a memory tells that is closed with all its
+//! Laws about the ports of a memory: what a call notes, what holds of a memory that is closed with all its
 //! ports, and how one goes on that opens with the values of a closed one. The functions have no code: their
 //! contracts hold of the definitions by which those of the calls are stated.
 
@@ -25,7 +25,7 @@ pub fn calls_note_once()
     ensures { CallsNoteOnce }
 {}
 
-/// Whatever a call comes to, it has made one claim of pool words at most, and one of a slot.
+/// However a call ends, it has made at most one claim of pool words and one of a slot.
 pub fn led_calls_claim_once()
     ensures { LedCallsClaimOnce }
 {}

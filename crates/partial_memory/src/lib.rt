@@ -1,5 +1,5 @@
-//! The running memory: ports that update, read and scan its components in any threads, over the words
-//! of one table that change in single atomic steps.
+//! The running memory. Its ports update, read and scan its components from any threads. The components lie
+//! in the words of one table, which change by single atomic steps.
 #![tactic(auto)]
 
 mod answers;

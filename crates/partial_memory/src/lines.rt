@@ -1,5 +1,5 @@
-//! The steps of a call that is made in straight lines. Its machine is a ghost: where the kept answers of the
-//! seat's port lead.
+//! The atomic steps of a call that is written as straight-line code. Its machine is ghost state: it is
+//! where the kept answers of the seat's port lead.
 
 ghost use Rattle.std.specs.Prelude.{◌≡◌, Some};
 ghost use Rattle.partial_words.specs.Layout.{total};
@@ -16,8 +16,8 @@ use crate::rule::{GoesOn, Makes, Moment, Place, PutsOn, Words};
 use partial_core::{Change, Core};
 use partial_words::{Step, announcement_size};
 
-/// Makes the first step of an update, the load of its component, and gives its answer. The machine that begins
-/// the update is G's.
+/// Makes the first step of an update, the load of its component word, and returns the answer. `G` is the
+/// machine that begins the update.
 #[inline(always)]
 pub fn begin_update<G: Moment>(words: &Words, seat: &mut Place, core: &Core, change: Change) -> u64
     requires table { seat.old.table_id ≡ words.now.table_id }
@@ -35,8 +35,8 @@ pub fn begin_update<G: Moment>(words: &Words, seat: &mut Place, core: &Core, cha
     words.load::<Makes<G>>(seat, word as usize)
 }
 
-/// Makes the first step of a scan of these positions, the claim of its announcement, and gives its answer. The
-/// machine that begins the scan is G's.
+/// Makes the first step of a scan of these positions, the claim of its announcement, and returns the
+/// answer. `G` is the machine that begins the scan.
 #[inline(always)]
 pub fn begin_scan<G: Moment>(words: &Words, seat: &mut Place, core: &Core, which: &[u32]) -> u64
     requires table { seat.old.table_id ≡ words.now.table_id }
@@ -55,7 +55,7 @@ pub fn begin_scan<G: Moment>(words: &Words, seat: &mut Place, core: &Core, which
     words.fetch_add::<Makes<G>>(seat, word as usize, size)
 }
 
-/// Makes the step that is due in the call of the seat's port, and gives its answer.
+/// Makes the step that is due in the call of the seat's port, and returns its answer.
 #[inline(always)]
 pub fn make(words: &Words, seat: &mut Place, step: Step) -> u64
     requires going { IsGoing words.now.table_id words.now.key seat.old.table_id seat.old.me }
@@ -78,7 +78,8 @@ pub fn make(words: &Words, seat: &mut Place, step: Step) -> u64
     }
 }
 
-/// The same of a load. Whoever has the word as a `u64` need not cut it to the `u32` of a [`Step`].
+/// Makes a load that is due, and returns its answer. It takes the word as a `u64`, so a caller that has one
+/// need not cut it to the `u32` of a [`Step`].
 #[inline(always)]
 pub fn make_load(words: &Words, seat: &mut Place, word: u64) -> u64
     requires going { IsGoing words.now.table_id words.now.key seat.old.table_id seat.old.me }

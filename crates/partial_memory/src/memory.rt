@@ -79,7 +79,7 @@ impl Memory {
     ///
     /// # Errors
     /// [`OpenError::Ports`] exactly when there are not 1 to 64 ports, and otherwise
-    /// [`OpenError::Memory`] when a growth was refused. Nothing was made then.
+    /// [`OpenError::Memory`] when an allocation was refused. Nothing was made then.
     pub fn open(
         alloc: Global,
         sizes: Sizes,
@@ -128,7 +128,7 @@ impl Memory {
     /// # Errors
     /// [`OpenError::Ports`] exactly when there are not 1 to 64 ports; otherwise [`OpenError::TooSmall`]
     /// exactly when the closed memory has more components than `sizes`; otherwise
-    /// [`OpenError::Memory`] when a growth was refused. Nothing was made then.
+    /// [`OpenError::Memory`] when an allocation was refused. Nothing was made then.
     pub fn reopen(
         alloc: Global,
         closed: &Closed,
@@ -297,8 +297,8 @@ impl Memory {
     /// after one history, which begins with all that each of these ports had observed.
     ///
     /// # Errors
-    /// [`CloseError::Memory`] when a growth was refused: the contents are lost, and nothing is handed
-    /// back.
+    /// [`CloseError::Memory`] when an allocation was refused: the contents are lost, and nothing is
+    /// returned.
     pub fn close(self, alloc: Global, port: Port, mut rest: Vec<Port>) -> Result<Closed, CloseError>
         requires port { IsOf self port }
         requires rest { AllByRecursion (IsOf self) rest.items }

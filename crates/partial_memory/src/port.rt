@@ -1,4 +1,4 @@
-//! What one caller holds of a memory.
+//! A port: what one caller holds of a memory.
 
 ghost use Rattle.std.specs.Prelude.{◌≡◌, [], ◌∷◌};
 ghost use Rattle.partial_memory.specs.Rule.{IsBadgeOfOne, Seated, one_in};
@@ -10,15 +10,15 @@ use partial_core::Core;
 use std::marker::Model;
 use std::mem;
 
-/// A caller's token of a memory, used by one caller at a time. To contracts it is what the caller
-/// reasons about: the memory that it belongs to, its number, the history that it has seen, the notes of
-/// its calls, its marks, its steps, and its last call.
+/// A caller's token of a memory. One caller at a time uses it. To contracts it is what the caller reasons
+/// about: its memory, its number, the history that it has observed, the notes of its calls, its marks, the
+/// number of its atomic steps, and the answers to the steps of its last call.
 #[derive(Drop)]
 pub struct Port {
     pub(crate) badge: Badge<View>,
     pub(crate) core: Core,
     pub(crate) number: u32,
-    // Keeps ports that lie side by side on cache lines of their own.
+    // Keeps ports that lie side by side on separate cache lines.
     pub(crate) apart: [u64; 16],
 }
 
@@ -34,8 +34,9 @@ impl Model for Port {
 }
 
 impl Port {
-    /// The number of the port: 0, 1 and so on, in the order in which `open` gives them. Whatever calls it has
-    /// made, a port knows what it has seen: its notes are legal there, and its entries are those of its notes.
+    /// The number of the port: ports are numbered from 0 in the order in which `open` returns them. The
+    /// clause `knows` holds whatever calls the port has made: its notes are legal in the history that it
+    /// has observed, and its entries there are those of its notes.
     pub fn number(&self) -> u32
         ensures value { result ≡ self.now.number }
         ensures knows { Knows self.now }
@@ -43,22 +44,22 @@ impl Port {
         self.number
     }
 
-    /// Whether a pool claim of this port went past the end of the pool. Its updates and scans are
-    /// refused from then on.
+    /// Whether a pool claim of this port went past the end of the pool. If so, its updates and scans are
+    /// refused.
     pub fn pool_spent(&self) -> bool
         ensures { result ≡ self.now.pool_spent }
     {
         self.core.pool_spent()
     }
 
-    /// Whether a slot claim of this port went past the last slot. Its scans are refused from then on.
+    /// Whether a slot claim of this port went past the last slot. If so, its scans are refused.
     pub fn slots_spent(&self) -> bool
         ensures { result ≡ self.now.slots_spent }
     {
         self.core.slots_spent()
     }
 
-    // The seat of the port, which makes no call any more.
+    // Takes the seat of a port that makes no further call.
     pub(crate) fn into_seat(self) -> Place
         ensures table { result.table_id ≡ self.memory.table }
         ensures one { (x : Seated) × (result.me ≡ (x ∷ [], [])) × (port_view self.memory.table x ≡ self) }
@@ -73,7 +74,7 @@ impl Port {
     }
 }
 
-/// Takes the seat out of its badge, until it is put back.
+/// Takes the seat out of its badge, which is blank until the seat is put back.
 #[inline(always)]
 pub fn take_seat(badge: &mut Badge<View>) -> Place
     requires { IsBadgeOfOne badge.old.views }

@@ -1,19 +1,22 @@
-//! The rule of the table, and what its steps tell.
+//! The rule of the table, and what its steps tell a port.
 
 use atomic_table::{Join, Play, Seat, Shared, Split, TableRule};
 use partial_model::Opening;
 use partial_words::Sizes;
 use std::marker::{Brand, Model, PhantomData};
 
-/// What a memory was opened with: its sizes, what its components held, and how many ports it has.
+/// What a memory was opened with.
 #[derive(Drop)]
 pub struct About {
+    /// The number of components, slots, list words and pool words.
     pub sizes: Sizes,
+    /// The initial values, and the stamp of component 0.
     pub opening: Opening,
+    /// How many ports it has: 1 to 64.
     pub ports: u32,
 }
 
-/// What a seat knows: the ports that it stands for, mostly one. No value of it is made.
+/// The ports that a seat stands for, mostly one. It is ghost state: no value of it is ever made.
 #[derive(Drop)]
 pub struct View {
     none: (),
@@ -28,7 +31,7 @@ impl Model for View {
     ghost view = { λ _. [] };
 }
 
-/// The words and the ports of all seats are those of one lawful state.
+/// The rule of the table: the words and the ports of all seats are a lawful state.
 pub struct Lawful;
 
 impl TableRule<(), View, About> for Lawful {
@@ -39,11 +42,13 @@ impl TableRule<(), View, About> for Lawful {
     ghost first = { λ about. newcomers about 0 about.ports };
 }
 
+/// The words of a memory, shared by its threads.
 pub type Words = Shared<(), View, About, Lawful>;
 
+/// A seat of the table. Whoever holds it may make steps for its ports.
 pub type Place = Seat<(), View>;
 
-/// The machine whose step is made. Each call picks it.
+/// The machine whose step is made. Each call picks its own.
 pub trait Moment {
     ghost use Rattle.partial_machine.specs.Machine.{CoreState};
 
@@ -56,7 +61,7 @@ impl Moment for Brand {
     ghost core = { fresh (record { m = 1; slots = 1; lists = 0; pool = 3 }) 0 };
 }
 
-/// The machine's step, which is answered with the number found.
+/// A step of the machine `G`. It is answered with the number that the word had.
 pub struct Makes<G> {
     moment: PhantomData<G>,
 }
@@ -67,7 +72,7 @@ impl<G: Moment> Play<(), View> for Makes<G> {
     ghost then = { λ _. makes G.core };
 }
 
-/// The load of a component word, with which the seat's port begins a read.
+/// The load of a component word, by which the seat's port begins a read.
 pub struct BeginsRead;
 
 impl Play<(), View> for BeginsRead {
@@ -85,7 +90,7 @@ impl Play<(), View> for GoesOn {
     ghost then = { goes_on };
 }
 
-/// The same at a store, which is answered with 0.
+/// A further step that is a store. It is answered with 0.
 pub struct PutsOn;
 
 impl Play<(), View> for PutsOn {
@@ -94,7 +99,7 @@ impl Play<(), View> for PutsOn {
     ghost then = { λ s me _. goes_on s me 0 };
 }
 
-/// The seat's ports see the whole history.
+/// A load by which all ports of the seat observe the whole history.
 pub struct Looks;
 
 impl Play<(), View> for Looks {
@@ -103,7 +108,7 @@ impl Play<(), View> for Looks {
     ghost then = { λ _. looks };
 }
 
-/// The first port gets a seat of its own.
+/// Gives the first port of a seat a seat of its own.
 pub struct Deals;
 
 impl Split<View> for Deals {
@@ -114,7 +119,7 @@ impl Split<View> for Deals {
     ghost right = { first_of };
 }
 
-/// The ports of both seats come to the first.
+/// Gathers the ports of two seats in the first one.
 pub struct Gathers;
 
 impl Join<View> for Gathers {

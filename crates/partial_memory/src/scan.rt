@@ -1,4 +1,4 @@
-//! A scan in straight lines. Its embedded scan is made by its machine, in loops of its own.
+//! A scan, written as straight-line code. Its embedded scan is made by its own machine, in loops.
 
 ghost use Rattle.std.specs.Prelude.{◌≡◌, ◌<◌, ◌+◌, length, map, slice_index, false, IfSome, IfNone};
 ghost use Rattle.partial_words.specs.Announcement.{announcement_size};
@@ -21,8 +21,9 @@ use partial_model::Refused;
 use partial_words::{Sizes, Step, announcement_block_word, announcement_size};
 use std::marker::Brand;
 
-/// Makes the steps of a scan of these positions that isn't refused at once, and gives its reply. Where it is scanned,
-/// its values are in `into`, as the machine's rows have them, and otherwise `into` is unchanged.
+/// Makes the steps of a scan that isn't refused at once, and returns its reply. When the reply is
+/// `Scanned`, `into` has the values of the positions, as the machine's rows have them. Otherwise `into` is
+/// unchanged.
 pub fn scan(
     words: &Words,
     badge: &mut Badge<View>,
@@ -48,8 +49,8 @@ pub fn scan(
     reply
 }
 
-// The same at a seat, which it gives back. The values are copied before the port leaves, since what stands behind that
-// store waits for it.
+// Makes the scan at a seat, and returns the seat with the reply. The values are copied before the port
+// leaves the active set: code behind a sequentially consistent store waits for the store.
 fn make_scan(
     words: &Words,
     mut seat: Place,
@@ -94,7 +95,7 @@ fn make_scan(
     (behind, reply)
 }
 
-// Stores word `k` of the announcement at `at`, of these positions.
+// Stores word `k` of the announcement of these positions, whose block begins at word `at`.
 #[inline(always)]
 fn store_index(words: &Words, seat: &mut Place, which: &[u32], at: u64, k: u64)
     requires going { IsGoing words.now.table_id words.now.key seat.old.table_id seat.old.me }
@@ -109,7 +110,8 @@ fn store_index(words: &Words, seat: &mut Place, which: &[u32], at: u64, k: u64)
     make(words, seat, Step::Store((at + k) as u32, word));
 }
 
-// Joins with the announcement at `at`: the slot in which it stands, or None where there is none left.
+// Joins the active set with the announcement at word `at`. Returns its slot, or `None` when no slot is
+// left.
 #[inline(always)]
 fn join(words: &Words, seat: &mut Place, sizes: Sizes, at: u64) -> Option<u32>
     requires going { IsGoing words.now.table_id words.now.key seat.old.table_id seat.old.me }

@@ -1,5 +1,5 @@
-//! An update in straight lines. Its getSet and its embedded scan are made by their machines, each in loops of its
-//! own.
+//! An update, written as straight-line code. Its getSet and its embedded scan are made by their own
+//! machines, in loops.
 
 ghost use Rattle.std.specs.Prelude.{◌≡◌, ◌<◌, ◌+◌, [], Some, None};
 ghost use Rattle.partial_words.specs.Layout.{total};
@@ -23,7 +23,7 @@ use partial_model::Refused;
 use partial_words::{Step, plain_record_size};
 use std::marker::Brand;
 
-/// Makes the steps of an update that isn't refused at once, and gives its reply.
+/// Makes the steps of an update that isn't refused at once, and returns its reply.
 pub fn update(words: &Words, badge: &mut Badge<View>, core: &mut Core, change: Change) -> Reply
     requires table { badge.old.table_id ≡ words.now.table_id }
     requires words { words.now.table_id.words ≡ total words.now.key.sizes }
@@ -42,7 +42,7 @@ pub fn update(words: &Words, badge: &mut Badge<View>, core: &mut Core, change: C
     reply
 }
 
-// The same at a seat, which it gives back.
+// Makes the update at a seat, and returns the seat with the reply.
 fn make_update(words: &Words, mut seat: Place, core: &mut Core, change: Change) -> (Place, Reply)
     requires table { seat.table_id ≡ words.now.table_id }
     requires words { words.now.table_id.words ≡ total words.now.key.sizes }
@@ -74,8 +74,8 @@ fn make_update(words: &Words, mut seat: Place, core: &mut Core, change: Change) 
     (behind, reply)
 }
 
-// The end of an update that has replaced `old` and found no index: its record, which has no view, is claimed and
-// written, and its component exchanged.
+// Ends an update that loaded `old` and found no announced index: claims its record, which has no view,
+// writes it, and exchanges the component word.
 #[inline(always)]
 fn write_plain(words: &Words, seat: &mut Place, core: &mut Core, change: Change, old: u64) -> Reply
     requires going { IsGoing words.now.table_id words.now.key seat.old.table_id seat.old.me }
@@ -105,8 +105,8 @@ fn write_plain(words: &Words, seat: &mut Place, core: &mut Core, change: Change,
     exchanged(change, old, at, by)
 }
 
-// The end of an update that has replaced `old` and made an embedded scan: its record is claimed and written, and its
-// component exchanged.
+// Ends an update that loaded `old` and made an embedded scan: claims its record, writes it, and exchanges
+// the component word.
 fn write_record(words: &Words, seat: &mut Place, core: &mut Core, change: Change, old: u64) -> Reply
     requires going { IsGoing words.now.table_id words.now.key seat.old.table_id seat.old.me }
     requires idle { core.old.stage ≡ Idle }

@@ -17,7 +17,7 @@ abbrev pub entries_by : ℕ → List Applied → List Applied
 entries_by p [] = []
 entries_by p (e ∷ h) = if e.port == p then e ∷ entries_by p h else entries_by p h
 
--- the entry that a call of port p made, where it applied an update
+-- the entry that a call of port p made, if it applied an update
 abbrev pub entry_of : ℕ → Option Note → Call → Answer → List Applied
 entry_of p (Some (note.Wrote k)) (call.Update j v) (answer.Applied s) = record { port = p; component = j; value = v; stamp = s } ∷ []
 entry_of p (Some (note.Wrote k)) (call.UpdateIf j x v) (answer.Applied s) = record { port = p; component = j; value = v; stamp = s } ∷ []
@@ -28,7 +28,7 @@ abbrev pub applied_by : ℕ → List Noted → List Applied
 applied_by p [] = []
 applied_by p (n ∷ ns) = entry_of p n.note n.call n.answer ++ applied_by p ns
 
--- where a port's notes are legal and its entries are those that they claim, the entries are the updates that the notes say were applied
+-- when a port's notes are legal and its entries are those that they claim, the entries are the updates that the notes say were applied
 abbrev pub EntriesAreNoted : Type 0
 EntriesAreNoted =
     (o : Opening) (h : List Applied) (p : ℕ) (ns : List Noted) → LegalNotes o h p 0 ns → EachOnce h p ns → entries_by p h ≡ applied_by p ns

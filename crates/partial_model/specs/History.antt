@@ -1,11 +1,11 @@
--- What a component holds after a history: its last entry decides, and the opening where there is none.
+-- What a component holds after a history: its last entry decides, and the opening when there is none.
 use Rattle.std.specs.Prelude.{ℕ, ◌≢◌, ◌+◌, ◌*◌, ◌<◌, ◌==◌, ⊤, List, [], ◌∷◌, length, slice_index, Option, Some, None, if◌then◌else◌}
 use Rattle.std.specs.List.{AllByRecursion}
 use Rattle.std.specs.Option.{option_map_or}
 use Rattle.partial_model.specs.declared.history.Applied.{Applied}
 use Rattle.partial_model.specs.declared.history.Opening.{Opening}
 
--- the last entry for component j, or the one found before where there is none
+-- the last entry for component j, or the one found before when there is none
 unfoldable pub last_from : Option Applied → ℕ → List Applied → Option Applied
 last_from found j [] = found
 last_from found j (e ∷ h) = last_from (if e.component == j then Some e else found) j h

@@ -75,7 +75,7 @@ place_of (note.Saw n) = n
 abbrev pub IsEntryFor : List Applied → ℕ → ℕ → ℕ → Type 0
 IsEntryFor h k j t = (e : Applied) × (slice_get h k ≡ Some e) × (e.component ≡ j) × (e.stamp ≡ t)
 
--- a scan of no position makes no collect; one of r makes 2 to r + 2, and at least 3 where it borrows
+-- a scan of no position makes no collect; one of r makes 2 to r + 2, and at least 3 when it borrows a view
 abbrev pub AreCollects : ℕ → ℕ → Option ℕ → Type 0
 AreCollects zero c b = (c ≡ 0) × (b ≡ None)
 AreCollects (suc r) c b = (2 ≤ c) × (c ≤ r + 3) × (IsSome b → 3 ≤ c)
@@ -110,12 +110,12 @@ abbrev pub seen_after : ℕ → Option Note → ℕ
 seen_after seen None = seen
 seen_after seen (Some note) = shown_by note
 
--- how many entries a port has seen behind these notes, where it had seen so many before
+-- how many entries a port has seen after these notes, when it had seen that many before
 abbrev pub seen_by : ℕ → List Noted → ℕ
 seen_by seen [] = seen
 seen_by seen (n ∷ ns) = seen_by (seen_after seen n.note) ns
 
--- the notes of port p, in the order of its calls, where it had seen so many entries before
+-- the notes of port p, in the order of its calls, when it had seen that many entries before
 abbrev pub LegalNotes : Opening → List Applied → ℕ → ℕ → List Noted → Type 0
 LegalNotes o h p seen [] = ⊤
 LegalNotes o h p seen (n ∷ ns) = IsLegal o h p seen n × LegalNotes o h p (seen_after seen n.note) ns

@@ -10,7 +10,7 @@ use Rattle.partial_model.specs.declared.call.Called.{Called}
 use Rattle.partial_model.specs.History.{IsHistory}
 use Rattle.partial_model.specs.Notes.{Noted, LegalNotes, place_of, shown_by}
 
--- what is known of a call once it is finished
+-- what is known of a finished call
 abbrev pub noted_of : Called → Option Noted
 noted_of c = option_map (λ f. record { call = c.call; answer = f.answer; note = f.note }) c.finish
 
@@ -27,7 +27,7 @@ wrote _ = []
 abbrev pub places_written : List Noted → List ℕ
 places_written ns = flat_map (λ n. wrote n.note) ns
 
--- the places of the entries by port p, where the first entry stands at place k
+-- the places of the entries by port p, when the first entry stands at place k
 abbrev pub places_by : ℕ → ℕ → List Applied → List ℕ
 places_by p k [] = []
 places_by p k (e ∷ h) = if e.port == p then k ∷ places_by p (k + 1) h else places_by p (k + 1) h

@@ -24,7 +24,7 @@ update_refusal m pool j = if nat_lt j m then (if pool then Some refused.PoolSpen
 abbrev pub mark_refusal : Bool → Bool → Option Refused
 mark_refusal pool slots = if pool then Some refused.PoolSpent else (if slots then Some refused.SlotsSpent else None)
 
--- a scan looks at its components first, and then, where it has positions, at the marks
+-- a scan looks at its components first, and then, when it has positions, at the marks
 abbrev pub scan_refusal : ℕ → Bool → Bool → List ℕ → Option Refused
 scan_refusal m pool slots js =
     if list_all (λ j. nat_lt j m) js then (if length js == 0 then None else mark_refusal pool slots) else Some refused.Component

@@ -1,4 +1,4 @@
--- What equal stamps of a component tell: nothing was applied to it between them.
+-- What follows from equal stamps of a component: nothing was applied to it between them.
 use Rattle.std.specs.Prelude.{ℕ, ◌≡◌, ◌<◌, ◌≤◌, List, length, map, take}
 use Rattle.std.specs.List.{AllByRecursion}
 use Rattle.partial_model.specs.declared.history.Applied.{Applied}

@@ -14,11 +14,12 @@ pub enum Call {
         component: u32,
         value: u64,
     },
-    /// Read several components as they stood together at one moment. Repeats are allowed.
+    /// Return the values that several components had together at one moment. A component may be named more
+    /// than once.
     Scan {
         components: Sequence<u32>,
     },
-    /// Read one component.
+    /// Return the value and the stamp of one component.
     Read {
         component: u32,
     },
@@ -31,7 +32,10 @@ pub enum Call {
 }
 
 impl Call {
-    /// The same call once more. Only a scan wants memory for it, and only where that is refused is there none.
+    /// Copies the call. Only the copy of a scan takes memory.
+    ///
+    /// # Errors
+    /// [`AllocError`] when an allocation was refused.
     pub fn copy(&self, alloc: Global) -> Result<Call, AllocError>
         ensures { IfOk result (λ copy. copy ≡ self.now) }
     {
@@ -64,14 +68,14 @@ impl Call {
 pub enum Refused {
     /// An index isn't below the number of components.
     Component,
-    /// A slot claim of this call, or an earlier one of this port, went past the end of the slots.
+    /// A slot claim of this call, or of an earlier one of this port, went past the last slot.
     SlotsSpent,
-    /// A pool claim of this call, or an earlier one of this port, went past the end of the pool.
+    /// A pool claim of this call, or of an earlier one of this port, went past the end of the pool.
     PoolSpent,
 }
 
 impl Refused {
-    /// The number of the refusal: 7 for a component, 8 for the slots, 9 for the pool.
+    /// The number of the refusal: 7 for `Component`, 8 for `SlotsSpent`, 9 for `PoolSpent`.
     pub fn code(&self) -> u8
         ensures { result ≡ refused_code self.now }
     {
@@ -86,16 +90,17 @@ impl Refused {
 /// The answer of a finished call.
 #[derive(Debug, Drop)]
 pub enum Answer {
-    /// The update was applied, and its record has this stamp.
+    /// The update took effect, and its record has this stamp.
     Applied {
         stamp: u64,
     },
-    /// The update was overwritten by the one with this stamp before anyone could see it.
+    /// Another update, with this stamp, took effect during the call and overwrote the update before anyone
+    /// could see it.
     Lost {
         by: u64,
     },
-    /// The values that stood together, in the order of the call's positions, the number of collects
-    /// made, and the stamp of the record whose view was borrowed, if one was.
+    /// The values that stood together, in the order of the call's positions; the number of collects; and
+    /// the stamp of the update whose view the scan took, if it was helped.
     Scanned {
         values: Sequence<u64>,
         collects: u32,
@@ -110,20 +115,20 @@ pub enum Answer {
     Refused {
         cause: Refused,
     },
-    /// The component had this stamp in place of the expected one.
+    /// The component had this stamp, which is not the expected one.
     Changed {
         by: u64,
     },
 }
 
-/// Where in the history a finished call has its place.
+/// The place of a finished call in the history: its linearization point. Places are counted from 0.
 #[derive(Clone, Copy, Debug, PartialEq, Eq)]
 pub enum Note {
-    /// The update is the entry at this place, counted from 0.
+    /// The update is the entry at this place.
     Wrote(usize),
-    /// The update was overwritten by the entry at this place.
+    /// The update was overwritten by the entry at this place, and counts as made just before it.
     Lost(usize),
-    /// The call saw the first so many entries.
+    /// The call saw this many entries: its answer is that after this prefix of the history.
     Saw(usize),
 }
 
@@ -132,22 +137,25 @@ pub enum Note {
 pub struct Finish {
     /// The length of the history when the call ended.
     pub ended: usize,
+    /// What it answered.
     pub answer: Answer,
-    /// None where the call was refused.
+    /// The place of the call. `None` when it was refused.
     pub note: Option<Note>,
 }
 
 /// A call that a port has begun.
 #[derive(Debug, Drop)]
 pub struct Called {
+    /// The port that made it.
     pub port: u32,
-    /// Counts the port's calls from 0.
+    /// The number of the call among those of its port, counted from 0.
     pub number: u32,
+    /// What was asked for.
     pub call: Call,
     /// The length of the history when the call began.
     pub began: usize,
     /// How many atomic steps the call has made.
     pub steps: u64,
-    /// None where the call is unfinished.
+    /// How it ended. `None` when it is unfinished.
     pub finish: Option<Finish>,
 }

@@ -1,4 +1,4 @@
-//! The history of applied updates, and what a component holds after a part of it.
+//! The history: the updates that took effect, in order, and what a component holds after a prefix of it.
 
 ghost use Rattle.std.specs.Prelude.{◌≡◌, ◌==◌, ◌<◌, ◌≤◌, ◌^◌, length, take};
 ghost use Rattle.partial_model.specs.History.{last_entry, value_of, stamp_of};
@@ -8,26 +8,26 @@ use crate::sequence::Sequence;
 /// What the components hold at opening.
 #[derive(Debug, Drop)]
 pub struct Opening {
-    /// The value of each component.
+    /// The value of each component, by its index.
     pub values: Sequence<u64>,
-    /// The stamp of component 0. That of component `j` is `first + 3j`.
+    /// The stamp of component 0. That of component j is `first + 3j`.
     pub first: u64,
 }
 
-/// An entry of the history: one applied update.
+/// An entry of the history: one update that took effect.
 #[derive(Clone, Copy, Debug, PartialEq, Eq)]
 pub struct Applied {
     /// The port that made it.
     pub port: u32,
-    /// The component that it set.
+    /// The index of the component that it set.
     pub component: u32,
     /// The value that the component has from then on.
     pub value: u64,
-    /// The stamp that the component has from then on: the word number of the record.
+    /// The stamp that the component has from then on: the word number of the update's record.
     pub stamp: u64,
 }
 
-// The last entry for the component, sought backwards.
+// The last entry for the component. The search goes backwards.
 pub(crate) fn last_entry(history: &[Applied], component: u32) -> Option<Applied>
     ensures { result ≡ last_entry component history.now }
 {

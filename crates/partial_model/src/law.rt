@@ -4,20 +4,20 @@ ghost use Rattle.partial_model.specs.Entries.{EntriesAreNoted, LastEntriesDecide
 ghost use Rattle.partial_model.specs.Notes.{LegalNotesAreShown};
 ghost use Rattle.partial_model.specs.Stamps.{StampsNeverReturn, EqualCollectsStandTogether};
 
-/// The last entry of a history is the value and the stamp of its component, and changes no other; before
-/// the first entry a component has what it was opened with.
+/// The last entry of a history sets the value and the stamp of its component, and changes no other
+/// component. Before the first entry a component has the value and the stamp of opening.
 pub fn last_entries_decide()
     ensures { LastEntriesDecide }
 {}
 
-/// A stamp never returns: a component that has one stamp at two lengths of a history has that stamp,
-/// and the value that came with it, at each length between.
+/// A stamp never returns: a component that has one stamp at two lengths of a history has that stamp, and
+/// the value that came with it, at each length between them.
 pub fn stamps_never_return()
     ensures { StampsNeverReturn }
 {}
 
-/// When two collects give each component the same stamp, the stamps of the collects stood together at
-/// each length of the history between the end of the first and the start of the second.
+/// When two collects find the same stamp at each component (a double collect), these stamps stood together
+/// at each length of the history between the end of the first collect and the start of the second.
 pub fn equal_collects_stand_together()
     ensures { EqualCollectsStandTogether }
 {}

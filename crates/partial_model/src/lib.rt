@@ -1,6 +1,6 @@
-//! The plain data of a partial snapshot object: the history of applied updates, the calls with their
-//! answers and notes, and the look-ups in a history. The definitions in `specs/` say when a history
-//! and a list of calls are a legal outcome, and `check_outcome` decides it.
+//! The plain data of a partial snapshot object: the history, the calls with their answers and notes, and
+//! the look-ups in a history. The definitions in `specs/` say when a history and a list of calls are a
+//! legal outcome, and `check_outcome` decides it.
 #![tactic(auto)]
 
 pub mod call;

@@ -1,11 +1,11 @@
-//! A list that a contract sees as the list of its items, whatever memory holds them.
+//! A list that contracts see as its items alone, whatever memory holds them.
 
 ghost use Rattle.std.specs.Prelude.{◌≡◌, ◌==◌, length, List};
 
 use std::marker::Model;
 
-/// A list of values: a `Vec` that contracts see as its items alone, so that two lists with the same
-/// items are equal to them. It is made from a `Vec` and gives it back without taking memory.
+/// A `Vec` that contracts see as the list of its items, so that two lists with the same items are equal to
+/// them. It is made from a `Vec` and turned back into one without taking memory.
 #[derive(Debug, Drop)]
 pub struct Sequence<T> {
     items: Vec<T>,
@@ -47,7 +47,7 @@ impl<T> Sequence<T> {
         self.items.is_empty()
     }
 
-    /// The `Vec` that the list was made from.
+    /// Returns the `Vec` that the list was made from.
     pub fn into_vec(self) -> Vec<T>
         ensures { result.items ≡ self }
     {

@@ -11,7 +11,7 @@ use Rattle.partial_picture.specs.declared.window.Span.{Span}
 abbrev pub won_steps : ℕ → List Event → List ℕ
 won_steps m trace = map (λ x. x.0) (filter (λ x. is_won m x.1.step x.1.answer) (enumerate_from 0 trace))
 
--- the pin of an entry at a place of the history, where its step is among these
+-- the pin of an entry at a place of the history, when its step is among these
 abbrev pub pin_at : Span → ℕ → Applied → ℕ → Option Pin
 pin_at window place entry step = if not (nat_lt step window.first) && nat_lt step window.behind
     then Some (record { entry = entry; place = place; mark = step - window.first }) else None

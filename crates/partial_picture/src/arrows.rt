@@ -1,4 +1,4 @@
-//! From which exchange an arrow leaves, and to which step it comes.
+//! The arrows of a picture: from the exchange that applied an entry to the step of a call that met it.
 
 ghost use Rattle.std.specs.Prelude.{◌-◌, All, IfOk, IfSome};
 ghost use Rattle.partial_picture.specs.Arrows.{IsWithin};
@@ -12,7 +12,7 @@ use partial_words::Step;
 use std::alloc::{AllocError, Global};
 use std::collections::BTreeMap;
 
-/// An arrow whose ends are steps.
+/// An arrow whose ends are steps of the replay.
 #[derive(Clone, Copy)]
 struct Found {
     kind: ArrowKind,
@@ -21,7 +21,7 @@ struct Found {
     to: usize,
 }
 
-/// The step of the exchange that applied the entry with a stamp.
+/// The step of each exchange that applied an entry, by the stamp of the entry.
 fn steps_by_stamp(
     alloc: Global,
     history: &[Applied],
@@ -34,7 +34,7 @@ fn steps_by_stamp(
     Ok(by_stamp)
 }
 
-/// Whether the event is a load of one of m component words, and shows this stamp.
+/// Whether the event is a load of one of m component words that returned this stamp.
 fn shows(m: usize, event: &Event, stamp: u64) -> bool {
     match event.step {
         Step::Load(word) => (word as usize) < m && event.answer == stamp,
@@ -42,15 +42,15 @@ fn shows(m: usize, event: &Event, stamp: u64) -> bool {
     }
 }
 
-/// The last of these steps that shows the stamp.
+/// The last of these steps that loaded the stamp.
 fn last_shown(m: usize, trace: &[Event], steps: &[usize], stamp: u64) -> Option<usize> {
     steps.iter().rev().copied().find(|step| trace
         .get(*step)
         .is_some_and(|event| shows(m, event, stamp)))
 }
 
-/// The arrow to a call, by its answer: an update that was overtaken ends with the step that showed it, and a scan
-/// that borrowed a view has loaded the stamp of its record.
+/// The arrow to a call, by its answer. For an update that was overtaken, it ends at the step that met the
+/// other stamp. For a scan that was helped, it ends at the load of the stamp whose view the scan took.
 fn arrow_to(
     m: usize,
     trace: &[Event],
@@ -71,7 +71,7 @@ fn arrow_to(
         ArrowKind::Overtook => made.steps.last().copied()?,
         ArrowKind::Lent => last_shown(m, trace, made.steps, stamp)?,
     };
-    // What stood before the call began has overtaken nothing.
+    // An entry from before the call has overtaken nothing.
     made.span.contains(from).then_some(Found {
         kind,
         stamp,
@@ -80,7 +80,7 @@ fn arrow_to(
     })
 }
 
-/// The arrow to a call, where both its ends are in the window.
+/// The arrow to a call, when both its ends are in the window.
 fn arrow_in<'a>(
     m: usize,
     window: Span,
@@ -103,7 +103,7 @@ fn arrow_in<'a>(
     })
 }
 
-/// The arrows whose both ends are in the window.
+/// The arrows that have both ends in the window.
 pub(crate) fn arrows_of<'a>(
     alloc: Global,
     m: usize,

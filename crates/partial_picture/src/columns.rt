@@ -1,4 +1,4 @@
-//! The form of a picture for terminals: a line for each step, and a column for each port.
+//! The text form of a picture, for terminals: a line for each step, and a column for each port.
 
 ghost use Rattle.std.specs.Prelude.{◌<◌, ◌≤◌, IfOk, OnOk};
 ghost use Rattle.std.specs.String.{string_len};
@@ -7,16 +7,16 @@ use crate::picture::{Bar, Mark, Picture, Pin};
 use partial_labels::{call_words, entry_words, finish_words, step_words};
 use std::alloc::{AllocError, Global};
 
-/// What is told beside the steps: where a call begins and ends, and where an entry is added.
+/// The remarks beside the steps: which call begins or ends there, and which entry is added.
 #[derive(Drop)]
 struct Remarks {
-    /// The calls without a step before each mark, and behind the last one. Each is a line.
+    /// The calls without a step before each mark and, last, after all marks. Each text is a line.
     between: Vec<String>,
-    /// What is told of each mark.
+    /// The remarks on each mark.
     beside: Vec<String>,
 }
 
-/// So many texts without words.
+/// Makes so many empty texts.
 fn blanks(alloc: Global, count: usize) -> Result<Vec<String>, AllocError> {
     let mut texts = Vec::with_capacity(alloc, count)?;
     for _text in 0..count {
@@ -25,7 +25,7 @@ fn blanks(alloc: Global, count: usize) -> Result<Vec<String>, AllocError> {
     Ok(texts)
 }
 
-/// Adds words to what is told at a place.
+/// Appends words to the remarks at an index.
 fn tell(texts: &mut [String], index: usize, words: &str) -> Result<(), AllocError> {
     if let Some(text) = texts.get_mut(index) {
         if !text.is_empty() {
@@ -36,7 +36,7 @@ fn tell(texts: &mut [String], index: usize, words: &str) -> Result<(), AllocErro
     Ok(())
 }
 
-/// Adds what is told of a call.
+/// Adds the remarks on a call.
 fn tell_bar(alloc: Global, remarks: &mut Remarks, bar: &Bar<'_>) -> Result<(), AllocError> {
     let port = bar.called.port;
     let number = bar.called.number;
@@ -61,8 +61,8 @@ fn tell_bar(alloc: Global, remarks: &mut Remarks, bar: &Bar<'_>) -> Result<(), A
     Ok(())
 }
 
-/// Adds what is told of the entries. The exchange that adds an entry is the last step of its call, and never the
-/// first one.
+/// Adds the remarks on the entries. The exchange that adds an entry is the last step of its call, and never
+/// the first one.
 fn tell_pins(alloc: Global, texts: &mut [String], pins: &[Pin]) -> Result<(), AllocError> {
     for pin in pins {
         tell(texts, pin.mark, &entry_words(alloc, pin.place, &pin.entry)?)?;
@@ -70,7 +70,7 @@ fn tell_pins(alloc: Global, texts: &mut [String], pins: &[Pin]) -> Result<(), Al
     Ok(())
 }
 
-/// What is told of a picture beside its steps.
+/// Collects the remarks of a picture.
 fn remarks_of(alloc: Global, picture: &Picture<'_>) -> Result<Remarks, AllocError> {
     let marks = picture.marks.len();
     let mut between = blanks(alloc, marks)?;
@@ -93,7 +93,7 @@ fn cells_of(alloc: Global, marks: &[Mark]) -> Result<Vec<String>, AllocError> {
     Ok(cells)
 }
 
-/// How wide the column of each port is: as its longest step, or as its name.
+/// The width of each port's column: that of its longest step or of its name.
 fn widths_of(
     alloc: Global,
     ports: usize,
@@ -112,7 +112,7 @@ fn widths_of(
     Ok(widths)
 }
 
-/// Writes the words, and spaces behind them up to a width and two more.
+/// Writes the words, then spaces up to the width and two more.
 fn push_cell(line: &mut String, words: &str, width: usize) -> Result<(), AllocError> {
     line.push_str(words)?;
     for _space in words.len()..width {
@@ -161,7 +161,7 @@ fn line_of(
     Ok(line)
 }
 
-/// Writes the line of the calls that stand between two steps, where there are any.
+/// Writes the line of the calls between two steps, if there are any.
 fn push_between(text: &mut String, words: &str) -> Result<(), AllocError>
     ensures { OnOk result (string_len text.old ≤ string_len text.new) }
 {
@@ -172,7 +172,7 @@ fn push_between(text: &mut String, words: &str) -> Result<(), AllocError>
     push_line(text, words)
 }
 
-/// Writes the lines of the steps, and before each of them that of the calls without a step.
+/// Writes the lines of the steps, each after the line of the calls without a step that stand before it.
 fn push_steps(
     alloc: Global,
     text: &mut String,
@@ -193,8 +193,11 @@ fn push_steps(
     Ok(())
 }
 
-/// A picture for terminals: a line for each step with its number, in the column of its port, and behind it what
-/// it begins, adds to the history and ends.
+/// Draws a picture for terminals. Each step has a line with its number. The step stands in the column of
+/// its port, and after it what it begins, adds to the history and ends.
+///
+/// # Errors
+/// [`AllocError`] when an allocation was refused.
 pub fn table(alloc: Global, picture: &Picture<'_>) -> Result<String, AllocError>
     ensures some { IfOk result (λ text. 0 < string_len text) }
 {

@@ -1,4 +1,4 @@
-//! From the text of a plan to the text of a picture.
+//! The command: it reads the text of a plan and writes the text of a picture.
 
 ghost use Rattle.std.specs.Prelude.{◌≡◌, ◌≢◌, ◌↔◌, ◌<◌, ℕ, List, length, true, false, IfErr, IfOk, IfSome, IsErrOf, OnOk};
 ghost use Rattle.std.specs.Io.KnownBytes.{Appends};
@@ -16,10 +16,10 @@ use partial_text::write_text;
 use std::alloc::{AllocError, Global};
 use std::io::{Read, Write};
 
-/// What a picture is written as.
+/// The form in which a picture is written.
 #[derive(Clone, Copy, Debug, PartialEq, Eq)]
 pub enum Form {
-    /// A drawing in SVG, where asked with the words that each step has touched.
+    /// A drawing in SVG. With `has_words` it also shows the words that each step touches.
     Drawing { has_words: bool },
     /// Text for terminals.
     Table,
@@ -39,9 +39,10 @@ fn text_of(alloc: Global, form: Form, picture: &Picture<'_>) -> Result<String, A
 ///
 /// # Errors
 ///
-/// The first fault of the plan's text, where it isn't the text of a plan; code 6 where a growth was refused; code
-/// 11 where the reader failed, and code 12 where the writer failed or took 0 bytes; code 15 or 16 where the window
-/// isn't one that is drawn. Nothing is written but after code 12, and then a part of the text from its front.
+/// The first fault of the text, when it isn't the text of a plan. Code 6 when an allocation was refused.
+/// Code 11 when the reader failed, and code 12 when the writer failed or took 0 bytes. Code 15 or 16 when
+/// the window can't be drawn. After code 12 a part of the text from its front has been written, after any
+/// other error nothing.
 pub fn draw<R: Read, W: Write>(
     alloc: Global,
     form: Form,
@@ -53,13 +54,13 @@ pub fn draw<R: Read, W: Write>(
     requires out { out.old.failed ≡ false }
     ensures read_fault { IsErrOf result reader_fault ↔ (plan.new.failed ≡ true) }
     ensures write_fault { IsErrOf result writer_fault ↔ (out.new.failed ≡ true) }
-    // Which fault of the plan it is, and that a plan without a fault isn't refused as one.
+    // The fault is that of the plan, and a plan without a fault isn't refused for one.
     ensures plan { plan.new.failed ≡ false → IfSome (R.remaining plan.old.inner)
         (λ bytes. IsJudged result (judged bytes)) }
     // The text of a picture is written whole, and it isn't empty.
     ensures written { OnOk result ((text : List ℕ) × (0 < length text)
         × Appends (W.contents out.old.inner) (W.contents out.new.inner) text) }
-    // Nothing is written but after a fault of the writer.
+    // Nothing is written, except after a fault of the writer.
     ensures unwritten { IfErr result (λ fault. fault ≢ writer_fault → out.new ≡ out.old) }
 {
     let plan = Plan::read(alloc, plan)?;

@@ -1,4 +1,4 @@
-//! Why nothing was drawn.
+//! Why no picture was drawn or written.
 
 ghost use Rattle.std.specs.Prelude.{◌≡◌};
 
@@ -6,16 +6,17 @@ use partial_replay::{OutcomeError, PlanError, ReplayError};
 use std::alloc::AllocError;
 use thiserror::Error;
 
-/// Why there is no picture of a replay.
+/// Why a replay has no picture.
 #[derive(Clone, Copy, Debug, PartialEq, Eq, Error)]
 pub enum PictureError {
-    /// A growth was refused.
+    /// An allocation was refused.
     #[error("out of memory")]
     Memory,
-    /// So many steps are asked for, and a picture has at most 2,000.
+    /// The window has so many steps, and a picture has at most 2,000.
     #[error("{steps} steps, of which at most 2000 are drawn: give --window A B")]
     TooMany { steps: usize },
-    /// The window isn't one of two steps of the replay in their order. It has so many steps.
+    /// The window doesn't go from a step of the replay to the same or a later one. The replay has so many
+    /// steps.
     #[error("window out of range of {steps} steps")]
     Window { steps: usize },
 }
@@ -23,7 +24,7 @@ pub enum PictureError {
 impl PictureError {
     ghost use Rattle.partial_picture.specs.Refusal.{picture_code_of};
 
-    /// The number of the refusal: 6 for memory, 15 for too many steps, 16 for the window.
+    /// The number of the refusal: 6 for `Memory`, 15 for `TooMany`, 16 for `Window`.
     pub fn code(&self) -> u8
         ensures { result ≡ picture_code_of self.now }
     {
@@ -49,13 +50,13 @@ impl From<AllocError> for PictureError {
 /// Why a picture wasn't written.
 #[derive(Clone, Copy, Debug, PartialEq, Eq, Error)]
 pub enum Fault {
-    /// The plan wasn't read.
+    /// The plan couldn't be read. Nothing was written.
     #[error("{0}")]
     Plan(PlanError),
-    /// The plan wasn't replayed.
+    /// The plan couldn't be replayed. Nothing was written.
     #[error("{0}")]
     Replay(ReplayError),
-    /// There is no picture of the replay.
+    /// The replay has no picture. Nothing was written.
     #[error("{0}")]
     Picture(PictureError),
     /// The picture wasn't written whole.
@@ -66,8 +67,8 @@ pub enum Fault {
 impl Fault {
     ghost use Rattle.partial_picture.specs.Refusal.{code_of};
 
-    /// The number of the refusal: 1 to 4 for the sizes, 5 for the ports, 6 for memory, 10 for a line of the
-    /// plan, 11 for the reader, 12 for the writer, 15 for too many steps, 16 for the window.
+    /// The number of the refusal: 1 to 4 for a size, 5 for the number of ports, 6 for memory, 10 for a line
+    /// of the plan, 11 for the reader, 12 for the writer, 15 for too many steps, 16 for the window.
     pub fn code(&self) -> u8
         ensures { result ≡ code_of self.now }
     {

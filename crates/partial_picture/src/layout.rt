@@ -1,34 +1,34 @@
-//! Where everything stands in a drawing: steps from left to right, lanes from top to bottom.
+//! The layout of a drawing: steps from left to right, lanes from top to bottom.
 
 use crate::picture::{Bar, Picture, Pin};
 use partial_labels::{Label, Pixels, labels_of, raised_by};
 use std::alloc::{AllocError, Global};
 
-/// Where the first step begins: names of lanes stand in front of it.
+/// Where the first step begins. The names of the lanes stand left of it.
 const LEFT: Pixels = Pixels(116);
 
-/// How wide the place of a call without a step is.
+/// The width of a call without a step.
 const BETWEEN: Pixels = Pixels(80);
 
-/// How much is left free behind the steps, for words that go on.
+/// The free width right of the steps, for words that go on.
 const RIGHT: u64 = 120;
 
-/// How wide a drawing is at least, so that its legend has room.
+/// The least width of a drawing, so that its legend has room.
 const LEAST_WIDTH: Pixels = Pixels(660);
 
-/// The line of the history, below one tier of words.
+/// Where the line of the history lies: below one tier of words.
 const HISTORY: Pixels = Pixels(64);
 
-/// How far below the line of the history the first lane begins.
+/// The distance from the line of the history to the first lane.
 const LANES: u64 = 20;
 
-/// How high a lane is: two lines of words, the bars, and the port's name.
+/// The height of a lane: two lines of words, the bars, and the port's name.
 const LANE: Pixels = Pixels(74);
 
-/// How high the row of a word is.
+/// The height of a word's row.
 const ROW: Pixels = Pixels(18);
 
-/// How high the legend is.
+/// The height of the legend.
 const LEGEND: u64 = 52;
 
 /// The sides of a bar.
@@ -41,7 +41,7 @@ pub(crate) struct Sides {
 /// The places of a drawing.
 #[derive(Drop)]
 pub(crate) struct Layout {
-    /// How wide a step is.
+    /// The width of a step.
     step: u64,
     /// Where each mark's step begins, and where the last one ends.
     edges: Vec<Pixels>,
@@ -61,7 +61,7 @@ pub(crate) struct Layout {
     pub(crate) legend: Pixels,
 }
 
-/// How wide a step is where there are so many: short replays have room for their words.
+/// The width of a step in a picture of so many. Short replays have room for their words.
 fn step_width(marks: usize) -> u64 {
     match marks {
         0..=40 => 26,
@@ -70,7 +70,7 @@ fn step_width(marks: usize) -> u64 {
     }
 }
 
-/// How many calls without a step stand before each of so many marks, and behind the last one.
+/// How many calls without a step stand before each of so many marks and, last, after all of them.
 fn calls_between(alloc: Global, marks: usize, bars: &[Bar<'_>]) -> Result<Vec<usize>, AllocError> {
     let mut counts = vec![in alloc; 0usize; marks]?;
     counts.push(0)?;
@@ -85,7 +85,7 @@ fn calls_between(alloc: Global, marks: usize, bars: &[Bar<'_>]) -> Result<Vec<us
 }
 
 impl Layout {
-    /// Where the picture's parts stand, with so many rows of words.
+    /// Lays out a picture with so many rows of words.
     pub(crate) fn of(
         alloc: Global,
         picture: &Picture<'_>,
@@ -156,7 +156,7 @@ impl Layout {
         self.legend - 8
     }
 
-    /// How far from a bar's left side its words may go: to the next bar of its port.
+    /// The room for a bar's words, from its left side to the next bar of its port.
     pub(crate) fn room(&self, bars: &[Bar<'_>], index: usize) -> Pixels {
         let Some(sides) = self.bars.get(index) else {
             return Pixels(0);
@@ -172,7 +172,7 @@ impl Layout {
     }
 }
 
-/// Where the words of these entries stand, over the middles of their marks.
+/// Where the words of these entries stand: over the middles of their marks.
 fn labels_at(
     alloc: Global,
     pins: &[Pin],

@@ -5,8 +5,8 @@ use crate::svg::{push_shape, push_words};
 use partial_labels::Pixels;
 use std::alloc::AllocError;
 
-/// The colours are those of Okabe and Ito, which the colour-blind tell apart, and each stands with a shape of its
-/// own.
+/// The colours are those of Okabe and Ito, which colour-blind readers can tell apart. Each goes with a
+/// shape of its own.
 pub(crate) const STYLE: &str = "<style>
 text{font:11px ui-monospace,Menlo,Consolas,'DejaVu Sans Mono',monospace;fill:#1c2127}
 .call{font-weight:bold}
@@ -58,7 +58,7 @@ markerWidth=\"5\" markerHeight=\"5\" orient=\"auto\">\
 </defs>
 ";
 
-/// The marks, with what they mean.
+/// The marks and their meanings.
 const MARKS: [(Shape, &str, u64); 5] = [
     (Shape::Load, "load", 14),
     (Shape::Store, "store", 72),
@@ -67,7 +67,7 @@ const MARKS: [(Shape, &str, u64); 5] = [
     (Shape::Lost, "exchange, lost", 310),
 ];
 
-/// What else is drawn, with what it means, and the end of the legend.
+/// The other shapes and their meanings, and the end of the legend.
 const REST: &str = "\
 <circle class=\"entry\" cx=\"14\" cy=\"36\" r=\"5\"/>
 <text class=\"meaning\" x=\"26\" y=\"40\">entry of the history</text>
@@ -80,7 +80,7 @@ const REST: &str = "\
 </g>
 ";
 
-/// Writes what the shapes mean.
+/// Writes the legend.
 pub(crate) fn push_legend(text: &mut String, top: Pixels) -> Result<(), AllocError> {
     writeln!(
         text,

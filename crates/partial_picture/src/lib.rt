@@ -1,4 +1,5 @@
-//! Pictures of replays: a drawing in SVG and a form for terminals, made from the outcome that everyone sees.
+//! Pictures of replays, as drawings in SVG and as text for terminals. They are made from the outcome that
+//! the replay returns to every caller.
 #![tactic(auto)]
 
 mod arrows;

@@ -1,4 +1,4 @@
-//! What is drawn of a replay.
+//! What a picture shows of a replay.
 
 ghost use Rattle.std.specs.Prelude.{◌≡◌, ◌≢◌, ◌≤◌, ◌-◌, All, map, length, IfOk, IfSome, MatchResult};
 ghost use Rattle.partial_picture.specs.Arrows.{IsWithin};
@@ -16,31 +16,36 @@ use partial_replay::{Event, Outcome};
 use partial_words::{Sizes, Step};
 use std::alloc::{AllocError, Global};
 
-/// The shape of a step.
+/// The shape of a step's mark.
 #[derive(Clone, Copy, Debug, PartialEq, Eq)]
 pub enum Shape {
+    /// A load.
     Load,
+    /// A store.
     Store,
-    /// An exchange that has won.
+    /// An exchange that won.
     Won,
-    /// An exchange that was lost.
+    /// An exchange that failed.
     Lost,
+    /// An add.
     Add,
 }
 
-/// The mark of a step. The first mark is that of the window's first step, and each further one that of the next
-/// step.
+/// The mark of a step. Marks are those of the window's steps, in order.
 #[derive(Clone, Copy, Debug, PartialEq, Eq)]
 pub struct Mark {
+    /// The step with its answer.
     pub event: Event,
+    /// The shape that shows what the step did.
     pub shape: Shape,
 }
 
 /// The bar of a call.
 #[derive(Clone, Copy, Debug)]
 pub struct Bar<'a> {
+    /// The call, as in the outcome.
     pub called: &'a Called,
-    /// Its marks in the window, counted from 0. Where it has none it stands before the mark `first`.
+    /// Its marks in the window, counted from 0. When it has none, it stands before the mark `first`.
     pub marks: Span,
     /// Whether it begins in the window.
     pub begins: bool,
@@ -48,9 +53,10 @@ pub struct Bar<'a> {
     pub ends: bool,
 }
 
-/// Where an entry of the history stands.
+/// The pin of an entry of the history.
 #[derive(Clone, Copy, Debug, PartialEq, Eq)]
 pub struct Pin {
+    /// The entry.
     pub entry: Applied,
     /// Its place in the history, counted from 0.
     pub place: usize,
@@ -58,31 +64,34 @@ pub struct Pin {
     pub mark: usize,
 }
 
-/// What an arrow tells.
+/// What an arrow says.
 #[derive(Clone, Copy, Debug, PartialEq, Eq)]
 pub enum ArrowKind {
-    /// A won exchange has overtaken an update.
+    /// A won exchange overtook an update.
     Overtook,
-    /// A record has lent its view to a scan.
+    /// A scan took the view of a record.
     Lent,
 }
 
-/// An arrow from the exchange that applied an entry to the step of a call that has met it.
+/// An arrow from the exchange that applied an entry to the step of a call that met the entry.
 #[derive(Clone, Copy, Debug)]
 pub struct Arrow<'a> {
+    /// What the arrow says.
     pub kind: ArrowKind,
     /// The stamp of the entry.
     pub stamp: u64,
-    /// The mark that the arrow leaves.
+    /// The mark at which the arrow begins.
     pub from: usize,
-    /// The mark that it comes to.
+    /// The mark at which the arrow ends.
     pub to: usize,
+    /// The call at which the arrow ends.
     pub called: &'a Called,
 }
 
-/// A picture of a replay: what is drawn of it, and nothing of where.
+/// A picture of a replay: what is drawn. Where it is drawn is the layout's.
 #[derive(Debug, Drop)]
 pub struct Picture<'a> {
+    /// The sizes of the memory.
     pub sizes: Sizes,
     /// The steps that are drawn, counted from 0.
     pub window: Span,
@@ -90,16 +99,20 @@ pub struct Picture<'a> {
     pub steps: usize,
     /// How many ports there are. Each has a lane.
     pub ports: usize,
+    /// The marks of the steps, in order.
     pub marks: Vec<Mark>,
+    /// The bars of the calls.
     pub bars: Vec<Bar<'a>>,
+    /// The pins of the entries, in the order of the history.
     pub pins: Vec<Pin>,
+    /// The arrows.
     pub arrows: Vec<Arrow<'a>>,
-    /// The words that the marks touch, each once, rising.
+    /// The numbers of the words that the marks touch, each once, rising.
     pub words: Vec<u32>,
 }
 
 impl Mark {
-    /// The mark of an event.
+    /// Makes the mark of an event.
     pub fn of(event: Event) -> Mark
         ensures { result ≡ mark_of event }
     {
@@ -115,11 +128,11 @@ impl Mark {
 }
 
 impl<'a> Picture<'a> {
-    /// The picture of a window of a replay with these sizes and so many ports.
+    /// Makes the picture of a window of a replay with these sizes and so many ports.
     ///
     /// # Errors
     ///
-    /// `Memory` where a growth was refused. `Window` and `TooMany` where the window isn't one that is drawn, as
+    /// `Memory` when an allocation was refused. `Window` and `TooMany` when the window can't be drawn, as
     /// [`Window::drawn`] says.
     pub fn of(
         alloc: Global,
@@ -137,7 +150,7 @@ impl<'a> Picture<'a> {
         // One pin for each entry of the history whose exchange is in the window, in order and at its mark.
         ensures pins { IfOk result (λ picture. picture.pins.items
             ≡ pins_at picture.window outcome.now.history.items (won_steps sizes.m outcome.now.trace.items)) }
-        // Bars and arrows stand at marks that are there.
+        // Bars and arrows stand at marks that exist.
         ensures bars { IfOk result (λ picture.
             All (StandsIn (picture.window.behind - picture.window.first)) picture.bars.items) }
         ensures arrows { IfOk result (λ picture.
@@ -147,7 +160,7 @@ impl<'a> Picture<'a> {
         Ok(Picture::of_span(alloc, sizes, ports, outcome, span)?)
     }
 
-    /// The picture of these steps of a replay.
+    /// Makes the picture of these steps of a replay.
     fn of_span(
         alloc: Global,
         sizes: Sizes,
@@ -190,8 +203,8 @@ fn marks_of(alloc: Global, events: &[Event]) -> Result<Vec<Mark>, AllocError>
     events.iter().map(|event| Mark::of(*event)).collect(alloc)
 }
 
-/// The bar of a call with a step in the window or, without one, in its place there. The last window of a replay has
-/// the calls behind the last step too.
+/// The bar of a call that has a step in the window or, without any step, stands in it. A window that ends
+/// with the replay also has the calls after the last step.
 fn bar_in<'a>(window: Span, steps: usize, made: &Made<'a, '_>) -> Option<Bar<'a>>
     requires { window.first ≤ window.behind }
     ensures { IfSome result (StandsIn (window.behind - window.first)) }
@@ -227,7 +240,7 @@ fn bars_of<'a>(
         .collect(alloc)
 }
 
-/// The pin of an entry, where its exchange is in the window.
+/// The pin of an entry, when its exchange is in the window.
 fn pin_at(window: Span, place: usize, entry: Applied, step: usize) -> Option<Pin>
     ensures { result ≡ pin_at window place entry step }
 {

@@ -1,4 +1,4 @@
-//! Which steps of the schedule a call has made.
+//! Which steps of the replay each call made.
 
 ghost use Rattle.std.specs.Prelude.{◌≡◌, IfOk};
 ghost use Rattle.partial_replay.specs.Trace.{is_won};
@@ -54,17 +54,17 @@ pub(crate) fn port_steps(
     Ok(steps)
 }
 
-/// A port whose calls are gone through in order.
+/// A port whose calls are visited in order.
 #[derive(Clone, Copy)]
 struct Walker<'s> {
-    /// Its steps that no call has had yet.
+    /// The port's steps that belong to no call yet.
     left: &'s [usize],
-    /// The place behind the last step of its calls so far.
+    /// The index after the last step of the port's calls so far.
     behind: usize,
 }
 
 impl<'s> Walker<'s> {
-    /// The steps of the port's next call.
+    /// Takes the steps of the port's next call.
     fn take(&mut self, called: &Called) -> &'s [usize] {
         let count = self.left.len().min(called.steps as usize);
         let (own, left) = self.left.split_at(count);
@@ -72,8 +72,8 @@ impl<'s> Walker<'s> {
         own
     }
 
-    /// Where a call without a step stands: before the port's next step. Where there is none, it is behind the
-    /// port's last call and behind the entries that the call began with.
+    /// Where a call without a step stands: before the port's next step. When there is none, after the
+    /// port's last call and after the entries that the history had when the call began.
     fn between(&self, called: &Called, entries: &[usize]) -> usize {
         if let Some(next) = self.left.first() {
             return *next;
@@ -85,7 +85,7 @@ impl<'s> Walker<'s> {
     }
 }
 
-/// The steps that a call has made.
+/// The steps that a call made.
 #[derive(Clone, Copy)]
 pub(crate) struct Made<'o, 's> {
     pub(crate) called: &'o Called,
@@ -95,7 +95,7 @@ pub(crate) struct Made<'o, 's> {
     pub(crate) steps: &'s [usize],
 }
 
-/// What each call has made, where these are the steps of each port and of each entry.
+/// What each call made, given the steps of each port and of each entry.
 pub(crate) fn made_by_calls<'o, 's>(
     alloc: Global,
     outcome: &'o Outcome,
@@ -118,7 +118,7 @@ pub(crate) fn made_by_calls<'o, 's>(
     Ok(made)
 }
 
-/// What the port's next call has made.
+/// What the port's next call made.
 fn made_next<'o, 's>(
     walker: &mut Walker<'s>,
     called: &'o Called,

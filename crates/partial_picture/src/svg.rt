@@ -25,14 +25,14 @@ pub(crate) fn push_words(
     text.push_str("</text>\n")
 }
 
-/// Writes the words that are shown where one points at a shape, and its end.
+/// Writes the words that a reader sees when he points at a shape, and the end of the shape.
 fn push_title(text: &mut String, words: &str, end: &str) -> Result<(), AllocError> {
     text.push_str("<title>")?;
     push_escaped(text, words)?;
     writeln!(text, "</title></{end}>")
 }
 
-/// Writes a line that stands or lies.
+/// Writes a vertical or a horizontal line.
 fn push_line(
     text: &mut String,
     class: &str,
@@ -45,7 +45,7 @@ fn push_line(
     )
 }
 
-/// Writes the shape of a mark round a place, as a symbol without its words and its end.
+/// Writes the shape of a mark around a place, as a symbol without its words and its end.
 pub(crate) fn push_shape(
     text: &mut String,
     shape: Shape,
@@ -89,7 +89,7 @@ pub(crate) fn push_shape(
     }
 }
 
-/// Writes the numbers of the steps, with a line through each that has one.
+/// Writes the axis: numbers of steps, each with a line through its step.
 fn push_axis(text: &mut String, picture: &Picture<'_>, layout: &Layout) -> Result<(), AllocError> {
     let every = if picture.marks.len() > 120 { 10 } else { 5 };
     push_words(text, "name", Pixels(8), Pixels(16), "step")?;
@@ -107,8 +107,8 @@ fn push_axis(text: &mut String, picture: &Picture<'_>, layout: &Layout) -> Resul
     Ok(())
 }
 
-/// Writes the lanes of the ports and the line of the history, with their names. The name of a port is written
-/// again behind every fifty steps.
+/// Writes the lanes of the ports and the line of the history, with their names. The name of a port is
+/// repeated after every fifty steps.
 fn push_lanes(
     alloc: Global,
     text: &mut String,
@@ -176,7 +176,7 @@ fn push_mark(
     push_title(text, &title, end)
 }
 
-/// Writes the arrow from one place to another, as a curve that leaves and comes upright.
+/// Writes the arrow from one place to another, as a curve that is vertical at both ends.
 fn push_arrow(
     alloc: Global,
     text: &mut String,
@@ -328,7 +328,7 @@ fn push_pins(
     Ok(())
 }
 
-/// Where a mark stands.
+/// The place of a mark.
 fn place_of(picture: &Picture<'_>, layout: &Layout, mark: usize) -> (Pixels, Pixels) {
     let port = picture
         .marks
@@ -337,7 +337,10 @@ fn place_of(picture: &Picture<'_>, layout: &Layout, mark: usize) -> (Pixels, Pix
     (layout.middle(mark), layout.line(port))
 }
 
-/// The drawing of a picture in SVG, where asked with the words that each step has touched.
+/// Draws a picture in SVG. With `has_words` it also shows the words that each step touches.
+///
+/// # Errors
+/// [`AllocError`] when an allocation was refused.
 pub fn drawing(alloc: Global, picture: &Picture<'_>, has_words: bool) -> Result<String, AllocError>
     ensures some { IfOk result (λ text. 0 < string_len text) }
 {

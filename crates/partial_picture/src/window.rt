@@ -5,41 +5,43 @@ ghost use Rattle.partial_picture.specs.Drawn.{drawn_of, HasRoom};
 
 use crate::fault::PictureError;
 
-/// How many steps a picture has at most.
+/// The greatest number of steps in a picture.
 pub const MOST_STEPS: usize = 2_000;
 
 /// Which steps are asked for.
 #[derive(Clone, Copy, Debug, PartialEq, Eq)]
 pub enum Window {
-    /// All of them.
+    /// All steps.
     Whole,
-    /// These, counted from 0, with the last one.
+    /// The steps from `first` to `last`, both included, counted from 0.
     Steps { first: usize, last: usize },
 }
 
-/// Places in a row: from the first one up to the one behind the last. It is empty where both are the same.
+/// Indices in a row. A span is empty when both its ends are equal.
 #[derive(Clone, Copy, Debug, PartialEq, Eq)]
 pub struct Span {
+    /// The first index.
     pub first: usize,
+    /// The index after the last one.
     pub behind: usize,
 }
 
 impl Span {
-    /// How many places there are.
+    /// How many indices there are.
     pub fn len(self) -> usize
         ensures { result ≡ self.behind - self.first }
     {
         self.behind.saturating_sub(self.first)
     }
 
-    /// Whether there is no place.
+    /// Whether there is no index.
     pub fn is_empty(self) -> bool
         ensures { IsTrue result ↔ (self.behind ≤ self.first) }
     {
         self.behind <= self.first
     }
 
-    /// Whether the place is one of them.
+    /// Whether the index is in the span.
     pub fn contains(self, place: usize) -> bool
         ensures { IsTrue result ↔ ((self.first ≤ place) × (place < self.behind)) }
     {
@@ -48,12 +50,12 @@ impl Span {
 }
 
 impl Window {
-    /// The steps of a replay of so many that are drawn.
+    /// The steps that are drawn of a replay of so many steps.
     ///
     /// # Errors
     ///
-    /// `Window` where it isn't from a step of the replay to the same or a later one, and otherwise `TooMany`
-    /// where it has more than 2,000 steps.
+    /// `Window` when it doesn't go from a step of the replay to the same or a later one, and otherwise
+    /// `TooMany` when it has more than 2,000 steps.
     pub fn drawn(self, steps: usize) -> Result<Span, PictureError>
         ensures value { result ≡ drawn_of self steps }
         ensures room { IfOk result (HasRoom steps) }

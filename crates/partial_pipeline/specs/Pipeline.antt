@@ -52,7 +52,7 @@ pub record HaveEnded (stages items : ℕ) (r : PipelineReport) : Type 0 where
   pub most : (k : ℕ) → k < stages → slice_index r.counts.items k ≤ items
   pub finished : (k : ℕ) → k < stages → slice_get r.ends.items k ≡ Some Finished → slice_index r.counts.items k ≡ items
 
--- why a pipeline of so many stages may not run: Ports where there are more than 63, and Memory only where there aren't
+-- why a pipeline of that many stages may not run: Ports when there are more than 63, and Memory only when there aren't
 abbrev pub MayNotRun : ℕ → PipelineError → Type 0
 MayNotRun stages Ports = 63 < stages
 MayNotRun stages Memory = stages ≤ 63
@@ -62,12 +62,12 @@ abbrev pub error_code : PipelineError → ℕ
 error_code Ports = 5
 error_code Memory = 6
 
--- Each of the list holds what is said of its number, where the first has number k.
+-- What is said of its number holds of each in the list; the first has number k.
 abbrev pub AreFrom : {A : Type 0} → (ℕ → A → Type 0) → ℕ → List A → Type 0
 AreFrom P k [] = ⊤
 AreFrom P k (x ∷ xs) = P k x × AreFrom P (k + 1) xs
 
--- What stage k notes, where it has read that many items of the stage before and its count is `count`: it reads the count of the stage
+-- What stage k notes, when it has read that many items of the stage before and its count is `count`: it reads the count of the stage
 -- before, or sets its own, which never falls and never passes what was read last. It ends with these two.
 abbrev pub Works : ℕ → ℕ → ℕ → List Noted → ℕ → ℕ → Type 0
 Works k read count [] read' count' = (read ≡ read') × (count ≡ count')
@@ -75,7 +75,7 @@ Works k read count (n ∷ ns) read' count' =
     ((j v s : ℕ) × (k ≡ j + 1) × (n.call ≡ call.Read j) × (n.answer ≡ answer.Read v s) × Works k v count ns read' count')
     ⊎ ((v : ℕ) × (n.call ≡ call.Update k v) × (count ≤ v) × (v ≤ read) × Works k read v ns read' count')
 
--- what stage k has noted; but for the first stage none has read anything at its begin
+-- what stage k has noted; only the first stage has read anything at its begin
 pub record HasWorked (k : ℕ) (ns : List Noted) : Type 0 where
   pub from : ℕ
   pub read : ℕ

@@ -43,7 +43,7 @@ pub record IsOpened (m : MemoryView) (all : List PortView) : Type 0 where
   pub opens : Opens m
   pub ports : all ≡ new_ports m.table (newcomers m.about 0 (m.about.sizes.m + 1))
 
--- the value of the last of the entries, or this one where there are none
+-- the value of the last of the entries, or this one when there are none
 abbrev pub last_value : ℕ → List Applied → ℕ
 last_value d [] = d
 last_value d (e ∷ es) = last_value e.value es

@@ -6,14 +6,14 @@ use partial_memory::OpenError;
 use std::alloc::AllocError;
 use thiserror::Error;
 
-/// Why a pipeline didn't run, or why nothing is known of it. Nothing is left of it, and no thread of it runs
-/// on.
+/// Why a pipeline didn't run, or why nothing is known of its run. Nothing is left of it, and none of its
+/// threads goes on.
 #[derive(Clone, Copy, Debug, PartialEq, Eq, Error)]
 pub enum PipelineError {
-    /// There are 1 to 63 stages: each has a port, and the monitor has one. Nothing was made.
+    /// There are more than 63 stages: each has a port, and so has the monitor. Nothing was made.
     #[error("stages out of range")]
     Ports,
-    /// A growth was refused, or a thread couldn't be started.
+    /// An allocation was refused, or a thread couldn't be started.
     #[error("out of memory")]
     Memory,
 }
@@ -21,7 +21,7 @@ pub enum PipelineError {
 impl PipelineError {
     ghost use Rattle.partial_pipeline.specs.Pipeline.{error_code};
 
-    /// The number of the refusal: 5 or 6.
+    /// The number of the refusal: 5 for `Ports`, 6 for `Memory`.
     pub fn code(&self) -> u8
         ensures { result ≡ error_code self.now }
     {
@@ -42,7 +42,7 @@ impl From<AllocError> for PipelineError {
     }
 }
 
-// A pipeline of 1 to 63 stages has 2 to 64 ports, so only a growth of its memory can be refused.
+// A pipeline of 1 to 63 stages has 2 to 64 ports, so only an allocation of its memory can be refused.
 impl From<OpenError> for PipelineError {
     ghost use Rattle.partial_pipeline.specs.declared.error.PipelineError.TheVariants.{Memory};
 

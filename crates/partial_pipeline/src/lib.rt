@@ -1,5 +1,5 @@
-//! A pipeline of stages over a memory of components: each stage works in a thread of its own, and a
-//! monitor scans how far all of them have come.
+//! A pipeline of stages over a memory of components. Each stage works in a thread of its own, and a monitor
+//! scans the progress of all of them.
 #![tactic(auto)]
 
 mod error;

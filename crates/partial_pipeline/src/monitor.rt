@@ -1,4 +1,4 @@
-//! The monitor: it scans the counts of all stages.
+//! The monitor. It scans the counts of all stages.
 
 ghost use Rattle.std.specs.Prelude.{◌≡◌, ◌+◌, ◌<◌, ◌≤◌, [], length, None, IfOk, IfSome};
 ghost use Rattle.std.specs.Vec.{vec_capacity};
@@ -11,21 +11,22 @@ use partial_memory::{Memory, Port};
 use std::alloc::{AllocError, Global};
 use std::sync::atomic::{AtomicBool, Ordering};
 
-/// The monitor, with room for all its scans: while it looks it takes no memory.
+/// The monitor, with room for all its scans: it takes no memory while it scans.
 #[derive(Drop)]
 pub struct Monitor {
+    /// The monitor's port.
     pub port: Port,
-    /// The components of all stages.
+    /// The components of all stages, in order.
     pub stages: Vec<u32>,
-    /// Room for the scans to come while the stages work.
+    /// Room for the scans that it will make while the stages work, one element for each.
     pub rooms: Vec<Vec<u64>>,
-    /// The scans so far.
+    /// The scans that it has made, in order: the count of each stage.
     pub scans: Vec<Vec<u64>>,
-    /// Room for the last scan.
+    /// Room for the last scan, which follows the end of all stages.
     pub room: Vec<u64>,
 }
 
-// The numbers of so many stages, in order.
+// The numbers of the stages, in order.
 fn numbers(alloc: Global, stages: u32) -> Result<Vec<u32>, AllocError>
     ensures { IfOk result (λ all. IsEachStage stages all.items) }
 {
@@ -36,7 +37,7 @@ fn numbers(alloc: Global, stages: u32) -> Result<Vec<u32>, AllocError>
     Ok(all)
 }
 
-// Room for so many scans of so many stages.
+// Room for `scans` scans of `stages` stages.
 fn rooms_for(alloc: Global, stages: u32, scans: usize) -> Result<Vec<Vec<u64>>, AllocError>
     ensures rooms { IfOk result (λ rooms. AreRooms stages rooms.items) }
     ensures count { IfOk result (λ rooms. length rooms.items ≡ scans) }
@@ -48,7 +49,7 @@ fn rooms_for(alloc: Global, stages: u32, scans: usize) -> Result<Vec<Vec<u64>>, 
     Ok(rooms)
 }
 
-/// Scans the counts of these stages, and gives them in the room. Nothing where the scan is refused.
+/// Scans the counts of these stages into `room`, and returns it. Returns `None` when the scan is refused.
 pub fn scan_into(
     memory: &Memory,
     port: &mut Port,
@@ -70,7 +71,10 @@ pub fn scan_into(
 }
 
 impl Monitor {
-    /// A monitor of so many stages, with room for so many scans and for the last one.
+    /// Makes a monitor of `stages` stages, with room for `looks` scans and for the last one.
+    ///
+    /// # Errors
+    /// [`AllocError`] when an allocation was refused. The port is gone.
     pub fn new(
         alloc: Global,
         memory: &Memory,
@@ -92,8 +96,8 @@ impl Monitor {
         })
     }
 
-    /// Scans again and again, and hands each scan to the watch. It ends when there is no more room, when a
-    /// scan is refused, or with a scan that began when all stages had ended.
+    /// Scans again and again, and passes each scan to the watch. It ends when no room is left, when a scan
+    /// is refused, or with a scan that began when all stages had ended.
     pub fn watch<V: Watch>(
         mut self,
         memory: &Memory,

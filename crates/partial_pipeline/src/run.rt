@@ -1,4 +1,4 @@
-//! The pipeline: each stage in a thread of its own, and the monitor beside them.
+//! The run of a pipeline: each stage in a thread of its own, and the monitor beside them.
 
 ghost use Rattle.std.specs.Prelude.{◌≡◌, ◌<◌, ◌≤◌, ◌+◌, [], length, IfOk, IfErr};
 ghost use Rattle.std.specs.Vec.{vec_capacity};
@@ -19,7 +19,7 @@ use std::sync::atomic::AtomicBool;
 use std::thread;
 use std::thread::{Promise, PromisedHandle, Scope, Threads};
 
-// What a stage's thread promises of its port.
+// What a stage's thread promises about the port that it returns.
 #[derive(Drop)]
 struct Works {
     memory: Snapshot<Memory>,
@@ -33,7 +33,7 @@ impl Promise<Worked> for Works {
     ghost kept_by = { λ p w. IsDone p.memory.value p.items p.stage w };
 }
 
-// The monitor, and the ports of stages that have ended, which have met it.
+// The monitor, and the ports of the stages that have ended. Each of these has met the monitor's port.
 #[derive(Drop)]
 struct Joined {
     monitor: Monitor,
@@ -41,7 +41,7 @@ struct Joined {
     ends: Vec<StageEnd>,
 }
 
-// For each stage, that it hasn't ended.
+// A flag for each stage that tells whether it has ended. No stage has.
 fn flags(alloc: Global, stages: usize) -> Result<Vec<AtomicBool>, AllocError> {
     let mut ended = Vec::with_capacity(alloc, stages)?;
     for _stage in 0..stages {
@@ -81,7 +81,7 @@ fn start<'s, 'e, W: Work>(
     Ok(started)
 }
 
-// Waits for the stages to end, in order. The port of each that has ended meets the monitor's.
+// Waits for the stages to end, in order. The port of each stage meets the monitor's.
 fn join<R: Threads>(
     rt: &R,
     memory: &Memory,
@@ -143,7 +143,7 @@ fn close(
     })
 }
 
-// Runs the stages and the monitor on a memory that was opened for them, whose last port is the monitor's.
+// Runs the stages and the monitor on a memory that was opened for them. The last port is the monitor's.
 fn run_on<R: Threads + Wait + Sync, W: Work, V: Watch>(
     rt: &R,
     alloc: Global,
@@ -193,27 +193,29 @@ fn run_on<R: Threads + Wait + Sync, W: Work, V: Watch>(
     close(alloc, memory, items, joined)
 }
 
-/// Runs a pipeline of as many stages as `sizes` has components, each in a thread of its own, over a memory
-/// of these sizes. Component k holds the count of stage k: how many items it has worked on. The first stage
-/// works on the items 1 to `items`, and each further one on those that the stage before it has worked on; a
-/// stage publishes its count behind each item. Beside them, in the caller's thread, a monitor scans all
-/// counts up to `looks` times and hands each scan to the watch. It ends early once all stages have ended.
+/// Runs a pipeline over a memory of these sizes, with a stage for each component and a thread for each
+/// stage. Component k holds the count of stage k: how many items it has worked on. The first stage works on
+/// the items 1 to `items`, and each further stage on those that the stage before it has worked on. A stage
+/// publishes its count after each item. Meanwhile a monitor, in the caller's thread, makes up to `looks`
+/// scans of all counts and passes each to the watch. It ends early when all stages have ended.
 ///
-/// In each scan the count of each stage is at most that of the stage before it, and from one scan to the next
-/// no count falls. When all stages have ended their ports meet the monitor's, which scans once more, and the
-/// memory is closed with all ports. That last scan, unless it is refused, gives the very counts with which the
-/// memory is closed.
+/// In each scan the count of each stage is at most that of the stage before it. From one scan to the next
+/// no count falls. When all stages have ended, their ports meet the monitor's, which scans once more, and
+/// the memory is closed with all ports. That last scan, unless it is refused, has the very counts with
+/// which the memory is closed.
 ///
-/// There is one end for each stage. No count passes `items`, and that of a stage that has finished is `items`.
+/// There is one end for each stage. No count passes `items`, and the count of a stage that has finished is
+/// `items`.
 ///
-/// A stage whose update is refused, since the pool is spent, ends, and the stages behind it end when they have
-/// worked on what was left. All memory but that of closing is taken before the first thread starts.
+/// A stage whose update is refused, since the pool is spent, ends. The stages behind it end when they have
+/// worked on what was left. All memory, apart from that of closing, is taken before the first thread
+/// starts.
 ///
 /// # Errors
 ///
-/// [`PipelineError::Ports`] exactly where there are more than 63 stages. Otherwise [`PipelineError::Memory`]
-/// where a growth was refused or a thread couldn't be started. It comes once all threads that were started
-/// have ended, and nothing is left of the pipeline.
+/// [`PipelineError::Ports`] exactly when there are more than 63 stages, and otherwise
+/// [`PipelineError::Memory`] when an allocation was refused or a thread couldn't be started. It returns
+/// when all threads that were started have ended, and nothing is left of the pipeline.
 pub fn run_pipeline<R: Threads + Wait + Sync, W: Work, V: Watch>(
     rt: &R,
     alloc: Global,

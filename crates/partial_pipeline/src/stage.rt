@@ -1,4 +1,4 @@
-//! One stage at work, in a thread of its own.
+//! A stage at work, in a thread of its own.
 
 ghost use Rattle.std.specs.Prelude.{◌≡◌, ◌+◌, ◌<◌, Some};
 ghost use Rattle.partial_memory.specs.Ports.{IsOf};
@@ -16,31 +16,37 @@ use std::thread;
 pub enum StageEnd {
     /// It has worked on all items.
     Finished,
-    /// The stage before it has ended, and it has worked on all that came from there.
+    /// The stage before it has ended, and it has worked on all items that came from there.
     Stopped,
-    /// Its update was refused, since the memory's pool is spent.
+    /// Its update was refused, since the pool is spent.
     Refused,
 }
 
 /// A stage that has ended.
 #[derive(Drop)]
 pub struct Worked {
+    /// Its port.
     pub port: Port,
+    /// Why it ended.
     pub end: StageEnd,
 }
 
-/// A stage: its port, how many items there are, how far it has read that the stage before it has come, and how far
-/// it has come.
+/// A stage at work.
 #[derive(Drop)]
 pub struct Stage {
+    /// Its port. The number of the port is that of the stage.
     pub port: Port,
+    /// How many items there are.
     pub items: u64,
+    /// The count of the stage before it when this stage last read it. For the first stage, the number of
+    /// items.
     pub seen: u64,
+    /// How many items it has worked on.
     pub count: u64,
 }
 
 impl Stage {
-    /// A stage at its begin. All items lie before the first one.
+    /// Makes a stage that has worked on nothing. The first stage finds all items ready.
     pub fn new(memory: &Memory, port: Port, items: u64) -> Stage
         requires { IsNew memory.now port.number port }
         ensures working { IsWorking memory.now result }
@@ -57,7 +63,7 @@ impl Stage {
         }
     }
 
-    /// Works on all items, as far as they come from the stage before, and says that it has ended.
+    /// Works on all items that come from the stage before, and sets the flag that it has ended.
     pub fn run<W: Work>(mut self, memory: &Memory, ended: &[AtomicBool], work: &W) -> Worked
         requires { IsWorking memory.now self }
         ensures { IsDone memory.now self.items self.port.number result }
@@ -78,8 +84,8 @@ impl Stage {
         }
     }
 
-    // One turn: the next item, or a look at the stage before where there is none. Why the stage ends, if it
-    // does.
+    // Takes one turn: works on the next item or, when none is ready, reads the count of the stage before.
+    // Returns why the stage ends, if it does.
     fn turn<W: Work>(&mut self, memory: &Memory, ended: &[AtomicBool], work: &W) -> Option<StageEnd>
         requires { IsWorking memory.now self.old }
         ensures working { IsWorking memory.now self.new }
@@ -111,8 +117,9 @@ impl Stage {
         None
     }
 
-    // Works on the next item, and publishes the count then. The count is what the component holds, so one that
-    // another port had overwritten would be published again.
+    // Works on the next item, and publishes the count. When another port has overwritten the count, the
+    // stage keeps the old one, and the next turn tries again: so `count` is always what the component
+    // holds.
     fn advance<W: Work>(&mut self, memory: &Memory, work: &W) -> Result<(), Refused>
         requires working { IsWorking memory.now self.old }
         requires next { self.old.count < self.old.seen }
@@ -130,7 +137,7 @@ impl Stage {
         Ok(())
     }
 
-    // Reads how far the stage before has come.
+    // Reads the count of the stage before.
     fn look(&mut self, memory: &Memory, before: u32)
         requires working { IsWorking memory.now self.old }
         requires before { self.old.port.number ≡ before + 1 }
@@ -144,7 +151,7 @@ impl Stage {
     }
 }
 
-/// Whether that stage has said that it has ended.
+/// Whether that stage has set the flag that it has ended.
 pub fn has_ended(ended: &[AtomicBool], stage: u32) -> bool {
     match ended.get(stage as usize) {
         Some(flag) => flag.load(Ordering::SeqCst),

@@ -53,7 +53,7 @@ pub record IsLeast (Holds : ℕ → Type 0) (began end n : ℕ) : Type 0 where
   pub holds : Holds n
   pub least : (i : ℕ) → began ≤ i → i < n → ¬ Holds i
 
--- the marks before an entry, where its component had that value before
+-- the marks before an entry, when its component had that value before
 abbrev pub marks_before : Option ℕ → List Bool → ℕ → ℕ → List Bool
 marks_before None marks j x = marks
 marks_before (Some v) marks j x = slice_set marks j (not (v == x))

@@ -1,6 +1,6 @@
-//! Where in the history a finished scan has its place: the least prefix, from the scan's begin on, that
-//! shows its values. It is found backwards from the present length, with constant work for each entry,
-//! in scratch room that is made once.
+//! The place of a finished scan in the history: the least prefix, not shorter than the history at the
+//! scan's begin, that shows its values. The search goes backwards from the present length, does constant
+//! work for each entry, and uses scratch room that is made once.
 #![tactic(auto)]
 
 pub mod wanted;

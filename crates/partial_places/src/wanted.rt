@@ -1,4 +1,4 @@
-//! The search for the place of a scan: the values that are wanted, and the components that differ.
+//! The search for the place of a scan: the wanted values, and the components that differ from them.
 
 ghost use Rattle.std.specs.Prelude.{ℕ, ◌≡◌, ◌==◌, ◌+◌, ◌<◌, ◌≤◌, false, Some, None, IfOk, length, slice_index, slice_index_or, slice_set, slice_get, count_by};
 ghost use Rattle.std.specs.List.{AllByRecursion};
@@ -54,7 +54,7 @@ impl Marks {
     }
 }
 
-// Sets the value that each component is to have, and marks those that have another value now.
+// Sets the value that each component should have, and marks those that have another value now.
 fn want(
     wanted: &mut [Option<u64>],
     differing: &mut Marks,
@@ -82,7 +82,8 @@ fn want(
     }
 }
 
-// Takes an entry of the history back: its component is marked by the value that it had before.
+// Undoes an entry of the history: its component has the value from before it, and is marked if that
+// differs.
 fn take_back(wanted: &[Option<u64>], differing: &mut Marks, words: &[u64], entry: Applied)
     requires room { length wanted.now ≡ length differing.old }
     requires record { HasRecord words.now (length wanted.now) entry }
@@ -96,8 +97,8 @@ fn take_back(wanted: &[Option<u64>], differing: &mut Marks, words: &[u64], entry
     }
 }
 
-// The least prefix from `began` on after which each component has the value that it is to have, where
-// there is one. The marks are those of the whole history first, and those at `began` at the end.
+// The least prefix, not shorter than `began`, after which each component has its wanted value, if there is
+// one. The marks are those of the whole history at the start, and those at `began` at the end.
 fn least_prefix(
     wanted: &[Option<u64>],
     differing: &mut Marks,
@@ -127,7 +128,7 @@ fn least_prefix(
     least
 }
 
-// Takes all wanted values and all marks away.
+// Removes all wanted values and all marks.
 fn forget(wanted: &mut [Option<u64>], differing: &mut Marks, components: &[u32])
     requires room { length wanted.old ≡ length differing.old }
     requires components { AllByRecursion (λ j. j < length wanted.old) components.now }
@@ -143,9 +144,9 @@ fn forget(wanted: &mut [Option<u64>], differing: &mut Marks, components: &[u32])
     }
 }
 
-/// The scratch room of the search for the place of a scan: of each component the value that it is to
-/// have, and whether it differs. It is empty between searches. A contract sees it as the number of
-/// components that it has room for.
+/// The scratch room of the search for the place of a scan: for each component its wanted value, and whether
+/// it differs. It is empty between searches. To a contract it is the number of components that it has room
+/// for.
 #[derive(Debug, Drop)]
 pub struct Wanted {
     wanted: Vec<Option<u64>>,
@@ -165,7 +166,10 @@ impl Model for Wanted {
 }
 
 impl Wanted {
-    /// The room for so many components. It is refused where the memory for it is.
+    /// Makes the room for so many components.
+    ///
+    /// # Errors
+    /// [`AllocError`] when an allocation was refused.
     pub fn new(alloc: Global, components: usize) -> Result<Wanted, AllocError>
         ensures { IfOk result (λ room. room ≡ components) }
     {
@@ -178,9 +182,9 @@ impl Wanted {
         })
     }
 
-    /// The least prefix of the history, from `began` on, that shows the values at the positions, where
-    /// one does. The words are those after the whole history. The work is a constant amount for each
-    /// position and each entry from `began` on.
+    /// The least prefix of the history, not shorter than `began`, that shows the values at the positions,
+    /// if there is one. `words` are those after the whole history. The work is constant for each position
+    /// and for each entry from `began` on.
     pub fn scan_place(
         &mut self,
         history: &[Applied],

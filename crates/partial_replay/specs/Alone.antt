@@ -1,4 +1,4 @@
--- What a plan with one port comes to.
+-- What the replay of a plan with one port leads to.
 use Rattle.std.specs.Prelude.{ℕ, ◌≡◌, ◌≢◌, ◌+◌, ⊤, List, length, map, take, Option, Some, None, IfSome}
 use Rattle.std.specs.List.{AllByRecursion}
 use Rattle.partial_model.specs.declared.history.Applied.{Applied}
@@ -23,7 +23,7 @@ AddsAlone began ended (Some (note.Lost k)) = ⊥
 AddsAlone began ended (Some (note.Saw n)) = (n ≡ began) × (ended ≡ began)
 
 -- A call answers for the whole history as it begins: a scan and a read what they find there, and a
--- conditional update is applied exactly where the component has the expected stamp there.
+-- conditional update is applied exactly when the component has the expected stamp there.
 abbrev pub AnswersAlone : Opening → List Applied → Call → Answer → Type 0
 AnswersAlone o h (call.Update j v) (answer.Lost by) = ⊥
 AnswersAlone o h (call.Scan js) (answer.Scanned vs c b) = vs ≡ map (λ j. value_of o h j) js

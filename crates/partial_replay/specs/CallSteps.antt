@@ -12,7 +12,7 @@ use Rattle.partial_machine.specs.Possible.{IsPossible}
 use Rattle.partial_machine.specs.Calls.{refusal_of, begun_of, answer_for}
 use Rattle.partial_replay.specs.Trace.{Moment, last_behind}
 
--- the machine makes these events, each of them its due step with an answer that words may give, and comes to that state
+-- the machine makes these events, each of them its due step with an answer that words may give, and reaches that state
 abbrev pub Makes : CoreState → List Moment → CoreState → Type 0
 Makes s [] t = t ≡ s
 Makes s (x ∷ xs) t = (step_of s ≡ Some x.event.step) × IsPossible s x.event.answer × Makes (advance s x.event.answer) xs t
@@ -34,7 +34,7 @@ pub record IsFinishedAtOnce (s : CoreState) (c : Called) (t : CoreState) : Type 
   pub rests : t ≡ at_stage (begun_of s c.call) Idle
 
 -- A call with steps: the machine begins it and makes its events. It begins with the history before the
--- first one; where it has ended its answer is the machine's, and it has ended behind the last one.
+-- first one. When it has ended, its answer is the machine's, and it has ended behind the last one.
 pub record HasSteps (s : CoreState) (c : Called) (first : Moment) (more : List Moment) (t : CoreState) : Type 0 where
   pub begins : refusal_of s c.call ≡ None
   pub last : CoreState

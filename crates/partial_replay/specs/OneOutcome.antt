@@ -4,7 +4,7 @@ use Rattle.partial_text.specs.PlanText.{PlanView}
 use Rattle.partial_text.specs.declared.outcome.Outcome.{Outcome}
 use Rattle.partial_replay.specs.Replayed.{IsReplayOf}
 
--- two outcomes tell the same: the opening, the history, the calls, the words, the trace and the number of steps
+-- two outcomes agree in all: the opening, the history, the calls, the words, the trace and the number of steps
 pub record TellTheSame (a b : Outcome) : Type 0 where
   pub opening : a.opening ≡ b.opening
   pub history : a.history.items ≡ b.history.items

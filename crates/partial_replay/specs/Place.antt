@@ -33,7 +33,7 @@ prefix_from began None = began
 prefix_from began (Some k) = k + 1
 
 -- The place of a scan from `began` on, in a history with which the words agree: the least prefix that shows
--- its values, where one does.
+-- its values, if one does.
 abbrev pub IsScanPlace : List ℕ → List Applied → ℕ → List ℕ → List ℕ → ℕ → Type 0
 IsScanPlace words h began js vs n = (o : Opening) (shown : ℕ) → Agrees o words h → AllByRecursion (λ j. j < length o.values) js →
     began ≤ shown → shown ≤ length h → ShowsValues o h js vs shown → IsLeast (ShowsValues o h js vs) began (length h) n

@@ -1,4 +1,4 @@
--- What a replay of a plan tells: a legal outcome of one history, with the words and the steps that led to them.
+-- What a replay of a plan returns: a legal outcome of one history, with the words and the steps that led to them.
 use Rattle.std.specs.Prelude.{ℕ, ◌≡◌, ◌<◌, List, [], length, get_or, filter_map, sum_by}
 use Rattle.partial_model.specs.Outcome.{LegalOutcome}
 use Rattle.partial_words.specs.Layout.{pool_base}
@@ -51,7 +51,7 @@ pub record IsReplayOf (p : PlanView) (outcome : Outcome) : Type 0 where
       (calls_by q outcome.calls.items)
   -- no call makes more steps than such a call may
   pub few : AreFew p.sizes outcome.calls.items
-  -- Nothing waits for a stopped port: where a port has more turns than its calls make steps at most, they
+  -- Nothing waits for a stopped port: when a port has more turns than its calls make steps at most, they
   -- are all made, wherever the others stopped.
   pub waits : (q : ℕ) → sum_by (most_steps p.sizes) (get_or p.ports q []) < turns_by q p.steps →
       AreAllMade (get_or p.ports q []) (calls_by q outcome.calls.items)

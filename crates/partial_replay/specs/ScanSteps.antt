@@ -28,7 +28,7 @@ own_events front c xs = take c.steps (drop (steps_in front) xs)
 
 -- The call behind those in front of it, of the port that has the machine `first` at opening and these events:
 -- its own events are the steps of the machine to which the calls in front lead, and they are as many as the
--- positions and collects ask for, and as the pairs that it loaded where it borrowed a view.
+-- positions and collects ask for, and as the pairs that it loaded when it borrowed a view.
 pub record MakesItsSteps (first : CoreState) (xs : List Moment) (front : List Called) (c : Called) (positions collects : ℕ)
     (borrowed : Option ℕ) : Type 0 where
   pub s : CoreState

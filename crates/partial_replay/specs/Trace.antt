@@ -16,7 +16,7 @@ abbrev pub new_of : Step → ℕ
 new_of (Exchange w old new) = new
 new_of _ = 0
 
--- the entry that an event adds to the history, where the record at a reference has that value: a won exchange adds one
+-- the entry that an event adds to the history, when the record at a reference has that value: a won exchange adds one
 abbrev pub entry_of : ℕ → (ℕ → ℕ) → Event → Option Applied
 entry_of m value e = if is_won m e.step e.answer then Some
     (record { port = e.port; component = word_of e.step; value = value (new_of e.step); stamp = new_of e.step }) else None
@@ -39,7 +39,7 @@ pub record Moment : Type 0 where
 abbrev pub adds : ℕ → Event → ℕ
 adds m e = if is_won m e.step e.answer then 1 else 0
 
--- the moments of a trace, where the history had n entries before it
+-- the moments of a trace, when the history had n entries before it
 abbrev pub moments_from : ℕ → ℕ → List Event → List Moment
 moments_from m n [] = []
 moments_from m n (e ∷ es) = record { event = e; before = n; behind = n + adds m e } ∷ moments_from m (n + adds m e) es
@@ -48,7 +48,7 @@ moments_from m n (e ∷ es) = record { event = e; before = n; behind = n + adds 
 abbrev pub moments_by : ℕ → ℕ → List Event → List Moment
 moments_by m q trace = filter (λ x. x.event.port == q) (moments_from m 0 trace)
 
--- how long the history is behind the last of these moments, or with n entries where there is none
+-- how long the history is behind the last of these moments, or with n entries when there is none
 abbrev pub last_behind : ℕ → List Moment → ℕ
 last_behind n [] = n
 last_behind n (x ∷ xs) = last_behind x.behind xs

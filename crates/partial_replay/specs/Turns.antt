@@ -13,7 +13,7 @@ so_many e = (e.0, Some e.1)
 abbrev pub to_its_end : ℕ → ℕ × Option ℕ
 to_its_end q = (q, None)
 
--- the plan's turns, and behind them the rest of each port in order, where it is asked for
+-- the plan's turns, and behind them the rest of each port in order, if it is asked for
 abbrev pub turns_of : PlanView → List (ℕ × Option ℕ)
 turns_of p = map so_many p.steps ++ (if p.rest then map to_its_end (range_with_len 0 (length p.ports)) else [])
 
@@ -26,12 +26,12 @@ made_in (Some k) left = min k left
 abbrev pub left_behind : ℕ × Option ℕ → (ℕ → ℕ) → ℕ → ℕ
 left_behind e left q = if q == e.0 then left q - made_in e.1 (left q) else left q
 
--- whose events the turns make, where each port has so many steps to make: of each port's turns the first ones, as many as its steps
+-- whose events the turns make, when each port has that many steps to make: of each port's turns the first ones, as many as its steps
 abbrev pub ports_in : List (ℕ × Option ℕ) → (ℕ → ℕ) → List ℕ
 ports_in [] left = []
 ports_in (e ∷ es) left = replicate (made_in e.1 (left e.0)) e.0 ++ ports_in es (left_behind e left)
 
--- how many turns of an entry make no step, where so many of them make one: a port comes to its end in a turn without one
+-- how many turns of an entry make no step, when that many of them make one: a port comes to its end in a turn without one
 abbrev pub idle_in : Option ℕ → ℕ → ℕ
 idle_in None made = 1
 idle_in (Some k) made = k - made

@@ -1,5 +1,5 @@
-//! The replay of a plan: its calls are made step by step, in the order of its turns, and what came of
-//! it is told. The texts of plans and outcomes are passed on.
+//! The replay of a plan: it makes the plan's calls step by step, in the order of its turns, and returns the
+//! outcome. The crate re-exports the texts of plans and outcomes.
 #![tactic(auto)]
 
 mod law;

@@ -7,11 +7,14 @@ use partial_words::{Event, Sizes};
 /// The words that the ports of a replay share, and what has happened to them so far.
 #[derive(Debug, Drop)]
 pub struct Memory {
+    /// The sizes of the memory.
     pub sizes: Sizes,
+    /// The words, by their number.
     pub words: Vec<u64>,
-    /// The applied updates.
+    /// The history so far: the applied updates in order.
     pub history: Vec<Applied>,
+    /// The atomic steps so far, in order.
     pub trace: Vec<Event>,
-    /// Room to find the places of scans.
+    /// Scratch room for the search for the places of scans.
     pub places: Wanted,
 }

@@ -1,4 +1,4 @@
-//! Where in the history a finished call has its place, and what it answers.
+//! The note of a finished call: its place in the history, and its answer.
 
 ghost use Rattle.std.specs.Prelude.{◌≡◌, ◌<◌, ◌≤◌, ◌^◌, length, IfSome, Some};
 ghost use Rattle.partial_replay.specs.Place.{IsPlaceFrom, IsNoteFrom, prefix_from};
@@ -7,7 +7,7 @@ ghost use Rattle.partial_replay.specs.Inner.PortState.{AreWithin, MayAnswer};
 use crate::memory::Memory;
 use partial_model::{Answer, Applied, Call, Note};
 
-/// The last place from `began` on whose entry has that stamp.
+/// The last place, not before `began`, whose entry has that stamp.
 fn place_of(history: &[Applied], began: usize, stamp: u64) -> Option<usize>
     ensures { IsPlaceFrom history.now began stamp result }
 {
@@ -20,7 +20,7 @@ fn place_of(history: &[Applied], began: usize, stamp: u64) -> Option<usize>
     None
 }
 
-// The least prefix that shows what was found from `began` on.
+// The least prefix, not shorter than `began`, that shows what was found.
 fn prefix_of(history: &[Applied], began: usize, found: Option<usize>) -> usize
     requires { IfSome found (λ k. k < length history.now) }
     ensures { result ≡ prefix_from began found }
@@ -31,7 +31,7 @@ fn prefix_of(history: &[Applied], began: usize, found: Option<usize>) -> usize
     }
 }
 
-/// The note of a call that began when the history had `began` entries and ended with that answer.
+/// The note of a call that began when the history had `began` entries, and ended with that answer.
 pub fn note_of(memory: &mut Memory, began: usize, call: &Call, answer: &Answer) -> Option<Note>
     requires ends { MayAnswer memory.old.places call.now answer.now }
     requires within { AreWithin memory.old.places memory.old.words.items memory.old.history.items }

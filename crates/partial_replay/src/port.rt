@@ -1,4 +1,4 @@
-//! One port of a replay: its machine and the calls that it has made.
+//! A port of a replay: its machine, and the calls that it has made.
 
 ghost use Rattle.std.specs.Prelude.{◌≡◌, ◌<◌, ◌≤◌, ◌^◌, length, IsSome, OnOk, IfOk, IfErr, MatchBool, MatchOption, Some, None};
 ghost use Rattle.std.specs.Option.{option_to_list};
@@ -15,26 +15,30 @@ use partial_model::{Answer, Applied, Call, Called, Finish, Note};
 use partial_words::{Event, Sizes, Step, value_of};
 use std::alloc::{AllocError, Global};
 
-/// A call that has been begun and isn't finished: it is the one behind the finished calls.
+/// A call that has begun and isn't finished. It follows the finished calls of its port.
 #[derive(Clone, Copy, Debug)]
 pub struct UnderWay {
     /// The length of the history when the call began.
     pub began: usize,
-    /// How many steps the call has made.
+    /// How many atomic steps the call has made.
     pub steps: u64,
 }
 
-/// A port of a replay. Its calls are numbered as they stand in the plan, so the number of the next
-/// call, or of the one under way, is how many are finished.
+/// A port of a replay. Its calls are numbered as in the plan, so the number of the next call, or of the one
+/// under way, is how many are finished.
 #[derive(Debug, Drop)]
 pub struct Port {
+    /// The number of the port, counted from 0.
     pub number: u32,
+    /// The machine of the port, which holds the state of the call under way.
     pub core: Core,
+    /// The finished calls, in order.
     pub finished: Vec<Called>,
+    /// The call under way, if there is one.
     pub under_way: Option<UnderWay>,
 }
 
-// A call that was finished as it was begun.
+// A call that is finished as soon as it begins, without a step.
 fn at_once(
     alloc: Global,
     port: u32,
@@ -60,8 +64,8 @@ fn at_once(
     })
 }
 
-// Begins the call at the port's machine. Answers the finished call where it makes no step: it is refused
-// at once, or a scan of no position.
+// Begins the call on the port's machine. Returns the finished call when it makes no step: when it is
+// refused at once, or is a scan of no position.
 fn begin_call(
     alloc: Global,
     core: &mut Core,
@@ -91,7 +95,7 @@ fn begin_call(
     Ok(Some(called))
 }
 
-// The entry that a step adds to the history: a won exchange of a component word adds one.
+// The entry that a step adds to the history. Only a won exchange of a component word adds one.
 fn entry_of(sizes: Sizes, words: &[u64], port: u32, step: Step, answer: u64) -> Option<Applied>
     requires { IsExchangeWithin sizes.m words.now step }
     ensures { option_to_list result ≡ entry_at sizes.m words.now port step answer }
@@ -113,8 +117,8 @@ fn entry_of(sizes: Sizes, words: &[u64], port: u32, step: Step, answer: u64) -> 
 }
 
 impl Port {
-    /// Begins the next of the plan's calls that makes a step. Those before it that make none are
-    /// finished. Answers whether a call is under way: else none is left.
+    /// Begins the next of the plan's calls that makes a step, and finishes those before it that make none.
+    /// Returns whether a call is under way: if not, no call is left.
     pub fn begin_next(
         &mut self,
         alloc: Global,
@@ -159,7 +163,8 @@ impl Port {
         Ok(false)
     }
 
-    /// Makes the due step of the call under way on the words, and notes what came of it.
+    /// Makes the due step of the call under way on the words, and finishes the call when it was the last
+    /// one.
     pub fn make_step(
         &mut self,
         alloc: Global,
@@ -201,7 +206,7 @@ impl Port {
         Ok(())
     }
 
-    // The call under way, which has ended with that reply.
+    // The call under way, which ended with that reply.
     fn ended(
         &self,
         alloc: Global,
@@ -235,7 +240,7 @@ impl Port {
     }
 }
 
-/// The call under way of a port as it is left at the end of a replay.
+/// The call under way of a port at the end of a replay, as an unfinished one.
 pub fn unfinished(
     alloc: Global,
     port: u32,

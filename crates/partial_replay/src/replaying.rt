@@ -11,7 +11,7 @@ use thiserror::Error;
 /// Why a plan wasn't replayed. Nothing is left of the replay.
 #[derive(Clone, Copy, Debug, PartialEq, Eq, Error)]
 pub enum ReplayError {
-    /// A growth was refused.
+    /// An allocation was refused.
     #[error("out of memory")]
     Memory,
 }
@@ -35,16 +35,16 @@ impl From<AllocError> for ReplayError {
     }
 }
 
-/// Replays a plan: it makes the plan's turns one after the other on a memory of its own, and tells what
-/// came of them.
+/// Replays a plan: it takes the plan's turns one after the other on a memory of its own, and returns the
+/// outcome.
 ///
-/// In a turn a port makes one step. Where it has no call under way its next call begins; a call that
-/// makes no step is finished at once, and the next begins. A port with no call left makes no step.
+/// In a turn a port makes one atomic step. When no call is under way, its next call begins. A call that
+/// makes no step is finished at once, and the next one begins. A port without a call left makes no step.
 ///
 /// # Errors
 ///
-/// `Memory` where a growth was refused: the words, the trace or the calls found no room. A plan may ask
-/// for more steps than any machine has room to trace.
+/// `Memory` when an allocation was refused: there was no room for the words, the trace or the calls. A plan
+/// may ask for more steps than any machine has room to trace. Nothing is left of the replay.
 pub fn replay(alloc: Global, plan: &Plan) -> Result<Outcome, ReplayError>
     ensures { IfOk result (IsReplayOf plan.now) }
 {

@@ -18,12 +18,15 @@ use std::alloc::{AllocError, Global};
 /// The state of a replay.
 #[derive(Debug, Drop)]
 pub struct Run {
+    /// The initial values, and the stamp of component 0 at opening.
     pub opening: Opening,
+    /// The words, and what has happened to them.
     pub memory: Memory,
+    /// The ports, by their number.
     pub ports: Vec<Port>,
 }
 
-// The words at opening: behind the initial records all of them are 0.
+// The words at opening. After the initial records all of them are 0.
 fn opening_words(alloc: Global, sizes: Sizes, initial: &[u64]) -> Result<Vec<u64>, AllocError>
     requires { length initial.now ≡ sizes.m }
     ensures { IfOk result (λ words. AreOpeningWords sizes initial.now words.items) }
@@ -39,7 +42,7 @@ impl Run {
     ghost use Rattle.partial_replay.specs.Inner.RunState.{ArePlans, AreStarted, IsBetweenTurns, IsReady, IsReplay, IsSameMemory, IsSameOpening, Tells, left_at};
     ghost use Rattle.partial_replay.specs.Inner.TurnState.{BeginsIn, GoesOnBy, HaveBegun, IsDone, StayDone, StayStoppedBut, StayStoppedWith, StepsIn, StopAtSteps, TurnMade, TurnsMade};
 
-    /// The replay as it opens, with the ports of a plan.
+    /// Opens the replay of a plan with these ports.
     pub fn open(
         alloc: Global,
         sizes: Sizes,
@@ -73,7 +76,7 @@ impl Run {
         })
     }
 
-    /// One turn of a port: it makes one step, or answers that it has no call left.
+    /// Takes one turn of a port: it makes one step. Returns whether it had a call left.
     #[inline(always)]
     pub fn turn(
         &mut self,
@@ -96,7 +99,7 @@ impl Run {
         Ok(true)
     }
 
-    // Begins the port's next call where none is under way, or answers that none is left.
+    // Begins the port's next call when none is under way. Returns whether one is under way then.
     #[inline(always)]
     fn get_ready(
         &mut self,
@@ -127,7 +130,7 @@ impl Run {
         Ok(begun)
     }
 
-    // The due step of a port whose call is under way.
+    // Makes the due step of a port whose call is under way.
     #[inline(always)]
     fn make_step(
         &mut self,
@@ -152,7 +155,7 @@ impl Run {
         port.make_step(alloc, calls, &mut self.memory)
     }
 
-    /// So many turns of a port, or until it has no call left.
+    /// Takes so many turns of a port, or fewer when it has no call left.
     pub fn turns(
         &mut self,
         alloc: Global,
@@ -174,7 +177,7 @@ impl Run {
         Ok(())
     }
 
-    /// Turns of a port until it has no call left, however many.
+    /// Takes turns of a port until it has no call left, however many.
     pub fn to_the_end(
         &mut self,
         alloc: Global,
@@ -191,7 +194,7 @@ impl Run {
         Ok(())
     }
 
-    /// What came of the replay.
+    /// Turns the replay into its outcome.
     pub fn into_outcome(
         self,
         alloc: Global,
@@ -223,7 +226,7 @@ impl Run {
     }
 }
 
-// The ports of the plans, none of which has made a call. Each has room for all of its plan's calls.
+// The ports of a plan before their first call. Each has room for all of its plan's calls.
 fn fresh_ports(
     alloc: Global,
     sizes: Sizes,

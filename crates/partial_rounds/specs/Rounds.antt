@@ -82,7 +82,7 @@ whole_log rounds = flat_map (λ r. r.log) rounds
 
 -- The report has the answers of each round. The first one began with the values before and all calls, and what the last one left are the
 -- values after: each component has the value that it has behind the history of all rounds over the values before. Nothing is left
--- where the calls came to their end; where they didn't, a call is left, and the cause isn't the number of ports.
+-- when all calls were made; otherwise a call is left, and the cause isn't the number of ports.
 pub record IsReport (z : Layout) (before : List ℕ) (calls : List (List Call)) (report : RoundsReport) (after : List ℕ) : Type 0 where
   pub rounds : List Answered
   pub left : List (List Call)
@@ -100,7 +100,7 @@ Passes before left rounds more behind after =
     × (have_answers r.given ≡ true)
     × IsRound before.sizes (record { values = before.values; left = left }) r (record { values = after.values; left = behind })
 
--- why calls may not be run: Ports where there are not 1 to 64, and Memory only where there are; NoRoom never
+-- why calls may not be run: Ports when there are not 1 to 64, and Memory only when there are; NoRoom never
 abbrev pub MayNotRun : ℕ → RoundsError → Type 0
 MayNotRun ports Ports = (ports ≡ 0) ⊎ (64 < ports)
 MayNotRun ports Memory = (1 ≤ ports) × (ports ≤ 64)

@@ -7,17 +7,17 @@ use partial_workers::RunError;
 use std::alloc::AllocError;
 use thiserror::Error;
 
-/// Why calls were not made. The values are those that the last round left which came to its end.
+/// Why calls were not made. The values are those after the last round that was completed.
 #[derive(Clone, Copy, Debug, PartialEq, Eq, Error)]
 pub enum RoundsError {
-    /// There are 1 to 64 ports.
+    /// There are not 1 to 64 ports.
     #[error("ports out of range")]
     Ports,
-    /// A growth was refused, or a worker couldn't be started.
+    /// An allocation was refused, or a worker couldn't be started.
     #[error("out of memory")]
     Memory,
-    /// In a whole round no call was answered: the pool and the slots have no room for the calls that the ports
-    /// make next.
+    /// No call was answered in a whole round: the pool and the slots have no room for the next calls of the
+    /// ports.
     #[error("no room for a call")]
     NoRoom,
 }
@@ -25,7 +25,7 @@ pub enum RoundsError {
 impl RoundsError {
     ghost use Rattle.partial_rounds.specs.Rounds.{code_of};
 
-    /// The number of the refusal: 5 for the ports, 6 for memory, 14 for no room.
+    /// The number of the refusal: 5 for `Ports`, 6 for `Memory`, 14 for `NoRoom`.
     pub fn code(&self) -> u8
         ensures { result ≡ code_of self.now }
     {
@@ -47,7 +47,7 @@ impl From<AllocError> for RoundsError {
     }
 }
 
-// A round has 1 to 64 ports, so only a growth can be refused.
+// A round has 1 to 64 ports, so only an allocation can be refused.
 impl From<OpenError> for RoundsError {
     ghost use Rattle.partial_rounds.specs.declared.error.RoundsError.TheVariants.{Memory};
 

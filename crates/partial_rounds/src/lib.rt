@@ -1,4 +1,5 @@
-//! Components whose values outlive each opening of their memory: calls run over as many openings as it takes.
+//! Components whose values outlive each opening of their memory: calls run over as many openings as they
+//! need.
 #![tactic(auto)]
 
 mod error;

@@ -19,7 +19,7 @@ pub fn is_left(left: &[&[Call]]) -> bool
     false
 }
 
-/// Whether a port has an answer.
+/// Whether any port has an answer.
 pub fn is_answered(answers: &[Vec<Answer>]) -> bool
     ensures { result ≡ have_answers answers.now }
 {
@@ -31,7 +31,7 @@ pub fn is_answered(answers: &[Vec<Answer>]) -> bool
     false
 }
 
-// Of the calls the first ones, at most so many.
+// The first calls, at most `most` of them.
 fn at_most(calls: &[Call], most: usize) -> &[Call]
     ensures { result.now ≡ take most calls.now }
 {
@@ -42,7 +42,7 @@ fn at_most(calls: &[Call], most: usize) -> &[Call]
     }
 }
 
-/// Of the calls of each port the first ones, at most so many.
+/// The first calls of each port, at most `most` of each.
 pub fn first_of<'a>(
     alloc: Global,
     left: &[&'a [Call]],
@@ -57,7 +57,7 @@ pub fn first_of<'a>(
     Ok(calls)
 }
 
-// The calls behind so many of them.
+// The calls after the first `made`.
 fn rest(calls: &[Call], made: usize) -> &[Call]
     requires { made ≤ length calls.now }
     ensures { result.now ≡ drop made calls.now }
@@ -65,7 +65,8 @@ fn rest(calls: &[Call], made: usize) -> &[Call]
     &calls[made..]
 }
 
-/// The calls of each port behind those that have these answers. `behind` has room for as many as there are ports.
+/// The calls of each port after those that have these answers. `behind` needs room for as many elements as
+/// there are ports.
 pub fn behind<'a>(
     left: &[&'a [Call]],
     answers: &[Vec<Answer>],

@@ -1,4 +1,4 @@
-//! Calls that are made over as many openings of a memory as it takes.
+//! Calls that are made over as many openings of a memory as they need.
 
 ghost use Rattle.std.specs.Prelude.{◌≡◌, ◌≢◌, ◌≤◌, ◌<◌, ◌⊎◌, ◌++◌, ◌∷◌, [], true, length, map, IfOk, IfErr};
 ghost use Rattle.partial_workers.specs.Answered.{AreMakable};
@@ -19,17 +19,18 @@ use std::thread::Threads;
 /// What was answered in one opening of the memory.
 #[derive(Debug, Drop)]
 pub struct Round {
-    /// The answers of each port. They are those of the first calls that it had left. The stamps that they name are of
-    /// this round alone.
+    /// The answers of each port, in order: those of the first calls that it had left. The stamps in them
+    /// have a meaning in this round alone.
     pub answers: Vec<Vec<Answer>>,
 }
 
-/// What came of calls.
+/// The outcome of a run of calls.
 #[derive(Debug, Drop)]
 pub struct RoundsReport {
-    /// The rounds that came to their end, in order. A port's answers are those of all rounds, one behind the other.
+    /// The completed rounds, in order. A port's answers are those of all rounds, one after the other.
     pub rounds: Vec<Round>,
-    /// Whether all calls were made. If not, those are left that have no answer, and nothing was applied of them.
+    /// Whether all calls were made. If not, the calls that have no answer are left, and nothing of them was
+    /// applied.
     pub ended: Result<(), RoundsError>,
 }
 
@@ -51,8 +52,8 @@ impl Model for Rounds {
     ghost invariant = { λ r. length r.values.items ≡ r.sizes.m };
 }
 
-// How many calls of each port a round takes at most. An update's record takes three words of the pool at least, so more
-// would take memory for calls that this round can hardly make.
+// How many calls of each port a round takes at most. An update claims at least three pool words, so this
+// round could hardly make more, and they would only take memory.
 fn most_calls(sizes: Sizes, ports: usize) -> usize
     requires { 1 ≤ ports }
     ensures { 1 ≤ result }
@@ -61,10 +62,10 @@ fn most_calls(sizes: Sizes, ports: usize) -> usize
 }
 
 impl Rounds {
-    /// Components that hold these values, for memories of these sizes.
+    /// Makes components that hold these values, for memories of these sizes.
     ///
     /// # Errors
-    /// [`AllocError`] where a growth was refused.
+    /// [`AllocError`] when an allocation was refused.
     pub fn new(alloc: Global, sizes: Sizes, initial: &[u64]) -> Result<Rounds, AllocError>
         requires { length initial.now ≡ sizes.m }
         ensures { IfOk result (λ r. (r.sizes ≡ sizes) × (r.values ≡ initial.now)) }
@@ -75,34 +76,36 @@ impl Rounds {
         })
     }
 
-    /// The sizes of the memories.
+    /// The sizes of each opening.
     pub fn sizes(&self) -> Sizes
         ensures { result ≡ self.now.sizes }
     {
         self.sizes
     }
 
-    /// What the components hold.
+    /// The values of the components.
     pub fn values(&self) -> &[u64]
         ensures { result.now ≡ self.now.values }
     {
         &self.values
     }
 
-    /// Makes the calls of each port in order, each call once, over as many openings of a memory as it takes. A round
-    /// opens one with the values, and each port makes calls in a thread of its own. Once one is refused for the pool or
-    /// the slots all come to their end, the memory is closed, and the calls go on in the next round, with those that
-    /// were refused so. No other refusal is tried again. Stamps start anew with each round: one that a conditional
-    /// update expects is of the round in which the update is made.
+    /// Makes the calls of each port in order, each call once, over as many openings of a memory as they
+    /// need. A round opens a memory with the values, and each port makes its calls in a thread of its own.
+    /// When a call is refused for the pool or the slots, all ports stop and the memory is closed. The next
+    /// round goes on with the calls that are left, those that were refused so included. A call with another
+    /// refusal isn't tried again. Stamps start anew with each round: a stamp that a conditional update
+    /// expects is one of the round in which the update is made.
     ///
-    /// A round's memory but that of closing is taken before its first worker starts. A round that doesn't come to its
-    /// end leaves nothing: neither its answers nor its values.
+    /// A round takes all its memory, apart from that of closing, before its first worker starts. A round
+    /// that fails leaves nothing: neither its answers nor its values.
     ///
     /// # Errors
-    /// [`RoundsError::Ports`] exactly where there are not 1 to 64 ports, and otherwise [`RoundsError::Memory`] where a
-    /// growth was refused before the first round. Nothing was made then, and the values are as before. Later errors
-    /// stand in the report: Memory where a round didn't come to its end, and [`RoundsError::NoRoom`] where no call was
-    /// answered in a whole round. The values are then those behind the rounds of the report.
+    /// [`RoundsError::Ports`] exactly when there are not 1 to 64 ports, and otherwise
+    /// [`RoundsError::Memory`] when an allocation was refused before the first round. Nothing was made
+    /// then, and the values are as before. The report has later errors: Memory when a round failed, and
+    /// [`RoundsError::NoRoom`] when no call was answered in a whole round. The values are then those after
+    /// the rounds of the report.
     pub fn run<R: Threads + Wait + Sync>(
         &mut self,
         rt: &R,
@@ -123,7 +126,7 @@ impl Rounds {
         Ok(self.make_all(rt, alloc, left))
     }
 
-    // Round after round, until no call is left or a round doesn't come to its end.
+    // Makes round after round, until no call is left or a round fails.
     fn make_all<R: Threads + Wait + Sync>(
         &mut self,
         rt: &R,
@@ -155,7 +158,7 @@ impl Rounds {
         }
     }
 
-    // One round, and the calls that are left behind it.
+    // Makes one round. Returns the calls that are left after it.
     fn round<'c, R: Threads + Wait + Sync>(
         &mut self,
         rt: &R,

@@ -25,7 +25,7 @@ pub record State : Type 0 where
 abbrev pub IsLawful : Layout → Opening → State → Type 0
 IsLawful z o s = LawfulWords z o s.words s.holdings s.log
 
--- the later state is lawful, and what was loaded goes on being true
+-- the later state is lawful, and what was loaded stays true
 pub record Keeps (z : Layout) (o : Opening) (earlier later : State) : Type 0 where
   pub lawful : IsLawful z o later
   pub loads : (w : ℕ) (k : Kept) → IsLoaded z o earlier.words earlier.holdings earlier.log w k →
@@ -49,7 +49,7 @@ ClaimsAreKept =
     IsKept z o words before h after log (words_after words (Add (counter_of z space) (length block)))
     (record h { own = Some (record { space = space; at = slice_index words (counter_of z space); words = block; stored = 0 }) }) log
 
--- a claim past the end of its space: the port is marked, where it wasn't
+-- a claim past the end of the pool, by a port that isn't marked yet: the port is marked
 abbrev pub PoolRefusalsAreKept : Type 0
 PoolRefusalsAreKept =
     (z : Layout) (o : Opening) (words : List ℕ) (before : List Holding) (h : Holding) (after : List Holding) (log : List Applied)
@@ -76,7 +76,7 @@ StoresAreKept =
     IsKept z o words before h after log (words_after words (Store (b.at + b.stored) (slice_index b.words b.stored)))
     (record h { own = Some (record b { stored = b.stored + 1 }) }) log
 
--- an exchange comes to be due
+-- an exchange becomes due
 abbrev pub DuesAreKept : Type 0
 DuesAreKept =
     (z : Layout) (o : Opening) (words : List ℕ) (before : List Holding) (h : Holding) (after : List Holding) (log : List Applied)
@@ -109,7 +109,7 @@ SlotClaimsAreKept =
     IsKept z o words before h after log (words_after words (Add (slot_counter z) 1))
     (record h { claimed = Some (record { slot = slice_index words (slot_counter z); joined = None }) }) log
 
--- a claim past the last slot: the port is marked, where it wasn't
+-- a claim past the last slot, by a port that isn't marked yet: the port is marked
 abbrev pub SlotRefusalsAreKept : Type 0
 SlotRefusalsAreKept =
     (z : Layout) (o : Opening) (words : List ℕ) (before : List Holding) (h : Holding) (after : List Holding) (log : List Applied) →
@@ -136,7 +136,7 @@ LeavesAreKept =
     LawfulWords z o words (before ++ h ∷ after) log → h.claimed ≡ Some (record { slot = slot; joined = Some j }) →
     IsKept z o words before h after log (words_after words (Store (slot_word z slot) 1)) (record h { claimed = None }) log
 
--- an exchange of the list head: where it is won the list that the port has written is published, and else it is given up
+-- an exchange of the list head: when it is won, the list that the port has written is published, and otherwise it is given up
 abbrev pub PublishingsAreKept : Type 0
 PublishingsAreKept =
     (z : Layout) (o : Opening) (words : List ℕ) (before : List Holding) (h : Holding) (after : List Holding) (log : List Applied)

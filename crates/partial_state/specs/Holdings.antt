@@ -79,7 +79,7 @@ abbrev pub announcements : List Holding → List Block
 announcements hs =
     filter_map (λ h. option_map (λ j. record { at = j.at; size = announcement_size (length j.indices) }) (joined_in h.claimed)) hs
 
--- how many words the record at `stamp` has, with the view behind it where it has one of its own
+-- how many words the record at `stamp` has, with its own view if it has one
 abbrev pub size_at : List ℕ → ℕ → ℕ
 size_at words stamp =
     if view_of words stamp == own_view stamp then full_record_size (view_len words (own_view stamp)) else plain_record_size
@@ -102,7 +102,7 @@ EachTwo R (x ∷ xs) = AllByRecursion (R x) xs × EachTwo R xs
 abbrev pub HaveOtherPorts : Holding → Holding → Type 0
 HaveOtherPorts a b = a.port ≢ b.port
 
--- the two have claimed two slots, where both have claimed one
+-- the two have claimed two slots, when both have claimed one
 abbrev pub HaveOtherSlots : Holding → Holding → Type 0
 HaveOtherSlots a b = IfSome a.claimed (λ c. IfSome b.claimed (λ d. c.slot ≢ d.slot))
 

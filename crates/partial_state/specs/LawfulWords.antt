@@ -19,7 +19,7 @@ pub record IsOwn (z : Layout) (words : List ℕ) (b : Own) : Type 0 where
   pub few : b.stored ≤ length b.words
   pub stands : (i : ℕ) → i < b.stored → slice_index words (b.at + i) ≡ slice_index b.words i
 
--- what ties a port to the words: its own block, and that it is marked for a region only where the region's counter is past its end
+-- what ties a port to the words: its own block, and that it is marked for a region only when the region's counter is past its end
 pub record IsTied (z : Layout) (words : List ℕ) (h : Holding) : Type 0 where
   pub own : IfSome h.own (IsOwn z words)
   pub pool_marked : h.pool_spent ≡ true → pool_end z < slice_index words (pool_counter z)

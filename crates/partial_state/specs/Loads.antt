@@ -1,4 +1,4 @@
--- What the answer of a load goes on telling.
+-- What stays true by the answer of a load.
 use Rattle.std.specs.Prelude.{ℕ, ◌≡◌, ◌<◌, ◌≤◌, ◌⊎◌, List, length, take, slice_index}
 use Rattle.std.specs.List.{AllByRecursion}
 use Rattle.partial_model.specs.declared.history.Applied.{Applied}
@@ -24,7 +24,7 @@ pub record IsPublished (z : Layout) (words : List ℕ) (unpublished : List Block
       ⊎ ((pool_base z ≤ w) × (w < slice_index words (pool_counter z)))
   pub apart : IsApartFrom unpublished (record { at = w; size = 1 })
 
--- what a kept answer of a load of word w goes on telling
+-- what stays true by a kept answer of a load of word w
 pub record IsLoaded (z : Layout) (o : Opening) (words : List ℕ) (hs : List Holding) (log : List Applied) (w : ℕ) (k : Kept) : Type 0 where
   pub within : k.at ≤ length log
   -- a component's word was its stamp at that length of the history

@@ -79,7 +79,7 @@ Names z words unpublished stamp indices =
     (pairs : List (ℕ × ℕ)) × HasPairs z words unpublished stamp pairs
     × AllByRecursion (λ j. Contains (map (λ pair. pair.0) pairs) j) indices
 
--- the record at `stamp` covers the announcement: it names its indices where it was begun since the port joined
+-- the record at `stamp` covers the announcement: it names its indices when it was begun since the port joined
 abbrev pub Covers : Layout → List ℕ → List Block → List Applied → ℕ → Joined → Type 0
 Covers z words unpublished log stamp j = IsBegunSince log j.since (prev_of words stamp) → Names z words unpublished stamp j.indices
 

@@ -1,47 +1,48 @@
-//! The laws of the kinds of step. The functions have no code: their contracts hold of the definitions by
-//! which lawful words are stated.
+//! The laws of the kinds of step: each says what a step of its kind keeps. The functions have no code:
+//! their contracts hold of the definitions by which lawful words are stated.
 
 ghost use Rattle.partial_state.specs.Effects.{OpeningIsLawful, ClaimsAreKept, PoolRefusalsAreKept, ListRefusalsAreKept, StoresAreKept, DuesAreKept, DropsAreKept, WinsAreKept, SlotClaimsAreKept, SlotRefusalsAreKept, JoinsAreKept, LeavesAreKept, PublishingsAreKept, LoadsAreTrue};
 
-/// Words as they open, with at most 64 ports that hold nothing, are lawful.
+/// Words at opening, with at most 64 ports that hold nothing, are lawful.
 pub fn opening_is_lawful()
     ensures { OpeningIsLawful }
 {}
 
-/// A claim of a block within its space: the port holds a block of which nothing is stored, apart from every
-/// other one.
+/// A claim of a block within its region: the port holds a block of which nothing is stored, apart from
+/// every other block.
 pub fn claims_are_kept()
     ensures { ClaimsAreKept }
 {}
 
-/// A claim past the end of the pool: the port is marked, and the counter is past the end by no more than
-/// one greatest claim for each port that is marked.
+/// A claim past the end of the pool: the port is marked, and the counter is past the end by at most one
+/// greatest claim for each marked port.
 pub fn pool_refusals_are_kept()
     ensures { PoolRefusalsAreKept }
 {}
 
-/// A claim past the last list word: the same for the list words.
+/// A claim past the last list word: the port is marked, and the counter is past the end by at most one
+/// greatest list for each marked port.
 pub fn list_refusals_are_kept()
     ensures { ListRefusalsAreKept }
 {}
 
-/// A store of the next word of a block of one's own, that no other port reads yet.
+/// A store of the next word of a port's own block, which no other port reads yet.
 pub fn stores_are_kept()
     ensures { StoresAreKept }
 {}
 
-/// The exchange of a component comes to be due: its record stands whole and would have a fresh and
-/// covering view.
+/// The exchange of a component word is due: the record stands whole, and its view would be fresh and
+/// covering.
 pub fn dues_are_kept()
     ensures { DuesAreKept }
 {}
 
-/// A block of one's own is given up: its exchange was lost, or the call is refused.
+/// A port gives up its own block: its exchange failed, or the call is refused.
 pub fn drops_are_kept()
     ensures { DropsAreKept }
 {}
 
-/// A won exchange of a component: its record is published, and the history gains its entry.
+/// A won exchange of a component word: the record is published, and the history gains its entry.
 pub fn wins_are_kept()
     ensures { WinsAreKept }
 {}
@@ -61,18 +62,18 @@ pub fn joins_are_kept()
     ensures { JoinsAreKept }
 {}
 
-/// A leave: the slot is VACATED, and stays so for ever.
+/// A leave: the slot is VACATED, and stays so forever.
 pub fn leaves_are_kept()
     ensures { LeavesAreKept }
 {}
 
-/// An exchange of the list head: when it is won the list that the port has written is published, and
-/// else it is given up.
+/// An exchange of the list head: when it is won, the list that the port has written is published, and
+/// otherwise it is given up.
 pub fn publishings_are_kept()
     ensures { PublishingsAreKept }
 {}
 
-/// What a load answers is true from then on, of each word but those of blocks that aren't published.
+/// What a load returns is true from then on, for each word but those of blocks that aren't published.
 pub fn loads_are_true()
     ensures { LoadsAreTrue }
 {}

@@ -193,7 +193,7 @@ abbrev pub is_end : List (List ℕ) → Bool
 is_end ([] ∷ []) = true
 is_end _ = false
 
--- the last line of a plan of so many ports, with what stands behind it
+-- the last line of a plan of that many ports, with what follows it
 unfoldable pub last_at : ℕ → ℕ → List ℕ → List (List ℕ) → Result (List (ℕ × ℕ) × Bool) PlanError
 last_at line ports l behind =
     if bytes_eq (until 32 l) (codes "steps") then

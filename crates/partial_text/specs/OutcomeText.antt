@@ -24,12 +24,12 @@ abbrev pub entry_lines : ℕ → List Applied → List ℕ
 entry_lines place [] = []
 entry_lines place (e ∷ h) = entry_line place e ++ entry_lines (place + 1) h
 
--- a number behind a space, and a dash where there is none
+-- a number after a space, and a dash when there is none
 abbrev pub optional_field : Option ℕ → List ℕ
 optional_field None = codes " -"
 optional_field (Some n) = number_field n
 
--- the place or the prefix that a note tells, and 0 where there is no note
+-- the place or the prefix of a note, and 0 when there is no note
 abbrev pub told_place : Option Note → ℕ
 told_place None = 0
 told_place (Some note) = place_of note
@@ -52,7 +52,7 @@ place_field (answer.Read v t) k = codes " prefix" ++ number_field k
 place_field (answer.Refused r) k = []
 place_field (answer.Changed t) k = codes " prefix" ++ number_field k
 
--- what a scan tells behind its prefix; the other answers tell nothing more
+-- what follows the prefix of a scan; nothing follows that of other answers
 abbrev pub answer_back : Answer → List ℕ
 answer_back (answer.Scanned vs c b) = codes " collects" ++ number_field c ++ codes " borrowed" ++ optional_field b
 answer_back (answer.Applied t) = []

@@ -49,7 +49,7 @@ port_line (c ∷ cs) = codes "port" ++ field (call_text c) ++ flat_map next_call
 abbrev pub entry_text : ℕ × ℕ → List ℕ
 entry_text e = decimal e.0 ++ 42 ∷ decimal e.1
 
--- the last word of the steps, where the plan has it
+-- the last word of the steps, if the plan has it
 abbrev pub rest_text : Bool → List ℕ
 rest_text true = field (codes "rest")
 rest_text false = []

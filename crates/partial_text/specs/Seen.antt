@@ -1,4 +1,4 @@
--- What judging gives, without where it lies in memory.
+-- What judging gives, whatever memory holds it.
 use Rattle.partial_text.specs.declared.lines.Tail.{Tail}
 use Rattle.partial_text.specs.Judging as judging
 

@@ -1,4 +1,4 @@
--- What reading gives, without where it lies in memory.
+-- What reading gives, whatever memory holds it.
 use Rattle.partial_text.specs.declared.plan.Parts.{Parts}
 use Rattle.partial_text.specs.PlanText.{PlanView}
 

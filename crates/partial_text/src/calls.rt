@@ -26,7 +26,7 @@ fn update(line: u32, fields: &[u8]) -> Result<Call, PlanError>
     Ok(Call::Update { component, value })
 }
 
-/// A scan of at most m positions. An index beyond the components may stand among them.
+/// Reads a scan of at most m positions. Its indices may lie beyond the components.
 #[tactic(auto, unfolding(crate::specs::Judging::scan_from))]
 fn scan(alloc: Global, m: u32, line: u32, fields: &[u8]) -> Result<Call, PlanError>
     ensures { Gives (λ call. call) result (scan_from m line (pieces_behind 32 fields.now)) }
@@ -68,7 +68,7 @@ fn update_if(line: u32, fields: &[u8]) -> Result<Call, PlanError>
     })
 }
 
-/// The call that a text is, in a plan of m components.
+/// Reads one call of a plan of m components.
 #[tactic(auto, unfolding(crate::specs::Judging::call_at))]
 fn call_of(alloc: Global, m: u32, line: u32, text: &[u8]) -> Result<Call, PlanError>
     ensures { Gives (λ call. call) result (call_at m line text.now) }
@@ -87,7 +87,7 @@ fn call_of(alloc: Global, m: u32, line: u32, text: &[u8]) -> Result<Call, PlanEr
     }
 }
 
-/// Whether a semicolon and a space stand at the front.
+/// Whether the text begins with a semicolon and a space.
 fn is_cut(text: &[u8]) -> bool
     ensures { result ≡ is_cut text.now }
 {
@@ -97,7 +97,7 @@ fn is_cut(text: &[u8]) -> bool
     }
 }
 
-/// The text before the first semicolon that a space follows, and from it on.
+/// Splits the text before the first semicolon that a space follows.
 #[tactic(auto, using(crate::proofs::CallCuts::texts_cut))]
 fn split_call(text: &[u8]) -> (&[u8], &[u8])
     ensures shorter { length result.1.now ≤ length text.now }
@@ -111,7 +111,7 @@ fn split_call(text: &[u8]) -> (&[u8], &[u8])
     (text, &[])
 }
 
-/// The calls that the texts between one semicolon with a space and the next are.
+/// Reads the calls of a text, which are separated by a semicolon and a space.
 #[tactic(auto, unfolding(crate::specs::Judging::calls_at), using(crate::proofs::CallCuts::texts_behind))]
 fn calls_of(alloc: Global, m: u32, line: u32, text: &[u8]) -> Result<Vec<Call>, PlanError>
     ensures { Gives (λ v. v.items) result (calls_at m line [] (call_texts text.now)) }
@@ -127,7 +127,7 @@ fn calls_of(alloc: Global, m: u32, line: u32, text: &[u8]) -> Result<Vec<Call>, 
     }
 }
 
-/// The calls of a port line, of which these are the bytes behind its word, in a plan of m components.
+/// Reads the calls of a port line in a plan of m components. `behind` is what follows the word `port`.
 #[tactic(auto, unfolding(crate::specs::Judging::port_at))]
 pub(crate) fn port_calls(
     alloc: Global,

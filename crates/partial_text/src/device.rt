@@ -6,7 +6,7 @@ ghost use Rattle.std.specs.Io.KnownBytes.{Keeps, Appends, Consumes, IsAtEnd};
 use std::io::{Read, Write};
 use std::marker::Model;
 
-/// A reader or a writer, whether a call of it has failed, and how many reads it was asked for.
+/// A reader or a writer, whether one of its calls has failed, and how many reads it was asked for.
 #[derive(Drop)]
 pub struct Device<D> {
     inner: D,
@@ -23,7 +23,7 @@ impl<D> Model for Device<D> {
 }
 
 impl<D> Device<D> {
-    /// Wraps a reader or a writer, of which no call has failed yet.
+    /// Wraps a reader or a writer. None of its calls counts as failed.
     pub fn new(inner: D) -> Device<D>
         ensures { result ≡ record { inner = inner; failed = false; reads = 0 } }
     {
@@ -34,7 +34,7 @@ impl<D> Device<D> {
         }
     }
 
-    /// Whether a read or a write of the inner device has failed, or a write has taken 0 bytes.
+    /// Whether a read or a write has failed, or a write has taken 0 bytes.
     pub fn failed(&self) -> bool
         ensures { result ≡ self.now.failed }
     {
@@ -50,7 +50,7 @@ impl<D> Device<D> {
         *reads
     }
 
-    /// Hands the inner device back.
+    /// Returns the inner device.
     pub fn into_inner(self) -> D
         ensures { result ≡ self.inner }
     {
@@ -59,7 +59,8 @@ impl<D> Device<D> {
 }
 
 impl<R: Read> Device<R> {
-    /// Reads some bytes and says how many: none only at the end. None where the read fails.
+    /// Reads some bytes and returns how many, which is 0 only at the end. Returns `None` when the read
+    /// fails.
     pub(crate) fn read(&mut self, buffer: &mut [u8]) -> Option<usize>
         requires { 0 < length buffer.old }
         ensures bytes { MatchOption result (self.new.failed ≡ true)
@@ -80,7 +81,8 @@ impl<R: Read> Device<R> {
 }
 
 impl<W: Write> Device<W> {
-    /// Writes some bytes from the front and says how many. None where the write fails or takes 0 bytes.
+    /// Writes some bytes from the front and returns how many. Returns `None` when the write fails or takes
+    /// 0 bytes.
     pub(crate) fn write(&mut self, bytes: &[u8]) -> Option<usize>
         ensures bytes { MatchOption result
             ((self.new.failed ≡ true) × Keeps (W.contents self.old.inner) (W.contents self.new.inner))

@@ -12,39 +12,39 @@ pub enum Cause {
     /// The text is longer than 4,194,304 bytes. The line is 0.
     #[error("size")]
     Size,
-    /// The line isn't there, or no newline ends it.
+    /// The line is missing, or no newline ends it.
     #[error("end")]
     End,
-    /// The first field of the line or of a call isn't one that may stand there.
+    /// The first field of the line or of a call is a word that can't stand there.
     #[error("word")]
     Word,
     /// The line or a call has too few or too many fields.
     #[error("count")]
     Count,
-    /// A field isn't the number or the entry that it has to be, or is too large.
+    /// A field isn't the number or the entry that it should be, or it is too large.
     #[error("number")]
     Number,
     /// The port of an entry isn't in the plan, or its count is 0.
     #[error("range")]
     Range,
-    /// Something stands behind the last line.
+    /// Something follows the last line.
     #[error("extra")]
     Extra,
 }
 
-/// Why a plan wasn't read. Nothing is left of it, nor of what the reader had given.
+/// Why a plan wasn't read. Nothing is left of it, nor of what the reader had supplied.
 #[derive(Clone, Copy, Debug, PartialEq, Eq, Error)]
 pub enum PlanError {
     /// A size is out of its range.
     #[error("{0}")]
     Size(SizeError),
-    /// There are 1 to 64 ports.
+    /// There are not 1 to 64 ports.
     #[error("ports out of range")]
     Ports,
-    /// A growth was refused.
+    /// An allocation was refused.
     #[error("out of memory")]
     Memory,
-    /// The line, counted from 1, isn't one that may stand there.
+    /// This line, counted from 1, is wrong for this cause.
     #[error("line {line}: {cause}")]
     Line { line: u32, cause: Cause },
     /// The reader failed.
@@ -55,8 +55,8 @@ pub enum PlanError {
 impl PlanError {
     ghost use Rattle.partial_text.specs.Fault.{code_of, line_of};
 
-    /// The number of the refusal: 1 to 4 for the sizes, 5 for the ports, 6 for memory, 10 for a line,
-    /// 11 for the reader.
+    /// The number of the refusal: 1 to 4 for a size, 5 for `Ports`, 6 for `Memory`, 10 for `Line`, 11 for
+    /// `Read`.
     pub fn code(&self) -> u8
         ensures { result ≡ code_of self.now }
     {
@@ -69,7 +69,7 @@ impl PlanError {
         }
     }
 
-    /// The line, counted from 1, and what is wrong with it. None where no line is to blame.
+    /// The faulty line, counted from 1, and its cause. `None` when the fault isn't that of a line.
     pub fn at(&self) -> Option<(u32, Cause)>
         ensures { result ≡ line_of self.now }
     {
@@ -105,10 +105,10 @@ impl<T: Drop> From<AllocFailed<T>> for PlanError {
 /// Why an outcome wasn't written whole.
 #[derive(Clone, Copy, Debug, PartialEq, Eq, Error)]
 pub enum OutcomeError {
-    /// A growth was refused. Nothing was written.
+    /// An allocation was refused. Nothing was written.
     #[error("out of memory")]
     Memory,
-    /// The writer failed or took no byte. A part of the text from its front was written.
+    /// The writer failed or took 0 bytes. A part of the text from its front was written.
     #[error("write fault")]
     Write,
 }
@@ -116,7 +116,7 @@ pub enum OutcomeError {
 impl OutcomeError {
     ghost use Rattle.partial_text.specs.Fault.{outcome_code_of};
 
-    /// The number of the refusal: 6 for memory, 12 for the writer.
+    /// The number of the refusal: 6 for `Memory`, 12 for `Write`.
     pub fn code(&self) -> u8
         ensures { result ≡ outcome_code_of self.now }
     {

@@ -1,4 +1,4 @@
-//! The fields of a line or a call: what stands between one space and the next.
+//! The fields of a line or a call, which are separated by one space.
 
 ghost use Rattle.std.specs.Prelude.{◌≡◌, ◌∷◌, [], length, nat_lt, MatchOption};
 ghost use Rattle.std.specs.Option.{option_map};
@@ -11,14 +11,14 @@ use crate::number::number;
 use crate::pieces::{count, split_before};
 use std::alloc::Global;
 
-/// The refusal of a line.
+/// Makes the error of a line.
 pub(crate) fn fault(line: u32, cause: Cause) -> PlanError
     ensures { result ≡ PlanError.Line line cause }
 {
     PlanError::Line { line, cause }
 }
 
-/// The next of the fields, each behind a space, and those behind it.
+/// Splits off the next field. Each field has a space before it.
 pub(crate) fn next_field(fields: &[u8]) -> Option<(&[u8], &[u8])>
     ensures { MatchOption result (pieces_behind 32 fields.now ≡ [])
         (λ x. pieces_behind 32 fields.now ≡ x.0.now ∷ pieces_behind 32 x.1.now) }
@@ -29,7 +29,7 @@ pub(crate) fn next_field(fields: &[u8]) -> Option<(&[u8], &[u8])>
     }
 }
 
-/// The field, where there is one alone.
+/// The field, when there is exactly one.
 pub(crate) fn one_field(fields: &[u8]) -> Option<&[u8]>
     ensures { option_map (λ x. x.now) result ≡ exactly_one (pieces_behind 32 fields.now) }
 {
@@ -40,7 +40,7 @@ pub(crate) fn one_field(fields: &[u8]) -> Option<&[u8]>
     }
 }
 
-/// The fields, where there are two.
+/// The fields, when there are exactly two.
 pub(crate) fn two_fields(fields: &[u8]) -> Option<(&[u8], &[u8])>
     ensures { option_map (λ x. (x.0.now, x.1.now)) result
         ≡ exactly_two (pieces_behind 32 fields.now) }
@@ -50,7 +50,7 @@ pub(crate) fn two_fields(fields: &[u8]) -> Option<(&[u8], &[u8])>
     Some((first, second))
 }
 
-/// The fields, where there are three.
+/// The fields, when there are exactly three.
 pub(crate) fn three_fields(fields: &[u8]) -> Option<(&[u8], &[u8], &[u8])>
     ensures { option_map (λ x. (x.0.now, x.1.now, x.2.now)) result
         ≡ exactly_three (pieces_behind 32 fields.now) }
@@ -60,7 +60,7 @@ pub(crate) fn three_fields(fields: &[u8]) -> Option<(&[u8], &[u8], &[u8])>
     Some((first, second, third))
 }
 
-/// The fields, where there are four.
+/// The fields, when there are exactly four.
 pub(crate) fn four_fields(fields: &[u8]) -> Option<(&[u8], &[u8], &[u8], &[u8])>
     ensures { option_map (λ x. (x.0.now, x.1.now, x.2.now, x.3.now)) result
         ≡ exactly_four (pieces_behind 32 fields.now) }
@@ -70,7 +70,7 @@ pub(crate) fn four_fields(fields: &[u8]) -> Option<(&[u8], &[u8], &[u8], &[u8])>
     Some((first, second, third, fourth))
 }
 
-/// Whether there are more than `most` fields, each behind a space.
+/// Whether there are more than `most` fields, each with a space before it.
 pub(crate) fn has_more_fields(fields: &[u8], most: u32) -> bool
     ensures { result ≡ nat_lt most (length (pieces_behind 32 fields.now)) }
 {
@@ -80,7 +80,7 @@ pub(crate) fn has_more_fields(fields: &[u8], most: u32) -> bool
     }
 }
 
-/// The field as a number of 64 bits.
+/// Reads the field as a number of 64 bits.
 pub(crate) fn value_field(line: u32, field: &[u8]) -> Result<u64, PlanError>
     ensures { Gives (λ x. x) result (number_at line greatest field.now) }
 {
@@ -90,7 +90,7 @@ pub(crate) fn value_field(line: u32, field: &[u8]) -> Result<u64, PlanError>
     }
 }
 
-/// The field as a number of 32 bits.
+/// Reads the field as a number of 32 bits.
 pub(crate) fn index_field(line: u32, field: &[u8]) -> Result<u32, PlanError>
     ensures { Gives (λ x. x) result (number_at line greatest_index field.now) }
 {
@@ -100,7 +100,7 @@ pub(crate) fn index_field(line: u32, field: &[u8]) -> Result<u32, PlanError>
     }
 }
 
-/// The fields as numbers of 64 bits.
+/// Reads the fields as numbers of 64 bits.
 #[tactic(auto, unfolding(crate::specs::Judging::numbers_at))]
 pub(crate) fn value_fields(alloc: Global, line: u32, fields: &[u8]) -> Result<Vec<u64>, PlanError>
     ensures { Gives (λ v. v.items) result
@@ -116,7 +116,7 @@ pub(crate) fn value_fields(alloc: Global, line: u32, fields: &[u8]) -> Result<Ve
     Ok(values)
 }
 
-/// The fields as numbers of 32 bits.
+/// Reads the fields as numbers of 32 bits.
 #[tactic(auto, unfolding(crate::specs::Judging::numbers_at))]
 pub(crate) fn index_fields(alloc: Global, line: u32, fields: &[u8]) -> Result<Vec<u32>, PlanError>
     ensures { Gives (λ v. v.items) result

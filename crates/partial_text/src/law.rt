@@ -4,8 +4,8 @@ ghost use Rattle.std.specs.Prelude.{◌≡◌, List, ℕ, Ok};
 ghost use Rattle.partial_text.specs.PlanText.{PlanView, IsPlan, PlansHaveFewCalls, plan_text};
 ghost use Rattle.partial_text.specs.Judging.{judged};
 
-/// The text of a plan is judged as the plan, and what is judged as a plan is the text of it, so two
-/// texts never give one plan.
+/// The text of a plan is judged to be that plan, and a text that is judged to be a plan is the text of it.
+/// So no two texts are judged to be one plan.
 pub fn texts_tell_plans()
     ensures read { (p : PlanView) → IsPlan p → judged (plan_text p) ≡ Ok p }
     ensures text { (text : List ℕ) → (p : PlanView) → judged text ≡ Ok p

@@ -16,7 +16,7 @@ use partial_model::{Call, Sequence};
 use partial_words::Sizes;
 use std::alloc::Global;
 
-/// The line at the front without its newline, and the text behind it.
+/// Splits off the first line, without its newline.
 #[tactic(auto, unfolding(crate::specs::Judging::line_at))]
 pub(crate) fn line_of(line: u32, text: &[u8]) -> Result<(&[u8], &[u8]), PlanError>
     ensures value { Gives (λ x. (x.0.now, pieces 10 x.1.now)) result (line_at line (pieces 10 text.now)) }
@@ -29,7 +29,7 @@ pub(crate) fn line_of(line: u32, text: &[u8]) -> Result<(&[u8], &[u8]), PlanErro
     }
 }
 
-/// The sizes, or the first one that is out of its range.
+/// Checks the sizes. Returns the error of the first one that is out of its range.
 fn checked_sizes(m: u32, slots: u32, lists: u32, pool: u32) -> Result<Sizes, PlanError>
     ensures { Gives (λ s. s) result
         (in_range (record { m = m; slots = slots; lists = lists; pool = pool })) }
@@ -54,7 +54,7 @@ fn sizes_of_fields(fields: &[u8]) -> Result<Sizes, PlanError>
     checked_sizes(m, slots, lists, pool)
 }
 
-/// The sizes that the first line gives.
+/// Reads the sizes from the first line.
 #[tactic(auto, unfolding(crate::specs::Judging::sizes_at))]
 pub(crate) fn sizes_of(line: &[u8]) -> Result<Sizes, PlanError>
     ensures { Gives (λ s. s) result (sizes_at line.now) }
@@ -66,7 +66,7 @@ pub(crate) fn sizes_of(line: &[u8]) -> Result<Sizes, PlanError>
     sizes_of_fields(fields)
 }
 
-/// The values that the second line gives to m components.
+/// Reads the initial values of m components from the second line.
 #[tactic(auto, unfolding(crate::specs::Judging::initial_at))]
 pub(crate) fn initial_of(alloc: Global, m: u32, line: &[u8]) -> Result<Vec<u64>, PlanError>
     ensures { Gives (λ v. v.items) result (initial_at m line.now) }
@@ -81,7 +81,8 @@ pub(crate) fn initial_of(alloc: Global, m: u32, line: &[u8]) -> Result<Vec<u64>,
     value_fields(alloc, 2, fields)
 }
 
-/// The calls of one more port of a plan of m components, behind those of the ports so far.
+/// Reads the calls of one more port of a plan of m components, and appends them to those of the ports so
+/// far.
 #[tactic(auto, unfolding(crate::specs::Judging::more_ports))]
 fn push_port(
     alloc: Global,
@@ -102,7 +103,7 @@ fn push_port(
     Ok(())
 }
 
-/// The turns that the last line gives to so many ports, and whether the rest runs behind them.
+/// Reads the last line for a plan of so many ports: the turns, and whether the rest runs after them.
 #[tactic(auto, unfolding(crate::specs::Judging::last_at), using(crate::proofs::Cuts::is_end_pieces))]
 fn last_of(
     alloc: Global,
@@ -129,7 +130,7 @@ fn last_of(
     Ok(steps)
 }
 
-/// What stands behind the second line.
+/// What follows the second line.
 #[derive(Drop)]
 pub(crate) struct Tail {
     pub(crate) ports: Vec<Sequence<Call>>,
@@ -137,14 +138,14 @@ pub(crate) struct Tail {
     pub(crate) rest: bool,
 }
 
-/// Whether a line with this first field is a port line.
+/// Whether this first field begins a port line.
 fn is_port(word: &[u8]) -> bool
     ensures { result ≡ bytes_eq word.now (codes "port") }
 {
     word == b"port".as_slice()
 }
 
-/// The port lines and the last line of a plan of m components.
+/// Reads the port lines and the last line of a plan of m components.
 #[tactic(auto, unfolding(crate::specs::Judging::tail_at))]
 pub(crate) fn tail_of(alloc: Global, m: u32, text: &[u8]) -> Result<Tail, PlanError>
     ensures { Gives seen_tail result (tail_at m 3 [] (pieces 10 text.now)) }

@@ -3,7 +3,7 @@
 ghost use Rattle.std.specs.Prelude.{◌≡◌, ◌≤◌, IfSome};
 ghost use Rattle.partial_text.specs.Number.{with_digit, number_from, number_of};
 
-/// The number with one more digit, if it is not above `most`.
+/// Appends a digit to the number. Returns `None` when the result is above `most`.
 fn extend(number: u64, digit: u8, most: u64) -> Option<u64>
     ensures value { result ≡ with_digit most number digit }
     ensures bound { IfSome result (λ n. n ≤ most) }
@@ -17,7 +17,7 @@ fn extend(number: u64, digit: u8, most: u64) -> Option<u64>
     if longer <= most { Some(longer) } else { None }
 }
 
-/// The number that the digits are, if it is not above `most`.
+/// The number with these digits. `None` when it is above `most`.
 fn value(digits: &[u8], most: u64) -> Option<u64>
     ensures value { result ≡ number_from most 0 digits.now }
     ensures bound { IfSome result (λ n. n ≤ most) }
@@ -29,7 +29,8 @@ fn value(digits: &[u8], most: u64) -> Option<u64>
     Some(number)
 }
 
-/// The number that the text is, in digits with no leading zero, if it is not above `most`.
+/// The number that the text denotes, in digits without a leading zero. `None` when it denotes none, or one
+/// above `most`.
 pub(crate) fn number(text: &[u8], most: u64) -> Option<u64>
     ensures value { result ≡ number_of most text.now }
     ensures bound { IfSome result (λ n. n ≤ most) }

@@ -18,7 +18,7 @@ pub(crate) fn push_number(text: &mut Vec<u8>, number: u64) -> Result<(), AllocEr
     text.extend_from_slice(Buffer::new().format(number).as_bytes())
 }
 
-/// Writes each number behind a space.
+/// Writes each number with a space before it.
 fn push_numbers(text: &mut Vec<u8>, numbers: &[u64]) -> Result<(), AllocError>
     ensures { OnOk result (text.new.items ≡ text.old.items ++ flat_map number_field numbers.now) }
 {
@@ -28,7 +28,7 @@ fn push_numbers(text: &mut Vec<u8>, numbers: &[u64]) -> Result<(), AllocError>
     Ok(())
 }
 
-/// Writes a space and the number, or a dash where there is none.
+/// Writes a space and the number, or a dash when there is none.
 fn push_optional(text: &mut Vec<u8>, number: Option<u64>) -> Result<(), AllocError>
     ensures { OnOk result (text.new.items ≡ text.old.items ++ optional_field number) }
 {
@@ -66,7 +66,7 @@ fn place(note: Option<Note>) -> usize
     }
 }
 
-/// Writes the word, and the number behind a space.
+/// Writes the word, a space and the number.
 fn push_field(text: &mut Vec<u8>, word: &[u8], number: u64) -> Result<(), AllocError>
     ensures { OnOk result (text.new.items ≡ text.old.items ++ word.now ++ number_field number) }
 {
@@ -105,7 +105,7 @@ fn push_place(text: &mut Vec<u8>, answer: &Answer, place: usize) -> Result<(), A
     }
 }
 
-/// Writes what a scan tells behind its prefix, and of other answers nothing.
+/// Writes what follows the prefix of a scan. Writes nothing of other answers.
 pub(crate) fn push_answer_back(text: &mut Vec<u8>, answer: &Answer) -> Result<(), AllocError>
     ensures { OnOk result (text.new.items ≡ text.old.items ++ answer_back answer.now) }
 {

@@ -1,9 +1,9 @@
-//! A text cut at a byte.
+//! Texts that are split at a byte.
 
 ghost use Rattle.std.specs.Prelude.{◌≡◌, ◌≤◌, ◌+◌, ◌∷◌, length};
 ghost use Rattle.partial_text.specs.Pieces.{until, from, pieces, pieces_behind};
 
-/// The bytes before the first separator, and those from it on.
+/// Splits the bytes before the first separator.
 pub(crate) fn split_before(bytes: &[u8], separator: u8) -> (&[u8], &[u8])
     ensures front { result.0.now ≡ until separator bytes.now }
     ensures rest { result.1.now ≡ from separator bytes.now }

@@ -1,4 +1,4 @@
-//! Plans: what is to be replayed or run.
+//! Plans: what to replay or run.
 
 ghost use Rattle.std.specs.Prelude.{◌≡◌, map};
 
@@ -6,8 +6,8 @@ use partial_model::{Call, Sequence};
 use partial_words::Sizes;
 use std::marker::Model;
 
-/// A plan: sizes, the initial values, the calls of each port, and whose turn it is when. It has all
-/// that a plan text asks for.
+/// A plan: the sizes, the initial values, the calls of each port, and the turns. A plan text says all of
+/// it.
 #[derive(Debug, Drop)]
 pub struct Plan {
     sizes: Sizes,
@@ -81,7 +81,7 @@ impl Plan {
         self.sizes
     }
 
-    /// The initial value of each component.
+    /// The initial value of each component, by its index.
     pub fn initial(&self) -> &[u64]
         ensures value { result.now ≡ self.now.initial }
         ensures lawful { IsPlan self.now }
@@ -97,7 +97,7 @@ impl Plan {
         &self.ports
     }
 
-    /// The turns: the number of a port, and how many turns it has in a row.
+    /// The turns, in order: the number of a port, and how many turns it takes in a row.
     pub fn steps(&self) -> &[(u32, u32)]
         ensures value { result.now ≡ self.now.steps }
         ensures lawful { IsPlan self.now }
@@ -105,7 +105,7 @@ impl Plan {
         &self.steps
     }
 
-    /// Whether each port in order runs to its end behind the turns.
+    /// Whether each port, in order, runs to its end after the turns.
     pub fn rest(&self) -> bool
         ensures value { result ≡ self.now.rest }
         ensures lawful { IsPlan self.now }

@@ -18,7 +18,7 @@ use std::io::Read;
 /// The longest plan text, in bytes.
 const LONGEST: usize = 4_194_304;
 
-/// What the text says, or its first fault.
+/// Reads the whole text. Returns its first fault if it isn't the text of a plan.
 #[tactic(auto, unfolding(crate::specs::Judging::judged, crate::specs::Judging::lines_judged))]
 fn parts_of(alloc: Global, text: &[u8]) -> Result<Parts, PlanError>
     ensures { Gives seen_parts result (judged text.now) }
@@ -40,7 +40,7 @@ fn parts_of(alloc: Global, text: &[u8]) -> Result<Parts, PlanError>
     })
 }
 
-/// The bytes that the reader gives, up to its end or until there are more than a plan text has.
+/// Reads the bytes that the reader supplies, up to its end or until there are more than a plan text has.
 fn read_text<R: Read>(alloc: Global, reader: &mut Device<R>) -> Result<Vec<u8>, PlanError>
     requires { reader.old.failed ≡ false }
     ensures kind { IfErr result IsReaderFault }
@@ -66,7 +66,7 @@ fn read_text<R: Read>(alloc: Global, reader: &mut Device<R>) -> Result<Vec<u8>, 
     Ok(text)
 }
 
-/// The plan that the text is, or its first fault.
+/// Reads the plan of a text. Returns its first fault if it isn't the text of a plan.
 fn plan_of(alloc: Global, text: &[u8]) -> Result<Plan, PlanError>
     ensures { Gives (λ p. p) result (judged text.now) }
 {
@@ -79,20 +79,20 @@ impl Plan {
     ///
     /// # Errors
     ///
-    /// The first fault of the text, where it isn't the text of a plan: a size that is out of its range,
-    /// too many ports or none, or a line with its cause. `Memory` where a growth was refused, and
-    /// `Read` where the reader failed. No more is read once more than 4,194,304 bytes are held, and the
-    /// reader is asked at most 4,194,306 times.
+    /// The first fault of the text, when it isn't the text of a plan: a size out of its range, not 1 to 64
+    /// ports, or a line with its cause. `Memory` when an allocation was refused, and `Read` when the reader
+    /// failed. It stops reading when it holds more than 4,194,304 bytes, and asks the reader at most 4,194,306
+    /// times.
     pub fn read<R: Read>(alloc: Global, reader: &mut Device<R>) -> Result<Plan, PlanError>
         requires { reader.old.failed ≡ false }
         ensures fault { IsErrOf result PlanError.Read ↔ (reader.new.failed ≡ true) }
-        // What is read is the text of the plan, each byte of it.
+        // The bytes that were read are the text of the plan, each of them.
         ensures found { IfOk result
             (λ p. IfSome (R.remaining reader.old.inner) (λ bytes. bytes ≡ plan_text p)) }
         // The text of a plan is read as that plan, unless memory runs out or the reader fails.
         ensures only { reader.new.failed ≡ false → IfSome (R.remaining reader.old.inner)
             (λ bytes. (p : PlanView) → IsPlan p → bytes ≡ plan_text p → Gives (λ q. q) result (Ok p)) }
-        // Which fault it is.
+        // The error is that of the first fault.
         ensures exact { reader.new.failed ≡ false → IfSome (R.remaining reader.old.inner)
             (λ bytes. Gives (λ q. q) result (judged bytes)) }
         ensures lawful { IfOk result IsPlan }

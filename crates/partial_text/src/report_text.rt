@@ -46,7 +46,7 @@ fn push_ports(text: &mut Vec<u8>, ports: &[Vec<Answer>]) -> Result<(), AllocErro
     Ok(())
 }
 
-/// Writes the text of a report behind what the text has.
+/// Appends the text of a report.
 pub(crate) fn push_report(text: &mut Vec<u8>, report: &RunReport) -> Result<(), AllocError>
     ensures { OnOk result (text.new.items
         ≡ text.old.items ++ report_text report.now.answers.items report.now.values.items) }

@@ -1,4 +1,4 @@
-//! The turns of a steps line.
+//! The turns of the last line.
 
 ghost use Rattle.std.specs.Prelude.{◌≡◌, []};
 ghost use Rattle.partial_text.specs.Fault.{Gives};
@@ -10,7 +10,7 @@ use crate::fields::{fault, index_field};
 use crate::pieces::split_before;
 use std::alloc::Global;
 
-/// The turns that a field gives to one of so many ports.
+/// Reads the turns of one field in a plan of so many ports.
 #[tactic(auto, unfolding(crate::specs::Judging::entry_at))]
 fn entry(line: u32, ports: usize, field: &[u8]) -> Result<(u32, u32), PlanError>
     ensures { Gives (λ x. x) result (entry_at line ports field.now) }
@@ -29,7 +29,7 @@ fn entry(line: u32, ports: usize, field: &[u8]) -> Result<(u32, u32), PlanError>
     }
 }
 
-/// Whether the field is the last one, and is the word for the rest.
+/// Whether the field is the last one and is the word `rest`.
 #[tactic(auto, using(crate::proofs::Cuts::is_nil_behind))]
 fn is_rest(field: &[u8], behind: &[u8]) -> bool
     ensures { result ≡ is_rest field.now (pieces_behind 32 behind.now) }
@@ -37,7 +37,7 @@ fn is_rest(field: &[u8], behind: &[u8]) -> bool
     behind.is_empty() && field == b"rest".as_slice()
 }
 
-/// The turns of the fields, each behind a space, and whether the rest runs behind them.
+/// Reads the turns of the fields, each with a space before it, and whether the rest runs after them.
 #[tactic(auto, unfolding(crate::specs::Judging::entries_at))]
 pub(crate) fn entries(
     alloc: Global,

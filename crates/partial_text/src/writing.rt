@@ -14,11 +14,11 @@ use crate::report_text::push_report;
 use std::alloc::Global;
 use std::io::Write;
 
-/// Writes the text, by as many writes as it takes.
+/// Writes the text, by as many writes as it needs.
 ///
 /// # Errors
 ///
-/// `Write` where a write fails or takes 0 bytes: a part of the text from its front is then written.
+/// `Write` when a write fails or takes 0 bytes. A part of the text from its front has been written then.
 pub fn write_text<W: Write>(text: &[u8], writer: &mut Device<W>) -> Result<(), OutcomeError>
     requires { writer.old.failed ≡ false }
     ensures ok { OnOk result
@@ -38,13 +38,13 @@ pub fn write_text<W: Write>(text: &[u8], writer: &mut Device<W>) -> Result<(), O
     Ok(())
 }
 
-/// Writes the text of an outcome: its history, its calls with their answers, places and spans, the
-/// values of the components after the history, and the number of steps.
+/// Writes the text of an outcome: its history, its calls with their answers, places and spans, the values
+/// of the components after the history, and the number of steps.
 ///
 /// # Errors
 ///
-/// `Memory` where a growth was refused: nothing is written then. `Write` where a write fails or takes
-/// 0 bytes: a part of the text from its front is then written.
+/// `Memory` when an allocation was refused: nothing was written. `Write` when a write fails or takes 0
+/// bytes: a part of the text from its front has been written.
 pub fn write_outcome<W: Write>(
     alloc: Global,
     outcome: &Outcome,
@@ -70,8 +70,8 @@ pub fn write_outcome<W: Write>(
 ///
 /// # Errors
 ///
-/// `Memory` where a growth was refused: nothing is written then. `Write` where a write fails or takes
-/// 0 bytes: a part of the text from its front is then written.
+/// `Memory` when an allocation was refused: nothing was written. `Write` when a write fails or takes 0
+/// bytes: a part of the text from its front has been written.
 pub fn write_report<W: Write>(
     alloc: Global,
     report: &RunReport,
@@ -91,12 +91,12 @@ pub fn write_report<W: Write>(
     write_text(&text, writer)
 }
 
-/// Writes the text of both reports, that of the first one and behind it that of the second one.
+/// Writes the texts of both reports, the first one first.
 ///
 /// # Errors
 ///
-/// `Memory` where a growth was refused: nothing is written then, not even of the first report. `Write`
-/// where a write fails or takes 0 bytes: a part of the text of both from its front is then written.
+/// `Memory` when an allocation was refused: nothing was written, not even of the first report. `Write` when
+/// a write fails or takes 0 bytes: a part of the text of both from its front has been written.
 pub fn write_reports<W: Write>(
     alloc: Global,
     first: &RunReport,

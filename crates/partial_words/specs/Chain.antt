@@ -19,7 +19,7 @@ IsChain words at [] = ⊥
 IsChain words at (l ∷ []) = IsLink words at l × (prev_of words at ≡ 0)
 IsChain words at (l ∷ k ∷ ls) = IsLink words at l × IsChain words (prev_of words at) (k ∷ ls)
 
--- the records of component j, newest first, where these were there before
+-- the records of component j, newest first, in front of those that were there before
 unfoldable pub links_from : List Link → ℕ → List Applied → List Link
 links_from found j [] = found
 links_from found j (e ∷ h) = links_from (if e.component == j then record { stamp = e.stamp; value = e.value } ∷ found else found) j h

@@ -138,6 +138,6 @@ pub record AreRegionsOf (s : Layout) : Type 0 where
   pub disjoint : (w : ℕ) (a b : Region) → StandsIn s w a → StandsIn s w b → a ≡ b
   pub within : (w : ℕ) (region : Region) → StandsIn s w region → w < total s
 
--- the same, whatever the sizes are
+-- each word stands in one region and in no other, whatever the sizes are
 abbrev pub RegionsAreApart : Type 0
 RegionsAreApart = (s : Layout) → AreRegionsOf s

@@ -18,7 +18,7 @@ answer_of words (Store w v) = 0
 answer_of words (Exchange w old new) = slice_index words w
 answer_of words (Add w k) = slice_index words w
 
--- the words after a step; an exchange has won where the word was the old one, and a sum wraps at 2 ^ 64
+-- the words after a step; an exchange has won when the word was the old one, and a sum wraps at 2 ^ 64
 abbrev pub words_after : List ℕ → Step → List ℕ
 words_after words (Load w) = words
 words_after words (Store w v) = slice_set words w v

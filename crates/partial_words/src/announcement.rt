@@ -1,9 +1,9 @@
-//! The words of an announcement: the indices for which a scan asks.
+//! The words of an announcement: the indices of the components that a scan asks for.
 
 ghost use Rattle.std.specs.Prelude.{◌≡◌, ◌+◌, ◌^◌, ◌<◌, length, slice_index};
 ghost use Rattle.partial_words.specs.Announcement.{announcement_block, announcement_size, announced_word, announced_len, announced};
 
-/// How many words an announcement of that many indices has.
+/// How many words an announcement of so many indices has.
 pub fn announcement_size(indices: u64) -> u64
     requires { indices < 2 ^ 32 }
     ensures { result ≡ announcement_size indices }
@@ -11,7 +11,7 @@ pub fn announcement_size(indices: u64) -> u64
     1 + indices
 }
 
-/// Word `k` of an announcement: how many indices there are, then the indices.
+/// Word `k` of an announcement: the number of its indices, then the indices.
 pub fn announcement_block_word(indices: &[u32], k: usize) -> u64
     requires { k < length (announcement_block indices.now) }
     ensures { result ≡ slice_index (announcement_block indices.now) k }
@@ -22,7 +22,7 @@ pub fn announcement_block_word(indices: &[u32], k: usize) -> u64
     }
 }
 
-/// How many indices the announcement at that word has.
+/// How many indices the announcement at word `at` has.
 pub fn announced_len(words: &[u64], at: usize) -> u64
     requires { at < length words.now }
     ensures { result ≡ announced_len words.now at }
@@ -30,7 +30,7 @@ pub fn announced_len(words: &[u64], at: usize) -> u64
     words[at]
 }
 
-/// Index `k` of the announcement at that word, counted from 0.
+/// Index `k`, counted from 0, of the announcement at word `at`.
 pub fn announced(words: &[u64], at: usize, k: usize) -> u64
     requires { announced_word at k < length words.now }
     ensures { result ≡ announced words.now at k }

@@ -6,7 +6,7 @@ ghost use Rattle.partial_words.specs.Layout.{RegionsAreApart};
 ghost use Rattle.partial_words.specs.Record.{RecordsReadBack};
 ghost use Rattle.partial_words.specs.VacatedList.{ListsReadBack};
 
-/// Each word below the total stands in one region and in no other, whatever the sizes are.
+/// Each word below the total is in exactly one region, whatever the sizes are.
 pub fn regions_are_apart()
     ensures { RegionsAreApart }
 {}
@@ -16,13 +16,13 @@ pub fn opening_words_agree()
     ensures { OpeningWordsAgree }
 {}
 
-/// The chain of a component gains the last entry of a history at its head when that is for the component,
-/// and stays as it was otherwise; before the first entry it has the initial record alone.
+/// The chain of a component gains the last entry of a history at its head when the entry is for that
+/// component, and otherwise stays as it was. Before the first entry it has the initial record alone.
 pub fn last_entries_head_chains()
     ensures { LastEntriesHeadChains }
 {}
 
-/// What the writer of a record gave, its readers read back, for every record that stands in the words.
+/// What the writer of a record was given, its readers return, for every record in the words.
 pub fn records_read_back()
     ensures { RecordsReadBack }
 {}
@@ -33,13 +33,12 @@ pub fn records_lie_within()
     ensures { RecordsLieWithin }
 {}
 
-/// What the writer of an announcement gave, its readers read back, for every announcement that stands
-/// in the words.
+/// What the writer of an announcement was given, its readers return, for every announcement in the words.
 pub fn announcements_read_back()
     ensures { AnnouncementsReadBack }
 {}
 
-/// What the writer of a list gave, its readers read back, for every list that stands in the words.
+/// What the writer of a list was given, its readers return, for every list in the words.
 pub fn lists_read_back()
     ensures { ListsReadBack }
 {}

@@ -1,5 +1,5 @@
-//! The words that the ports of a partial snapshot object share: the sizes and the regions of the
-//! words, the blocks that stand in them, and the atomic steps with their plain meaning.
+//! The words that the ports of a partial snapshot object share: the sizes and the regions, the blocks in
+//! them, and the atomic steps with their plain meaning.
 #![tactic(auto)]
 
 pub mod announcement;

@@ -5,7 +5,7 @@ ghost use Rattle.partial_words.specs.VacatedList.{list_block, list_size, high_wo
 
 use partial_intervals::Intervals;
 
-/// How many words a list of that many intervals has.
+/// How many words a list of so many intervals has.
 pub fn list_size(intervals: u64) -> u64
     requires { intervals < 2 ^ 32 }
     ensures { result ≡ list_size intervals }
@@ -13,7 +13,7 @@ pub fn list_size(intervals: u64) -> u64
     1 + 2 * intervals
 }
 
-/// Word `k` of a list: how many intervals there are, then the lowest and the highest slot of each.
+/// Word `k` of a list: the number of its intervals, then the lowest and the highest slot of each.
 pub fn list_block_word(intervals: &Intervals, k: usize) -> u64
     requires { k < length (list_block intervals.now.list) }
     ensures { result ≡ slice_index (list_block intervals.now.list) k }
@@ -29,7 +29,7 @@ pub fn list_block_word(intervals: &Intervals, k: usize) -> u64
     }
 }
 
-/// How many intervals the list at that word has.
+/// How many intervals the list at word `at` has.
 pub fn list_len(words: &[u64], at: usize) -> u64
     requires { at < length words.now }
     ensures { result ≡ list_len words.now at }
@@ -37,7 +37,7 @@ pub fn list_len(words: &[u64], at: usize) -> u64
     words[at]
 }
 
-/// Interval `k` of the list at that word, counted from 0: its lowest and its highest slot.
+/// Interval `k`, counted from 0, of the list at word `at`: its lowest and its highest slot.
 pub fn interval(words: &[u64], at: usize, k: usize) -> (u64, u64)
     requires { high_word at k < length words.now }
     ensures { result ≡ interval words.now at k }

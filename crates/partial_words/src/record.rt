@@ -1,18 +1,21 @@
-//! The words of a record and of its view, and their readers.
+//! The words of a record and of its view, and their readers. A reference is the word number of a block's
+//! first word.
 
 ghost use Rattle.std.specs.Prelude.{◌≡◌, ◌+◌, ◌*◌, ◌^◌, ◌<◌, length, slice_index};
 ghost use Rattle.std.specs.List.{flat_map};
 ghost use Rattle.partial_words.specs.Record.{pair_words, record_block, view_size, plain_record_size, full_record_size, value_word, view_word, own_view, pair_value_word, prev_of, value_of, view_of, view_len, view_pair};
 
-/// A record of a component's chain: its reference, which is its stamp, and its value.
+/// A record of a component's chain.
 #[derive(Clone, Copy, Debug, PartialEq, Eq)]
 pub struct Link {
+    /// The reference of the record, which is the stamp of the update that wrote it.
     pub stamp: u64,
+    /// The value that the update set.
     pub value: u64,
 }
 
-// Which word of a record holds the reference of the record before it, which one its value, which one the reference of
-// its view, and where a view of its own begins.
+// The words of a record, by their distance from its reference: the reference of the record before it, its
+// value, the reference of its view, and the beginning of a view of its own.
 const PREV: usize = 0;
 
 const VALUE: usize = 1;
@@ -21,7 +24,7 @@ const VIEW: usize = 2;
 
 const OWN_VIEW: usize = 3;
 
-/// The word that holds the value of the record at that word.
+/// The number of the word that holds the value of the record at word `at`.
 pub fn value_word(at: u64) -> u64
     requires { own_view at < 2 ^ 64 }
     ensures { result ≡ value_word at }
@@ -29,7 +32,7 @@ pub fn value_word(at: u64) -> u64
     at + VALUE as u64
 }
 
-/// The word that holds the reference of the view of the record at that word.
+/// The number of the word that holds the reference of the view of the record at word `at`.
 pub fn view_word(at: u64) -> u64
     requires { own_view at < 2 ^ 64 }
     ensures { result ≡ view_word at }
@@ -37,7 +40,7 @@ pub fn view_word(at: u64) -> u64
     at + VIEW as u64
 }
 
-/// The reference that a view of its own has of the record at that word: it stands right behind.
+/// The reference of the own view of the record at word `at`: the view follows the record's three words.
 pub fn own_view(at: u64) -> u64
     requires { own_view at < 2 ^ 64 }
     ensures { result ≡ own_view at }
@@ -45,7 +48,7 @@ pub fn own_view(at: u64) -> u64
     at + OWN_VIEW as u64
 }
 
-/// How many words a view of that many pairs has.
+/// How many words a view of so many pairs has.
 pub fn view_size(pairs: u64) -> u64
     requires { pairs < 2 ^ 32 }
     ensures { result ≡ view_size pairs }
@@ -53,14 +56,14 @@ pub fn view_size(pairs: u64) -> u64
     1 + 2 * pairs
 }
 
-/// How many words a record has that has no view of its own.
+/// How many words a record without a view of its own has.
 pub fn plain_record_size() -> u64
     ensures { result ≡ plain_record_size }
 {
     OWN_VIEW as u64
 }
 
-/// How many words a record has with a view of its own of that many pairs.
+/// How many words a record with its own view of so many pairs has.
 pub fn full_record_size(pairs: u64) -> u64
     requires { pairs < 2 ^ 32 }
     ensures { result ≡ full_record_size pairs }
@@ -68,8 +71,9 @@ pub fn full_record_size(pairs: u64) -> u64
     plain_record_size() + view_size(pairs)
 }
 
-/// Word `k` of a record: the reference of the record before it, its value, the reference of its view
-/// (0 is the empty one), and with a view of its own the number of its pairs and the pairs.
+/// Word `k` of a record: the reference of the record before it, its value, and the reference of its view,
+/// which is 0 for the empty view. In a record with a view of its own the number of pairs and the pairs
+/// follow.
 pub fn record_block_word(prev: u64, value: u64, view: u64, pairs: &[(u32, u64)], k: usize) -> u64
     requires { k < length (record_block prev value view pairs.now) }
     ensures { result ≡ slice_index (record_block prev value view pairs.now) k }
@@ -83,7 +87,7 @@ pub fn record_block_word(prev: u64, value: u64, view: u64, pairs: &[(u32, u64)],
     }
 }
 
-// Word k of the pairs, one after the other.
+// Word k of the pairs: of each pair its index, then its value.
 fn pair_word(pairs: &[(u32, u64)], k: usize) -> u64
     requires { k < 2 * length pairs.now }
     ensures { result ≡ slice_index (flat_map pair_words pairs.now) k }
@@ -92,7 +96,7 @@ fn pair_word(pairs: &[(u32, u64)], k: usize) -> u64
     if k % 2 == 0 { u64::from(index) } else { value }
 }
 
-/// The reference of the record before the one at that word.
+/// The reference of the record before the one at word `at`. It is 0 before the initial record.
 pub fn prev_of(words: &[u64], at: usize) -> u64
     requires { at < length words.now }
     ensures { result ≡ prev_of words.now at }
@@ -100,7 +104,7 @@ pub fn prev_of(words: &[u64], at: usize) -> u64
     words[at + PREV]
 }
 
-/// The value of the record at that word.
+/// The value of the record at word `at`.
 pub fn value_of(words: &[u64], at: usize) -> u64
     requires { value_word at < length words.now }
     ensures { result ≡ value_of words.now at }
@@ -108,7 +112,7 @@ pub fn value_of(words: &[u64], at: usize) -> u64
     words[at + VALUE]
 }
 
-/// The reference of the view of the record at that word, or 0 for the empty view.
+/// The reference of the view of the record at word `at`. It is 0 for the empty view.
 pub fn view_of(words: &[u64], at: usize) -> u64
     requires { view_word at < length words.now }
     ensures { result ≡ view_of words.now at }
@@ -116,7 +120,7 @@ pub fn view_of(words: &[u64], at: usize) -> u64
     words[at + VIEW]
 }
 
-/// How many pairs the view at that word has.
+/// How many pairs the view at word `at` has.
 pub fn view_len(words: &[u64], at: usize) -> u64
     requires { at < length words.now }
     ensures { result ≡ view_len words.now at }
@@ -124,7 +128,7 @@ pub fn view_len(words: &[u64], at: usize) -> u64
     words[at]
 }
 
-/// Pair `k` of the view at that word: a component and its value.
+/// Pair `k`, counted from 0, of the view at word `at`: a component's index and its value.
 pub fn view_pair(words: &[u64], at: usize, k: usize) -> (u64, u64)
     requires { pair_value_word at k < length words.now }
     ensures { result ≡ view_pair words.now at k }

@@ -1,4 +1,4 @@
-//! The sizes of a memory and the numbers of its words.
+//! The sizes of a memory, and the numbers of its words.
 
 ghost use Rattle.std.specs.Prelude.{◌≡◌, ◌+◌, ◌*◌, ◌<◌, length, IfOk, IfErr};
 ghost use Rattle.partial_words.specs.Layout.{Layout};
@@ -6,19 +6,19 @@ ghost use Rattle.partial_words.specs.Layout.{Layout};
 use std::marker::Model;
 use thiserror::Error;
 
-/// Which size is out of its range: the first one in this order.
+/// Which size is out of its range: the first one in this order. Nothing was made.
 #[derive(Clone, Copy, Debug, PartialEq, Eq, Error)]
 pub enum SizeError {
-    /// There are 1 to 65,536 components.
+    /// There are not 1 to 65,536 components.
     #[error("components out of range")]
     Components,
-    /// There are 1 to 65,536 slots.
+    /// There are not 1 to 65,536 slots.
     #[error("slots out of range")]
     Slots,
-    /// There are at most 65,536 list words.
+    /// There are more than 65,536 list words.
     #[error("list words out of range")]
     Lists,
-    /// There are three pool words for each component at least, and at most 4,194,304.
+    /// There are fewer than three pool words for each component, or more than 4,194,304.
     #[error("pool words out of range")]
     Pool,
 }
@@ -26,7 +26,7 @@ pub enum SizeError {
 impl SizeError {
     ghost use Rattle.partial_words.specs.SizeFault.{code_of};
 
-    /// The number of the refusal: 1 to 4, in the order of the sizes.
+    /// The number of the refusal: 1 for `Components`, 2 for `Slots`, 3 for `Lists`, 4 for `Pool`.
     pub fn code(&self) -> u8
         ensures { result ≡ code_of self.now }
     {
@@ -39,8 +39,8 @@ impl SizeError {
     }
 }
 
-/// The sizes of a memory: its components, slots, list words and pool words, each in its range. They
-/// say where each word stands; all numbers of words are below [`Sizes::total`].
+/// The sizes of a memory, each in its range. They determine the number of each word; all these numbers are
+/// below [`Sizes::total`].
 #[derive(Clone, Copy, Debug)]
 pub struct Sizes {
     m: u32,
@@ -66,7 +66,10 @@ impl Sizes {
     ghost use Rattle.partial_words.specs.Chain.{opening_word};
     ghost use Rattle.partial_words.specs.SizeFault.{IsFirstFault};
 
-    /// The sizes, or the first one that is out of its range.
+    /// Makes the sizes: `m` components, and so many slots, list words and pool words.
+    ///
+    /// # Errors
+    /// [`SizeError`]: the first size that is out of its range.
     pub fn new(m: u32, slots: u32, lists: u32, pool: u32) -> Result<Sizes, SizeError>
         ensures ok { IfOk result (λ s. (s ≡ record { m = m; slots = slots; lists = lists; pool = pool }) × IsLayout s) }
         ensures err { IfErr result (IsFirstFault (record { m = m; slots = slots; lists = lists; pool = pool })) }
@@ -124,7 +127,7 @@ impl Sizes {
         self.pool
     }
 
-    /// The word of component `j`: the reference of its current record.
+    /// The word of component `j`. It holds the reference of the current record.
     pub fn component_word(&self, j: u32) -> u32
         requires { j < self.now.m }
         ensures { result ≡ component_word self.now j }
@@ -132,28 +135,28 @@ impl Sizes {
         j
     }
 
-    /// The word with the number of the next slot.
+    /// The word that holds the number of the next slot.
     pub fn slot_counter(&self) -> u32
         ensures { result ≡ slot_counter self.now }
     {
         self.m()
     }
 
-    /// The word with the reference of the current list of vacated slots, or 0.
+    /// The word that holds the reference of the current list of vacated slots, or 0.
     pub fn list_head(&self) -> u32
         ensures { result ≡ list_head self.now }
     {
         self.m + 1
     }
 
-    /// The word with the next free pool word.
+    /// The word that holds the number of the next free pool word.
     pub fn pool_counter(&self) -> u32
         ensures { result ≡ pool_counter self.now }
     {
         self.m + 2
     }
 
-    /// The word with the next free list word.
+    /// The word that holds the number of the next free list word.
     pub fn list_counter(&self) -> u32
         ensures { result ≡ list_counter self.now }
     {
@@ -175,7 +178,7 @@ impl Sizes {
         self.m + 4 + self.slots
     }
 
-    /// The word behind the last list word.
+    /// The number after that of the last list word.
     pub fn list_end(&self) -> u32
         ensures { result ≡ list_end self.now }
     {
@@ -189,7 +192,7 @@ impl Sizes {
         self.list_end()
     }
 
-    /// The word behind the last pool word.
+    /// The number after that of the last pool word.
     pub fn pool_end(&self) -> u32
         ensures { result ≡ pool_end self.now }
     {
@@ -215,7 +218,7 @@ impl Sizes {
         pool_base + 3 * j
     }
 
-    /// The first pool word behind the initial records.
+    /// The first pool word after the initial records.
     pub fn first_free(&self) -> u32
         ensures { result ≡ first_free self.now }
     {
@@ -223,7 +226,7 @@ impl Sizes {
         pool_base + 3 * self.m
     }
 
-    /// Word `w` of a memory that opens with these values.
+    /// The value at opening of word `w`, in a memory with these initial values.
     pub fn opening_word(&self, initial: &[u64], w: u32) -> u64
         requires values { length initial.now ≡ self.now.m }
         requires word { w < total self.now }

@@ -71,7 +71,7 @@ first_calls (cs ∷ more) (given ∷ others) = take (length given.items) cs ∷ 
 first_calls _ _ = []
 
 -- What workers came to that were given these calls: each port made the first ones of its calls, and their answers are right together.
--- It made all of them where they were to be made, and kept no refusal for the pool or the slots where it was to end with one.
+-- It made all of them when they were to be made, and kept no refusal for the pool or the slots when it was to end with one.
 pub record IsRun (until : Until) (o : Opening) (calls : List (List Call)) (answers : List (Vec Answer Global))
     (after : List ℕ) : Type 0 where
   pub right : AreRight o (first_calls calls answers) answers after

@@ -1,4 +1,4 @@
-//! Why workers came to no end.
+//! Why a run of workers failed.
 
 ghost use Rattle.std.specs.Prelude.{◌≡◌};
 
@@ -6,10 +6,10 @@ use partial_memory::{CloseError, OpenError};
 use std::alloc::AllocError;
 use thiserror::Error;
 
-/// Why calls weren't run. Nothing is left of the run, and no thread of it runs on.
+/// Why a run failed. Nothing is left of it, and none of its threads goes on.
 #[derive(Clone, Copy, Debug, PartialEq, Eq, Error)]
 pub enum RunError {
-    /// A growth was refused, or a worker couldn't be started.
+    /// An allocation was refused, or a worker couldn't be started.
     #[error("out of memory")]
     Memory,
 }
@@ -31,7 +31,7 @@ impl From<AllocError> for RunError {
     }
 }
 
-// A run has 1 to 64 ports, and as many components as its memory, so only a growth can be refused.
+// A run has 1 to 64 ports and as many components as its memory, so only an allocation can be refused.
 impl From<OpenError> for RunError {
     fn from(_error: OpenError) -> RunError {
         RunError::Memory

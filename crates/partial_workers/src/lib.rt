@@ -1,4 +1,5 @@
-//! Workers: the ports of a memory, each with its calls in a thread of its own, joined and closed.
+//! Workers: each port of a memory makes its calls in a thread of its own. Then the threads are joined and
+//! the memory is closed.
 #![tactic(auto)]
 
 mod end;

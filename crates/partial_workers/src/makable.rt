@@ -1,4 +1,4 @@
-//! Which calls a memory can be asked for.
+//! Which calls a run accepts.
 
 ghost use Rattle.std.specs.Prelude.{◌≡◌, true, false};
 ghost use Rattle.std.specs.List.{AllByRecursion};
@@ -6,7 +6,7 @@ ghost use Rattle.partial_workers.specs.Answered.{AreMakable, IsWithin};
 
 use partial_model::{Call, Sequence};
 
-// Whether a scan has at most m positions.
+// Whether a scan has at most m positions. Any other call is within.
 fn is_within(m: u32, call: &Call) -> bool
     ensures yes { result ≡ true → IsWithin m call.now }
     ensures no { result ≡ false → ¬ IsWithin m call.now }
@@ -17,7 +17,7 @@ fn is_within(m: u32, call: &Call) -> bool
     }
 }
 
-// Whether each scan does.
+// Whether each scan of these calls has at most m positions.
 fn are_within(m: u32, calls: &[Call]) -> bool
     ensures yes { result ≡ true → AllByRecursion (IsWithin m) calls.now }
     ensures no { result ≡ false → ¬ AllByRecursion (IsWithin m) calls.now }
@@ -30,7 +30,7 @@ fn are_within(m: u32, calls: &[Call]) -> bool
     true
 }
 
-/// Whether a memory of m components can be asked for the calls of each port: each scan has at most m positions, and
+/// Whether a memory of m components accepts the calls of each port: each scan has at most m positions, and
 /// no port has more than 4,294,967,295 calls.
 pub fn are_makable(m: u32, ports: &[Sequence<Call>]) -> bool
     ensures yes { result ≡ true → AreMakable m ports.now }

@@ -27,7 +27,7 @@ fn main(rt: HostRuntime) -> ExitCode {
     }
 }
 
-/// Draws what the program's words ask for.
+/// Draws what the program's arguments ask for.
 fn run<R: Env + Files + Input + Print + AllocGlobal>(rt: &R) -> Result<(), Stop> {
     let words: Vec<String> = env::args(rt)?.collect(rt.alloc())?;
     let request = request_of(rt.alloc(), &words)?;
@@ -40,8 +40,8 @@ fn run<R: Env + Files + Input + Print + AllocGlobal>(rt: &R) -> Result<(), Stop>
     }
 }
 
-/// Draws the replay of a plan that comes from a reader. Its text is whole before the first byte is written to
-/// standard output.
+/// Draws the replay of a plan from a reader. The text is whole before its first byte is written to standard
+/// output.
 fn draw_on<R: Print + AllocGlobal, D: Read + Drop>(
     rt: &R,
     request: &Request<'_>,

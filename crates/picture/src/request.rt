@@ -1,16 +1,18 @@
-//! The words of the program.
+//! The arguments of the program.
 
 use crate::stop::Stop;
 use clap::{Arg, ArgAction, ArgMatches, Command, Error};
 use partial_picture::{Form, Window};
 use std::alloc::Global;
 
-/// What the program is asked for.
+/// What the arguments ask for.
 #[derive(Clone, Copy, Debug)]
 pub struct Request<'a> {
     /// The path of the plan. Without one, or with `-`, the plan comes from standard input.
     pub plan: Option<&'a str>,
+    /// The form of the picture.
     pub form: Form,
+    /// The steps to draw.
     pub window: Window,
 }
 
@@ -22,7 +24,7 @@ fn flag<'a>(alloc: Global, name: &'a str, help: &'a str) -> Arg<'a> {
         .help(help)
 }
 
-/// The words that the program takes: `[PLAN] [--window A B] [--words] [--text]`.
+/// The arguments that the program takes: `[PLAN] [--window A B] [--words] [--text]`.
 fn command<'a>(alloc: Global) -> Result<Command<'a>, Error> {
     let plan = Arg::new(alloc, "plan").help("The file of the plan; standard input without it, or with -");
     let window = Arg::new(alloc, "window")
@@ -42,7 +44,7 @@ fn command<'a>(alloc: Global) -> Result<Command<'a>, Error> {
     Ok(picture)
 }
 
-/// The window that is asked for.
+/// Reads the window.
 fn window_of(matches: &ArgMatches<'_>) -> Result<Window, Stop> {
     match matches.get_strs("window") {
         None => Ok(Window::Whole),
@@ -54,12 +56,12 @@ fn window_of(matches: &ArgMatches<'_>) -> Result<Window, Stop> {
     }
 }
 
-/// What these words ask for, of which the first is the program's name.
+/// Reads the arguments. The first of them is the program's name.
 ///
 /// # Errors
 ///
-/// `Words` when they aren't words that the program takes, both `--words` and `--text` among them, or ask for help.
-/// `Window` when a window isn't two numbers.
+/// `Words` when the program doesn't take these arguments, both `--words` and `--text` among them, or when they ask
+/// for help. `Window` when a window isn't two numbers.
 pub fn request_of(alloc: Global, words: &[String]) -> Result<Request<'_>, Stop> {
     let matches = command(alloc)?.try_get_matches_from(words)?;
     let form = match matches.get_flag("text") {

@@ -9,13 +9,13 @@ use std::{fmt, io};
 /// Why the program ends with nothing drawn.
 #[derive(Debug, Drop)]
 pub enum Stop {
-    /// The words aren't those of the program, or ask for help.
+    /// The program doesn't take these arguments, or they ask for help.
     Words(Error),
     /// The two values of `--window` aren't numbers of steps.
     Window,
-    /// The words aren't text.
+    /// The arguments aren't text.
     NotText,
-    /// What was asked for was refused.
+    /// The request was refused.
     Refused(Fault),
 }
 
@@ -53,7 +53,7 @@ impl From<AllocError> for Stop {
     }
 }
 
-// The words that can't be had are those that aren't text.
+// Only arguments that aren't text can't be read.
 impl From<io::Error> for Stop {
     fn from(error: io::Error) -> Stop {
         match error.kind() {

@@ -1,4 +1,4 @@
-//! The program `pipeline`: a pipeline of stages runs in threads, and its counts are shown as it goes.
+//! The program `pipeline`: it runs a pipeline of stages in threads, and shows its counts as they grow.
 #![tactic(auto)]
 
 mod request;
@@ -31,7 +31,7 @@ fn main(rt: HostRuntime) -> ExitCode {
     }
 }
 
-/// Runs the pipeline that the program's words ask for, and writes its counts.
+/// Runs the pipeline that the program's arguments ask for, and writes its counts.
 fn run<R: Env + Clock + Print + AllocGlobal + Threads + Wait + Sync>(
     rt: &R,
     has_bars: bool,
@@ -48,7 +48,8 @@ fn run<R: Env + Clock + Print + AllocGlobal + Threads + Wait + Sync>(
     judge(&report)
 }
 
-/// A stage that didn't come to the last item was ended by a spent pool, its own or one before it.
+/// Judges the end. A stage that didn't reach the last item was ended by a spent pool, its own or that of a
+/// stage before it.
 fn judge(report: &PipelineReport) -> Result<(), Stop> {
     match report.ends.iter().all(|end| *end == StageEnd::Finished) {
         true => Ok(()),

@@ -1,4 +1,4 @@
-//! The words of the program.
+//! The arguments of the program.
 
 ghost use Rattle.std.specs.Prelude.{◌≤◌};
 
@@ -7,14 +7,14 @@ use clap::{Arg, ArgAction, ArgMatches, Command, Error};
 use partial_words::Sizes;
 use std::alloc::Global;
 
-/// The greatest pool that a memory may have.
+/// The greatest pool of a memory, in words.
 const POOL: u32 = 4_194_304;
 
-/// How many slots a memory may have at most, and how many list words. Each scan takes a slot.
+/// The greatest number of slots of a memory, and of list words. Each scan claims a slot.
 const SLOTS: u32 = 65_536;
 
-/// Pool words for all updates and scans of a pipeline of so many stages, or as many as there may be. An update
-/// takes at most 4 words and 2 for each stage, and a scan a word and one for each stage.
+/// The pool words for all updates and scans of a pipeline of so many stages, or the greatest pool. An
+/// update claims at most 4 words and 2 for each stage, a scan 1 word and 1 for each stage.
 fn pool_for(stages: u64, items: u64, scans: u64) -> u32
     requires { (stages ≤ 63) × (scans ≤ 65536) }
 {
@@ -27,7 +27,9 @@ fn pool_for(stages: u64, items: u64, scans: u64) -> u32
 /// The pipeline that is asked for.
 #[derive(Clone, Copy, Debug)]
 pub struct Request {
+    /// The sizes of the memory. It has a component for each stage.
     pub sizes: Sizes,
+    /// How many items the stages work on.
     pub items: u64,
     /// How many scans the monitor may make before the last one.
     pub looks: usize,
@@ -42,7 +44,7 @@ fn option<'a>(alloc: Global, name: &'a str, help: &'a str) -> Arg<'a> {
         .help(help)
 }
 
-/// The words that the program takes: `[--stages N] [--items N] [--looks N]`.
+/// The arguments that the program takes: `[--stages N] [--items N] [--looks N]`.
 fn command<'a>(alloc: Global) -> Result<Command<'a>, Error> {
     let stages = option(alloc, "stages", "How many stages there are, 1 to 63; 4 without this");
     let items = option(alloc, "items", "How many items each stage works on; 20000 without this");
@@ -81,13 +83,13 @@ fn number_of(matches: &ArgMatches<'_>, name: &str, without: u64) -> Option<u64> 
     }
 }
 
-/// What these words ask for, of which the first is the program's name. Without options it is a pipeline of 4
-/// stages with 20,000 items and at most 1,000 scans.
+/// Reads the arguments. The first of them is the program's name. Without options they ask for a pipeline of
+/// 4 stages with 20,000 items and at most 1,000 scans.
 ///
 /// # Errors
 ///
-/// `Words` when they aren't words that the program takes, or ask for help. `Value` when there aren't 1 to 63
-/// stages and at most 65,535 scans, or a value is no number.
+/// `Words` when the program doesn't take these arguments, or when they ask for help. `Value` when there are not 1
+/// to 63 stages and at most 65,535 scans, or a value is no number.
 pub fn request_of(alloc: Global, words: &[String]) -> Result<Request, Stop> {
     let matches = command(alloc)?.try_get_matches_from(words)?;
     let stages = number_of(&matches, "stages", 4).ok_or(STAGES)?;

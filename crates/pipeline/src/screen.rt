@@ -5,14 +5,14 @@ use partial_pipeline::Watch;
 use std::time::{Clock, Duration};
 use std::{io, thread};
 
-/// How long a bar is at most.
+/// The greatest length of a bar.
 const WIDTH: u64 = 48;
 
-/// How many milliseconds the monitor rests behind each scan.
+/// How many milliseconds the monitor rests after each scan.
 const REST: u64 = 2;
 
-/// Shows each scan in which a count has changed: on a terminal a bar for each stage, redrawn in place, and a
-/// line of all counts otherwise. With them it says how far each stage lags behind the one before it.
+/// Shows each scan in which a count has changed: on a terminal as a bar for each stage, redrawn in place,
+/// otherwise as a line of all counts. Both also show how far each stage lags behind the one before it.
 #[derive(Drop)]
 pub struct Screen<'a, R: Print + Clock> {
     rt: &'a R,
@@ -24,7 +24,7 @@ pub struct Screen<'a, R: Print + Clock> {
 }
 
 impl<'a, R: Print + Clock> Screen<'a, R> {
-    /// A screen that shows counts of so many items.
+    /// Makes a screen for counts of so many items.
     pub fn new(rt: &'a R, has_bars: bool, items: u64) -> Screen<'a, R> {
         Screen {
             rt,
@@ -39,7 +39,7 @@ impl<'a, R: Print + Clock> Screen<'a, R> {
     ///
     /// # Errors
     ///
-    /// `Write` where these or counts before them couldn't be written.
+    /// `Write` when these counts or earlier ones couldn't be written.
     pub fn end(&mut self, counts: &[u64]) -> Result<(), Stop> {
         if self.has_bars {
             self.draw(counts).map_err(|_| Stop::Write)?;
@@ -51,7 +51,7 @@ impl<'a, R: Print + Clock> Screen<'a, R> {
         }
     }
 
-    // A line of all counts, and of how far each stage but the first lags behind the one before it.
+    // Writes a line of all counts, and of how far each stage but the first lags behind the one before it.
     fn line(&self, name: &str, counts: &[u64]) -> io::Result<()> {
         print!(self.rt; "{name}")?;
         for count in counts {
@@ -64,7 +64,7 @@ impl<'a, R: Print + Clock> Screen<'a, R> {
         println!(self.rt;)
     }
 
-    // A bar for each stage with its count and its lag, in place of those that were drawn before.
+    // Draws a bar for each stage with its count and its lag, over those that were drawn before.
     fn draw(&mut self, counts: &[u64]) -> io::Result<()> {
         if self.shown.is_some() {
             print!(self.rt; "\x1b[{}A", counts.len())?;

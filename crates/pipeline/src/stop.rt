@@ -9,18 +9,20 @@ use std::{fmt, io};
 /// Why the program ends before its pipeline has worked on all items.
 #[derive(Debug, Drop)]
 pub enum Stop {
-    /// The words aren't those of the program, or ask for help.
+    /// The program doesn't take these arguments, or they ask for help.
     Words(Error),
-    /// The value of an option isn't one that it takes.
+    /// The option doesn't take this value.
     Value {
+        /// The option's name, without its dashes.
         option: &'static str,
+        /// The values that it takes.
         takes: &'static str,
     },
-    /// The words aren't text.
+    /// The arguments aren't text.
     NotText,
     /// The pipeline didn't run.
     Refused(PipelineError),
-    /// The memory had no room for more counts. The last line is written.
+    /// The pool was spent before all items were counted. The last line was written.
     PoolSpent,
     /// A line couldn't be written.
     Write,
@@ -62,7 +64,7 @@ impl From<AllocError> for Stop {
     }
 }
 
-// The words that can't be had are those that aren't text.
+// Only arguments that aren't text can't be read.
 impl From<io::Error> for Stop {
     fn from(error: io::Error) -> Stop {
         match error.kind() {

@@ -1,4 +1,4 @@
-//! A getSet made to its end, in loops over its buffers. Its steps are made by whoever asks for it.
+//! A whole getSet, made in loops over its buffers. The caller supplies the steps.
 
 ghost use Rattle.std.specs.Prelude.{◌≡◌, ◌<◌, IfSome, Some, None};
 ghost use Rattle.partial_active.specs.GetSet.{left_of, step_of};
@@ -9,22 +9,22 @@ use crate::found::Found;
 use crate::steps::Steps;
 use partial_words::Step;
 
-// A stretch of the way of a getSet.
+// A stretch of stages of a getSet.
 #[derive(Clone, Copy)]
 enum Stretch {
-    // The list head is loaded.
+    // The load of the list head.
     Head,
-    // The list is read.
+    // The loads of the list.
     List,
-    // The slot counter is loaded.
+    // The load of the slot counter.
     Counter,
-    // The slots are walked, with the announcements that stand in them.
+    // The loads of the slots and of the announcements in them.
     Slots,
 }
 
 impl GetSet {
-    /// Makes this getSet to its end, with its buffers, and gives it back. Each step is made through `steps`, which
-    /// are at this getSet.
+    /// Makes the getSet to its end, with its buffers, and returns it. It makes each step through `steps`,
+    /// which are at this getSet.
     #[inline(always)]
     pub fn make<S: Steps>(mut self, found: &mut Found, steps: &mut S) -> GetSet
         requires { IsAt S.goes S.set steps.old (self, found.old) }
@@ -43,8 +43,8 @@ impl GetSet {
         self
     }
 
-    // Makes the steps of a stretch, if one of them is due. Where one stretch stands behind the other, the compiler
-    // knows the stage at which a step is made. What they leave is made by the last loop of `make`.
+    // Makes the steps of a stretch while they are due. In a sequence of stretches the compiler knows the
+    // stage of each step. The last loop of `make` makes the steps that they leave.
     #[inline(always)]
     fn make_stretch<S: Steps>(&mut self, stretch: Stretch, found: &mut Found, steps: &mut S)
         requires { IsAt S.goes S.set steps.old (self.old, found.old) }
@@ -57,7 +57,7 @@ impl GetSet {
         }
     }
 
-    // Makes the step that is due, and takes in its answer.
+    // Makes the step that is due, and takes its answer.
     #[inline(always)]
     fn make_step<S: Steps>(&mut self, step: Step, found: &mut Found, steps: &mut S)
         requires at { IsAt S.goes S.set steps.old (self.old, found.old) }
@@ -71,7 +71,7 @@ impl GetSet {
         self.answer(found, answer);
     }
 
-    // The step that is due, where it is one of this stretch.
+    // The step that is due, if it belongs to this stretch.
     #[inline(always)]
     fn step_in(&self, stretch: Stretch) -> Option<Step>
         ensures { IfSome result (λ step. step_of self.now ≡ Some step) }

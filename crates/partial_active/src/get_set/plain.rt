@@ -10,9 +10,9 @@ use crate::found::Found;
 use partial_words::Step;
 
 impl GetSet {
-    /// Makes the step that is due on plain words, as [`Step::perform`] does, and takes in its answer with the
-    /// buffers of this getSet. Gives both. It is what [`GetSet::step`] and [`GetSet::answer`] come to. Nearly all
-    /// steps of a long getSet load slots, so these have lines of their own.
+    /// Makes the step that is due on plain words, as [`Step::perform`] does, and takes its answer with the
+    /// buffers of this getSet. Returns the step and its answer. It does the same as [`GetSet::step`] and
+    /// [`GetSet::answer`]; the loads of slots, nearly all steps of a long getSet, have lines of their own.
     #[inline(always)]
     pub fn perform(&mut self, found: &mut Found, words: &mut [u64]) -> (Step, u64)
         requires together { GoTogether (self.old, found.old) }

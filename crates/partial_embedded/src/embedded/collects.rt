@@ -1,4 +1,4 @@
-//! What the load of a component word makes of an embedded scan.
+//! The answers of the loads of component words.
 
 ghost use Rattle.std.specs.Prelude.{◌≡◌, ◌≢◌, ◌+◌, ◌<◌, ◌≤◌, ◌==◌, ◌||◌, ℕ, List, length};
 ghost use Rattle.partial_embedded.specs.Embedded.{RowsState, after_load, buffers, go_on};
@@ -6,7 +6,7 @@ ghost use Rattle.partial_embedded.specs.Embedded.{RowsState, after_load, buffers
 use super::{Embedded, Stage};
 
 impl Embedded {
-    // The component word of a position, one of so many, was loaded.
+    // Takes the answer of the load of a position's component word.
     #[inline(always)]
     pub(super) fn after_load(
         &mut self,
@@ -31,7 +31,7 @@ impl Embedded {
         }
     }
 
-    // The same in the first collect, which has none before it to differ from.
+    // Takes such an answer in the first collect, which has none before it to differ from.
     #[inline(always)]
     pub(super) fn after_first_load(
         &mut self,
@@ -54,7 +54,7 @@ impl Embedded {
         self.go_on(positions, position, true);
     }
 
-    // The same in a later collect.
+    // Takes such an answer in a later collect.
     #[inline(always)]
     pub(super) fn after_later_load(
         &mut self,
@@ -86,8 +86,8 @@ impl Embedded {
         }
     }
 
-    // The position behind this one, one of so many, is due. Where there is none, the collect is whole, and another
-    // one is made or not.
+    // Goes on to the next position. After the last one the collect is whole, and another one is made if
+    // `again` says so.
     #[inline(always)]
     fn go_on(&mut self, positions: usize, position: usize, again: bool)
         requires again { again ≡ (self.old.collects == 1) || self.old.moved }

@@ -1,4 +1,4 @@
-//! An embedded scan made to its end, in loops over its buffers. Its loads are made by whoever asks for it.
+//! A whole embedded scan, made in loops over its buffers. The caller supplies the loads.
 
 ghost use Rattle.std.specs.Prelude.{◌≡◌, ◌≢◌, ℕ, IfSome, IfNone};
 ghost use Rattle.partial_embedded.specs.Embedded.{GoTogether, IsFor, buffers};
@@ -10,7 +10,7 @@ use crate::rows::Rows;
 use partial_words::value_word;
 
 impl Embedded {
-    /// Makes this scan of these positions to its end, with its buffers, and gives it back. Each load is made
+    /// Makes the scan of these positions to its end, with its buffers, and returns it. It makes each load
     /// through `loads`, which are at this scan.
     #[inline(always)]
     pub fn make<L: Loads>(mut self, rows: &mut Rows, indices: &[u32], loads: &mut L) -> Embedded
@@ -33,8 +33,8 @@ impl Embedded {
         self
     }
 
-    // The same over the buffers, which stay where they are: the first collect, the later ones, the values, and a
-    // borrowed view, each in a loop of its own.
+    // Makes the loads, with the buffers in their place: the first collect, the later collects, the values,
+    // and another record's view, each in a loop of its own.
     #[inline(always)]
     fn make_loads<L: Loads>(
         &mut self,
@@ -75,7 +75,7 @@ impl Embedded {
         }
     }
 
-    // The position whose component word is due to be loaded in the first collect, or None where that is over.
+    // The position whose component word is due in the first collect. `None` when that collect is over.
     #[inline(always)]
     fn collecting_first(&self) -> Option<usize>
         ensures due { IfSome result (λ k. self.now.stage ≡ Collect k) }
@@ -88,7 +88,7 @@ impl Embedded {
         self.collecting()
     }
 
-    // The position whose component word is due to be loaded, or None where the collects are over.
+    // The position whose component word is due. `None` when the collects are over.
     #[inline(always)]
     fn collecting(&self) -> Option<usize>
         ensures due { IfSome result (λ k. self.now.stage ≡ Collect k) }
@@ -100,7 +100,7 @@ impl Embedded {
         }
     }
 
-    // The position whose record's value is due to be loaded, or None where no value is.
+    // The position whose record's value is due. `None` when no value is.
     #[inline(always)]
     fn valuing(&self) -> Option<usize>
         ensures { IfSome result (λ k. self.now.stage ≡ Value k) }
