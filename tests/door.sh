@@ -59,6 +59,21 @@ calls_no_read() {
     cat "$made"/bitcode/target/release/deps/threads-* >"$made/program" &&
         grep -q partial_door_scan "$made/program" && ! grep -q partial_door_read "$made/program"
 }
+# Whether the crate is checked and documented without the library, and says in three lines what to run.
+without_library() {
+    rm -rf "$made/alone" && cp -r bindings/rust "$made/alone" &&
+        (cd "$made/alone" && cargo check --offline 2>"$made/said" && cargo doc --no-deps --offline) &&
+        [ "$(grep -c '^warning: partial-door' "$made/said")" -eq 3 ] && grep -q 'run `rt lib`' "$made/said"
+}
+# refuses VALUE TEXT: the crate isn't built where PARTIAL_DOOR_LIB has this value, and the text says why.
+refuses() {
+    (cd bindings/rust && ! PARTIAL_DOOR_LIB=$1 cargo check --offline 2>"$made/said") && grep -qF "$2" "$made/said"
+}
+# Whether a relative path is one of the folder in which cargo is called.
+relative_library() {
+    (cd crates && PARTIAL_DOOR_LIB=partial_door/out/libpartial_door.a \
+        cargo test --offline --quiet --manifest-path ../bindings/rust/Cargo.toml --test threads)
+}
 kit=$(dirname "$(rt doc)")
 heap=$kit/c/liblibc_c.a
 item "the static library is proved and built" sh -c 'cd crates/partial_door && rt lib --jobs 2'
@@ -77,6 +92,13 @@ if command -v cargo >/dev/null 2>&1; then
     CARGO_TARGET_DIR=$made/target
     export CARGO_TARGET_DIR
     item "the tests and examples of the Rust binding" sh -c 'cd bindings/rust && cargo test --offline --quiet'
+    item "the Rust binding without the library" without_library
+    item "a library of another name is refused" refuses "$PWD/other.a" \
+        "PARTIAL_DOOR_LIB has to name a file libpartial_door.a, and names $PWD/other.a"
+    item "a library that isn't there is refused" refuses "$made/libpartial_door.a" \
+        "PARTIAL_DOOR_LIB names $made/libpartial_door.a: No such file"
+    item "a relative path of the library" relative_library
+    item "the lints of the Rust binding" sh -c 'cd bindings/rust && cargo clippy --offline --quiet --all-targets -- -D warnings'
     item "the library is proved and built as bitcode" build_bitcode
     PARTIAL_DOOR_LIB=$made/bitcode/libpartial_door.a
     RUSTFLAGS=$(cat "$made/flags")
