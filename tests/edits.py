@@ -166,9 +166,9 @@ def run(command, room, limit):
             return None, started.communicate()[0]
 
 
-def check(room, name, places, command, without=()):
-    """The status of a check of the crate in this folder, with these places of it turned and without these answers,
-    each a function and a goal of it, and what the check says."""
+def check(room, name, places, command, without):
+    """The status of a check of the crate in this folder, with these places of it turned and without the answers of
+    these goals of functions, and what the check says."""
     for part in PARTS:
         shutil.rmtree(room / part, ignore_errors=True)
         if (TOP / 'crates' / name / part).is_dir():
@@ -176,10 +176,37 @@ def check(room, name, places, command, without=()):
     for file, begin, end, new in sorted(places, reverse=True):
         text = (room / file).read_text(encoding='utf-8')
         (room / file).write_text(text[:begin] + new + text[end:], encoding='utf-8')
-    for function, goal in without:
-        path = room / 'proofs' / function.replace('::', '/') / 'Answers.antt'
-        path.write_text(without_answer(path.read_text(encoding='utf-8'), goal), encoding='utf-8')
+    for function, goals in without.items():
+        text = answers_of(room, function)
+        if text:
+            for goal in [*goals, *citing(text, goals)]:
+                text = without_answer(text, goal)
+            answers_at(room, function).write_text(text, encoding='utf-8')
     return run(command, room, LIMIT)
+
+
+def answers_at(crate, function):
+    """The file with a function's written answers."""
+    return crate / 'proofs' / function.replace('::', '/') / 'Answers.antt'
+
+
+def answers_of(crate, function):
+    """A function's written answers, if it has any."""
+    path = answers_at(crate, function)
+    return path.read_text(encoding='utf-8') if path.exists() else ''
+
+
+def citing(text, goals):
+    """The other names of a file of answers whose terms name one of these goals, or a name that does."""
+    heads = [*re.finditer(r'^(?:pub )?(\S+) : ', text, re.M)]
+    ends = [it.start() for it in heads[1:]] + [len(text)]
+    terms = {it[1]: text[it.end():end] for it, end in zip(heads, ends)}
+    found, more = set(), set(goals)
+    while more:
+        named = re.compile('|'.join(rf'(?<![\w-]){re.escape(it)}(?![\w-])' for it in more))
+        found |= more
+        more = {it for it, term in terms.items() if it not in found and named.search(term)}
+    return sorted(found - set(goals))
 
 
 def without_answer(text, goal):
@@ -258,13 +285,15 @@ def with_more(told, name, members, again):
               if function in told and not told[function].is_refused(it.by) and told[function].doubted(it.by)}
     if not doubts:
         return 0
-    # The search is asked only where no answer of the function is refused any more. Where an answer for all clauses at
-    # once is taken away, the goals of single clauses are open.
-    status, said = again([(function, goal) for function in doubts for goal in dict.fromkeys(told[function].broken)])
+    # The search is asked only where no answer of the function is refused any more, so those that name such an answer go
+    # too, and tell nothing. Where an answer for all clauses at once is taken away, the goals of single clauses are open.
+    broken = {function: list(dict.fromkeys(told[function].broken)) for function in doubts}
+    status, said = again(broken)
     later = told_by(name, said) if status == 1 else {}
     more = set()
     for function, by in doubts.items():
-        still = [goal for goal in later.get(function, Told()).unproved if is_of_meaning(goal, by)]
+        beside = citing(answers_of(TOP / 'crates' / name, function), broken[function])
+        still = [goal for goal in later.get(function, Told()).unproved if is_of_meaning(goal, by) and goal not in beside]
         if still:
             told[function].unproved += still
             more.add(function)
@@ -319,7 +348,7 @@ def try_crate(name, crates, proved):
             def again(without):
                 return check(Path(room), name, places, command, without)
 
-            tried, wrong, others = try_round(name, members, *again(()), again)
+            tried, wrong, others = try_round(name, members, *again({}), again)
             faults += wrong
             more += others
             left = [it for it in left if it not in tried]

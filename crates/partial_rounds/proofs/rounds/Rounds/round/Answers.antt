@@ -27,7 +27,7 @@ behind-behind-requires-clause-firsts g c =
     let left = map now c.args.left.now in
     let same = ap (map now) c.deref-2.ensures.value ∙ c.in_ok-calls.ensures in
     let firsts = run_firsts c.in_ok-memory.memory.about.opening c.most_calls.result left (map now c.deref-2.result.now) c.in_ok-ran.ran.answers.items c.in_ok-ran.ran.closed.values.items
-    same c.in_ok-ran.ensures in
+    same c.in_ok-ran.ensures.ran in
     subst (AreFirsts left) (sym c.deref-4.ensures.value) firsts
 
 pub returns-clause-ok : goal.returns-clause-ok
@@ -46,4 +46,4 @@ returns-clause-ok g c =
     let some = ap have_answers (sym c.deref-3.ensures.value) ∙ sym c.is_answered.ensures ∙ c.if-not-is_answered.false in
     let told = c.push_reserved.ensures.items ∙ ap (λ (l : List Round). l ++ record { answers = answers } ∷ []) c.reserve.ensures.items in
     passed was after o c.most_calls.result left (map now c.deref-2.result.now) (map now c.behind-behind.result.items) answers c.args.rounds.now.items c.push_reserved.new.self.items opening same
-    c.in_ok-ran.ensures rest told some
+    c.in_ok-ran.ensures.ran rest told some
