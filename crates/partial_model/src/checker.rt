@@ -8,6 +8,7 @@ ghost use Rattle.partial_model.specs.Inner.Checks.{is_legal_outcome};
 mod answers;
 mod claims;
 mod entries;
+mod index;
 mod notes;
 mod times;
 
