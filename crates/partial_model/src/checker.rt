@@ -1,18 +1,20 @@
 //! The slow checker: whether a history and a list of calls are a legal outcome.
 
-ghost use Rattle.std.specs.Prelude.{◌≡◌};
+ghost use Rattle.std.specs.Prelude.{◌≡◌, ◌&&◌};
 ghost use Rattle.std.specs.Bool.{Decides};
 ghost use Rattle.partial_model.specs.Outcome.{LegalOutcome};
-ghost use Rattle.partial_model.specs.Inner.Checks.{is_legal_outcome};
+ghost use Rattle.partial_model.specs.Inner.Checks.{is_history, is_legal_outcome};
 
 mod answers;
 mod claims;
 mod entries;
 mod index;
+mod lookups;
 mod notes;
 mod times;
 
 use crate::call::Called;
+use crate::checker::lookups::Lookups;
 use crate::history::{Applied, Opening};
 
 /// Whether the history and the calls are a legal outcome, for every list of entries and of calls.
@@ -36,7 +38,14 @@ fn passes(opening: &Opening, history: &[Applied], calls: &[Called]) -> bool
     ensures { result ≡ is_legal_outcome opening.now history.now calls.now }
 {
     entries::is_history(opening, history)
-        && times::are_in_time(history.len(), calls)
+        && passes_behind(opening, &Lookups::walking(history), calls)
+}
+
+// The tests of the clauses behind the first one, which says that the entries are a history.
+fn passes_behind(opening: &Opening, history: &Lookups, calls: &[Called]) -> bool
+    ensures { is_history opening.now history.now && result ≡ is_legal_outcome opening.now history.now calls.now }
+{
+    times::are_in_time(history.entries().len(), calls)
         && notes::notes_are_legal(opening, history, calls)
-        && claims::claim_all(history, calls)
+        && claims::claim_all(history.entries(), calls)
 }
