@@ -10,7 +10,7 @@ pub mod law;
 pub mod sequence;
 
 pub use call::{Answer, Call, Called, Finish, Note, Refused};
-pub use checker::check_outcome;
+pub use checker::{Checker, check_outcome};
 pub use history::{Applied, Opening, stamp_at, value_at};
 pub use law::{
     entries_are_noted, equal_collects_stand_together, last_entries_decide, legal_notes_are_shown,

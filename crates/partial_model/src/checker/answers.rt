@@ -71,14 +71,7 @@ fn may_be_refused(opening: &Opening, call: &Call, cause: Refused) -> bool
 }
 
 // Whether the entry at the place is that of the port's update.
-fn wrote(
-    history: &Lookups,
-    place: usize,
-    port: u32,
-    component: u32,
-    value: u64,
-    stamp: u64,
-) -> bool
+fn wrote(history: &Lookups, place: usize, port: u32, component: u32, value: u64, stamp: u64) -> bool
     ensures { result ≡ stands_at history.now place
         (record { port = port; component = component; value = value; stamp = stamp }) }
 {

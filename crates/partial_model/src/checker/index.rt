@@ -49,10 +49,7 @@ fn places_of(
 }
 
 // The place of each stamp. None where a stamp is doubled.
-fn stamps_of(
-    alloc: Global,
-    history: &[Applied],
-) -> Result<Option<HashMap<u64, usize>>, AllocError>
+fn stamps_of(alloc: Global, history: &[Applied]) -> Result<Option<HashMap<u64, usize>>, AllocError>
     ensures { IfOk result (λ found. MatchOption found (are_distinct history.now ≡ false)
         (λ stamps. (are_distinct history.now ≡ true)
         × AreStampsOf history.now (length history.now) (hash.get nat_eq stamps))) }
