@@ -38,8 +38,8 @@ pub fn check_outcome(opening: &Opening, history: &[Applied], calls: &[Called]) -
     passes(opening, history, calls)
 }
 
-/// Checks lists of calls against a history, as [`check_outcome`] does and with its answer, and takes memory for it:
-/// an index of the history.
+/// Checks lists of calls against a history with the answer of [`check_outcome`], and takes memory for it: an
+/// index of the history.
 #[derive(Drop)]
 pub struct Checker<'a> {
     opening: &'a Opening,
@@ -63,7 +63,7 @@ impl<'a> Model for Checker<'a> {
 }
 
 impl<'a> Checker<'a> {
-    /// Makes the index of the history: two words for each entry and some for each component.
+    /// Makes the index of the history: the places of each component's entries, and the place of each stamp.
     ///
     /// # Errors
     ///
@@ -83,11 +83,12 @@ impl<'a> Checker<'a> {
         })
     }
 
-    /// Whether the history and the calls are a legal outcome, for every list of calls: what [`check_outcome`] answers.
+    /// Whether the history and the calls are a legal outcome, for every list of calls: what [`check_outcome`]
+    /// answers.
     ///
-    /// It takes no memory. The last entry for a component before a place is sought in the list of that component's
-    /// entries, whose half is left out at each step, and the entry of a stamp in a map. Once for each port that has
-    /// calls it walks the history to see which entries are claimed.
+    /// It takes no more memory. The last entry for a component before a place is sought by halves in the list
+    /// of that component's entries, and the entry with a stamp in a map. It walks the history some times for each
+    /// port that has calls, to see which entries are claimed.
     pub fn check(&self, calls: &[Called]) -> bool
         ensures { Decides result (LegalOutcome self.now.opening self.now.history calls.now) }
     {

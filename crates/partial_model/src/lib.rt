@@ -1,6 +1,7 @@
 //! The plain data of a partial snapshot object: the history of applied updates, the calls with their
 //! answers and notes, and the look-ups in a history. The definitions in `specs/` say when a history
-//! and a list of calls are a legal outcome, and `check_outcome` decides it.
+//! and a list of calls are a legal outcome. `check_outcome` decides it without memory, and a `Checker` with an
+//! index of the history.
 #![tactic(auto)]
 
 pub mod call;
