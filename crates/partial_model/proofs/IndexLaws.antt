@@ -311,8 +311,8 @@ list_push_empty (x ∷ ls) v (suc j) none w = list_push_empty ls v j none w
 pub lists_none : (h : List Applied) (ls : List (Vec ℕ)) → ((j : ℕ) → list_at ls j ≡ []) → AreListsOf h 0 ls
 lists_none h ls none j = subst (ArePlacesOf h 0 j) (sym (none j)) (no_places h j)
 
-pub lists_more : (h : List Applied) (n : ℕ) (ls : List (Vec ℕ)) (e : Applied) (v : Vec ℕ) → AreListsOf h n ls → slice_get h n ≡ Some e → e.component < length ls → v.items ≡ list_at ls e.component ++ n ∷ [] →
-    AreListsOf h (n + 1) (set ls e.component v)
+pub lists_more : (h : List Applied) (n : ℕ) (ls : List (Vec ℕ)) (e : Applied) (v : Vec ℕ) → AreListsOf h n ls → slice_get h n ≡ Some e → e.component < length ls →
+    v.items ≡ list_at ls e.component ++ n ∷ [] → AreListsOf h (n + 1) (set ls e.component v)
 lists_more h n ls e v w s within is j =
     elim (cases_eq e.component j) [
       | inl same ↦

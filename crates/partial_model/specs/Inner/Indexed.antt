@@ -10,7 +10,8 @@ use Rattle.partial_model.specs.declared.checker.index.Index.{Index}
 pub record ArePlacesOf (h : List Applied) (n j : ℕ) (places : List ℕ) : Type 0 where
   pub within : (a : ℕ) → a < length places → slice_index places a < n
   pub stands : (a : ℕ) → a < length places → (e : Applied) × (slice_get h (slice_index places a) ≡ Some e) × (e.component ≡ j)
-  pub whole : (k : ℕ) (e : Applied) → k < n → slice_get h k ≡ Some e → e.component ≡ j → (a : ℕ) × (a < length places) × (slice_index places a ≡ k)
+  pub whole : (k : ℕ) (e : Applied) → k < n → slice_get h k ≡ Some e → e.component ≡ j →
+      (a : ℕ) × (a < length places) × (slice_index places a ≡ k)
   pub rises : (a b : ℕ) → a ≤ b → b < length places → slice_index places a ≤ slice_index places b
 
 -- the function gives of each stamp the place of its entry among the first n of h

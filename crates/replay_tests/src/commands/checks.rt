@@ -1,17 +1,12 @@
 //! The check without memory and the checker, of outcomes that are lawful and of ones with one thing turned.
 
 use super::rows::rows;
+use crate::replays::replayed;
 use partial_model::{Answer, Applied, Called, Checker, Note, Sequence, check_outcome};
-use partial_replay::{Device, Outcome, Plan, replay};
+use partial_replay::Outcome;
 use std::alloc::{AllocError, Global};
 use std::mem;
 use std::test::Fail;
-
-/// What comes of the plan with this text.
-fn replayed(alloc: Global, text: &[u8]) -> Result<Outcome, Fail> {
-    let plan = Plan::read(alloc, &mut Device::new(text))?;
-    Ok(replay(alloc, &plan)?)
-}
 
 /// What the check without memory answers, and what the checker does.
 fn verdicts(alloc: Global, outcome: &Outcome) -> Result<(bool, bool), AllocError> {
