@@ -24,7 +24,7 @@ CALLS = [
     ('partial_rounds/src/rounds.rt', ['run']),
     ('partial_pipeline/src/run.rt', ['run_pipeline']),
     ('partial_replay/src/replaying.rt', ['replay']),
-    ('partial_model/src/checker.rt', ['check_outcome']),
+    ('partial_model/src/checker.rt', ['check_outcome', 'check']),
     ('partial_text/src/reading.rt', ['read']),
     ('partial_cmd/src/command.rt', ['execute']),
     ('partial_cmd/src/next.rt', ['execute_next']),

@@ -24,6 +24,7 @@ use Rattle.partial_cmd.specs.declared.command.Verdict.TheVariants as verdict
 abbrev pub code_of : Fault → ℕ
 code_of (fault.Plan e) = text.code_of e
 code_of (fault.Replay e) = 6
+code_of fault.Check = 6
 code_of fault.TooSmall = 13
 code_of (fault.Run e) = 6
 code_of (fault.Outcome e) = text.outcome_code_of e
@@ -51,6 +52,7 @@ abbrev pub IsJudged : Result Verdict Fault → Result PlanView PlanError → Typ
 IsJudged (Ok v) judged = IsRead judged
 IsJudged (Err (fault.Plan e)) judged = text.Fails e judged
 IsJudged (Err (fault.Replay e)) judged = IsRead judged
+IsJudged (Err fault.Check) judged = IsRead judged
 IsJudged (Err fault.TooSmall) judged = ⊥
 IsJudged (Err (fault.Run e)) judged = IsRead judged
 IsJudged (Err (fault.Outcome e)) judged = IsRead judged

@@ -7,7 +7,7 @@ ghost use Rattle.partial_cmd.specs.Execution.{Answers, IsBehindReading, IsJudged
 
 use crate::fault::Fault;
 use crate::workers::run_workers;
-use partial_model::check_outcome;
+use partial_model::Checker;
 use partial_replay::{Device, Plan, replay, write_outcome};
 use partial_text::{write_report, write_text};
 use partial_workers::NoGate;
@@ -39,8 +39,8 @@ pub enum Verdict {
 }
 
 /// Reads a plan, does with it what the verb says, and writes the result: the outcome of its replay; the
-/// line `lawful` or `unlawful`, by the slow check of that outcome; or the report of a run, which ignores
-/// the plan's turns.
+/// line `lawful` or `unlawful`, by a check of that outcome with an index of its history; or the report of a
+/// run, which ignores the plan's turns.
 ///
 /// # Errors
 ///
@@ -104,7 +104,8 @@ fn write_answer<H: Threads + Wait + Sync, W: Write>(
         }
         Verb::Check => {
             let outcome = replay(alloc, plan)?;
-            if check_outcome(&outcome.opening, &outcome.history, &outcome.calls) {
+            let checker = Checker::new(alloc, &outcome.opening, &outcome.history)?;
+            if checker.check(&outcome.calls) {
                 write_text(b"lawful\n", out)?;
                 Ok(Verdict::Lawful)
             } else {

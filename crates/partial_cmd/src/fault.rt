@@ -4,6 +4,7 @@ ghost use Rattle.std.specs.Prelude.{◌≡◌};
 
 use partial_replay::{Cause, OutcomeError, PlanError, ReplayError};
 use partial_workers::RunError;
+use std::alloc::AllocError;
 use thiserror::Error;
 
 /// Why a command was refused.
@@ -15,6 +16,9 @@ pub enum Fault {
     /// The plan couldn't be replayed. Nothing was written.
     #[error("{0}")]
     Replay(ReplayError),
+    /// An allocation was refused in the check of the outcome. Nothing was written.
+    #[error("out of memory")]
+    Check,
     /// The second plan has fewer components than the first one. Nothing was run.
     #[error("fewer components than before")]
     TooSmall,
@@ -37,6 +41,7 @@ impl Fault {
         match self {
             Fault::Plan(error) => error.code(),
             Fault::Replay(error) => error.code(),
+            Fault::Check => 6,
             Fault::TooSmall => 13,
             Fault::Run(error) => error.code(),
             Fault::Outcome(error) => error.code(),
@@ -74,6 +79,17 @@ impl From<ReplayError> for Fault {
 
     fn from(error: ReplayError) -> Fault {
         Fault::Replay(error)
+    }
+}
+
+impl From<AllocError> for Fault {
+    ghost use Rattle.std.specs.Prelude.{◌≡◌};
+    ghost use Rattle.partial_cmd.specs.declared.fault.Fault.TheVariants.{Check};
+
+    ghost from_gives = { λ _ e. e ≡ Check };
+
+    fn from(_error: AllocError) -> Fault {
+        Fault::Check
     }
 }
 

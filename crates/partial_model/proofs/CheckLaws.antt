@@ -163,7 +163,7 @@ any_stands test P each (x ∷ xs) w =
       | inr there ↦ let found = any_stands test P each xs there in (suc found.0, found.1, found.2, found.3)
     ]
 
-Decides-contains_number : (js : List ℕ) (c : ℕ) → Decides (list_any (λ j. j == c) js) (Contains js c)
+pub Decides-contains_number : (js : List ℕ) (c : ℕ) → Decides (list_any (λ j. j == c) js) (Contains js c)
 Decides-contains_number js c =
     Decides-contains js c (list_any (λ j. j == c) js) (Decides-by_or (λ j. j == c) (λ j. j ≡ c) (list_any (λ j. j == c)) (λ j. Decides-eqb j c) refl (λ _ _. refl) js)
 
@@ -173,7 +173,7 @@ ShowsStamp js t e = (e.stamp ≡ t) × Contains js e.component
 Decides-shows : (js : List ℕ) (t : ℕ) (e : Applied) → Decides ((e.stamp == t) && list_any (λ j. j == e.component) js) (ShowsStamp js t e)
 Decides-shows js t e = Decides-and (e.stamp == t) (list_any (λ j. j == e.component) js) (Decides-eqb e.stamp t) (Decides-contains_number js e.component)
 
-Decides-shows_stamp : (h : List Applied) (js : List ℕ) (n t : ℕ) → Decides (shows_stamp js t (drop n h)) ((k j : ℕ) × (n ≤ k) × Contains js j × IsEntryFor h k j t)
+pub Decides-shows_stamp : (h : List Applied) (js : List ℕ) (n t : ℕ) → Decides (shows_stamp js t (drop n h)) ((k j : ℕ) × (n ≤ k) × Contains js j × IsEntryFor h k j t)
 Decides-shows_stamp h js n t =
     let test : Applied → Bool = λ e. (e.stamp == t) && list_any (λ j. j == e.component) js in (
       λ w.

@@ -3,6 +3,7 @@ pub mod ListLemmas
 pub mod CheckLaws
 pub mod Decisions
 pub mod HistoryLemmas
+pub mod IndexLaws
 pub mod StampsStay
 pub mod NotesLemmas
 pub mod PortLaws

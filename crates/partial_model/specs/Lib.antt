@@ -5,3 +5,4 @@ pub mod Notes
 pub mod Refusals
 pub mod Outcome
 pub mod Entries
+pub mod Checked

@@ -1,5 +1,6 @@
 //! Plans whose outcomes were worked out by hand, plans that are refused, and devices that fail.
 
+mod checks;
 mod devices;
 mod growths;
 mod outcomes;

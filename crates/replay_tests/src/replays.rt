@@ -9,7 +9,7 @@ use std::alloc::Global;
 use std::test::Fail;
 
 /// What comes of the plan with this text.
-fn replayed(alloc: Global, text: &[u8]) -> Result<Outcome, Fail> {
+pub(crate) fn replayed(alloc: Global, text: &[u8]) -> Result<Outcome, Fail> {
     let plan = Plan::read(alloc, &mut Device::new(text))?;
     Ok(replay(alloc, &plan)?)
 }

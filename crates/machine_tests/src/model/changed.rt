@@ -1,11 +1,11 @@
 //! Outcomes with one thing changed: none is lawful.
 
-use super::rows::{applied, called, read, update, verdict};
+use super::rows::{applied, both, called, read, update, verdict};
 use super::worked::{
     BORROWED, EXCHANGED, borrowed_view, changed_at_exchange, component_refused, loser, whole_scan,
     winner, write_then_read,
 };
-use partial_model::{Answer, Note, Opening, Refused, Sequence, check_outcome};
+use partial_model::{Answer, Note, Opening, Refused, Sequence};
 use std::test::Fail;
 
 #[test]
@@ -139,14 +139,15 @@ fn greatest_numbers(rt: HostRuntime) -> Result<(), Fail> {
             Some(Note::Saw(prefix)),
         )
     };
-    assert!(rt; check_outcome(&opening, &[], &vec![in alloc; seen(0, u64::MAX, 0)]?));
-    assert!(rt; !check_outcome(&opening, &[], &vec![in alloc; seen(1, 2, 0)]?));
+    assert!(rt; both(alloc, &opening, &[], &vec![in alloc; seen(0, u64::MAX, 0)]?)?);
+    assert!(rt; !both(alloc, &opening, &[], &vec![in alloc; seen(1, 2, 0)]?)?);
     assert!(rt;
-        !check_outcome(
+        !both(
+            alloc,
             &opening,
             &[],
             &vec![in alloc; seen(0, u64::MAX, usize::MAX)]?
-        )
+        )?
     );
     let lost = loser(0, Answer::Lost { by: 27 }, Note::Lost(usize::MAX));
     assert!(rt; !verdict(alloc, &EXCHANGED, &vec![in alloc; lost, winner()]?)?);

@@ -1,9 +1,10 @@
 //! The words in which the rows are written down.
 
 use partial_model::{
-    Answer, Applied, Call, Called, Finish, Note, Opening, Sequence, check_outcome,
+    Answer, Applied, Call, Called, Checker, Finish, Note, Opening, Sequence, check_outcome,
 };
 use std::alloc::{AllocError, Global};
+use std::test::Fail;
 
 /// An entry of the history.
 pub(super) fn applied(port: u32, component: u32, value: u64, stamp: u64) -> Applied {
@@ -86,16 +87,27 @@ pub(super) fn unfinished(port: u32, number: u32, call: Call, began: usize) -> Ca
     }
 }
 
-/// Whether the checker takes the history and the calls, where two components open with 10 and 20 and with
-/// the stamps 18 and 21.
-pub(super) fn verdict(
-    alloc: Global,
-    history: &[Applied],
-    calls: &[Called],
-) -> Result<bool, AllocError> {
+/// Whether the history and the calls are lawful, where two components open with 10 and 20 and with the
+/// stamps 18 and 21. It fails where the check without memory and the checker answer otherwise.
+pub(super) fn verdict(alloc: Global, history: &[Applied], calls: &[Called]) -> Result<bool, Fail> {
     let opening = Opening {
         values: Sequence::from(vec![in alloc; 10, 20]?),
         first: 18,
     };
-    Ok(check_outcome(&opening, history, calls))
+    both(alloc, &opening, history, calls)
+}
+
+/// What both of them answer.
+pub(super) fn both(
+    alloc: Global,
+    opening: &Opening,
+    history: &[Applied],
+    calls: &[Called],
+) -> Result<bool, Fail> {
+    let plain = check_outcome(opening, history, calls);
+    if Checker::new(alloc, opening, history)?.check(calls) == plain {
+        Ok(plain)
+    } else {
+        Err(Fail::new("the two answer otherwise"))
+    }
 }

@@ -1,7 +1,9 @@
 //! Outcomes that were worked out by hand: each is lawful.
 
-use super::rows::{applied, called, read, scan, scanned, unfinished, update, update_if, verdict};
-use partial_model::{Answer, Applied, Called, Note, Opening, Refused, Sequence, check_outcome};
+use super::rows::{
+    applied, both, called, read, scan, scanned, unfinished, update, update_if, verdict,
+};
+use partial_model::{Answer, Applied, Called, Note, Opening, Refused, Sequence};
 use std::alloc::{AllocError, Global};
 use std::test::Fail;
 
@@ -248,7 +250,7 @@ fn repeated_position(rt: HostRuntime) -> Result<(), Fail> {
             Some(Note::Saw(0))
         ),
     ]?;
-    assert!(rt; check_outcome(&opening, &[], &calls));
+    assert!(rt; both(alloc, &opening, &[], &calls)?);
     Ok(())
 }
 
@@ -317,7 +319,7 @@ fn slots_spent(rt: HostRuntime) -> Result<(), Fail> {
         spent(2)?,
         called(0, 3, update(1, 5), (0, 1), wrote, Some(Note::Wrote(0))),
     ]?;
-    assert!(rt; check_outcome(&opening, &[applied(0, 1, 5, 25)], &calls));
+    assert!(rt; both(alloc, &opening, &[applied(0, 1, 5, 25)], &calls)?);
     Ok(())
 }
 

@@ -1,13 +1,14 @@
 //! Whether a call's answer with its note is right.
 
-ghost use Rattle.std.specs.Prelude.{◌≡◌, ◌==◌, ◌&&◌, ◌<◌, not, nat_le, nat_lt, length, take};
+ghost use Rattle.std.specs.Prelude.{◌≡◌, ◌==◌, ◌&&◌, ◌<◌, ◌≤◌, not, nat_le, nat_lt, length, take};
 ghost use Rattle.std.specs.List.{AllByRecursion};
 ghost use Rattle.partial_model.specs.History.{initial_stamp, value_of, stamp_of};
 ghost use Rattle.partial_model.specs.Notes.{indices_of, place_of};
-ghost use Rattle.partial_model.specs.Inner.Checks.{names_components, claims_pool, claims_slot, may_be_refused, stands_at, is_entry_for, are_collects, hold, shows_stamp, saw_together, is_right, is_legal};
+ghost use Rattle.partial_model.specs.Inner.Checks.{names_components, claims_pool, claims_slot, may_be_refused, stands_at, is_entry_for, are_collects, hold, saw_together, is_right, is_legal};
 
 use crate::call::{Answer, Call, Finish, Note, Refused};
-use crate::history::{Applied, Opening, last_entry, value_at};
+use crate::checker::lookups::Lookups;
+use crate::history::Opening;
 
 // Whether the component is there.
 fn is_component(component: u32, opening: &Opening) -> bool
@@ -70,18 +71,11 @@ fn may_be_refused(opening: &Opening, call: &Call, cause: Refused) -> bool
 }
 
 // Whether the entry at the place is that of the port's update.
-fn wrote(
-    history: &[Applied],
-    place: usize,
-    port: u32,
-    component: u32,
-    value: u64,
-    stamp: u64,
-) -> bool
+fn wrote(history: &Lookups, place: usize, port: u32, component: u32, value: u64, stamp: u64) -> bool
     ensures { result ≡ stands_at history.now place
         (record { port = port; component = component; value = value; stamp = stamp }) }
 {
-    match history.get(place) {
+    match history.entries().get(place) {
         None => false,
         Some(entry) => {
             entry.port == port
@@ -93,10 +87,10 @@ fn wrote(
 }
 
 // Whether the entry at the place is for the component and has the stamp.
-fn is_entry_for(history: &[Applied], place: usize, component: u32, stamp: u64) -> bool
+fn is_entry_for(history: &Lookups, place: usize, component: u32, stamp: u64) -> bool
     ensures { result ≡ is_entry_for history.now place component stamp }
 {
-    match history.get(place) {
+    match history.entries().get(place) {
         None => false,
         Some(entry) => entry.component == component && entry.stamp == stamp,
     }
@@ -110,29 +104,38 @@ fn is_initial_stamp_of(opening: &Opening, component: u32, stamp: u64) -> bool
     stamp >= first && (stamp - first) % 3 == 0 && (stamp - first) / 3 == u64::from(component)
 }
 
-// Whether the component has the stamp after these entries.
-fn has_stamp(opening: &Opening, entries: &[Applied], component: u32, stamp: u64) -> bool
-    ensures { result ≡ (stamp_of opening.now entries.now component == stamp) }
+// Whether the component has the stamp after the first `prefix` entries.
+fn has_stamp(
+    opening: &Opening,
+    history: &Lookups,
+    prefix: usize,
+    component: u32,
+    stamp: u64,
+) -> bool
+    requires { prefix ≤ length history.now }
+    ensures { result ≡ (stamp_of opening.now (take prefix history.now) component == stamp) }
 {
-    match last_entry(entries, component) {
+    match history.last_entry(prefix, component) {
         Some(entry) => entry.stamp == stamp,
         None => is_initial_stamp_of(opening, component, stamp),
     }
 }
 
-// Whether the component has the value and the stamp after these entries.
+// Whether the component has the value and the stamp after the first `prefix` entries.
 fn has_value_and_stamp(
     opening: &Opening,
-    entries: &[Applied],
+    history: &Lookups,
+    prefix: usize,
     component: u32,
     value: u64,
     stamp: u64,
 ) -> bool
-    requires { component < length opening.now.values }
-    ensures { result ≡ (value_of opening.now entries.now component == value)
-        && (stamp_of opening.now entries.now component == stamp) }
+    requires component { component < length opening.now.values }
+    requires prefix { prefix ≤ length history.now }
+    ensures { result ≡ (value_of opening.now (take prefix history.now) component == value)
+        && (stamp_of opening.now (take prefix history.now) component == stamp) }
 {
-    match last_entry(entries, component) {
+    match history.last_entry(prefix, component) {
         Some(entry) => entry.value == value && entry.stamp == stamp,
         None => {
             opening.values.as_slice()[component as usize] == value
@@ -154,33 +157,45 @@ fn are_collects(positions: usize, collects: u32, borrowed: Option<u64>) -> bool
     }
 }
 
-// Whether the components hold these values after the entries.
-fn hold(opening: &Opening, entries: &[Applied], components: &[u32], values: &[u64]) -> bool
-    requires { AllByRecursion (λ j. j < length opening.now.values) components.now }
-    ensures { result ≡ hold (value_of opening.now entries.now) components.now values.now }
+// The value of the component after the first `prefix` entries.
+fn value_at(opening: &Opening, history: &Lookups, prefix: usize, component: u32) -> u64
+    requires component { component < length opening.now.values }
+    requires prefix { prefix ≤ length history.now }
+    ensures { result ≡ value_of opening.now (take prefix history.now) component }
+{
+    match history.last_entry(prefix, component) {
+        Some(entry) => entry.value,
+        None => opening.values.as_slice()[component as usize],
+    }
+}
+
+// Whether the components hold these values after the first `prefix` entries.
+fn hold(
+    opening: &Opening,
+    history: &Lookups,
+    prefix: usize,
+    components: &[u32],
+    values: &[u64],
+) -> bool
+    requires components { AllByRecursion (λ j. j < length opening.now.values) components.now }
+    requires prefix { prefix ≤ length history.now }
+    ensures { result ≡ hold (value_of opening.now (take prefix history.now)) components.now values.now }
 {
     if components.len() != values.len() {
         return false;
     }
     for (position, component) in components.iter().enumerate() {
-        if value_at(opening, entries, entries.len(), *component) != values[position] {
+        if value_at(opening, history, prefix, *component) != values[position] {
             return false;
         }
     }
     true
 }
 
-// Whether one of the entries is for one of the components and has the stamp.
-fn shows_stamp(entries: &[Applied], components: &[u32], stamp: u64) -> bool
-    ensures { result ≡ shows_stamp components.now stamp entries.now }
-{
-    entries.iter().any(|entry| entry.stamp == stamp && components.contains(&entry.component))
-}
-
 // Whether a scan of the components saw these values together, after the first `prefix` entries.
 fn saw_together(
     opening: &Opening,
-    history: &[Applied],
+    history: &Lookups,
     components: &[u32],
     values: &[u64],
     collects: u32,
@@ -190,19 +205,19 @@ fn saw_together(
     requires { AllByRecursion (λ j. j < length opening.now.values) components.now }
     ensures { result ≡ saw_together opening.now history.now components.now values.now collects borrowed prefix }
 {
-    prefix <= history.len()
-        && hold(opening, &history[..prefix], components, values)
+    prefix <= history.entries().len()
+        && hold(opening, history, prefix, components, values)
         && are_collects(components.len(), collects, borrowed)
         && match borrowed {
             None => true,
-            Some(stamp) => shows_stamp(&history[prefix..], components, stamp),
+            Some(stamp) => history.shows_stamp(prefix, components, stamp),
         }
 }
 
 // Whether the answer with its note fits a scan of the components, and is true of the history.
 fn scan_is_right(
     opening: &Opening,
-    history: &[Applied],
+    history: &Lookups,
     components: &[u32],
     answer: &Answer,
     note: Note,
@@ -236,7 +251,7 @@ fn scan_is_right(
 // Whether a read of the component saw this value and stamp after the first `prefix` entries.
 fn saw(
     opening: &Opening,
-    history: &[Applied],
+    history: &Lookups,
     component: u32,
     value: u64,
     stamp: u64,
@@ -247,14 +262,14 @@ fn saw(
         && (value_of opening.now (take prefix history.now) component == value)
         && (stamp_of opening.now (take prefix history.now) component == stamp) }
 {
-    prefix <= history.len()
-        && has_value_and_stamp(opening, &history[..prefix], component, value, stamp)
+    prefix <= history.entries().len()
+        && has_value_and_stamp(opening, history, prefix, component, value, stamp)
 }
 
 // Whether the component has that stamp and not the expected one, after the first `prefix` entries.
 fn saw_change(
     opening: &Opening,
-    history: &[Applied],
+    history: &Lookups,
     component: u32,
     expected: u64,
     by: u64,
@@ -263,15 +278,15 @@ fn saw_change(
     ensures { result ≡ nat_le prefix (length history.now)
         && (stamp_of opening.now (take prefix history.now) component == by) && not (by == expected) }
 {
-    prefix <= history.len()
-        && has_stamp(opening, &history[..prefix], component, by)
+    prefix <= history.entries().len()
+        && has_stamp(opening, history, prefix, component, by)
         && by != expected
 }
 
 // Whether the answer with its note fits a call of the port, and is true of the history.
 fn is_right(
     opening: &Opening,
-    history: &[Applied],
+    history: &Lookups,
     port: u32,
     call: &Call,
     answer: &Answer,
@@ -308,7 +323,7 @@ fn is_right(
             (Answer::Applied { stamp }, Note::Wrote(place)) => {
                 is_component(*component, opening)
                     && wrote(history, place, port, *component, *value, *stamp)
-                    && has_stamp(opening, &history[..place], *component, *expected)
+                    && has_stamp(opening, history, place, *component, *expected)
             }
             (Answer::Changed { by }, Note::Saw(prefix)) => {
                 is_component(*component, opening)
@@ -332,7 +347,7 @@ fn place_of(note: Note) -> usize
 /// Whether the finish of a call is legal, where its port had seen the first `seen` entries before.
 pub fn is_legal(
     opening: &Opening,
-    history: &[Applied],
+    history: &Lookups,
     seen: usize,
     port: u32,
     call: &Call,

@@ -1,6 +1,6 @@
 //! Whether entries are a history.
 
-ghost use Rattle.std.specs.Prelude.{◌≡◌, ◌==◌, nat_lt, length};
+ghost use Rattle.std.specs.Prelude.{◌≡◌, ◌==◌, ◌&&◌, not, nat_lt, length};
 ghost use Rattle.std.specs.List.{list_all, list_any};
 ghost use Rattle.partial_model.specs.Inner.Checks.{is_initial, are_distinct, is_history};
 
@@ -50,6 +50,15 @@ fn has_initial_stamp(opening: &Opening, history: &[Applied]) -> bool
     ensures { result ≡ list_any (λ e. is_initial opening.now (length opening.now.values) e.stamp) history.now }
 {
     history.iter().any(|entry| is_initial(opening, entry.stamp))
+}
+
+/// Whether each entry is for a component, and none has an initial stamp: what a history is but for stamps that
+/// may be doubled.
+pub fn are_entries(opening: &Opening, history: &[Applied]) -> bool
+    ensures { result ≡ list_all (λ e. nat_lt e.component (length opening.now.values)) history.now
+        && not (list_any (λ e. is_initial opening.now (length opening.now.values) e.stamp) history.now) }
+{
+    are_for_components(opening.values.len(), history) && !has_initial_stamp(opening, history)
 }
 
 /// Whether the entries are a history: each for a component, and each with a stamp of its own.

@@ -1,14 +1,15 @@
 //! Whether the notes of each port are legal.
 
-ghost use Rattle.std.specs.Prelude.{◌≡◌, ◌≤◌};
+ghost use Rattle.std.specs.Prelude.{◌≡◌, ◌≤◌, length};
 ghost use Rattle.partial_model.specs.Inner.Checks.{call_is_legal, seen_behind, notes_are_legal};
 
 use crate::call::{Called, Finish, Note};
 use crate::checker::answers::is_legal;
-use crate::history::{Applied, Opening};
+use crate::checker::lookups::Lookups;
+use crate::history::Opening;
 
 // Whether the call is unfinished, or legal where its port had seen so many entries before.
-fn call_is_legal(opening: &Opening, history: &[Applied], seen: usize, call: &Called) -> bool
+fn call_is_legal(opening: &Opening, history: &Lookups, seen: usize, call: &Called) -> bool
     ensures { result ≡ call_is_legal opening.now history.now seen call.now }
 {
     match &call.finish {
@@ -33,7 +34,8 @@ fn seen_behind(seen: usize, finish: &Option<Finish>) -> usize
 }
 
 /// Whether the notes of each port are legal, where the calls of a port stand together.
-pub fn notes_are_legal(opening: &Opening, history: &[Applied], calls: &[Called]) -> bool
+pub fn notes_are_legal(opening: &Opening, history: &Lookups, calls: &[Called]) -> bool
+    requires { length history.now ≤ usize.MAX }
     ensures { result ≡ notes_are_legal opening.now history.now 0 0 calls.now }
 {
     let mut port = 0;

@@ -14,8 +14,8 @@ returns-in_err-write_text-in-Check-clause-part g c _ =
     let part = c.in_err-write_text-in-Check.ensures.part in
     (_, part.0, asked_check _ _ c.in_ok-outcome-in-Check.outcome c.in-Check.is c.in_ok-outcome-in-Check.ensures, part.1)
 
-pub returns-then-check_outcome-clause-ok : goal.returns-then-check_outcome-clause-ok
-returns-then-check_outcome-clause-ok g c = (_, asked_check _ _ c.in_ok-outcome-in-Check.outcome c.in-Check.is c.in_ok-outcome-in-Check.ensures, c.in_ok-write_text-in-Check.ensures.ok)
+pub returns-then-check-clause-ok : goal.returns-then-check-clause-ok
+returns-then-check-clause-ok g c = (_, asked_check _ _ c.in_ok-outcome-in-Check.outcome c.in-Check.is c.in_ok-outcome-in-Check.ensures, c.in_ok-write_text-in-Check.ensures.ok)
 
 pub returns-in_err-write_report-in-Run-clause-part : goal.returns-in_err-write_report-in-Run-clause-part
 returns-in_err-write_report-in-Run-clause-part g c _ =

@@ -1,4 +1,4 @@
-use Rattle.std.proofs.Common.{ℕ, ◌≡◌, ◌≢◌, ◌==◌, false, ◌&&◌, List, [], ◌∷◌, length, refl, sym, ap, ◌∙◌, arith}
+use Rattle.std.proofs.Common.{ℕ, ◌≡◌, ◌≢◌, ◌==◌, false, ◌&&◌, List, [], ◌∷◌, length, take, refl, sym, ap, ◌∙◌, arith}
 use Rattle.partial_model.specs.History.{value_of}
 use Rattle.partial_model.specs.Inner.Checks.{hold}
 use Rattle.partial_model.proofs.checker.answers.hold.Goals as goal
@@ -12,4 +12,4 @@ hold-lengths value (j ∷ js) [] other = refl
 hold-lengths value (j ∷ js) (v ∷ vs) other = ap (λ b. (value j == v) && b) (hold-lengths value js vs (λ same. other (omega arith))) ∙ and_false (value j == v)
 
 pub returns-then-components-values : goal.returns-then-components-values
-returns-then-components-values c = sym (hold-lengths (value_of c.args.opening.now c.args.entries.now) c.args.components.now c.args.values.now c.if-components-values.true)
+returns-then-components-values c = sym (hold-lengths (value_of c.args.opening.now (take c.args.prefix c.args.history.now)) c.args.components.now c.args.values.now c.if-components-values.true)

@@ -1,0 +1,20 @@
+use Rattle.std.proofs.Common.{ℕ, ◌≡◌, ◌<◌, ◌&&◌, nat_lt, not, Bool, true, false, length, refl, sym, ◌∙◌, subst}
+use Rattle.std.specs.List.{AllByRecursion, list_all, list_any}
+use Rattle.std.proofs.lemmas.Bool.{true≢false}
+use Rattle.partial_model.specs.declared.history.Applied.{Applied}
+use Rattle.partial_model.specs.Inner.Checks.{is_initial}
+use Rattle.partial_model.proofs.Decisions.{Decides-list_all, Decides-nat_lt}
+use Rattle.partial_model.proofs.checker.index_of.Goals as goal
+
+first_holds : (x y : Bool) → (x && y) ≡ true → x ≡ true
+first_holds true y w = refl
+first_holds false y w = absurd (true≢false (sym w))
+
+pub new-requires : goal.new-requires
+new-requires c =
+    let m : ℕ = length c.args.opening.now.values in
+    let all : list_all (λ (e : Applied). nat_lt e.component m) c.args.history.now ≡ true =
+    first_holds (list_all (λ (e : Applied). nat_lt e.component m) c.args.history.now) (not (list_any (λ (e : Applied). is_initial c.args.opening.now m e.stamp) c.args.history.now))
+    (sym c.are_entries.ensures ∙ c.if-are_entries.true) in
+    subst (λ (n : ℕ). AllByRecursion (λ (e : Applied). e.component < n) c.args.history.now) (sym c.len.ensures)
+    ((Decides-list_all (λ (e : Applied). nat_lt e.component m) (λ e. e.component < m) (λ e. Decides-nat_lt e.component m) c.args.history.now).0 all)

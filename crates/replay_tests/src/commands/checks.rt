@@ -1,0 +1,202 @@
+//! The check without memory and the checker, of outcomes that are lawful and of ones with one thing turned.
+
+use super::rows::rows;
+use crate::replays::replayed;
+use partial_model::{Answer, Applied, Called, Checker, Note, Sequence, check_outcome};
+use partial_replay::Outcome;
+use std::alloc::{AllocError, Global};
+use std::mem;
+use std::test::Fail;
+
+/// What the check without memory answers, and what the checker does.
+fn verdicts(alloc: Global, outcome: &Outcome) -> Result<(bool, bool), AllocError> {
+    let checker = Checker::new(alloc, &outcome.opening, &outcome.history)?;
+    let plain = check_outcome(&outcome.opening, &outcome.history, &outcome.calls);
+    Ok((plain, checker.check(&outcome.calls)))
+}
+
+/// The values with the first one turned. None where there is no value.
+fn turned_values(alloc: Global, values: &[u64]) -> Result<Option<Sequence<u64>>, AllocError> {
+    let mut values = Vec::from_slice(alloc, values)?;
+    if values.is_empty() {
+        return Ok(None);
+    }
+    values[0] ^= 1;
+    Ok(Some(Sequence::from(values)))
+}
+
+/// The call's answer with its first number turned. None where it has no number that has to be as it is.
+fn turned(alloc: Global, called: &Called) -> Result<Option<Answer>, AllocError> {
+    let Some(finish) = &called.finish else {
+        return Ok(None);
+    };
+    Ok(match &finish.answer {
+        Answer::Applied { stamp } => Some(Answer::Applied { stamp: *stamp ^ 1 }),
+        Answer::Lost { by } => Some(Answer::Lost { by: *by ^ 1 }),
+        Answer::Changed { by } => Some(Answer::Changed { by: *by ^ 1 }),
+        Answer::Read { value, stamp } => Some(Answer::Read {
+            value: *value ^ 1,
+            stamp: *stamp,
+        }),
+        Answer::Scanned {
+            values,
+            collects,
+            borrowed,
+        } => {
+            let other = turned_values(alloc, values.as_slice())?;
+            other.map(|values| Answer::Scanned {
+                values,
+                collects: *collects,
+                borrowed: *borrowed,
+            })
+        }
+        Answer::Refused { .. } => None,
+    })
+}
+
+/// Puts the answer in place of the call's own, which it gives.
+fn put_answer(called: &mut Called, answer: Answer) -> Option<Answer> {
+    match &mut called.finish {
+        None => None,
+        Some(finish) => Some(mem::replace(&mut finish.answer, answer)),
+    }
+}
+
+/// The note of the call, where it is finished and not refused.
+fn note_of(called: &Called) -> Option<Note> {
+    match &called.finish {
+        None => None,
+        Some(finish) => finish.note,
+    }
+}
+
+/// The note one place further on.
+fn further(note: Note) -> Note {
+    match note {
+        Note::Wrote(place) => Note::Wrote(place.saturating_add(1)),
+        Note::Lost(place) => Note::Lost(place.saturating_add(1)),
+        Note::Saw(prefix) => Note::Saw(prefix.saturating_add(1)),
+    }
+}
+
+/// Puts the note in place of the call's own.
+fn put_note(called: &mut Called, note: Note) {
+    if let Some(finish) = &mut called.finish {
+        finish.note = Some(note);
+    }
+}
+
+/// The entry with one of its numbers turned.
+fn turned_entries(entry: Applied) -> [Applied; 4] {
+    let Applied {
+        port,
+        component,
+        value,
+        stamp,
+    } = entry;
+    [
+        Applied {
+            port: port ^ 1,
+            ..entry
+        },
+        Applied {
+            component: component ^ 1,
+            ..entry
+        },
+        Applied {
+            value: value ^ 1,
+            ..entry
+        },
+        Applied {
+            stamp: stamp ^ 1,
+            ..entry
+        },
+    ]
+}
+
+#[test]
+fn worked_rows_pass_both(rt: HostRuntime) -> Result<(), Fail> {
+    for (name, plan, _) in rows() {
+        let outcome = replayed(rt.alloc(), plan)?;
+        let answers = verdicts(rt.alloc(), &outcome)?;
+        assert_eq!(rt; answers, (true, true), "{name}");
+    }
+    Ok(())
+}
+
+// An answer with its first number turned isn't right. The count is that of the answers in the rows' texts.
+#[test]
+fn turned_answers_pass_neither(rt: HostRuntime) -> Result<(), Fail> {
+    let mut tried = 0u32;
+    for (name, plan, _) in rows() {
+        let mut outcome = replayed(rt.alloc(), plan)?;
+        for index in 0..outcome.calls.len() {
+            let other = turned(rt.alloc(), &outcome.calls[index])?;
+            if let Some(other) = other {
+                let own = put_answer(&mut outcome.calls[index], other);
+                let answers = verdicts(rt.alloc(), &outcome)?;
+                assert_eq!(rt; answers, (false, false), "{name} {index}");
+                if let Some(own) = own {
+                    put_answer(&mut outcome.calls[index], own);
+                }
+                tried = tried.saturating_add(1);
+            }
+        }
+    }
+    assert_eq!(rt; tried, 56);
+    Ok(())
+}
+
+// No other entry has an update's stamp, so its answer is wrong one place further on. A read or a scan may be right there.
+#[test]
+fn turned_notes_pass_neither_or_both(rt: HostRuntime) -> Result<(), Fail> {
+    let mut tried = 0u32;
+    for (name, plan, _) in rows() {
+        let mut outcome = replayed(rt.alloc(), plan)?;
+        for index in 0..outcome.calls.len() {
+            let own = note_of(&outcome.calls[index]);
+            if let Some(own) = own {
+                put_note(&mut outcome.calls[index], further(own));
+                let answers = verdicts(rt.alloc(), &outcome)?;
+                if let Note::Saw(_) = own {
+                    assert_eq!(rt; answers.0, answers.1, "{name} {index}");
+                } else {
+                    assert_eq!(rt; answers, (false, false), "{name} {index}");
+                    tried = tried.saturating_add(1);
+                }
+                put_note(&mut outcome.calls[index], own);
+            }
+        }
+    }
+    assert_eq!(rt; tried, 38);
+    Ok(())
+}
+
+// Each entry is claimed by a call as it is, so no number of it may be another, and none may be left out or doubled.
+#[test]
+fn turned_histories_pass_neither(rt: HostRuntime) -> Result<(), Fail> {
+    let mut tried = 0u32;
+    for (name, plan, _) in rows() {
+        let mut outcome = replayed(rt.alloc(), plan)?;
+        for place in 0..outcome.history.len() {
+            let own = outcome.history[place];
+            for other in turned_entries(own) {
+                outcome.history[place] = other;
+                let answers = verdicts(rt.alloc(), &outcome)?;
+                assert_eq!(rt; answers, (false, false), "{name} {place}");
+            }
+            outcome.history[place] = own;
+            tried = tried.saturating_add(1);
+        }
+        if let Some(last) = outcome.history.pop() {
+            let answers = verdicts(rt.alloc(), &outcome)?;
+            assert_eq!(rt; answers, (false, false), "{name} without its last entry");
+            outcome.history.push(last)?;
+            outcome.history.push(last)?;
+            let answers = verdicts(rt.alloc(), &outcome)?;
+            assert_eq!(rt; answers, (false, false), "{name} with an entry twice");
+        }
+    }
+    assert_eq!(rt; tried, 36);
+    Ok(())
+}
