@@ -141,11 +141,12 @@ def is_built(name):
     return (built / f'{name}.rlib').exists() and all(it.stat().st_mtime <= built.stat().st_mtime for it in sources)
 
 
-def command_of(name, crates):
-    """The prover's command for a crate, over the kit's libraries and the proved ones of the repository."""
+def command_of(name, crates, proved):
+    """The prover's command for a crate, over the kit's libraries and the repository's, copied from where they were
+    proved to this folder."""
     libraries = [f'{it}={KIT}/rlibs/{it}.rlib' for it in ['std', *crates[name]] if it not in crates]
-    libraries += [f'{it}={TOP}/crates/{it}/out/rlib/{it}.rlib' for it in crates[name] if it in crates]
-    folders = [f'{KIT}/rlibs', *[f'{TOP}/crates/{it}/out/rlib' for it in below(name, crates)]]
+    libraries += [f'{it}={proved}/{it}/{it}.rlib' for it in crates[name] if it in crates]
+    folders = [f'{KIT}/rlibs', *[f'{proved}/{it}' for it in below(name, crates)]]
     return [f'{KIT}/bin/rattle', 'check', '--crate-name', name, 'src/lib.rt', '--jobs', '1',
             *[word for it in libraries for word in ('--extern', it)],
             *[word for it in folders for word in ('-L', f'dependency={it}')],
@@ -278,7 +279,8 @@ def try_round(name, members, status, said, again):
     functions a second check refused, without answers that do not fit."""
     if status not in (0, 1):
         ended = f'with status {status}' if status is not None else f'not within {LIMIT} s'
-        return members, [f'{name}/{it.name}.edit: the check ended {ended}' for it in members], 0
+        last = ''.join(f'\n    {line}' for line in said.splitlines()[-3:])
+        return members, [f'{name}/{it.name}.edit: the check ended {ended}{last}' for it in members], 0
     told, faults = told_by(name, said), []
     more = with_more(told, name, members, again)
     not_refused = {it.name: [function for function in it.refused
@@ -295,9 +297,9 @@ def try_round(name, members, status, said, again):
     return tried, faults, more
 
 
-def try_crate(name, crates):
-    """Tries a crate's edits: how many there are, how many functions were refused without an answer that did not fit,
-    and what is wrong."""
+def try_crate(name, crates, proved):
+    """Tries a crate's edits over the libraries in this folder: how many there are, how many functions were refused
+    without an answer that did not fit, and what is wrong."""
     crate = TOP / 'crates' / name
     edits, faults, more = [], [], 0
     for path in sorted((crate / 'edits').glob('*')):
@@ -307,7 +309,7 @@ def try_crate(name, crates):
             edits.append(edit)
         except BadEdit as bad:
             faults.append(f'{name}/{path.name}: bad edit: {bad}')
-    command, left = command_of(name, crates), edits
+    command, left = command_of(name, crates, proved), edits
     with tempfile.TemporaryDirectory(prefix='edits-') as room:
         kept = crate / 'out' / 'incremental'
         shutil.copytree(kept, f'{room}/kept') if kept.is_dir() else os.mkdir(f'{room}/kept')
@@ -336,8 +338,11 @@ def main():
     passed, failed = 0, 0
     if not all(is_built(it) for name in chosen for it in below(name, crates)):
         subprocess.run(['rt', 'all', 'check'], cwd=TOP, stdin=subprocess.DEVNULL, stdout=subprocess.DEVNULL, check=True)
-    with ThreadPoolExecutor(given.jobs) as pool:
-        tried = {it: pool.submit(try_crate, it, crates) for it in sorted(chosen, key=lambda it: -size[it])}
+    with tempfile.TemporaryDirectory(prefix='proved-') as proved, ThreadPoolExecutor(given.jobs) as pool:
+        # What is built beside this may make a library anew, and a library fits those alone that it was made with.
+        for library in {it for name in chosen for it in below(name, crates)}:
+            shutil.copytree(TOP / 'crates' / library / 'out' / 'rlib', Path(proved) / library)
+        tried = {it: pool.submit(try_crate, it, crates, proved) for it in sorted(chosen, key=lambda it: -size[it])}
         for name in chosen:
             edits, more, faults = tried[name].result()
             print(f'{name}: {edits} edits; {more} functions were refused without an answer that did not fit', *faults,

@@ -111,6 +111,7 @@ def cases():
     for status in (2, 3, -9, None):
         wrong = '\n'.join(faults(REFUSED['a goal of what the function ensures'], status))
         yield f'a check that ends with {status} refuses nothing', 'low/turned.edit: the check ended' in wrong
+    yield 'what such a check said last is told', 'no such library' in '\n'.join(faults('no such library', 2))
     yield 'an open goal that no edit turns is a fault', any(
         'low: a::g has open goals' in it for it in faults(f'{OPEN}\nfn low::a::g: {EXPECTED}`search` did not prove `returns`'))
     left = edits.without_answer(ANSWERS, 'returns-clause-at')

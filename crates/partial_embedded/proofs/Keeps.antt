@@ -197,9 +197,9 @@ module _ (indices : List ℕ) (p : Pair) (k x : ℕ) (w : GoTogether indices p) 
       either true e = borrowed
       either false e = on_from e (nat_lt (k + 1) (length indices)) refl
 
-neither : (a b : Bool) → (a || b) ≡ false → a ≡ false
-neither true b c = absurd (false≢true (sym c))
-neither false b c = refl
+pub neither : (a b : Bool) → (a || b) ≡ false → (a ≡ false) × (b ≡ false)
+neither true b e = absurd (false≢true (sym e))
+neither false b e = (refl, e)
 
 module _ (indices : List ℕ) (p : Pair) (x : ℕ) (w : GoTogether indices p) where
   -- the same buffers at a stage of which something is known
@@ -227,7 +227,7 @@ module _ (indices : List ℕ) (p : Pair) (x : ℕ) (w : GoTogether indices p) wh
       either : (b : Bool) → ((x == 0) || p.0.shares) ≡ b → Keeps indices p (record p.0 { view = x; stage = cond b Done (Len x) }, p.1)
       either true c = stays (View stamp) Done (record p.0 { view = x; stage = Done }) e refl refl refl tt (omega arith)
       either false c = stays (View stamp) (Len x) (record p.0 { view = x; stage = Len x }) e refl refl refl
-          (elim possible [ inl zero' ↦ absurd (false≢true (sym (neither (x == 0) p.0.shares c) ∙ eq-eqb x 0 zero')) | inr h ↦ h ]) (omega arith)
+          (elim possible [ inl zero' ↦ absurd (false≢true (sym (neither (x == 0) p.0.shares c).0 ∙ eq-eqb x 0 zero')) | inr h ↦ h ]) (omega arith)
 
   -- so many pairs left
   pairs_kept : (s : Stage) (rows : RowsState) (at left : ℕ) → p.0.stage ≡ s → IsFor p.0.sizes rows → pool_base p.0.sizes ≤ at → left ≤ p.0.sizes.m → at + 2 * left ≤ pool_end p.0.sizes →

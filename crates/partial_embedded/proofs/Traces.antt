@@ -11,7 +11,7 @@ use Rattle.partial_embedded.specs.declared.embedded.Stage.{Stage}
 use Rattle.partial_embedded.specs.declared.embedded.Stage.TheVariants.{Collect, View, Len, Index, PairValue, Value, Done}
 use Rattle.partial_embedded.specs.Embedded.{Pair, RowsState, GoTogether, goes_at, fresh, advance, advance_at, is_first, differs, was_changed, noted, borrow, go_on, after_collect, after_load, after_view, at_stage, with_value, pairs_from, IsPossibleAt}
 use Rattle.partial_embedded.specs.Runs.{Run, load_in, Changes, LastTwoAreEqual, ShowsThirdRecord, EndsInEqualCollectsOrAThirdRecord}
-use Rattle.partial_embedded.proofs.Keeps.{kept, fresh_together}
+use Rattle.partial_embedded.proofs.Keeps.{kept, fresh_together, neither}
 
 -- one answer more
 one_longer : (xs : List ℕ) (x : ℕ) → length (xs ++ x ∷ []) ≡ length xs + 1
@@ -81,10 +81,6 @@ is_same : (f e : Bool) → f ≡ false → (not f && not e) ≡ false → e ≡ 
 is_same false true f d = refl
 is_same false false f d = absurd (false≢true (sym d))
 is_same true e f d = absurd (false≢true (sym f))
-
-pub neither_first : (a b : Bool) → (a || b) ≡ false → (a ≡ false) × (b ≡ false)
-neither_first true b e = absurd (false≢true (sym e))
-neither_first false b e = (refl, e)
 
 one_of : (a b : Bool) → (a || b) ≡ true → (a ≡ true) ⊎ (b ≡ true)
 one_of true b e = inl refl
@@ -186,7 +182,7 @@ module _ (r : ℕ) (p : Pair) (k x : ℕ) (xs : List ℕ) (t : Traced r p k xs) 
 
   unmoved_next : (b : ℕ) → t.c ≡ b + 1 → (noted p k x).0.moved ≡ false → (i : ℕ) → i < k + 1 → load_in r (xs ++ x ∷ []) t.c i ≡ load_in r (xs ++ x ∷ []) b i
   unmoved_next b later still i below =
-      let both = neither_first p.0.moved (differs p k x) still in
+      let both = neither p.0.moved (differs p k x) still in
       elim (eqb_tells i k) [
         | inl e ↦
             let same : get_or p.1.last k 0 ≡ x = eqb-true (get_or p.1.last k 0) x (is_same (is_first p) (get_or p.1.last k 0 == x) (first_is b later) both.1) in
@@ -236,7 +232,7 @@ again_traced r q k xs last t =
 -- a whole collect that was not the first and has shown no change: it equals the one before
 still_equal : (r : ℕ) (q : Pair) (k : ℕ) (xs : List ℕ) → r ≡ k + 1 → Traced r q (k + 1) xs → (is_first q || q.0.moved) ≡ false → LastTwoAreEqual r xs q.0.collects
 still_equal r q k xs last t e =
-    let both = neither_first (is_first q) q.0.moved e in
+    let both = neither (is_first q) q.0.moved e in
     let collects = t.collects in
     let not_one = eqb-false q.0.collects 1 both.0 in
     let later : t.c ≡ t.c - 1 + 1 = omega (arith, collects, not_one) in

@@ -25,7 +25,7 @@ use Rattle.partial_state.specs.Loads.{Kept, IsLoaded}
 use Rattle.partial_knowledge.specs.Sets.{IsReadable}
 use Rattle.partial_knowledge.specs.Scans.{HasEntry, IsLatest, IsCollecting, HasValues, Agreed, IsThird, HasLoaded, Loads, knows_at, Knows, EmbeddedScansKnow}
 use Rattle.partial_knowledge.proofs.Chains.{newer, begun_since, begun_within, stamp_within, standing, standing_word, IsStanding, apart_part}
-use Rattle.partial_embedded.proofs.Traces.{neither_first}
+use Rattle.partial_embedded.proofs.Keeps.{neither}
 use Rattle.partial_model.proofs.Values.{element_at}
 use Rattle.partial_model.proofs.NotesLemmas.{AllByRecursion-get}
 
@@ -148,7 +148,7 @@ module _ (o : Opening) (words : List ℕ) (hs : List Holding) (log : List Applie
 
     noted_same : is_first p ≡ false → (p.0.moved || differs p k x) ≡ false → (i : ℕ) → i < k + 1 → slice_index (noted p k x).1.last i ≡ stamp_of o (take knows.middle log) (slice_index indices i)
     noted_same first unmoved i lt =
-        let both = neither_first p.0.moved (differs p k x) unmoved in
+        let both = neither p.0.moved (differs p k x) unmoved in
         elim (eqb_tells i k) [
           | inl e ↦
               let b = knows.before first k (omega arith) here in
@@ -245,7 +245,7 @@ module _ (o : Opening) (words : List ℕ) (hs : List Holding) (log : List Applie
     whole_collect last = cond_both (is_first p || (p.0.moved || differs p k x)) (record (noted p k x).0 { collects = p.0.collects + 1; moved = false; stage = Collect 0 }, (noted p k x).1)
         (at_stage (noted p k x) (Value 0)) (λ q. Known t q)
         (λ e. collects_again last)
-        (λ e. let neither = neither_first (is_first p) (p.0.moved || differs p k x) e in agreed last neither.0 neither.1)
+        (λ e. let none = neither (is_first p) (p.0.moved || differs p k x) e in agreed last none.0 none.1)
 
     pub step_collect : Known t (after_load (length indices) p k x)
     step_collect = cond_both (differs p k x && was_changed p k) (borrow p x) (go_on (length indices) (noted p k x) k) (λ q. Known t q)
@@ -321,7 +321,7 @@ module _ (o : Opening) (words : List ℕ) (hs : List Holding) (log : List Applie
         λ s borrowed shares. subst (λ n. Loads p.0.sizes o words hs log indices low (record p.0 { view = x; stage = Done }, p.1) 0) (one_stamp stamp s third.borrowed borrowed)
             (empty (nothing e shares)),
       ))
-      (λ e. let neither = neither_first (x == 0) p.0.shares e in (stamp, third_on stamp (record p.0 { view = x; stage = Len x }, p.1) refl refl third, is, is, eqb-false x 0 neither.0, neither.1))
+      (λ e. let none = neither (x == 0) p.0.shares e in (stamp, third_on stamp (record p.0 { view = x; stage = Len x }, p.1) refl refl third, is, is, eqb-false x 0 none.0, none.1))
     where
       nothing : ((x == 0) || p.0.shares) ≡ true → p.0.shares ≡ false → x ≡ 0
       nothing e shares = elim (or_cases (x == 0) p.0.shares e) [ inl zero_is ↦ eqb-true x 0 zero_is | inr shared ↦ absurd (false≢true (sym shares ∙ shared)) ]

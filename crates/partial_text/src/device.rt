@@ -1,16 +1,17 @@
-//! A reader or a writer that remembers whether it has failed.
+//! A reader or a writer that remembers whether it has failed, and counts its reads.
 
-ghost use Rattle.std.specs.Prelude.{◌≡◌, ℕ, ◌≤◌, ◌<◌, true, false, length, take, Some, None, IfSome, IfNone, IsNone, MatchOption};
+ghost use Rattle.std.specs.Prelude.{◌≡◌, ℕ, ◌+◌, ◌-◌, ◌^◌, ◌≤◌, ◌<◌, min, true, false, length, take, Some, None, IfSome, IfNone, IsNone, MatchOption};
 ghost use Rattle.std.specs.Io.KnownBytes.{Keeps, Appends, Consumes, IsAtEnd};
 
 use std::io::{Read, Write};
 use std::marker::Model;
 
-/// A reader or a writer, and whether one of its calls has failed.
+/// A reader or a writer, whether one of its calls has failed, and how many reads it was asked for.
 #[derive(Drop)]
 pub struct Device<D> {
     inner: D,
     failed: bool,
+    reads: u64,
 }
 
 impl<D> Model for Device<D> {
@@ -18,17 +19,18 @@ impl<D> Model for Device<D> {
 
     ghost Value = { DeviceView D };
 
-    ghost view = { λ d. record { inner = d.inner; failed = d.failed } };
+    ghost view = { λ d. record { inner = d.inner; failed = d.failed; reads = d.reads } };
 }
 
 impl<D> Device<D> {
     /// Wraps a reader or a writer. None of its calls counts as failed.
     pub fn new(inner: D) -> Device<D>
-        ensures { result ≡ record { inner = inner; failed = false } }
+        ensures { result ≡ record { inner = inner; failed = false; reads = 0 } }
     {
         Device {
             inner,
             failed: false,
+            reads: 0,
         }
     }
 
@@ -38,6 +40,14 @@ impl<D> Device<D> {
     {
         let Device { failed, .. } = self;
         *failed
+    }
+
+    /// How many reads the inner device was asked for, failed ones included. The count stays at 2^64 - 1.
+    pub fn reads(&self) -> u64
+        ensures { result ≡ self.now.reads }
+    {
+        let Device { reads, .. } = self;
+        *reads
     }
 
     /// Returns the inner device.
@@ -57,7 +67,9 @@ impl<R: Read> Device<R> {
             (λ n. (n ≤ length buffer.new) × (self.new.failed ≡ self.old.failed)
             × Consumes (R.remaining self.old.inner) (R.remaining self.new.inner) (take n buffer.new)
             × (n ≡ 0 → IsAtEnd (R.remaining self.new.inner))) }
+        ensures counted { self.new.reads ≡ min (self.old.reads + 1) (2 ^ 64 - 1) }
     {
+        self.reads = self.reads.saturating_add(1);
         match self.inner.read(buffer) {
             Ok(count) => Some(count),
             Err(_) => {

@@ -1,6 +1,6 @@
 //! Reading a plan.
 
-ghost use Rattle.std.specs.Prelude.{◌≡◌, ◌≤◌, ◌↔◌, ◌<◌, true, false, length, IfOk, IfSome, IfErr, IsErrOf};
+ghost use Rattle.std.specs.Prelude.{◌≡◌, ◌+◌, ◌≤◌, ◌↔◌, ◌<◌, true, false, length, IfOk, IfSome, IfErr, IsErrOf};
 ghost use Rattle.std.specs.Io.KnownBytes.{Consumes, IsAtEnd};
 ghost use Rattle.partial_text.specs.Fault.{Gives, IsReaderFault};
 ghost use Rattle.partial_text.specs.PlanText.{PlanView, IsPlan, plan_text};
@@ -49,6 +49,7 @@ fn read_text<R: Read>(alloc: Global, reader: &mut Device<R>) -> Result<Vec<u8>, 
         (λ text. Consumes (R.remaining reader.old.inner) (R.remaining reader.new.inner) text.items) }
     ensures end { IfOk result
         (λ text. length text.items ≤ 4194304 → IsAtEnd (R.remaining reader.new.inner)) }
+    ensures reads { reader.new.reads ≤ reader.old.reads + 4194306 }
 {
     let mut text = Vec::new(alloc);
     let mut chunk = [0u8; 8192];
@@ -80,7 +81,7 @@ impl Plan {
     ///
     /// The first fault of the text, when it isn't the text of a plan: a size out of its range, not 1 to 64
     /// ports, or a line with its cause. `Memory` when an allocation was refused, and `Read` when the reader
-    /// failed. It stops reading when it holds more than 4,194,304 bytes.
+    /// failed. It stops reading when it holds more than 4,194,304 bytes, and makes at most 4,194,306 reads.
     pub fn read<R: Read>(alloc: Global, reader: &mut Device<R>) -> Result<Plan, PlanError>
         requires { reader.old.failed ≡ false }
         ensures fault { IsErrOf result PlanError.Read ↔ (reader.new.failed ≡ true) }
@@ -94,6 +95,7 @@ impl Plan {
         ensures exact { reader.new.failed ≡ false → IfSome (R.remaining reader.old.inner)
             (λ bytes. Gives (λ q. q) result (judged bytes)) }
         ensures lawful { IfOk result IsPlan }
+        ensures reads { reader.new.reads ≤ reader.old.reads + 4194306 }
     {
         let text = read_text(alloc, reader)?;
         plan_of(alloc, &text)

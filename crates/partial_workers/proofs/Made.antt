@@ -20,7 +20,7 @@ use Rattle.partial_memory.specs.Calls.{Scans}
 use Rattle.partial_memory.proofs.Laws.{refusals_at_once_fit}
 use Rattle.partial_workers.specs.declared.end.Until.{Until}
 use Rattle.partial_workers.specs.declared.end.Until.TheVariants.{Made, Spent}
-use Rattle.partial_workers.specs.Answered.{AreUnspent}
+use Rattle.partial_workers.specs.Answered.{AreUnspent, IsMarked, IsSpent}
 use Rattle.partial_workers.specs.Work.{AreMade, Fills, HasMade, IsMade, IsUnnoted}
 
 -- a call that was refused may have been, and the port's notes are the same
@@ -39,6 +39,14 @@ made_refused p q c cause (inr late) =
       answer = refl;
       notes = inr (inl (cause, refl, refl, late.may), late.goes.notes ∙ append-nil p.notes);
     }
+
+-- a port is marked behind a call that was refused for the pool or the slots
+pub refused_marks : (p q : PortView) (c : Call) (cause : Refused) → IsRefused p c cause q → IsSpent (answer.Refused cause) → IsMarked q
+refused_marks p q c refused.Component w spent = absurd spent
+refused_marks p q c refused.PoolSpent (inl now) spent = inl (ap (λ (v : PortView). v.pool_spent) now.1 ∙ (refusals_at_once_fit p c refused.PoolSpent now.0).1)
+refused_marks p q c refused.PoolSpent (inr late) spent = inl late.pool
+refused_marks p q c refused.SlotsSpent (inl now) spent = inr (ap (λ (v : PortView). v.slots_spent) now.1 ∙ (refusals_at_once_fit p c refused.SlotsSpent now.0).1)
+refused_marks p q c refused.SlotsSpent (inr late) spent = inr late.slots
 
 -- a call that was answered is noted
 pub made_answered : (m : ℕ) (p q : PortView) (c : Call) (a : Answer) (n : Note) → Answered p q c a n → IsMade m p c a q
@@ -108,9 +116,9 @@ made_same m cs given p q had same =
 
 -- a port that has made the first ones of its calls
 pub has_made : (m : ℕ) (u : Until) (calls : List Call) (given : List Answer) (p q : PortView) → AreMade m (take (length given) calls) given p → q.notes ≡ p.notes →
-    (u ≡ Made → length given ≡ length calls) → (u ≡ Spent → AreUnspent given) → HasMade m u calls given q
-has_made m u calls given p q had same whole unspent =
-    record { firsts = made_same m (take (length given) calls) given p q had same; whole = whole; unspent = unspent }
+    (u ≡ Made → length given ≡ length calls) → (u ≡ Spent → AreUnspent given) → (length given < length calls → IsMarked q) → HasMade m u calls given q
+has_made m u calls given p q had same whole unspent cut =
+    record { firsts = made_same m (take (length given) calls) given p q had same; whole = whole; unspent = unspent; cut = cut }
 
 pub not_both : (u : Until) (n k : ℕ) → u ≡ Spent → u ≡ Made → n ≡ k
 not_both u n k spent made = cc

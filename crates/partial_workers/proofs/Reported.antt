@@ -20,13 +20,14 @@ use Rattle.partial_model.proofs.WalkLaws.{true_within}
 use Rattle.partial_memory.specs.Ports.{IsOf, MemoryView, PortView, new_ports}
 use Rattle.partial_memory.specs.Rule.{newcomers}
 use Rattle.partial_memory.specs.Closing.{Closes, IsPortOf}
+use Rattle.partial_memory.specs.Lawfulness.{ClosesLawfully}
 use Rattle.partial_memory.specs.declared.closed.Closed.{Closed}
 use Rattle.partial_workers.specs.declared.worker.Worked.{Worked}
 use Rattle.partial_workers.specs.declared.workers.Results.{Results}
 use Rattle.partial_workers.specs.declared.end.Until.{Until}
 use Rattle.partial_workers.specs.declared.end.Until.TheVariants.{Made, Spent}
 use Rattle.partial_workers.specs.Answered.{AreAnswered, AreEach, AreMakable, AreRight, AreUnspent, IsRun, IsWithin, first_calls}
-use Rattle.partial_workers.specs.Work.{Fills, HaveCome, IsDone, IsNew, IsOpenedFor, IsUnnoted, WasEmpty, WasRefused}
+use Rattle.partial_workers.specs.Work.{AreMarked, Fills, HaveCome, IsCut, IsDone, IsNew, IsOpenedFor, IsUnnoted, WasEmpty, WasRefused}
 use Rattle.partial_workers.proofs.Made.{unnoted_seen}
 use Rattle.partial_workers.proofs.Pairs.{each_length}
 
@@ -163,6 +164,26 @@ ran m u plan fresh r rest last closed opened come is w =
       unspent = λ spent. each_unspent m 0 plan come.done (subst (λ (t : Until). AreEach (IsDone m t) 0 plan come.done) spent come.each);
     } in
     subst (λ (l : List (Vec Answer Global)). IsRun u o plan l closed.values.items) come.answers run
+
+-- a port that lacks an answer is marked
+each_cut : (m : MemoryView) (u : Until) (port : ℕ) (plan : List (List Call)) (done : List Worked) → AreEach (IsDone m u) port plan done → AreEach IsCut port plan done
+each_cut m u port [] [] each = tt
+each_cut m u port [] (w ∷ done) each = absurd each
+each_cut m u port (calls ∷ plan) [] each = absurd each
+each_cut m u port (calls ∷ plan) (w ∷ done) each = ((each.0.number, each.0.made.cut), each_cut m u (port + 1) plan done each.1)
+
+pub marked : (m : MemoryView) (u : Until) (plan : List (List Call)) (r : Results) (rest : List PortView) (last : PortView) (closed : Closed) → HaveCome m u plan r → r.ports.items ≡ rest ++ last ∷ [] →
+    ClosesLawfully m (last ∷ rest) closed → AreMarked m plan r.answers.items closed
+marked m u plan r rest last closed come is w =
+    record {
+      done = come.done;
+      given = come.answers;
+      front = rest;
+      last = last;
+      ports = come.ports ∙ is;
+      lawful = w;
+      each = each_cut m u 0 plan come.done come.each;
+    }
 
 -- ---- the ports of a memory that was opened for calls
 

@@ -1,5 +1,5 @@
 -- What the answers of all ports say: there is one history in which they are right.
-use Rattle.std.specs.Prelude.{ℕ, ◌≡◌, ◌+◌, ◌<◌, ◌≤◌, ◌^◌, ⊤, List, [], ◌∷◌, length, map, take}
+use Rattle.std.specs.Prelude.{ℕ, ◌≡◌, ◌+◌, ◌<◌, ◌≤◌, ◌^◌, ◌⊎◌, ⊤, true, List, [], ◌∷◌, length, map, take}
 use Rattle.std.specs.List.{AllByRecursion}
 use Rattle.std.specs.declared.alloc.Global.{Global}
 use Rattle.std.specs.declared.vec.Vec.{Vec}
@@ -14,6 +14,7 @@ use Rattle.partial_model.specs.History.{IsHistory}
 use Rattle.partial_model.specs.Notes.{Noted, LegalNotes}
 use Rattle.partial_model.specs.Outcome.{EachOnce}
 use Rattle.partial_memory.specs.Closing.{AreValues}
+use Rattle.partial_memory.specs.Ports.{PortView}
 use Rattle.partial_workers.specs.declared.end.Until.{Until}
 use Rattle.partial_workers.specs.declared.end.Until.TheVariants.{Made, Spent}
 
@@ -37,6 +38,10 @@ abbrev pub IsSpent : Answer → Type 0
 IsSpent (answer.Refused refused.PoolSpent) = ⊤
 IsSpent (answer.Refused refused.SlotsSpent) = ⊤
 IsSpent _ = ⊥
+
+-- the port is marked for the pool or the slots
+abbrev pub IsMarked : PortView → Type 0
+IsMarked p = (p.pool_spent ≡ true) ⊎ (p.slots_spent ≡ true)
 
 -- none of the calls was
 abbrev pub AreUnspent : List Answer → Type 0

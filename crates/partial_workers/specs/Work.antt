@@ -2,6 +2,8 @@
 use Rattle.std.specs.Prelude.{ℕ, ◌≡◌, ◌++◌, ◌<◌, ◌≤◌, ◌^◌, ◌⊎◌, List, [], ◌∷◌, length, map, take, Some, None}
 use Rattle.std.specs.List.{AllByRecursion}
 use Rattle.std.specs.Vec.{vec_capacity}
+use Rattle.std.specs.declared.alloc.Global.{Global}
+use Rattle.std.specs.declared.vec.Vec.{Vec}
 use Rattle.std.specs.declared.thread.PromisedHandle.{PromisedHandle}
 use Rattle.partial_model.specs.declared.call.Call.{Call}
 use Rattle.partial_model.specs.declared.call.Call.TheVariants as call
@@ -11,7 +13,9 @@ use Rattle.partial_model.specs.declared.call.Note.TheVariants as note
 use Rattle.partial_model.specs.declared.call.Refused.{Refused}
 use Rattle.partial_model.specs.Notes.{Noted, MayBeRefused, seen_after, seen_by}
 use Rattle.partial_memory.specs.Ports.{IsOf, MemoryView, PortView, new_ports}
+use Rattle.partial_memory.specs.Lawfulness.{ClosesLawfully}
 use Rattle.partial_memory.specs.Rule.{newcomers}
+use Rattle.partial_memory.specs.declared.closed.Closed.{Closed}
 use Rattle.partial_workers.specs.declared.worker.Job.{Job}
 use Rattle.partial_workers.specs.declared.worker.Worked.{Worked}
 use Rattle.partial_workers.specs.declared.worker.Worker.{Worker}
@@ -19,7 +23,7 @@ use Rattle.partial_workers.specs.declared.workers.Works.{Works}
 use Rattle.partial_workers.specs.declared.workers.Results.{Results}
 use Rattle.partial_workers.specs.declared.end.Until.{Until}
 use Rattle.partial_workers.specs.declared.end.Until.TheVariants.{Made, Spent}
-use Rattle.partial_workers.specs.Answered.{AreEach, AreUnspent, IsWithin}
+use Rattle.partial_workers.specs.Answered.{AreEach, AreUnspent, IsMarked, IsWithin}
 
 -- the call was refused for a cause for which it may be
 abbrev pub WasRefused : ℕ → Noted → Type 0
@@ -54,12 +58,13 @@ pub record AreMade (m : ℕ) (made : List Call) (given : List Answer) (q : PortV
   pub answers : map (λ n. n.answer) all ≡ given
   pub fills : Fills m 0 q.notes all
 
--- A port has made the first ones of these calls, as many as there are answers: all of them where they were to be made, and none that was
--- refused for the pool or the slots where it was to end with one.
+-- A port has made the first ones of these calls, as many as there are answers: all of them when they were to be made, and none that was
+-- refused for the pool or the slots when it was to end with one. When an answer is missing, the port is marked.
 pub record HasMade (m : ℕ) (until : Until) (calls : List Call) (given : List Answer) (q : PortView) : Type 0 where
   pub firsts : AreMade m (take (length given) calls) given q
   pub whole : until ≡ Made → length given ≡ length calls
   pub unspent : until ≡ Spent → AreUnspent given
+  pub cut : length given < length calls → IsMarked q
 
 -- the values of a scan have room
 abbrev pub HasRoom : ℕ → Call → List ℕ → Type 0
@@ -116,6 +121,21 @@ pub record HaveCome (m : MemoryView) (until : Until) (calls : List (List Call)) 
   pub each : AreEach (IsDone m until) 0 calls done
   pub ports : map (λ w. w.port) done ≡ r.ports.items
   pub answers : map (λ w. w.answers) done ≡ r.answers.items
+
+-- the port with this number lacks an answer only when it is marked
+abbrev pub IsCut : ℕ → List Call → Worked → Type 0
+IsCut port calls w = (w.port.number ≡ port) × (length w.answers.items < length calls → IsMarked w.port)
+
+-- The memory was closed lawfully with the ports that have these answers, one port for each list of calls. Each of them that lacks an
+-- answer is marked.
+pub record AreMarked (m : MemoryView) (calls : List (List Call)) (answers : List (Vec Answer Global)) (closed : Closed) : Type 0 where
+  pub done : List Worked
+  pub given : map (λ w. w.answers) done ≡ answers
+  pub front : List PortView
+  pub last : PortView
+  pub ports : map (λ w. w.port) done ≡ front ++ last ∷ []
+  pub lawful : ClosesLawfully m (last ∷ front) closed
+  pub each : AreEach IsCut 0 calls done
 
 -- the memory was opened for these calls: with these ports, one for each list of calls, and with a value for each component
 pub record IsOpenedFor (m : MemoryView) (calls : List (List Call)) (fresh : List PortView) : Type 0 where

@@ -4,10 +4,10 @@ ghost use Rattle.std.specs.Prelude.{◌≡◌, ◌<◌, ◌^◌, ◌≤◌, [], 
 ghost use Rattle.std.specs.List.{AllByRecursion};
 ghost use Rattle.std.specs.Vec.{vec_capacity};
 ghost use Rattle.partial_memory.specs.Ports.{IsOf};
-ghost use Rattle.partial_workers.specs.Answered.{IsSpent};
+ghost use Rattle.partial_workers.specs.Answered.{IsMarked, IsSpent};
 ghost use Rattle.partial_workers.specs.Work.{HasMade, HasRoom, IsMade, IsReady, calls_of};
 
-use crate::end::End;
+use crate::end::Until;
 use crate::gate::Gate;
 use partial_memory::{Memory, Port, Scanned, Updated, UpdatedIf};
 use partial_model::{Answer, Call, Sequence};
@@ -35,13 +35,13 @@ pub struct Worked {
 }
 
 impl Worker<'_> {
-    /// Makes the calls in order until the run ends, and passes the gate before and after each.
-    pub fn work<G: Gate>(self, memory: &Memory, gate: &G, end: &End) -> Worked
+    /// Makes the calls in order until one of them ends the work, and passes the gate before and after each.
+    pub fn work<G: Gate>(self, memory: &Memory, gate: &G, until: Until) -> Worked
         requires own { IsOf memory.now self.port }
         requires ready { IsReady memory.now.about.sizes.m self }
         ensures own { IsOf memory.now result.port }
         ensures number { result.port.number ≡ self.entry.port.number }
-        ensures made { HasMade memory.now.about.sizes.m end.now.until
+        ensures made { HasMade memory.now.about.sizes.m until
             (calls_of self.entry.jobs.items) result.answers.items result.port }
     {
         let Worker {
@@ -50,14 +50,11 @@ impl Worker<'_> {
             mut answers,
         } = self;
         for job in jobs {
-            if end.has_come() {
-                break;
-            }
             let number = answers.len() as u32;
             gate.before(port.number(), number);
             let answer = make(memory, &mut port, job.call, job.room);
             gate.after(port.number(), number);
-            if end.comes_with(&answer) {
+            if until.ends_with(&answer) {
                 break;
             }
             answers.push_reserved(answer);
@@ -74,6 +71,7 @@ fn make(memory: &Memory, port: &mut Port, call: &Call, mut room: Vec<u64>) -> An
     ensures number { port.new.number ≡ port.old.number }
     ensures made { IsMade memory.now.about.sizes.m port.old call.now result port.new }
     ensures spent { IsSpent result → port.new.notes ≡ port.old.notes }
+    ensures marked { IsSpent result → IsMarked port.new }
 {
     match call {
         Call::Update { component, value } => match memory.update(port, *component, *value) {

@@ -6,9 +6,9 @@ ghost use Rattle.partial_model.specs.declared.call.Call.{Call as CallType};
 ghost use Rattle.partial_memory.specs.Ports.{IsOf, MemoryView};
 ghost use Rattle.partial_workers.specs.declared.end.Until.{Until as UntilType};
 ghost use Rattle.partial_workers.specs.Answered.{AreEach, AreMakable, IsRun, IsWithin};
-ghost use Rattle.partial_workers.specs.Work.{HasRoom, HaveCome, HaveRooms, IsDone, IsHired, IsNew, IsOpenedFor, IsReady, IsStarted, calls_of};
+ghost use Rattle.partial_workers.specs.Work.{AreMarked, HasRoom, HaveCome, HaveRooms, IsDone, IsHired, IsNew, IsOpenedFor, IsReady, IsStarted, calls_of};
 
-use crate::end::{End, Until};
+use crate::end::Until;
 use crate::error::RunError;
 use crate::gate::Gate;
 use crate::worker::{Job, Worked, Worker};
@@ -99,11 +99,11 @@ fn start<'s, 'e, G: Gate>(
     memory: &'s Memory,
     calls: &'s [&'s [Call]],
     gate: &'s G,
-    end: &'s End,
+    until: Until,
     workers: Vec<Worker<'s>>,
 ) -> Result<Vec<PromisedHandle<Worked, Works<'s>>>, AllocError>
     requires { AreEach (IsHired memory.now) 0 (map (λ c. c.now) calls.now) workers.items }
-    ensures { IfOk result (λ handles. AreEach (IsStarted memory.now end.now.until) 0
+    ensures { IfOk result (λ handles. AreEach (IsStarted memory.now until) 0
         (map (λ c. c.now) calls.now) handles.items) }
 {
     let mut started = Vec::with_capacity(alloc, calls.len())?;
@@ -112,14 +112,14 @@ fn start<'s, 'e, G: Gate>(
         let promise = Works {
             memory: Snapshot::of(memory),
             port,
-            until: end.until(),
+            until,
             calls: Snapshot::of(&calls[port as usize]),
         };
         let work = move || -> Worked
             requires { IsOf memory.now worker.port × IsReady memory.now.about.sizes.m worker }
-            ensures { IsDone memory.entry.now end.entry.now.until worker.entry.port.number
+            ensures { IsDone memory.entry.now until worker.entry.port.number
                 (calls_of worker.entry.jobs.items) result }
-        { worker.work(memory, gate, end) };
+        { worker.work(memory, gate, until) };
         started.push_reserved(scope.spawn_with(promise, work)?);
     }
     Ok(started)
@@ -169,7 +169,8 @@ pub struct Ran {
 /// passes the gate before and after each.
 ///
 /// With [`Until::Made`] each port has one answer for each of its calls. With [`Until::Spent`] it has those of the
-/// first ones, and none of them was refused for the pool or the slots.
+/// first ones, and none of them was refused for the pool or the slots. A port that lacks an answer was marked for
+/// the pool or the slots when the memory was closed.
 ///
 /// All memory but that of closing is taken before the first worker starts.
 ///
@@ -188,8 +189,9 @@ pub fn run_on<'c, R: Threads + Wait + Sync, G: Gate>(
 ) -> Result<Ran, RunError>
     requires opened { IsOpenedFor memory (map (λ c. c.now) calls.now) ports.items }
     requires makable { AreMakable memory.about.sizes.m (map (λ c. c.now) calls.now) }
-    ensures { IfOk result (λ ran. IsRun until memory.about.opening (map (λ c. c.now) calls.now) ran.answers.items
+    ensures ran { IfOk result (λ ran. IsRun until memory.about.opening (map (λ c. c.now) calls.now) ran.answers.items
         ran.closed.values.items) }
+    ensures marked { IfOk result (λ ran. AreMarked memory (map (λ c. c.now) calls.now) ran.answers.items ran.closed) }
 {
     let count = calls.len();
     let workers = hire(alloc, &memory, calls, ports)?;
@@ -198,7 +200,6 @@ pub fn run_on<'c, R: Threads + Wait + Sync, G: Gate>(
         answers: Vec::with_capacity(alloc, count)?,
     };
     let lent = &memory;
-    let end = &End::new(until);
     let Results { mut ports, answers } = thread::scope(
         thread::scope_env(),
         rt,
@@ -207,9 +208,9 @@ pub fn run_on<'c, R: Threads + Wait + Sync, G: Gate>(
             requires empty { (results.ports.items ≡ []) × (results.answers.items ≡ []) }
             requires ports { length calls.now ≤ vec_capacity results.ports }
             requires answers { length calls.now ≤ vec_capacity results.answers }
-            ensures { IfOk result (HaveCome lent.entry.now end.entry.now.until (map (λ c. c.now) calls.entry.now)) }
+            ensures { IfOk result (HaveCome lent.entry.now until (map (λ c. c.now) calls.entry.now)) }
         {
-            let started = start(scope, alloc, lent, calls, gate, end, workers)?;
+            let started = start(scope, alloc, lent, calls, gate, until, workers)?;
             Ok(join(rt, started, results))
         },
     )?;

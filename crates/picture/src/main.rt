@@ -18,7 +18,10 @@ fn main(rt: HostRuntime) -> ExitCode {
     match run(&rt) {
         Ok(()) => ExitCode::SUCCESS,
         Err(stop) => {
-            let _unwritten = eprintln!(rt; "picture: {stop}");
+            let _unwritten = match &stop {
+                Stop::Words(error) => error.print(&rt),
+                _ => eprintln!(rt; "picture: {stop}"),
+            };
             ExitCode::from(stop.status())
         }
     }

@@ -8,7 +8,7 @@ use std::alloc::Global;
 /// What the arguments ask for.
 #[derive(Clone, Copy, Debug)]
 pub struct Request<'a> {
-    /// The path of the plan. Without one the plan comes from standard input.
+    /// The path of the plan. Without one, or with `-`, the plan comes from standard input.
     pub plan: Option<&'a str>,
     /// The form of the picture.
     pub form: Form,
@@ -17,21 +17,30 @@ pub struct Request<'a> {
 }
 
 /// An option without a value.
-fn flag(alloc: Global, name: &str) -> Arg<'_> {
-    Arg::new(alloc, name).long(name).action(ArgAction::SetTrue)
+fn flag<'a>(alloc: Global, name: &'a str, help: &'a str) -> Arg<'a> {
+    Arg::new(alloc, name)
+        .long(name)
+        .action(ArgAction::SetTrue)
+        .help(help)
 }
 
 /// The arguments that the program takes: `[PLAN] [--window A B] [--words] [--text]`.
 fn command<'a>(alloc: Global) -> Result<Command<'a>, Error> {
+    let plan = Arg::new(alloc, "plan").help("The file of the plan; standard input without it, or with -");
     let window = Arg::new(alloc, "window")
         .long("window")
         .action(ArgAction::Set)
-        .num_args(2);
+        .num_args(2)
+        .value_name("STEP")
+        .help("Draws the steps from the first of these two numbers to the second alone");
+    let words = flag(alloc, "words", "Draws the words of the memory below the ports");
+    let text = flag(alloc, "text", "Writes the steps as a table in place of a drawing").conflicts_with("words")?;
     let picture = Command::new(alloc, "picture")
-        .arg(Arg::new(alloc, "plan"))?
+        .about("Draws the replay of a plan as SVG, to standard output")
+        .arg(plan)?
         .arg(window)?
-        .arg(flag(alloc, "words"))?
-        .arg(flag(alloc, "text"))?;
+        .arg(words)?
+        .arg(text)?;
     Ok(picture)
 }
 
@@ -40,10 +49,10 @@ fn window_of(matches: &ArgMatches<'_>) -> Result<Window, Stop> {
     match matches.get_strs("window") {
         None => Ok(Window::Whole),
         Some([first, last]) => Ok(Window::Steps {
-            first: first.parse().map_err(|_| Stop::Usage)?,
-            last: last.parse().map_err(|_| Stop::Usage)?,
+            first: first.parse().map_err(|_| Stop::Window)?,
+            last: last.parse().map_err(|_| Stop::Window)?,
         }),
-        Some(_) => Err(Stop::Usage),
+        Some(_) => Err(Stop::Window),
     }
 }
 
@@ -51,17 +60,18 @@ fn window_of(matches: &ArgMatches<'_>) -> Result<Window, Stop> {
 ///
 /// # Errors
 ///
-/// `Usage` when the program doesn't take these arguments, when they ask for help, when a window isn't two
-/// numbers, or when both `--words` and `--text` are given.
+/// `Words` when the program doesn't take these arguments, both `--words` and `--text` among them, or when they
+/// ask for help. `Window` when a window isn't two numbers.
 pub fn request_of(alloc: Global, words: &[String]) -> Result<Request<'_>, Stop> {
     let matches = command(alloc)?.try_get_matches_from(words)?;
-    let form = match (matches.get_flag("text"), matches.get_flag("words")) {
-        (false, has_words) => Form::Drawing { has_words },
-        (true, false) => Form::Table,
-        (true, true) => return Err(Stop::Usage),
+    let form = match matches.get_flag("text") {
+        true => Form::Table,
+        false => Form::Drawing {
+            has_words: matches.get_flag("words"),
+        },
     };
     Ok(Request {
-        plan: matches.get_str("plan"),
+        plan: matches.get_str("plan").filter(|path| *path != "-"),
         form,
         window: window_of(&matches)?,
     })

@@ -10,7 +10,11 @@ use std::{fmt, io};
 #[derive(Debug, Drop)]
 pub enum Stop {
     /// The program doesn't take these arguments, or they ask for help.
-    Usage,
+    Words(Error),
+    /// The two values of `--window` aren't numbers of steps.
+    Window,
+    /// An argument isn't text.
+    NotText,
     /// The request was refused.
     Refused(Fault),
 }
@@ -19,7 +23,8 @@ impl Stop {
     /// The exit status.
     pub fn status(&self) -> u8 {
         match self {
-            Stop::Usage => 2,
+            Stop::Words(error) => error.exit_code() as u8,
+            Stop::Window | Stop::NotText => 2,
             Stop::Refused(_) => 1,
         }
     }
@@ -28,7 +33,9 @@ impl Stop {
 impl fmt::Display for Stop {
     fn fmt<W: fmt::Write>(&self, f: &mut fmt::Formatter<W>) -> fmt::Result {
         match self {
-            Stop::Usage => write!(f, "usage"),
+            Stop::Words(error) => write!(f, "{error}"),
+            Stop::Window => write!(f, "--window takes the numbers of two steps"),
+            Stop::NotText => write!(f, "the words are not text"),
             Stop::Refused(fault) => write!(f, "refused {}: {fault}", fault.code()),
         }
     }
@@ -51,7 +58,7 @@ impl From<io::Error> for Stop {
     fn from(error: io::Error) -> Stop {
         match error.kind() {
             io::ErrorKind::OutOfMemory => Stop::Refused(Fault::Picture(PictureError::Memory)),
-            _ => Stop::Usage,
+            _ => Stop::NotText,
         }
     }
 }
@@ -60,7 +67,7 @@ impl From<Error> for Stop {
     fn from(error: Error) -> Stop {
         match error.kind() {
             ErrorKind::OutOfMemory => Stop::Refused(Fault::Picture(PictureError::Memory)),
-            _ => Stop::Usage,
+            _ => Stop::Words(error),
         }
     }
 }

@@ -22,7 +22,10 @@ fn main(rt: HostRuntime) -> ExitCode {
     match run(&rt, has_bars) {
         Ok(()) => ExitCode::SUCCESS,
         Err(stop) => {
-            let _unwritten = eprintln!(rt; "pipeline: {stop}");
+            let _unwritten = match &stop {
+                Stop::Words(error) => error.print(&rt),
+                _ => eprintln!(rt; "pipeline: {stop}"),
+            };
             ExitCode::from(stop.status())
         }
     }

@@ -35,25 +35,51 @@ pub struct Request {
     pub looks: usize,
 }
 
-/// An option with a value.
-fn option(alloc: Global, name: &str) -> Arg<'_> {
-    Arg::new(alloc, name).long(name).action(ArgAction::Set)
+/// An option with a number.
+fn option<'a>(alloc: Global, name: &'a str, help: &'a str) -> Arg<'a> {
+    Arg::new(alloc, name)
+        .long(name)
+        .action(ArgAction::Set)
+        .value_name("N")
+        .help(help)
 }
 
 /// The arguments that the program takes: `[--stages N] [--items N] [--looks N]`.
 fn command<'a>(alloc: Global) -> Result<Command<'a>, Error> {
+    let stages = option(alloc, "stages", "How many stages there are, 1 to 63; 4 without this");
+    let items = option(alloc, "items", "How many items each stage works on; 20000 without this");
+    let looks = option(
+        alloc,
+        "looks",
+        "How many scans the monitor makes before the last one at most, 0 to 65535; 1000 without this",
+    );
     let pipeline = Command::new(alloc, "pipeline")
-        .arg(option(alloc, "stages"))?
-        .arg(option(alloc, "items"))?
-        .arg(option(alloc, "looks"))?;
+        .about("Runs a pipeline of stages in threads, and shows how far each of them is")
+        .arg(stages)?
+        .arg(items)?
+        .arg(looks)?;
     Ok(pipeline)
 }
 
-/// The number after an option, or `without` when the option isn't given.
-fn number_of(matches: &ArgMatches<'_>, name: &str, without: u64) -> Result<u64, Stop> {
+/// What each option takes.
+const STAGES: Stop = Stop::Value {
+    option: "stages",
+    takes: "a number from 1 to 63",
+};
+const ITEMS: Stop = Stop::Value {
+    option: "items",
+    takes: "a number below 2^64",
+};
+const LOOKS: Stop = Stop::Value {
+    option: "looks",
+    takes: "a number from 0 to 65535",
+};
+
+/// The number after an option, or `without` when the option isn't given. `None` when the value is no number.
+fn number_of(matches: &ArgMatches<'_>, name: &str, without: u64) -> Option<u64> {
     match matches.get_str(name) {
-        Some(text) => text.parse().map_err(|_| Stop::Usage),
-        None => Ok(without),
+        Some(text) => text.parse().ok(),
+        None => Some(without),
     }
 }
 
@@ -62,18 +88,21 @@ fn number_of(matches: &ArgMatches<'_>, name: &str, without: u64) -> Result<u64, 
 ///
 /// # Errors
 ///
-/// `Usage` when the program doesn't take these arguments, when they ask for help, or when there are not 1
-/// to 63 stages and at most 65,535 scans.
+/// `Words` when the program doesn't take these arguments, or when they ask for help. `Value` when there are not
+/// 1 to 63 stages and at most 65,535 scans, or a value is no number.
 pub fn request_of(alloc: Global, words: &[String]) -> Result<Request, Stop> {
     let matches = command(alloc)?.try_get_matches_from(words)?;
-    let stages = number_of(&matches, "stages", 4)?;
-    let items = number_of(&matches, "items", 20_000)?;
-    let looks = number_of(&matches, "looks", 1_000)?;
-    if stages > 63 || looks >= u64::from(SLOTS) {
-        return Err(Stop::Usage);
+    let stages = number_of(&matches, "stages", 4).ok_or(STAGES)?;
+    let items = number_of(&matches, "items", 20_000).ok_or(ITEMS)?;
+    let looks = number_of(&matches, "looks", 1_000).ok_or(LOOKS)?;
+    if stages > 63 {
+        return Err(STAGES);
+    }
+    if looks >= u64::from(SLOTS) {
+        return Err(LOOKS);
     }
     let pool = pool_for(stages, items, looks + 1);
-    let sizes = Sizes::new(stages as u32, looks as u32 + 1, SLOTS, pool).map_err(|_| Stop::Usage)?;
+    let sizes = Sizes::new(stages as u32, looks as u32 + 1, SLOTS, pool).map_err(|_| STAGES)?;
     Ok(Request {
         sizes,
         items,

@@ -10,7 +10,14 @@ use std::{fmt, io};
 #[derive(Debug, Drop)]
 pub enum Stop {
     /// The program doesn't take these arguments, or they ask for help.
-    Usage,
+    Words(Error),
+    /// An option doesn't take this value.
+    Value {
+        option: &'static str,
+        takes: &'static str,
+    },
+    /// An argument isn't text.
+    NotText,
     /// The pipeline didn't run.
     Refused(PipelineError),
     /// The pool was spent before all items were counted. The last line was written.
@@ -23,7 +30,8 @@ impl Stop {
     /// The exit status.
     pub fn status(&self) -> u8 {
         match self {
-            Stop::Usage => 2,
+            Stop::Words(error) => error.exit_code() as u8,
+            Stop::Value { .. } | Stop::NotText => 2,
             Stop::Refused(_) | Stop::PoolSpent | Stop::Write => 1,
         }
     }
@@ -32,7 +40,9 @@ impl Stop {
 impl fmt::Display for Stop {
     fn fmt<W: fmt::Write>(&self, f: &mut fmt::Formatter<W>) -> fmt::Result {
         match self {
-            Stop::Usage => write!(f, "usage"),
+            Stop::Words(error) => write!(f, "{error}"),
+            Stop::Value { option, takes } => write!(f, "--{option} takes {takes}"),
+            Stop::NotText => write!(f, "the words are not text"),
             Stop::Refused(error) => write!(f, "refused {}: {error}", error.code()),
             Stop::PoolSpent => write!(f, "pool spent"),
             Stop::Write => write!(f, "not written"),
@@ -57,7 +67,7 @@ impl From<io::Error> for Stop {
     fn from(error: io::Error) -> Stop {
         match error.kind() {
             io::ErrorKind::OutOfMemory => Stop::Refused(PipelineError::Memory),
-            _ => Stop::Usage,
+            _ => Stop::NotText,
         }
     }
 }
@@ -66,7 +76,7 @@ impl From<Error> for Stop {
     fn from(error: Error) -> Stop {
         match error.kind() {
             ErrorKind::OutOfMemory => Stop::Refused(PipelineError::Memory),
-            _ => Stop::Usage,
+            _ => Stop::Words(error),
         }
     }
 }

@@ -1,4 +1,4 @@
-use Rattle.std.proofs.Common.{◌≡◌, ◌≤◌, false, length}
+use Rattle.std.proofs.Common.{◌≡◌, ◌+◌, ◌≤◌, false, length}
 use Rattle.std.specs.Io.KnownBytes.{Consumes}
 use Rattle.partial_text.proofs.reading.read_text.Given as goal
 
@@ -9,4 +9,5 @@ invariant-loop g l =
       taken : Consumes (g.R.Read.remaining l.initial.reader.inner) (g.R.Read.remaining l.reader.inner) l.text.items;
       many : l.counter ≤ length l.text.items;
       room : length l.chunk ≡ 8192;
+      reads : l.reader.reads ≤ l.initial.reader.reads + l.counter;
     }

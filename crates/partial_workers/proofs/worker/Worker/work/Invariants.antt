@@ -14,7 +14,7 @@ invariant-loop-job g l = record {
   own : IsOf l.memory l.port;
   number : l.port.number ≡ l.fn.self.port.number;
   made : AreMade l.memory.about.sizes.m (take (length l.answers.items) (calls_of l.fn.self.jobs.items)) l.answers.items l.port;
-  unspent : l.end.until ≡ Spent → AreUnspent l.answers.items;
+  unspent : l.fn.until ≡ Spent → AreUnspent l.answers.items;
   count : length l.answers.items ≡ length l.yielded;
   room : length l.fn.self.jobs.items ≤ vec_capacity l.answers;
 }
