@@ -43,6 +43,45 @@ expect() {
     printf '%s' "$3" >"$room/err"
 }
 
+# holds NAME COMMAND..: the command must succeed.
+holds() {
+    local name=$1
+    shift
+    if "$@"; then
+        passed=$((passed + 1))
+    else
+        failed=$((failed + 1))
+        echo "failed: $name"
+    fi
+}
+
+# blames NAME TEXT WORD..: the program ends with 2, writes nothing to standard output, and has this text on the first
+# line of standard error.
+blames() {
+    local name=$1 text=$2 given
+    shift 2
+    "$program" "$@" </dev/null >"$room/given-out" 2>"$room/given-err"
+    given=$?
+    holds "$name (status $given): $(head -n 1 "$room/given-err")" blamed "$given" "$text"
+}
+
+# blamed STATUS TEXT: what the program that ended so has written blames this.
+blamed() {
+    [ "$1" -eq 2 ] && [ ! -s "$room/given-out" ] && head -n 1 "$room/given-err" | grep -qF -- "$2"
+}
+
+# helps NAME WORD..: the program's help names each of these words on standard output, and nothing is wrong.
+helps() {
+    local name=$1 word
+    shift
+    "$program" --help </dev/null >"$room/given-out" 2>"$room/given-err"
+    holds "$name ends with 0" test $? -eq 0
+    holds "$name writes no fault" test ! -s "$room/given-err"
+    for word in "$@"; do
+        holds "$name names $word" grep -qF -- "$word" "$room/given-out"
+    done
+}
+
 # refuses NAME NUMBER TEXT PLAN: this text on standard input is refused.
 refuses() {
     expect "$4" "" "partial: refused $2: $3"$'\n'
@@ -261,10 +300,17 @@ expect "" $'last 0 0 0 0 lag 0 0 0\n' ""
 case_of "pipeline: no items" 0 --items 0 --looks 0
 expect "" $'last 300 lag\n' ""
 case_of "pipeline: one stage" 0 --stages 1 --items 300 --looks 0
-expect "" "" $'pipeline: usage\n'
-for words in "--stages 0" "--stages 64" "--stages x" "--items -1" "--items" "--looks 65536" "--more 1" more --help; do
-    case_of "pipeline: $words" 2 $words
+for words in "0" "64" "x" "18446744073709551616"; do
+    blames "pipeline: $words stages" "pipeline: --stages takes a number from 1 to 63" --stages "$words"
 done
+blames "pipeline: too many items" "pipeline: --items takes a number below 2^64" --items 18446744073709551616
+blames "pipeline: items that are no number" "pipeline: --items takes a number below 2^64" --items x
+blames "pipeline: too many looks" "pipeline: --looks takes a number from 0 to 65535" --looks 65536
+blames "pipeline: a negative number" "'-1'" --items -1
+blames "pipeline: an option without its number" "--items" --items
+blames "pipeline: an unknown option" "'--more'" --more 1
+blames "pipeline: an unknown word" "'more'" more
+helps "pipeline: the help" --stages --items --looks
 
 # lines STAGES ITEMS: in the given lines no count is greater than the one before it, none falls, each lag is the
 # difference of two neighbours, and the last line has that count for each stage, or a lower one where it is no
@@ -308,18 +354,6 @@ fi
 # shapes PART: how many of these stand in the drawing, without those of the legend.
 shapes() {
     sed '/<g class="legend"/,$d' "$room/drawn" | grep -c -- "$1"
-}
-
-# holds NAME COMMAND..: the command must succeed.
-holds() {
-    local name=$1
-    shift
-    if "$@"; then
-        passed=$((passed + 1))
-    else
-        failed=$((failed + 1))
-        echo "failed: $name"
-    fi
 }
 
 # Whether the drawing has one mark for each step of the outcome, one bar for each of its calls, and one entry for
@@ -396,10 +430,16 @@ if (failed=0 && ulimit -v 400000 && case_of "picture: more steps than room" 1 "$
 else
     failed=$((failed + 1))
 fi
-expect "$head$tail" "" $'picture: usage\n'
-for words in "one two" "--window" "--window 1" "--window 1 x" "--window -1 2" "--text --words" "--fast" "--help"; do
-    case_of "picture: $words" 2 $words
-done
+blames "picture: two plans" "'two'" one two
+blames "picture: a window of no step" "--window" --window
+blames "picture: a window of one step" "--window" --window 1
+blames "picture: a window that is no number" "picture: --window takes the numbers of two steps" --window 1 x
+blames "picture: a negative step" "'-1'" --window -1 2
+blames "picture: a table with words" "--words" --text --words
+blames "picture: an unknown option" "'--fast'" --fast
+helps "picture: the help" --window --words --text
+expect "$head" "" $'picture: refused 10: line 3: end\n'
+case_of "picture: the plan of standard input" 1 -
 printf '%s' "$head$tail" >"$room/in"
 if [ -w /dev/full ]; then
     "$program" <"$room/in" >/dev/full 2>"$room/given-err"

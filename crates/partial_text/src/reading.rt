@@ -81,7 +81,8 @@ impl Plan {
     ///
     /// The first fault of the text, when it isn't the text of a plan: a size out of its range, not 1 to 64
     /// ports, or a line with its cause. `Memory` when an allocation was refused, and `Read` when the reader
-    /// failed. It stops reading when it holds more than 4,194,304 bytes, and makes at most 4,194,306 reads.
+    /// failed. It stops reading when it holds more than 4,194,304 bytes, and asks the reader at most 4,194,306
+    /// times.
     pub fn read<R: Read>(alloc: Global, reader: &mut Device<R>) -> Result<Plan, PlanError>
         requires { reader.old.failed ≡ false }
         ensures fault { IsErrOf result PlanError.Read ↔ (reader.new.failed ≡ true) }

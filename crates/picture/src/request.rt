@@ -60,8 +60,8 @@ fn window_of(matches: &ArgMatches<'_>) -> Result<Window, Stop> {
 ///
 /// # Errors
 ///
-/// `Words` when the program doesn't take these arguments, both `--words` and `--text` among them, or when they
-/// ask for help. `Window` when a window isn't two numbers.
+/// `Words` when the program doesn't take these arguments, both `--words` and `--text` among them, or when they ask
+/// for help. `Window` when a window isn't two numbers.
 pub fn request_of(alloc: Global, words: &[String]) -> Result<Request<'_>, Stop> {
     let matches = command(alloc)?.try_get_matches_from(words)?;
     let form = match matches.get_flag("text") {

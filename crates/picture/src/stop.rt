@@ -13,7 +13,7 @@ pub enum Stop {
     Words(Error),
     /// The two values of `--window` aren't numbers of steps.
     Window,
-    /// An argument isn't text.
+    /// The arguments aren't text.
     NotText,
     /// The request was refused.
     Refused(Fault),

@@ -75,7 +75,7 @@ const LOOKS: Stop = Stop::Value {
     takes: "a number from 0 to 65535",
 };
 
-/// The number after an option, or `without` when the option isn't given. `None` when the value is no number.
+/// The number behind an option, or this one without the option.
 fn number_of(matches: &ArgMatches<'_>, name: &str, without: u64) -> Option<u64> {
     match matches.get_str(name) {
         Some(text) => text.parse().ok(),
@@ -88,8 +88,8 @@ fn number_of(matches: &ArgMatches<'_>, name: &str, without: u64) -> Option<u64> 
 ///
 /// # Errors
 ///
-/// `Words` when the program doesn't take these arguments, or when they ask for help. `Value` when there are not
-/// 1 to 63 stages and at most 65,535 scans, or a value is no number.
+/// `Words` when the program doesn't take these arguments, or when they ask for help. `Value` when there are not 1
+/// to 63 stages and at most 65,535 scans, or a value is no number.
 pub fn request_of(alloc: Global, words: &[String]) -> Result<Request, Stop> {
     let matches = command(alloc)?.try_get_matches_from(words)?;
     let stages = number_of(&matches, "stages", 4).ok_or(STAGES)?;

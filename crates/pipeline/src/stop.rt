@@ -11,12 +11,14 @@ use std::{fmt, io};
 pub enum Stop {
     /// The program doesn't take these arguments, or they ask for help.
     Words(Error),
-    /// An option doesn't take this value.
+    /// The option doesn't take this value.
     Value {
+        /// The option's name, without its dashes.
         option: &'static str,
+        /// The values that it takes.
         takes: &'static str,
     },
-    /// An argument isn't text.
+    /// The arguments aren't text.
     NotText,
     /// The pipeline didn't run.
     Refused(PipelineError),
