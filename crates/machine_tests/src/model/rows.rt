@@ -86,7 +86,7 @@ pub(super) fn unfinished(port: u32, number: u32, call: Call, began: usize) -> Ca
     }
 }
 
-/// Whether the checker takes the history and the calls, where two components open with 10 and 20 and with
+/// Whether the checker accepts the history and the calls, when two components open with 10 and 20 and with
 /// the stamps 18 and 21.
 pub(super) fn verdict(
     alloc: Global,
