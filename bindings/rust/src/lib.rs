@@ -1,7 +1,7 @@
 //! A wait-free, linearizable partial snapshot object: components of 64 bits that many threads share. Any
 //! port may update or read any component, and scan any few of them as they stood together at one moment.
-//! Each call finishes within a fixed number of atomic steps, whatever other threads do. An opening wears
-//! out: `docs/using/choosing.md` says what a program does then.
+//! Each call of a port finishes within a fixed number of atomic steps, whatever other threads do. An opening
+//! wears out: `docs/using/choosing.md` says what a program does then.
 //!
 //! ```
 //! use partial_door::{open, Sizes};

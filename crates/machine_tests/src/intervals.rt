@@ -1,10 +1,10 @@
-//! Rows with values from outside, and a refused growth.
+//! Rows with values from outside, and a refused allocation.
 
 use partial_intervals::Intervals;
 use std::process::Abort;
 use std::test::Fail;
 
-// Adds the numbers, one after another, where there is room.
+// Adds the numbers, one after another, while there is room.
 fn add_all(rt: &impl Abort, set: &mut Intervals, numbers: &[u32]) {
     for number in numbers {
         assert!(rt; set.len() < set.capacity());

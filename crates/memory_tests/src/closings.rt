@@ -55,7 +55,7 @@ fn has_in_order(chain: &[Link], stamps: &[u64]) -> bool {
 
 /// The chain of a component has what the workers applied, each update once and in its caller's order,
 /// behind the initial record. Its first link has the component's value, which each worker's port has read
-/// with its stamp once all had ended.
+/// with its stamp when all had ended.
 pub fn judge_chains(rt: &impl Abort, closed: &Closed, all: &[Told]) {
     assert_eq!(rt; closed.values.len(), 2);
     assert_eq!(rt; closed.chains.len(), 2);

@@ -1,4 +1,4 @@
-//! Growths that are refused, one after another: the script that runs these tests says which.
+//! Allocations that are refused, one after another. The script that runs these tests says which.
 
 use super::memories::opened;
 use partial_memory::{CloseError, Memory, OpenError};
@@ -6,7 +6,7 @@ use partial_words::Sizes;
 use std::alloc::AllocError;
 use std::test::Fail;
 
-// Where a growth is refused nothing is opened, and the test ends with that refusal.
+// When an allocation is refused, nothing is opened, and the test ends with that refusal.
 #[test]
 fn a_refused_growth_opens_nothing(rt: HostRuntime) -> Result<(), Fail> {
     let sizes = Sizes::new(2, 1, 1, 9)?;
@@ -19,7 +19,7 @@ fn a_refused_growth_opens_nothing(rt: HostRuntime) -> Result<(), Fail> {
     Ok(())
 }
 
-// Where a growth is refused nothing is handed back, and the test ends with that refusal.
+// When an allocation is refused, nothing is returned, and the test ends with that refusal.
 #[test]
 fn a_refused_growth_hands_nothing_back(rt: HostRuntime) -> Result<(), Fail> {
     let sizes = Sizes::new(2, 1, 1, 9)?;
@@ -37,7 +37,7 @@ fn a_refused_growth_hands_nothing_back(rt: HostRuntime) -> Result<(), Fail> {
     Ok(())
 }
 
-// Where a growth is refused nothing is opened, the closed memory can be opened again afterwards, and the test
+// When an allocation is refused, nothing is opened, the closed memory can be reopened afterwards, and the test
 // ends with that refusal.
 #[test]
 fn a_refused_growth_reopens_nothing(rt: HostRuntime) -> Result<(), Fail> {

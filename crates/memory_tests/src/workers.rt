@@ -16,7 +16,7 @@ use std::thread::Threads;
 pub enum Job {
     /// Sets a component to 1, 2, 3 and so on.
     Update { component: u32 },
-    /// Reads component 0, and sets it to the next value where it has the stamp that was read.
+    /// Reads component 0, and sets it to the next value if it has the stamp that was read.
     Count,
     /// Scans component 0.
     ScanOne,
@@ -45,7 +45,7 @@ pub struct Told {
     /// Whether its port is marked for the pool and for the slots in the end.
     pub pool_spent: bool,
     pub slots_spent: bool,
-    /// What its port reads of components 0 and 1 once all workers have ended: values and stamps.
+    /// What its port reads of components 0 and 1 when all workers have ended: values and stamps.
     pub seen: [Option<(u64, u64)>; 2],
     /// Whether there was memory for all of this.
     pub ended: Result<(), AllocError>,
@@ -157,7 +157,7 @@ impl Told {
         Ok(())
     }
 
-    // Scans both components. Values of the second one count where it only rises.
+    // Scans both components. Values of the second one count when it only rises.
     fn scan_two(&mut self, memory: &Memory, port: &mut Port, rises: bool) -> Result<(), AllocError>
         requires { IsOf memory.now port.old × (2 ≤ memory.now.about.sizes.m) }
         ensures { IsOf memory.now port.new }

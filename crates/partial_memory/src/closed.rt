@@ -37,6 +37,9 @@ fn chain(alloc: Global, words: &ClosedWords, newest: u64) -> Result<Vec<Link>, A
 }
 
 /// Collects the values and the chains of the components.
+///
+/// # Errors
+/// [`AllocError`] when an allocation was refused.
 pub fn closed_of(alloc: Global, words: &ClosedWords, m: u32) -> Result<Closed, AllocError>
     requires full { IsFull words.now.words × (slots_len words.now.words < 2 ^ 32) }
     requires count { slots_len words.now.words ≡ length (slots_items words.now.words) }

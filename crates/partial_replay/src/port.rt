@@ -119,6 +119,9 @@ fn entry_of(sizes: Sizes, words: &[u64], port: u32, step: Step, answer: u64) -> 
 impl Port {
     /// Begins the next of the plan's calls that makes a step, and finishes those before it that make none.
     /// Returns whether a call is under way: if not, no call is left.
+    ///
+    /// # Errors
+    /// [`AllocError`] when an allocation was refused. Nothing is known of the replay then.
     pub fn begin_next(
         &mut self,
         alloc: Global,
@@ -165,6 +168,9 @@ impl Port {
 
     /// Makes the due step of the call under way on the words, and finishes the call when it was the last
     /// one.
+    ///
+    /// # Errors
+    /// [`AllocError`] when an allocation was refused. Nothing is known of the replay then.
     pub fn make_step(
         &mut self,
         alloc: Global,
@@ -241,6 +247,9 @@ impl Port {
 }
 
 /// The call under way of a port at the end of a replay, as an unfinished one.
+///
+/// # Errors
+/// [`AllocError`] when an allocation was refused.
 pub fn unfinished(
     alloc: Global,
     port: u32,

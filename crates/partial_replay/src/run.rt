@@ -43,6 +43,9 @@ impl Run {
     ghost use Rattle.partial_replay.specs.Inner.TurnState.{BeginsIn, GoesOnBy, HaveBegun, IsDone, StayDone, StayStoppedBut, StayStoppedWith, StepsIn, StopAtSteps, TurnMade, TurnsMade};
 
     /// Opens the replay of a plan with these ports.
+    ///
+    /// # Errors
+    /// [`AllocError`] when an allocation was refused.
     pub fn open(
         alloc: Global,
         sizes: Sizes,
@@ -77,6 +80,9 @@ impl Run {
     }
 
     /// Takes one turn of a port: it makes one step. Returns whether it had a call left.
+    ///
+    /// # Errors
+    /// [`AllocError`] when an allocation was refused. Nothing is known of the replay then.
     #[inline(always)]
     pub fn turn(
         &mut self,
@@ -156,6 +162,9 @@ impl Run {
     }
 
     /// Takes so many turns of a port, or fewer when it has no call left.
+    ///
+    /// # Errors
+    /// [`AllocError`] when an allocation was refused. Nothing is known of the replay then.
     pub fn turns(
         &mut self,
         alloc: Global,
@@ -178,6 +187,9 @@ impl Run {
     }
 
     /// Takes turns of a port until it has no call left, however many.
+    ///
+    /// # Errors
+    /// [`AllocError`] when an allocation was refused. Nothing is known of the replay then.
     pub fn to_the_end(
         &mut self,
         alloc: Global,
@@ -195,6 +207,9 @@ impl Run {
     }
 
     /// Turns the replay into its outcome.
+    ///
+    /// # Errors
+    /// [`AllocError`] when an allocation was refused.
     pub fn into_outcome(
         self,
         alloc: Global,

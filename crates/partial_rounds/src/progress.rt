@@ -43,6 +43,9 @@ fn at_most(calls: &[Call], most: usize) -> &[Call]
 }
 
 /// The first calls of each port, at most `most` of each.
+///
+/// # Errors
+/// [`AllocError`] when an allocation was refused.
 pub fn first_of<'a>(
     alloc: Global,
     left: &[&'a [Call]],

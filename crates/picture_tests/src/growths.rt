@@ -1,4 +1,4 @@
-//! Growths that are refused, one after another: the script that runs these tests says which.
+//! Allocations that are refused, one after another. The script that runs these tests says which.
 
 use super::examples::borrowed_view_plan;
 use partial_picture::{Form, Window, draw};
@@ -29,8 +29,8 @@ impl Write for Ending {
 }
 
 /// Whether the picture of a window ends with these bytes. The window has two marks, two bars, an entry and an arrow.
-/// Where a growth is refused the fault is 6 and nothing is written, or a smaller one serves as well: a list that is
-/// collected asks for room in advance, and then for what it needs.
+/// When an allocation is refused, the fault is 6 and nothing is written, or a smaller one serves as well: a list
+/// that is collected asks for room in advance, and then for what it needs.
 fn ends_with(alloc: Global, form: Form, wanted: &'static [u8]) -> Result<bool, Fail> {
     let mut out = Device::new(Ending {
         wanted,

@@ -14,7 +14,7 @@ use std::alloc::Global;
 use std::sync::Wait;
 use std::thread::Threads;
 
-/// How the command ends, and what it writes, where it isn't refused.
+/// How the command ends, and what it writes, when it isn't refused.
 fn executed<R: Threads + Wait + Sync>(
     rt: &R,
     alloc: Global,
@@ -26,7 +26,7 @@ fn executed<R: Threads + Wait + Sync>(
     Ok((verdict, writer.into_inner()))
 }
 
-/// What a replay of the plan writes, where it is done.
+/// What a replay of the plan writes, when it succeeds.
 fn outcome_of<R: Threads + Wait + Sync>(
     rt: &R,
     alloc: Global,

@@ -1,4 +1,4 @@
-//! Growths that are refused, one after another: who runs these tests says which.
+//! Allocations that are refused, one after another. The script that runs these tests says which.
 
 use super::plans::read;
 use super::reports::each_answer;
@@ -20,8 +20,8 @@ steps 0*9 1*4 rest
 "
 }
 
-// Where a growth is refused there is no plan, and the test ends with that refusal. Where the test
-// passes, no growth was refused and the plan was read.
+// When an allocation is refused, there is no plan, and the test ends with that refusal. When the test
+// passes, no allocation was refused and the plan was read.
 #[test]
 fn a_refused_growth_reads_no_plan(rt: HostRuntime) -> Result<(), Fail> {
     match read(rt.alloc(), each_call()) {
@@ -51,8 +51,8 @@ impl Write for Counter {
     }
 }
 
-/// Judges what the writer has taken: all of a text, or nothing where a growth was refused, which then
-/// is handed up.
+/// Judges what the writer has taken: all of a text, or nothing when an allocation was refused. Then the refusal
+/// is returned.
 fn judge(
     rt: &impl Abort,
     given: Result<(), OutcomeError>,
@@ -71,7 +71,7 @@ fn judge(
     Ok(())
 }
 
-// Where a growth is refused nothing is written, and the test ends with that refusal.
+// When an allocation is refused, nothing is written, and the test ends with that refusal.
 #[test]
 fn a_refused_growth_writes_nothing(rt: HostRuntime) -> Result<(), Fail> {
     let outcome = borrowed_scan(rt.alloc())?;
@@ -80,7 +80,7 @@ fn a_refused_growth_writes_nothing(rt: HostRuntime) -> Result<(), Fail> {
     judge(&rt, given, device)
 }
 
-// The same for a report.
+// The same with a report.
 #[test]
 fn a_refused_growth_reports_nothing(rt: HostRuntime) -> Result<(), Fail> {
     let report = each_answer(rt.alloc())?;
@@ -89,7 +89,7 @@ fn a_refused_growth_reports_nothing(rt: HostRuntime) -> Result<(), Fail> {
     judge(&rt, given, device)
 }
 
-// The same for two reports: where the text of the second has no room, the first isn't written either.
+// The same with two reports: when the text of the second has no room, the first isn't written either.
 #[test]
 fn a_refused_growth_reports_neither(rt: HostRuntime) -> Result<(), Fail> {
     let report = each_answer(rt.alloc())?;

@@ -1,4 +1,4 @@
-//! Tests of the texts of plans, outcomes and reports, and of the place of a scan that an outcome tells. They
+//! Tests of the texts of plans, outcomes and reports, and of the place of a scan in an outcome. They
 //! use what these crates offer, so that each is proved without them.
 #![tactic(auto)]
 

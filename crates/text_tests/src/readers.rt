@@ -1,4 +1,4 @@
-//! Readers that give little at a time, fail, or never end.
+//! Readers that return little at a time, fail, or never end.
 
 use partial_text::{Cause, Device, Plan, PlanError};
 use std::io;
@@ -10,7 +10,7 @@ fn text() -> &'static [u8] {
     b"sizes 2 4 8 64\ninitial 10 20\nport read 0\nsteps rest\n"
 }
 
-/// Gives at most so many bytes a read, over and over where it is endless, and fails at one read.
+/// Returns at most so many bytes a read, over and over if it is endless, and fails at one read.
 #[derive(Drop)]
 struct Source<'a> {
     text: &'a [u8],

@@ -12,7 +12,7 @@ fn whole() -> &'static [u8] {
     b"sizes 2 4 8 64\ninitial 10 20\nport scan 0 1\nsteps rest\n"
 }
 
-/// The positions of a call, where it is a scan.
+/// The positions of a call, if it is a scan.
 fn positions(plan: &Plan, port: usize, number: usize) -> Option<&[u32]> {
     match plan.ports().get(port)?.as_slice().get(number)? {
         Call::Scan { components } => Some(components.as_slice()),

@@ -7,7 +7,7 @@ use std::io;
 use std::io::Write;
 use std::test::Fail;
 
-/// Takes at most so many bytes a write, and when it is full fails or takes none.
+/// Takes at most so many bytes a write, and fails or takes none when it is full.
 #[derive(Drop)]
 pub(super) struct Sink {
     pub(super) taken: Vec<u8>,

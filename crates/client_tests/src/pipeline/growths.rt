@@ -1,4 +1,4 @@
-//! Growths that are refused, one after another: the script that runs these tests says which.
+//! Allocations that are refused, one after another. The script that runs these tests says which.
 
 use super::judge;
 use partial_pipeline::{NoWatch, NoWork, PipelineError, run_pipeline};
@@ -6,7 +6,7 @@ use partial_words::Sizes;
 use std::alloc::AllocError;
 use std::test::Fail;
 
-// Where a growth is refused, or a thread's stack, the refusal is Memory, and the test ends with it.
+// When an allocation is refused, or a thread's stack, the refusal is Memory, and the test ends with it.
 #[test]
 fn a_refused_growth_leaves_no_pipeline(rt: HostRuntime) -> Result<(), Fail> {
     let sizes = Sizes::new(3, 16, 16, 10_000)?;

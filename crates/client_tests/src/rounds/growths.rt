@@ -1,4 +1,4 @@
-//! Growths that are refused, one after another: the script that runs these tests says which.
+//! Allocations that are refused, one after another. The script that runs these tests says which.
 
 use super::{counting, made};
 use partial_rounds::{Rounds, RoundsError};
@@ -6,8 +6,8 @@ use partial_words::Sizes;
 use std::alloc::AllocError;
 use std::test::Fail;
 
-// Where a growth is refused the values are those behind the rounds of the report, whose answers tell all that was
-// applied. The test then ends with that refusal.
+// When an allocation is refused, the values are those after the rounds of the report, whose answers show all that
+// was applied. The test then ends with that refusal.
 #[test]
 fn a_refused_growth_tells_what_was_applied(rt: HostRuntime) -> Result<(), Fail> {
     let sizes = Sizes::new(1, 1, 0, 9)?;

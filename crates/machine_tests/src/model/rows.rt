@@ -87,8 +87,8 @@ pub(super) fn unfinished(port: u32, number: u32, call: Call, began: usize) -> Ca
     }
 }
 
-/// Whether the history and the calls are lawful, where two components open with 10 and 20 and with the
-/// stamps 18 and 21. It fails where the check without memory and the checker answer otherwise.
+/// Whether the history and the calls are lawful, when two components open with 10 and 20 and with the
+/// stamps 18 and 21. It fails when the check without memory and the checker answer differently.
 pub(super) fn verdict(alloc: Global, history: &[Applied], calls: &[Called]) -> Result<bool, Fail> {
     let opening = Opening {
         values: Sequence::from(vec![in alloc; 10, 20]?),

@@ -83,7 +83,7 @@ pub(super) const BORROWED: [Applied; 2] = [
     },
 ];
 
-/// The scan that takes the view of record 32, with the value and the prefix that it tells.
+/// The scan that takes the view of record 32, with its value and its prefix.
 pub(super) fn borrowed_view(
     alloc: Global,
     value: u64,

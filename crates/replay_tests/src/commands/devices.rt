@@ -10,7 +10,7 @@ use std::io;
 use std::io::{Read, Write};
 use std::test::Fail;
 
-/// Gives one byte a read, and fails or ends where none is left.
+/// Returns one byte a read, and fails or ends when none is left.
 #[derive(Drop)]
 pub(super) struct Bytewise<'a> {
     text: &'a [u8],
@@ -18,7 +18,7 @@ pub(super) struct Bytewise<'a> {
 }
 
 impl<'a> Bytewise<'a> {
-    /// Fails where none is left.
+    /// Fails when none is left.
     pub(super) fn failing(text: &'a [u8]) -> Bytewise<'a> {
         Bytewise { text, fails: true }
     }

@@ -1,4 +1,4 @@
-//! Growths that are refused, one after another: the script that runs these tests says which.
+//! Allocations that are refused, one after another. The script that runs these tests says which.
 
 use super::rows::borrowed_view;
 use super::runs::{slots_spent, two_plans};
@@ -46,8 +46,8 @@ fn unwritten<R: Threads + Wait + Sync>(
     (writer.into_inner().left.len(), given.err())
 }
 
-// Where a growth is refused, in reading, replaying or writing, the fault is 6 and nothing is written.
-// The test then ends with that fault; where it passes, no growth was refused and all was written.
+// When an allocation is refused, in reading, replaying or writing, the fault is 6 and nothing is written.
+// The test then ends with that fault. When it passes, no allocation was refused and all was written.
 #[test]
 fn a_refused_growth_writes_nothing(rt: HostRuntime) -> Result<(), Fail> {
     let (_, plan, expected) = borrowed_view();

@@ -252,7 +252,7 @@ values 7 20 0
     )
 }
 
-/// What both plans write, where they aren't refused.
+/// What both plans write, when they aren't refused.
 fn executed_both<R: Threads + Wait + Sync>(
     rt: &R,
     alloc: Global,

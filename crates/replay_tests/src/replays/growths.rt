@@ -1,10 +1,10 @@
-//! Growths that are refused, one after another: the script that runs these tests says which.
+//! Allocations that are refused, one after another. The script that runs these tests says which.
 
 use partial_replay::{Device, Plan, ReplayError, replay};
 use std::alloc::AllocError;
 use std::test::Fail;
 
-// A scan that borrows a view, a port that waits in vain for its turn, and one with each other call.
+// A scan that takes a view, a port that never gets a turn, and a port with each other call.
 fn each_call() -> &'static [u8] {
     b"sizes 2 4 8 64
 initial 10 20
@@ -15,8 +15,8 @@ steps 0*6 1*17 0*1 1*17 0*6 1*2 1*20 0*20
 "
 }
 
-// Where a growth is refused there is no outcome, and the test ends with that refusal. Where the test
-// passes, no growth was refused and each step was made.
+// When an allocation is refused, there is no outcome, and the test ends with that refusal. When the test
+// passes, no allocation was refused and each step was made.
 #[test]
 fn a_refused_growth_gives_no_outcome(rt: HostRuntime) -> Result<(), Fail> {
     let plan = Plan::read(rt.alloc(), &mut Device::new(each_call())).map_err(|_| AllocError)?;

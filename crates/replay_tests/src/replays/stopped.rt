@@ -1,4 +1,4 @@
-//! A port that stops for ever after any of its steps, and another one that no stop holds up.
+//! A port that stops forever after any of its steps, and another one that no stop holds up.
 
 use super::{outcome_text, replayed};
 use partial_model::{Answer, Called, Finish, Note, check_outcome};
@@ -23,7 +23,7 @@ fn standing_of(calls: &[Called], port: u32) -> Standing {
     }
 }
 
-/// The steps, the stamp and the place of the only update of a port, where it was applied.
+/// The steps, the stamp and the place of the only update of a port, when it was applied.
 fn applied(calls: &[Called], port: u32) -> Option<(u64, u64, usize)> {
     let called = calls.iter().find(|called| called.port == port)?;
     match &called.finish {
@@ -42,7 +42,7 @@ fn is_lawful(outcome: &Outcome) -> bool {
     check_outcome(&outcome.opening, &outcome.history, &outcome.calls)
 }
 
-/// What comes of these calls where a port has so many turns between those before and those behind.
+/// The outcome of these calls when a port has so many turns between those before and those after.
 fn stopped(
     alloc: Global,
     ports: &str,

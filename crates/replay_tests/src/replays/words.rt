@@ -5,7 +5,7 @@ use partial_words::Step;
 use std::test::Fail;
 
 // Plans in which an update publishes a list, the head of the lists behind each, and their words: the list that is
-// published, the one that won where two were, and none where no words are left for it.
+// published, the one that won when two were, and none when no words are left for it.
 fn publishing() -> [(&'static [u8], u64, &'static [u64]); 3] {
     [
         (
