@@ -4,7 +4,9 @@ pub mod Present
 pub mod Change
 pub mod Apart
 pub mod Worded
+pub mod Slots
 pub mod MachineSteps
+pub mod Room
 pub mod Seals
 pub mod ControlChange
 pub mod Entering

@@ -2,7 +2,7 @@
 //! definitions by which the memory's own contracts are to be stated.
 
 ghost use Rattle.partial_epochs.specs.History.{EpochsContinue};
-ghost use Rattle.partial_epochs.specs.MachineSteps.{UnsealedIsPresent, MachineStepsStayLawful, ClaimsHaveRoom};
+ghost use Rattle.partial_epochs.specs.MachineSteps.{UnsealedIsPresent, MachineStepsStayLawful, ClaimsHaveRoom, MarksNeverCome, MachinesAreNeverRefused};
 ghost use Rattle.partial_epochs.specs.Sealing.{SealsStayLawful, SealedPassesStayLawful};
 ghost use Rattle.partial_epochs.specs.Entering.{LooksAreTrue, MarksStayLawful, EntriesLoad, ArrivalsStayLawful};
 ghost use Rattle.partial_epochs.specs.Owning.{TakesStayLawful, GivesStayLawful, OwnersLook, OwnersLookAway, OthersAreElsewhere, MarksAreLoaded, PutsStayLawful};
@@ -32,6 +32,18 @@ pub fn machine_steps_stay_lawful()
 /// The next claim of a port that has made no claim past the limit ends within the pool, so it is never refused.
 pub fn claims_have_room()
     ensures { ClaimsHaveRoom }
+{}
+
+/// In an arena with a slot for each two words of its pool, no machine of a port is marked for the pool or for the slots,
+/// so no call is refused at once for either.
+pub fn marks_never_come()
+    ensures { MarksNeverCome }
+{}
+
+/// In such an arena no step of a machine ends its call with a refusal: each announcement finds a slot, since two words of
+/// the pool are claimed for it first.
+pub fn machines_are_never_refused()
+    ensures { MachinesAreNeverRefused }
 {}
 
 /// A fetch-and-add that seals the next component of the port's epoch keeps the memory lawful.
