@@ -11,6 +11,7 @@ use Rattle.partial_words.specs.declared.step.Step.{Step}
 use Rattle.partial_words.specs.declared.step.Step.TheVariants.{Load, Store, Exchange, Add}
 use Rattle.partial_words.specs.Layout.{IsLayout, Layout, first_free, total, pool_counter, slot_counter, greatest_record}
 use Rattle.partial_words.specs.Step.{answer_of, word_of, words_after}
+use Rattle.partial_machine.specs.Bounds.{steps_left}
 use Rattle.partial_machine.specs.Machine.{CoreState, advance, step_of}
 use Rattle.partial_core.specs.Part.{Part, IsMachineOf, port_of}
 use Rattle.partial_core.specs.Lawful as one
@@ -239,9 +240,10 @@ module _ (e : Plan) (words : List ℕ) (ports : ℕ → Port) (b : Beside) (k : 
     tells = subst (λ (l : List (List Applied)). Tells e.sizes (opening_behind e.opening l) r.log entries (ports k).part c (answer_of bw step) leads.y) s.before
         (subst (λ (y : Part). Tells e.sizes o r.log entries y c (answer_of bw step) leads.y) s.part leads.tells)
 
-    pub machine_leads : MachineLeads e words ports b k c step
-    machine_leads = record {
+    pub machine_leads : (¬ MeetsSeal e (component_words e words x) step) → MachineLeads e words ports b k c step
+    machine_leads unmet = record {
       standing = s;
+      unmet = unmet;
       within = there step low;
       gives = h.gives;
       port = p';
@@ -266,10 +268,14 @@ module _ (e : Plan) (words : List ℕ) (ports : ℕ → Port) (b : Beside) (k : 
         there (Exchange v u n) low = let up = below_whole e x v (w.control.places k below).arena (omega (arith, low)) in let count = w.count in omega (arith, up, count)
         there (Add v u) low = let up = below_whole e x v (w.control.places k below).arena (omega (arith, low)) in let count = w.count in omega (arith, up, count)
 
+  -- the machine has fewer steps left then
+  pub makes_fewer : steps_left (advance c (answer_of (arena_words e words (ports k).control.here.arena) step)) < steps_left c
+  makes_fewer = leads.tells.behind.fewer
+
   pub machine_kept : (MeetsSeal e (component_words e words (ports k).control.here.arena) step × (words_after words (placed e (ports k).control.here.arena step) ≡ words)) ⊎ MachineLeads e words ports b k c step
   machine_kept = elim (worded e words x step (w.control.places k below).arena w.count low apart w.plan.sizes.slots.0) [
     | inl met ↦ inl met
-    | inr h ↦ inr (machine_leads h)
+    | inr h ↦ inr (machine_leads h.1 h.0)
   ]
 
 pub machine_steps_stay_lawful : MachineStepsStayLawful

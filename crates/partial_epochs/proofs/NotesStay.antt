@@ -34,6 +34,8 @@ use Rattle.partial_epochs.specs.Ports.{Control, Epoch, Port}
 use Rattle.partial_epochs.specs.Ports.Entering.{Stands}
 use Rattle.partial_epochs.specs.Epochs.{Beside, IsPresent, IsStanding}
 use Rattle.partial_epochs.specs.MachineSteps.{MachineLeads}
+use Rattle.partial_epochs.specs.EveryStep.{MayAdd, is_answered}
+use Rattle.partial_epochs.specs.EveryStep.Move.{Makes}
 use Rattle.partial_epochs.specs.Notes.{ExpectedOne, IsEpochHistory, LawfulMemory, LawfulNotes, MayNote, NotesStayLawful, Reached, noting, one_history, public_answer, public_call, public_note, public_noted, seen_of}
 use Rattle.partial_epochs.proofs.Lists.{put_all, put_other, put_same}
 use Rattle.partial_epochs.proofs.OneHistory.{held_history}
@@ -73,6 +75,16 @@ places_none p q n g (x ∷ h) ne own = by (x.port == q) (eqb_tells x.port q) (pl
         cond c (n ∷ places_by q (n + 1) (public_log g h)) (places_by q (n + 1) (public_log g h)) ≡ []
     by c (inl is) rest = absurd (ne (sym is.1 ∙ own.0))
     by c (inr is) rest = ap (λ (t : Bool). cond t (n ∷ places_by q (n + 1) (public_log g h)) (places_by q (n + 1) (public_log g h))) is.0 ∙ rest
+
+-- its own entries have places
+no_places : (p n : ℕ) (h : List Applied) → AllByRecursion (λ (a : Applied). a.port ≡ p) h → places_by p n h ≡ [] → h ≡ []
+no_places p n [] own is = refl
+no_places p n (x ∷ h) own is = elim (eqb_tells x.port p) [
+  | inl same ↦
+      let bad : n ∷ places_by p (n + 1) h ≡ [] = sym (ap (λ (c : Bool). cond c (n ∷ places_by p (n + 1) h) (places_by p (n + 1) h)) same.0) ∙ is in
+      absurd cc
+  | inr other ↦ absurd (other.1 own.0)
+]
 
 written_one : (off : ℕ) (t : Option Note) → wrote (option_map (public_note off) t) ≡ map (λ i. off + i) (wrote t)
 written_one off None = refl
@@ -166,7 +178,7 @@ module _ (e : Plan) (words : List ℕ) (ports : ℕ → Port) (b : Beside) (note
   abbrev grown : List Applied
   grown = public_log (length b.before) lead.entries
 
-  history_is : one_history lead.beside ≡ one_history b ++ public_log (length b.before) lead.entries
+  pub history_is : one_history lead.beside ≡ one_history b ++ public_log (length b.before) lead.entries
   history_is = ap (λ (l : List Applied). history_of (l ∷ lead.beside.before)) lead.log ∙ ap (λ (l : List (List Applied)). history_of ((b.log ++ lead.entries) ∷ l)) lead.epochs
       ∙ history_longer b.log lead.entries b.before
 
@@ -185,6 +197,23 @@ module _ (e : Plan) (words : List ℕ) (ports : ℕ → Port) (b : Beside) (note
       ∙ is
       ∙ ap places_written notes_are
       ∙ places_written-append (ports k).part.notes lead.tells.new)
+
+  -- a step adds an entry only where its machine has answered
+  pub adds_of : (public_log (length b.before) lead.entries ≡ []) ⊎ MayAdd e words (ports k) (Makes c step)
+  adds_of = by (reply_of (advance c (answer_of (arena_words e words (ports k).control.here.arena) step))) refl lead.tells.noted
+    where
+      none : lead.tells.new ≡ [] → public_log (length b.before) lead.entries ≡ []
+      none is = ap (public_log (length b.before)) (no_places k (length lead.standing.epoch.log) lead.entries lead.own (own_places ∙ ap places_written is))
+
+      by : (t : Option Reply) → reply_of (advance c (answer_of (arena_words e words (ports k).control.here.arena) step)) ≡ t → AreNotesOf lead.port.part t lead.tells.new →
+          (public_log (length b.before) lead.entries ≡ []) ⊎ MayAdd e words (ports k) (Makes c step)
+      by None is h = inl (none h)
+      by (Some (reply.Refused cause)) is h = inl (none h.none)
+      by (Some (reply.Applied s)) is h = inr (lead.unmet, ap is_answered is)
+      by (Some (reply.Lost s)) is h = inr (lead.unmet, ap is_answered is)
+      by (Some (reply.Scanned n t)) is h = inr (lead.unmet, ap is_answered is)
+      by (Some (reply.Read v s)) is h = inr (lead.unmet, ap is_answered is)
+      by (Some (reply.Changed s)) is h = inr (lead.unmet, ap is_answered is)
 
   public_places : places_by k (0 + length (one_history b)) (public_log (length b.before) lead.entries) ≡ map (λ i. length (history_of (ports k).before) + i) (places_written lead.tells.new)
   public_places = elim lead.present [

@@ -13,4 +13,6 @@ pub mod Opening
 pub mod Reads
 pub mod Notes
 pub mod EveryStep
+pub mod Calls
+pub mod Bounds
 pub mod Variants

@@ -43,6 +43,8 @@ MayClaim e over _ = ⊤
 -- give without their seals, and the one law of steps tells the port what it tells.
 pub record MachineLeads (e : Plan) (words : List ℕ) (ports : ℕ → Port) (b : Beside) (k : ℕ) (c : CoreState) (step : Step) : Type 0 where
   pub standing : IsStanding b k (ports k)
+  -- the step meets no seal
+  pub unmet : ¬ MeetsSeal e (component_words e words (ports k).control.here.arena) step
   pub within : word_of (placed e (ports k).control.here.arena step) < length words
   pub gives : plain e (word_of step) (answer_of words (placed e (ports k).control.here.arena step))
       ≡ answer_of (arena_words e words (ports k).control.here.arena) step

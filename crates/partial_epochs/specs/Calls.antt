@@ -1,0 +1,287 @@
+-- Calls of a port as plain data: what a call is about to do, and how one step of it leads to the next. Nothing here runs.
+use Rattle.std.specs.Prelude.{ℕ, zero, suc, ◌≡◌, ◌≢◌, ◌+◌, ◌*◌, ◌<◌, ◌≤◌, ◌==◌, ◌⊎◌, ◌++◌, ⊤, nat_lt, Bool, true, false, List, [], ◌∷◌, slice_index, Option, Some, None, if◌then◌else◌}
+use Rattle.std.specs.List.{list_all}
+use Rattle.partial_model.specs.declared.history.Applied.{Applied}
+use Rattle.partial_model.specs.declared.call.Call.{Call}
+use Rattle.partial_model.specs.declared.call.Call.TheVariants as call
+use Rattle.partial_model.specs.Notes.{Noted, indices_of}
+use Rattle.partial_words.specs.Layout.{first_free}
+use Rattle.partial_words.specs.Step.{answer_of}
+use Rattle.partial_words.specs.declared.step.Step.{Step}
+use Rattle.partial_machine.specs.Machine.{CoreState, advance, reply_of}
+use Rattle.partial_machine.specs.declared.stage.Reply.{Reply}
+use Rattle.partial_machine.specs.Calls.{call_of}
+use Rattle.partial_epochs.specs.Layout.{IsSealed, Place, Plan, arena_words, at_word, base, component_words, current_word, epoch_limit, marked, own_word, packed}
+use Rattle.partial_epochs.specs.Ports.{Owned, Port}
+use Rattle.partial_epochs.specs.Epochs.{Beside}
+use Rattle.partial_epochs.specs.MachineSteps.{MeetsSeal}
+use Rattle.partial_epochs.specs.Notes.{LawfulMemory}
+use Rattle.partial_epochs.specs.EveryStep.{MayMove, Move, MoveLeads, is_answered, moved_words}
+use Rattle.partial_epochs.specs.EveryStep as every
+
+-- why a call of a long-lived memory is refused
+pub data Refusal : Type 0 where
+  -- it names a component that isn't there
+  Component : Refusal
+  -- an update has come to a later epoch as often as it may, and was applied in none of them
+  Overtaken : Refusal
+  -- three passes over the arenas for each port have found no free one
+  NoArena : Refusal
+  -- the current epoch is the last one that a word can name
+  EpochsSpent : Refusal
+
+-- what a port is about to do in a change of epoch
+pub data Changing : Type 0 where
+  -- it looks at the current word
+  LooksFirst : Changing
+  -- it loads component j; it seals component j
+  LoadsComponent : ℕ → Changing
+  SealsComponent : ℕ → Changing
+  -- with so many passes left behind this one: it exchanges the owner word of arena x, looks as its owner, and loads the word of port q
+  TakesArena : ℕ → ℕ → Changing
+  LooksAsOwner : ℕ → ℕ → Changing
+  LoadsPort : ℕ → ℕ → ℕ → Changing
+  -- it looks again, holding the entering mark of port q, and exchanges that mark
+  LooksAgain : ℕ → ℕ → ℕ → Changing
+  PutsPort : ℕ → ℕ → ℕ → Changing
+  -- it gives arena x back, in which it has found a port; it looks behind a pass
+  GivesBack : ℕ → ℕ → Changing
+  EndsPass : ℕ → Changing
+  -- it loads what the components have, with so many loads left behind this one; it sets word i of its arena; it publishes
+  LoadsLast : ℕ → Changing
+  SetsWord : ℕ → Changing
+  Publishes : Changing
+  -- it gives its arena back, since its epoch has ended
+  GivesUp : Changing
+  -- the three steps of entering
+  StoresMark : Changing
+  LoadsCurrent : Changing
+  ExchangesMark : Changing
+  -- the change has ended: the port has come to a later epoch, or the call is refused
+  Arrived : Changing
+  Refuses : Refusal → Changing
+
+-- the next arena of the pass below x, but for the port's own one, or the end of the pass
+abbrev pub next_arena : ℕ → ℕ → ℕ → Changing
+next_arena own n zero = EndsPass n
+next_arena own n (suc x) = if x == own then next_arena own n x else TakesArena n x
+
+-- the next pass, where so many are left
+abbrev pub next_pass : Plan → ℕ → ℕ → Changing
+next_pass e own zero = Refuses NoArena
+next_pass e own (suc n) = next_arena own n e.arenas
+
+-- there are so many passes
+abbrev pub passes : Plan → ℕ
+passes e = 3 * e.ports
+
+-- component j is the next one to be sealed, or all are
+abbrev pub next_component : Plan → ℕ → ℕ → Changing
+next_component e own j = if nat_lt j e.sizes.m then LoadsComponent j else next_pass e own (passes e)
+
+-- the loads of the record, the value and the carried stamp of each component that are left, or else the first store
+abbrev pub next_load : ℕ → Changing
+next_load zero = SetsWord 0
+next_load (suc i) = LoadsLast i
+
+-- port q is the next one to be found elsewhere, or all are
+abbrev pub next_port : Plan → ℕ → ℕ → ℕ → Changing
+next_port e n x q = if nat_lt q e.ports then LoadsPort n x q else next_load (3 * e.sizes.m)
+
+-- word i is the next one to be set, or all are
+abbrev pub next_set : Plan → ℕ → Changing
+next_set e i = if nat_lt i (first_free e.sizes + e.sizes.m) then SetsWord i else Publishes
+
+-- a step of a call: one of the moves; or a load, or an exchange that is lost, by which no word changes and of which the port need know nothing
+pub data Act : Type 0 where
+  Moves : Move → Act
+  Sees : Act
+
+-- the current word names the port's place
+abbrev pub IsHere : List ℕ → Port → Type 0
+IsHere words p = slice_index words current_word ≡ packed p.control.here
+
+-- how a step of a change of epoch leads on, by a port with that knowledge and these words
+pub data ChangeLeads (e : Plan) (words : List ℕ) (p : Port) : Changing → Act → Changing → Type 0 where
+  -- the first look: the epoch is the current one, or has ended; or it is the last one
+  FindsCurrent : IsHere words p → p.control.here.epoch + 1 < epoch_limit → ChangeLeads e words p LooksFirst Sees (next_component e p.control.here.arena p.passed)
+  FindsEnded : (¬ IsHere words p) → ChangeLeads e words p LooksFirst (Moves every.Move.Looks) StoresMark
+  FindsLastEpoch : IsHere words p → epoch_limit ≤ p.control.here.epoch + 1 → ChangeLeads e words p LooksFirst Sees (Refuses EpochsSpent)
+  -- component j is sealed already, or is to be sealed; it is sealed
+  FindsSealed : (j : ℕ) → p.passed ≡ j → ChangeLeads e words p (LoadsComponent j) (Moves every.Move.PassesSealed) (next_component e p.control.here.arena (j + 1))
+  FindsUnsealed : (j : ℕ) → j < e.sizes.m → ChangeLeads e words p (LoadsComponent j) Sees (SealsComponent j)
+  Seals : (j : ℕ) → p.passed ≡ j → ChangeLeads e words p (SealsComponent j) (Moves every.Move.Seals) (next_component e p.control.here.arena (j + 1))
+  -- the arena is taken, or is owned by a port
+  TakesOne : (n x : ℕ) → ChangeLeads e words p (TakesArena n x) (Moves (every.Move.Takes x)) (LooksAsOwner n x)
+  FindsOwned : (n x : ℕ) → slice_index words (own_word e x) ≢ 0 → ChangeLeads e words p (TakesArena n x) Sees (next_arena p.control.here.arena n x)
+  -- the owner finds its epoch the current one, or ended
+  OwnerGoesOn : (n x : ℕ) (o : Owned) → IsHere words p → ChangeLeads e words p (LooksAsOwner n x) (Moves (every.Move.LooksAsOwner o)) (next_port e n x 0)
+  OwnerGivesUp : (n x : ℕ) (o : Owned) → (¬ IsHere words p) → ChangeLeads e words p (LooksAsOwner n x) (Moves (every.Move.LooksAsOwner o)) GivesUp
+  -- port q is elsewhere, or is entering, or is in the arena
+  FindsElsewhere : (n x q : ℕ) (o : Owned) (d : Place) → o.clean ≡ q → ChangeLeads e words p (LoadsPort n x q) (Moves (every.Move.FindsElsewhere o d)) (next_port e n x (q + 1))
+  FindsMark : (n x q : ℕ) (o : Owned) → o.clean ≡ q → ChangeLeads e words p (LoadsPort n x q) (Moves (every.Move.LoadsMark o)) (LooksAgain n x q)
+  FindsThere : (n x q : ℕ) (d : Place) → q < e.ports → slice_index words (at_word q) ≡ packed d → d.arena ≡ x → ChangeLeads e words p (LoadsPort n x q) Sees (GivesBack n x)
+  -- behind the mark the epoch is the current one yet, or has ended
+  LooksOn : (n x q : ℕ) (o : Owned) → q < e.ports → IsHere words p → ChangeLeads e words p (LooksAgain n x q) (Moves (every.Move.LooksAsOwner o)) (PutsPort n x q)
+  MarkGivesUp : (n x q : ℕ) (o : Owned) → (¬ IsHere words p) → ChangeLeads e words p (LooksAgain n x q) (Moves (every.Move.LooksAsOwner o)) GivesUp
+  -- the exchange of the mark is won; or it is lost, and the port is elsewhere, or not
+  PutsOne : (n x q : ℕ) (o : Owned) (a : Place) → o.clean ≡ q → ChangeLeads e words p (PutsPort n x q) (Moves (every.Move.Puts o a)) (next_port e n x (q + 1))
+  PutElsewhere : (n x q : ℕ) (o : Owned) (d : Place) → o.clean ≡ q → ChangeLeads e words p (PutsPort n x q) (Moves (every.Move.FindsElsewhere o d)) (next_port e n x (q + 1))
+  PutIsLost : (n x q : ℕ) (a : Place) → q < e.ports → slice_index words (at_word q) ≢ marked a → ChangeLeads e words p (PutsPort n x q) Sees (GivesBack n x)
+  -- the arena isn't free, and the next one is tried
+  GivesOneBack : (n x : ℕ) (o : Owned) → ChangeLeads e words p (GivesBack n x) (Moves (every.Move.Gives o)) (next_arena p.control.here.arena n x)
+  -- behind a pass the epoch is the current one yet, or has ended
+  PassesAgain : (n : ℕ) → IsHere words p → ChangeLeads e words p (EndsPass n) Sees (next_pass e p.control.here.arena n)
+  PassGivesUp : (n : ℕ) → (¬ IsHere words p) → ChangeLeads e words p (EndsPass n) (Moves every.Move.Looks) StoresMark
+  -- the loads of what the components have, the stores of the next epoch's words, and the exchange of the current word
+  LoadsOne : (i : ℕ) → ChangeLeads e words p (LoadsLast i) Sees (next_load i)
+  SetsOne : (i : ℕ) (o : Owned) (v : ℕ) → o.set ≡ i → ChangeLeads e words p (SetsWord i) (Moves (every.Move.Sets o v)) (next_set e (i + 1))
+  PublishesOnce : (o : Owned) → ChangeLeads e words p Publishes (Moves (every.Move.Publishes o)) GivesUp
+  GivesLast : (o : Owned) → ChangeLeads e words p GivesUp (Moves (every.Move.Gives o)) StoresMark
+  -- the three steps of entering
+  Marks : ChangeLeads e words p StoresMark (Moves every.Move.StoresMark) LoadsCurrent
+  Loads : ChangeLeads e words p LoadsCurrent (Moves every.Move.LoadsCurrent) ExchangesMark
+  Arrives : (c : Place) → ChangeLeads e words p ExchangesMark (Moves (every.Move.ExchangesMark c)) Arrived
+
+-- What a call is about to do. It has so many changes of epoch left, and it is fresh once it has come to the epoch where it is.
+pub data Doing : Type 0 where
+  -- a read or a conditional update loads its component
+  LoadsWord : Call → ℕ → Bool → Doing
+  -- a conditional update loads the carried stamp, where it found an initial record
+  Judges : Call → ℕ → Bool → Doing
+  -- the first step of an update or a scan in this epoch, and a further one of its machine
+  Starts : Call → ℕ → Bool → Doing
+  Runs : Call → ℕ → Bool → CoreState → Doing
+  -- it looks at the current word, before it answers
+  Looks : Call → ℕ → Doing
+  -- it loads the value and the carried stamp that it answers, with so many loads left behind this one
+  Tells : Call → ℕ → Doing
+  -- it is in a change of epoch
+  Changes : Call → ℕ → Changing → Doing
+  -- the call has ended
+  Answered : Doing
+  Refused : Refusal → Doing
+
+-- a call in an epoch, with so many changes of epoch left: an update with none left is refused
+abbrev pub round : Call → ℕ → Bool → Doing
+round (call.Read j) n fresh = LoadsWord (call.Read j) n fresh
+round (call.Scan js) n fresh = Starts (call.Scan js) n fresh
+round c zero fresh = Refused Overtaken
+round (call.UpdateIf j x v) (suc n) fresh = LoadsWord (call.UpdateIf j x v) (suc n) fresh
+round c (suc n) fresh = Starts c (suc n) fresh
+
+-- the call where no component is missing, by a port that has made a claim past the limit, or not: a scan of such a port begins with a
+-- change of epoch, and one of no position is answered at once
+abbrev pub started : ℕ → Bool → Call → Doing
+started n over (call.Scan []) = Answered
+started n true (call.Scan js) = Changes (call.Scan js) n LooksFirst
+started n over c = round c n false
+
+-- a call as it begins
+abbrev pub begun : Plan → ℕ → Bool → Call → Doing
+begun e n over c = if list_all (λ j. nat_lt j e.sizes.m) (indices_of c) then started n over c else Refused Component
+
+-- the call goes on where a change of epoch has come to
+abbrev pub changed : Call → ℕ → Changing → Doing
+changed c n Arrived = round c n true
+changed c n (Refuses cause) = Refused cause
+changed c n d = Changes c n d
+
+-- the machine has answered: a scan that isn't fresh looks before it answers
+abbrev pub answered : Call → ℕ → Bool → Doing
+answered (call.Scan js) n false = Looks (call.Scan js) n
+answered c n fresh = Answered
+
+-- the machine goes on, or has answered
+abbrev pub ran : Call → ℕ → Bool → CoreState → Option Reply → Doing
+ran c n fresh s None = Runs c n fresh s
+ran c n fresh s (Some r) = answered c n fresh
+
+-- the call of its machine: a conditional update expects there the reference of the stamp
+abbrev pub IsCallOf : Call → Option Call → Type 0
+IsCallOf (call.UpdateIf j x v) m = (y : ℕ) × (m ≡ Some (call.UpdateIf j y v))
+IsCallOf c m = m ≡ Some c
+
+-- the call is an update, conditional or not
+abbrev pub IsUpdate : Call → Type 0
+IsUpdate (call.Update j v) = ⊤
+IsUpdate (call.UpdateIf j x v) = ⊤
+IsUpdate c = ⊥
+
+-- the component of a call that has one is sealed
+abbrev pub IsSealedFor : Plan → List ℕ → Port → Call → Type 0
+IsSealedFor e words p (call.Scan js) = ⊥
+IsSealedFor e words p (call.Update j v) = IsSealed (slice_index (component_words e words p.control.here.arena) j)
+IsSealedFor e words p (call.Read j) = IsSealed (slice_index (component_words e words p.control.here.arena) j)
+IsSealedFor e words p (call.UpdateIf j x v) = IsSealed (slice_index (component_words e words p.control.here.arena) j)
+
+-- the machine once its due step is answered by the words of the arena where the port stands
+abbrev pub after_step : Plan → List ℕ → Port → CoreState → Step → CoreState
+after_step e words p s step = advance s (answer_of (arena_words e words p.control.here.arena) step)
+
+-- how a step of a call leads on, by a port with that knowledge and these words
+pub data Leads (e : Plan) (words : List ℕ) (p : Port) : Doing → Act → Doing → Type 0 where
+  -- a read loads a word that isn't sealed, or reads what was left behind where it has come in this call
+  ReadsWord : (j n : ℕ) (fresh : Bool) → (¬ IsSealedFor e words p (call.Read j)) ⊎ (fresh ≡ true) → Leads e words p (LoadsWord (call.Read j) n fresh) Sees (Tells (call.Read j) 1)
+  ReadsSealed : (j n : ℕ) → IsSealedFor e words p (call.Read j) → Leads e words p (LoadsWord (call.Read j) n false) Sees (Looks (call.Read j) n)
+  ReadsOn : (j n : ℕ) → IsHere words p → Leads e words p (Looks (call.Read j) n) Sees (Tells (call.Read j) 1)
+  TellsOn : (c : Call) (i : ℕ) → Leads e words p (Tells c (suc i)) Sees (Tells c i)
+  TellsAll : (c : Call) (i n : ℕ) (note : Noted) → note.call ≡ c → Leads e words p (Tells c i) (Moves (every.Move.Notes note n)) Answered
+  -- a conditional update goes on to judge the stamp; it finds another one, looks before it says so, or finds the one that it expects
+  LoadsStamp : (j x v n : ℕ) (fresh : Bool) → Leads e words p (LoadsWord (call.UpdateIf j x v) (suc n) fresh) Sees (Judges (call.UpdateIf j x v) (suc n) fresh)
+  FindsOther : (j x v n i : ℕ) (fresh : Bool) (note : Noted) → note.call ≡ call.UpdateIf j x v →
+      Leads e words p (Judges (call.UpdateIf j x v) (suc n) fresh) (Moves (every.Move.Notes note i)) Answered
+  LooksAtOther : (j x v n : ℕ) → IsSealedFor e words p (call.UpdateIf j x v) → Leads e words p (Judges (call.UpdateIf j x v) (suc n) false) Sees (Looks (call.UpdateIf j x v) (suc n))
+  FindsExpected : (j x v n : ℕ) (fresh : Bool) → Leads e words p (Judges (call.UpdateIf j x v) (suc n) fresh) Sees (Starts (call.UpdateIf j x v) (suc n) fresh)
+  -- a scan, or a conditional update that has found another stamp, looks: its epoch is the current one yet, or it enters and begins again
+  LooksAndAnswers : (c : Call) (n i : ℕ) (note : Noted) → note.call ≡ c → IsHere words p → Leads e words p (Looks c n) (Moves (every.Move.Notes note i)) Answered
+  LooksAndEnters : (c : Call) (n : ℕ) → (¬ IsHere words p) → Leads e words p (Looks c n) (Moves every.Move.Looks) (Changes c n StoresMark)
+  -- an update finds its component sealed, or its port has made a claim past the limit: it changes the epoch
+  StartsSealed : (c : Call) (n : ℕ) (fresh : Bool) → IsUpdate c → IsSealedFor e words p c ⊎ (p.over ≡ true) → Leads e words p (Starts c (suc n) fresh) Sees (Changes c n LooksFirst)
+  -- the first step of the machine, and a further one
+  MakesFirst : (c : Call) (n : ℕ) (fresh : Bool) (s : CoreState) (step : Step) → IsCallOf c (call_of s) →
+      (¬ MeetsSeal e (component_words e words p.control.here.arena) step) →
+      Leads e words p (Starts c n fresh) (Moves (every.Move.Makes s step)) (ran c n fresh (after_step e words p s step) (reply_of (after_step e words p s step)))
+  MakesNext : (c : Call) (n : ℕ) (fresh : Bool) (s : CoreState) (step : Step) →
+      (¬ MeetsSeal e (component_words e words p.control.here.arena) step) →
+      Leads e words p (Runs c n fresh s) (Moves (every.Move.Makes s step)) (ran c n fresh (after_step e words p s step) (reply_of (after_step e words p s step)))
+  -- the exchange of its component meets a seal: the update changes the epoch
+  MeetsTheSeal : (c : Call) (n : ℕ) (fresh : Bool) (s : CoreState) (step : Step) → IsUpdate c → MeetsSeal e (component_words e words p.control.here.arena) step →
+      Leads e words p (Runs c (suc n) fresh s) (Moves (every.Move.Makes s step)) (Changes c n LooksFirst)
+  -- a step of a change of epoch
+  ChangesOn : (c : Call) (n : ℕ) (d : Changing) (a : Act) (d' : Changing) → ChangeLeads e words p d a d' → Leads e words p (Changes c n d) a (changed c n d')
+
+-- the step may be made where the words and the port are so
+abbrev pub MayAct : Plan → List ℕ → (ℕ → Port) → Beside → (ℕ → List Noted) → ℕ → Act → Type 0
+MayAct e words ports b notes k (Moves m) = MayMove e words ports b notes k m
+MayAct e words ports b notes k Sees = ⊤
+
+-- the port is that one behind the step, and the one history has gained these entries
+abbrev pub ActLeads : Plan → List ℕ → (ℕ → Port) → Beside → (ℕ → List Noted) → ℕ → Act → Port → List Applied → Type 0
+ActLeads e words ports b notes k (Moves m) p entries =
+    (lead : MoveLeads e words (moved_words e words (ports k) k m) ports b notes k m) × (p ≡ lead.ports_then k) × (entries ≡ lead.entries)
+ActLeads e words ports b notes k Sees p entries = (p ≡ ports k) × (entries ≡ [])
+
+-- A step of a call of port k, which knows so much: in a lawful memory, whatever other ports have done since the call's last step.
+pub record CallStep (e : Plan) (k : ℕ) (p : Port) (d : Doing) : Type 0 where
+  pub words : List ℕ
+  pub ports : ℕ → Port
+  pub beside : Beside
+  pub notes : ℕ → List Noted
+  pub lawful : LawfulMemory e words ports beside notes
+  -- since then the port knows what it knew
+  pub same : ports k ≡ p
+  -- the step is one that may be made, and leads the call on
+  pub act : Act
+  pub may : MayAct e words ports beside notes k act
+  pub next : Doing
+  pub leads : Leads e words p d act next
+  -- what the port knows then, and what the one history has gained by the step
+  pub port : Port
+  pub entries : List Applied
+  pub ends : ActLeads e words ports beside notes k act port entries
+
+-- so many steps of a call of port k lead it from the one to the other
+abbrev pub Run : Plan → ℕ → ℕ → Port → Doing → Port → Doing → Type 0
+Run e k zero p d p' d' = (p' ≡ p) × (d' ≡ d)
+Run e k (suc n) p d p' d' = (s : CallStep e k p d) × Run e k n s.port s.next p' d'
