@@ -28,3 +28,5 @@ pub mod NotesStay
 pub mod Sights
 pub mod EveryStep
 pub mod Refused
+pub mod CallBounds
+pub mod CallRefusals

@@ -14,6 +14,7 @@ use Rattle.partial_words.specs.Step.{answer_of, word_of, words_after}
 use Rattle.partial_machine.specs.Bounds.{steps_left}
 use Rattle.partial_machine.specs.Machine.{CoreState, advance, step_of}
 use Rattle.partial_core.specs.Part.{Part, IsMachineOf, port_of}
+use Rattle.partial_core.specs.Ports.{IsReady}
 use Rattle.partial_core.specs.Lawful as one
 use Rattle.partial_core.specs.Steps.{LeadsOn, Tells, added_by}
 use Rattle.partial_core.proofs.Laws.{lawful_machines_are_ready, steps_stay_lawful}
@@ -267,6 +268,10 @@ module _ (e : Plan) (words : List ℕ) (ports : ℕ → Port) (b : Beside) (k : 
         there (Store v u) low = let up = below_whole e x v (w.control.places k below).arena (omega (arith, low)) in let count = w.count in omega (arith, up, count)
         there (Exchange v u n) low = let up = below_whole e x v (w.control.places k below).arena (omega (arith, low)) in let count = w.count in omega (arith, up, count)
         there (Add v u) low = let up = below_whole e x v (w.control.places k below).arena (omega (arith, low)) in let count = w.count in omega (arith, up, count)
+
+  -- the machine is sound, with the sizes of the plan
+  pub machine_ready : IsReady e.sizes c (r.part k)
+  machine_ready = lawful_machines_are_ready e.sizes o bw around.before (r.part k) around.after r.log c lawful_here machine_here
 
   -- the machine has fewer steps left then
   pub makes_fewer : steps_left (advance c (answer_of (arena_words e words (ports k).control.here.arena) step)) < steps_left c

@@ -25,7 +25,7 @@ use Rattle.partial_state.specs.Loads.{Kept}
 use Rattle.partial_core.specs.Part.{Part, core_of, first_at, port_of}
 use Rattle.partial_core.specs.Held.{holdings}
 use Rattle.partial_core.specs.Known.{AreKept}
-use Rattle.partial_core.specs.Steps.{AreNotesOf, IsNoteOf, kept_with, since_with}
+use Rattle.partial_core.specs.Steps.{AreNotesOf, IsNoteOf, IsPlacedAt, kept_with, since_with}
 use Rattle.partial_core.proofs.Parts.{seen_within as no_longer}
 use Rattle.partial_epochs.specs.Lists.{list_of, put}
 use Rattle.partial_epochs.specs.Layout.{Plan, arena_words, placed}
@@ -34,7 +34,7 @@ use Rattle.partial_epochs.specs.Ports.{Control, Epoch, Port}
 use Rattle.partial_epochs.specs.Ports.Entering.{Stands}
 use Rattle.partial_epochs.specs.Epochs.{Beside, IsPresent, IsStanding}
 use Rattle.partial_epochs.specs.MachineSteps.{MachineLeads}
-use Rattle.partial_epochs.specs.EveryStep.{MayAdd, is_answered}
+use Rattle.partial_epochs.specs.EveryStep.{MayAdd, is_applied}
 use Rattle.partial_epochs.specs.EveryStep.Move.{Makes}
 use Rattle.partial_epochs.specs.Notes.{ExpectedOne, IsEpochHistory, LawfulMemory, LawfulNotes, MayNote, NotesStayLawful, Reached, noting, one_history, public_answer, public_call, public_note, public_noted, seen_of}
 use Rattle.partial_epochs.proofs.Lists.{put_all, put_other, put_same}
@@ -75,6 +75,27 @@ places_none p q n g (x ∷ h) ne own = by (x.port == q) (eqb_tells x.port q) (pl
         cond c (n ∷ places_by q (n + 1) (public_log g h)) (places_by q (n + 1) (public_log g h)) ≡ []
     by c (inl is) rest = absurd (ne (sym is.1 ∙ own.0))
     by c (inr is) rest = ap (λ (t : Bool). cond t (n ∷ places_by q (n + 1) (public_log g h)) (places_by q (n + 1) (public_log g h))) is.0 ∙ rest
+
+-- a reply that isn't that of an applied update writes none
+lost_none : (s : ℕ) (n : Note) (i : ℕ) → IsPlacedAt (reply.Lost s) n i → wrote (Some n) ++ [] ≡ []
+lost_none s (note.Wrote k) i h = absurd h
+lost_none s (note.Lost k) i h = refl
+lost_none s (note.Saw k) i h = refl
+
+scanned_none : (c : ℕ) (t : Option ℕ) (n : Note) (i : ℕ) → IsPlacedAt (reply.Scanned c t) n i → wrote (Some n) ++ [] ≡ []
+scanned_none c t (note.Wrote k) i h = absurd h
+scanned_none c t (note.Lost k) i h = refl
+scanned_none c t (note.Saw k) i h = refl
+
+read_none : (v s : ℕ) (n : Note) (i : ℕ) → IsPlacedAt (reply.Read v s) n i → wrote (Some n) ++ [] ≡ []
+read_none v s (note.Wrote k) i h = absurd h
+read_none v s (note.Lost k) i h = refl
+read_none v s (note.Saw k) i h = refl
+
+changed_none : (s : ℕ) (n : Note) (i : ℕ) → IsPlacedAt (reply.Changed s) n i → wrote (Some n) ++ [] ≡ []
+changed_none s (note.Wrote k) i h = absurd h
+changed_none s (note.Lost k) i h = refl
+changed_none s (note.Saw k) i h = refl
 
 -- its own entries have places
 no_places : (p n : ℕ) (h : List Applied) → AllByRecursion (λ (a : Applied). a.port ≡ p) h → places_by p n h ≡ [] → h ≡ []
@@ -202,18 +223,18 @@ module _ (e : Plan) (words : List ℕ) (ports : ℕ → Port) (b : Beside) (note
   pub adds_of : (public_log (length b.before) lead.entries ≡ []) ⊎ MayAdd e words (ports k) (Makes c step)
   adds_of = by (reply_of (advance c (answer_of (arena_words e words (ports k).control.here.arena) step))) refl lead.tells.noted
     where
-      none : lead.tells.new ≡ [] → public_log (length b.before) lead.entries ≡ []
-      none is = ap (public_log (length b.before)) (no_places k (length lead.standing.epoch.log) lead.entries lead.own (own_places ∙ ap places_written is))
+      none : places_written lead.tells.new ≡ [] → public_log (length b.before) lead.entries ≡ []
+      none is = ap (public_log (length b.before)) (no_places k (length lead.standing.epoch.log) lead.entries lead.own (own_places ∙ is))
 
       by : (t : Option Reply) → reply_of (advance c (answer_of (arena_words e words (ports k).control.here.arena) step)) ≡ t → AreNotesOf lead.port.part t lead.tells.new →
           (public_log (length b.before) lead.entries ≡ []) ⊎ MayAdd e words (ports k) (Makes c step)
-      by None is h = inl (none h)
-      by (Some (reply.Refused cause)) is h = inl (none h.none)
-      by (Some (reply.Applied s)) is h = inr (lead.unmet, ap is_answered is)
-      by (Some (reply.Lost s)) is h = inr (lead.unmet, ap is_answered is)
-      by (Some (reply.Scanned n t)) is h = inr (lead.unmet, ap is_answered is)
-      by (Some (reply.Read v s)) is h = inr (lead.unmet, ap is_answered is)
-      by (Some (reply.Changed s)) is h = inr (lead.unmet, ap is_answered is)
+      by None is h = inl (none (ap places_written h))
+      by (Some (reply.Refused cause)) is h = inl (none (ap places_written h.none))
+      by (Some (reply.Applied s)) is h = inr (lead.unmet, ap is_applied is)
+      by (Some (reply.Lost s)) is h = inl (none (ap places_written h.is ∙ lost_none s h.note (length lead.port.part.seen) h.placed))
+      by (Some (reply.Scanned n t)) is h = inl (none (ap places_written h.is ∙ scanned_none n t h.note (length lead.port.part.seen) h.placed))
+      by (Some (reply.Read v s)) is h = inl (none (ap places_written h.is ∙ read_none v s h.note (length lead.port.part.seen) h.placed))
+      by (Some (reply.Changed s)) is h = inl (none (ap places_written h.is ∙ changed_none s h.note (length lead.port.part.seen) h.placed))
 
   public_places : places_by k (0 + length (one_history b)) (public_log (length b.before) lead.entries) ≡ map (λ i. length (history_of (ports k).before) + i) (places_written lead.tells.new)
   public_places = elim lead.present [

@@ -197,17 +197,23 @@ module _ (e : Plan) (words : List ℕ) (x : ℕ) where
       let there = below_whole e x w within (omega (arith, low)) in
       let from : e.sizes.m ≤ w = omega (arith, apart) in
       let found : get_or (arena_words e words x) w 0 ≡ get_or words (base e x + w) 0 = plain_at w low ∙ plain_other w (get_or words (base e x + w) 0) from in
-      inr (λ h. h, keeps_other (Add w n) ((get_or words (base e x + w) 0 + n) % 2 ^ 64) low (omega (arith, there, count)) from
-      (ap (λ v. set (arena_words e words x) w ((v + n) % 2 ^ 64)) found) (plain_other w (get_or words (base e x + w) 0) from ∙ sym found) (λ p. refl))
+      inr (
+        λ h. h,
+        keeps_other (Add w n) ((get_or words (base e x + w) 0 + n) % 2 ^ 64) low (omega (arith, there, count)) from
+            (ap (λ v. set (arena_words e words x) w ((v + n) % 2 ^ 64)) found) (plain_other w (get_or words (base e x + w) 0) from ∙ sym found) (λ p. refl),
+      )
   worded (Exchange w old new) within count low (inr head) some =
       let there = below_whole e x w within (omega (arith, low)) in
       let from : e.sizes.m ≤ w = omega (arith, head) in
       let raw : ℕ = get_or words (base e x + w) 0 in
       let found : get_or (arena_words e words x) w 0 ≡ raw = plain_at w low ∙ plain_other w raw from in
-      inr (λ h. let inside = h.0 in omega (arith, inside, from), keeps_other (Exchange w old new) (cond (raw == old) new raw) low (omega (arith, there, count)) from
-      (ap (λ v. set (arena_words e words x) w (cond (v == old) new v)) found) (plain_other w raw from ∙ sym found)
-      (λ p. ap (λ (c : Bool). cond c (cond (get_or (arena_words e words x) w 0 == old) (record { port = p; component = w; value = get_or (arena_words e words x) (new + 1) 0; stamp = new } ∷ []) []) [])
-      (not_below w e.sizes.m from)))
+      inr (
+        λ h. let inside = h.0 in omega (arith, inside, from),
+        keeps_other (Exchange w old new) (cond (raw == old) new raw) low (omega (arith, there, count)) from
+            (ap (λ v. set (arena_words e words x) w (cond (v == old) new v)) found) (plain_other w raw from ∙ sym found)
+            (λ p. ap (λ (c : Bool). cond c (cond (get_or (arena_words e words x) w 0 == old) (record { port = p; component = w; value = get_or (arena_words e words x) (new + 1) 0; stamp = new } ∷ []) []) [])
+            (not_below w e.sizes.m from)),
+      )
   worded (Exchange w old new) within count low (inl (inside, small, small')) some =
       let there' = below_whole e x w within (omega (arith, low)) in
       let there : base e x + w < length words = omega (arith, there', count) in

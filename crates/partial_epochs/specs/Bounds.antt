@@ -1,9 +1,9 @@
 -- How many steps a call makes at most, by the sizes, the ports and the arenas.
-use Rattle.std.specs.Prelude.{ℕ, zero, suc, ◌≡◌, ◌+◌, ◌*◌, ◌-◌, ◌<◌, ◌≤◌, Bool, true, false, List, [], if◌then◌else◌}
+use Rattle.std.specs.Prelude.{ℕ, zero, suc, ◌+◌, ◌*◌, ◌-◌, ◌<◌, ◌≤◌, Bool, true, false, List, if◌then◌else◌}
 use Rattle.partial_model.specs.declared.call.Call.{Call}
 use Rattle.partial_model.specs.declared.call.Call.TheVariants as call
 use Rattle.partial_words.specs.Layout.{first_free}
-use Rattle.partial_machine.specs.Bounds.{most_steps, steps_left}
+use Rattle.partial_machine.specs.Bounds.{most_of_update, most_steps, steps_left}
 use Rattle.partial_epochs.specs.Layout.{Plan}
 use Rattle.partial_epochs.specs.Ports.{Port}
 use Rattle.partial_epochs.specs.Calls.{CallStep, Changing, Doing, Run, begun, passes}
@@ -25,17 +25,6 @@ opening_steps e = 3 * e.sizes.m + (first_free e.sizes + e.sizes.m) + 5
 -- a change of epoch: a look, two steps for each component, three passes for each port, and the next epoch's opening
 abbrev pub most_of_change : Plan → ℕ
 most_of_change e = 1 + 2 * e.sizes.m + passes e * pass_steps e + opening_steps e
-
--- A call that may change the epoch so often (`n`), of a port that has made a claim past the limit or not: a scan makes its machine's steps
--- behind a change of epoch, or twice, with a look and three steps of entering between; a conditional update loads its component's word
--- and stamp in each epoch, and looks and enters once before all.
-abbrev pub most_of_call : Plan → ℕ → Bool → Call → ℕ
-most_of_call e n over (call.Read j) = 8
-most_of_call e n over (call.Scan []) = 0
-most_of_call e n true (call.Scan js) = most_of_change e + most_steps e.sizes (call.Scan js)
-most_of_call e n false (call.Scan js) = 2 * most_steps e.sizes (call.Scan js) + 4
-most_of_call e n over (call.Update j v) = n * (most_steps e.sizes (call.Update j v) + most_of_change e)
-most_of_call e n over (call.UpdateIf j x v) = n * (2 + most_steps e.sizes (call.UpdateIf j x v) + most_of_change e) + 6
 
 -- what is left of a change of epoch behind arena x, with so many passes left behind this one
 abbrev pub arenas_left : Plan → ℕ → ℕ → ℕ
@@ -95,15 +84,27 @@ left e (calls.Doing.Refused cause) = 0
 abbrev pub StepsLeaveFewer : Type 0
 StepsLeaveFewer = (e : Plan) (k : ℕ) (p : Port) (d : Doing) → k < e.ports → (s : CallStep e k p d) → left e s.next < left e d
 
--- so a call makes few
-abbrev pub CallsAreBounded : Type 0
-CallsAreBounded = (e : Plan) (k n rounds : ℕ) (over : Bool) (p p' : Port) (c : Call) (d : Doing) → k < e.ports →
-    Run e k n p (begun e rounds over c) p' d → n + left e d ≤ most_of_call e rounds over c
-
 -- a read makes at most 8 steps
 abbrev pub ReadsMakeEight : Type 0
 ReadsMakeEight = (e : Plan) (k n rounds j : ℕ) (over : Bool) (p p' : Port) (d : Doing) → k < e.ports →
     Run e k n p (begun e rounds over (call.Read j)) p' d → n ≤ 8
+
+-- an update that may change the epoch so often: its machine's steps and a change, for each
+abbrev pub UpdatesAreBounded : Type 0
+UpdatesAreBounded = (e : Plan) (k n rounds j v : ℕ) (over : Bool) (p p' : Port) (d : Doing) → k < e.ports →
+    Run e k n p (begun e rounds over (call.Update j v)) p' d → n ≤ rounds * (most_of_update e.sizes + most_of_change e)
+
+-- a conditional update loads the word and the stamp of its component in each epoch, and may look and enter once before all
+abbrev pub ConditionalUpdatesAreBounded : Type 0
+ConditionalUpdatesAreBounded = (e : Plan) (k n rounds j x v : ℕ) (over : Bool) (p p' : Port) (d : Doing) → k < e.ports →
+    Run e k n p (begun e rounds over (call.UpdateIf j x v)) p' d → n ≤ rounds * (2 + most_of_update e.sizes + most_of_change e) + 6
+
+-- a scan makes its machine's steps twice, with a look and the three steps of entering between; or behind a change of epoch, if its port
+-- has made a claim past the limit
+abbrev pub ScansAreBounded : Type 0
+ScansAreBounded = (e : Plan) (k n rounds : ℕ) (js : List ℕ) (over : Bool) (p p' : Port) (d : Doing) → k < e.ports →
+    Run e k n p (begun e rounds over (call.Scan js)) p' d →
+    n ≤ (if over then most_of_change e + most_steps e.sizes (call.Scan js) else 2 * most_steps e.sizes (call.Scan js) + 4)
 
 -- a change of epoch, from its first look to where it comes to
 abbrev pub ChangesAreBounded : Type 0

@@ -1,5 +1,5 @@
 -- Calls of a port as plain data: what a call is about to do, and how one step of it leads to the next. Nothing here runs.
-use Rattle.std.specs.Prelude.{ℕ, zero, suc, ◌≡◌, ◌≢◌, ◌+◌, ◌*◌, ◌<◌, ◌≤◌, ◌==◌, ◌⊎◌, ◌++◌, ⊤, nat_lt, Bool, true, false, List, [], ◌∷◌, slice_index, Option, Some, None, if◌then◌else◌}
+use Rattle.std.specs.Prelude.{ℕ, zero, suc, ◌≡◌, ◌≢◌, ◌+◌, ◌*◌, ◌<◌, ◌≤◌, ◌==◌, ◌⊎◌, ⊤, nat_lt, Bool, true, false, List, [], slice_index, Option, Some, None, if◌then◌else◌}
 use Rattle.std.specs.List.{list_all}
 use Rattle.partial_model.specs.declared.history.Applied.{Applied}
 use Rattle.partial_model.specs.declared.call.Call.{Call}
@@ -10,13 +10,14 @@ use Rattle.partial_words.specs.Step.{answer_of}
 use Rattle.partial_words.specs.declared.step.Step.{Step}
 use Rattle.partial_machine.specs.Machine.{CoreState, advance, reply_of}
 use Rattle.partial_machine.specs.declared.stage.Reply.{Reply}
+use Rattle.partial_machine.specs.declared.stage.Reply.TheVariants as reply
 use Rattle.partial_machine.specs.Calls.{call_of}
-use Rattle.partial_epochs.specs.Layout.{IsSealed, Place, Plan, arena_words, at_word, base, component_words, current_word, epoch_limit, marked, own_word, packed}
+use Rattle.partial_epochs.specs.Layout.{IsSealed, Place, Plan, arena_words, at_word, component_words, current_word, epoch_limit, marked, own_word, packed}
 use Rattle.partial_epochs.specs.Ports.{Owned, Port}
 use Rattle.partial_epochs.specs.Epochs.{Beside}
 use Rattle.partial_epochs.specs.MachineSteps.{MeetsSeal}
 use Rattle.partial_epochs.specs.Notes.{LawfulMemory}
-use Rattle.partial_epochs.specs.EveryStep.{MayMove, Move, MoveLeads, is_answered, moved_words}
+use Rattle.partial_epochs.specs.EveryStep.{MayMove, Move, MoveLeads, moved_words}
 use Rattle.partial_epochs.specs.EveryStep as every
 
 -- why a call of a long-lived memory is refused
@@ -195,6 +196,7 @@ answered c n fresh = Answered
 -- the machine goes on, or has answered
 abbrev pub ran : Call → ℕ → Bool → CoreState → Option Reply → Doing
 ran c n fresh s None = Runs c n fresh s
+ran c n fresh s (Some (reply.Applied stamp)) = Answered
 ran c n fresh s (Some r) = answered c n fresh
 
 -- the call of its machine: a conditional update expects there the reference of the stamp
@@ -239,7 +241,7 @@ pub data Leads (e : Plan) (words : List ℕ) (p : Port) : Doing → Act → Doin
   -- an update finds its component sealed, or its port has made a claim past the limit: it changes the epoch
   StartsSealed : (c : Call) (n : ℕ) (fresh : Bool) → IsUpdate c → IsSealedFor e words p c ⊎ (p.over ≡ true) → Leads e words p (Starts c (suc n) fresh) Sees (Changes c n LooksFirst)
   -- the first step of the machine, and a further one
-  MakesFirst : (c : Call) (n : ℕ) (fresh : Bool) (s : CoreState) (step : Step) → IsCallOf c (call_of s) →
+  MakesFirst : (c : Call) (n : ℕ) (fresh : Bool) (s : CoreState) (step : Step) → IsCallOf c (call_of s) → (¬ IsSealedFor e words p c) →
       (¬ MeetsSeal e (component_words e words p.control.here.arena) step) →
       Leads e words p (Starts c n fresh) (Moves (every.Move.Makes s step)) (ran c n fresh (after_step e words p s step) (reply_of (after_step e words p s step)))
   MakesNext : (c : Call) (n : ℕ) (fresh : Bool) (s : CoreState) (step : Step) →

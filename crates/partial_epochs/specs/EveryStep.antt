@@ -89,16 +89,15 @@ MayMove e words ports b notes k (Publishes o) = IsWhole e (ports k) o
 MayMove e words ports b notes k (Notes n i) = ((ports k).control.entering ≡ Stands)
     × ((s : IsStanding b k (ports k)) × IsSight e k (ports k) s.epoch.log (notes k) n i)
 
--- whether a reply is an answer, and no refusal
-abbrev pub is_answered : Option Reply → Bool
-is_answered None = false
-is_answered (Some (reply.Refused cause)) = false
-is_answered _ = true
+-- whether the reply is that of an applied update
+abbrev pub is_applied : Option Reply → Bool
+is_applied (Some (reply.Applied stamp)) = true
+is_applied _ = false
 
--- the move may add an entry to the one history: it is the step of a machine that ends its call with an answer, and meets no seal
+-- the move may add an entry to the one history: it is the step by which the machine of an update comes to be applied, and meets no seal
 abbrev pub MayAdd : Plan → List ℕ → Port → Move → Type 0
 MayAdd e words p (Makes c step) = (¬ MeetsSeal e (component_words e words p.control.here.arena) step)
-    × (is_answered (reply_of (advance c (answer_of (arena_words e words p.control.here.arena) step))) ≡ true)
+    × (is_applied (reply_of (advance c (answer_of (arena_words e words p.control.here.arena) step))) ≡ true)
 MayAdd e words p _ = ⊥
 
 -- where the port is behind the move: by the third step of entering it comes to a later epoch, and by all others it stays where it is

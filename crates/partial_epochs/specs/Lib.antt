@@ -15,4 +15,5 @@ pub mod Notes
 pub mod EveryStep
 pub mod Calls
 pub mod Bounds
+pub mod Refusals
 pub mod Variants

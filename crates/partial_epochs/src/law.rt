@@ -10,6 +10,8 @@ ghost use Rattle.partial_epochs.specs.Publishing.{SetsStayLawful, PublishesStayL
 ghost use Rattle.partial_epochs.specs.Opening.{OpensOverLawful, EpochsOpenLawful};
 ghost use Rattle.partial_epochs.specs.Notes.{EpochsFitOneHistory, NotesStayLawful, SightsStayLawful, AsidesStayLawful, ArrivalsKeepNotes, PublishesKeepNotes, PublicStampsAreUnique};
 ghost use Rattle.partial_epochs.specs.EveryStep.{EveryStepStaysLawful, MemoriesOpenLawful};
+ghost use Rattle.partial_epochs.specs.Bounds.{StepsLeaveFewer, ReadsMakeEight, UpdatesAreBounded, ConditionalUpdatesAreBounded, ScansAreBounded, ChangesAreBounded};
+ghost use Rattle.partial_epochs.specs.Refusals.{RefusedCallsApplyNothing, ComponentsAreMissing, OvertakenCallsMovedOn, ChangesAreRefused};
 ghost use Rattle.partial_epochs.specs.Reads.{ReadsTellAllEpochs, LastWordsAreFinal};
 
 /// A memory as it opens is lawful, with nothing applied, whatever stands in the arenas that hold no epoch.
@@ -202,4 +204,60 @@ pub fn memories_open_lawful()
 /// again, and all other ports and their notes are as they were.
 pub fn every_step_stays_lawful()
     ensures { EveryStepStaysLawful }
+{}
+
+/// Each step of a call leaves fewer steps than there were before it, whatever other ports do between its steps. So each
+/// call ends.
+pub fn steps_leave_fewer()
+    ensures { StepsLeaveFewer }
+{}
+
+/// A read makes at most 8 steps, whatever other ports do.
+pub fn reads_make_eight()
+    ensures { ReadsMakeEight }
+{}
+
+/// An update that may change the epoch B times makes at most B times the steps of an update of one memory and of a change
+/// of epoch.
+pub fn updates_are_bounded()
+    ensures { UpdatesAreBounded }
+{}
+
+/// A conditional update makes at most two steps more in each epoch, and six more in the first one.
+pub fn conditional_updates_are_bounded()
+    ensures { ConditionalUpdatesAreBounded }
+{}
+
+/// A scan makes at most twice the steps of a scan of one memory, and four more. If its port has made a claim past the
+/// limit, it makes at most those of a change of epoch and of one scan.
+pub fn scans_are_bounded()
+    ensures { ScansAreBounded }
+{}
+
+/// A change of epoch makes at most so many steps, by the sizes, the ports and the arenas: a look, two steps for each
+/// component, three passes over the arenas for each port, and the steps that open the next epoch and enter it.
+pub fn changes_are_bounded()
+    ensures { ChangesAreBounded }
+{}
+
+/// No step of a call that is refused adds an entry to the one history.
+pub fn refused_calls_apply_nothing()
+    ensures { RefusedCallsApplyNothing }
+{}
+
+/// A call is refused for a component exactly where it names one that is not there, and then before its first step.
+pub fn components_are_missing()
+    ensures { ComponentsAreMissing }
+{}
+
+/// Only an update is refused as overtaken, and then its port has come to a later epoch as often as the update may change
+/// the epoch.
+pub fn overtaken_calls_moved_on()
+    ensures { OvertakenCallsMovedOn }
+{}
+
+/// A change of epoch is refused for want of an arena exactly where the look behind its last pass finds the port's epoch
+/// the current one, and for want of epochs exactly where its first look finds the last epoch that a word can name.
+pub fn changes_are_refused()
+    ensures { ChangesAreRefused }
 {}
