@@ -20,7 +20,9 @@ use Rattle.partial_epochs.specs.Epochs.{Beside}
 use Rattle.partial_epochs.specs.EveryStep.{MayMove}
 use Rattle.partial_epochs.specs.EveryStep.Move.{Makes}
 use Rattle.partial_epochs.specs.Notes.{LawfulMemory}
-use Rattle.partial_epochs.specs.Calls.{Act, CallStep, ChangeLeads, Changing, Doing, IsCallOf, IsUpdate, Leads, MayAct, Run, after_step, answered, begun, changed, next_arena, next_component, next_load, next_pass, next_port, next_set, passes, ran, round, started}
+use Rattle.partial_epochs.specs.Changing.{Act, ChangeLeads, Changing, next_arena, next_component, next_load, next_pass, next_port, next_set, passes}
+use Rattle.partial_epochs.specs.Changing as changing
+use Rattle.partial_epochs.specs.Calls.{CallStep, Doing, IsCallOf, IsUpdate, Leads, MayAct, Run, after_step, answered, begun, changed, ran, round, started}
 use Rattle.partial_epochs.specs.Calls as calls
 use Rattle.partial_epochs.specs.Bounds.{ChangesAreBounded, ConditionalUpdatesAreBounded, ReadsMakeEight, ScansAreBounded, StepsLeaveFewer, UpdatesAreBounded, arenas_left, behind, change_left, fresh_left, left, most_of_change, opening_steps, pass_steps}
 use Rattle.partial_epochs.proofs.MachineSteps.{machine_ready, makes_fewer}
@@ -44,7 +46,7 @@ module _ (e : Plan) where
   arena_next own n zero = omega arith
   arena_next own n (suc x) = by (x == own) (arena_next own n x)
     where
-      by : (b : Bool) → change_left e (next_arena own n x) ≤ arenas_left e n x → change_left e (cond b (next_arena own n x) (calls.Changing.TakesArena n x)) ≤ arenas_left e n (suc x)
+      by : (b : Bool) → change_left e (next_arena own n x) ≤ arenas_left e n x → change_left e (cond b (next_arena own n x) (changing.Changing.TakesArena n x)) ≤ arenas_left e n (suc x)
       by true rest = omega (arith, rest)
       by false rest = omega arith
 
@@ -55,7 +57,7 @@ module _ (e : Plan) where
   component_next : (own j : ℕ) → change_left e (next_component e own j) ≤ 2 * (e.sizes.m - j) + passes e * pass_steps e + opening_steps e
   component_next own j = by (nat_lt j e.sizes.m)
     where
-      by : (b : Bool) → change_left e (cond b (calls.Changing.LoadsComponent j) (next_pass e own (passes e))) ≤ 2 * (e.sizes.m - j) + passes e * pass_steps e + opening_steps e
+      by : (b : Bool) → change_left e (cond b (changing.Changing.LoadsComponent j) (next_pass e own (passes e))) ≤ 2 * (e.sizes.m - j) + passes e * pass_steps e + opening_steps e
       by true = omega arith
       by false = let rest = pass_next own (passes e) in omega (arith, rest)
 
@@ -66,47 +68,47 @@ module _ (e : Plan) where
   port_next : (n x q : ℕ) → change_left e (next_port e n x q) ≤ 3 * (e.ports - q) + 1 + arenas_left e n x
   port_next n x q = by (nat_lt q e.ports)
     where
-      by : (b : Bool) → change_left e (cond b (calls.Changing.LoadsPort n x q) (next_load (3 * e.sizes.m))) ≤ 3 * (e.ports - q) + 1 + arenas_left e n x
+      by : (b : Bool) → change_left e (cond b (changing.Changing.LoadsPort n x q) (next_load (3 * e.sizes.m))) ≤ 3 * (e.ports - q) + 1 + arenas_left e n x
       by true = omega arith
       by false = let rest = load_next (3 * e.sizes.m) in omega (arith, rest)
 
   set_next : (i : ℕ) → change_left e (next_set e i) ≤ first_free e.sizes + e.sizes.m - i + 5
   set_next i = by (nat_lt i (first_free e.sizes + e.sizes.m))
     where
-      by : (b : Bool) → change_left e (cond b (calls.Changing.SetsWord i) calls.Changing.Publishes) ≤ first_free e.sizes + e.sizes.m - i + 5
+      by : (b : Bool) → change_left e (cond b (changing.Changing.SetsWord i) changing.Changing.Publishes) ≤ first_free e.sizes + e.sizes.m - i + 5
       by true = omega arith
       by false = omega arith
 
   module _ (words : List ℕ) (ports : ℕ → Port) (b : Beside) (notes : ℕ → List Noted) (k : ℕ) where
     change_fewer : (d : Changing) (a : Act) (d' : Changing) → ChangeLeads e words (ports k) d a d' → MayAct e words ports b notes k a → change_left e d' < change_left e d
-    change_fewer _ _ _ (calls.ChangeLeads.FindsCurrent here room) may = let rest = component_next (ports k).control.here.arena (ports k).passed in omega (arith, rest)
-    change_fewer _ _ _ (calls.ChangeLeads.FindsEnded away) may = omega arith
-    change_fewer _ _ _ (calls.ChangeLeads.FindsLastEpoch here last) may = omega arith
-    change_fewer _ _ _ (calls.ChangeLeads.FindsSealed j is) may = let rest = component_next (ports k).control.here.arena (j + 1) in let low = may.1 in omega (arith, rest, low, is)
-    change_fewer _ _ _ (calls.ChangeLeads.FindsUnsealed j low) may = omega (arith, low)
-    change_fewer _ _ _ (calls.ChangeLeads.Seals j is) may = let rest = component_next (ports k).control.here.arena (j + 1) in let low = may.1 in omega (arith, rest, low, is)
-    change_fewer _ _ _ (calls.ChangeLeads.TakesOne n x) may = omega arith
-    change_fewer _ _ _ (calls.ChangeLeads.FindsOwned n x owned) may = let rest = arena_next (ports k).control.here.arena n x in omega (arith, rest)
-    change_fewer _ _ _ (calls.ChangeLeads.OwnerGoesOn n x o here) may = let rest = port_next n x 0 in omega (arith, rest)
-    change_fewer _ _ _ (calls.ChangeLeads.OwnerGivesUp n x o away) may = omega arith
-    change_fewer _ _ _ (calls.ChangeLeads.FindsElsewhere n x q o d is) may = let rest = port_next n x (q + 1) in let low = may.3 in omega (arith, rest, low, is)
-    change_fewer _ _ _ (calls.ChangeLeads.FindsMark n x q o is) may = omega arith
-    change_fewer _ _ _ (calls.ChangeLeads.FindsThere n x q d low at there) may = omega (arith, low)
-    change_fewer _ _ _ (calls.ChangeLeads.LooksOn n x q o low here) may = omega (arith, low)
-    change_fewer _ _ _ (calls.ChangeLeads.MarkGivesUp n x q o away) may = omega arith
-    change_fewer _ _ _ (calls.ChangeLeads.PutsOne n x q o a is) may = let rest = port_next n x (q + 1) in let low = may.2 in omega (arith, rest, low, is)
-    change_fewer _ _ _ (calls.ChangeLeads.PutElsewhere n x q o d is) may = let rest = port_next n x (q + 1) in let low = may.3 in omega (arith, rest, low, is)
-    change_fewer _ _ _ (calls.ChangeLeads.PutIsLost n x q a low lost) may = omega (arith, low)
-    change_fewer _ _ _ (calls.ChangeLeads.GivesOneBack n x o) may = let rest = arena_next (ports k).control.here.arena n x in omega (arith, rest)
-    change_fewer _ _ _ (calls.ChangeLeads.PassesAgain n here) may = let rest = pass_next (ports k).control.here.arena n in omega (arith, rest)
-    change_fewer _ _ _ (calls.ChangeLeads.PassGivesUp n away) may = omega arith
-    change_fewer _ _ _ (calls.ChangeLeads.LoadsOne i) may = let rest = load_next i in omega (arith, rest)
-    change_fewer _ _ _ (calls.ChangeLeads.SetsOne i o v is) may = let rest = set_next (i + 1) in let low = may.2 in omega (arith, rest, low, is)
-    change_fewer _ _ _ (calls.ChangeLeads.PublishesOnce o) may = omega arith
-    change_fewer _ _ _ (calls.ChangeLeads.GivesLast o) may = omega arith
-    change_fewer _ _ _ calls.ChangeLeads.Marks may = omega arith
-    change_fewer _ _ _ calls.ChangeLeads.Loads may = omega arith
-    change_fewer _ _ _ (calls.ChangeLeads.Arrives c) may = omega arith
+    change_fewer _ _ _ (changing.ChangeLeads.FindsCurrent here room) may = let rest = component_next (ports k).control.here.arena (ports k).passed in omega (arith, rest)
+    change_fewer _ _ _ (changing.ChangeLeads.FindsEnded away) may = omega arith
+    change_fewer _ _ _ (changing.ChangeLeads.FindsLastEpoch here last) may = omega arith
+    change_fewer _ _ _ (changing.ChangeLeads.FindsSealed j is) may = let rest = component_next (ports k).control.here.arena (j + 1) in let low = may.1 in omega (arith, rest, low, is)
+    change_fewer _ _ _ (changing.ChangeLeads.FindsUnsealed j low) may = omega (arith, low)
+    change_fewer _ _ _ (changing.ChangeLeads.Seals j is) may = let rest = component_next (ports k).control.here.arena (j + 1) in let low = may.1 in omega (arith, rest, low, is)
+    change_fewer _ _ _ (changing.ChangeLeads.TakesOne n x) may = omega arith
+    change_fewer _ _ _ (changing.ChangeLeads.FindsOwned n x owned) may = let rest = arena_next (ports k).control.here.arena n x in omega (arith, rest)
+    change_fewer _ _ _ (changing.ChangeLeads.OwnerGoesOn n x o here) may = let rest = port_next n x 0 in omega (arith, rest)
+    change_fewer _ _ _ (changing.ChangeLeads.OwnerGivesUp n x o away) may = omega arith
+    change_fewer _ _ _ (changing.ChangeLeads.FindsElsewhere n x q o d is) may = let rest = port_next n x (q + 1) in let low = may.3 in omega (arith, rest, low, is)
+    change_fewer _ _ _ (changing.ChangeLeads.FindsMark n x q o is) may = omega arith
+    change_fewer _ _ _ (changing.ChangeLeads.FindsThere n x q d low at there) may = omega (arith, low)
+    change_fewer _ _ _ (changing.ChangeLeads.LooksOn n x q o low here) may = omega (arith, low)
+    change_fewer _ _ _ (changing.ChangeLeads.MarkGivesUp n x q o away) may = omega arith
+    change_fewer _ _ _ (changing.ChangeLeads.PutsOne n x q o a is) may = let rest = port_next n x (q + 1) in let low = may.2 in omega (arith, rest, low, is)
+    change_fewer _ _ _ (changing.ChangeLeads.PutElsewhere n x q o d is) may = let rest = port_next n x (q + 1) in let low = may.3 in omega (arith, rest, low, is)
+    change_fewer _ _ _ (changing.ChangeLeads.PutIsLost n x q a low lost) may = omega (arith, low)
+    change_fewer _ _ _ (changing.ChangeLeads.GivesOneBack n x o) may = let rest = arena_next (ports k).control.here.arena n x in omega (arith, rest)
+    change_fewer _ _ _ (changing.ChangeLeads.PassesAgain n here) may = let rest = pass_next (ports k).control.here.arena n in omega (arith, rest)
+    change_fewer _ _ _ (changing.ChangeLeads.PassGivesUp n away) may = omega arith
+    change_fewer _ _ _ (changing.ChangeLeads.LoadsOne i) may = let rest = load_next i in omega (arith, rest)
+    change_fewer _ _ _ (changing.ChangeLeads.SetsOne i o v is) may = let rest = set_next (i + 1) in let low = may.2 in omega (arith, rest, low, is)
+    change_fewer _ _ _ (changing.ChangeLeads.PublishesOnce o) may = omega arith
+    change_fewer _ _ _ (changing.ChangeLeads.GivesLast o) may = omega arith
+    change_fewer _ _ _ changing.ChangeLeads.Marks may = omega arith
+    change_fewer _ _ _ changing.ChangeLeads.Loads may = omega arith
+    change_fewer _ _ _ (changing.ChangeLeads.Arrives c) may = omega arith
 
   -- a call in an epoch to which it has come, and one that goes on behind a change
   round_left : (c : Call) (n : ℕ) → left e (round c n true) ≤ fresh_left e c n
@@ -118,8 +120,8 @@ module _ (e : Plan) where
   round_left (call.UpdateIf j x v) (suc n) = omega arith
 
   changed_left : (c : Call) (n : ℕ) (d : Changing) → left e (changed c n d) ≤ change_left e d + fresh_left e c n
-  changed_left c n calls.Changing.Arrived = let rest = round_left c n in omega (arith, rest)
-  changed_left c n (calls.Changing.Refuses cause) = omega arith
+  changed_left c n changing.Changing.Arrived = let rest = round_left c n in omega (arith, rest)
+  changed_left c n (changing.Changing.Refuses cause) = omega arith
   changed_left c n _ = omega arith
 
   answered_left : (c : Call) (n : ℕ) (fresh : Bool) → left e (answered c n fresh) ≤ behind e c n fresh
@@ -227,7 +229,7 @@ started_left e (suc n) over (call.UpdateIf j x v) = let all = update_if_left e j
 begun_left : (e : Plan) (n : ℕ) (over : Bool) (c : Call) → left e (begun e n over c) ≤ most_of_call e n over c
 begun_left e n over c = by (list_all (λ j. nat_lt j e.sizes.m) (indices_of c))
   where
-    by : (b : Bool) → left e (cond b (started n over c) (calls.Doing.Refused calls.Refusal.Component)) ≤ most_of_call e n over c
+    by : (b : Bool) → left e (cond b (started n over c) (calls.Doing.Refused changing.Refusal.Component)) ≤ most_of_call e n over c
     by true = started_left e n over c
     by false = omega arith
 
@@ -257,5 +259,5 @@ scans_are_bounded e k n rounds js over p p' d below r = by js over (calls_are_bo
 
 pub changes_are_bounded : ChangesAreBounded
 changes_are_bounded e k n rounds p p' c d below r =
-    let all = run_fewer e k n p p' (calls.Doing.Changes c rounds calls.Changing.LooksFirst) (calls.Doing.Changes c rounds d) below r in
+    let all = run_fewer e k n p p' (calls.Doing.Changes c rounds changing.Changing.LooksFirst) (calls.Doing.Changes c rounds d) below r in
     omega (arith, all)

@@ -16,11 +16,13 @@ use Rattle.partial_epochs.specs.Ports.{Port}
 use Rattle.partial_epochs.specs.Epochs.{Beside}
 use Rattle.partial_epochs.specs.EveryStep.{MayAdd, Move, is_applied}
 use Rattle.partial_epochs.specs.EveryStep as every
-use Rattle.partial_epochs.specs.Calls.{Act, ActLeads, CallStep, ChangeLeads, Changing, Doing, IsHere, IsUpdate, Leads, Refusal, Run, after_step, answered, begun, changed, next_arena, next_component, next_load, next_pass, next_port, next_set, passes, ran, round, started}
-use Rattle.partial_epochs.specs.Calls.Act.{Moves, Sees}
-use Rattle.partial_epochs.specs.Calls.Refusal.{Component, EpochsSpent, NoArena, Overtaken}
+use Rattle.partial_epochs.specs.Changing.{Act, ChangeLeads, Changing, IsHere, Refusal, next_arena, next_component, next_load, next_pass, next_port, next_set, passes}
+use Rattle.partial_epochs.specs.Changing as changing
+use Rattle.partial_epochs.specs.Calls.{ActLeads, CallStep, Doing, IsUpdate, Leads, Run, after_step, answered, begun, changed, ran, round, started}
+use Rattle.partial_epochs.specs.Changing.Act.{Moves, Sees}
+use Rattle.partial_epochs.specs.Changing.Refusal.{Component, EpochsSpent, NoArena, Overtaken}
 use Rattle.partial_epochs.specs.Calls.Doing.{Answered, Changes, Judges, LoadsWord, Looks, Refused, Runs, Starts, Tells}
-use Rattle.partial_epochs.specs.Calls.Changing.{Arrived, EndsPass, LoadsComponent, LoadsLast, LoadsPort, LooksFirst, Publishes, Refuses, SetsWord, TakesArena}
+use Rattle.partial_epochs.specs.Changing.Changing.{Arrived, EndsPass, LoadsComponent, LoadsLast, LoadsPort, LooksFirst, Publishes, Refuses, SetsWord, TakesArena}
 use Rattle.partial_epochs.specs.Calls as calls
 use Rattle.partial_epochs.specs.Refusals.{AppliesNothing, ChangesAreRefused, ComponentsAreMissing, OvertakenCallsMovedOn, RefusedCallsApplyNothing}
 use Rattle.partial_epochs.proofs.CallBounds.{steps_leave_fewer}
@@ -31,7 +33,7 @@ abbrev IsPlain : Act → Type 0
 IsPlain (Moves (every.Move.Makes c step)) = ⊥
 IsPlain _ = ⊤
 
-abbrev IsStill : Act → Type 0
+abbrev pub IsStill : Act → Type 0
 IsStill (Moves (every.Move.ExchangesMark c)) = ⊥
 IsStill _ = ⊤
 
@@ -40,7 +42,7 @@ no_more l (inl none) = none
 no_more l (inr never) = absurd never
 
 -- a change of epoch goes on
-abbrev IsGoing : Changing → Type 0
+abbrev pub IsGoing : Changing → Type 0
 IsGoing Arrived = ⊥
 IsGoing (Refuses cause) = ⊥
 IsGoing _ = ⊤
@@ -85,7 +87,7 @@ module _ (e : Plan) where
 
   module _ (words : List ℕ) (p : Port) (some : 0 < e.ports) where
     -- how a step of a change leads on, to its end or not
-    abbrev Ends : Changing → Act → Changing → Type 0
+    abbrev pub Ends : Changing → Act → Changing → Type 0
     Ends g a g' =
         (IsGoing g' × IsStill a)
         ⊎ ((c : Place) × (a ≡ Moves (every.Move.ExchangesMark c)) × (g' ≡ Arrived))
@@ -96,65 +98,65 @@ module _ (e : Plan) where
     passes_end zero here = inr (inr (inl (refl, here, refl)))
     passes_end (suc n) here = inl (arena_going p.control.here.arena n e.arenas, tt)
 
-    change_ends : (g : Changing) (a : Act) (g' : Changing) → ChangeLeads e words p g a g' → Ends g a g'
-    change_ends _ _ _ (calls.ChangeLeads.FindsCurrent h1 h2) = inl (component_going p.control.here.arena p.passed some, tt)
-    change_ends _ _ _ (calls.ChangeLeads.FindsEnded h1) = inl (tt, tt)
-    change_ends _ _ _ (calls.ChangeLeads.FindsLastEpoch h1 h2) = inr (inr (inr (refl, h1, h2, refl)))
-    change_ends _ _ _ (calls.ChangeLeads.FindsSealed j h1) = inl (component_going p.control.here.arena (j + 1) some, tt)
-    change_ends _ _ _ (calls.ChangeLeads.FindsUnsealed j h1) = inl (tt, tt)
-    change_ends _ _ _ (calls.ChangeLeads.Seals j h1) = inl (component_going p.control.here.arena (j + 1) some, tt)
-    change_ends _ _ _ (calls.ChangeLeads.TakesOne n x) = inl (tt, tt)
-    change_ends _ _ _ (calls.ChangeLeads.FindsOwned n x h1) = inl (arena_going p.control.here.arena n x, tt)
-    change_ends _ _ _ (calls.ChangeLeads.OwnerGoesOn n x o h1) = inl (port_going n x 0, tt)
-    change_ends _ _ _ (calls.ChangeLeads.OwnerGivesUp n x o h1) = inl (tt, tt)
-    change_ends _ _ _ (calls.ChangeLeads.FindsElsewhere n x q o d h1) = inl (port_going n x (q + 1), tt)
-    change_ends _ _ _ (calls.ChangeLeads.FindsMark n x q o h1) = inl (tt, tt)
-    change_ends _ _ _ (calls.ChangeLeads.FindsThere n x q d h1 h2 h3) = inl (tt, tt)
-    change_ends _ _ _ (calls.ChangeLeads.LooksOn n x q o h1 h2) = inl (tt, tt)
-    change_ends _ _ _ (calls.ChangeLeads.MarkGivesUp n x q o h1) = inl (tt, tt)
-    change_ends _ _ _ (calls.ChangeLeads.PutsOne n x q o a h1) = inl (port_going n x (q + 1), tt)
-    change_ends _ _ _ (calls.ChangeLeads.PutElsewhere n x q o d h1) = inl (port_going n x (q + 1), tt)
-    change_ends _ _ _ (calls.ChangeLeads.PutIsLost n x q a h1 h2) = inl (tt, tt)
-    change_ends _ _ _ (calls.ChangeLeads.GivesOneBack n x o) = inl (arena_going p.control.here.arena n x, tt)
-    change_ends _ _ _ (calls.ChangeLeads.PassesAgain n h1) = passes_end n h1
-    change_ends _ _ _ (calls.ChangeLeads.PassGivesUp n h1) = inl (tt, tt)
-    change_ends _ _ _ (calls.ChangeLeads.LoadsOne i) = inl (load_going i, tt)
-    change_ends _ _ _ (calls.ChangeLeads.SetsOne i o v h1) = inl (set_going (i + 1), tt)
-    change_ends _ _ _ (calls.ChangeLeads.PublishesOnce o) = inl (tt, tt)
-    change_ends _ _ _ (calls.ChangeLeads.GivesLast o) = inl (tt, tt)
-    change_ends _ _ _ calls.ChangeLeads.Marks = inl (tt, tt)
-    change_ends _ _ _ calls.ChangeLeads.Loads = inl (tt, tt)
-    change_ends _ _ _ (calls.ChangeLeads.Arrives c) = inr (inl (c, refl, refl))
+    pub change_ends : (g : Changing) (a : Act) (g' : Changing) → ChangeLeads e words p g a g' → Ends g a g'
+    change_ends _ _ _ (changing.ChangeLeads.FindsCurrent h1 h2) = inl (component_going p.control.here.arena p.passed some, tt)
+    change_ends _ _ _ (changing.ChangeLeads.FindsEnded h1) = inl (tt, tt)
+    change_ends _ _ _ (changing.ChangeLeads.FindsLastEpoch h1 h2) = inr (inr (inr (refl, h1, h2, refl)))
+    change_ends _ _ _ (changing.ChangeLeads.FindsSealed j h1) = inl (component_going p.control.here.arena (j + 1) some, tt)
+    change_ends _ _ _ (changing.ChangeLeads.FindsUnsealed j h1) = inl (tt, tt)
+    change_ends _ _ _ (changing.ChangeLeads.Seals j h1) = inl (component_going p.control.here.arena (j + 1) some, tt)
+    change_ends _ _ _ (changing.ChangeLeads.TakesOne n x) = inl (tt, tt)
+    change_ends _ _ _ (changing.ChangeLeads.FindsOwned n x h1) = inl (arena_going p.control.here.arena n x, tt)
+    change_ends _ _ _ (changing.ChangeLeads.OwnerGoesOn n x o h1) = inl (port_going n x 0, tt)
+    change_ends _ _ _ (changing.ChangeLeads.OwnerGivesUp n x o h1) = inl (tt, tt)
+    change_ends _ _ _ (changing.ChangeLeads.FindsElsewhere n x q o d h1) = inl (port_going n x (q + 1), tt)
+    change_ends _ _ _ (changing.ChangeLeads.FindsMark n x q o h1) = inl (tt, tt)
+    change_ends _ _ _ (changing.ChangeLeads.FindsThere n x q d h1 h2 h3) = inl (tt, tt)
+    change_ends _ _ _ (changing.ChangeLeads.LooksOn n x q o h1 h2) = inl (tt, tt)
+    change_ends _ _ _ (changing.ChangeLeads.MarkGivesUp n x q o h1) = inl (tt, tt)
+    change_ends _ _ _ (changing.ChangeLeads.PutsOne n x q o a h1) = inl (port_going n x (q + 1), tt)
+    change_ends _ _ _ (changing.ChangeLeads.PutElsewhere n x q o d h1) = inl (port_going n x (q + 1), tt)
+    change_ends _ _ _ (changing.ChangeLeads.PutIsLost n x q a h1 h2) = inl (tt, tt)
+    change_ends _ _ _ (changing.ChangeLeads.GivesOneBack n x o) = inl (arena_going p.control.here.arena n x, tt)
+    change_ends _ _ _ (changing.ChangeLeads.PassesAgain n h1) = passes_end n h1
+    change_ends _ _ _ (changing.ChangeLeads.PassGivesUp n h1) = inl (tt, tt)
+    change_ends _ _ _ (changing.ChangeLeads.LoadsOne i) = inl (load_going i, tt)
+    change_ends _ _ _ (changing.ChangeLeads.SetsOne i o v h1) = inl (set_going (i + 1), tt)
+    change_ends _ _ _ (changing.ChangeLeads.PublishesOnce o) = inl (tt, tt)
+    change_ends _ _ _ (changing.ChangeLeads.GivesLast o) = inl (tt, tt)
+    change_ends _ _ _ changing.ChangeLeads.Marks = inl (tt, tt)
+    change_ends _ _ _ changing.ChangeLeads.Loads = inl (tt, tt)
+    change_ends _ _ _ (changing.ChangeLeads.Arrives c) = inr (inl (c, refl, refl))
 
     change_plain : (g : Changing) (a : Act) (g' : Changing) → ChangeLeads e words p g a g' → IsPlain a
-    change_plain _ _ _ (calls.ChangeLeads.FindsCurrent h1 h2) = tt
-    change_plain _ _ _ (calls.ChangeLeads.FindsEnded h1) = tt
-    change_plain _ _ _ (calls.ChangeLeads.FindsLastEpoch h1 h2) = tt
-    change_plain _ _ _ (calls.ChangeLeads.FindsSealed j h1) = tt
-    change_plain _ _ _ (calls.ChangeLeads.FindsUnsealed j h1) = tt
-    change_plain _ _ _ (calls.ChangeLeads.Seals j h1) = tt
-    change_plain _ _ _ (calls.ChangeLeads.TakesOne n x) = tt
-    change_plain _ _ _ (calls.ChangeLeads.FindsOwned n x h1) = tt
-    change_plain _ _ _ (calls.ChangeLeads.OwnerGoesOn n x o h1) = tt
-    change_plain _ _ _ (calls.ChangeLeads.OwnerGivesUp n x o h1) = tt
-    change_plain _ _ _ (calls.ChangeLeads.FindsElsewhere n x q o d h1) = tt
-    change_plain _ _ _ (calls.ChangeLeads.FindsMark n x q o h1) = tt
-    change_plain _ _ _ (calls.ChangeLeads.FindsThere n x q d h1 h2 h3) = tt
-    change_plain _ _ _ (calls.ChangeLeads.LooksOn n x q o h1 h2) = tt
-    change_plain _ _ _ (calls.ChangeLeads.MarkGivesUp n x q o h1) = tt
-    change_plain _ _ _ (calls.ChangeLeads.PutsOne n x q o a h1) = tt
-    change_plain _ _ _ (calls.ChangeLeads.PutElsewhere n x q o d h1) = tt
-    change_plain _ _ _ (calls.ChangeLeads.PutIsLost n x q a h1 h2) = tt
-    change_plain _ _ _ (calls.ChangeLeads.GivesOneBack n x o) = tt
-    change_plain _ _ _ (calls.ChangeLeads.PassesAgain n h1) = tt
-    change_plain _ _ _ (calls.ChangeLeads.PassGivesUp n h1) = tt
-    change_plain _ _ _ (calls.ChangeLeads.LoadsOne i) = tt
-    change_plain _ _ _ (calls.ChangeLeads.SetsOne i o v h1) = tt
-    change_plain _ _ _ (calls.ChangeLeads.PublishesOnce o) = tt
-    change_plain _ _ _ (calls.ChangeLeads.GivesLast o) = tt
-    change_plain _ _ _ calls.ChangeLeads.Marks = tt
-    change_plain _ _ _ calls.ChangeLeads.Loads = tt
-    change_plain _ _ _ (calls.ChangeLeads.Arrives c) = tt
+    change_plain _ _ _ (changing.ChangeLeads.FindsCurrent h1 h2) = tt
+    change_plain _ _ _ (changing.ChangeLeads.FindsEnded h1) = tt
+    change_plain _ _ _ (changing.ChangeLeads.FindsLastEpoch h1 h2) = tt
+    change_plain _ _ _ (changing.ChangeLeads.FindsSealed j h1) = tt
+    change_plain _ _ _ (changing.ChangeLeads.FindsUnsealed j h1) = tt
+    change_plain _ _ _ (changing.ChangeLeads.Seals j h1) = tt
+    change_plain _ _ _ (changing.ChangeLeads.TakesOne n x) = tt
+    change_plain _ _ _ (changing.ChangeLeads.FindsOwned n x h1) = tt
+    change_plain _ _ _ (changing.ChangeLeads.OwnerGoesOn n x o h1) = tt
+    change_plain _ _ _ (changing.ChangeLeads.OwnerGivesUp n x o h1) = tt
+    change_plain _ _ _ (changing.ChangeLeads.FindsElsewhere n x q o d h1) = tt
+    change_plain _ _ _ (changing.ChangeLeads.FindsMark n x q o h1) = tt
+    change_plain _ _ _ (changing.ChangeLeads.FindsThere n x q d h1 h2 h3) = tt
+    change_plain _ _ _ (changing.ChangeLeads.LooksOn n x q o h1 h2) = tt
+    change_plain _ _ _ (changing.ChangeLeads.MarkGivesUp n x q o h1) = tt
+    change_plain _ _ _ (changing.ChangeLeads.PutsOne n x q o a h1) = tt
+    change_plain _ _ _ (changing.ChangeLeads.PutElsewhere n x q o d h1) = tt
+    change_plain _ _ _ (changing.ChangeLeads.PutIsLost n x q a h1 h2) = tt
+    change_plain _ _ _ (changing.ChangeLeads.GivesOneBack n x o) = tt
+    change_plain _ _ _ (changing.ChangeLeads.PassesAgain n h1) = tt
+    change_plain _ _ _ (changing.ChangeLeads.PassGivesUp n h1) = tt
+    change_plain _ _ _ (changing.ChangeLeads.LoadsOne i) = tt
+    change_plain _ _ _ (changing.ChangeLeads.SetsOne i o v h1) = tt
+    change_plain _ _ _ (changing.ChangeLeads.PublishesOnce o) = tt
+    change_plain _ _ _ (changing.ChangeLeads.GivesLast o) = tt
+    change_plain _ _ _ changing.ChangeLeads.Marks = tt
+    change_plain _ _ _ changing.ChangeLeads.Loads = tt
+    change_plain _ _ _ (changing.ChangeLeads.Arrives c) = tt
 
     -- where a cause holds the call is refused
     abbrev Causes : Changing → Changing → Type 0
@@ -165,34 +167,34 @@ module _ (e : Plan) where
     pass_of _ = 0
 
     change_causes : (g : Changing) (a : Act) (g' : Changing) → ChangeLeads e words p g a g' → IsHere words p → Causes g g'
-    change_causes _ _ _ (calls.ChangeLeads.FindsCurrent h1 h2) here = (λ is. absurd cc, λ is last. absurd (omega (arith, h2, last)))
-    change_causes _ _ _ (calls.ChangeLeads.FindsEnded h1) here = (λ is. absurd cc, λ is last. absurd (h1 here))
-    change_causes _ _ _ (calls.ChangeLeads.FindsLastEpoch h1 h2) here = (λ is. absurd cc, λ is last. refl)
-    change_causes _ _ _ (calls.ChangeLeads.FindsSealed j h1) here = (λ is. absurd cc, λ is last. absurd cc)
-    change_causes _ _ _ (calls.ChangeLeads.FindsUnsealed j h1) here = (λ is. absurd cc, λ is last. absurd cc)
-    change_causes _ _ _ (calls.ChangeLeads.Seals j h1) here = (λ is. absurd cc, λ is last. absurd cc)
-    change_causes _ _ _ (calls.ChangeLeads.TakesOne n x) here = (λ is. absurd cc, λ is last. absurd cc)
-    change_causes _ _ _ (calls.ChangeLeads.FindsOwned n x h1) here = (λ is. absurd cc, λ is last. absurd cc)
-    change_causes _ _ _ (calls.ChangeLeads.OwnerGoesOn n x o h1) here = (λ is. absurd cc, λ is last. absurd cc)
-    change_causes _ _ _ (calls.ChangeLeads.OwnerGivesUp n x o h1) here = (λ is. absurd cc, λ is last. absurd cc)
-    change_causes _ _ _ (calls.ChangeLeads.FindsElsewhere n x q o d h1) here = (λ is. absurd cc, λ is last. absurd cc)
-    change_causes _ _ _ (calls.ChangeLeads.FindsMark n x q o h1) here = (λ is. absurd cc, λ is last. absurd cc)
-    change_causes _ _ _ (calls.ChangeLeads.FindsThere n x q d h1 h2 h3) here = (λ is. absurd cc, λ is last. absurd cc)
-    change_causes _ _ _ (calls.ChangeLeads.LooksOn n x q o h1 h2) here = (λ is. absurd cc, λ is last. absurd cc)
-    change_causes _ _ _ (calls.ChangeLeads.MarkGivesUp n x q o h1) here = (λ is. absurd cc, λ is last. absurd cc)
-    change_causes _ _ _ (calls.ChangeLeads.PutsOne n x q o a h1) here = (λ is. absurd cc, λ is last. absurd cc)
-    change_causes _ _ _ (calls.ChangeLeads.PutElsewhere n x q o d h1) here = (λ is. absurd cc, λ is last. absurd cc)
-    change_causes _ _ _ (calls.ChangeLeads.PutIsLost n x q a h1 h2) here = (λ is. absurd cc, λ is last. absurd cc)
-    change_causes _ _ _ (calls.ChangeLeads.GivesOneBack n x o) here = (λ is. absurd cc, λ is last. absurd cc)
-    change_causes _ _ _ (calls.ChangeLeads.PassesAgain n h1) here = (λ is. ap (next_pass e p.control.here.arena) (ap pass_of is), λ is last. absurd cc)
-    change_causes _ _ _ (calls.ChangeLeads.PassGivesUp n h1) here = (λ is. absurd (h1 here), λ is last. absurd cc)
-    change_causes _ _ _ (calls.ChangeLeads.LoadsOne i) here = (λ is. absurd cc, λ is last. absurd cc)
-    change_causes _ _ _ (calls.ChangeLeads.SetsOne i o v h1) here = (λ is. absurd cc, λ is last. absurd cc)
-    change_causes _ _ _ (calls.ChangeLeads.PublishesOnce o) here = (λ is. absurd cc, λ is last. absurd cc)
-    change_causes _ _ _ (calls.ChangeLeads.GivesLast o) here = (λ is. absurd cc, λ is last. absurd cc)
-    change_causes _ _ _ calls.ChangeLeads.Marks here = (λ is. absurd cc, λ is last. absurd cc)
-    change_causes _ _ _ calls.ChangeLeads.Loads here = (λ is. absurd cc, λ is last. absurd cc)
-    change_causes _ _ _ (calls.ChangeLeads.Arrives c) here = (λ is. absurd cc, λ is last. absurd cc)
+    change_causes _ _ _ (changing.ChangeLeads.FindsCurrent h1 h2) here = (λ is. absurd cc, λ is last. absurd (omega (arith, h2, last)))
+    change_causes _ _ _ (changing.ChangeLeads.FindsEnded h1) here = (λ is. absurd cc, λ is last. absurd (h1 here))
+    change_causes _ _ _ (changing.ChangeLeads.FindsLastEpoch h1 h2) here = (λ is. absurd cc, λ is last. refl)
+    change_causes _ _ _ (changing.ChangeLeads.FindsSealed j h1) here = (λ is. absurd cc, λ is last. absurd cc)
+    change_causes _ _ _ (changing.ChangeLeads.FindsUnsealed j h1) here = (λ is. absurd cc, λ is last. absurd cc)
+    change_causes _ _ _ (changing.ChangeLeads.Seals j h1) here = (λ is. absurd cc, λ is last. absurd cc)
+    change_causes _ _ _ (changing.ChangeLeads.TakesOne n x) here = (λ is. absurd cc, λ is last. absurd cc)
+    change_causes _ _ _ (changing.ChangeLeads.FindsOwned n x h1) here = (λ is. absurd cc, λ is last. absurd cc)
+    change_causes _ _ _ (changing.ChangeLeads.OwnerGoesOn n x o h1) here = (λ is. absurd cc, λ is last. absurd cc)
+    change_causes _ _ _ (changing.ChangeLeads.OwnerGivesUp n x o h1) here = (λ is. absurd cc, λ is last. absurd cc)
+    change_causes _ _ _ (changing.ChangeLeads.FindsElsewhere n x q o d h1) here = (λ is. absurd cc, λ is last. absurd cc)
+    change_causes _ _ _ (changing.ChangeLeads.FindsMark n x q o h1) here = (λ is. absurd cc, λ is last. absurd cc)
+    change_causes _ _ _ (changing.ChangeLeads.FindsThere n x q d h1 h2 h3) here = (λ is. absurd cc, λ is last. absurd cc)
+    change_causes _ _ _ (changing.ChangeLeads.LooksOn n x q o h1 h2) here = (λ is. absurd cc, λ is last. absurd cc)
+    change_causes _ _ _ (changing.ChangeLeads.MarkGivesUp n x q o h1) here = (λ is. absurd cc, λ is last. absurd cc)
+    change_causes _ _ _ (changing.ChangeLeads.PutsOne n x q o a h1) here = (λ is. absurd cc, λ is last. absurd cc)
+    change_causes _ _ _ (changing.ChangeLeads.PutElsewhere n x q o d h1) here = (λ is. absurd cc, λ is last. absurd cc)
+    change_causes _ _ _ (changing.ChangeLeads.PutIsLost n x q a h1 h2) here = (λ is. absurd cc, λ is last. absurd cc)
+    change_causes _ _ _ (changing.ChangeLeads.GivesOneBack n x o) here = (λ is. absurd cc, λ is last. absurd cc)
+    change_causes _ _ _ (changing.ChangeLeads.PassesAgain n h1) here = (λ is. ap (next_pass e p.control.here.arena) (ap pass_of is), λ is last. absurd cc)
+    change_causes _ _ _ (changing.ChangeLeads.PassGivesUp n h1) here = (λ is. absurd (h1 here), λ is last. absurd cc)
+    change_causes _ _ _ (changing.ChangeLeads.LoadsOne i) here = (λ is. absurd cc, λ is last. absurd cc)
+    change_causes _ _ _ (changing.ChangeLeads.SetsOne i o v h1) here = (λ is. absurd cc, λ is last. absurd cc)
+    change_causes _ _ _ (changing.ChangeLeads.PublishesOnce o) here = (λ is. absurd cc, λ is last. absurd cc)
+    change_causes _ _ _ (changing.ChangeLeads.GivesLast o) here = (λ is. absurd cc, λ is last. absurd cc)
+    change_causes _ _ _ changing.ChangeLeads.Marks here = (λ is. absurd cc, λ is last. absurd cc)
+    change_causes _ _ _ changing.ChangeLeads.Loads here = (λ is. absurd cc, λ is last. absurd cc)
+    change_causes _ _ _ (changing.ChangeLeads.Arrives c) here = (λ is. absurd cc, λ is last. absurd cc)
 
   module _ (words : List ℕ) (ports : ℕ → Port) (b : Beside) (notes : ℕ → List Noted) (k : ℕ) where
     plain_none : (a : Act) → IsPlain a → (p : Port) (entries : List Applied) → ActLeads e words ports b notes k a p entries → entries ≡ []
@@ -214,7 +216,7 @@ module _ (e : Plan) where
     plain_none (Moves (every.Move.Publishes o)) plain p entries h = h.2 ∙ no_more h.0.entries h.0.adds
     plain_none (Moves (every.Move.Notes n i)) plain p entries h = h.2 ∙ no_more h.0.entries h.0.adds
 
-    still_place : (a : Act) → IsStill a → (p : Port) (entries : List Applied) → ActLeads e words ports b notes k a p entries → p.control.here ≡ (ports k).control.here
+    pub still_place : (a : Act) → IsStill a → (p : Port) (entries : List Applied) → ActLeads e words ports b notes k a p entries → p.control.here ≡ (ports k).control.here
     still_place Sees still p entries h = ap (λ (q : Port). q.control.here) h.0
     still_place (Moves (every.Move.ExchangesMark c)) still p entries h = absurd still
     still_place (Moves (every.Move.Makes c step)) still p entries h = ap (λ (q : Port). q.control.here) h.1 ∙ h.0.place

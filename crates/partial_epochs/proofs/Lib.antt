@@ -30,3 +30,4 @@ pub mod EveryStep
 pub mod Refused
 pub mod CallBounds
 pub mod CallRefusals
+pub mod NoArena

@@ -6,8 +6,10 @@ use Rattle.partial_words.specs.Layout.{first_free}
 use Rattle.partial_machine.specs.Bounds.{most_of_update, most_steps, steps_left}
 use Rattle.partial_epochs.specs.Layout.{Plan}
 use Rattle.partial_epochs.specs.Ports.{Port}
-use Rattle.partial_epochs.specs.Calls.{CallStep, Changing, Doing, Run, begun, passes}
+use Rattle.partial_epochs.specs.Changing.{Changing, passes}
+use Rattle.partial_epochs.specs.Calls.{CallStep, Doing, Run, begun}
 use Rattle.partial_epochs.specs.Calls as calls
+use Rattle.partial_epochs.specs.Changing as changing
 
 -- an arena of a pass: it is taken and looked at as its owner, three steps for each port, and it is given back
 abbrev pub arena_steps : Plan → ℕ
@@ -32,25 +34,25 @@ arenas_left e n x = x * arena_steps e + 1 + n * pass_steps e + opening_steps e
 
 -- how many steps are left of a change of epoch at most
 abbrev pub change_left : Plan → Changing → ℕ
-change_left e calls.Changing.LooksFirst = most_of_change e
-change_left e (calls.Changing.LoadsComponent j) = 2 * (e.sizes.m - j) + passes e * pass_steps e + opening_steps e
-change_left e (calls.Changing.SealsComponent j) = 2 * (e.sizes.m - j) - 1 + passes e * pass_steps e + opening_steps e
-change_left e (calls.Changing.TakesArena n x) = arena_steps e + arenas_left e n x
-change_left e (calls.Changing.LooksAsOwner n x) = 3 * e.ports + 2 + arenas_left e n x
-change_left e (calls.Changing.LoadsPort n x q) = 3 * (e.ports - q) + 1 + arenas_left e n x
-change_left e (calls.Changing.LooksAgain n x q) = 3 * (e.ports - q) + arenas_left e n x
-change_left e (calls.Changing.PutsPort n x q) = 3 * (e.ports - q) - 1 + arenas_left e n x
-change_left e (calls.Changing.GivesBack n x) = 1 + arenas_left e n x
-change_left e (calls.Changing.EndsPass n) = 1 + n * pass_steps e + opening_steps e
-change_left e (calls.Changing.LoadsLast i) = i + 1 + (first_free e.sizes + e.sizes.m) + 5
-change_left e (calls.Changing.SetsWord i) = first_free e.sizes + e.sizes.m - i + 5
-change_left e calls.Changing.Publishes = 5
-change_left e calls.Changing.GivesUp = 4
-change_left e calls.Changing.StoresMark = 3
-change_left e calls.Changing.LoadsCurrent = 2
-change_left e calls.Changing.ExchangesMark = 1
-change_left e calls.Changing.Arrived = 0
-change_left e (calls.Changing.Refuses cause) = 0
+change_left e changing.Changing.LooksFirst = most_of_change e
+change_left e (changing.Changing.LoadsComponent j) = 2 * (e.sizes.m - j) + passes e * pass_steps e + opening_steps e
+change_left e (changing.Changing.SealsComponent j) = 2 * (e.sizes.m - j) - 1 + passes e * pass_steps e + opening_steps e
+change_left e (changing.Changing.TakesArena n x) = arena_steps e + arenas_left e n x
+change_left e (changing.Changing.LooksAsOwner n x) = 3 * e.ports + 2 + arenas_left e n x
+change_left e (changing.Changing.LoadsPort n x q) = 3 * (e.ports - q) + 1 + arenas_left e n x
+change_left e (changing.Changing.LooksAgain n x q) = 3 * (e.ports - q) + arenas_left e n x
+change_left e (changing.Changing.PutsPort n x q) = 3 * (e.ports - q) - 1 + arenas_left e n x
+change_left e (changing.Changing.GivesBack n x) = 1 + arenas_left e n x
+change_left e (changing.Changing.EndsPass n) = 1 + n * pass_steps e + opening_steps e
+change_left e (changing.Changing.LoadsLast i) = i + 1 + (first_free e.sizes + e.sizes.m) + 5
+change_left e (changing.Changing.SetsWord i) = first_free e.sizes + e.sizes.m - i + 5
+change_left e changing.Changing.Publishes = 5
+change_left e changing.Changing.GivesUp = 4
+change_left e changing.Changing.StoresMark = 3
+change_left e changing.Changing.LoadsCurrent = 2
+change_left e changing.Changing.ExchangesMark = 1
+change_left e changing.Changing.Arrived = 0
+change_left e (changing.Changing.Refuses cause) = 0
 
 -- what a call makes at most from an epoch on to which it has come, with so many changes of epoch left
 abbrev pub fresh_left : Plan → Call → ℕ → ℕ
@@ -109,4 +111,4 @@ ScansAreBounded = (e : Plan) (k n rounds : ℕ) (js : List ℕ) (over : Bool) (p
 -- a change of epoch, from its first look to where it comes to
 abbrev pub ChangesAreBounded : Type 0
 ChangesAreBounded = (e : Plan) (k n rounds : ℕ) (p p' : Port) (c : Call) (d : Changing) → k < e.ports →
-    Run e k n p (calls.Doing.Changes c rounds calls.Changing.LooksFirst) p' (calls.Doing.Changes c rounds d) → n + change_left e d ≤ most_of_change e
+    Run e k n p (calls.Doing.Changes c rounds changing.Changing.LooksFirst) p' (calls.Doing.Changes c rounds d) → n + change_left e d ≤ most_of_change e

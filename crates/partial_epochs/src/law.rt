@@ -11,7 +11,7 @@ ghost use Rattle.partial_epochs.specs.Opening.{OpensOverLawful, EpochsOpenLawful
 ghost use Rattle.partial_epochs.specs.Notes.{EpochsFitOneHistory, NotesStayLawful, SightsStayLawful, AsidesStayLawful, ArrivalsKeepNotes, PublishesKeepNotes, PublicStampsAreUnique};
 ghost use Rattle.partial_epochs.specs.EveryStep.{EveryStepStaysLawful, MemoriesOpenLawful};
 ghost use Rattle.partial_epochs.specs.Bounds.{StepsLeaveFewer, ReadsMakeEight, UpdatesAreBounded, ConditionalUpdatesAreBounded, ScansAreBounded, ChangesAreBounded};
-ghost use Rattle.partial_epochs.specs.Refusals.{RefusedCallsApplyNothing, ComponentsAreMissing, OvertakenCallsMovedOn, ChangesAreRefused};
+ghost use Rattle.partial_epochs.specs.Refusals.{RefusedCallsApplyNothing, ComponentsAreMissing, OvertakenCallsMovedOn, ChangesAreRefused, NoArenaIsFree};
 ghost use Rattle.partial_epochs.specs.Reads.{ReadsTellAllEpochs, LastWordsAreFinal};
 
 /// A memory as it opens is lawful, with nothing applied, whatever stands in the arenas that hold no epoch.
@@ -260,4 +260,10 @@ pub fn overtaken_calls_moved_on()
 /// the current one, and for want of epochs exactly where its first look finds the last epoch that a word can name.
 pub fn changes_are_refused()
     ensures { ChangesAreRefused }
+{}
+
+/// A change of epoch that is refused for want of an arena has found each arena taken, in each of three passes for each
+/// port, but for the arena where its port stands.
+pub fn no_arena_is_free()
+    ensures { NoArenaIsFree }
 {}
