@@ -1,6 +1,6 @@
 -- Why calls are refused, and that a refused call has applied nothing.
-use Rattle.std.proofs.Common.{ℕ, zero, suc, ◌≡◌, ◌≢◌, ◌+◌, ◌*◌, ◌<◌, ◌≤◌, ◌==◌, ◌⊎◌, Bool, true, false, cond, Option, Some, None, List, [], ◌∷◌, refl, sym, ap, subst, ◌∙◌, inl, inr, arith}
-use Rattle.std.specs.Prelude.{⊤, ◌&&◌, nat_lt}
+use Rattle.std.proofs.Common.{ℕ, zero, suc, ◌≡◌, ◌≢◌, ◌+◌, ◌<◌, ◌≤◌, Bool, true, false, cond, Option, Some, None, List, [], ◌∷◌, refl, sym, ap, subst, ◌∙◌, inl, inr, arith}
+use Rattle.std.specs.Prelude.{◌&&◌, nat_lt}
 use Rattle.std.specs.List.{AllByRecursion, list_all}
 use Rattle.std.proofs.lemmas.Bool.{cases_lt, lt-ltb}
 use Rattle.partial_model.specs.declared.history.Applied.{Applied}
@@ -10,273 +10,25 @@ use Rattle.partial_model.specs.Notes.{Noted, indices_of}
 use Rattle.partial_machine.specs.Machine.{CoreState, reply_of}
 use Rattle.partial_machine.specs.declared.stage.Reply.{Reply}
 use Rattle.partial_machine.specs.declared.stage.Reply.TheVariants as reply
-use Rattle.partial_words.specs.Layout.{first_free}
-use Rattle.partial_epochs.specs.Layout.{Place, Plan, epoch_limit}
+use Rattle.partial_epochs.specs.Layout.{Plan, epoch_limit}
 use Rattle.partial_epochs.specs.Ports.{Port}
 use Rattle.partial_epochs.specs.Epochs.{Beside}
 use Rattle.partial_epochs.specs.EveryStep.{MayAdd, Move, is_applied}
 use Rattle.partial_epochs.specs.EveryStep as every
-use Rattle.partial_epochs.specs.Changing.{Act, ChangeLeads, Changing, IsHere, Refusal, next_arena, next_component, next_load, next_pass, next_port, next_set, passes}
-use Rattle.partial_epochs.specs.Changing as changing
+use Rattle.partial_epochs.specs.Changing.{Act, Changing, IsHere, Refusal}
 use Rattle.partial_epochs.specs.Calls.{ActLeads, CallStep, Doing, IsUpdate, Leads, Run, after_step, answered, begun, changed, ran, round, started}
 use Rattle.partial_epochs.specs.Changing.Act.{Moves, Sees}
 use Rattle.partial_epochs.specs.Changing.Refusal.{Component, EpochsSpent, NoArena, Overtaken}
 use Rattle.partial_epochs.specs.Calls.Doing.{Answered, Changes, Judges, LoadsWord, Looks, Refused, Runs, Starts, Tells}
-use Rattle.partial_epochs.specs.Changing.Changing.{Arrived, EndsPass, LoadsComponent, LoadsLast, LoadsPort, LooksFirst, Publishes, Refuses, SetsWord, TakesArena}
+use Rattle.partial_epochs.specs.Changing.Changing.{Arrived, EndsPass, LooksFirst, Refuses}
 use Rattle.partial_epochs.specs.Calls as calls
 use Rattle.partial_epochs.specs.Refusals.{AppliesNothing, ChangesAreRefused, ComponentsAreMissing, OvertakenCallsMovedOn, RefusedCallsApplyNothing}
 use Rattle.partial_epochs.proofs.CallBounds.{steps_leave_fewer}
 use Rattle.partial_epochs.proofs.Places.{not_below}
-
--- a step that is none of a machine's, and one by which the port stays where it is
-abbrev IsPlain : Act → Type 0
-IsPlain (Moves (every.Move.Makes c step)) = ⊥
-IsPlain _ = ⊤
-
-abbrev pub IsStill : Act → Type 0
-IsStill (Moves (every.Move.ExchangesMark c)) = ⊥
-IsStill _ = ⊤
-
-no_more : (l : List Applied) → (l ≡ []) ⊎ ⊥ → l ≡ []
-no_more l (inl none) = none
-no_more l (inr never) = absurd never
-
--- a change of epoch goes on
-abbrev pub IsGoing : Changing → Type 0
-IsGoing Arrived = ⊥
-IsGoing (Refuses cause) = ⊥
-IsGoing _ = ⊤
-
-arena_going : (own n x : ℕ) → IsGoing (next_arena own n x)
-arena_going own n zero = tt
-arena_going own n (suc x) = by (x == own) (arena_going own n x)
-  where
-    by : (b : Bool) → IsGoing (next_arena own n x) → IsGoing (cond b (next_arena own n x) (TakesArena n x))
-    by true h = h
-    by false h = tt
+use Rattle.partial_epochs.proofs.CallEnds.{Ends, IsGoing, arrive_place, change_causes, change_ends, leads_here, step_none, still_epoch}
+use Rattle.partial_epochs.proofs.Room.{not_true}
 
 module _ (e : Plan) where
-  pass_going : (own n : ℕ) → n ≢ 0 → IsGoing (next_pass e own n)
-  pass_going own zero ne = absurd (ne refl)
-  pass_going own (suc n) ne = arena_going own n e.arenas
-
-  component_going : (own j : ℕ) → 0 < e.ports → IsGoing (next_component e own j)
-  component_going own j some = by (nat_lt j e.sizes.m)
-    where
-      by : (b : Bool) → IsGoing (cond b (LoadsComponent j) (next_pass e own (passes e)))
-      by true = tt
-      by false = pass_going own (passes e) (omega (arith, some))
-
-  load_going : (i : ℕ) → IsGoing (next_load i)
-  load_going zero = tt
-  load_going (suc i) = tt
-
-  port_going : (n x q : ℕ) → IsGoing (next_port e n x q)
-  port_going n x q = by (nat_lt q e.ports)
-    where
-      by : (b : Bool) → IsGoing (cond b (LoadsPort n x q) (next_load (3 * e.sizes.m)))
-      by true = tt
-      by false = load_going (3 * e.sizes.m)
-
-  set_going : (i : ℕ) → IsGoing (next_set e i)
-  set_going i = by (nat_lt i (first_free e.sizes + e.sizes.m))
-    where
-      by : (b : Bool) → IsGoing (cond b (SetsWord i) Publishes)
-      by true = tt
-      by false = tt
-
-  module _ (words : List ℕ) (p : Port) (some : 0 < e.ports) where
-    -- how a step of a change leads on, to its end or not
-    abbrev pub Ends : Changing → Act → Changing → Type 0
-    Ends g a g' =
-        (IsGoing g' × IsStill a)
-        ⊎ ((c : Place) × (a ≡ Moves (every.Move.ExchangesMark c)) × (g' ≡ Arrived))
-        ⊎ ((g ≡ EndsPass 0) × IsHere words p × (g' ≡ Refuses NoArena))
-        ⊎ ((g ≡ LooksFirst) × IsHere words p × (epoch_limit ≤ p.control.here.epoch + 1) × (g' ≡ Refuses EpochsSpent))
-
-    passes_end : (n : ℕ) → IsHere words p → Ends (EndsPass n) Sees (next_pass e p.control.here.arena n)
-    passes_end zero here = inr (inr (inl (refl, here, refl)))
-    passes_end (suc n) here = inl (arena_going p.control.here.arena n e.arenas, tt)
-
-    pub change_ends : (g : Changing) (a : Act) (g' : Changing) → ChangeLeads e words p g a g' → Ends g a g'
-    change_ends _ _ _ (changing.ChangeLeads.FindsCurrent h1 h2) = inl (component_going p.control.here.arena p.passed some, tt)
-    change_ends _ _ _ (changing.ChangeLeads.FindsEnded h1) = inl (tt, tt)
-    change_ends _ _ _ (changing.ChangeLeads.FindsLastEpoch h1 h2) = inr (inr (inr (refl, h1, h2, refl)))
-    change_ends _ _ _ (changing.ChangeLeads.FindsSealed j h1) = inl (component_going p.control.here.arena (j + 1) some, tt)
-    change_ends _ _ _ (changing.ChangeLeads.FindsUnsealed j h1) = inl (tt, tt)
-    change_ends _ _ _ (changing.ChangeLeads.Seals j h1) = inl (component_going p.control.here.arena (j + 1) some, tt)
-    change_ends _ _ _ (changing.ChangeLeads.TakesOne n x) = inl (tt, tt)
-    change_ends _ _ _ (changing.ChangeLeads.FindsOwned n x h1) = inl (arena_going p.control.here.arena n x, tt)
-    change_ends _ _ _ (changing.ChangeLeads.OwnerGoesOn n x o h1) = inl (port_going n x 0, tt)
-    change_ends _ _ _ (changing.ChangeLeads.OwnerGivesUp n x o h1) = inl (tt, tt)
-    change_ends _ _ _ (changing.ChangeLeads.FindsElsewhere n x q o d h1) = inl (port_going n x (q + 1), tt)
-    change_ends _ _ _ (changing.ChangeLeads.FindsMark n x q o h1) = inl (tt, tt)
-    change_ends _ _ _ (changing.ChangeLeads.FindsThere n x q d h1 h2 h3) = inl (tt, tt)
-    change_ends _ _ _ (changing.ChangeLeads.LooksOn n x q o h1 h2) = inl (tt, tt)
-    change_ends _ _ _ (changing.ChangeLeads.MarkGivesUp n x q o h1) = inl (tt, tt)
-    change_ends _ _ _ (changing.ChangeLeads.PutsOne n x q o a h1) = inl (port_going n x (q + 1), tt)
-    change_ends _ _ _ (changing.ChangeLeads.PutElsewhere n x q o d h1) = inl (port_going n x (q + 1), tt)
-    change_ends _ _ _ (changing.ChangeLeads.PutIsLost n x q a h1 h2) = inl (tt, tt)
-    change_ends _ _ _ (changing.ChangeLeads.GivesOneBack n x o) = inl (arena_going p.control.here.arena n x, tt)
-    change_ends _ _ _ (changing.ChangeLeads.PassesAgain n h1) = passes_end n h1
-    change_ends _ _ _ (changing.ChangeLeads.PassGivesUp n h1) = inl (tt, tt)
-    change_ends _ _ _ (changing.ChangeLeads.LoadsOne i) = inl (load_going i, tt)
-    change_ends _ _ _ (changing.ChangeLeads.SetsOne i o v h1) = inl (set_going (i + 1), tt)
-    change_ends _ _ _ (changing.ChangeLeads.PublishesOnce o) = inl (tt, tt)
-    change_ends _ _ _ (changing.ChangeLeads.GivesLast o) = inl (tt, tt)
-    change_ends _ _ _ changing.ChangeLeads.Marks = inl (tt, tt)
-    change_ends _ _ _ changing.ChangeLeads.Loads = inl (tt, tt)
-    change_ends _ _ _ (changing.ChangeLeads.Arrives c) = inr (inl (c, refl, refl))
-
-    change_plain : (g : Changing) (a : Act) (g' : Changing) → ChangeLeads e words p g a g' → IsPlain a
-    change_plain _ _ _ (changing.ChangeLeads.FindsCurrent h1 h2) = tt
-    change_plain _ _ _ (changing.ChangeLeads.FindsEnded h1) = tt
-    change_plain _ _ _ (changing.ChangeLeads.FindsLastEpoch h1 h2) = tt
-    change_plain _ _ _ (changing.ChangeLeads.FindsSealed j h1) = tt
-    change_plain _ _ _ (changing.ChangeLeads.FindsUnsealed j h1) = tt
-    change_plain _ _ _ (changing.ChangeLeads.Seals j h1) = tt
-    change_plain _ _ _ (changing.ChangeLeads.TakesOne n x) = tt
-    change_plain _ _ _ (changing.ChangeLeads.FindsOwned n x h1) = tt
-    change_plain _ _ _ (changing.ChangeLeads.OwnerGoesOn n x o h1) = tt
-    change_plain _ _ _ (changing.ChangeLeads.OwnerGivesUp n x o h1) = tt
-    change_plain _ _ _ (changing.ChangeLeads.FindsElsewhere n x q o d h1) = tt
-    change_plain _ _ _ (changing.ChangeLeads.FindsMark n x q o h1) = tt
-    change_plain _ _ _ (changing.ChangeLeads.FindsThere n x q d h1 h2 h3) = tt
-    change_plain _ _ _ (changing.ChangeLeads.LooksOn n x q o h1 h2) = tt
-    change_plain _ _ _ (changing.ChangeLeads.MarkGivesUp n x q o h1) = tt
-    change_plain _ _ _ (changing.ChangeLeads.PutsOne n x q o a h1) = tt
-    change_plain _ _ _ (changing.ChangeLeads.PutElsewhere n x q o d h1) = tt
-    change_plain _ _ _ (changing.ChangeLeads.PutIsLost n x q a h1 h2) = tt
-    change_plain _ _ _ (changing.ChangeLeads.GivesOneBack n x o) = tt
-    change_plain _ _ _ (changing.ChangeLeads.PassesAgain n h1) = tt
-    change_plain _ _ _ (changing.ChangeLeads.PassGivesUp n h1) = tt
-    change_plain _ _ _ (changing.ChangeLeads.LoadsOne i) = tt
-    change_plain _ _ _ (changing.ChangeLeads.SetsOne i o v h1) = tt
-    change_plain _ _ _ (changing.ChangeLeads.PublishesOnce o) = tt
-    change_plain _ _ _ (changing.ChangeLeads.GivesLast o) = tt
-    change_plain _ _ _ changing.ChangeLeads.Marks = tt
-    change_plain _ _ _ changing.ChangeLeads.Loads = tt
-    change_plain _ _ _ (changing.ChangeLeads.Arrives c) = tt
-
-    -- where a cause holds the call is refused
-    abbrev Causes : Changing → Changing → Type 0
-    Causes g g' = (g ≡ EndsPass 0 → g' ≡ Refuses NoArena) × (g ≡ LooksFirst → epoch_limit ≤ p.control.here.epoch + 1 → g' ≡ Refuses EpochsSpent)
-
-    abbrev pass_of : Changing → ℕ
-    pass_of (EndsPass n) = n
-    pass_of _ = 0
-
-    change_causes : (g : Changing) (a : Act) (g' : Changing) → ChangeLeads e words p g a g' → IsHere words p → Causes g g'
-    change_causes _ _ _ (changing.ChangeLeads.FindsCurrent h1 h2) here = (λ is. absurd cc, λ is last. absurd (omega (arith, h2, last)))
-    change_causes _ _ _ (changing.ChangeLeads.FindsEnded h1) here = (λ is. absurd cc, λ is last. absurd (h1 here))
-    change_causes _ _ _ (changing.ChangeLeads.FindsLastEpoch h1 h2) here = (λ is. absurd cc, λ is last. refl)
-    change_causes _ _ _ (changing.ChangeLeads.FindsSealed j h1) here = (λ is. absurd cc, λ is last. absurd cc)
-    change_causes _ _ _ (changing.ChangeLeads.FindsUnsealed j h1) here = (λ is. absurd cc, λ is last. absurd cc)
-    change_causes _ _ _ (changing.ChangeLeads.Seals j h1) here = (λ is. absurd cc, λ is last. absurd cc)
-    change_causes _ _ _ (changing.ChangeLeads.TakesOne n x) here = (λ is. absurd cc, λ is last. absurd cc)
-    change_causes _ _ _ (changing.ChangeLeads.FindsOwned n x h1) here = (λ is. absurd cc, λ is last. absurd cc)
-    change_causes _ _ _ (changing.ChangeLeads.OwnerGoesOn n x o h1) here = (λ is. absurd cc, λ is last. absurd cc)
-    change_causes _ _ _ (changing.ChangeLeads.OwnerGivesUp n x o h1) here = (λ is. absurd cc, λ is last. absurd cc)
-    change_causes _ _ _ (changing.ChangeLeads.FindsElsewhere n x q o d h1) here = (λ is. absurd cc, λ is last. absurd cc)
-    change_causes _ _ _ (changing.ChangeLeads.FindsMark n x q o h1) here = (λ is. absurd cc, λ is last. absurd cc)
-    change_causes _ _ _ (changing.ChangeLeads.FindsThere n x q d h1 h2 h3) here = (λ is. absurd cc, λ is last. absurd cc)
-    change_causes _ _ _ (changing.ChangeLeads.LooksOn n x q o h1 h2) here = (λ is. absurd cc, λ is last. absurd cc)
-    change_causes _ _ _ (changing.ChangeLeads.MarkGivesUp n x q o h1) here = (λ is. absurd cc, λ is last. absurd cc)
-    change_causes _ _ _ (changing.ChangeLeads.PutsOne n x q o a h1) here = (λ is. absurd cc, λ is last. absurd cc)
-    change_causes _ _ _ (changing.ChangeLeads.PutElsewhere n x q o d h1) here = (λ is. absurd cc, λ is last. absurd cc)
-    change_causes _ _ _ (changing.ChangeLeads.PutIsLost n x q a h1 h2) here = (λ is. absurd cc, λ is last. absurd cc)
-    change_causes _ _ _ (changing.ChangeLeads.GivesOneBack n x o) here = (λ is. absurd cc, λ is last. absurd cc)
-    change_causes _ _ _ (changing.ChangeLeads.PassesAgain n h1) here = (λ is. ap (next_pass e p.control.here.arena) (ap pass_of is), λ is last. absurd cc)
-    change_causes _ _ _ (changing.ChangeLeads.PassGivesUp n h1) here = (λ is. absurd (h1 here), λ is last. absurd cc)
-    change_causes _ _ _ (changing.ChangeLeads.LoadsOne i) here = (λ is. absurd cc, λ is last. absurd cc)
-    change_causes _ _ _ (changing.ChangeLeads.SetsOne i o v h1) here = (λ is. absurd cc, λ is last. absurd cc)
-    change_causes _ _ _ (changing.ChangeLeads.PublishesOnce o) here = (λ is. absurd cc, λ is last. absurd cc)
-    change_causes _ _ _ (changing.ChangeLeads.GivesLast o) here = (λ is. absurd cc, λ is last. absurd cc)
-    change_causes _ _ _ changing.ChangeLeads.Marks here = (λ is. absurd cc, λ is last. absurd cc)
-    change_causes _ _ _ changing.ChangeLeads.Loads here = (λ is. absurd cc, λ is last. absurd cc)
-    change_causes _ _ _ (changing.ChangeLeads.Arrives c) here = (λ is. absurd cc, λ is last. absurd cc)
-
-  module _ (words : List ℕ) (ports : ℕ → Port) (b : Beside) (notes : ℕ → List Noted) (k : ℕ) where
-    plain_none : (a : Act) → IsPlain a → (p : Port) (entries : List Applied) → ActLeads e words ports b notes k a p entries → entries ≡ []
-    plain_none Sees plain p entries h = h.1
-    plain_none (Moves (every.Move.Makes c step)) plain p entries h = absurd plain
-    plain_none (Moves every.Move.Seals) plain p entries h = h.2 ∙ no_more h.0.entries h.0.adds
-    plain_none (Moves every.Move.PassesSealed) plain p entries h = h.2 ∙ no_more h.0.entries h.0.adds
-    plain_none (Moves every.Move.Looks) plain p entries h = h.2 ∙ no_more h.0.entries h.0.adds
-    plain_none (Moves (every.Move.LooksAsOwner o)) plain p entries h = h.2 ∙ no_more h.0.entries h.0.adds
-    plain_none (Moves every.Move.StoresMark) plain p entries h = h.2 ∙ no_more h.0.entries h.0.adds
-    plain_none (Moves every.Move.LoadsCurrent) plain p entries h = h.2 ∙ no_more h.0.entries h.0.adds
-    plain_none (Moves (every.Move.ExchangesMark c)) plain p entries h = h.2 ∙ no_more h.0.entries h.0.adds
-    plain_none (Moves (every.Move.Takes x)) plain p entries h = h.2 ∙ no_more h.0.entries h.0.adds
-    plain_none (Moves (every.Move.Gives o)) plain p entries h = h.2 ∙ no_more h.0.entries h.0.adds
-    plain_none (Moves (every.Move.FindsElsewhere o d)) plain p entries h = h.2 ∙ no_more h.0.entries h.0.adds
-    plain_none (Moves (every.Move.LoadsMark o)) plain p entries h = h.2 ∙ no_more h.0.entries h.0.adds
-    plain_none (Moves (every.Move.Puts o a)) plain p entries h = h.2 ∙ no_more h.0.entries h.0.adds
-    plain_none (Moves (every.Move.Sets o v)) plain p entries h = h.2 ∙ no_more h.0.entries h.0.adds
-    plain_none (Moves (every.Move.Publishes o)) plain p entries h = h.2 ∙ no_more h.0.entries h.0.adds
-    plain_none (Moves (every.Move.Notes n i)) plain p entries h = h.2 ∙ no_more h.0.entries h.0.adds
-
-    pub still_place : (a : Act) → IsStill a → (p : Port) (entries : List Applied) → ActLeads e words ports b notes k a p entries → p.control.here ≡ (ports k).control.here
-    still_place Sees still p entries h = ap (λ (q : Port). q.control.here) h.0
-    still_place (Moves (every.Move.ExchangesMark c)) still p entries h = absurd still
-    still_place (Moves (every.Move.Makes c step)) still p entries h = ap (λ (q : Port). q.control.here) h.1 ∙ h.0.place
-    still_place (Moves every.Move.Seals) still p entries h = ap (λ (q : Port). q.control.here) h.1 ∙ h.0.place
-    still_place (Moves every.Move.PassesSealed) still p entries h = ap (λ (q : Port). q.control.here) h.1 ∙ h.0.place
-    still_place (Moves every.Move.Looks) still p entries h = ap (λ (q : Port). q.control.here) h.1 ∙ h.0.place
-    still_place (Moves (every.Move.LooksAsOwner o)) still p entries h = ap (λ (q : Port). q.control.here) h.1 ∙ h.0.place
-    still_place (Moves every.Move.StoresMark) still p entries h = ap (λ (q : Port). q.control.here) h.1 ∙ h.0.place
-    still_place (Moves every.Move.LoadsCurrent) still p entries h = ap (λ (q : Port). q.control.here) h.1 ∙ h.0.place
-    still_place (Moves (every.Move.Takes x)) still p entries h = ap (λ (q : Port). q.control.here) h.1 ∙ h.0.place
-    still_place (Moves (every.Move.Gives o)) still p entries h = ap (λ (q : Port). q.control.here) h.1 ∙ h.0.place
-    still_place (Moves (every.Move.FindsElsewhere o d)) still p entries h = ap (λ (q : Port). q.control.here) h.1 ∙ h.0.place
-    still_place (Moves (every.Move.LoadsMark o)) still p entries h = ap (λ (q : Port). q.control.here) h.1 ∙ h.0.place
-    still_place (Moves (every.Move.Puts o a)) still p entries h = ap (λ (q : Port). q.control.here) h.1 ∙ h.0.place
-    still_place (Moves (every.Move.Sets o v)) still p entries h = ap (λ (q : Port). q.control.here) h.1 ∙ h.0.place
-    still_place (Moves (every.Move.Publishes o)) still p entries h = ap (λ (q : Port). q.control.here) h.1 ∙ h.0.place
-    still_place (Moves (every.Move.Notes n i)) still p entries h = ap (λ (q : Port). q.control.here) h.1 ∙ h.0.place
-
-    still_epoch : (a : Act) → IsStill a → (p : Port) (entries : List Applied) → ActLeads e words ports b notes k a p entries → p.control.here.epoch ≡ (ports k).control.here.epoch
-    still_epoch a still p entries h = ap (λ (t : Place). t.epoch) (still_place a still p entries h)
-
-    arrive_place : (c : Place) (p : Port) (entries : List Applied) → ActLeads e words ports b notes k (Moves (every.Move.ExchangesMark c)) p entries → (ports k).control.here.epoch < p.control.here.epoch
-    arrive_place c p entries h = subst (λ (q : Port). (ports k).control.here.epoch < q.control.here.epoch) (sym h.1) h.0.place
-
-    ran_applied : (c : Call) (n : ℕ) (fresh : Bool) (s : CoreState) (t : Option Reply) → is_applied t ≡ true → ran c n fresh s t ≡ Answered
-    ran_applied c n fresh s (Some (reply.Applied stamp)) is = refl
-    ran_applied c n fresh s None is = absurd cc
-    ran_applied c n fresh s (Some _) is = absurd cc
-
-    -- a step that adds an entry is the last one
-    step_none : 0 < e.ports → (d : Doing) (a : Act) (d' : Doing) → Leads e words (ports k) d a d' → (p : Port) (entries : List Applied) → ActLeads e words ports b notes k a p entries → (d' ≡ Answered) ⊎ (entries ≡ [])
-    step_none some _ _ _ (calls.Leads.ReadsWord j n fresh free) p entries h = inr (plain_none Sees tt p entries h)
-    step_none some _ _ _ (calls.Leads.ReadsSealed j n sealed) p entries h = inr (plain_none Sees tt p entries h)
-    step_none some _ _ _ (calls.Leads.ReadsOn j n here) p entries h = inr (plain_none Sees tt p entries h)
-    step_none some _ _ _ (calls.Leads.TellsOn c i) p entries h = inr (plain_none Sees tt p entries h)
-    step_none some _ _ _ (calls.Leads.TellsAll c i n note is) p entries h = inr (plain_none (Moves (every.Move.Notes note n)) tt p entries h)
-    step_none some _ _ _ (calls.Leads.LoadsStamp j x v n fresh) p entries h = inr (plain_none Sees tt p entries h)
-    step_none some _ _ _ (calls.Leads.FindsOther j x v n i fresh note is) p entries h = inr (plain_none (Moves (every.Move.Notes note i)) tt p entries h)
-    step_none some _ _ _ (calls.Leads.LooksAtOther j x v n sealed) p entries h = inr (plain_none Sees tt p entries h)
-    step_none some _ _ _ (calls.Leads.FindsExpected j x v n fresh) p entries h = inr (plain_none Sees tt p entries h)
-    step_none some _ _ _ (calls.Leads.LooksAndAnswers c n i note is here) p entries h = inr (plain_none (Moves (every.Move.Notes note i)) tt p entries h)
-    step_none some _ _ _ (calls.Leads.LooksAndEnters c n away) p entries h = inr (plain_none (Moves every.Move.Looks) tt p entries h)
-    step_none some _ _ _ (calls.Leads.StartsSealed c n fresh update sealed) p entries h = inr (plain_none Sees tt p entries h)
-    step_none some _ _ _ (calls.Leads.MakesFirst c n fresh s step is free unmet) p entries h = elim h.0.adds [
-      | inl none ↦ inr (h.2 ∙ none)
-      | inr adds ↦ inl (ran_applied c n fresh (after_step e words (ports k) s step) (reply_of (after_step e words (ports k) s step)) adds.1)
-    ]
-    step_none some _ _ _ (calls.Leads.MakesNext c n fresh s step unmet) p entries h = elim h.0.adds [
-      | inl none ↦ inr (h.2 ∙ none)
-      | inr adds ↦ inl (ran_applied c n fresh (after_step e words (ports k) s step) (reply_of (after_step e words (ports k) s step)) adds.1)
-    ]
-    step_none some _ _ _ (calls.Leads.MeetsTheSeal c n fresh s step update met) p entries h = elim h.0.adds [
-      | inl none ↦ inr (h.2 ∙ none)
-      | inr adds ↦ absurd (adds.0 met)
-    ]
-    step_none some _ _ _ (calls.Leads.ChangesOn c n g a g2 leads) p entries h = inr (plain_none a (change_plain words (ports k) some g a g2 leads) p entries h)
-
-  leads_here : (k : ℕ) (p : Port) (d : Doing) (s : CallStep e k p d) → Leads e s.words (s.ports k) d s.act s.next
-  leads_here k p d s = subst (λ (q : Port). Leads e s.words q d s.act s.next) (sym s.same) s.leads
-
   none_behind : (k n : ℕ) (p p' : Port) (cause : Refusal) → k < e.ports → Run e k n p Answered p' (Refused cause) → ⊥
   none_behind k zero p p' cause below r = let bad : Refused cause ≡ Answered = r.1 in absurd cc
   none_behind k (suc n) p p' cause below r = let fewer = steps_leave_fewer e k p Answered below r.0 in absurd (omega (arith, fewer))
@@ -285,7 +37,7 @@ module _ (e : Plan) where
   nothing_applied k zero p p' d cause below r = tt
   nothing_applied k (suc n) p p' d cause below r =
       let s : CallStep e k p d = r.0 in (
-        elim (step_none s.words s.ports s.beside s.notes k (omega (arith, below)) d s.act s.next (leads_here k p d s) s.port s.entries s.ends) [
+        elim (step_none e s.words s.ports s.beside s.notes k (omega (arith, below)) d s.act s.next (leads_here e k p d s) s.port s.entries s.ends) [
           | inl ended ↦ absurd (none_behind k n s.port p' cause below (subst (λ (t : Doing). Run e k n s.port t p' (Refused cause)) ended r.1))
           | inr none ↦ none
         ],
@@ -331,15 +83,15 @@ module _ (e : Plan) where
   going_reaches c n _ a b going h = h
 
   module _ (words : List ℕ) (ports : ℕ → Port) (b : Beside) (notes : ℕ → List Noted) (k : ℕ) (some : 0 < e.ports) where
-    change_reaches : (c : Call) (n : ℕ) (g : Changing) (a : Act) (g' : Changing) → Ends words (ports k) some g a g' → (p : Port) (entries : List Applied) → ActLeads e words ports b notes k a p entries →
+    change_reaches : (c : Call) (n : ℕ) (g : Changing) (a : Act) (g' : Changing) → Ends e words (ports k) some g a g' → (p : Port) (entries : List Applied) → ActLeads e words ports b notes k a p entries →
         (m : ℕ) → Reaches (changed c n g') p.control.here.epoch m → IsUpdate c × ((ports k).control.here.epoch + n + 1 ≤ m)
     change_reaches c n g a g' (inl on) p entries h m r =
-        let is = still_epoch words ports b notes k a on.1 p entries h in
+        let is = still_epoch e words ports b notes k a on.1 p entries h in
         let t = going_reaches c n g' p.control.here.epoch m on.0 r in
         let far = t.1 in
         (t.0, omega (arith, is, far))
     change_reaches c n g a g' (inr (inl arrived)) p entries h m r =
-        let later = arrive_place words ports b notes k arrived.0 p entries (subst (λ (t : Act). ActLeads e words ports b notes k t p entries) arrived.1 h) in
+        let later = arrive_place e words ports b notes k arrived.0 p entries (subst (λ (t : Act). ActLeads e words ports b notes k t p entries) arrived.1 h) in
         let t = round_reaches c n true p.control.here.epoch m (subst (λ (u : Changing). Reaches (changed c n u) p.control.here.epoch m) arrived.2 r) in
         let far = t.1 in
         (t.0, omega (arith, later, far))
@@ -353,25 +105,25 @@ module _ (e : Plan) where
     step_reaches _ _ _ (calls.Leads.ReadsOn j n here) p entries h m r = absurd r
     step_reaches _ _ _ (calls.Leads.TellsOn c i) p entries h m r = absurd r
     step_reaches _ _ _ (calls.Leads.TellsAll c i n note is) p entries h m r = absurd r
-    step_reaches _ _ _ (calls.Leads.LoadsStamp j x v n fresh) p entries h m r = let is' = still_epoch words ports b notes k Sees tt p entries h in let far = r.1 in (r.0, omega (arith, is', far))
+    step_reaches _ _ _ (calls.Leads.LoadsStamp j x v n fresh) p entries h m r = let is' = still_epoch e words ports b notes k Sees tt p entries h in let far = r.1 in (r.0, omega (arith, is', far))
     step_reaches _ _ _ (calls.Leads.FindsOther j x v n i fresh note is) p entries h m r = absurd r
-    step_reaches _ _ _ (calls.Leads.LooksAtOther j x v n sealed) p entries h m r = let is' = still_epoch words ports b notes k Sees tt p entries h in let far = r.1 in (r.0, omega (arith, is', far))
-    step_reaches _ _ _ (calls.Leads.FindsExpected j x v n fresh) p entries h m r = let is' = still_epoch words ports b notes k Sees tt p entries h in let far = r.1 in (r.0, omega (arith, is', far))
+    step_reaches _ _ _ (calls.Leads.LooksAtOther j x v n sealed) p entries h m r = let is' = still_epoch e words ports b notes k Sees tt p entries h in let far = r.1 in (r.0, omega (arith, is', far))
+    step_reaches _ _ _ (calls.Leads.FindsExpected j x v n fresh) p entries h m r = let is' = still_epoch e words ports b notes k Sees tt p entries h in let far = r.1 in (r.0, omega (arith, is', far))
     step_reaches _ _ _ (calls.Leads.LooksAndAnswers c n i note is here) p entries h m r = absurd r
-    step_reaches _ _ _ (calls.Leads.LooksAndEnters c n away) p entries h m r = let is' = still_epoch words ports b notes k (Moves every.Move.Looks) tt p entries h in let far = r.1 in (r.0, omega (arith, is', far))
-    step_reaches _ _ _ (calls.Leads.StartsSealed c n fresh update sealed) p entries h m r = let is' = still_epoch words ports b notes k Sees tt p entries h in let far = r.1 in (r.0, omega (arith, is', far))
+    step_reaches _ _ _ (calls.Leads.LooksAndEnters c n away) p entries h m r = let is' = still_epoch e words ports b notes k (Moves every.Move.Looks) tt p entries h in let far = r.1 in (r.0, omega (arith, is', far))
+    step_reaches _ _ _ (calls.Leads.StartsSealed c n fresh update sealed) p entries h m r = let is' = still_epoch e words ports b notes k Sees tt p entries h in let far = r.1 in (r.0, omega (arith, is', far))
     step_reaches _ _ _ (calls.Leads.MakesFirst c n fresh s step is free unmet) p entries h m r =
-        let is' = still_epoch words ports b notes k (Moves (every.Move.Makes s step)) tt p entries h in
+        let is' = still_epoch e words ports b notes k (Moves (every.Move.Makes s step)) tt p entries h in
         let t = ran_reaches c n fresh (after_step e words (ports k) s step) (reply_of (after_step e words (ports k) s step)) p.control.here.epoch m r in
         let far = t.1 in
         (t.0, omega (arith, is', far))
     step_reaches _ _ _ (calls.Leads.MakesNext c n fresh s step unmet) p entries h m r =
-        let is' = still_epoch words ports b notes k (Moves (every.Move.Makes s step)) tt p entries h in
+        let is' = still_epoch e words ports b notes k (Moves (every.Move.Makes s step)) tt p entries h in
         let t = ran_reaches c n fresh (after_step e words (ports k) s step) (reply_of (after_step e words (ports k) s step)) p.control.here.epoch m r in
         let far = t.1 in
         (t.0, omega (arith, is', far))
-    step_reaches _ _ _ (calls.Leads.MeetsTheSeal c n fresh s step update met) p entries h m r = let is' = still_epoch words ports b notes k (Moves (every.Move.Makes s step)) tt p entries h in let far = r.1 in (r.0, omega (arith, is', far))
-    step_reaches _ _ _ (calls.Leads.ChangesOn c n g a g2 leads) p entries h m r = change_reaches c n g a g2 (change_ends words (ports k) some g a g2 leads) p entries h m r
+    step_reaches _ _ _ (calls.Leads.MeetsTheSeal c n fresh s step update met) p entries h m r = let is' = still_epoch e words ports b notes k (Moves (every.Move.Makes s step)) tt p entries h in let far = r.1 in (r.0, omega (arith, is', far))
+    step_reaches _ _ _ (calls.Leads.ChangesOn c n g a g2 leads) p entries h m r = change_reaches c n g a g2 (change_ends e words (ports k) some g a g2 leads) p entries h m r
 
   run_reaches : (k n : ℕ) (p p' : Port) (d : Doing) → k < e.ports → Run e k n p d p' (Refused Overtaken) → Reaches d p.control.here.epoch p'.control.here.epoch
   run_reaches k zero p p' d below r =
@@ -380,7 +132,7 @@ module _ (e : Plan) where
   run_reaches k (suc n) p p' d below r =
       let s : CallStep e k p d = r.0 in
       subst (λ (q : Port). Reaches d q.control.here.epoch p'.control.here.epoch) s.same
-      (step_reaches s.words s.ports s.beside s.notes k (omega (arith, below)) d s.act s.next (leads_here k p d s) s.port s.entries s.ends p'.control.here.epoch (run_reaches k n s.port p' s.next below r.1))
+      (step_reaches s.words s.ports s.beside s.notes k (omega (arith, below)) d s.act s.next (leads_here e k p d s) s.port s.entries s.ends p'.control.here.epoch (run_reaches k n s.port p' s.next below r.1))
 
   started_reaches : (n : ℕ) (over : Bool) (c : Call) (a b : ℕ) → Reaches (started n over c) a b → IsUpdate c × (a + n ≤ b)
   started_reaches n over (call.Scan []) a b h = absurd h
@@ -430,7 +182,7 @@ module _ (e : Plan) where
 
   module _ (words : List ℕ) (p : Port) (some : 0 < e.ports) where
     refused_by : (d : Doing) (a : Act) (d' : Doing) → Leads e words p d a d' → (cause : Refusal) → cause ≢ Overtaken → d' ≡ Refused cause →
-        (c : Call) × (n : ℕ) × (g : Changing) × (d ≡ Changes c n g) × Ends words p some g a (Refuses cause)
+        (c : Call) × (n : ℕ) × (g : Changing) × (d ≡ Changes c n g) × Ends e words p some g a (Refuses cause)
     refused_by _ _ _ (calls.Leads.ReadsWord j n fresh free) cause ne is' = absurd cc
     refused_by _ _ _ (calls.Leads.ReadsSealed j n sealed) cause ne is' = absurd cc
     refused_by _ _ _ (calls.Leads.ReadsOn j n here) cause ne is' = absurd cc
@@ -446,7 +198,7 @@ module _ (e : Plan) where
     refused_by _ _ _ (calls.Leads.MakesFirst c n fresh s step is free unmet) cause ne is' = absurd (ran_refused c n fresh (after_step e words p s step) (reply_of (after_step e words p s step)) cause is')
     refused_by _ _ _ (calls.Leads.MakesNext c n fresh s step unmet) cause ne is' = absurd (ran_refused c n fresh (after_step e words p s step) (reply_of (after_step e words p s step)) cause is')
     refused_by _ _ _ (calls.Leads.MeetsTheSeal c n fresh s step update met) cause ne is' = absurd cc
-    refused_by _ _ _ (calls.Leads.ChangesOn c n g a g2 leads) cause ne is' = (c, n, g, refl, subst (Ends words p some g a) (changed_refused c n g2 cause ne is') (change_ends words p some g a g2 leads))
+    refused_by _ _ _ (calls.Leads.ChangesOn c n g a g2 leads) cause ne is' = (c, n, g, refl, subst (Ends e words p some g a) (changed_refused c n g2 cause ne is') (change_ends e words p some g a g2 leads))
 
     -- where a cause holds
     causes_of : (d : Doing) (a : Act) (d' : Doing) → Leads e words p d a d' → IsHere words p → (c : Call) (n : ℕ) (g : Changing) → d ≡ Changes c n g →
@@ -467,7 +219,7 @@ module _ (e : Plan) where
     causes_of _ _ _ (calls.Leads.MakesNext c n fresh s step unmet) here c0 n0 g is' = absurd cc
     causes_of _ _ _ (calls.Leads.MeetsTheSeal c n fresh s step update met) here c0 n0 g is' = absurd cc
     causes_of _ _ _ (calls.Leads.ChangesOn c2 n2 g0 a g2 leads) here c0 n0 g is' =
-        let h = change_causes words p some g0 a g2 leads here in
+        let h = change_causes e words p some g0 a g2 leads here in
         let same : g0 ≡ g = ap change_of is' in
         (λ at. ap (changed c2 n2) (h.0 (same ∙ at)), λ at last. ap (changed c2 n2) (h.1 (same ∙ at) last))
 
@@ -536,14 +288,10 @@ started_there (suc n) over (call.Update j v) is = absurd cc
 started_there zero over (call.UpdateIf j x v) is = absurd cc
 started_there (suc n) over (call.UpdateIf j x v) is = absurd cc
 
-not_all : (b : Bool) → (b ≡ true → ⊥) → b ≡ false
-not_all true h = absurd (h refl)
-not_all false h = refl
-
 pub components_are_missing : ComponentsAreMissing
 components_are_missing e rounds over c = record {
   missing = λ is names. started_there rounds over c (sym (ap (λ (b : Bool). cond b (started rounds over c) (Refused Component)) (all_there e.sizes.m (indices_of c) names)) ∙ is);
-  refused = λ missing. ap (λ (b : Bool). cond b (started rounds over c) (Refused Component)) (not_all (list_all (λ j. nat_lt j e.sizes.m) (indices_of c)) (λ h. missing (there_all e.sizes.m (indices_of c) h)));
+  refused = λ missing. ap (λ (b : Bool). cond b (started rounds over c) (Refused Component)) (not_true (list_all (λ j. nat_lt j e.sizes.m) (indices_of c)) (λ h. missing (there_all e.sizes.m (indices_of c) h)));
   at_once = λ k p d below s is.
       let some : 0 < e.ports = omega (arith, below) in
       let t = refused_by e s.words p some d s.act s.next s.leads Component (λ same. absurd cc) is in

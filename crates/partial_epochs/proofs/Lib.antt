@@ -24,10 +24,12 @@ pub mod Taking
 pub mod Last
 pub mod Public
 pub mod Seats
+pub mod Written
 pub mod NotesStay
 pub mod Sights
 pub mod EveryStep
 pub mod Refused
 pub mod CallBounds
+pub mod CallEnds
 pub mod CallRefusals
 pub mod NoArena

@@ -19,7 +19,7 @@ use Rattle.partial_epochs.specs.Calls.{CallStep, Doing, Leads, Run, after_step, 
 use Rattle.partial_epochs.specs.Calls.Doing.{Answered, Changes, Judges, LoadsWord, Looks, Refused, Runs, Starts, Tells}
 use Rattle.partial_epochs.specs.Calls as calls
 use Rattle.partial_epochs.specs.Refusals.{FindsTaken, NoArenaIsFree, SomeFindsTaken}
-use Rattle.partial_epochs.proofs.CallRefusals.{change_ends, still_place}
+use Rattle.partial_epochs.proofs.CallEnds.{change_ends, still_place}
 
 -- a change that has found an arena, or is about to enter
 abbrev Late : Changing → Type 0

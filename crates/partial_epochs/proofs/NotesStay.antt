@@ -25,7 +25,7 @@ use Rattle.partial_state.specs.Loads.{Kept}
 use Rattle.partial_core.specs.Part.{Part, core_of, first_at, port_of}
 use Rattle.partial_core.specs.Held.{holdings}
 use Rattle.partial_core.specs.Known.{AreKept}
-use Rattle.partial_core.specs.Steps.{AreNotesOf, IsNoteOf, IsPlacedAt, kept_with, since_with}
+use Rattle.partial_core.specs.Steps.{AreNotesOf, IsNoteOf, kept_with, since_with}
 use Rattle.partial_core.proofs.Parts.{seen_within as no_longer}
 use Rattle.partial_epochs.specs.Lists.{list_of, put}
 use Rattle.partial_epochs.specs.Layout.{Plan, arena_words, placed}
@@ -40,6 +40,7 @@ use Rattle.partial_epochs.specs.Notes.{ExpectedOne, IsEpochHistory, LawfulMemory
 use Rattle.partial_epochs.proofs.Lists.{put_all, put_other, put_same}
 use Rattle.partial_epochs.proofs.OneHistory.{held_history}
 use Rattle.partial_epochs.proofs.Public.{public_fits, public_true}
+use Rattle.partial_epochs.proofs.Written.{changed_none, lost_none, no_places, read_none, scanned_none}
 use Rattle.partial_epochs.proofs.Seats.{earlier, fits, history_longer, known, number, reached, reached_grows, seen_begins}
 
 -- the places of a port's entries in two histories, one behind the other
@@ -75,37 +76,6 @@ places_none p q n g (x ∷ h) ne own = by (x.port == q) (eqb_tells x.port q) (pl
         cond c (n ∷ places_by q (n + 1) (public_log g h)) (places_by q (n + 1) (public_log g h)) ≡ []
     by c (inl is) rest = absurd (ne (sym is.1 ∙ own.0))
     by c (inr is) rest = ap (λ (t : Bool). cond t (n ∷ places_by q (n + 1) (public_log g h)) (places_by q (n + 1) (public_log g h))) is.0 ∙ rest
-
--- a reply that isn't that of an applied update writes none
-lost_none : (s : ℕ) (n : Note) (i : ℕ) → IsPlacedAt (reply.Lost s) n i → wrote (Some n) ++ [] ≡ []
-lost_none s (note.Wrote k) i h = absurd h
-lost_none s (note.Lost k) i h = refl
-lost_none s (note.Saw k) i h = refl
-
-scanned_none : (c : ℕ) (t : Option ℕ) (n : Note) (i : ℕ) → IsPlacedAt (reply.Scanned c t) n i → wrote (Some n) ++ [] ≡ []
-scanned_none c t (note.Wrote k) i h = absurd h
-scanned_none c t (note.Lost k) i h = refl
-scanned_none c t (note.Saw k) i h = refl
-
-read_none : (v s : ℕ) (n : Note) (i : ℕ) → IsPlacedAt (reply.Read v s) n i → wrote (Some n) ++ [] ≡ []
-read_none v s (note.Wrote k) i h = absurd h
-read_none v s (note.Lost k) i h = refl
-read_none v s (note.Saw k) i h = refl
-
-changed_none : (s : ℕ) (n : Note) (i : ℕ) → IsPlacedAt (reply.Changed s) n i → wrote (Some n) ++ [] ≡ []
-changed_none s (note.Wrote k) i h = absurd h
-changed_none s (note.Lost k) i h = refl
-changed_none s (note.Saw k) i h = refl
-
--- its own entries have places
-no_places : (p n : ℕ) (h : List Applied) → AllByRecursion (λ (a : Applied). a.port ≡ p) h → places_by p n h ≡ [] → h ≡ []
-no_places p n [] own is = refl
-no_places p n (x ∷ h) own is = elim (eqb_tells x.port p) [
-  | inl same ↦
-      let bad : n ∷ places_by p (n + 1) h ≡ [] = sym (ap (λ (c : Bool). cond c (n ∷ places_by p (n + 1) h) (places_by p (n + 1) h)) same.0) ∙ is in
-      absurd cc
-  | inr other ↦ absurd (other.1 own.0)
-]
 
 written_one : (off : ℕ) (t : Option Note) → wrote (option_map (public_note off) t) ≡ map (λ i. off + i) (wrote t)
 written_one off None = refl

@@ -26,7 +26,7 @@ use Rattle.partial_epochs.specs.MachineSteps.{HaveSlots, MachineLeads, MachinesA
 use Rattle.partial_epochs.proofs.Lists.{Around, around_of, put_same}
 use Rattle.partial_epochs.proofs.Slots.{pool_within}
 
-not_true : (b : Bool) → (b ≡ true → ⊥) → b ≡ false
+pub not_true : (b : Bool) → (b ≡ true → ⊥) → b ≡ false
 not_true true h = absurd (h refl)
 not_true false h = refl
 

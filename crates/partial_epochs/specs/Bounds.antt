@@ -60,7 +60,8 @@ fresh_left e (call.Read j) n = 3
 fresh_left e (call.Scan js) n = most_steps e.sizes (call.Scan js)
 fresh_left e c zero = 0
 fresh_left e (call.Update j v) (suc n) = most_steps e.sizes (call.Update j v) + most_of_change e + fresh_left e (call.Update j v) n
-fresh_left e (call.UpdateIf j x v) (suc n) = 2 + most_steps e.sizes (call.UpdateIf j x v) + most_of_change e + fresh_left e (call.UpdateIf j x v) n
+fresh_left e (call.UpdateIf j x v) (suc n) =
+    2 + most_steps e.sizes (call.UpdateIf j x v) + most_of_change e + fresh_left e (call.UpdateIf j x v) n
 
 -- what it makes at most behind its machine's steps in this epoch
 abbrev pub behind : Plan → Call → ℕ → Bool → ℕ
@@ -111,4 +112,5 @@ ScansAreBounded = (e : Plan) (k n rounds : ℕ) (js : List ℕ) (over : Bool) (p
 -- a change of epoch, from its first look to where it comes to
 abbrev pub ChangesAreBounded : Type 0
 ChangesAreBounded = (e : Plan) (k n rounds : ℕ) (p p' : Port) (c : Call) (d : Changing) → k < e.ports →
-    Run e k n p (calls.Doing.Changes c rounds changing.Changing.LooksFirst) p' (calls.Doing.Changes c rounds d) → n + change_left e d ≤ most_of_change e
+    Run e k n p (calls.Doing.Changes c rounds changing.Changing.LooksFirst) p' (calls.Doing.Changes c rounds d) →
+    n + change_left e d ≤ most_of_change e

@@ -1,5 +1,5 @@
 -- Calls of a port as plain data: what a call is about to do, and how one step of it leads to the next. Nothing here runs.
-use Rattle.std.specs.Prelude.{ℕ, zero, suc, ◌≡◌, ◌⊎◌, ⊤, nat_lt, Bool, true, false, List, [], slice_index, Option, Some, None, if◌then◌else◌}
+use Rattle.std.specs.Prelude.{ℕ, zero, suc, ◌≡◌, ◌<◌, ◌⊎◌, ⊤, nat_lt, Bool, true, false, List, [], slice_index, Option, Some, None, if◌then◌else◌}
 use Rattle.std.specs.List.{list_all}
 use Rattle.partial_model.specs.declared.history.Applied.{Applied}
 use Rattle.partial_model.specs.declared.call.Call.{Call}
@@ -72,7 +72,7 @@ abbrev pub answered : Call → ℕ → Bool → Doing
 answered (call.Scan js) n false = Looks (call.Scan js) n
 answered c n fresh = Answered
 
--- the machine goes on, or has answered
+-- the machine goes on, or has answered: no machine is refused
 abbrev pub ran : Call → ℕ → Bool → CoreState → Option Reply → Doing
 ran c n fresh s None = Runs c n fresh s
 ran c n fresh s (Some (reply.Applied stamp)) = Answered
@@ -103,34 +103,45 @@ after_step e words p s step = advance s (answer_of (arena_words e words p.contro
 -- how a step of a call leads on, by a port with that knowledge and these words
 pub data Leads (e : Plan) (words : List ℕ) (p : Port) : Doing → Act → Doing → Type 0 where
   -- a read loads a word that isn't sealed, or reads what was left behind where it has come in this call
-  ReadsWord : (j n : ℕ) (fresh : Bool) → (¬ IsSealedFor e words p (call.Read j)) ⊎ (fresh ≡ true) → Leads e words p (LoadsWord (call.Read j) n fresh) Sees (Tells (call.Read j) 1)
-  ReadsSealed : (j n : ℕ) → IsSealedFor e words p (call.Read j) → Leads e words p (LoadsWord (call.Read j) n false) Sees (Looks (call.Read j) n)
+  ReadsWord : (j n : ℕ) (fresh : Bool) → (¬ IsSealedFor e words p (call.Read j)) ⊎ (fresh ≡ true) →
+      Leads e words p (LoadsWord (call.Read j) n fresh) Sees (Tells (call.Read j) 1)
+  ReadsSealed : (j n : ℕ) → IsSealedFor e words p (call.Read j) →
+      Leads e words p (LoadsWord (call.Read j) n false) Sees (Looks (call.Read j) n)
   ReadsOn : (j n : ℕ) → IsHere words p → Leads e words p (Looks (call.Read j) n) Sees (Tells (call.Read j) 1)
   TellsOn : (c : Call) (i : ℕ) → Leads e words p (Tells c (suc i)) Sees (Tells c i)
   TellsAll : (c : Call) (i n : ℕ) (note : Noted) → note.call ≡ c → Leads e words p (Tells c i) (Moves (every.Move.Notes note n)) Answered
   -- a conditional update goes on to judge the stamp; it finds another one, looks before it says so, or finds the one that it expects
-  LoadsStamp : (j x v n : ℕ) (fresh : Bool) → Leads e words p (LoadsWord (call.UpdateIf j x v) (suc n) fresh) Sees (Judges (call.UpdateIf j x v) (suc n) fresh)
+  LoadsStamp : (j x v n : ℕ) (fresh : Bool) →
+      Leads e words p (LoadsWord (call.UpdateIf j x v) (suc n) fresh) Sees (Judges (call.UpdateIf j x v) (suc n) fresh)
   FindsOther : (j x v n i : ℕ) (fresh : Bool) (note : Noted) → note.call ≡ call.UpdateIf j x v →
       Leads e words p (Judges (call.UpdateIf j x v) (suc n) fresh) (Moves (every.Move.Notes note i)) Answered
-  LooksAtOther : (j x v n : ℕ) → IsSealedFor e words p (call.UpdateIf j x v) → Leads e words p (Judges (call.UpdateIf j x v) (suc n) false) Sees (Looks (call.UpdateIf j x v) (suc n))
-  FindsExpected : (j x v n : ℕ) (fresh : Bool) → Leads e words p (Judges (call.UpdateIf j x v) (suc n) fresh) Sees (Starts (call.UpdateIf j x v) (suc n) fresh)
+  LooksAtOther : (j x v n : ℕ) → IsSealedFor e words p (call.UpdateIf j x v) →
+      Leads e words p (Judges (call.UpdateIf j x v) (suc n) false) Sees (Looks (call.UpdateIf j x v) (suc n))
+  FindsExpected : (j x v n : ℕ) (fresh : Bool) →
+      Leads e words p (Judges (call.UpdateIf j x v) (suc n) fresh) Sees (Starts (call.UpdateIf j x v) (suc n) fresh)
   -- a scan, or a conditional update that has found another stamp, looks: its epoch is the current one yet, or it enters and begins again
-  LooksAndAnswers : (c : Call) (n i : ℕ) (note : Noted) → note.call ≡ c → IsHere words p → Leads e words p (Looks c n) (Moves (every.Move.Notes note i)) Answered
+  LooksAndAnswers : (c : Call) (n i : ℕ) (note : Noted) → note.call ≡ c → IsHere words p →
+      Leads e words p (Looks c n) (Moves (every.Move.Notes note i)) Answered
   LooksAndEnters : (c : Call) (n : ℕ) → (¬ IsHere words p) → Leads e words p (Looks c n) (Moves every.Move.Looks) (Changes c n StoresMark)
   -- an update finds its component sealed, or its port has made a claim past the limit: it changes the epoch
-  StartsSealed : (c : Call) (n : ℕ) (fresh : Bool) → IsUpdate c → IsSealedFor e words p c ⊎ (p.over ≡ true) → Leads e words p (Starts c (suc n) fresh) Sees (Changes c n LooksFirst)
+  StartsSealed : (c : Call) (n : ℕ) (fresh : Bool) → IsUpdate c → IsSealedFor e words p c ⊎ (p.over ≡ true) →
+      Leads e words p (Starts c (suc n) fresh) Sees (Changes c n LooksFirst)
   -- the first step of the machine, and a further one
   MakesFirst : (c : Call) (n : ℕ) (fresh : Bool) (s : CoreState) (step : Step) → IsCallOf c (call_of s) → (¬ IsSealedFor e words p c) →
       (¬ MeetsSeal e (component_words e words p.control.here.arena) step) →
-      Leads e words p (Starts c n fresh) (Moves (every.Move.Makes s step)) (ran c n fresh (after_step e words p s step) (reply_of (after_step e words p s step)))
+      Leads e words p (Starts c n fresh) (Moves (every.Move.Makes s step))
+      (ran c n fresh (after_step e words p s step) (reply_of (after_step e words p s step)))
   MakesNext : (c : Call) (n : ℕ) (fresh : Bool) (s : CoreState) (step : Step) →
       (¬ MeetsSeal e (component_words e words p.control.here.arena) step) →
-      Leads e words p (Runs c n fresh s) (Moves (every.Move.Makes s step)) (ran c n fresh (after_step e words p s step) (reply_of (after_step e words p s step)))
+      Leads e words p (Runs c n fresh s) (Moves (every.Move.Makes s step))
+      (ran c n fresh (after_step e words p s step) (reply_of (after_step e words p s step)))
   -- the exchange of its component meets a seal: the update changes the epoch
-  MeetsTheSeal : (c : Call) (n : ℕ) (fresh : Bool) (s : CoreState) (step : Step) → IsUpdate c → MeetsSeal e (component_words e words p.control.here.arena) step →
+  MeetsTheSeal : (c : Call) (n : ℕ) (fresh : Bool) (s : CoreState) (step : Step) → IsUpdate c →
+      MeetsSeal e (component_words e words p.control.here.arena) step →
       Leads e words p (Runs c (suc n) fresh s) (Moves (every.Move.Makes s step)) (Changes c n LooksFirst)
   -- a step of a change of epoch
-  ChangesOn : (c : Call) (n : ℕ) (d : Changing) (a : Act) (d' : Changing) → ChangeLeads e words p d a d' → Leads e words p (Changes c n d) a (changed c n d')
+  ChangesOn : (c : Call) (n : ℕ) (d : Changing) (a : Act) (d' : Changing) → ChangeLeads e words p d a d' →
+      Leads e words p (Changes c n d) a (changed c n d')
 
 -- the step may be made where the words and the port are so
 abbrev pub MayAct : Plan → List ℕ → (ℕ → Port) → Beside → (ℕ → List Noted) → ℕ → Act → Type 0
@@ -142,6 +153,12 @@ abbrev pub ActLeads : Plan → List ℕ → (ℕ → Port) → Beside → (ℕ �
 ActLeads e words ports b notes k (Moves m) p entries =
     (lead : MoveLeads e words (moved_words e words (ports k) k m) ports b notes k m) × (p ≡ lead.ports_then k) × (entries ≡ lead.entries)
 ActLeads e words ports b notes k Sees p entries = (p ≡ ports k) × (entries ≡ [])
+
+-- each step that a call may make leads to a lawful memory
+abbrev pub CallsStayLawful : Type 0
+CallsStayLawful = (e : Plan) (words : List ℕ) (ports : ℕ → Port) (b : Beside) (notes : ℕ → List Noted) (k : ℕ) (a : Act) →
+    LawfulMemory e words ports b notes → k < e.ports → MayAct e words ports b notes k a →
+    (p : Port) × (entries : List Applied) × ActLeads e words ports b notes k a p entries
 
 -- A step of a call of port k, which knows so much: in a lawful memory, whatever other ports have done since the call's last step.
 pub record CallStep (e : Plan) (k : ℕ) (p : Port) (d : Doing) : Type 0 where

@@ -91,32 +91,47 @@ IsHere words p = slice_index words current_word ≡ packed p.control.here
 -- how a step of a change of epoch leads on, by a port with that knowledge and these words
 pub data ChangeLeads (e : Plan) (words : List ℕ) (p : Port) : Changing → Act → Changing → Type 0 where
   -- the first look: the epoch is the current one, or has ended; or it is the last one
-  FindsCurrent : IsHere words p → p.control.here.epoch + 1 < epoch_limit → ChangeLeads e words p LooksFirst Sees (next_component e p.control.here.arena p.passed)
+  FindsCurrent : IsHere words p → p.control.here.epoch + 1 < epoch_limit →
+      ChangeLeads e words p LooksFirst Sees (next_component e p.control.here.arena p.passed)
   FindsEnded : (¬ IsHere words p) → ChangeLeads e words p LooksFirst (Moves every.Move.Looks) StoresMark
   FindsLastEpoch : IsHere words p → epoch_limit ≤ p.control.here.epoch + 1 → ChangeLeads e words p LooksFirst Sees (Refuses EpochsSpent)
   -- component j is sealed already, or is to be sealed; it is sealed
-  FindsSealed : (j : ℕ) → p.passed ≡ j → ChangeLeads e words p (LoadsComponent j) (Moves every.Move.PassesSealed) (next_component e p.control.here.arena (j + 1))
+  FindsSealed : (j : ℕ) → p.passed ≡ j →
+      ChangeLeads e words p (LoadsComponent j) (Moves every.Move.PassesSealed) (next_component e p.control.here.arena (j + 1))
   FindsUnsealed : (j : ℕ) → j < e.sizes.m → ChangeLeads e words p (LoadsComponent j) Sees (SealsComponent j)
-  Seals : (j : ℕ) → p.passed ≡ j → ChangeLeads e words p (SealsComponent j) (Moves every.Move.Seals) (next_component e p.control.here.arena (j + 1))
+  Seals : (j : ℕ) → p.passed ≡ j →
+      ChangeLeads e words p (SealsComponent j) (Moves every.Move.Seals) (next_component e p.control.here.arena (j + 1))
   -- the arena is taken, or is owned by a port
   TakesOne : (n x : ℕ) → ChangeLeads e words p (TakesArena n x) (Moves (every.Move.Takes x)) (LooksAsOwner n x)
-  FindsOwned : (n x : ℕ) → slice_index words (own_word e x) ≢ 0 → ChangeLeads e words p (TakesArena n x) Sees (next_arena p.control.here.arena n x)
+  FindsOwned : (n x : ℕ) → slice_index words (own_word e x) ≢ 0 →
+      ChangeLeads e words p (TakesArena n x) Sees (next_arena p.control.here.arena n x)
   -- the owner finds its epoch the current one, or ended
-  OwnerGoesOn : (n x : ℕ) (o : Owned) → IsHere words p → ChangeLeads e words p (LooksAsOwner n x) (Moves (every.Move.LooksAsOwner o)) (next_port e n x 0)
-  OwnerGivesUp : (n x : ℕ) (o : Owned) → (¬ IsHere words p) → ChangeLeads e words p (LooksAsOwner n x) (Moves (every.Move.LooksAsOwner o)) GivesUp
+  OwnerGoesOn : (n x : ℕ) (o : Owned) → IsHere words p →
+      ChangeLeads e words p (LooksAsOwner n x) (Moves (every.Move.LooksAsOwner o)) (next_port e n x 0)
+  OwnerGivesUp : (n x : ℕ) (o : Owned) → (¬ IsHere words p) →
+      ChangeLeads e words p (LooksAsOwner n x) (Moves (every.Move.LooksAsOwner o)) GivesUp
   -- port q is elsewhere, or is entering, or is in the arena
-  FindsElsewhere : (n x q : ℕ) (o : Owned) (d : Place) → o.clean ≡ q → ChangeLeads e words p (LoadsPort n x q) (Moves (every.Move.FindsElsewhere o d)) (next_port e n x (q + 1))
-  FindsMark : (n x q : ℕ) (o : Owned) → o.clean ≡ q → ChangeLeads e words p (LoadsPort n x q) (Moves (every.Move.LoadsMark o)) (LooksAgain n x q)
-  FindsThere : (n x q : ℕ) (d : Place) → q < e.ports → slice_index words (at_word q) ≡ packed d → d.arena ≡ x → ChangeLeads e words p (LoadsPort n x q) Sees (GivesBack n x)
+  FindsElsewhere : (n x q : ℕ) (o : Owned) (d : Place) → o.clean ≡ q →
+      ChangeLeads e words p (LoadsPort n x q) (Moves (every.Move.FindsElsewhere o d)) (next_port e n x (q + 1))
+  FindsMark : (n x q : ℕ) (o : Owned) → o.clean ≡ q →
+      ChangeLeads e words p (LoadsPort n x q) (Moves (every.Move.LoadsMark o)) (LooksAgain n x q)
+  FindsThere : (n x q : ℕ) (d : Place) → q < e.ports → slice_index words (at_word q) ≡ packed d → d.arena ≡ x →
+      ChangeLeads e words p (LoadsPort n x q) Sees (GivesBack n x)
   -- behind the mark the epoch is the current one yet, or has ended
-  LooksOn : (n x q : ℕ) (o : Owned) → q < e.ports → IsHere words p → ChangeLeads e words p (LooksAgain n x q) (Moves (every.Move.LooksAsOwner o)) (PutsPort n x q)
-  MarkGivesUp : (n x q : ℕ) (o : Owned) → (¬ IsHere words p) → ChangeLeads e words p (LooksAgain n x q) (Moves (every.Move.LooksAsOwner o)) GivesUp
+  LooksOn : (n x q : ℕ) (o : Owned) → q < e.ports → IsHere words p →
+      ChangeLeads e words p (LooksAgain n x q) (Moves (every.Move.LooksAsOwner o)) (PutsPort n x q)
+  MarkGivesUp : (n x q : ℕ) (o : Owned) → (¬ IsHere words p) →
+      ChangeLeads e words p (LooksAgain n x q) (Moves (every.Move.LooksAsOwner o)) GivesUp
   -- the exchange of the mark is won; or it is lost, and the port is elsewhere, or not
-  PutsOne : (n x q : ℕ) (o : Owned) (a : Place) → o.clean ≡ q → ChangeLeads e words p (PutsPort n x q) (Moves (every.Move.Puts o a)) (next_port e n x (q + 1))
-  PutElsewhere : (n x q : ℕ) (o : Owned) (d : Place) → o.clean ≡ q → ChangeLeads e words p (PutsPort n x q) (Moves (every.Move.FindsElsewhere o d)) (next_port e n x (q + 1))
-  PutIsLost : (n x q : ℕ) (a : Place) → q < e.ports → slice_index words (at_word q) ≢ marked a → ChangeLeads e words p (PutsPort n x q) Sees (GivesBack n x)
+  PutsOne : (n x q : ℕ) (o : Owned) (a : Place) → o.clean ≡ q →
+      ChangeLeads e words p (PutsPort n x q) (Moves (every.Move.Puts o a)) (next_port e n x (q + 1))
+  PutElsewhere : (n x q : ℕ) (o : Owned) (d : Place) → o.clean ≡ q →
+      ChangeLeads e words p (PutsPort n x q) (Moves (every.Move.FindsElsewhere o d)) (next_port e n x (q + 1))
+  PutIsLost : (n x q : ℕ) (a : Place) → q < e.ports → slice_index words (at_word q) ≢ marked a →
+      ChangeLeads e words p (PutsPort n x q) Sees (GivesBack n x)
   -- the arena isn't free, and the next one is tried
-  GivesOneBack : (n x : ℕ) (o : Owned) → ChangeLeads e words p (GivesBack n x) (Moves (every.Move.Gives o)) (next_arena p.control.here.arena n x)
+  GivesOneBack : (n x : ℕ) (o : Owned) →
+      ChangeLeads e words p (GivesBack n x) (Moves (every.Move.Gives o)) (next_arena p.control.here.arena n x)
   -- behind a pass the epoch is the current one yet, or has ended
   PassesAgain : (n : ℕ) → IsHere words p → ChangeLeads e words p (EndsPass n) Sees (next_pass e p.control.here.arena n)
   PassGivesUp : (n : ℕ) → (¬ IsHere words p) → ChangeLeads e words p (EndsPass n) (Moves every.Move.Looks) StoresMark

@@ -106,7 +106,8 @@ IsPlacedBy (ExchangesMark c) here then = here.epoch < then.epoch
 IsPlacedBy _ here then = then ≡ here
 
 -- what the move leads to: a lawful memory, in which all other ports are as they were
-pub record MoveLeads (e : Plan) (words words' : List ℕ) (ports : ℕ → Port) (b : Beside) (notes : ℕ → List Noted) (k : ℕ) (m : Move) : Type 0 where
+pub record MoveLeads (e : Plan) (words words' : List ℕ) (ports : ℕ → Port) (b : Beside) (notes : ℕ → List Noted) (k : ℕ) (m : Move) :
+    Type 0 where
   pub ports_then : ℕ → Port
   pub beside : Beside
   pub notes_then : ℕ → List Noted

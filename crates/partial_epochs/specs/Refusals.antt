@@ -27,6 +27,7 @@ pub record IsRefusedForComponent (e : Plan) (rounds : ℕ) (over : Bool) (c : Ca
   pub refused : (¬ NamesComponents e.sizes.m c) → begun e rounds over c ≡ Refused Component
   pub at_once : (k : ℕ) (p : Port) (d : Doing) → k < e.ports → (s : CallStep e k p d) → s.next ≢ Refused Component
 
+-- so it is for each call
 abbrev pub ComponentsAreMissing : Type 0
 ComponentsAreMissing = (e : Plan) (rounds : ℕ) (over : Bool) (c : Call) → IsRefusedForComponent e rounds over c
 
@@ -45,6 +46,7 @@ pub record IsRefusedBy (e : Plan) (k : ℕ) (p : Port) (d : Doing) (s : CallStep
   pub in_last_epoch : (c : Call) (n : ℕ) → d ≡ Changes c n LooksFirst → IsHere s.words p → epoch_limit ≤ p.control.here.epoch + 1 →
       s.next ≡ Refused EpochsSpent
 
+-- so it is for each step
 abbrev pub ChangesAreRefused : Type 0
 ChangesAreRefused = (e : Plan) (k : ℕ) (p : Port) (d : Doing) → k < e.ports → (s : CallStep e k p d) → IsRefusedBy e k p d s
 

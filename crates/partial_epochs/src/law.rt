@@ -10,6 +10,7 @@ ghost use Rattle.partial_epochs.specs.Publishing.{SetsStayLawful, PublishesStayL
 ghost use Rattle.partial_epochs.specs.Opening.{OpensOverLawful, EpochsOpenLawful};
 ghost use Rattle.partial_epochs.specs.Notes.{EpochsFitOneHistory, NotesStayLawful, SightsStayLawful, AsidesStayLawful, ArrivalsKeepNotes, PublishesKeepNotes, PublicStampsAreUnique};
 ghost use Rattle.partial_epochs.specs.EveryStep.{EveryStepStaysLawful, MemoriesOpenLawful};
+ghost use Rattle.partial_epochs.specs.Calls.{CallsStayLawful};
 ghost use Rattle.partial_epochs.specs.Bounds.{StepsLeaveFewer, ReadsMakeEight, UpdatesAreBounded, ConditionalUpdatesAreBounded, ScansAreBounded, ChangesAreBounded};
 ghost use Rattle.partial_epochs.specs.Refusals.{RefusedCallsApplyNothing, ComponentsAreMissing, OvertakenCallsMovedOn, ChangesAreRefused, NoArenaIsFree};
 ghost use Rattle.partial_epochs.specs.Reads.{ReadsTellAllEpochs, LastWordsAreFinal};
@@ -36,14 +37,14 @@ pub fn claims_have_room()
     ensures { ClaimsHaveRoom }
 {}
 
-/// In an arena with a slot for each two words of its pool, no machine of a port is marked for the pool or for the slots,
-/// so no call is refused at once for either.
+/// In an arena with a slot for each two words of its pool, no machine of a port is marked for the pool or for the
+/// slots, so no call is refused at once for either.
 pub fn marks_never_come()
     ensures { MarksNeverCome }
 {}
 
-/// In such an arena no step of a machine ends its call with a refusal: each announcement finds a slot, since two words of
-/// the pool are claimed for it first.
+/// In such an arena no step of a machine ends its call with a refusal: each announcement finds a slot, since two words
+/// of the pool are claimed for it first.
 pub fn machines_are_never_refused()
     ensures { MachinesAreNeverRefused }
 {}
@@ -206,6 +207,13 @@ pub fn every_step_stays_lawful()
     ensures { EveryStepStaysLawful }
 {}
 
+/// Each step that a call may make leads to a lawful memory, in which the port has come to a later epoch exactly by the
+/// third step of entering, and the one history has gained an entry at most where the machine of an update comes to be
+/// applied.
+pub fn calls_stay_lawful()
+    ensures { CallsStayLawful }
+{}
+
 /// Each step of a call leaves fewer steps than there were before it, whatever other ports do between its steps. So each
 /// call ends.
 pub fn steps_leave_fewer()
@@ -217,8 +225,8 @@ pub fn reads_make_eight()
     ensures { ReadsMakeEight }
 {}
 
-/// An update that may change the epoch B times makes at most B times the steps of an update of one memory and of a change
-/// of epoch.
+/// An update that may change the epoch B times makes at most B times the steps of an update of one memory and of a
+/// change of epoch.
 pub fn updates_are_bounded()
     ensures { UpdatesAreBounded }
 {}
@@ -250,8 +258,8 @@ pub fn components_are_missing()
     ensures { ComponentsAreMissing }
 {}
 
-/// Only an update is refused as overtaken, and then its port has come to a later epoch as often as the update may change
-/// the epoch.
+/// Only an update is refused as overtaken, and then its port has come to a later epoch as often as the update may
+/// change the epoch.
 pub fn overtaken_calls_moved_on()
     ensures { OvertakenCallsMovedOn }
 {}
