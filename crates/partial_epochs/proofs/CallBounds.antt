@@ -98,8 +98,8 @@ module _ (e : Plan) where
     change_fewer _ _ _ (changing.ChangeLeads.MarkGivesUp n x q o away) may = omega arith
     change_fewer _ _ _ (changing.ChangeLeads.PutsOne n x q o a is) may = let rest = port_next n x (q + 1) in let low = may.2 in omega (arith, rest, low, is)
     change_fewer _ _ _ (changing.ChangeLeads.PutElsewhere n x q o d is) may = let rest = port_next n x (q + 1) in let low = may.3 in omega (arith, rest, low, is)
-    change_fewer _ _ _ (changing.ChangeLeads.PutIsLost n x q a low lost) may = omega (arith, low)
-    change_fewer _ _ _ (changing.ChangeLeads.GivesOneBack n x o) may = let rest = arena_next (ports k).control.here.arena n x in omega (arith, rest)
+    change_fewer _ _ _ (changing.ChangeLeads.PutIsLost n x q o a low owned mark lost there) may = omega (arith, low)
+    change_fewer _ _ _ (changing.ChangeLeads.GivesOneBack n x o at) may = let rest = arena_next (ports k).control.here.arena n x in omega (arith, rest)
     change_fewer _ _ _ (changing.ChangeLeads.PassesAgain n here) may = let rest = pass_next (ports k).control.here.arena n in omega (arith, rest)
     change_fewer _ _ _ (changing.ChangeLeads.PassGivesUp n away) may = omega arith
     change_fewer _ _ _ (changing.ChangeLeads.LoadsOne i) may = let rest = load_next i in omega (arith, rest)

@@ -111,8 +111,8 @@ module _ (e : Plan) where
     change_ends _ _ _ (changing.ChangeLeads.MarkGivesUp n x q o h1) = inl (tt, tt)
     change_ends _ _ _ (changing.ChangeLeads.PutsOne n x q o a h1) = inl (port_going n x (q + 1), tt)
     change_ends _ _ _ (changing.ChangeLeads.PutElsewhere n x q o d h1) = inl (port_going n x (q + 1), tt)
-    change_ends _ _ _ (changing.ChangeLeads.PutIsLost n x q a h1 h2) = inl (tt, tt)
-    change_ends _ _ _ (changing.ChangeLeads.GivesOneBack n x o) = inl (arena_going p.control.here.arena n x, tt)
+    change_ends _ _ _ (changing.ChangeLeads.PutIsLost n x q o a h1 h2 h3 h4 h5) = inl (tt, tt)
+    change_ends _ _ _ (changing.ChangeLeads.GivesOneBack n x o at) = inl (arena_going p.control.here.arena n x, tt)
     change_ends _ _ _ (changing.ChangeLeads.PassesAgain n h1) = passes_end n h1
     change_ends _ _ _ (changing.ChangeLeads.PassGivesUp n h1) = inl (tt, tt)
     change_ends _ _ _ (changing.ChangeLeads.LoadsOne i) = inl (load_going i, tt)
@@ -141,8 +141,8 @@ module _ (e : Plan) where
     change_plain _ _ _ (changing.ChangeLeads.MarkGivesUp n x q o h1) = tt
     change_plain _ _ _ (changing.ChangeLeads.PutsOne n x q o a h1) = tt
     change_plain _ _ _ (changing.ChangeLeads.PutElsewhere n x q o d h1) = tt
-    change_plain _ _ _ (changing.ChangeLeads.PutIsLost n x q a h1 h2) = tt
-    change_plain _ _ _ (changing.ChangeLeads.GivesOneBack n x o) = tt
+    change_plain _ _ _ (changing.ChangeLeads.PutIsLost n x q o a h1 h2 h3 h4 h5) = tt
+    change_plain _ _ _ (changing.ChangeLeads.GivesOneBack n x o at) = tt
     change_plain _ _ _ (changing.ChangeLeads.PassesAgain n h1) = tt
     change_plain _ _ _ (changing.ChangeLeads.PassGivesUp n h1) = tt
     change_plain _ _ _ (changing.ChangeLeads.LoadsOne i) = tt
@@ -179,8 +179,8 @@ module _ (e : Plan) where
     change_causes _ _ _ (changing.ChangeLeads.MarkGivesUp n x q o h1) here = (λ is. absurd cc, λ is last. absurd cc)
     change_causes _ _ _ (changing.ChangeLeads.PutsOne n x q o a h1) here = (λ is. absurd cc, λ is last. absurd cc)
     change_causes _ _ _ (changing.ChangeLeads.PutElsewhere n x q o d h1) here = (λ is. absurd cc, λ is last. absurd cc)
-    change_causes _ _ _ (changing.ChangeLeads.PutIsLost n x q a h1 h2) here = (λ is. absurd cc, λ is last. absurd cc)
-    change_causes _ _ _ (changing.ChangeLeads.GivesOneBack n x o) here = (λ is. absurd cc, λ is last. absurd cc)
+    change_causes _ _ _ (changing.ChangeLeads.PutIsLost n x q o a h1 h2 h3 h4 h5) here = (λ is. absurd cc, λ is last. absurd cc)
+    change_causes _ _ _ (changing.ChangeLeads.GivesOneBack n x o at) here = (λ is. absurd cc, λ is last. absurd cc)
     change_causes _ _ _ (changing.ChangeLeads.PassesAgain n h1) here = (λ is. ap (next_pass e p.control.here.arena) (ap pass_of is), λ is last. absurd cc)
     change_causes _ _ _ (changing.ChangeLeads.PassGivesUp n h1) here = (λ is. absurd (h1 here), λ is last. absurd cc)
     change_causes _ _ _ (changing.ChangeLeads.LoadsOne i) here = (λ is. absurd cc, λ is last. absurd cc)

@@ -77,8 +77,8 @@ module _ (e : Plan) where
   late_on words p _ _ _ (changing.ChangeLeads.MarkGivesUp n x q o h1) late = absurd late
   late_on words p _ _ _ (changing.ChangeLeads.PutsOne n x q o a h1) late = absurd late
   late_on words p _ _ _ (changing.ChangeLeads.PutElsewhere n x q o d h1) late = absurd late
-  late_on words p _ _ _ (changing.ChangeLeads.PutIsLost n x q a h1 h2) late = absurd late
-  late_on words p _ _ _ (changing.ChangeLeads.GivesOneBack n x o) late = absurd late
+  late_on words p _ _ _ (changing.ChangeLeads.PutIsLost n x q o a h1 h2 h3 h4 h5) late = absurd late
+  late_on words p _ _ _ (changing.ChangeLeads.GivesOneBack n x o at) late = absurd late
   late_on words p _ _ _ (changing.ChangeLeads.PassesAgain n h1) late = absurd late
   late_on words p _ _ _ (changing.ChangeLeads.PassGivesUp n h1) late = absurd late
   late_on words p _ _ _ (changing.ChangeLeads.LoadsOne i) late = load_late i
@@ -274,8 +274,8 @@ module _ (e : Plan) where
       step_ahead _ _ _ (changing.ChangeLeads.MarkGivesUp n0 x0 q o h1) ahead = inl (inr tt)
       step_ahead _ _ _ (changing.ChangeLeads.PutsOne n0 x0 q o a h1) ahead = inl (port_ahead n0 x0 (q + 1) ahead)
       step_ahead _ _ _ (changing.ChangeLeads.PutElsewhere n0 x0 q o d h1) ahead = inl (port_ahead n0 x0 (q + 1) ahead)
-      step_ahead _ _ _ (changing.ChangeLeads.PutIsLost n0 x0 q a h1 h2) ahead = inl (inl ahead)
-      step_ahead _ _ _ (changing.ChangeLeads.GivesOneBack n0 x0 o) ahead = elim (is_taken n0 x0 GivesBack ahead) [
+      step_ahead _ _ _ (changing.ChangeLeads.PutIsLost n0 x0 q o a h1 h2 h3 h4 h5) ahead = inl (inl ahead)
+      step_ahead _ _ _ (changing.ChangeLeads.GivesOneBack n0 x0 o at0) ahead = elim (is_taken n0 x0 GivesBack ahead) [
         | inl on ↦ inl (inl (to_own (λ i. next_arena i n0 x0) on))
         | inr at ↦ inr (inr at)
       ]

@@ -110,7 +110,7 @@ pub data Leads (e : Plan) (words : List ℕ) (p : Port) : Doing → Act → Doin
   ReadsOn : (j n : ℕ) → IsHere words p → Leads e words p (Looks (call.Read j) n) Sees (Tells (call.Read j) 1)
   TellsOn : (c : Call) (i : ℕ) → Leads e words p (Tells c (suc i)) Sees (Tells c i)
   TellsAll : (c : Call) (i n : ℕ) (note : Noted) → note.call ≡ c → Leads e words p (Tells c i) (Moves (every.Move.Notes note n)) Answered
-  -- a conditional update goes on to judge the stamp; it finds another one, looks before it says so, or finds the one that it expects
+  -- a conditional update goes on to judge the stamp: it finds another one, and says so, or looks before; or it finds the one that it expects
   LoadsStamp : (j x v n : ℕ) (fresh : Bool) →
       Leads e words p (LoadsWord (call.UpdateIf j x v) (suc n) fresh) Sees (Judges (call.UpdateIf j x v) (suc n) fresh)
   FindsOther : (j x v n i : ℕ) (fresh : Bool) (note : Noted) → note.call ≡ call.UpdateIf j x v →

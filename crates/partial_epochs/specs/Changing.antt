@@ -1,7 +1,7 @@
 -- A change of epoch as plain data: what a port is about to do in it, and how one step leads to the next. Nothing here runs.
-use Rattle.std.specs.Prelude.{ℕ, zero, suc, ◌≡◌, ◌≢◌, ◌+◌, ◌*◌, ◌<◌, ◌≤◌, ◌==◌, nat_lt, List, slice_index, if◌then◌else◌}
+use Rattle.std.specs.Prelude.{ℕ, zero, suc, ◌≡◌, ◌≢◌, ◌+◌, ◌*◌, ◌<◌, ◌≤◌, ◌==◌, nat_lt, List, slice_index, if◌then◌else◌, Some}
 use Rattle.partial_words.specs.Layout.{first_free}
-use Rattle.partial_epochs.specs.Layout.{Place, Plan, at_word, current_word, epoch_limit, marked, own_word, packed}
+use Rattle.partial_epochs.specs.Layout.{IsPlace, Place, Plan, at_word, current_word, epoch_limit, marked, own_word, packed}
 use Rattle.partial_epochs.specs.Ports.{Owned, Port}
 use Rattle.partial_epochs.specs.EveryStep.{Move}
 use Rattle.partial_epochs.specs.EveryStep as every
@@ -122,15 +122,16 @@ pub data ChangeLeads (e : Plan) (words : List ℕ) (p : Port) : Changing → Act
       ChangeLeads e words p (LooksAgain n x q) (Moves (every.Move.LooksAsOwner o)) (PutsPort n x q)
   MarkGivesUp : (n x q : ℕ) (o : Owned) → (¬ IsHere words p) →
       ChangeLeads e words p (LooksAgain n x q) (Moves (every.Move.LooksAsOwner o)) GivesUp
-  -- the exchange of the mark is won; or it is lost, and the port is elsewhere, or not
+  -- the exchange of the mark is won; or it is lost, and the port is elsewhere; or it has another mark, or is in the arena
   PutsOne : (n x q : ℕ) (o : Owned) (a : Place) → o.clean ≡ q →
       ChangeLeads e words p (PutsPort n x q) (Moves (every.Move.Puts o a)) (next_port e n x (q + 1))
   PutElsewhere : (n x q : ℕ) (o : Owned) (d : Place) → o.clean ≡ q →
       ChangeLeads e words p (PutsPort n x q) (Moves (every.Move.FindsElsewhere o d)) (next_port e n x (q + 1))
-  PutIsLost : (n x q : ℕ) (a : Place) → q < e.ports → slice_index words (at_word q) ≢ marked a →
+  PutIsLost : (n x q : ℕ) (o : Owned) (a : Place) → q < e.ports → p.control.owned ≡ Some o → o.mark ≡ Some a →
+      slice_index words (at_word q) ≢ marked a → ((d : Place) → IsPlace e d → slice_index words (at_word q) ≡ packed d → d.arena ≡ x) →
       ChangeLeads e words p (PutsPort n x q) Sees (GivesBack n x)
   -- the arena isn't free, and the next one is tried
-  GivesOneBack : (n x : ℕ) (o : Owned) →
+  GivesOneBack : (n x : ℕ) (o : Owned) → o.arena ≡ x →
       ChangeLeads e words p (GivesBack n x) (Moves (every.Move.Gives o)) (next_arena p.control.here.arena n x)
   -- behind a pass the epoch is the current one yet, or has ended
   PassesAgain : (n : ℕ) → IsHere words p → ChangeLeads e words p (EndsPass n) Sees (next_pass e p.control.here.arena n)

@@ -21,7 +21,7 @@ abbrev pub RefusedCallsApplyNothing : Type 0
 RefusedCallsApplyNothing = (e : Plan) (k n : ℕ) (p p' : Port) (d : Doing) (cause : Refusal) → k < e.ports →
     (r : Run e k n p d p' (Refused cause)) → AppliesNothing e k n p d p' (Refused cause) r
 
--- a call is refused for a component exactly where it names one that isn't there, and then as it begins
+-- a call is refused for a component exactly when it names one that isn't there, and then as it begins
 pub record IsRefusedForComponent (e : Plan) (rounds : ℕ) (over : Bool) (c : Call) : Type 0 where
   pub missing : begun e rounds over c ≡ Refused Component → ¬ NamesComponents e.sizes.m c
   pub refused : (¬ NamesComponents e.sizes.m c) → begun e rounds over c ≡ Refused Component

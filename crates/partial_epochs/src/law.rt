@@ -208,7 +208,7 @@ pub fn every_step_stays_lawful()
 {}
 
 /// Each step that a call may make leads to a lawful memory, in which the port has come to a later epoch exactly by the
-/// third step of entering, and the one history has gained an entry at most where the machine of an update comes to be
+/// third step of entering, and the one history has gained an entry at most when the machine of an update comes to be
 /// applied.
 pub fn calls_stay_lawful()
     ensures { CallsStayLawful }
@@ -253,7 +253,7 @@ pub fn refused_calls_apply_nothing()
     ensures { RefusedCallsApplyNothing }
 {}
 
-/// A call is refused for a component exactly where it names one that is not there, and then before its first step.
+/// A call is refused for a component exactly when it names one that is not there, and then before its first step.
 pub fn components_are_missing()
     ensures { ComponentsAreMissing }
 {}
@@ -264,8 +264,8 @@ pub fn overtaken_calls_moved_on()
     ensures { OvertakenCallsMovedOn }
 {}
 
-/// A change of epoch is refused for want of an arena exactly where the look behind its last pass finds the port's epoch
-/// the current one, and for want of epochs exactly where its first look finds the last epoch that a word can name.
+/// A change of epoch is refused for want of an arena exactly when the look behind its last pass finds the port's epoch
+/// the current one, and for want of epochs exactly when its first look finds the last epoch that a word can name.
 pub fn changes_are_refused()
     ensures { ChangesAreRefused }
 {}
