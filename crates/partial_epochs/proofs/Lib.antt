@@ -4,7 +4,9 @@ pub mod Present
 pub mod Change
 pub mod Apart
 pub mod Worded
+pub mod Slots
 pub mod MachineSteps
+pub mod Room
 pub mod Seals
 pub mod ControlChange
 pub mod Entering
@@ -22,7 +24,12 @@ pub mod Taking
 pub mod Last
 pub mod Public
 pub mod Seats
+pub mod Written
 pub mod NotesStay
 pub mod Sights
 pub mod EveryStep
 pub mod Refused
+pub mod CallBounds
+pub mod CallEnds
+pub mod CallRefusals
+pub mod NoArena

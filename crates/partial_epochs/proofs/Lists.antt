@@ -105,3 +105,27 @@ count_few f p (suc n) = let rest = count_few f (p + 1) n in by (f p) rest
     by : (c : Bool) → count f (p + 1) n ≤ n → cond c 1 0 + count f (p + 1) n ≤ suc n
     by true rest = omega (arith, rest)
     by false rest = omega (arith, rest)
+
+-- a count before and after one value is changed
+pub count_one : (f g : ℕ → Bool) (p n k : ℕ) → p ≤ k → k < p + n → ((i : ℕ) → i ≢ k → g i ≡ f i) → count g p n + cond (f k) 1 0 ≡ count f p n + cond (g k) 1 0
+count_one f g p zero k low high e = absurd (omega (arith, low, high))
+count_one f g p (suc n) k low high e = elim (eqb_tells p k) [
+  | inl same ↦
+      let rest : count g (p + 1) n ≡ count f (p + 1) n = count_same g f (p + 1) n (λ i from to. let is = same.1 in e i (omega (arith, from, is))) in
+      let of_g : ◌≡◌ {A = ℕ} (cond (g p) 1 0) (cond (g k) 1 0) = ap (λ i. cond (g i) 1 0) same.1 in
+      let of_f : ◌≡◌ {A = ℕ} (cond (f p) 1 0) (cond (f k) 1 0) = ap (λ i. cond (f i) 1 0) same.1 in
+      omega (arith, rest, of_g, of_f)
+  | inr other ↦
+      let ne = other.1 in
+      let rest = count_one f g (p + 1) n k (omega (arith, low, ne)) (omega (arith, high)) e in
+      let here : ◌≡◌ {A = ℕ} (cond (g p) 1 0) (cond (f p) 1 0) = ap (λ (c : Bool). cond c 1 0) (e p ne) in
+      omega (arith, rest, here)
+]
+
+-- a count of what is never so
+pub count_none : (f : ℕ → Bool) (p n : ℕ) → ((i : ℕ) → f i ≡ false) → count f p n ≡ 0
+count_none f p zero off = refl
+count_none f p (suc n) off =
+    let rest = count_none f (p + 1) n off in
+    let none : ◌≡◌ {A = ℕ} (cond (f p) 1 0) 0 = ap (λ (c : Bool). cond c 1 0) (off p) in
+    omega (arith, rest, none)

@@ -9,25 +9,28 @@ use Rattle.partial_model.specs.declared.history.Applied.{Applied}
 use Rattle.partial_model.specs.declared.history.Opening.{Opening}
 use Rattle.partial_words.specs.declared.step.Step.{Step}
 use Rattle.partial_words.specs.declared.step.Step.TheVariants.{Load, Store, Exchange, Add}
-use Rattle.partial_words.specs.Layout.{Layout, total, pool_counter, greatest_record}
+use Rattle.partial_words.specs.Layout.{IsLayout, Layout, first_free, total, pool_counter, slot_counter, greatest_record}
 use Rattle.partial_words.specs.Step.{answer_of, word_of, words_after}
-use Rattle.partial_machine.specs.Machine.{CoreState, step_of}
+use Rattle.partial_machine.specs.Bounds.{steps_left}
+use Rattle.partial_machine.specs.Machine.{CoreState, advance, step_of}
 use Rattle.partial_core.specs.Part.{Part, IsMachineOf, port_of}
+use Rattle.partial_core.specs.Ports.{IsReady}
 use Rattle.partial_core.specs.Lawful as one
 use Rattle.partial_core.specs.Steps.{LeadsOn, Tells, added_by}
-use Rattle.partial_core.proofs.Laws.{steps_stay_lawful}
+use Rattle.partial_core.proofs.Laws.{lawful_machines_are_ready, steps_stay_lawful}
 use Rattle.partial_epochs.specs.Lists.{count, list_of, put}
 use Rattle.partial_epochs.specs.Layout.{Plan, arena_words, carried_words, component_words, placed}
 use Rattle.partial_epochs.specs.History.{opening_behind}
 use Rattle.partial_epochs.specs.Ports.{Port, Epoch}
-use Rattle.partial_epochs.specs.Epochs.{Beside, IsArena, IsStanding, LawfulEpochs, IsPresent}
+use Rattle.partial_epochs.specs.Epochs.{Beside, IsArena, IsStanding, LawfulEpochs, IsPresent, awaits_slot}
 use Rattle.partial_epochs.specs.MachineSteps.{MachineLeads, MachineStepsStayLawful, MayClaim, MeetsSeal, ends_over}
 use Rattle.partial_epochs.specs.Ports.Entering.{Stands}
 use Rattle.partial_epochs.proofs.Apart.{IsApart, due_apart}
 use Rattle.partial_epochs.proofs.Change.{Changes, beside_then, change_kept}
-use Rattle.partial_epochs.proofs.Lists.{Around, around_of, count_more, count_same, length_of, put_all, put_other, put_same}
+use Rattle.partial_epochs.proofs.Lists.{Around, around_of, count_more, count_one, count_same, length_of, put_all, put_other, put_same}
 use Rattle.partial_epochs.proofs.Places.{below_whole, not_below}
 use Rattle.partial_epochs.proofs.Present.{by_seal, standing}
+use Rattle.partial_epochs.proofs.Slots.{awaits, awaits_same, counted, one, pool_small}
 use Rattle.partial_epochs.proofs.Worded.{Words, worded}
 
 or_none : (b c : Bool) → c ≡ false → (b || c) ≡ b
@@ -138,6 +141,41 @@ module _ (e : Plan) (words : List ℕ) (ports : ℕ → Port) (b : Beside) (k : 
   abbrev entries : List Applied
   entries = added_by e.sizes (port_of (r.part k)) bw step
 
+  -- what the step leaves of the counters of slots and of pool words, in a memory of these sizes
+  abbrev Counts : Layout → Bool → Bool → Type 0
+  Counts z before behind =
+      2 * (get_or (words_after bw step) (slot_counter z) 0 + one behind) + get_or bw (pool_counter z) 0 ≤ 2 * (get_or bw (slot_counter z) 0 + one before) + get_or (words_after bw step) (pool_counter z) 0
+
+  counts : Counts e.sizes (awaits_slot (r.part k)) (awaits_slot leads.y)
+  counts =
+      let ready = lawful_machines_are_ready e.sizes o bw around.before (r.part k) around.after r.log c lawful_here machine_here in
+      let long = lawful_here.memory.count in
+      let z = w.plan.sizes in
+      let pool = z.pool.0 in
+      let some = z.slots.0 in
+      let m = z.components.0 in
+      let slots_there : slot_counter e.sizes < length bw = omega (arith, long, pool, some, m) in
+      let pool_there : pool_counter e.sizes < length bw = omega (arith, long, pool, some, m) in
+      let small = pool_small e bw (component_words e words x) (carried_words e words x) r (x ≢ b.arena) w.plan arena in
+      let behind = arena.slots in
+      let slots_small : get_or bw (slot_counter e.sizes) 0 < 2 ^ 32 = omega (arith, behind, small) in
+      let back : c.sizes ≡ e.sizes = ready.sizes in
+      subst (λ (v : Bool). Counts e.sizes v (awaits_slot leads.y)) (awaits_same c (r.part k) machine_here)
+      (subst (λ (v : Bool). Counts e.sizes (awaits c) v) (ap awaits leads.tells.machine.is)
+      (subst (λ (l : Layout). Counts l (awaits c) (awaits (advance c (answer_of bw step)))) back
+      (counted c (subst IsLayout (sym back) z) ready.sound bw (subst (λ (l : Layout). slot_counter l < length bw) (sym back) slots_there)
+      (subst (λ (l : Layout). pool_counter l < length bw) (sym back) pool_there) (subst (λ (l : Layout). get_or bw (slot_counter l) 0 < 2 ^ 32) (sym back) slots_small)
+      (subst (λ (l : Layout). get_or bw (pool_counter l) 0 < 2 ^ 32) (sym back) small) (answer_of bw step) step due (subst (λ (l : Layout). IsApart l step) (sym back) apart))))
+
+  slots_then : first_free e.sizes + 2 * (get_or (words_after bw step) (slot_counter e.sizes) 0 + count (λ q. awaits_slot (put k leads.y r.part q)) 0 e.ports)
+      ≤ get_or (words_after bw step) (pool_counter e.sizes) 0
+  slots_then =
+      let was = arena.slots in
+      let changed = count_one (λ q. awaits_slot (r.part q)) (λ q. awaits_slot (put k leads.y r.part q)) 0 e.ports k (omega arith) (omega (arith, below)) (λ i ne. ap awaits_slot (put_other k leads.y r.part i ne)) in
+      let now : ◌≡◌ {A = ℕ} (one (awaits_slot (put k leads.y r.part k))) (one (awaits_slot leads.y)) = ap (λ (y : Part). one (awaits_slot y)) (put_same k leads.y r.part) in
+      let step_counts = counts in
+      omega (arith, was, changed, now, step_counts)
+
   abbrev words' : List ℕ
   words' = words_after words (placed e x step)
 
@@ -171,6 +209,7 @@ module _ (e : Plan) (words : List ℕ) (ports : ℕ → Port) (b : Beside) (k : 
           reserve = subst (λ (l : List ℕ). get_or l (pool_counter e.sizes) 0 ≤ e.limit + greatest_record e.sizes * count (put k over' r.over) 0 e.ports) (sym h.arena)
               (subst (λ (v : Bool). get_or (words_after bw step) (pool_counter e.sizes) 0 ≤ e.limit + greatest_record e.sizes * count (put k v r.over) 0 e.ports) (sym same_over)
               (reserved_by e bw r.over k below there arena.reserve step apart claim));
+          slots = subst (λ (l : List ℕ). first_free e.sizes + 2 * (get_or l (slot_counter e.sizes) 0 + count (λ q. awaits_slot (put k leads.y r.part q)) 0 e.ports) ≤ get_or l (pool_counter e.sizes) 0) (sym h.arena) slots_then;
         }
 
     changes : Changes e words b k x (ports k) r words' p' r' entries
@@ -202,9 +241,10 @@ module _ (e : Plan) (words : List ℕ) (ports : ℕ → Port) (b : Beside) (k : 
     tells = subst (λ (l : List (List Applied)). Tells e.sizes (opening_behind e.opening l) r.log entries (ports k).part c (answer_of bw step) leads.y) s.before
         (subst (λ (y : Part). Tells e.sizes o r.log entries y c (answer_of bw step) leads.y) s.part leads.tells)
 
-    pub machine_leads : MachineLeads e words ports b k c step
-    machine_leads = record {
+    pub machine_leads : (¬ MeetsSeal e (component_words e words x) step) → MachineLeads e words ports b k c step
+    machine_leads unmet = record {
       standing = s;
+      unmet = unmet;
       within = there step low;
       gives = h.gives;
       port = p';
@@ -229,10 +269,18 @@ module _ (e : Plan) (words : List ℕ) (ports : ℕ → Port) (b : Beside) (k : 
         there (Exchange v u n) low = let up = below_whole e x v (w.control.places k below).arena (omega (arith, low)) in let count = w.count in omega (arith, up, count)
         there (Add v u) low = let up = below_whole e x v (w.control.places k below).arena (omega (arith, low)) in let count = w.count in omega (arith, up, count)
 
+  -- the machine is sound, with the sizes of the plan
+  pub machine_ready : IsReady e.sizes c (r.part k)
+  machine_ready = lawful_machines_are_ready e.sizes o bw around.before (r.part k) around.after r.log c lawful_here machine_here
+
+  -- the machine has fewer steps left then
+  pub makes_fewer : steps_left (advance c (answer_of (arena_words e words (ports k).control.here.arena) step)) < steps_left c
+  makes_fewer = leads.tells.behind.fewer
+
   pub machine_kept : (MeetsSeal e (component_words e words (ports k).control.here.arena) step × (words_after words (placed e (ports k).control.here.arena step) ≡ words)) ⊎ MachineLeads e words ports b k c step
   machine_kept = elim (worded e words x step (w.control.places k below).arena w.count low apart w.plan.sizes.slots.0) [
     | inl met ↦ inl met
-    | inr h ↦ inr (machine_leads h)
+    | inr h ↦ inr (machine_leads h.1 h.0)
   ]
 
 pub machine_steps_stay_lawful : MachineStepsStayLawful

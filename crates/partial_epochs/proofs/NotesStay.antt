@@ -34,10 +34,13 @@ use Rattle.partial_epochs.specs.Ports.{Control, Epoch, Port}
 use Rattle.partial_epochs.specs.Ports.Entering.{Stands}
 use Rattle.partial_epochs.specs.Epochs.{Beside, IsPresent, IsStanding}
 use Rattle.partial_epochs.specs.MachineSteps.{MachineLeads}
+use Rattle.partial_epochs.specs.EveryStep.{MayAdd, is_applied}
+use Rattle.partial_epochs.specs.EveryStep.Move.{Makes}
 use Rattle.partial_epochs.specs.Notes.{ExpectedOne, IsEpochHistory, LawfulMemory, LawfulNotes, MayNote, NotesStayLawful, Reached, noting, one_history, public_answer, public_call, public_note, public_noted, seen_of}
 use Rattle.partial_epochs.proofs.Lists.{put_all, put_other, put_same}
 use Rattle.partial_epochs.proofs.OneHistory.{held_history}
 use Rattle.partial_epochs.proofs.Public.{public_fits, public_true}
+use Rattle.partial_epochs.proofs.Written.{changed_none, lost_none, no_places, read_none, scanned_none}
 use Rattle.partial_epochs.proofs.Seats.{earlier, fits, history_longer, known, number, reached, reached_grows, seen_begins}
 
 -- the places of a port's entries in two histories, one behind the other
@@ -166,7 +169,7 @@ module _ (e : Plan) (words : List ℕ) (ports : ℕ → Port) (b : Beside) (note
   abbrev grown : List Applied
   grown = public_log (length b.before) lead.entries
 
-  history_is : one_history lead.beside ≡ one_history b ++ public_log (length b.before) lead.entries
+  pub history_is : one_history lead.beside ≡ one_history b ++ public_log (length b.before) lead.entries
   history_is = ap (λ (l : List Applied). history_of (l ∷ lead.beside.before)) lead.log ∙ ap (λ (l : List (List Applied)). history_of ((b.log ++ lead.entries) ∷ l)) lead.epochs
       ∙ history_longer b.log lead.entries b.before
 
@@ -185,6 +188,23 @@ module _ (e : Plan) (words : List ℕ) (ports : ℕ → Port) (b : Beside) (note
       ∙ is
       ∙ ap places_written notes_are
       ∙ places_written-append (ports k).part.notes lead.tells.new)
+
+  -- a step adds an entry only where its machine has answered
+  pub adds_of : (public_log (length b.before) lead.entries ≡ []) ⊎ MayAdd e words (ports k) (Makes c step)
+  adds_of = by (reply_of (advance c (answer_of (arena_words e words (ports k).control.here.arena) step))) refl lead.tells.noted
+    where
+      none : places_written lead.tells.new ≡ [] → public_log (length b.before) lead.entries ≡ []
+      none is = ap (public_log (length b.before)) (no_places k (length lead.standing.epoch.log) lead.entries lead.own (own_places ∙ is))
+
+      by : (t : Option Reply) → reply_of (advance c (answer_of (arena_words e words (ports k).control.here.arena) step)) ≡ t → AreNotesOf lead.port.part t lead.tells.new →
+          (public_log (length b.before) lead.entries ≡ []) ⊎ MayAdd e words (ports k) (Makes c step)
+      by None is h = inl (none (ap places_written h))
+      by (Some (reply.Refused cause)) is h = inl (none (ap places_written h.none))
+      by (Some (reply.Applied s)) is h = inr (lead.unmet, ap is_applied is)
+      by (Some (reply.Lost s)) is h = inl (none (ap places_written h.is ∙ lost_none s h.note (length lead.port.part.seen) h.placed))
+      by (Some (reply.Scanned n t)) is h = inl (none (ap places_written h.is ∙ scanned_none n t h.note (length lead.port.part.seen) h.placed))
+      by (Some (reply.Read v s)) is h = inl (none (ap places_written h.is ∙ read_none v s h.note (length lead.port.part.seen) h.placed))
+      by (Some (reply.Changed s)) is h = inl (none (ap places_written h.is ∙ changed_none s h.note (length lead.port.part.seen) h.placed))
 
   public_places : places_by k (0 + length (one_history b)) (public_log (length b.before) lead.entries) ≡ map (λ i. length (history_of (ports k).before) + i) (places_written lead.tells.new)
   public_places = elim lead.present [

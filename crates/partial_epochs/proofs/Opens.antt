@@ -102,7 +102,7 @@ none_announced p (suc n) = none_announced (p + 1) n
 pub pool_opens : (z : Layout) (initial : List ℕ) → opening_word z initial (pool_counter z) ≡ pool_base z + 3 * z.m
 pool_opens z initial = grind (arith, nat_tests)
 
-slot_opens : (z : Layout) (initial : List ℕ) → 1 ≤ z.slots → opening_word z initial (slot_counter z) ≡ 0
+pub slot_opens : (z : Layout) (initial : List ℕ) → 1 ≤ z.slots → opening_word z initial (slot_counter z) ≡ 0
 slot_opens z initial some = grind (arith, nat_tests)
 
 list_opens : (z : Layout) (initial : List ℕ) → 1 ≤ z.slots → opening_word z initial (list_head z) ≡ 0

@@ -4,16 +4,16 @@ use Rattle.std.specs.Option.{option_map}
 use Rattle.std.proofs.lemmas.Bool.{cases_lt}
 use Rattle.std.proofs.lemmas.Bool.Decides.{eqb_tells}
 use Rattle.partial_model.proofs.ListLemmas.{some_same}
-use Rattle.partial_words.specs.Layout.{first_free, pool_counter, total}
-use Rattle.partial_core.specs.Part.{Part}
+use Rattle.partial_words.specs.Layout.{first_free, pool_counter, slot_counter, total}
+use Rattle.partial_core.specs.Part.{Part, fresh_part}
 use Rattle.partial_core.specs.Lawful as one
 use Rattle.partial_epochs.specs.Layout.{Plan, arena_words, base, carried_word, carried_words, component_words, control_size, control_words, plain, seal}
 use Rattle.partial_epochs.specs.Ports.{Epoch}
 use Rattle.partial_epochs.specs.Control.{LawfulControl}
-use Rattle.partial_epochs.specs.Epochs.{Beside, IsArena, LawfulEpochs, controls, numbers, place_now}
+use Rattle.partial_epochs.specs.Epochs.{Beside, IsArena, LawfulEpochs, awaits_slot, controls, numbers, place_now}
 use Rattle.partial_epochs.specs.Opening.{EpochsOpenLawful, OpensAll, first_beside, first_place, first_ports, first_epoch, nothing_held, OpensOver}
-use Rattle.partial_epochs.proofs.Lists.{at_of, length_of, put_other, put_same}
-use Rattle.partial_epochs.proofs.Opens.{opening_component, opens_over, pool_opens}
+use Rattle.partial_epochs.proofs.Lists.{at_of, count_none, length_of, put_other, put_same}
+use Rattle.partial_epochs.proofs.Opens.{opening_component, opens_over, pool_opens, slot_opens}
 use Rattle.partial_epochs.proofs.Places.{packed_arena}
 use Rattle.partial_epochs.proofs.Publishes.{fresh_list}
 use Rattle.partial_epochs.proofs.Worded.{component_at, plain_at, plain_component, plain_other}
@@ -55,6 +55,13 @@ module _ (e : Plan) (words : List ℕ) (w : OpensAll e words) where
         let room = w.plan.opens in
         let is : get_or (arena_words e words 0) (pool_counter e.sizes) 0 ≡ first_free e.sizes = opens.each (pool_counter e.sizes) (omega (arith, some_slots, some_components)) ∙ pool_opens e.sizes e.opening.values in
         omega (arith, is, room);
+    slots =
+        let some_slots = w.plan.sizes.slots.0 in
+        let some_components = w.plan.sizes.components.0 in
+        let pool : get_or (arena_words e words 0) (pool_counter e.sizes) 0 ≡ first_free e.sizes = opens.each (pool_counter e.sizes) (omega (arith, some_slots, some_components)) ∙ pool_opens e.sizes e.opening.values in
+        let claimed : get_or (arena_words e words 0) (slot_counter e.sizes) 0 ≡ 0 = opens.each (slot_counter e.sizes) (omega (arith, some_slots, some_components)) ∙ slot_opens e.sizes e.opening.values some_slots in
+        let none = count_none (λ q. awaits_slot (fresh_part e.sizes q)) 0 e.ports (λ q. refl) in
+        omega (arith, pool, claimed, none);
   }
 
   abbrev b : Beside

@@ -8,7 +8,7 @@ use Rattle.partial_model.specs.declared.history.Applied.{Applied}
 use Rattle.partial_model.specs.declared.history.Opening.{Opening}
 use Rattle.partial_model.specs.History.{value_of}
 use Rattle.partial_model.proofs.ListLemmas.{some_same}
-use Rattle.partial_words.specs.Layout.{Layout, total, first_free, pool_counter}
+use Rattle.partial_words.specs.Layout.{Layout, total, first_free, pool_counter, slot_counter}
 use Rattle.partial_words.specs.Chain.{opening_word}
 use Rattle.partial_core.specs.Part.{Part, fresh_part, fresh_parts}
 use Rattle.partial_core.specs.Lawful as one
@@ -17,13 +17,13 @@ use Rattle.partial_epochs.specs.Layout.{Plan, Place, IsSealed, at_word, arena_wo
 use Rattle.partial_epochs.specs.History.{carried_behind, opening_behind}
 use Rattle.partial_epochs.specs.Ports.{Control, Owned, Port, Epoch}
 use Rattle.partial_epochs.specs.Control.{IsAt, IsOut, IsOwner, LawfulControl, MayPut}
-use Rattle.partial_epochs.specs.Epochs.{Beside, IsArena, IsFinished, IsNew, IsSetting, IsStanding, LawfulEpochs, controls, numbers, place_now, IsPresent}
+use Rattle.partial_epochs.specs.Epochs.{Beside, IsArena, IsFinished, IsNew, IsSetting, IsStanding, LawfulEpochs, awaits_slot, controls, numbers, place_now, IsPresent}
 use Rattle.partial_epochs.specs.Publishing.{IsWhole, PublishesStayLawful, having_published, next_beside, next_place, next_epoch, resting}
 use Rattle.partial_epochs.specs.Opening.{OpensOver}
 use Rattle.partial_epochs.specs.Ports.Entering.{Stands}
 use Rattle.partial_epochs.proofs.Entering.{control_lifted, current_is, cw_long, high_arenaed}
-use Rattle.partial_epochs.proofs.Lists.{at_of, length_of, put_all, put_other, put_same, set_of}
-use Rattle.partial_epochs.proofs.Opens.{opening_component, opens_over, pool_opens}
+use Rattle.partial_epochs.proofs.Lists.{at_of, count_none, length_of, put_all, put_other, put_same, set_of}
+use Rattle.partial_epochs.proofs.Opens.{opening_component, opens_over, pool_opens, slot_opens}
 use Rattle.partial_epochs.proofs.Owning.{knows_more, out_then}
 use Rattle.partial_epochs.proofs.Places.{not_below, packed_arena}
 use Rattle.partial_epochs.proofs.Present.{present, same_place}
@@ -264,6 +264,16 @@ module _ (e : Plan) (words : List ℕ) (ports : ℕ → Port) (b : Beside) (k : 
           let is : get_or (arena_words e words o.arena) (pool_counter e.sizes) 0 ≡ first_free e.sizes = opens.each (pool_counter e.sizes) (omega (arith, some_slots, some_components))
           ∙ pool_opens e.sizes (opening_behind e.opening (b.log ∷ b.before)).values in
           omega (arith, is, room);
+      slots =
+          let pool = w.plan.sizes.pool.0 in
+          let some_slots = w.plan.sizes.slots.0 in
+          let some_components = w.plan.sizes.components.0 in
+          let free : get_or (arena_words e words o.arena) (pool_counter e.sizes) 0 ≡ first_free e.sizes = opens.each (pool_counter e.sizes) (omega (arith, some_slots, some_components))
+          ∙ pool_opens e.sizes (opening_behind e.opening (b.log ∷ b.before)).values in
+          let claimed : get_or (arena_words e words o.arena) (slot_counter e.sizes) 0 ≡ 0 = opens.each (slot_counter e.sizes) (omega (arith, some_slots, some_components))
+          ∙ slot_opens e.sizes (opening_behind e.opening (b.log ∷ b.before)).values some_slots in
+          let none = count_none (λ q. awaits_slot (fresh_part e.sizes q)) 0 e.ports (λ q. refl) in
+          omega (arith, free, claimed, none);
     }
 
     held : (P : Epoch → Type 0) (y : ℕ) (r : Epoch) → b'.holds y ≡ Some r → (y ≡ o.arena → P (next_epoch e b)) → (y ≢ o.arena → b.holds y ≡ Some r → P r) → P r
@@ -287,7 +297,7 @@ module _ (e : Plan) (words : List ℕ) (ports : ℕ → Port) (b : Beside) (k : 
         (λ same. subst (λ z. IsArena e (arena_words e words' z) (component_words e words' z) (carried_words e words' z) (next_epoch e b) (z ≢ o.arena)) (sym same)
         (high_arenaed e words words' high o.arena (next_epoch e b) (o.arena ≢ o.arena) arena_new))
         (λ ne was. high_arenaed e words words' high y r (y ≢ o.arena) (let t = w.arenas y r was in
-        record { lawful = t.lawful; numbers = t.numbers; stamps = t.stamps; few = t.few; passed = t.passed; sealed = λ _ j low. all y r was t (eqb_tells y b.arena) j low; reserve = t.reserve }))
+        record { lawful = t.lawful; numbers = t.numbers; stamps = t.stamps; few = t.few; passed = t.passed; sealed = λ _ j low. all y r was t (eqb_tells y b.arena) j low; reserve = t.reserve; slots = t.slots }))
       where
         all : (y : ℕ) (r : Epoch) → b.holds y ≡ Some r → IsArena e (arena_words e words y) (component_words e words y) (carried_words e words y) r (y ≢ b.arena) →
             (((y == b.arena) ≡ true) × (y ≡ b.arena)) ⊎ (((y == b.arena) ≡ false) × (y ≢ b.arena)) → (j : ℕ) → j < e.sizes.m → IsSealed (get_or (component_words e words y) j 0)

@@ -1,10 +1,8 @@
 -- What a broken variant of the steps leads to is no lawful state.
-use Rattle.std.proofs.Common.{ℕ, ◌≡◌, ◌≢◌, ◌+◌, ◌<◌, Option, Some, None, List, length, get_or, sym, ap, subst, ◌∙◌, arith}
+use Rattle.std.proofs.Common.{◌≡◌, Some, None, length, sym, ap, ◌∙◌, arith}
 use Rattle.std.specs.Option.{option_map}
-use Rattle.partial_epochs.specs.Lists.{put}
-use Rattle.partial_epochs.specs.Layout.{Place, Plan, at_word}
-use Rattle.partial_epochs.specs.Ports.{Epoch, Port}
-use Rattle.partial_epochs.specs.Epochs.{Beside}
+use Rattle.partial_epochs.specs.Layout.{at_word}
+use Rattle.partial_epochs.specs.Ports.{Epoch}
 use Rattle.partial_epochs.specs.Publishing.{next_epoch}
 use Rattle.partial_epochs.specs.Variants.{PublishingUnsealedIsUnlawful, PuttingIntoResetIsUnlawful, ResettingCurrentIsUnlawful, ResettingPinnedIsUnlawful, UnsealingIsUnlawful}
 use Rattle.partial_epochs.proofs.Entering.{cw_at}

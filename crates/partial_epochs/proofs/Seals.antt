@@ -90,6 +90,7 @@ module _ (e : Plan) (words : List ℕ) (ports : ℕ → Port) (b : Beside) (k : 
         | inr ne ↦ subst IsSealed (sym (there i low ne.1)) (arena.sealed finished i low)
       ];
       reserve = arena.reserve;
+      slots = arena.slots;
     })
       where
         few : (i : ℕ) → i < e.sizes.m → seals (get_or (component_words e words' x) i 0) ≤ count (λ q. nat_lt i (passed' q)) 0 e.ports

@@ -16,17 +16,17 @@ use Rattle.partial_core.specs.Part.{Part, port_of, with_seen}
 use Rattle.partial_core.specs.Lawful as one
 use Rattle.partial_core.specs.Ports.{Looks}
 use Rattle.partial_core.proofs.Laws.{looks_stay_lawful}
-use Rattle.partial_epochs.specs.Lists.{list_of, put}
+use Rattle.partial_epochs.specs.Lists.{count, list_of, put}
 use Rattle.partial_epochs.specs.Layout.{Place, Plan, arena_words, at_word, carried_words, component_words, marked, packed}
 use Rattle.partial_epochs.specs.History.{history_of, opening_behind, public_entry, public_log}
 use Rattle.partial_epochs.specs.Ports.{Epoch, Port}
 use Rattle.partial_epochs.specs.Ports.Entering.{Stands}
-use Rattle.partial_epochs.specs.Epochs.{Beside, IsArena, IsStanding, LawfulEpochs}
+use Rattle.partial_epochs.specs.Epochs.{Beside, IsArena, IsStanding, LawfulEpochs, awaits_slot}
 use Rattle.partial_epochs.specs.Entering.{arrived}
 use Rattle.partial_epochs.specs.Publishing.{having_published, next_beside}
 use Rattle.partial_epochs.specs.Notes.{ArrivalsKeepNotes, AsidesStayLawful, IsEpochHistory, IsSight, LawfulMemory, LawfulNotes, PublishesKeepNotes, Reached, SightLeads, SightsStayLawful, having_seen, noting, one_history, seen_of}
 use Rattle.partial_epochs.proofs.Change.{Changes, beside_then, change_kept}
-use Rattle.partial_epochs.proofs.Lists.{Around, around_of, put_all, put_other, put_same}
+use Rattle.partial_epochs.proofs.Lists.{Around, around_of, count_same, put_all, put_other, put_same}
 use Rattle.partial_epochs.proofs.OneHistory.{history_grows, present_history}
 use Rattle.partial_epochs.proofs.Present.{standing}
 use Rattle.partial_epochs.proofs.Seats.{among, reached, reached_grows}
@@ -160,6 +160,12 @@ module _ (e : Plan) (words : List ℕ) (ports : ℕ → Port) (b : Beside) (k : 
         passed = arena.passed;
         sealed = arena.sealed;
         reserve = arena.reserve;
+        slots =
+            let same : count (λ q. awaits_slot (put k y r.part q)) 0 e.ports ≡ count (λ q. awaits_slot (r.part q)) 0 e.ports =
+            count_same (λ q. awaits_slot (put k y r.part q)) (λ q. awaits_slot (r.part q)) 0 e.ports
+            (λ q low high. put_all (λ i (z : Part). awaits_slot z ≡ awaits_slot (r.part i)) k y r.part q (λ _. refl) (λ _. refl)) in
+            let slots = arena.slots in
+            omega (arith, same, slots);
       }
 
   changes : Changes e words b k x (ports k) r words (having_seen (ports k) r.log) r' []

@@ -187,36 +187,42 @@ module _ (e : Plan) (words : List ℕ) (x : ℕ) where
 
   -- each step but one that meets a seal
   pub worded : (step : Step) → x < e.arenas → length words ≡ base e e.arenas → word_of step < total e.sizes → IsApart e.sizes step → 1 ≤ e.sizes.slots →
-      (MeetsSeal e (component_words e words x) step × (words_after words (placed e x step) ≡ words)) ⊎ Words e words x step (words_after words (placed e x step))
-  worded (Load w) within count low apart some = inr (keeps_same words (Load w) refl refl (sym (plain_at w low)) (λ p. refl))
+      (MeetsSeal e (component_words e words x) step × (words_after words (placed e x step) ≡ words)) ⊎ ((¬ MeetsSeal e (component_words e words x) step) × Words e words x step (words_after words (placed e x step)))
+  worded (Load w) within count low apart some = inr (λ h. h, keeps_same words (Load w) refl refl (sym (plain_at w low)) (λ p. refl))
   worded (Store w v) within count low apart some =
       let there = below_whole e x w within (omega (arith, low)) in
       let from : e.sizes.m ≤ w = omega (arith, apart) in
-      inr (keeps_other (Store w v) v low (omega (arith, there, count)) from refl (plain_other w 0 from) (λ p. refl))
+      inr (λ h. h, keeps_other (Store w v) v low (omega (arith, there, count)) from refl (plain_other w 0 from) (λ p. refl))
   worded (Add w n) within count low apart some =
       let there = below_whole e x w within (omega (arith, low)) in
       let from : e.sizes.m ≤ w = omega (arith, apart) in
       let found : get_or (arena_words e words x) w 0 ≡ get_or words (base e x + w) 0 = plain_at w low ∙ plain_other w (get_or words (base e x + w) 0) from in
-      inr (keeps_other (Add w n) ((get_or words (base e x + w) 0 + n) % 2 ^ 64) low (omega (arith, there, count)) from
-      (ap (λ v. set (arena_words e words x) w ((v + n) % 2 ^ 64)) found) (plain_other w (get_or words (base e x + w) 0) from ∙ sym found) (λ p. refl))
+      inr (
+        λ h. h,
+        keeps_other (Add w n) ((get_or words (base e x + w) 0 + n) % 2 ^ 64) low (omega (arith, there, count)) from
+            (ap (λ v. set (arena_words e words x) w ((v + n) % 2 ^ 64)) found) (plain_other w (get_or words (base e x + w) 0) from ∙ sym found) (λ p. refl),
+      )
   worded (Exchange w old new) within count low (inr head) some =
       let there = below_whole e x w within (omega (arith, low)) in
       let from : e.sizes.m ≤ w = omega (arith, head) in
       let raw : ℕ = get_or words (base e x + w) 0 in
       let found : get_or (arena_words e words x) w 0 ≡ raw = plain_at w low ∙ plain_other w raw from in
-      inr (keeps_other (Exchange w old new) (cond (raw == old) new raw) low (omega (arith, there, count)) from
-      (ap (λ v. set (arena_words e words x) w (cond (v == old) new v)) found) (plain_other w raw from ∙ sym found)
-      (λ p. ap (λ (c : Bool). cond c (cond (get_or (arena_words e words x) w 0 == old) (record { port = p; component = w; value = get_or (arena_words e words x) (new + 1) 0; stamp = new } ∷ []) []) [])
-      (not_below w e.sizes.m from)))
+      inr (
+        λ h. let inside = h.0 in omega (arith, inside, from),
+        keeps_other (Exchange w old new) (cond (raw == old) new raw) low (omega (arith, there, count)) from
+            (ap (λ v. set (arena_words e words x) w (cond (v == old) new v)) found) (plain_other w raw from ∙ sym found)
+            (λ p. ap (λ (c : Bool). cond c (cond (get_or (arena_words e words x) w 0 == old) (record { port = p; component = w; value = get_or (arena_words e words x) (new + 1) 0; stamp = new } ∷ []) []) [])
+            (not_below w e.sizes.m from)),
+      )
   worded (Exchange w old new) within count low (inl (inside, small, small')) some =
       let there' = below_whole e x w within (omega (arith, low)) in
       let there : base e x + w < length words = omega (arith, there', count) in
       let at = component_at e words x w inside in
       let raw_at : ℕ = get_or words (base e x + w) 0 in
       elim (cases_lt raw_at seal) [
-        | inl below ↦ inr (free w old new inside low there small small' below)
+        | inl below ↦ inr (λ h. let sealed = h.1 in omega (arith, sealed, at, below), free w old new inside low there small small' below)
         | inr from ↦ elim (eqb_tells (unsealed raw_at) old) [
           | inl same ↦ inl ((inside, subst IsSealed (sym at) from, ap unsealed at ∙ same.1), lost w old new inside low there small small' from)
-          | inr other ↦ inr (sealed_other w old new inside low there small small' from other.1)
+          | inr other ↦ inr (λ h. other.1 (sym (ap unsealed at) ∙ h.2), sealed_other w old new inside low there small small' from other.1)
         ]
       ]

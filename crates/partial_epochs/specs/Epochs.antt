@@ -1,9 +1,14 @@
 -- The lawful state of a memory over all epochs.
-use Rattle.std.specs.Prelude.{ℕ, ◌+◌, ◌*◌, ◌<◌, ◌≤◌, nat_lt, List, ◌∷◌, slice_index, if◌then◌else◌, ◌++◌, length, Option, ◌≡◌, ◌≢◌, Some, IfSome, ◌-◌, false}
-use Rattle.partial_words.specs.Layout.{IsLayout, pool_base, pool_counter, pool_end, first_free, greatest_record}
+use Rattle.std.specs.Prelude.{ℕ, ◌+◌, ◌*◌, ◌<◌, ◌≤◌, nat_lt, Bool, true, List, ◌∷◌, slice_index, if◌then◌else◌, ◌++◌, length, Option, ◌≡◌, ◌≢◌, Some, IfSome, ◌-◌, false}
+use Rattle.partial_words.specs.Layout.{IsLayout, pool_base, pool_counter, pool_end, first_free, greatest_record, slot_counter}
 use Rattle.std.specs.Option.{option_map}
 use Rattle.partial_model.specs.declared.history.Applied.{Applied}
-use Rattle.partial_core.specs.Part.{port_of, fresh_part}
+use Rattle.partial_active.specs.declared.join.JoinStage.{JoinStage}
+use Rattle.partial_active.specs.declared.join.JoinStage.TheVariants.{Claiming}
+use Rattle.partial_machine.specs.declared.stage.Stage.{Stage}
+use Rattle.partial_machine.specs.declared.stage.Stage.TheVariants.{StoringAnnouncement, Joining}
+use Rattle.partial_machine.specs.Machine.{CoreState}
+use Rattle.partial_core.specs.Part.{Part, core_of, port_of, fresh_part}
 use Rattle.partial_words.specs.Chain.{opening_word}
 use Rattle.partial_core.specs.Lawful.{Lawful}
 use Rattle.partial_core.specs.Lawful as one
@@ -58,6 +63,21 @@ controls ports k = (ports k).control
 abbrev pub IsFinished : Beside → Epoch → Type 0
 IsFinished b r = (later : List (List Applied)) × (b.before ≡ later ++ r.log ∷ r.before)
 
+-- the join has yet to claim its slot
+abbrev pub is_claiming : JoinStage → Bool
+is_claiming Claiming = true
+is_claiming _ = false
+
+-- whether a machine at this stage has claimed its announcement, and has yet to claim a slot for it
+abbrev pub awaits_at : CoreState → Stage → Bool
+awaits_at s (StoringAnnouncement at k) = true
+awaits_at s Joining = is_claiming s.join.stage
+awaits_at s _ = false
+
+-- whether the machine of a part has yet to claim a slot
+abbrev pub awaits_slot : Part → Bool
+awaits_slot x = awaits_at (core_of x) (core_of x).stage
+
 -- What is so of an arena that holds the epoch r: of its words without the seals, its component words with them, and its
 -- carried stamps.
 pub record IsArena (e : Plan) (words components carried : List ℕ) (r : Epoch) (finished : Type 0) : Type 0 where
@@ -75,6 +95,9 @@ pub record IsArena (e : Plan) (words components carried : List ℕ) (r : Epoch) 
   pub sealed : finished → (j : ℕ) → j < e.sizes.m → IsSealed (slice_index components j)
   -- claims that end past the limit are those of ports that make no more
   pub reserve : slice_index words (pool_counter e.sizes) ≤ e.limit + greatest_record e.sizes * count r.over 0 e.ports
+  -- two words of the pool were claimed for each slot that is claimed, and for each that a port has yet to claim
+  pub slots : first_free e.sizes + 2 * (slice_index words (slot_counter e.sizes) + count (λ k. awaits_slot (r.part k)) 0 e.ports)
+      ≤ slice_index words (pool_counter e.sizes)
 
 -- a port that stands in an epoch has its own part there
 pub record IsStanding (b : Beside) (k : ℕ) (p : Port) : Type 0 where

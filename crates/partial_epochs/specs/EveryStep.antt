@@ -1,21 +1,24 @@
 -- Every step that a port of a long-lived memory makes, and the one law of them.
-use Rattle.std.specs.Prelude.{ℕ, ◌≡◌, ◌≢◌, ◌+◌, ◌<◌, ◌≤◌, ◌⊎◌, true, List, [], slice_index, Some, None}
+use Rattle.std.specs.Prelude.{ℕ, ◌≡◌, ◌≢◌, ◌+◌, ◌<◌, ◌≤◌, ◌⊎◌, ◌++◌, Bool, true, false, List, [], slice_index, Option, Some, None}
+use Rattle.partial_model.specs.declared.history.Applied.{Applied}
 use Rattle.partial_model.specs.Notes.{Noted}
 use Rattle.partial_words.specs.Layout.{first_free}
-use Rattle.partial_words.specs.Step.{words_after}
+use Rattle.partial_words.specs.Step.{answer_of, words_after}
 use Rattle.partial_words.specs.declared.step.Step.{Step}
 use Rattle.partial_words.specs.declared.step.Step.TheVariants.{Add, Exchange, Store}
-use Rattle.partial_machine.specs.Machine.{CoreState, step_of}
+use Rattle.partial_machine.specs.declared.stage.Reply.{Reply}
+use Rattle.partial_machine.specs.declared.stage.Reply.TheVariants as reply
+use Rattle.partial_machine.specs.Machine.{CoreState, advance, reply_of, step_of}
 use Rattle.partial_core.specs.Part.{IsMachineOf}
 use Rattle.partial_core.specs.Steps.{since_with}
-use Rattle.partial_epochs.specs.Layout.{IsPlace, IsSealed, Place, Plan, at_word, base, component_words, current_word, entering_mark, marked, own_word, packed, placed, seal, set_word}
+use Rattle.partial_epochs.specs.Layout.{IsPlace, IsSealed, Place, Plan, arena_words, at_word, base, component_words, current_word, entering_mark, marked, own_word, packed, placed, seal, set_word}
 use Rattle.partial_epochs.specs.Ports.{Owned, Port}
 use Rattle.partial_epochs.specs.Ports.Entering.{Stands, Marks, Loaded}
 use Rattle.partial_epochs.specs.Epochs.{Beside, IsStanding, next_word}
-use Rattle.partial_epochs.specs.MachineSteps.{MachineLeads, MayClaim}
+use Rattle.partial_epochs.specs.MachineSteps.{MachineLeads, MayClaim, MeetsSeal}
 use Rattle.partial_epochs.specs.Publishing.{IsWhole, next_place}
 use Rattle.partial_epochs.specs.Opening.{OpensAll, first_beside, first_ports}
-use Rattle.partial_epochs.specs.Notes.{IsSight, LawfulMemory, MayNote}
+use Rattle.partial_epochs.specs.Notes.{IsSight, LawfulMemory, MayNote, one_history}
 
 -- what a port may do next
 pub data Move : Type 0 where
@@ -86,19 +89,42 @@ MayMove e words ports b notes k (Publishes o) = IsWhole e (ports k) o
 MayMove e words ports b notes k (Notes n i) = ((ports k).control.entering ≡ Stands)
     × ((s : IsStanding b k (ports k)) × IsSight e k (ports k) s.epoch.log (notes k) n i)
 
+-- whether the reply is that of an applied update
+abbrev pub is_applied : Option Reply → Bool
+is_applied (Some (reply.Applied stamp)) = true
+is_applied _ = false
+
+-- the move may add an entry to the one history: it is the step by which the machine of an update comes to be applied, and meets no seal
+abbrev pub MayAdd : Plan → List ℕ → Port → Move → Type 0
+MayAdd e words p (Makes c step) = (¬ MeetsSeal e (component_words e words p.control.here.arena) step)
+    × (is_applied (reply_of (advance c (answer_of (arena_words e words p.control.here.arena) step))) ≡ true)
+MayAdd e words p _ = ⊥
+
+-- where the port is behind the move: by the third step of entering it comes to a later epoch, and by all others it stays where it is
+abbrev pub IsPlacedBy : Move → Place → Place → Type 0
+IsPlacedBy (ExchangesMark c) here then = here.epoch < then.epoch
+IsPlacedBy _ here then = then ≡ here
+
 -- what the move leads to: a lawful memory, in which all other ports are as they were
-pub record MoveLeads (e : Plan) (words : List ℕ) (ports : ℕ → Port) (notes : ℕ → List Noted) (k : ℕ) : Type 0 where
+pub record MoveLeads (e : Plan) (words words' : List ℕ) (ports : ℕ → Port) (b : Beside) (notes : ℕ → List Noted) (k : ℕ) (m : Move) :
+    Type 0 where
   pub ports_then : ℕ → Port
   pub beside : Beside
   pub notes_then : ℕ → List Noted
-  pub lawful : LawfulMemory e words ports_then beside notes_then
+  pub lawful : LawfulMemory e words' ports_then beside notes_then
   pub others : (q : ℕ) → q ≢ k → (ports_then q ≡ ports q) × (notes_then q ≡ notes q)
+  -- where the port is then
+  pub place : IsPlacedBy m (ports k).control.here (ports_then k).control.here
+  -- what the one history has gained
+  pub entries : List Applied
+  pub history : one_history beside ≡ one_history b ++ entries
+  pub adds : (entries ≡ []) ⊎ MayAdd e words (ports k) m
 
 -- every step of every port keeps the memory lawful
 abbrev pub EveryStepStaysLawful : Type 0
 EveryStepStaysLawful = (e : Plan) (words : List ℕ) (ports : ℕ → Port) (b : Beside) (notes : ℕ → List Noted) (k : ℕ) (m : Move) →
     LawfulMemory e words ports b notes → k < e.ports → MayMove e words ports b notes k m →
-    MoveLeads e (moved_words e words (ports k) k m) ports notes k
+    MoveLeads e words (moved_words e words (ports k) k m) ports b notes k m
 
 -- a memory as it opens is lawful, and nobody has noted anything
 abbrev pub MemoriesOpenLawful : Type 0

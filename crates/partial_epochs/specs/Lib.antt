@@ -13,4 +13,8 @@ pub mod Opening
 pub mod Reads
 pub mod Notes
 pub mod EveryStep
+pub mod Changing
+pub mod Calls
+pub mod Bounds
+pub mod Refusals
 pub mod Variants

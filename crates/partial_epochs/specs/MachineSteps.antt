@@ -1,5 +1,5 @@
 -- The steps of a port's machine, made in the arena where the port stands.
-use Rattle.std.specs.Prelude.{ℕ, ◌+◌, ◌<◌, ◌≤◌, ◌==◌, nat_lt, Bool, List, [], slice_index, ◌++◌, length, ◌≡◌, ◌⊎◌, ⊤, Some, false, ◌&&◌, ◌||◌}
+use Rattle.std.specs.Prelude.{ℕ, ◌+◌, ◌*◌, ◌<◌, ◌≤◌, ◌==◌, nat_lt, Bool, List, [], slice_index, ◌++◌, length, ◌≡◌, ◌≢◌, ◌⊎◌, ⊤, Some, false, ◌&&◌, ◌||◌}
 use Rattle.partial_words.specs.Layout.{pool_counter, pool_end, greatest_record}
 use Rattle.partial_words.specs.declared.step.Step.{Step}
 use Rattle.partial_words.specs.declared.step.Step.TheVariants.{Exchange, Add}
@@ -7,7 +7,9 @@ use Rattle.std.specs.List.{AllByRecursion}
 use Rattle.partial_model.specs.declared.history.Applied.{Applied}
 use Rattle.partial_core.specs.Part.{IsMachineOf}
 use Rattle.partial_words.specs.Step.{answer_of, word_of, words_after}
-use Rattle.partial_machine.specs.Machine.{CoreState, step_of}
+use Rattle.partial_model.specs.declared.call.Refused.{Refused}
+use Rattle.partial_machine.specs.declared.stage.Reply.TheVariants as reply
+use Rattle.partial_machine.specs.Machine.{CoreState, advance, reply_of, step_of}
 use Rattle.partial_core.specs.Steps.{Tells}
 use Rattle.partial_epochs.specs.Lists.{put}
 use Rattle.partial_epochs.specs.Layout.{Plan, component_words, unsealed, IsSealed, plain, arena_words, placed}
@@ -41,6 +43,8 @@ MayClaim e over _ = ⊤
 -- give without their seals, and the one law of steps tells the port what it tells.
 pub record MachineLeads (e : Plan) (words : List ℕ) (ports : ℕ → Port) (b : Beside) (k : ℕ) (c : CoreState) (step : Step) : Type 0 where
   pub standing : IsStanding b k (ports k)
+  -- the step meets no seal
+  pub unmet : ¬ MeetsSeal e (component_words e words (ports k).control.here.arena) step
   pub within : word_of (placed e (ports k).control.here.arena step) < length words
   pub gives : plain e (word_of step) (answer_of words (placed e (ports k).control.here.arena step))
       ≡ answer_of (arena_words e words (ports k).control.here.arena) step
@@ -77,3 +81,19 @@ abbrev pub ClaimsHaveRoom : Type 0
 ClaimsHaveRoom = (e : Plan) (words : List ℕ) (ports : ℕ → Port) (b : Beside) (k : ℕ) → LawfulEpochs e words ports b → k < e.ports →
     (ports k).control.entering ≡ Stands → (ports k).over ≡ false →
     slice_index (arena_words e words (ports k).control.here.arena) (pool_counter e.sizes) + greatest_record e.sizes ≤ pool_end e.sizes
+
+-- there is a slot for each two words of the pool behind the initial records
+abbrev pub HaveSlots : Plan → Type 0
+HaveSlots e = e.sizes.pool ≤ 2 * e.sizes.slots + 3 * e.sizes.m
+
+-- no machine of a port that stands is marked for the pool, nor for the slots
+abbrev pub MarksNeverCome : Type 0
+MarksNeverCome = (e : Plan) (words : List ℕ) (ports : ℕ → Port) (b : Beside) (k : ℕ) (c : CoreState) → LawfulEpochs e words ports b →
+    k < e.ports → (ports k).control.entering ≡ Stands → HaveSlots e → IsMachineOf c (ports k).part →
+    (c.pool_spent ≡ false) × (c.slots_spent ≡ false)
+
+-- no step of a machine ends its call with a refusal
+abbrev pub MachinesAreNeverRefused : Type 0
+MachinesAreNeverRefused = (e : Plan) (words : List ℕ) (ports : ℕ → Port) (b : Beside) (k : ℕ) (c : CoreState) (step : Step) →
+    k < e.ports → (ports k).control.entering ≡ Stands → HaveSlots e → (lead : MachineLeads e words ports b k c step) → (cause : Refused) →
+    reply_of (advance c (answer_of (arena_words e words (ports k).control.here.arena) step)) ≢ Some (reply.Refused cause)

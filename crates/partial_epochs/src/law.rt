@@ -2,7 +2,7 @@
 //! definitions by which the memory's own contracts are to be stated.
 
 ghost use Rattle.partial_epochs.specs.History.{EpochsContinue};
-ghost use Rattle.partial_epochs.specs.MachineSteps.{UnsealedIsPresent, MachineStepsStayLawful, ClaimsHaveRoom};
+ghost use Rattle.partial_epochs.specs.MachineSteps.{UnsealedIsPresent, MachineStepsStayLawful, ClaimsHaveRoom, MarksNeverCome, MachinesAreNeverRefused};
 ghost use Rattle.partial_epochs.specs.Sealing.{SealsStayLawful, SealedPassesStayLawful};
 ghost use Rattle.partial_epochs.specs.Entering.{LooksAreTrue, MarksStayLawful, EntriesLoad, ArrivalsStayLawful};
 ghost use Rattle.partial_epochs.specs.Owning.{TakesStayLawful, GivesStayLawful, OwnersLook, OwnersLookAway, OthersAreElsewhere, MarksAreLoaded, PutsStayLawful};
@@ -10,6 +10,9 @@ ghost use Rattle.partial_epochs.specs.Publishing.{SetsStayLawful, PublishesStayL
 ghost use Rattle.partial_epochs.specs.Opening.{OpensOverLawful, EpochsOpenLawful};
 ghost use Rattle.partial_epochs.specs.Notes.{EpochsFitOneHistory, NotesStayLawful, SightsStayLawful, AsidesStayLawful, ArrivalsKeepNotes, PublishesKeepNotes, PublicStampsAreUnique};
 ghost use Rattle.partial_epochs.specs.EveryStep.{EveryStepStaysLawful, MemoriesOpenLawful};
+ghost use Rattle.partial_epochs.specs.Calls.{CallsStayLawful};
+ghost use Rattle.partial_epochs.specs.Bounds.{StepsLeaveFewer, ReadsMakeEight, UpdatesAreBounded, ConditionalUpdatesAreBounded, ScansAreBounded, ChangesAreBounded};
+ghost use Rattle.partial_epochs.specs.Refusals.{RefusedCallsApplyNothing, ComponentsAreMissing, OvertakenCallsMovedOn, ChangesAreRefused, NoArenaIsFree};
 ghost use Rattle.partial_epochs.specs.Reads.{ReadsTellAllEpochs, LastWordsAreFinal};
 
 /// A memory as it opens is lawful, with nothing applied, whatever stands in the arenas that hold no epoch.
@@ -32,6 +35,18 @@ pub fn machine_steps_stay_lawful()
 /// The next claim of a port that has made no claim past the limit ends within the pool, so it is never refused.
 pub fn claims_have_room()
     ensures { ClaimsHaveRoom }
+{}
+
+/// In an arena with a slot for each two words of its pool, no machine of a port is marked for the pool or for the
+/// slots, so no call is refused at once for either.
+pub fn marks_never_come()
+    ensures { MarksNeverCome }
+{}
+
+/// In such an arena no step of a machine ends its call with a refusal: each announcement finds a slot, since two words
+/// of the pool are claimed for it first.
+pub fn machines_are_never_refused()
+    ensures { MachinesAreNeverRefused }
 {}
 
 /// A fetch-and-add that seals the next component of the port's epoch keeps the memory lawful.
@@ -190,4 +205,73 @@ pub fn memories_open_lawful()
 /// again, and all other ports and their notes are as they were.
 pub fn every_step_stays_lawful()
     ensures { EveryStepStaysLawful }
+{}
+
+/// Each step that a call may make leads to a lawful memory, in which the port has come to a later epoch exactly by the
+/// third step of entering, and the one history has gained an entry at most when the machine of an update comes to be
+/// applied.
+pub fn calls_stay_lawful()
+    ensures { CallsStayLawful }
+{}
+
+/// Each step of a call leaves fewer steps than there were before it, whatever other ports do between its steps. So each
+/// call ends.
+pub fn steps_leave_fewer()
+    ensures { StepsLeaveFewer }
+{}
+
+/// A read makes at most 8 steps, whatever other ports do.
+pub fn reads_make_eight()
+    ensures { ReadsMakeEight }
+{}
+
+/// An update that may change the epoch B times makes at most B times the steps of an update of one memory and of a
+/// change of epoch.
+pub fn updates_are_bounded()
+    ensures { UpdatesAreBounded }
+{}
+
+/// A conditional update makes at most two steps more in each epoch, and six more in the first one.
+pub fn conditional_updates_are_bounded()
+    ensures { ConditionalUpdatesAreBounded }
+{}
+
+/// A scan makes at most twice the steps of a scan of one memory, and four more. If its port has made a claim past the
+/// limit, it makes at most those of a change of epoch and of one scan.
+pub fn scans_are_bounded()
+    ensures { ScansAreBounded }
+{}
+
+/// A change of epoch makes at most so many steps, by the sizes, the ports and the arenas: a look, two steps for each
+/// component, three passes over the arenas for each port, and the steps that open the next epoch and enter it.
+pub fn changes_are_bounded()
+    ensures { ChangesAreBounded }
+{}
+
+/// No step of a call that is refused adds an entry to the one history.
+pub fn refused_calls_apply_nothing()
+    ensures { RefusedCallsApplyNothing }
+{}
+
+/// A call is refused for a component exactly when it names one that is not there, and then before its first step.
+pub fn components_are_missing()
+    ensures { ComponentsAreMissing }
+{}
+
+/// Only an update is refused as overtaken, and then its port has come to a later epoch as often as the update may
+/// change the epoch.
+pub fn overtaken_calls_moved_on()
+    ensures { OvertakenCallsMovedOn }
+{}
+
+/// A change of epoch is refused for want of an arena exactly when the look behind its last pass finds the port's epoch
+/// the current one, and for want of epochs exactly when its first look finds the last epoch that a word can name.
+pub fn changes_are_refused()
+    ensures { ChangesAreRefused }
+{}
+
+/// A change of epoch that is refused for want of an arena has found each arena taken, in each of three passes for each
+/// port, but for the arena where its port stands.
+pub fn no_arena_is_free()
+    ensures { NoArenaIsFree }
 {}

@@ -1,0 +1,110 @@
+-- No machine is marked for the pool nor for the slots, and none is refused.
+use Rattle.std.proofs.Common.{Option, ℕ, ◌≡◌, ◌≢◌, ◌<◌, ◌++◌, Bool, true, false, Some, List, ◌∷◌, refl, sym, ap, subst, ◌∙◌, inl, inr, arith}
+use Rattle.std.specs.Prelude.{◌||◌}
+use Rattle.partial_model.specs.declared.history.Opening.{Opening}
+use Rattle.partial_model.specs.declared.call.Refused.{Refused}
+use Rattle.partial_model.specs.declared.call.Refused.TheVariants as refused
+use Rattle.partial_model.proofs.AllLemmas.{all_at}
+use Rattle.partial_words.specs.declared.step.Step.{Step}
+use Rattle.partial_words.specs.Step.{answer_of, words_after}
+use Rattle.partial_machine.specs.declared.stage.Reply.{Reply}
+use Rattle.partial_machine.specs.declared.stage.Reply.TheVariants as reply
+use Rattle.partial_machine.specs.Behind.{refuses_pool, refuses_slots}
+use Rattle.partial_machine.specs.Machine.{CoreState, advance, reply_of}
+use Rattle.partial_state.specs.LawfulWords.{IsTied}
+use Rattle.partial_core.specs.Part.{IsMachineOf, Part, core_of}
+use Rattle.partial_core.specs.Held.{holdings, joined_since}
+use Rattle.partial_core.specs.Lawful as one
+use Rattle.partial_core.proofs.Steps.{holding_in, memory_at}
+use Rattle.partial_epochs.specs.Lists.{put}
+use Rattle.partial_epochs.specs.Layout.{Plan, arena_words, carried_words, component_words, placed}
+use Rattle.partial_epochs.specs.History.{opening_behind}
+use Rattle.partial_epochs.specs.Ports.{Control, Epoch, Port}
+use Rattle.partial_epochs.specs.Ports.Entering.{Stands}
+use Rattle.partial_epochs.specs.Epochs.{Beside, IsArena, IsStanding, LawfulEpochs}
+use Rattle.partial_epochs.specs.MachineSteps.{HaveSlots, MachineLeads, MachinesAreNeverRefused, MarksNeverCome}
+use Rattle.partial_epochs.proofs.Lists.{Around, around_of, put_same}
+use Rattle.partial_epochs.proofs.Slots.{pool_within}
+
+pub not_true : (b : Bool) → (b ≡ true → ⊥) → b ≡ false
+not_true true h = absurd (h refl)
+not_true false h = refl
+
+module _ (e : Plan) (words : List ℕ) (ports : ℕ → Port) (b : Beside) (k : ℕ) (w : LawfulEpochs e words ports b) (below : k < e.ports)
+    (stands : (ports k).control.entering ≡ Stands) (have : HaveSlots e) where
+  abbrev s : IsStanding b k (ports k)
+  s = w.standing k below stands
+
+  abbrev x : ℕ
+  x = (ports k).control.here.arena
+
+  abbrev r : Epoch
+  r = s.epoch
+
+  abbrev bw : List ℕ
+  bw = arena_words e words x
+
+  abbrev o : Opening
+  o = opening_behind e.opening r.before
+
+  arena : IsArena e bw (component_words e words x) (carried_words e words x) r (x ≢ b.arena)
+  arena = w.arenas x r s.is
+
+  around : Around r.part 0 e.ports k
+  around = around_of r.part 0 e.ports k (omega arith) (omega (arith, below))
+
+  tied : IsTied e.sizes bw (holding_in (core_of (r.part k)) (core_of (r.part k)).stage (joined_since (r.part k)))
+  tied =
+      let lawful : one.Lawful e.sizes o bw (around.before ++ r.part k ∷ around.after) r.log = subst (λ (l : List Part). one.Lawful e.sizes o bw l r.log) around.is arena.lawful in
+      let memory = memory_at e.sizes o bw around.before (r.part k) around.after r.log lawful (core_of (r.part k)).stage refl in
+      all_at (IsTied e.sizes bw) (holdings around.before) (holding_in (core_of (r.part k)) (core_of (r.part k)).stage (joined_since (r.part k))) (holdings around.after) memory.tied
+
+  -- neither counter is past its end
+  core_unmarked : ((core_of (r.part k)).pool_spent ≡ false) × ((core_of (r.part k)).slots_spent ≡ false)
+  core_unmarked =
+      let within = pool_within e bw (component_words e words x) (carried_words e words x) r (x ≢ b.arena) w.plan arena in
+      let claimed = arena.slots in
+      let opens = w.plan.sizes.pool.0 in
+      let marked = tied in (
+        not_true (core_of (r.part k)).pool_spent (λ on. let past = marked.pool_marked on in omega (arith, past, within)),
+        not_true (core_of (r.part k)).slots_spent (λ on. let past = marked.slots_marked on in omega (arith, past, within, claimed, opens, have)),
+      )
+
+  pub unmarked : (c : CoreState) → IsMachineOf c (ports k).part → (c.pool_spent ≡ false) × (c.slots_spent ≡ false)
+  unmarked c machine = by (subst (IsMachineOf c) (sym s.part) machine)
+    where
+      by : IsMachineOf c (r.part k) → (c.pool_spent ≡ false) × (c.slots_spent ≡ false)
+      by (inl begun) = (begun.like.pool ∙ core_unmarked.0, begun.like.slots ∙ core_unmarked.1)
+      by (inr led) = (ap (λ (c : CoreState). c.pool_spent) led.is ∙ core_unmarked.0, ap (λ (c : CoreState). c.slots_spent) led.is ∙ core_unmarked.1)
+
+pub marks_never_come : MarksNeverCome
+marks_never_come e words ports b k c w below stands have machine = unmarked e words ports b k w below stands have c machine
+
+module _ (e : Plan) (words : List ℕ) (ports : ℕ → Port) (b : Beside) (k : ℕ) (c : CoreState) (step : Step) (below : k < e.ports) (stands : (ports k).control.entering ≡ Stands)
+    (have : HaveSlots e) (lead : MachineLeads e words ports b k c step) where
+  abbrev words' : List ℕ
+  words' = words_after words (placed e (ports k).control.here.arena step)
+
+  abbrev c' : CoreState
+  c' = advance c (answer_of (arena_words e words (ports k).control.here.arena) step)
+
+  here : put k lead.port ports k ≡ lead.port
+  here = put_same k lead.port ports
+
+  unmarked_then : (c'.pool_spent ≡ false) × (c'.slots_spent ≡ false)
+  unmarked_then = unmarked e words' (put k lead.port ports) lead.beside k lead.lawful below (subst (λ (p : Port). p.control.entering ≡ Stands) (sym here) (ap (λ (t : Control). t.entering) lead.control ∙ stands)) have c'
+      (subst (λ (p : Port). IsMachineOf c' p.part) (sym here) (inr lead.tells.machine))
+
+  pub unrefused : (cause : Refused) → reply_of c' ≢ Some (reply.Refused cause)
+  unrefused refused.Component is = (lead.tells.behind.refused_by refused.Component is).0
+  unrefused refused.PoolSpent is =
+      let on : c'.pool_spent ≡ true = lead.tells.behind.pool ∙ ap (λ (t : Option Reply). refuses_pool t || c.pool_spent) is in
+      let bad : true ≡ false = sym on ∙ unmarked_then.0 in
+      absurd cc
+  unrefused refused.SlotsSpent is =
+      let on : c'.slots_spent ≡ true = lead.tells.behind.slots ∙ ap (λ (t : Option Reply). refuses_slots t || c.slots_spent) is in
+      let bad : true ≡ false = sym on ∙ unmarked_then.1 in
+      absurd cc
+
+pub machines_are_never_refused : MachinesAreNeverRefused
+machines_are_never_refused e words ports b k c step below stands have lead cause = unrefused e words ports b k c step below stands have lead cause

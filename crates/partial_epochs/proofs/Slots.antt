@@ -1,0 +1,257 @@
+-- Each slot that is claimed, or that a port has yet to claim, follows two words claimed of the pool.
+use Rattle.std.proofs.Common.{ℕ, ◌≡◌, ◌+◌, ◌*◌, ◌%◌, ◌^◌, ◌<◌, ◌≤◌, ◌==◌, ◌⊎◌, Bool, true, false, cond, Option, Some, None, List, length, get_or, refl, sym, ap, subst, ◌∙◌, inl, inr, arith}
+use Rattle.std.specs.Prelude.{⊤, nat_lt, is_some}
+use Rattle.std.specs.Option.{option_map_or}
+use Rattle.std.proofs.lemmas.List.{get_or-set_same, get_or-set_other}
+use Rattle.std.proofs.Math.Nat.{mul-le-mul_left}
+use Rattle.partial_model.proofs.ListLemmas.{some_same}
+use Rattle.partial_words.specs.declared.step.Step.{Step}
+use Rattle.partial_words.specs.declared.step.Step.TheVariants.{Load, Store, Exchange, Add}
+use Rattle.partial_words.specs.Layout.{Layout, IsLayout, list_counter, pool_counter, pool_end, slot_counter, slot_word, greatest_record}
+use Rattle.partial_words.specs.Announcement.{announcement_size}
+use Rattle.partial_words.specs.Step.{words_after}
+use Rattle.partial_active.specs.Join.{join_after, join_step}
+use Rattle.partial_active.specs.declared.join.JoinStage.{JoinStage}
+use Rattle.partial_active.specs.declared.join.JoinStage.TheVariants.{Claiming, Storing, Joined, Spent}
+use Rattle.partial_active.specs.declared.get_set.Stage.{Stage as SetStage}
+use Rattle.partial_active.specs.declared.get_set.Stage.TheVariants as set_stage
+use Rattle.partial_active.specs.GetSet as finding
+use Rattle.partial_embedded.specs.declared.embedded.Stage.{Stage as ViewStage}
+use Rattle.partial_embedded.specs.Embedded as viewing
+use Rattle.partial_machine.specs.declared.stage.Change.{Change}
+use Rattle.partial_machine.specs.declared.stage.Reply.TheVariants as reply
+use Rattle.partial_machine.specs.declared.stage.Stage.{Stage}
+use Rattle.partial_machine.specs.declared.stage.Stage.TheVariants.{Idle, ReadBegun, LoadingValue, UpdateBegun, GettingSet, Viewing, ClaimingRecord, StoringRecord, Exchanging, ScanBegun, StoringAnnouncement, Joining, Scanning, Leaving, Finished}
+use Rattle.partial_machine.specs.Machine.{CoreState, advance, advance_at, after_joining, at_stage, begin_getting, expects, fits_pool, getting, pool_refused, record_size, scanning, step_at, step_of, with_getting, with_scanning}
+use Rattle.partial_machine.specs.Calls.{is_at_rest, is_begun}
+use Rattle.partial_machine.specs.Sound.{IsSound, is_sound_at}
+use Rattle.partial_core.specs.Part.{IsMachineOf, Part, core_of}
+use Rattle.partial_machine.proofs.Sound.{size_few}
+use Rattle.partial_core.proofs.MidCalls.{view_loads}
+use Rattle.partial_epochs.specs.Layout.{Plan}
+use Rattle.partial_epochs.specs.Lists.{count}
+use Rattle.partial_epochs.specs.Ports.{Epoch}
+use Rattle.partial_epochs.specs.Epochs.{IsArena, IsPlan, awaits_at, awaits_slot, is_claiming}
+use Rattle.partial_epochs.proofs.Apart.{IsApart}
+use Rattle.partial_epochs.proofs.Lists.{count_few}
+
+-- whether a machine has yet to claim a slot
+abbrev pub awaits : CoreState → Bool
+awaits s = awaits_at s s.stage
+
+abbrev pub one : Bool → ℕ
+one b = cond b 1 0
+
+pub one_few : (b : Bool) → one b ≤ 1
+one_few true = omega arith
+one_few false = omega arith
+
+-- a step that claims neither a slot nor words of the pool
+abbrev IsQuiet : Layout → Step → Type 0
+IsQuiet z (Add w n) = w ≡ list_counter z
+IsQuiet z _ = ⊤
+
+getting_quiet : (y : Layout) (head : ℕ) (t : SetStage) (step : Step) → finding.step_at y head t ≡ Some step → IsQuiet y step
+getting_quiet y head set_stage.Head step e = subst (IsQuiet y) (some_same e) tt
+getting_quiet y head (set_stage.ListLen at) step e = subst (IsQuiet y) (some_same e) tt
+getting_quiet y head (set_stage.ListLow at left) step e = subst (IsQuiet y) (some_same e) tt
+getting_quiet y head (set_stage.ListHigh at left lo) step e = subst (IsQuiet y) (some_same e) tt
+getting_quiet y head set_stage.Counter step e = subst (IsQuiet y) (some_same e) tt
+getting_quiet y head (set_stage.Slot slot) step e = subst (IsQuiet y) (some_same e) tt
+getting_quiet y head (set_stage.Len slot at) step e = subst (IsQuiet y) (some_same e) tt
+getting_quiet y head (set_stage.Index slot at left) step e = subst (IsQuiet y) (some_same e) tt
+getting_quiet y head (set_stage.Claim count) step e = subst (IsQuiet y) (some_same e) refl
+getting_quiet y head (set_stage.Write at k count word) step e = subst (IsQuiet y) (some_same e) tt
+getting_quiet y head (set_stage.Publish at) step e = subst (IsQuiet y) (some_same e) tt
+getting_quiet y head set_stage.Done step e = absurd cc
+
+viewing_quiet : (z y : Layout) (indices last : List ℕ) (t : ViewStage) (step : Step) → viewing.step_at y indices last t ≡ Some step → IsQuiet z step
+viewing_quiet z y indices last t step e = let load = view_loads y indices last t (ap is_some e) in subst (IsQuiet z) (some_same (sym load.1 ∙ e)) tt
+
+-- a machine that begins a call, or is at rest, has no slot to claim
+begun_none : (s : CoreState) (t : Stage) → is_begun t ≡ true → awaits_at s t ≡ false
+begun_none s (StoringAnnouncement at k) b = absurd cc
+begun_none s Joining b = absurd cc
+begun_none s _ b = refl
+
+rest_none : (s : CoreState) (t : Stage) → is_at_rest t ≡ true → awaits_at s t ≡ false
+rest_none s (StoringAnnouncement at k) b = absurd cc
+rest_none s Joining b = absurd cc
+rest_none s _ b = refl
+
+pub awaits_same : (c : CoreState) (x : Part) → IsMachineOf c x → awaits c ≡ awaits_slot x
+awaits_same c x (inl begun) = begun_none c c.stage begun.begun ∙ sym (rest_none (core_of x) (core_of x).stage begun.rest)
+awaits_same c x (inr led) = ap awaits led.is
+
+-- which of two machines comes next
+either_none : (b : Bool) (s t : CoreState) → awaits s ≡ false → awaits t ≡ false → awaits (cond b s t) ≡ false
+either_none true s t h g = h
+either_none false s t h g = g
+
+stage_none : (b : Bool) (s : CoreState) (t u : Stage) → awaits_at s t ≡ false → awaits_at s u ≡ false → awaits_at s (cond b t u) ≡ false
+stage_none true s t u h g = h
+stage_none false s t u h g = g
+
+goes_on : (o : Option Step) (s t : CoreState) → awaits s ≡ false → awaits t ≡ false → awaits (option_map_or (λ _. s) o t) ≡ false
+goes_on None s t h g = g
+goes_on (Some step) s t h g = h
+
+module _ (z : Layout) (sizes : IsLayout z) (words : List ℕ) (slots_there : slot_counter z < length words) (pool_there : pool_counter z < length words)
+    (slots_small : get_or words (slot_counter z) 0 < 2 ^ 32) (pool_small : get_or words (pool_counter z) 0 < 2 ^ 32) where
+  -- what a step leaves of the two counters
+  abbrev pub Counted : Bool → Bool → List ℕ → Type 0
+  Counted before behind words' =
+      2 * (get_or words' (slot_counter z) 0 + one behind) + get_or words (pool_counter z) 0 ≤ 2 * (get_or words (slot_counter z) 0 + one before) + get_or words' (pool_counter z) 0
+
+  counted_same : (words' : List ℕ) (b : Bool) → get_or words' (slot_counter z) 0 ≡ get_or words (slot_counter z) 0 → get_or words' (pool_counter z) 0 ≡ get_or words (pool_counter z) 0 →
+      Counted b false words'
+  counted_same words' b slots pool = omega (arith, slots, pool)
+
+  counted_on : (words' : List ℕ) (c : Bool) → get_or words' (slot_counter z) 0 ≡ get_or words (slot_counter z) 0 → get_or words' (pool_counter z) 0 ≡ get_or words (pool_counter z) 0 →
+      Counted true c words'
+  counted_on words' c slots pool = let few = one_few c in omega (arith, few, slots, pool)
+
+  -- a quiet step changes neither
+  quiet : (step : Step) → IsApart z step → IsQuiet z step →
+      (get_or (words_after words step) (slot_counter z) 0 ≡ get_or words (slot_counter z) 0) × (get_or (words_after words step) (pool_counter z) 0 ≡ get_or words (pool_counter z) 0)
+  quiet (Load w) apart h = (refl, refl)
+  quiet (Store w v) apart h = (get_or-set_other words w (slot_counter z) v 0 (omega (arith, apart)), get_or-set_other words w (pool_counter z) v 0 (omega (arith, apart)))
+  quiet (Exchange w old new) apart h = (
+    get_or-set_other words w (slot_counter z) (cond (get_or words w 0 == old) new (get_or words w 0)) 0 (omega (arith, apart)),
+    get_or-set_other words w (pool_counter z) (cond (get_or words w 0 == old) new (get_or words w 0)) 0 (omega (arith, apart)),
+  )
+  quiet (Add w n) apart h = (
+    get_or-set_other words w (slot_counter z) ((get_or words w 0 + n) % 2 ^ 64) 0 (omega (arith, h)),
+    get_or-set_other words w (pool_counter z) ((get_or words w 0 + n) % 2 ^ 64) 0 (omega (arith, h)),
+  )
+
+  quiet_none : (step : Step) (b : Bool) → IsApart z step → IsQuiet z step → Counted b false (words_after words step)
+  quiet_none step b apart h = let same = quiet step apart h in counted_same (words_after words step) b same.0 same.1
+
+  -- a claim of pool words
+  pool_claimed : (n : ℕ) (b : Bool) → n ≤ greatest_record z → (one b ≡ 0) ⊎ (2 ≤ n) → Counted false b (words_after words (Add (pool_counter z) n))
+  pool_claimed n b few some =
+      let m = sizes.components.1 in
+      let most = one_few b in
+      let slots : get_or (words_after words (Add (pool_counter z) n)) (slot_counter z) 0 ≡ get_or words (slot_counter z) 0 =
+      get_or-set_other words (pool_counter z) (slot_counter z) ((get_or words (pool_counter z) 0 + n) % 2 ^ 64) 0 (omega arith) in
+      let pool : get_or (words_after words (Add (pool_counter z) n)) (pool_counter z) 0 ≡ (get_or words (pool_counter z) 0 + n) % 2 ^ 64 =
+      get_or-set_same words (pool_counter z) ((get_or words (pool_counter z) 0 + n) % 2 ^ 64) 0 pool_there in
+      let is : (get_or words (pool_counter z) 0 + n) % 2 ^ 64 ≡ get_or words (pool_counter z) 0 + n = omega (arith, few, m, pool_small) in
+      omega (arith, slots, pool, is, most, some)
+
+  -- the claim of a slot
+  slot_claimed : Counted true false (words_after words (Add (slot_counter z) 1))
+  slot_claimed =
+      let slots : get_or (words_after words (Add (slot_counter z) 1)) (slot_counter z) 0 ≡ (get_or words (slot_counter z) 0 + 1) % 2 ^ 64 =
+      get_or-set_same words (slot_counter z) ((get_or words (slot_counter z) 0 + 1) % 2 ^ 64) 0 slots_there in
+      let is : (get_or words (slot_counter z) 0 + 1) % 2 ^ 64 ≡ get_or words (slot_counter z) 0 + 1 = omega (arith, slots_small) in
+      let pool : get_or (words_after words (Add (slot_counter z) 1)) (pool_counter z) 0 ≡ get_or words (pool_counter z) 0 =
+      get_or-set_other words (slot_counter z) (pool_counter z) ((get_or words (slot_counter z) 0 + 1) % 2 ^ 64) 0 (omega arith) in
+      omega (arith, slots, is, pool)
+
+module _ (s : CoreState) (sizes : IsLayout s.sizes) (sound : IsSound s) (words : List ℕ) (slots_there : slot_counter s.sizes < length words) (pool_there : pool_counter s.sizes < length words)
+    (slots_small : get_or words (slot_counter s.sizes) 0 < 2 ^ 32) (pool_small : get_or words (pool_counter s.sizes) 0 < 2 ^ 32) (x : ℕ) where
+  abbrev C : Bool → Bool → List ℕ → Type 0
+  C = Counted s.sizes sizes words slots_there pool_there slots_small pool_small
+
+  silent : (t : Stage) (step : Step) (b : Bool) → awaits (advance_at s t x) ≡ false → IsApart s.sizes step → IsQuiet s.sizes step → C b (awaits (advance_at s t x)) (words_after words step)
+  silent t step b none apart h = subst (λ v. C b v (words_after words step)) (sym none) (quiet_none s.sizes sizes words slots_there pool_there slots_small pool_small step b apart h)
+
+  claims_pool : (t : Stage) (n : ℕ) → n ≤ greatest_record s.sizes → (one (awaits (advance_at s t x)) ≡ 0) ⊎ (2 ≤ n) → C false (awaits (advance_at s t x)) (words_after words (Add (pool_counter s.sizes) n))
+  claims_pool t n few some = pool_claimed s.sizes sizes words slots_there pool_there slots_small pool_small n (awaits (advance_at s t x)) few some
+
+  -- where the port awaits a slot before, a quiet step may leave what it will
+  loud : (t : Stage) (step : Step) → IsApart s.sizes step → IsQuiet s.sizes step → C true (awaits (advance_at s t x)) (words_after words step)
+  loud t step apart h =
+      let same = quiet s.sizes sizes words slots_there pool_there slots_small pool_small step apart h in
+      counted_on s.sizes sizes words slots_there pool_there slots_small pool_small (words_after words step) (awaits (advance_at s t x)) same.0 same.1
+
+  begins_getting : (c : Change) (old : ℕ) → awaits (begin_getting s c old) ≡ false
+  begins_getting c old = refl
+
+  joined_none : (j : JoinStage) → is_claiming j ≡ false → s.stage ≡ Joining → awaits (after_joining (record s { join = record s.join { stage = j } }) j) ≡ false
+  joined_none Claiming none is = absurd cc
+  joined_none (Storing slot) none is = ap (awaits_at (record s { join = record s.join { stage = Storing slot } })) is
+  joined_none (Joined slot) none is = refl
+  joined_none Spent none is = refl
+
+  claimed_none : (b : Bool) → is_claiming (cond b (Storing x) Spent) ≡ false
+  claimed_none true = refl
+  claimed_none false = refl
+
+  joining : (j : JoinStage) → s.join.stage ≡ j → s.stage ≡ Joining → s.join.sizes ≡ s.sizes → (step : Step) → join_step s.join.sizes s.join.announcement j ≡ Some step → IsApart s.sizes step →
+      C (is_claiming j) (awaits (after_joining (record s { join = record s.join { stage = join_after s.join.sizes j x } }) (join_after s.join.sizes j x))) (words_after words step)
+  joining Claiming at is same step due apart =
+      let none = joined_none (cond (nat_lt x s.join.sizes.slots) (Storing x) Spent) (claimed_none (nat_lt x s.join.sizes.slots)) is in
+      subst (λ v. C true v (words_after words step)) (sym none)
+      (subst (λ (t : Step). C true false (words_after words t)) (some_same (ap (λ (y : Layout). Some (Add (slot_counter y) 1)) (sym same) ∙ due))
+      (slot_claimed s.sizes sizes words slots_there pool_there slots_small pool_small))
+  joining (Storing slot) at is same step due apart =
+      let h : IsQuiet s.sizes step = subst (IsQuiet s.sizes) (some_same due) tt in
+      subst (λ v. C false v (words_after words step)) (sym (joined_none (Joined slot) refl is)) (quiet_none s.sizes sizes words slots_there pool_there slots_small pool_small step false apart h)
+  joining (Joined slot) at is same step due apart = absurd cc
+  joining Spent at is same step due apart = absurd cc
+
+  leaving_quiet : (b : Bool) (w : ℕ) (step : Step) → cond b None (Some (Store w 1)) ≡ Some step → IsQuiet s.sizes step
+  leaving_quiet true w step e = absurd cc
+  leaving_quiet false w step e = subst (IsQuiet s.sizes) (some_same e) tt
+
+  counted_at : (t : Stage) → s.stage ≡ t → is_sound_at s t → (step : Step) → step_at s t ≡ Some step → IsApart s.sizes step → C (awaits_at s t) (awaits (advance_at s t x)) (words_after words step)
+  counted_at Idle is here step due apart = absurd cc
+  counted_at (ReadBegun j) is here step due apart = silent (ReadBegun j) step false refl apart (subst (IsQuiet s.sizes) (some_same due) tt)
+  counted_at (LoadingValue stamp) is here step due apart = silent (LoadingValue stamp) step false refl apart (subst (IsQuiet s.sizes) (some_same due) tt)
+  counted_at (UpdateBegun c) is here step due apart = silent (UpdateBegun c) step false (either_none (expects c x) (begin_getting s c x) (at_stage s (Finished (reply.Changed x))) refl refl) apart
+      (subst (IsQuiet s.sizes) (some_same due) tt)
+  counted_at (GettingSet c old) is here step due apart =
+      let t : CoreState = with_getting s (finding.advance (getting s) x) in
+      silent (GettingSet c old) step false
+      (goes_on (finding.step_of t.get_set) t (record t { embedded = viewing.fresh t.sizes true; stage = cond (length t.found.indices == 0) (ClaimingRecord c old) (Viewing c old) }) (ap (awaits_at t) is)
+      (stage_none (length t.found.indices == 0) (record t { embedded = viewing.fresh t.sizes true }) (ClaimingRecord c old) (Viewing c old) refl refl)) apart
+      (subst (λ (y : Layout). IsQuiet y step) here.2 (getting_quiet s.get_set.sizes s.get_set.head s.get_set.stage step due))
+  counted_at (Viewing c old) is here step due apart =
+      let t : CoreState = with_scanning s (viewing.advance s.found.indices (scanning s) x) in
+      silent (Viewing c old) step false (goes_on (viewing.step_of s.found.indices (scanning t)) t (at_stage t (ClaimingRecord c old)) (ap (awaits_at t) is) refl) apart
+      (viewing_quiet s.sizes s.embedded.sizes s.found.indices s.rows.last s.embedded.stage step due)
+  counted_at (ClaimingRecord c old) is here step due apart =
+      let size = size_few s sound.indices.few in
+      let none = either_none (fits_pool s.sizes (record_size s) x) (at_stage s (StoringRecord c old x 0)) (pool_refused s) refl refl in
+      subst (λ (u : Step). C false (awaits (advance_at s (ClaimingRecord c old) x)) (words_after words u)) (some_same due)
+      (claims_pool (ClaimingRecord c old) (record_size s) size.1 (inl (ap one none)))
+  counted_at (StoringRecord c old at k) is here step due apart = silent (StoringRecord c old at k) step false
+      (stage_none (k + 1 == record_size s) s (Exchanging c old at) (StoringRecord c old at (k + 1)) refl refl) apart (subst (IsQuiet s.sizes) (some_same due) tt)
+  counted_at (Exchanging c old at) is here step due apart = silent (Exchanging c old at) step false refl apart (subst (IsQuiet s.sizes) (some_same due) tt)
+  counted_at ScanBegun is here step due apart =
+      let few = sound.asked.few in
+      let some = here.0 in
+      subst (λ (u : Step). C false (awaits (advance_at s ScanBegun x)) (words_after words u)) (some_same due)
+      (claims_pool ScanBegun (announcement_size (length s.asked)) (omega (arith, few)) (inr (omega (arith, some))))
+  counted_at (StoringAnnouncement at k) is here step due apart = loud (StoringAnnouncement at k) step apart (subst (IsQuiet s.sizes) (some_same due) tt)
+  counted_at Joining is here step due apart = joining s.join.stage refl is here.2 step due apart
+  counted_at Scanning is here step due apart =
+      let t : CoreState = with_scanning s (viewing.advance s.asked (scanning s) x) in
+      silent Scanning step false (goes_on (viewing.step_of s.asked (scanning t)) t (at_stage t Leaving) (ap (awaits_at t) is) refl) apart
+      (viewing_quiet s.sizes s.embedded.sizes s.asked s.rows.last s.embedded.stage step due)
+  counted_at Leaving is here step due apart = silent Leaving step false refl apart (leaving_quiet s.leave.left (slot_word s.leave.sizes s.leave.slot) step due)
+  counted_at (Finished r) is here step due apart = absurd cc
+
+  -- what the due step leaves of the two counters
+  pub counted : (step : Step) → step_of s ≡ Some step → IsApart s.sizes step → C (awaits s) (awaits (advance s x)) (words_after words step)
+  counted step due apart = counted_at s.stage refl sound.stage step due apart
+
+-- what is claimed of the pool lies within it
+pub pool_within : (e : Plan) (words components carried : List ℕ) (r : Epoch) (f : Type 0) → IsPlan e → IsArena e words components carried r f → get_or words (pool_counter e.sizes) 0 ≤ pool_end e.sizes
+pool_within e words components carried r f plan arena =
+    let reserve = arena.reserve in
+    let limit = plan.limit in
+    let times : greatest_record e.sizes * count r.over 0 e.ports ≤ greatest_record e.sizes * e.ports = mul-le-mul_left (greatest_record e.sizes) (count_few r.over 0 e.ports) in
+    omega (arith, reserve, limit, times)
+
+pub pool_small : (e : Plan) (words components carried : List ℕ) (r : Epoch) (f : Type 0) → IsPlan e → IsArena e words components carried r f → get_or words (pool_counter e.sizes) 0 < 2 ^ 32
+pool_small e words components carried r f plan arena =
+    let within = pool_within e words components carried r f plan arena in
+    let m = plan.sizes.components.1 in
+    let slots = plan.sizes.slots.1 in
+    let lists = plan.sizes.lists in
+    let pool = plan.sizes.pool.1 in
+    omega (arith, within, m, slots, lists, pool)

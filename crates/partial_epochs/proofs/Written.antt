@@ -1,0 +1,41 @@
+-- What a reply's note writes, and the places of a port's own entries.
+use Rattle.std.proofs.Common.{ℕ, ◌≡◌, ◌+◌, ◌++◌, Bool, cond, Option, Some, List, [], ◌∷◌, refl, sym, ap, ◌∙◌, inl, inr}
+use Rattle.std.specs.List.{AllByRecursion}
+use Rattle.std.proofs.lemmas.Bool.Decides.{eqb_tells}
+use Rattle.partial_model.specs.declared.history.Applied.{Applied}
+use Rattle.partial_model.specs.declared.call.Note.{Note}
+use Rattle.partial_model.specs.declared.call.Note.TheVariants as note
+use Rattle.partial_model.specs.Outcome.{places_by, wrote}
+use Rattle.partial_machine.specs.declared.stage.Reply.TheVariants as reply
+use Rattle.partial_core.specs.Steps.{IsPlacedAt}
+
+-- a reply that isn't that of an applied update writes none
+pub lost_none : (s : ℕ) (n : Note) (i : ℕ) → IsPlacedAt (reply.Lost s) n i → wrote (Some n) ++ [] ≡ []
+lost_none s (note.Wrote k) i h = absurd h
+lost_none s (note.Lost k) i h = refl
+lost_none s (note.Saw k) i h = refl
+
+pub scanned_none : (c : ℕ) (t : Option ℕ) (n : Note) (i : ℕ) → IsPlacedAt (reply.Scanned c t) n i → wrote (Some n) ++ [] ≡ []
+scanned_none c t (note.Wrote k) i h = absurd h
+scanned_none c t (note.Lost k) i h = refl
+scanned_none c t (note.Saw k) i h = refl
+
+pub read_none : (v s : ℕ) (n : Note) (i : ℕ) → IsPlacedAt (reply.Read v s) n i → wrote (Some n) ++ [] ≡ []
+read_none v s (note.Wrote k) i h = absurd h
+read_none v s (note.Lost k) i h = refl
+read_none v s (note.Saw k) i h = refl
+
+pub changed_none : (s : ℕ) (n : Note) (i : ℕ) → IsPlacedAt (reply.Changed s) n i → wrote (Some n) ++ [] ≡ []
+changed_none s (note.Wrote k) i h = absurd h
+changed_none s (note.Lost k) i h = refl
+changed_none s (note.Saw k) i h = refl
+
+-- its own entries have places
+pub no_places : (p n : ℕ) (h : List Applied) → AllByRecursion (λ (a : Applied). a.port ≡ p) h → places_by p n h ≡ [] → h ≡ []
+no_places p n [] own is = refl
+no_places p n (x ∷ h) own is = elim (eqb_tells x.port p) [
+  | inl same ↦
+      let bad : n ∷ places_by p (n + 1) h ≡ [] = sym (ap (λ (c : Bool). cond c (n ∷ places_by p (n + 1) h) (places_by p (n + 1) h)) same.0) ∙ is in
+      absurd cc
+  | inr other ↦ absurd (other.1 own.0)
+]
