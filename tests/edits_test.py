@@ -89,6 +89,24 @@ def faults(said, status=1, again=(1, ''), by=None):
     return wrong
 
 
+# Answers of which one names `low`, another one that, and a last one a longer name.
+CITING = '''\
+pub low : goal.low
+low c = c.is
+
+mid : goal.mid
+mid c = first (low c)
+
+pub high : goal.high
+high c =
+    second
+    (mid c)
+
+pub other : goal.other
+other c = lower c below-low
+'''
+
+
 def cases():
     """Each case: its name, and whether it holds."""
     for name, said in REFUSED.items():
@@ -115,6 +133,7 @@ def cases():
     yield 'an open goal that no edit turns is a fault', any(
         'low: a::g has open goals' in it for it in faults(f'{OPEN}\nfn low::a::g: {EXPECTED}`search` did not prove `returns`'))
     left = edits.without_answer(ANSWERS, 'returns-clause-at')
+    yield 'an answer that names another one is found, and one that names that', edits.citing(CITING, ['low']) == ['high', 'mid']
     yield 'an answer is taken away whole', 'first g' not in left and 'c.more' not in left and 'second c' in left
     yield from of_runs()
 

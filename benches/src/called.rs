@@ -2,21 +2,13 @@
 //! which writes its answer where its caller says, and returns a number. So what the boundary takes can be told from
 //! what the proved bodies take.
 
+use crate::answers::{Scanned, Updated, UpdatedIf, Value};
 use crate::objects::Face;
 use crate::raw::Port;
-use partial_door::{Refused, Scanned, Updated, UpdatedIf, Value};
+use partial_door::Refused;
 
 /// A port of the plain algorithm, whose calls go through the functions below.
 pub struct Called(pub Port);
-
-fn number(refused: Refused) -> u32 {
-    match refused {
-        Refused::Component => 7,
-        Refused::SlotsSpent => 8,
-        Refused::PoolSpent => 9,
-        Refused::Length => 19,
-    }
-}
 
 // Writes the answer where the caller says, or gives the number of the refusal.
 fn answered<A>(made: Result<A, Refused>, answer: &mut A) -> u32 {
@@ -25,7 +17,7 @@ fn answered<A>(made: Result<A, Refused>, answer: &mut A) -> u32 {
             *answer = made;
             0
         }
-        Err(refused) => number(refused),
+        Err(refused) => refused.code(),
     }
 }
 

@@ -1,6 +1,7 @@
 //! Times the proved memory beside other objects, and writes Markdown tables. Each cell is the median of the
 //! repetitions, all of one run, in which the objects take turns.
 
+mod answers;
 mod benches;
 mod called;
 mod objects;

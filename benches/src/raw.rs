@@ -2,7 +2,8 @@
 //! docs/reference/words-and-steps.md, in the same order, in straight lines over one slice of atomics. All buffers
 //! are taken at opening. The slice is indexed with bounds checks, as safe Rust does it.
 
-use partial_door::{Refused, Scanned, Sizes, Updated, UpdatedIf, Value};
+use crate::answers::{Scanned, Updated, UpdatedIf, Value};
+use partial_door::{Refused, Sizes};
 use std::iter::repeat_n;
 use std::ops::Range;
 use std::sync::atomic::{AtomicU64, Ordering::SeqCst};

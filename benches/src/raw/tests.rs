@@ -228,19 +228,20 @@ fn assert_alike(door: &mut partial_door::Port, raw: &mut Port, m: usize, random:
     let component = random.below(m + 1) as u32;
     let value = random.below(1_000) as u64;
     match random.below(4) {
-        0 => assert_eq!(door.update(component, value), raw.update(component, value)),
-        1 => assert_eq!(door.read(component), raw.read(component)),
+        0 => assert_eq!(door.update(component, value).map(Updated::from), raw.update(component, value)),
+        1 => assert_eq!(door.read(component).map(Value::from), raw.read(component)),
         2 => {
-            let seen = door.read(component).map_or(0, |read| read.stamp);
-            let expected = seen + (random.below(3) / 2) as u64;
-            let (one, other) = (door.update_if(component, expected, value), raw.update_if(component, expected, value));
-            assert_eq!(one, other);
+            // One time in three the stamp of another component, which this one never has.
+            let asked = [component as usize % m, random.below(m)][random.below(3) / 2] as u32;
+            let expected = door.read(asked).expect("the component is there").stamp;
+            let one = door.update_if(component, expected, value).map(UpdatedIf::from);
+            assert_eq!(one, raw.update_if(component, expected.word(), value));
         }
         _ => {
             let limit = m + random.below(20) / 19;
             let which: Vec<u32> = (0..random.below(m + 2)).map(|_| random.below(limit) as u32).collect();
             let (mut one, mut other) = (vec![7; which.len()], vec![7; which.len()]);
-            assert_eq!(door.scan(&which, &mut one), raw.scan(&which, &mut other));
+            assert_eq!(door.scan(&which, &mut one).map(Scanned::from), raw.scan(&which, &mut other));
             assert_eq!(one, other);
         }
     }

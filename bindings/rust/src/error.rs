@@ -5,6 +5,7 @@ use std::fmt;
 
 /// Why a memory was not opened. Nothing is left of the attempt.
 #[derive(Clone, Copy, Debug, PartialEq, Eq)]
+#[non_exhaustive]
 pub enum OpenError {
     /// There are not 1 to 65,536 components.
     Components,
@@ -24,6 +25,7 @@ pub enum OpenError {
 
 /// Why an update, a read or a scan was refused. It applied nothing.
 #[derive(Clone, Copy, Debug, PartialEq, Eq)]
+#[non_exhaustive]
 pub enum Refused {
     /// An index isn't below the number of components.
     Component,
@@ -34,16 +36,19 @@ pub enum Refused {
     PoolSpent,
     /// The two lengths differ, or there are more positions than components.
     Length,
+    /// The expected stamp is one of another opening.
+    Stamp,
 }
 
 /// Why a memory was not closed.
 #[derive(Debug)]
+#[non_exhaustive]
 pub enum CloseError {
-    /// The memory could not be closed with these ports. Not all of its ports are among them, one is
-    /// of another memory, or an allocation was refused when one was returned. The memory and the
-    /// ports come back, and nothing of them has changed. When an allocation is refused as a port is
-    /// taken out again, the memory keeps that port: it isn't in the list, and the next close has
-    /// it.
+    /// The memory could not be closed with these ports. A port of it is in use elsewhere, one that was
+    /// given is of another memory, or an allocation was refused when one was returned. The memory and
+    /// the ports come back, by their numbers, and nothing of them has changed. When an allocation is
+    /// refused as a port is taken out again, the memory keeps that port: it isn't in the list, and the
+    /// next close has it.
     NotAll(crate::Memory, Vec<crate::Port>),
     /// An allocation was refused, and the contents are lost.
     Memory,
@@ -93,13 +98,14 @@ impl Refused {
     }
 
     /// The number of the refusal: 7 for `Component`, 8 for `SlotsSpent`, 9 for `PoolSpent`, 19 for
-    /// `Length`.
+    /// `Length`, and 25 for `Stamp`, which this crate finds and not the library.
     pub fn code(self) -> u32 {
         match self {
             Refused::Component => 7,
             Refused::SlotsSpent => 8,
             Refused::PoolSpent => 9,
             Refused::Length => 19,
+            Refused::Stamp => 25,
         }
     }
 }
@@ -137,6 +143,7 @@ impl fmt::Display for Refused {
             Refused::SlotsSpent => "the slots are used up for this port",
             Refused::PoolSpent => "the pool is used up for this port",
             Refused::Length => "two lengths differ, or one is too large",
+            Refused::Stamp => "the expected stamp is one of another opening",
         })
     }
 }
@@ -144,7 +151,7 @@ impl fmt::Display for Refused {
 impl fmt::Display for CloseError {
     fn fmt(&self, f: &mut fmt::Formatter<'_>) -> fmt::Result {
         f.write_str(match self {
-            CloseError::NotAll(..) => "not all ports are at home",
+            CloseError::NotAll(..) => "a port is in use elsewhere, or of another memory",
             CloseError::Memory => "out of memory",
         })
     }

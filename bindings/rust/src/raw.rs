@@ -13,6 +13,23 @@ impl Handle {
             held: core::ptr::null_mut(),
         }
     }
+
+    pub fn is_empty(&self) -> bool {
+        self.held.is_null()
+    }
+}
+
+// SAFETY: it is proved of the type of what a handle holds that it may move to another thread. The calls take a
+// handle by `&mut`, so one thread at a time uses it, and Rust orders its moves between threads.
+unsafe impl Send for Handle {}
+// SAFETY: nothing is read through a shared handle but whether it is empty.
+unsafe impl Sync for Handle {}
+
+impl Drop for Handle {
+    fn drop(&mut self) {
+        // SAFETY: the handle is borrowed for the call.
+        unsafe { partial_door_free(self) };
+    }
 }
 
 #[repr(C)]

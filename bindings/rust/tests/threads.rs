@@ -1,6 +1,7 @@
 //! Ports in threads of their own, and what is refused.
 
-use partial_door::{open, CloseError, OpenError, Refused, Sizes, TwoMemories, Updated};
+use partial_door::{open, CloseError, Closed, Memory, OpenError, Port, Refused, Sizes, Stamp, TwoMemories, Updated};
+use std::error::Error;
 
 const SIZES: Sizes = Sizes {
     slots: 65_536,
@@ -21,7 +22,7 @@ fn each_writer_of_its_own_component_is_applied() {
             });
         }
     });
-    let mut closed = memory.close(ports).expect("all ports are there");
+    let closed = memory.close(ports).expect("all ports are there");
     assert_eq!(closed.values(), [1000; 3]);
 }
 
@@ -84,4 +85,76 @@ fn a_port_is_marked_for_its_slots() {
     assert!(!ports[0].slots_spent());
     assert_eq!(ports[0].scan(&[0], &mut into), Err(Refused::SlotsSpent));
     assert!(ports[0].slots_spent() && !ports[0].pool_spent());
+}
+
+#[test]
+fn errors_and_tokens_may_go_to_other_threads() {
+    fn is_error<E: Error + Send + Sync + 'static>() {}
+    fn is_shared<T: Send + Sync + 'static>() {}
+    is_error::<OpenError>();
+    is_error::<Refused>();
+    is_error::<CloseError>();
+    is_error::<TwoMemories>();
+    is_shared::<Port>();
+    is_shared::<Memory>();
+    is_shared::<Closed>();
+    is_shared::<Stamp>();
+}
+
+#[test]
+fn a_stamp_of_another_opening_is_refused() {
+    let (memory, mut ports) = open(&[1], SIZES, 1).expect("a memory opens");
+    let Updated::Applied { stamp } = ports[0].update(0, 2).expect("there is room") else {
+        panic!("no other port updates it");
+    };
+    let (_other, mut others) = open(&[1], SIZES, 1).expect("another opens");
+    others[0].update(0, 2).expect("there is room");
+    assert_eq!(others[0].update_if(0, stamp, 3), Err(Refused::Stamp));
+    let mut closed = memory.close(ports).expect("all ports are there");
+    let (_again, mut ports) = closed.reopen(1, SIZES, 1).expect("it opens again");
+    ports[0].update(0, 2).expect("there is room");
+    assert_eq!(ports[0].update_if(0, stamp, 3), Err(Refused::Stamp));
+    assert_eq!(ports[0].read(0).expect("it is there").value, 2);
+}
+
+#[test]
+fn dropped_ports_come_back_and_need_not_be_given() {
+    let (memory, mut ports) = open(&[0; 2], SIZES, 3).expect("a memory opens");
+    let failed = std::thread::scope(|scope| {
+        let mut port = ports.remove(1);
+        scope
+            .spawn(move || {
+                port.update(1, 8).expect("there is room");
+                panic!("its port is dropped");
+            })
+            .join()
+    });
+    assert!(failed.is_err());
+    let mut back = memory.port().expect("the port has come back");
+    assert!(memory.port().is_none());
+    assert_eq!((back.number(), back.read(1).expect("it is there").value), (1, 8));
+    drop(back);
+    assert_eq!(memory.close(ports).expect("all ports are there").values(), [0, 8]);
+}
+
+#[test]
+fn ports_come_back_by_their_numbers() {
+    let (memory, mut ports) = open(&[0], SIZES, 4).expect("a memory opens");
+    let away = ports.remove(2);
+    ports.swap(0, 2);
+    let Err(CloseError::NotAll(memory, mut ports)) = memory.close(ports) else {
+        panic!("it was closed without a port");
+    };
+    assert_eq!(ports.iter().map(Port::number).collect::<Vec<_>>(), [0, 1, 3]);
+    drop(ports.pop());
+    ports.push(away);
+    assert_eq!(memory.close(ports).expect("all ports are there").values(), [0]);
+}
+
+#[test]
+fn a_memory_may_be_dropped_before_its_ports() {
+    let (memory, mut ports) = open(&[4], SIZES, 2).expect("a memory opens");
+    drop(ports.pop());
+    drop(memory);
+    assert_eq!(ports[0].read(0).expect("it is there").value, 4);
 }
