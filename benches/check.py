@@ -20,7 +20,7 @@ def plan(kind):
         scan = "scan" + (" 1" if kind == "unwritten" else " 0") * 1000
         ports = ["; ".join(["update 0 7"] * 174_000 + [scan] * 1040)]
     lines = "\n".join(f"port {calls}" for calls in ports)
-    return f"sizes 2 2048 8 4194304\ninitial 10 20\n{lines}\nsteps rest\n"
+    return f"sizes 1000 2048 8 4194304\ninitial{' 0' * 1000}\n{lines}\nsteps rest\n"
 
 
 def taken(program, verb, path):
