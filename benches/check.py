@@ -1,6 +1,7 @@
 #!/usr/bin/env python3
-"""check.py plan unwritten|written: writes a plan of nearly 4 MiB, in which 174,000 updates of component 0 come before
-1,040 scans of one component 1,000 times: of component 1, which is never written, or of component 0.
+"""check.py plan unwritten|written|ports: writes a plan of nearly 4 MiB. In the first two, 174,000 updates of component
+0 come before 1,040 scans of one component 1,000 times: of component 1, which is never written, or of component 0. In
+`ports`, one port makes 345,000 updates, and 63 more read once each.
 
 check.py compare ROUNDS PROGRAM PLAN..: lets the program replay and check each plan in turns, and prints a table of the
 processor time that both take, user and system together: the least of so many rounds in milliseconds, and the check's
@@ -13,9 +14,13 @@ import tempfile
 
 def plan(kind):
     """The text of the plan."""
-    scan = "scan" + (" 1" if kind == "unwritten" else " 0") * 1000
-    calls = ["update 0 7"] * 174_000 + [scan] * 1040
-    return f"sizes 2 2048 8 4194304\ninitial 10 20\nport {'; '.join(calls)}\nsteps rest\n"
+    if kind == "ports":
+        ports = ["; ".join(["update 0 7"] * 345_000)] + ["read 0"] * 63
+    else:
+        scan = "scan" + (" 1" if kind == "unwritten" else " 0") * 1000
+        ports = ["; ".join(["update 0 7"] * 174_000 + [scan] * 1040)]
+    lines = "\n".join(f"port {calls}" for calls in ports)
+    return f"sizes 1000 2048 8 4194304\ninitial{' 0' * 1000}\n{lines}\nsteps rest\n"
 
 
 def taken(program, verb, path):
