@@ -1,5 +1,5 @@
 -- Each step of a call leaves fewer steps, so a call makes few.
-use Rattle.std.proofs.Common.{ℕ, zero, suc, ◌≡◌, ◌+◌, ◌*◌, ◌-◌, ◌<◌, ◌≤◌, ◌==◌, Bool, true, false, cond, Option, Some, None, List, [], ◌∷◌, length, refl, sym, ap, subst, arith}
+use Rattle.std.proofs.Common.{ℕ, zero, suc, ◌≡◌, ◌+◌, ◌*◌, ◌-◌, ◌<◌, ◌≤◌, ◌==◌, Bool, true, false, cond, Option, Some, None, List, [], ◌∷◌, length, refl, sym, ap, subst, arith, inl, inr, ◌∙◌}
 use Rattle.std.specs.Prelude.{nat_lt}
 use Rattle.std.specs.List.{list_all}
 use Rattle.partial_model.specs.declared.call.Call.{Call}
@@ -24,7 +24,8 @@ use Rattle.partial_epochs.specs.Changing.{Act, ChangeLeads, Changing, next_arena
 use Rattle.partial_epochs.specs.Changing as changing
 use Rattle.partial_epochs.specs.Calls.{CallStep, Doing, IsCallOf, IsUpdate, Leads, MayAct, Run, after_step, answered, begun, changed, ran, round, started}
 use Rattle.partial_epochs.specs.Calls as calls
-use Rattle.partial_epochs.specs.Bounds.{ChangesAreBounded, ConditionalUpdatesAreBounded, ReadsMakeEight, ScansAreBounded, StepsLeaveFewer, UpdatesAreBounded, arenas_left, behind, change_left, fresh_left, left, most_of_change, opening_steps, pass_steps}
+use Rattle.partial_epochs.specs.Bounds.{ChangesAreBounded, ConditionalUpdatesAreBounded, ReadsMakeEight, ScansAreBounded, UpdatesAreBounded, most_of_change, opening_steps, pass_steps}
+use Rattle.partial_epochs.proofs.Left.{arenas_left, behind, change_left, fresh_left, left}
 use Rattle.partial_epochs.proofs.MachineSteps.{machine_ready, makes_fewer}
 
 -- A call that may change the epoch so often (`n`), of a port that has made a claim past the limit or not: a scan makes its machine's steps
@@ -196,7 +197,8 @@ module _ (e : Plan) where
         let fewer = change_fewer words ports b notes k d a d' leads may in
         omega (arith, rest, fewer)
 
-pub steps_leave_fewer : StepsLeaveFewer
+-- whatever other ports do between the steps of a call
+pub steps_leave_fewer : (e : Plan) (k : ℕ) (p : Port) (d : Doing) → k < e.ports → (s : CallStep e k p d) → left e s.next < left e d
 steps_leave_fewer e k p d below s =
     step_fewer e s.words s.ports s.beside s.notes k s.lawful below d s.act s.next (subst (λ (q : Port). Leads e s.words q d s.act s.next) (sym s.same) s.leads) s.may
 
@@ -257,7 +259,20 @@ scans_are_bounded e k n rounds js over p p' d below r = by js over (calls_are_bo
     by (j ∷ js) true few = few
     by (j ∷ js) false few = few
 
+round_is : (e : Plan) (c : Call) (n : ℕ) → left e (round c n true) ≡ fresh_left e c n
+round_is e (call.Read j) n = refl
+round_is e (call.Scan js) n = omega arith
+round_is e (call.Update j v) zero = refl
+round_is e (call.Update j v) (suc n) = omega arith
+round_is e (call.UpdateIf j x v) zero = refl
+round_is e (call.UpdateIf j x v) (suc n) = omega arith
+
 pub changes_are_bounded : ChangesAreBounded
-changes_are_bounded e k n rounds p p' c d below r =
-    let all = run_fewer e k n p p' (calls.Doing.Changes c rounds changing.Changing.LooksFirst) (calls.Doing.Changes c rounds d) below r in
-    omega (arith, all)
+changes_are_bounded e k n rounds p p' c d below r (inl within) =
+    let all = run_fewer e k n p p' (calls.Doing.Changes c rounds changing.Changing.LooksFirst) d below r in
+    let is : left e d ≡ change_left e within.0 + fresh_left e c rounds = ap (left e) within.1 in
+    omega (arith, all, is)
+changes_are_bounded e k n rounds p p' c d below r (inr behind) =
+    let all = run_fewer e k n p p' (calls.Doing.Changes c rounds changing.Changing.LooksFirst) d below r in
+    let is : left e d ≡ fresh_left e c rounds = ap (left e) behind ∙ round_is e c rounds in
+    omega (arith, all, is)

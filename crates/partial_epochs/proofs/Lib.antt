@@ -29,6 +29,7 @@ pub mod NotesStay
 pub mod Sights
 pub mod EveryStep
 pub mod Refused
+pub mod Left
 pub mod CallBounds
 pub mod CallEnds
 pub mod CallRefusals

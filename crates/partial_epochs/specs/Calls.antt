@@ -50,16 +50,16 @@ round c zero fresh = Refused Overtaken
 round (call.UpdateIf j x v) (suc n) fresh = LoadsWord (call.UpdateIf j x v) (suc n) fresh
 round c (suc n) fresh = Starts c (suc n) fresh
 
--- the call where no component is missing, by a port that has made a claim past the limit, or not: a scan of such a port begins with a
--- change of epoch, and one of no position is answered at once
+-- The call where no component is missing. A port is spent in its epoch once it has made a claim past the limit, or once its machine has
+-- met a seal: its scan begins with a change of epoch. A scan of no position is answered at once.
 abbrev pub started : ℕ → Bool → Call → Doing
-started n over (call.Scan []) = Answered
+started n spent (call.Scan []) = Answered
 started n true (call.Scan js) = Changes (call.Scan js) n LooksFirst
-started n over c = round c n false
+started n spent c = round c n false
 
 -- a call as it begins
 abbrev pub begun : Plan → ℕ → Bool → Call → Doing
-begun e n over c = if list_all (λ j. nat_lt j e.sizes.m) (indices_of c) then started n over c else Refused Component
+begun e n spent c = if list_all (λ j. nat_lt j e.sizes.m) (indices_of c) then started n spent c else Refused Component
 
 -- the call goes on where a change of epoch has come to
 abbrev pub changed : Call → ℕ → Changing → Doing

@@ -22,19 +22,19 @@ RefusedCallsApplyNothing = (e : Plan) (k n : ℕ) (p p' : Port) (d : Doing) (cau
     (r : Run e k n p d p' (Refused cause)) → AppliesNothing e k n p d p' (Refused cause) r
 
 -- a call is refused for a component exactly when it names one that isn't there, and then as it begins
-pub record IsRefusedForComponent (e : Plan) (rounds : ℕ) (over : Bool) (c : Call) : Type 0 where
-  pub missing : begun e rounds over c ≡ Refused Component → ¬ NamesComponents e.sizes.m c
-  pub refused : (¬ NamesComponents e.sizes.m c) → begun e rounds over c ≡ Refused Component
+pub record IsRefusedForComponent (e : Plan) (rounds : ℕ) (spent : Bool) (c : Call) : Type 0 where
+  pub missing : begun e rounds spent c ≡ Refused Component → ¬ NamesComponents e.sizes.m c
+  pub refused : (¬ NamesComponents e.sizes.m c) → begun e rounds spent c ≡ Refused Component
   pub at_once : (k : ℕ) (p : Port) (d : Doing) → k < e.ports → (s : CallStep e k p d) → s.next ≢ Refused Component
 
 -- so it is for each call
 abbrev pub ComponentsAreMissing : Type 0
-ComponentsAreMissing = (e : Plan) (rounds : ℕ) (over : Bool) (c : Call) → IsRefusedForComponent e rounds over c
+ComponentsAreMissing = (e : Plan) (rounds : ℕ) (spent : Bool) (c : Call) → IsRefusedForComponent e rounds spent c
 
 -- an update that is refused as overtaken has come to a later epoch as often as it may
 abbrev pub OvertakenCallsMovedOn : Type 0
-OvertakenCallsMovedOn = (e : Plan) (k n rounds : ℕ) (over : Bool) (p p' : Port) (c : Call) → k < e.ports →
-    Run e k n p (begun e rounds over c) p' (Refused Overtaken) → IsUpdate c × (p.control.here.epoch + rounds ≤ p'.control.here.epoch)
+OvertakenCallsMovedOn = (e : Plan) (k n rounds : ℕ) (spent : Bool) (p p' : Port) (c : Call) → k < e.ports →
+    Run e k n p (begun e rounds spent c) p' (Refused Overtaken) → IsUpdate c × (p.control.here.epoch + rounds ≤ p'.control.here.epoch)
 
 -- the cause of a refusal by a step of a change of epoch: the step is the look that ends the last pass, or the first look in the last
 -- epoch that a word can name; and the port's epoch is the current one

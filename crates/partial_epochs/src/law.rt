@@ -11,7 +11,7 @@ ghost use Rattle.partial_epochs.specs.Opening.{OpensOverLawful, EpochsOpenLawful
 ghost use Rattle.partial_epochs.specs.Notes.{EpochsFitOneHistory, NotesStayLawful, SightsStayLawful, AsidesStayLawful, ArrivalsKeepNotes, PublishesKeepNotes, PublicStampsAreUnique};
 ghost use Rattle.partial_epochs.specs.EveryStep.{EveryStepStaysLawful, MemoriesOpenLawful};
 ghost use Rattle.partial_epochs.specs.Calls.{CallsStayLawful};
-ghost use Rattle.partial_epochs.specs.Bounds.{StepsLeaveFewer, ReadsMakeEight, UpdatesAreBounded, ConditionalUpdatesAreBounded, ScansAreBounded, ChangesAreBounded};
+ghost use Rattle.partial_epochs.specs.Bounds.{ReadsMakeEight, UpdatesAreBounded, ConditionalUpdatesAreBounded, ScansAreBounded, ChangesAreBounded};
 ghost use Rattle.partial_epochs.specs.Refusals.{RefusedCallsApplyNothing, ComponentsAreMissing, OvertakenCallsMovedOn, ChangesAreRefused, NoArenaIsFree};
 ghost use Rattle.partial_epochs.specs.Reads.{ReadsTellAllEpochs, LastWordsAreFinal};
 
@@ -43,8 +43,8 @@ pub fn marks_never_come()
     ensures { MarksNeverCome }
 {}
 
-/// In such an arena no step of a machine ends its call with a refusal: each announcement finds a slot, since two words
-/// of the pool are claimed for it first.
+/// With a slot for each two words of the pool no step of a machine ends its call with a refusal: each announcement
+/// finds a slot, since two words of the pool are claimed for it first.
 pub fn machines_are_never_refused()
     ensures { MachinesAreNeverRefused }
 {}
@@ -214,12 +214,6 @@ pub fn calls_stay_lawful()
     ensures { CallsStayLawful }
 {}
 
-/// Each step of a call leaves fewer steps than there were before it, whatever other ports do between its steps. So each
-/// call ends.
-pub fn steps_leave_fewer()
-    ensures { StepsLeaveFewer }
-{}
-
 /// A read makes at most 8 steps, whatever other ports do.
 pub fn reads_make_eight()
     ensures { ReadsMakeEight }
@@ -237,7 +231,7 @@ pub fn conditional_updates_are_bounded()
 {}
 
 /// A scan makes at most twice the steps of a scan of one memory, and four more. If its port has made a claim past the
-/// limit, it makes at most those of a change of epoch and of one scan.
+/// limit, or its machine has met a seal, it makes at most those of a change of epoch and of one scan.
 pub fn scans_are_bounded()
     ensures { ScansAreBounded }
 {}
