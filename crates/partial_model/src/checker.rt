@@ -24,10 +24,10 @@ use std::marker::Model;
 
 /// Whether the history and the calls are a legal outcome, for every list of entries and of calls.
 ///
-/// It is false where an entry's component isn't one of the opening, or a stamp is doubled or an initial
-/// one; where the calls aren't listed by rising port, and those of a port by number from 0 without gaps;
-/// where a call that isn't its port's last is unfinished; where an answer isn't right at the place that
-/// its note names, or that place lies outside the call; and where an entry isn't claimed by exactly one
+/// It is false when an entry's component isn't one of the opening, or a stamp is doubled or an initial
+/// one; when the calls aren't listed by rising port, and those of a port by number from 0 without gaps;
+/// when a call that isn't its port's last is unfinished; when an answer isn't right at the place that
+/// its note names, or that place lies outside the call; and when an entry isn't claimed by exactly one
 /// call, in the order of its port's calls.
 ///
 /// It takes no memory. It walks the history some times for each port that has calls, and for each value and
@@ -44,7 +44,7 @@ pub fn check_outcome(opening: &Opening, history: &[Applied], calls: &[Called]) -
 pub struct Checker<'a> {
     opening: &'a Opening,
     history: &'a [Applied],
-    // None where the entries aren't a history.
+    // None when the entries aren't a history.
     index: Option<Index>,
 }
 
@@ -67,7 +67,7 @@ impl<'a> Checker<'a> {
     ///
     /// # Errors
     ///
-    /// An `AllocError` where a growth was refused. Nothing is left of the index then.
+    /// An `AllocError` when an allocation was refused. Nothing is left of the index then.
     pub fn new(
         alloc: Global,
         opening: &'a Opening,
@@ -101,7 +101,7 @@ impl<'a> Checker<'a> {
     }
 }
 
-// The index of the history. None where the entries aren't a history.
+// The index of the history. None when the entries aren't a history.
 fn index_of(
     alloc: Global,
     opening: &Opening,

@@ -344,7 +344,7 @@ fn place_of(note: Note) -> usize
     }
 }
 
-/// Whether the finish of a call is legal, where its port had seen the first `seen` entries before.
+/// Whether the finish of a call is legal, when its port had seen the first `seen` entries before.
 pub fn is_legal(
     opening: &Opening,
     history: &Lookups,

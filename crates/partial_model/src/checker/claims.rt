@@ -38,7 +38,7 @@ fn none_above(history: &[Applied], low: u32) -> bool
     history.iter().all(|entry| entry.port <= low)
 }
 
-// Whether the calls of `next` may begin where the entries by the port are claimed up to that place.
+// Whether the calls of `next` may begin when the entries by the port are claimed up to that place.
 fn may_go_on(history: &[Applied], port: u32, from: usize, next: u32) -> bool
     ensures { result ≡ may_go_on history.now port (places_from history.now port from) next }
 {
@@ -64,7 +64,7 @@ fn claim(history: &[Applied], port: u32, from: usize, finish: &Option<Finish>) -
     }
 }
 
-/// Whether the calls claim each entry once, in the order of its port's calls, where the ports of the
+/// Whether the calls claim each entry once, in the order of its port's calls, when the ports of the
 /// calls rise.
 pub fn claim_all(history: &[Applied], calls: &[Called]) -> bool
     ensures { result ≡ claim_all history.now 0 (places_by 0 0 history.now) calls.now }

@@ -1,4 +1,4 @@
-//! An index of a history: where the entries of each component stand, and where each stamp does.
+//! An index of a history: the places of the entries of each component, and the place of each stamp.
 
 ghost use Rattle.std.specs.Prelude.{ℕ, ◌≡◌, ◌≤◌, ◌<◌, nat_eq, [], length, take, drop, IfOk, MatchOption, true, false};
 ghost use Rattle.std.specs.HashMap as hash;
@@ -11,7 +11,7 @@ use crate::history::Applied;
 use std::alloc::{AllocError, Global};
 use std::collections::HashMap;
 
-/// Where the entries of a history stand.
+/// The places of the entries of a history.
 #[derive(Drop)]
 pub struct Index {
     // The places of each component's entries, in order.
@@ -48,7 +48,7 @@ fn places_of(
     Ok(lists)
 }
 
-// The place of each stamp. None where a stamp is doubled.
+// The place of each stamp. None when a stamp is doubled.
 fn stamps_of(alloc: Global, history: &[Applied]) -> Result<Option<HashMap<u64, usize>>, AllocError>
     ensures { IfOk result (λ found. MatchOption found (are_distinct history.now ≡ false)
         (λ stamps. (are_distinct history.now ≡ true)
@@ -65,7 +65,7 @@ fn stamps_of(alloc: Global, history: &[Applied]) -> Result<Option<HashMap<u64, u
 }
 
 impl Index {
-    /// The index of the entries of so many components. None where two entries have one stamp.
+    /// The index of the entries of so many components. None when two entries have one stamp.
     pub fn new(
         alloc: Global,
         components: usize,

@@ -14,7 +14,7 @@ use std::marker::Model;
 #[derive(Drop)]
 pub struct Lookups<'a> {
     entries: &'a [Applied],
-    // None where each look-up walks the history.
+    // None when each look-up walks the history.
     index: Option<&'a Index>,
 }
 

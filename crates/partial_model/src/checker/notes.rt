@@ -8,7 +8,7 @@ use crate::checker::answers::is_legal;
 use crate::checker::lookups::Lookups;
 use crate::history::Opening;
 
-// Whether the call is unfinished, or legal where its port had seen so many entries before.
+// Whether the call is unfinished, or legal when its port had seen so many entries before.
 fn call_is_legal(opening: &Opening, history: &Lookups, seen: usize, call: &Called) -> bool
     ensures { result ≡ call_is_legal opening.now history.now seen call.now }
 {
@@ -33,7 +33,7 @@ fn seen_behind(seen: usize, finish: &Option<Finish>) -> usize
     }
 }
 
-/// Whether the notes of each port are legal, where the calls of a port stand together.
+/// Whether the notes of each port are legal, when the calls of a port stand together.
 pub fn notes_are_legal(opening: &Opening, history: &Lookups, calls: &[Called]) -> bool
     requires { length history.now ≤ usize.MAX }
     ensures { result ≡ notes_are_legal opening.now history.now 0 0 calls.now }
