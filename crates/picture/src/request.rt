@@ -26,15 +26,26 @@ fn flag<'a>(alloc: Global, name: &'a str, help: &'a str) -> Arg<'a> {
 
 /// The arguments that the program takes: `[PLAN] [--window A B] [--words] [--text]`.
 fn command<'a>(alloc: Global) -> Result<Command<'a>, Error> {
-    let plan = Arg::new(alloc, "plan").help("The file of the plan; standard input without it, or with -");
+    let plan = Arg::new(alloc, "plan").help(
+        "The file of the plan; standard input without it, or with -",
+    );
     let window = Arg::new(alloc, "window")
         .long("window")
         .action(ArgAction::Set)
         .num_args(2)
         .value_name("STEP")
         .help("Draws the steps from the first of these two numbers to the second alone");
-    let words = flag(alloc, "words", "Draws the words of the memory below the ports");
-    let text = flag(alloc, "text", "Writes the steps as a table in place of a drawing").conflicts_with("words")?;
+    let words = flag(
+        alloc,
+        "words",
+        "Draws the words of the memory below the ports",
+    );
+    let text = flag(
+        alloc,
+        "text",
+        "Writes the steps as a table in place of a drawing",
+    )
+    .conflicts_with("words")?;
     let picture = Command::new(alloc, "picture")
         .about("Draws the replay of a plan as SVG, to standard output")
         .arg(plan)?

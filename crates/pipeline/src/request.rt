@@ -46,8 +46,16 @@ fn option<'a>(alloc: Global, name: &'a str, help: &'a str) -> Arg<'a> {
 
 /// The arguments that the program takes: `[--stages N] [--items N] [--looks N]`.
 fn command<'a>(alloc: Global) -> Result<Command<'a>, Error> {
-    let stages = option(alloc, "stages", "How many stages there are, 1 to 63; 4 without this");
-    let items = option(alloc, "items", "How many items each stage works on; 20000 without this");
+    let stages = option(
+        alloc,
+        "stages",
+        "How many stages there are, 1 to 63; 4 without this",
+    );
+    let items = option(
+        alloc,
+        "items",
+        "How many items each stage works on; 20000 without this",
+    );
     let looks = option(
         alloc,
         "looks",
@@ -66,10 +74,12 @@ const STAGES: Stop = Stop::Value {
     option: "stages",
     takes: "a number from 1 to 63",
 };
+
 const ITEMS: Stop = Stop::Value {
     option: "items",
     takes: "a number below 2^64",
 };
+
 const LOOKS: Stop = Stop::Value {
     option: "looks",
     takes: "a number from 0 to 65535",
