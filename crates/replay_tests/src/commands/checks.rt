@@ -26,8 +26,14 @@ fn turned_values(alloc: Global, values: &[u64]) -> Result<Option<Sequence<u64>>,
 }
 
 /// The call's answer with its first number turned. None where it has no number that has to be as it is.
-fn turned(alloc: Global, called: &Called) -> Result<Option<Answer>, AllocError> {
-    let Some(finish) = &called.finish else {
+fn turned(alloc: Global, calls: &[Called], index: usize) -> Result<Option<Answer>, AllocError> {
+    let Some(
+        Called {
+            finish: Some(finish),
+            ..
+        },
+    ) = calls.get(index)
+    else {
         return Ok(None);
     };
     Ok(match &finish.answer {
@@ -55,7 +61,8 @@ fn turned(alloc: Global, called: &Called) -> Result<Option<Answer>, AllocError> 
 }
 
 /// Puts the answer in place of the call's own, which it gives.
-fn put_answer(called: &mut Called, answer: Answer) -> Option<Answer> {
+fn put_answer(calls: &mut [Called], index: usize, answer: Answer) -> Option<Answer> {
+    let called = calls.get_mut(index)?;
     match &mut called.finish {
         None => None,
         Some(finish) => Some(mem::replace(&mut finish.answer, answer)),
@@ -63,8 +70,8 @@ fn put_answer(called: &mut Called, answer: Answer) -> Option<Answer> {
 }
 
 /// The note of the call, where it is finished and not refused.
-fn note_of(called: &Called) -> Option<Note> {
-    match &called.finish {
+fn note_of(calls: &[Called], index: usize) -> Option<Note> {
+    match &calls.get(index)?.finish {
         None => None,
         Some(finish) => finish.note,
     }
@@ -80,9 +87,11 @@ fn further(note: Note) -> Note {
 }
 
 /// Puts the note in place of the call's own.
-fn put_note(called: &mut Called, note: Note) {
-    if let Some(finish) = &mut called.finish {
-        finish.note = Some(note);
+fn put_note(calls: &mut [Called], index: usize, note: Note) {
+    if let Some(called) = calls.get_mut(index) {
+        if let Some(finish) = &mut called.finish {
+            finish.note = Some(note);
+        }
     }
 }
 
@@ -114,6 +123,13 @@ fn turned_entries(entry: Applied) -> [Applied; 4] {
     ]
 }
 
+/// Puts the entry at the place of another one.
+fn put_entry(history: &mut [Applied], place: usize, entry: Applied) {
+    if let Some(other) = history.get_mut(place) {
+        *other = entry;
+    }
+}
+
 #[test]
 fn worked_rows_pass_both(rt: HostRuntime) -> Result<(), Fail> {
     for (name, plan, _) in rows() {
@@ -131,13 +147,13 @@ fn turned_answers_pass_neither(rt: HostRuntime) -> Result<(), Fail> {
     for (name, plan, _) in rows() {
         let mut outcome = replayed(rt.alloc(), plan)?;
         for index in 0..outcome.calls.len() {
-            let other = turned(rt.alloc(), &outcome.calls[index])?;
+            let other = turned(rt.alloc(), &outcome.calls, index)?;
             if let Some(other) = other {
-                let own = put_answer(&mut outcome.calls[index], other);
+                let own = put_answer(&mut outcome.calls, index, other);
                 let answers = verdicts(rt.alloc(), &outcome)?;
                 assert_eq!(rt; answers, (false, false), "{name} {index}");
                 if let Some(own) = own {
-                    put_answer(&mut outcome.calls[index], own);
+                    put_answer(&mut outcome.calls, index, own);
                 }
                 tried = tried.saturating_add(1);
             }
@@ -154,9 +170,9 @@ fn turned_notes_pass_neither_or_both(rt: HostRuntime) -> Result<(), Fail> {
     for (name, plan, _) in rows() {
         let mut outcome = replayed(rt.alloc(), plan)?;
         for index in 0..outcome.calls.len() {
-            let own = note_of(&outcome.calls[index]);
+            let own = note_of(&outcome.calls, index);
             if let Some(own) = own {
-                put_note(&mut outcome.calls[index], further(own));
+                put_note(&mut outcome.calls, index, further(own));
                 let answers = verdicts(rt.alloc(), &outcome)?;
                 if let Note::Saw(_) = own {
                     assert_eq!(rt; answers.0, answers.1, "{name} {index}");
@@ -164,7 +180,7 @@ fn turned_notes_pass_neither_or_both(rt: HostRuntime) -> Result<(), Fail> {
                     assert_eq!(rt; answers, (false, false), "{name} {index}");
                     tried = tried.saturating_add(1);
                 }
-                put_note(&mut outcome.calls[index], own);
+                put_note(&mut outcome.calls, index, own);
             }
         }
     }
@@ -179,14 +195,16 @@ fn turned_histories_pass_neither(rt: HostRuntime) -> Result<(), Fail> {
     for (name, plan, _) in rows() {
         let mut outcome = replayed(rt.alloc(), plan)?;
         for place in 0..outcome.history.len() {
-            let own = outcome.history[place];
-            for other in turned_entries(own) {
-                outcome.history[place] = other;
-                let answers = verdicts(rt.alloc(), &outcome)?;
-                assert_eq!(rt; answers, (false, false), "{name} {place}");
+            let own = outcome.history.get(place).copied();
+            if let Some(own) = own {
+                for other in turned_entries(own) {
+                    put_entry(&mut outcome.history, place, other);
+                    let answers = verdicts(rt.alloc(), &outcome)?;
+                    assert_eq!(rt; answers, (false, false), "{name} {place}");
+                }
+                put_entry(&mut outcome.history, place, own);
+                tried = tried.saturating_add(1);
             }
-            outcome.history[place] = own;
-            tried = tried.saturating_add(1);
         }
         if let Some(last) = outcome.history.pop() {
             let answers = verdicts(rt.alloc(), &outcome)?;
