@@ -74,11 +74,23 @@ relative_library() {
     (cd crates && PARTIAL_DOOR_LIB=partial_door/out/libpartial_door.a \
         cargo test --offline --quiet --manifest-path ../bindings/rust/Cargo.toml --test threads)
 }
+# Whether the C test is compiled and linked with what pkg-config says of the installed library, of this version.
+installed() {
+    bindings/c/install.sh "$made/prefix" && PKG_CONFIG_PATH=$made/prefix/lib/pkgconfig && export PKG_CONFIG_PATH &&
+        grep -q "^#define PARTIAL_VERSION \"$(pkg-config --modversion partial)\"$" bindings/c/partial.h &&
+        "${CC:-cc}" -std=c11 -O1 bindings/c/test.c $(pkg-config --cflags --libs partial) -o "$made/test_installed"
+}
 kit=$(dirname "$(rt doc)")
 heap=$kit/c/liblibc_c.a
 item "the static library is proved and built" sh -c 'cd crates/partial_door && rt lib --jobs 2'
 item "the C test is compiled" compile "$made/test" bindings/c/test.c
 counts "the C test" "$made/test"
+if command -v pkg-config >/dev/null 2>&1; then
+    item "the C test is linked with the installed library" installed
+    counts "the C test with the installed library" "$made/test_installed"
+else
+    echo "door: skipped: the installed library: there is no pkg-config"
+fi
 item "the header is one of C++ too" sh -c 'echo "#include \"partial.h\"" |
     "${CXX:-c++}" -std=c++17 -Wall -Wextra -Werror -I bindings/c -xc++ -fsyntax-only -'
 item "the C test is compiled with the address sanitizer" compile "$made/test_address" bindings/c/test.c \
