@@ -187,6 +187,7 @@ refuses lists 3 "list words out of range" $'sizes 2 4 65537 64\n'"$rest"
 refuses pool 4 "pool words out of range" $'sizes 2 4 8 5\n'"$rest"
 refuses ports 5 "ports out of range" "$head"$'steps rest\n'
 refuses line_end 10 "line 1: end" ""
+refuses line_ends_with_crlf 10 "line 1: number" "$(printf '%s' "$head$tail" | sed 's/$/\r/')"
 refuses line_word 10 "line 3: word" "$head"$'port swap 0 1\nsteps rest\n'
 refuses line_count 10 "line 3: count" "$head"$'port update 0\nsteps rest\n'
 refuses line_number 10 "line 2: number" $'sizes 2 4 8 64\ninitial 10 x\n'"$tail"
