@@ -26,14 +26,14 @@
 //!
 //! All atomic steps of the library are sequentially consistent. So an update publishes all that its thread
 //! wrote before it, and a read or a scan that sees the update's value, or a later one, acquires it. A call that
-//! is answered by help acquires what the helped values publish too. What takes effect later in the one history
-//! happens later in this order.
+//! is answered by help acquires what the values that it takes publish, through the update that helped. No contract
+//! of the library speaks of a program's other memory.
 //!
 //! # Memory in use
 //!
 //! An opening takes one table of `components + 4 + slots + list_words + pool_words` words of 8 bytes, and some
-//! buffers of the components' length for each port. No call takes memory but [`open`], [`Memory::close`],
-//! [`Memory::port`] and [`Closed::reopen`].
+//! buffers of the components' length for each port. [`open`], [`Memory::close`] and [`Closed::reopen`] take memory,
+//! and dropping a port may; no call of a port does.
 //!
 //! # What is proved, and what isn't
 //!
