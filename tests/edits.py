@@ -17,7 +17,9 @@ and those that name one, and a goal of meaning that is none of the latter has to
 
 That a function calls one that isn't proved is said apart, and counts for nothing; where its goals weren't tried for
 that reason, its edit waits for a later round. No function may have an open goal that none of the round's edits turns.
-A later round begins with what the earlier ones have proved.
+A later round begins with what the earlier ones have proved, and checks the functions alone that its edits turn, with
+those that they call: the first round has checked all others. The first round begins with what checks of the crate kept,
+here or in another copy of the repository on this machine; no edit is judged by that, since what it turns is checked.
 
 With words, it takes the crates with these names alone; with --jobs N, so many crates side by side. What isn't proved
 yet of the crates below is proved first. The last line is 'N passed, M failed', where each edit counts once.
@@ -152,6 +154,19 @@ def command_of(name, crates, proved):
             *[word for it in folders for word in ('-L', f'dependency={it}')],
             '--antt-project', f'{KIT}/rattle/logic/antt-project.json', '--logic-built', f'{KIT}/logic_built',
             '--incremental', 'kept']
+
+
+def begin(name):
+    """Takes what checks in another copy on this machine kept of the crate, when none was made here."""
+    crate = TOP / 'crates' / name
+    if not (crate / 'out' / 'incremental').is_dir():
+        subprocess.run(['rt', 'check', '--only', ''], cwd=crate, stdin=subprocess.DEVNULL, stdout=subprocess.DEVNULL,
+                       stderr=subprocess.DEVNULL, check=False)
+
+
+def asked_of(edit):
+    """The words by which a check is of the functions alone that this edit turns, and of those that they call."""
+    return [word for it in edit.refused for word in ('--only', it)]
 
 
 def run(command, room, limit):
@@ -339,14 +354,16 @@ def try_crate(name, crates, proved):
         except BadEdit as bad:
             faults.append(f'{name}/{path.name}: bad edit: {bad}')
     command, left = command_of(name, crates, proved), edits
+    begin(name)
     with tempfile.TemporaryDirectory(prefix='edits-') as room:
         kept = crate / 'out' / 'incremental'
         shutil.copytree(kept, f'{room}/kept') if kept.is_dir() else os.mkdir(f'{room}/kept')
         while left:
             members, places = first_round(left, crate)
+            asked = [] if left is edits else [word for it in members for word in asked_of(it)]
 
             def again(without):
-                return check(Path(room), name, places, command, without)
+                return check(Path(room), name, places, [*command, *asked], without)
 
             tried, wrong, others = try_round(name, members, *again({}), again)
             faults += wrong

@@ -19,19 +19,32 @@ fn no_call(rt: HostRuntime) -> Result<(), Fail> {
     Ok(())
 }
 
+// One machine a test: what lives until a test's end is proved to be let go on each way out of it.
 #[test]
-fn first_steps(rt: HostRuntime) -> Result<(), Fail> {
+fn first_step_of_a_read(rt: HostRuntime) -> Result<(), Fail> {
     let sizes = Sizes::new(2, 4, 8, 64)?;
-    let mut reader = Core::new(rt.alloc(), sizes, 0)?;
-    assert_eq!(rt; reader.begin_read(1), Ok(()));
-    assert_eq!(rt; reader.step(), Some(Step::Load(1)));
-    let mut writer = Core::new(rt.alloc(), sizes, 1)?;
-    assert_eq!(rt; writer.begin_update(0, 7), Ok(()));
-    assert_eq!(rt; writer.step(), Some(Step::Load(0)));
-    let mut scanner = Core::new(rt.alloc(), sizes, 2)?;
-    assert_eq!(rt; scanner.begin_scan(&[0, 1]), Ok(()));
-    assert_eq!(rt; scanner.step(), Some(Step::Add(4, 3)));
-    assert!(rt; !scanner.idle());
+    let mut core = Core::new(rt.alloc(), sizes, 0)?;
+    assert_eq!(rt; core.begin_read(1), Ok(()));
+    assert_eq!(rt; core.step(), Some(Step::Load(1)));
+    Ok(())
+}
+
+#[test]
+fn first_step_of_an_update(rt: HostRuntime) -> Result<(), Fail> {
+    let sizes = Sizes::new(2, 4, 8, 64)?;
+    let mut core = Core::new(rt.alloc(), sizes, 1)?;
+    assert_eq!(rt; core.begin_update(0, 7), Ok(()));
+    assert_eq!(rt; core.step(), Some(Step::Load(0)));
+    Ok(())
+}
+
+#[test]
+fn first_step_of_a_scan(rt: HostRuntime) -> Result<(), Fail> {
+    let sizes = Sizes::new(2, 4, 8, 64)?;
+    let mut core = Core::new(rt.alloc(), sizes, 2)?;
+    assert_eq!(rt; core.begin_scan(&[0, 1]), Ok(()));
+    assert_eq!(rt; core.step(), Some(Step::Add(4, 3)));
+    assert!(rt; !core.idle());
     Ok(())
 }
 

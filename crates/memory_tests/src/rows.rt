@@ -228,14 +228,8 @@ fn between_scans(rt: &impl Abort, memory: &Memory, me: &mut Port)
     applies(rt, memory, me, 1, 13, 42);
 }
 
-// The stamps and the chains are those of the steps by hand: a record takes 3 pool words, an announcement of two
-// positions 3, and an overtaken conditional update none.
-#[test]
-fn updates_between_scans(rt: HostRuntime) -> Result<(), Fail> {
-    let sizes = Sizes::new(2, 4, 8, 64)?;
-    let (memory, mut first, _) = pair(rt.alloc(), sizes, &[10, 20])?;
-    between_scans(&rt, &memory, &mut first);
-    let closed = memory.close(rt.alloc(), first, Vec::new(rt.alloc()))?;
+// The values and the chains of the closed memory behind these calls.
+fn assert_chains(rt: &impl Abort, closed: &Closed) {
     assert_eq!(rt; closed.values.as_slice(), [11, 13].as_slice());
     let stamps = [[36, 33, 24, 18].as_slice(), [42, 30, 21].as_slice()];
     for (chain, expected) in closed.chains.iter().zip(stamps) {
@@ -244,5 +238,16 @@ fn updates_between_scans(rt: HostRuntime) -> Result<(), Fail> {
             assert_eq!(rt; link.stamp, *stamp);
         }
     }
+}
+
+// The stamps and the chains are those of the steps by hand: a record takes 3 pool words, an announcement of two
+// positions 3, and an overtaken conditional update none.
+#[test]
+fn updates_between_scans(rt: HostRuntime) -> Result<(), Fail> {
+    let sizes = Sizes::new(2, 4, 8, 64)?;
+    let (memory, mut first, _) = pair(rt.alloc(), sizes, &[10, 20])?;
+    between_scans(&rt, &memory, &mut first);
+    let closed = memory.close(rt.alloc(), first, Vec::new(rt.alloc()))?;
+    assert_chains(&rt, &closed);
     Ok(())
 }

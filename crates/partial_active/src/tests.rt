@@ -82,6 +82,36 @@ fn drive_for(
     Ok(steps)
 }
 
+// The steps have to be loads of these words.
+fn assert_loads(rt: &impl Abort, steps: &[Step], words: &[u32]) {
+    assert_eq!(rt; steps.len(), words.len());
+    for (step, word) in steps.iter().zip(words) {
+        assert_eq!(rt; *step, Step::Load(*word));
+    }
+}
+
+// The steps have to be loads of the slots and of the announcements that they name, and then the publishing of a
+// list of slots 1 to 3.
+fn assert_walk(rt: &impl Abort, steps: &[Step]) {
+    assert_eq!(rt; steps.len(), 17);
+    assert_loads(
+        rt,
+        &steps[..12],
+        &[3, 2, 6, 24, 25, 26, 7, 8, 27, 28, 29, 9],
+    );
+    assert_eq!(rt;
+        &steps[12..],
+        [
+            Step::Add(5, 3),
+            Step::Store(10, 1),
+            Step::Store(11, 1),
+            Step::Store(12, 1),
+            Step::Exchange(3, 0, 10)
+        ]
+        .as_slice()
+    );
+}
+
 #[test]
 fn walks_all_slots(rt: HostRuntime) -> Result<(), Fail> {
     let sizes = Sizes::new(2, 4, 8, 64)?;
@@ -103,20 +133,7 @@ fn walks_all_slots(rt: HostRuntime) -> Result<(), Fail> {
     let mut found = Found::new(rt.alloc(), sizes)?;
     let mut get = GetSet::new(sizes, false);
     let steps = drive(&rt, rt.alloc(), &mut words, &mut get, &mut found)?;
-    let loads = [3, 2, 6, 24, 25, 26, 7, 8, 27, 28, 29, 9].map(|word| Step::Load(word));
-    assert_eq!(rt; steps.len(), 17);
-    assert_eq!(rt; &steps[..12], loads.as_slice());
-    assert_eq!(rt;
-        &steps[12..],
-        [
-            Step::Add(5, 3),
-            Step::Store(10, 1),
-            Step::Store(11, 1),
-            Step::Store(12, 1),
-            Step::Exchange(3, 0, 10)
-        ]
-        .as_slice()
-    );
+    assert_walk(&rt, &steps);
     assert_eq!(rt; found.indices(), [1, 0].as_slice());
     assert!(rt; !get.lists_spent());
     Ok(())
@@ -194,8 +211,7 @@ fn vacated_list(rt: HostRuntime) -> Result<(), Fail> {
     let mut found = Found::new(rt.alloc(), sizes)?;
     let mut get = GetSet::new(sizes, false);
     let steps = drive(&rt, rt.alloc(), &mut words, &mut get, &mut found)?;
-    let loads = [3, 10, 11, 12, 2, 7, 24, 25].map(|word| Step::Load(word));
-    assert_eq!(rt; steps.as_slice(), loads.as_slice());
+    assert_loads(&rt, &steps, &[3, 10, 11, 12, 2, 7, 24, 25]);
     assert_eq!(rt; found.indices(), [0].as_slice());
     Ok(())
 }
@@ -245,8 +261,7 @@ fn lost_exchange_of_the_list_head(rt: HostRuntime) -> Result<(), Fail> {
     assert_eq!(rt; words.get(3).copied(), Some(13));
     let mut found = Found::new(rt.alloc(), sizes)?;
     let steps = drive_new(&rt, rt.alloc(), &mut words, sizes, &mut found)?;
-    let loads = [3, 13, 14, 15, 2].map(|word| Step::Load(word));
-    assert_eq!(rt; steps.as_slice(), loads.as_slice());
+    assert_loads(&rt, &steps, &[3, 13, 14, 15, 2]);
     Ok(())
 }
 
@@ -259,14 +274,13 @@ fn too_few_list_words(rt: HostRuntime) -> Result<(), Fail> {
     let mut found = Found::new(rt.alloc(), sizes)?;
     let mut get = GetSet::new(sizes, false);
     let steps = drive(&rt, rt.alloc(), &mut words, &mut get, &mut found)?;
-    let loads = [3, 2, 6].map(|word| Step::Load(word));
     assert_eq!(rt; steps.len(), 4);
-    assert_eq!(rt; &steps[..3], loads.as_slice());
+    assert_loads(&rt, &steps[..3], &[3, 2, 6]);
     assert_eq!(rt; steps[3], Step::Add(5, 3));
     assert!(rt; get.lists_spent());
     let mut marked = GetSet::new(sizes, get.lists_spent());
     let more = drive(&rt, rt.alloc(), &mut words, &mut marked, &mut found)?;
-    assert_eq!(rt; more.as_slice(), loads.as_slice());
+    assert_loads(&rt, &more, &[3, 2, 6]);
     assert!(rt; marked.lists_spent());
     Ok(())
 }

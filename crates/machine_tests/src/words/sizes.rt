@@ -6,16 +6,16 @@ use std::test::Fail;
 #[test]
 fn word_numbers(rt: HostRuntime) -> Result<(), Fail> {
     let sizes = Sizes::new(2, 4, 8, 64)?;
-    assert_eq!(rt; sizes.component_word(1), 1);
-    assert_eq!(rt; sizes.slot_counter(), 2);
-    assert_eq!(rt; sizes.list_head(), 3);
-    assert_eq!(rt; sizes.pool_counter(), 4);
-    assert_eq!(rt; sizes.list_counter(), 5);
-    assert_eq!(rt; sizes.slot_word(3), 9);
-    assert_eq!(rt; sizes.list_base(), 10);
-    assert_eq!(rt; sizes.list_end(), 18);
-    assert_eq!(rt; sizes.pool_base(), 18);
-    assert_eq!(rt; sizes.pool_end(), 82);
+    let counters = [
+        sizes.slot_counter(),
+        sizes.list_head(),
+        sizes.pool_counter(),
+        sizes.list_counter(),
+    ];
+    assert_eq!(rt; counters, [2, 3, 4, 5]);
+    assert_eq!(rt; (sizes.component_word(1), sizes.slot_word(3)), (1, 9));
+    assert_eq!(rt; (sizes.list_base(), sizes.list_end()), (10, 18));
+    assert_eq!(rt; (sizes.pool_base(), sizes.pool_end()), (18, 82));
     assert_eq!(rt; sizes.total(), 82);
     assert_eq!(rt; (sizes.initial_record(1), sizes.first_free()), (21, 24));
     Ok(())

@@ -3,7 +3,8 @@
 use super::{outcome_text, replayed};
 use partial_model::{Answer, Called, Finish, Note, check_outcome};
 use partial_replay::Outcome;
-use std::alloc::Global;
+use std::alloc::{AllocError, Global};
+use std::process::Abort;
 use std::test::Fail;
 
 /// How the call of a stopped port stands.
@@ -42,44 +43,68 @@ fn is_lawful(outcome: &Outcome) -> bool {
     check_outcome(&outcome.opening, &outcome.history, &outcome.calls)
 }
 
-/// The outcome of these calls when a port has so many turns between those before and those after.
-fn stopped(
-    alloc: Global,
-    ports: &str,
-    before: &str,
+/// Calls of ports, and a port that has some turns between those before and those behind.
+#[derive(Clone, Copy)]
+struct Stops<'a> {
+    ports: &'a str,
+    before: &'a str,
     port: u32,
+    behind: &'a str,
+}
+
+/// The text of the plan in which the port stops after so many turns.
+fn plan_of(alloc: Global, stops: &Stops<'_>, turns: u32) -> Result<String, AllocError> {
+    let Stops {
+        ports,
+        before,
+        port,
+        behind,
+    } = stops;
+    if turns == 0 {
+        return format!(in alloc; "sizes 2 4 8 64\ninitial 10 20\n{ports}steps {before}{behind}\n");
+    }
+    format!(in alloc;
+        "sizes 2 4 8 64\ninitial 10 20\n{ports}steps {before}{port}*{turns} {behind}\n"
+    )
+}
+
+/// Whether the port stands so after as many turns, and the update of the port behind it was applied in so many
+/// steps, with that stamp and place.
+fn judge(
+    rt: &impl Abort,
+    alloc: Global,
+    stops: &Stops<'_>,
     turns: u32,
-    behind: &str,
-) -> Result<Outcome, Fail> {
-    let stop = if turns == 0 {
-        String::new(alloc)
-    } else {
-        format!(in alloc; "{port}*{turns} ")?
-    };
-    let text = format!(in alloc;
-        "sizes 2 4 8 64\ninitial 10 20\n{ports}steps {before}{stop}{behind}\n"
-    )?;
-    replayed(alloc, text.as_bytes())
+    stands: Standing,
+    update: (u64, u64, usize),
+) -> Result<(), Fail> {
+    let text = plan_of(alloc, stops, turns)?;
+    let outcome = replayed(alloc, text.as_bytes())?;
+    let calls = outcome.calls.as_slice();
+    let given = applied(calls, stops.port.saturating_add(1));
+    assert_eq!(rt; given, Some(update), "{turns} turns");
+    assert_eq!(rt; standing_of(calls, stops.port), stands, "{turns} turns");
+    assert!(rt; is_lawful(&outcome), "{turns} turns");
+    Ok(())
 }
 
 #[test]
 fn scanner_stopped(rt: HostRuntime) -> Result<(), Fail> {
-    let ports = "port scan 0 1\nport update 0 7\n";
-    let rows = [
-        (0..=0, Standing::Unlisted, 8, 24),
-        (1..=4, Standing::Unfinished, 8, 27),
-        (5..=5, Standing::Unfinished, 9, 27),
-        (6..=12, Standing::Unfinished, 23, 27),
-        (13..=13, Standing::Finished, 14, 27),
-    ];
-    for (stops, stands, steps, stamp) in rows {
-        for turns in stops {
-            let outcome = stopped(rt.alloc(), ports, "", 0, turns, "1*23")?;
-            let given = applied(&outcome.calls, 1);
-            assert_eq!(rt; given, Some((steps, stamp, 0)), "{turns} turns");
-            assert_eq!(rt; standing_of(&outcome.calls, 0), stands, "{turns} turns");
-            assert!(rt; is_lawful(&outcome), "{turns} turns");
-        }
+    let stops = Stops {
+        ports: "port scan 0 1\nport update 0 7\n",
+        before: "",
+        port: 0,
+        behind: "1*23",
+    };
+    for turns in 0..14 {
+        let (stands, update) = match turns {
+            0 => (Standing::Unlisted, (8, 24, 0)),
+            1..=4 => (Standing::Unfinished, (8, 27, 0)),
+            5 => (Standing::Unfinished, (9, 27, 0)),
+            6..=12 => (Standing::Unfinished, (23, 27, 0)),
+            _ => (Standing::Finished, (14, 27, 0)),
+        };
+        judge(&rt, rt.alloc(), &stops, turns, stands, update)?;
     }
     Ok(())
 }
@@ -107,21 +132,20 @@ fn scanner_stopped_behind_its_scan(rt: HostRuntime) -> Result<(), Fail> {
 
 #[test]
 fn updater_stopped(rt: HostRuntime) -> Result<(), Fail> {
-    let ports = "port update 0 7\nport update 0 9\n";
-    let rows = [
-        (0..=0, Standing::Unlisted, 24, 0),
-        (1..=3, Standing::Unfinished, 24, 0),
-        (4..=7, Standing::Unfinished, 27, 0),
-        (8..=8, Standing::Finished, 27, 1),
-    ];
-    for (stops, stands, stamp, place) in rows {
-        for turns in stops {
-            let outcome = stopped(rt.alloc(), ports, "", 0, turns, "1*8")?;
-            let given = applied(&outcome.calls, 1);
-            assert_eq!(rt; given, Some((8, stamp, place)), "{turns} turns");
-            assert_eq!(rt; standing_of(&outcome.calls, 0), stands, "{turns} turns");
-            assert!(rt; is_lawful(&outcome), "{turns} turns");
-        }
+    let stops = Stops {
+        ports: "port update 0 7\nport update 0 9\n",
+        before: "",
+        port: 0,
+        behind: "1*8",
+    };
+    for turns in 0..9 {
+        let (stands, update) = match turns {
+            0 => (Standing::Unlisted, (8, 24, 0)),
+            1..=3 => (Standing::Unfinished, (8, 24, 0)),
+            4..=7 => (Standing::Unfinished, (8, 27, 0)),
+            _ => (Standing::Finished, (8, 27, 1)),
+        };
+        judge(&rt, rt.alloc(), &stops, turns, stands, update)?;
     }
     Ok(())
 }
@@ -129,22 +153,21 @@ fn updater_stopped(rt: HostRuntime) -> Result<(), Fail> {
 // The updater that stops has found a vacated slot, and publishes it in a list.
 #[test]
 fn publisher_stopped(rt: HostRuntime) -> Result<(), Fail> {
-    let ports = "port scan 0\nport update 0 7\nport update 1 9\n";
-    let rows = [
-        (0..=0, Standing::Unlisted, 14, 26, 0),
-        (1..=8, Standing::Unfinished, 14, 26, 0),
-        (9..=9, Standing::Unfinished, 11, 26, 0),
-        (10..=13, Standing::Unfinished, 11, 29, 0),
-        (14..=14, Standing::Finished, 11, 29, 1),
-    ];
-    for (stops, stands, steps, stamp, place) in rows {
-        for turns in stops {
-            let outcome = stopped(rt.alloc(), ports, "0*9 ", 1, turns, "2*14")?;
-            let given = applied(&outcome.calls, 2);
-            assert_eq!(rt; given, Some((steps, stamp, place)), "{turns} turns");
-            assert_eq!(rt; standing_of(&outcome.calls, 1), stands, "{turns} turns");
-            assert!(rt; is_lawful(&outcome), "{turns} turns");
-        }
+    let stops = Stops {
+        ports: "port scan 0\nport update 0 7\nport update 1 9\n",
+        before: "0*9 ",
+        port: 1,
+        behind: "2*14",
+    };
+    for turns in 0..15 {
+        let (stands, update) = match turns {
+            0 => (Standing::Unlisted, (14, 26, 0)),
+            1..=8 => (Standing::Unfinished, (14, 26, 0)),
+            9 => (Standing::Unfinished, (11, 26, 0)),
+            10..=13 => (Standing::Unfinished, (11, 29, 0)),
+            _ => (Standing::Finished, (11, 29, 1)),
+        };
+        judge(&rt, rt.alloc(), &stops, turns, stands, update)?;
     }
     Ok(())
 }
