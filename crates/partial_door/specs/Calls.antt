@@ -3,13 +3,12 @@ use Rattle.std.specs.Prelude.{ℕ, ◌≡◌, ◌⊎◌, ◌<◌, Bool, true, fa
 use Rattle.std.specs.Arc.{arc_value}
 use Rattle.partial_model.specs.declared.call.Call.TheVariants as call
 use Rattle.partial_model.specs.declared.call.Refused.{Refused}
-use Rattle.partial_memory.specs.declared.answers.Scanned.{Scanned}
 use Rattle.partial_memory.specs.declared.answers.Updated.{Updated}
 use Rattle.partial_memory.specs.declared.answers.Updated.TheVariants.{Applied, Lost}
 use Rattle.partial_memory.specs.declared.answers.UpdatedIf.{UpdatedIf}
 use Rattle.partial_memory.specs.declared.answers.UpdatedIf.TheVariants as conditional
 use Rattle.partial_memory.specs.Ports.{PortView, IsRefused, refusal}
-use Rattle.partial_memory.specs.Calls.{Updates, UpdatesIf, Reads, Scans}
+use Rattle.partial_memory.specs.Calls.{Scanned, Updates, UpdatesIf, Reads, Scans}
 use Rattle.partial_door.specs.declared.answers.UpdateAnswer.{UpdateAnswer}
 use Rattle.partial_door.specs.declared.answers.ReadAnswer.{ReadAnswer}
 use Rattle.partial_door.specs.declared.answers.ScanAnswer.{ScanAnswer}

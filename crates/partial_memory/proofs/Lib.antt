@@ -6,9 +6,6 @@ mod Resting
 mod Replies
 mod Reading
 mod Straight
-mod Parts
-mod Writing
-mod Announcing
 mod Opens
 mod Looks
 mod Meetings

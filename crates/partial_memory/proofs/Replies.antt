@@ -1,5 +1,5 @@
 -- What a call that has ended leaves of its port, by its reply.
-use Rattle.std.proofs.Common.{ℕ, ◌≡◌, ◌≤◌, ◌<◌, ◌+◌, ◌++◌, ◌||◌, false, cond, Option, Some, None, List, [], ◌∷◌, length, map, slice_index, refl, sym, ap, subst, ◌∙◌, arith}
+use Rattle.std.proofs.Common.{ℕ, ◌≡◌, ◌≤◌, ◌<◌, ◌+◌, ◌++◌, ◌||◌, false, cond, Option, Some, None, List, [], ◌∷◌, length, map, slice_index, refl, sym, ap, subst, ◌∙◌, arith, inr}
 use Rattle.std.specs.Prelude.{Result, Ok, Err, IfOk, IfErr}
 use Rattle.std.proofs.lemmas.Bool.{ne_eqb}
 use Rattle.atomic_table.specs.Seated.{TableId}
@@ -27,11 +27,13 @@ use Rattle.partial_core.specs.Steps.{AreNotesOf, IsNoteOf, IsPlacedAt, IsRefusal
 use Rattle.partial_core.proofs.Laws.{made_calls_make_their_steps}
 use Rattle.partial_words.specs.Layout.{Layout, IsLayout, greatest_record, pool_end}
 use Rattle.partial_memory.specs.declared.rule.About.{About}
+use Rattle.partial_lines.specs.declared.whole_scan.Scanned.{Scanned}
+use Rattle.partial_lines.specs.Replies.{scan_reply}
 use Rattle.partial_memory.specs.declared.answers.Updated.TheVariants as updated
 use Rattle.partial_memory.specs.declared.answers.UpdatedIf.TheVariants as conditional
 use Rattle.partial_memory.specs.Rule.{Seated, one_in}
 use Rattle.partial_memory.specs.Inner.Steps.{CallMade, Ended}
-use Rattle.partial_memory.specs.Ports.{PortView, port_view, refusal, IsResting, Knows, Goes, CountsSteps, Answered, IsPastEnd, RefusedLate, is_pool, is_slots}
+use Rattle.partial_memory.specs.Ports.{PortView, port_view, refusal, IsResting, Knows, Goes, CountsSteps, Answered, IsPastEnd, RefusedLate, IsRefused, is_pool, is_slots}
 use Rattle.partial_memory.specs.Led.{BeganAs, IsLed, IsLedTo, IsLedToRefusal, IsLedWhereLate, ScanIsLed, ScansLed}
 use Rattle.partial_memory.specs.Calls.{Updates, UpdatesIf, Reads, Scans}
 use Rattle.partial_memory.proofs.Resting.{CallBegins, call_begins, scan_begins}
@@ -342,6 +344,23 @@ scan_copied p q [] into machine rows k s some asked same is w = absurd (some ref
 scan_copied p q (j ∷ js) into machine rows k s some asked same is w =
     let values : into ≡ scanned_values machine = is ∙ ap (λ (r : RowsState). map (slice_index r.values) (j ∷ js)) same ∙ ap (map (slice_index machine.rows.values)) (sym asked) in
     subst (λ (l : List ℕ). Scans p (j ∷ js) l (record { collects = k; borrowed = s }) q × ScanIsLed p (j ∷ js) l (record { collects = k; borrowed = s }) q) (sym values) w
+
+-- what a scan that was not refused at once leaves, answered or refused
+pub record ScanLeaves (p q : PortView) (which into : List ℕ) (res : Result Scanned Refused) : Type 0 where
+  pub answered : IfOk res (λ s. Scans p which into s q)
+  pub led : IfOk res (λ s. ScansLed p which into s q)
+  pub refused : IfErr res (λ cause. IsRefused p (call.Scan which) cause q)
+  pub led_to_refusal : IfErr res (λ cause. IsLedWhereLate p q (call.Scan which) cause)
+
+pub scan_answered : (p q : PortView) (which into : List ℕ) (machine : CoreState) (rows : RowsState) (res : Result Scanned Refused) → (length which ≡ 0 → ⊥) →
+    machine.asked ≡ which → rows ≡ machine.rows →
+    IfOk res (λ _. into ≡ map (slice_index rows.values) which) → ((r : Reply) → scan_reply res ≡ r → ScanTold p which machine r q) → ScanLeaves p q which into res
+scan_answered p q which into machine rows (Ok s) some asked same copied told =
+    let w = scan_copied p q which into machine rows s.collects s.borrowed some asked same copied (told (reply.Scanned s.collects s.borrowed) refl) in
+    record { answered = w.0; led = w.1; refused = tt; led_to_refusal = tt }
+scan_answered p q which into machine rows (Err cause) some asked same copied told =
+    let w = told (reply.Refused cause) refl in
+    record { answered = tt; led = tt; refused = inr w.0; led_to_refusal = λ _. w.1 }
 
 -- a scan of no position
 pub scans_none : (p : PortView) (which into : List ℕ) (q : PortView) → which ≡ [] → into ≡ [] → q ≡ p → Scans p which into (record { collects = 0; borrowed = None }) q

@@ -1,8 +1,7 @@
 -- A port between two calls: how it begins one, and that it is between two again once that has ended.
-use Rattle.std.proofs.Common.{ℕ, ◌≡◌, ◌≤◌, ◌==◌, Bool, true, false, cond, Some, None, List, [], ◌∷◌, length, refl, sym, ap, subst, ◌∙◌}
-use Rattle.std.specs.Prelude.{is_some, nat_eq}
+use Rattle.std.proofs.Common.{ℕ, ◌≡◌, ◌≤◌, ◌==◌, true, false, cond, Some, None, List, [], ◌∷◌, length, refl, sym, ap, subst, ◌∙◌}
+use Rattle.std.specs.Prelude.{is_some}
 use Rattle.std.proofs.lemmas.Bool.{ne_eqb}
-use Rattle.std.specs.List.{IsDistinct}
 use Rattle.atomic_table.specs.Seated.{TableId}
 use Rattle.partial_model.specs.declared.call.Call.{Call}
 use Rattle.partial_model.specs.declared.call.Call.TheVariants as call
@@ -10,22 +9,18 @@ use Rattle.partial_model.specs.Refusals.{refusal_at_once}
 use Rattle.partial_words.specs.Layout.{Layout, IsLayout}
 use Rattle.partial_machine.specs.declared.stage.Reply.{Reply}
 use Rattle.partial_machine.specs.declared.stage.Reply.TheVariants as reply
-use Rattle.partial_active.specs.Found.{Buffers, IsFor as AreBuffersFor}
-use Rattle.partial_active.specs.GetSet.{GetSetState}
-use Rattle.partial_embedded.specs.Embedded.{RowsState, IsFor as AreRowsFor}
-use Rattle.partial_machine.specs.declared.stage.Stage.{Stage}
-use Rattle.partial_machine.specs.declared.stage.Stage.TheVariants.{Finished, Idle, ScanBegun}
+use Rattle.partial_machine.specs.declared.stage.Stage.TheVariants.{Finished, ScanBegun}
 use Rattle.partial_machine.specs.Lines.{asking, scan_asked}
-use Rattle.partial_machine.specs.Machine.{CoreState, at_stage, reply_of}
+use Rattle.partial_machine.specs.Machine.{CoreState, at_stage}
 use Rattle.partial_machine.specs.Calls.{IsServed, begin_scan, begun_of, call_of, makes_steps, refusal_of, scan_refusal}
-use Rattle.partial_machine.specs.Sound.{AreComponents, IsSound, is_sound_at}
-use Rattle.partial_machine.proofs.Laws.{calls_begin, rests_are_sound}
+use Rattle.partial_machine.specs.Sound.{IsSound}
+use Rattle.partial_machine.proofs.Laws.{calls_begin}
 use Rattle.partial_core.specs.Part.{IsMarkedLike, core_of, port_of}
 use Rattle.partial_core.specs.Steps.{Fits}
 use Rattle.partial_core.proofs.Laws.{calls_begin_between, ports_come_between}
 use Rattle.partial_memory.specs.declared.rule.About.{About}
 use Rattle.partial_memory.specs.Rule.{Seated, IsBadgeOfOne, AreByOpened, one_in}
-use Rattle.partial_memory.specs.Inner.Steps.{Begins, CallMade, Ended, ScanEnded}
+use Rattle.partial_memory.specs.Inner.Steps.{Begins, Ended}
 use Rattle.partial_memory.specs.Ports.{IsOf, IsResting, MemoryView, PortView, port_view, refusal}
 
 -- a call that a port begins
@@ -77,66 +72,6 @@ pub scan_begins : (views : List (List Seated)) (core : CoreState) (number : ℕ)
     (length which ≡ 0 → ⊥) →
     scan_refusal core which ≡ None → b ≡ begin_scan core which → CallBegins t (one_in views) b (call.Scan which)
 scan_begins views core number w t b which served some none is = call_begins views core number w t b (call.Scan which) served none (some_positions which some) is
-
--- A scan has ended that led to the machine c. The port goes on with the machine before it, but for the marks and the rows.
-pub scan_over : (s : CoreState) (which : List ℕ) (x : Seated) (r : Reply) (c : CoreState) (y : Seated) (core : CoreState) (p q : Bool) (rows : RowsState) → IsSound s → s.stage ≡ Idle →
-    CallMade (scan_asked s which) x c y → reply_of c ≡ Some r → core ≡ record s { pool_spent = p; slots_spent = q; rows = rows } →
-    IsMarkedLike c (record s { pool_spent = p; slots_spent = q; rows = rows }) → c.asked ≡ which → c.rows ≡ rows → ScanEnded s which x r core y
-scan_over s which x r c y core p q rows sound idle made replies is like asked same = record {
-  ended = record {
-    machine = c;
-    made = made;
-    replies = replies;
-    like = subst (IsMarkedLike c) (sym is) like;
-    idle = ap (λ (d : CoreState). d.stage) is ∙ idle;
-    sound =
-        let behind = made.made.sound in
-        subst IsSound (sym is) (record {
-          asked = sound.asked;
-          found = sound.found;
-          indices = sound.indices;
-          distinct = sound.distinct;
-          rows = subst (λ (l : RowsState). AreRowsFor s.sizes l) same (subst (λ (z : Layout). AreRowsFor z c.rows) (sym like.sizes) behind.rows);
-          stage = subst (λ (t : Stage). is_sound_at (record s { pool_spent = p; slots_spent = q; rows = rows }) t) (sym idle) tt;
-        });
-  };
-  asked = asked;
-  rows = ap (λ (d : CoreState). d.rows) is ∙ sym same;
-}
-
--- An update has ended behind the machine m. The port goes on with the machine before it, but for the marks and what m had found.
-pub update_over : (b : CoreState) (x : Seated) (r : Reply) (c : CoreState) (y : Seated) (s m core : CoreState) (p : Bool) (g : GetSetState) (f : Buffers) → IsSound s → s.stage ≡ Idle → IsSound m →
-    m.sizes ≡ s.sizes → m.found ≡ f → CallMade b x c y → reply_of c ≡ Some r → IsMarkedLike c core → core ≡ record s { pool_spent = p; get_set = g; found = f } → Ended b x r core y
-update_over b x r c y s m core p g f sound idle known sizes found made replies like is = record {
-  machine = c;
-  made = made;
-  replies = replies;
-  like = like;
-  idle = ap (λ (d : CoreState). d.stage) is ∙ idle;
-  sound =
-      let buffers : AreBuffersFor s.sizes m.found = subst (λ (z : Layout). AreBuffersFor z m.found) sizes known.found in
-      let indices : AreComponents s.sizes m.found.indices = subst (λ (z : Layout). AreComponents z m.found.indices) sizes known.indices in
-      subst IsSound (sym is) (record {
-        asked = sound.asked;
-        found = subst (AreBuffersFor s.sizes) found buffers;
-        indices = subst (λ (l : Buffers). AreComponents s.sizes l.indices) found indices;
-        distinct = subst (λ (l : Buffers). IsDistinct nat_eq l.indices) found known.distinct;
-        rows = sound.rows;
-        stage = subst (λ (t : Stage). is_sound_at (record s { pool_spent = p; get_set = g; found = f }) t) (sym idle) tt;
-      });
-}
-
--- a call has ended, and the port goes on with its machine
-pub ended_there : (b : CoreState) (x : Seated) (r : Reply) (c : CoreState) (y : Seated) (core : CoreState) → CallMade b x c y → reply_of c ≡ Some r → core ≡ at_stage c Idle →
-    Ended b x r core y
-ended_there b x r c y core made replies is = record {
-  machine = c;
-  made = made;
-  replies = replies;
-  like = subst (IsMarkedLike c) (sym is) (record { sizes = refl; port = refl; pool = refl; slots = refl; lists = refl });
-  idle = ap (λ (d : CoreState). d.stage) is;
-  sound = subst IsSound (sym is) (rests_are_sound.idle c made.made.sound);
-}
 
 -- a call has ended, and its port is between calls
 pub rests : (views : List (List Seated)) (b : CoreState) (x : Seated) (r : Reply) (core : CoreState) (number : ℕ) → IsBadgeOfOne views → Begins b x →

@@ -7,7 +7,6 @@ use Rattle.partial_words.specs.Layout.{total}
 use Rattle.partial_words.specs.Step.{word_of}
 use Rattle.partial_machine.specs.Machine.{CoreState, advance, step_of}
 use Rattle.partial_machine.specs.Possible.{IsPossible}
-use Rattle.partial_machine.specs.Sound.{IsSound}
 use Rattle.partial_core.specs.Part.{IsMachineOf, core_of}
 use Rattle.partial_memory.specs.declared.rule.About.{About}
 use Rattle.partial_memory.specs.Rule.{Seated, IsKept, IsOne, Told, makes, one_of}
@@ -36,10 +35,6 @@ module _ (x : Seated) (under : IsUnderWay x) (s : Step) (due : step_of (core_of 
 
     pub next_under : IsUnderWay y
     next_under = (under.0, under.1, under.2, next_leads under.0 under.1 under.2 under.3)
-
--- the machine of a call under way is sound
-pub going_sound : {S : Type 0} (table : TableId) (about : About) (here : TableId) (me : Me S (List Seated)) → IsGoing table about here me → IsSound (machine_of me)
-going_sound {S} table about here me w = let m = w.under.3 in m.made.sound
 
 -- a further step is allowed, and leaves its seat going
 module _ {S : Type 0} (table : TableId) (about : About) (here : TableId) (me : Me S (List Seated)) (w : IsGoing table about here me) (s : Step) (due : step_of (machine_of me) ≡ Some s) where

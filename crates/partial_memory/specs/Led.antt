@@ -18,7 +18,7 @@ use Rattle.partial_machine.specs.Sound.{IsSound}
 use Rattle.partial_machine.specs.Steps.{Run, AreOfScan, pairs_loaded}
 use Rattle.partial_core.specs.Part.{answers_of}
 use Rattle.partial_core.specs.Calls.{IsRefusedLast}
-use Rattle.partial_memory.specs.declared.answers.Scanned.{Scanned}
+use Rattle.partial_lines.specs.declared.whole_scan.Scanned.{Scanned}
 use Rattle.partial_memory.specs.Ports.{PortView, refusal}
 
 -- The machine with which the port p began a call: of the port's memory, with its number and its marks, sound, and with that call.

@@ -7,7 +7,7 @@ use Rattle.partial_model.specs.declared.call.Answer.TheVariants as answer
 use Rattle.partial_model.specs.declared.call.Note.{Note}
 use Rattle.partial_model.specs.declared.call.Refused.{Refused}
 use Rattle.partial_model.specs.Notes.{Noted}
-use Rattle.partial_memory.specs.declared.answers.Scanned.{Scanned}
+use Rattle.partial_lines.specs.declared.whole_scan.Scanned.{Scanned}
 use Rattle.partial_memory.specs.declared.answers.Updated.{Updated}
 use Rattle.partial_memory.specs.declared.answers.Updated.TheVariants.{Applied, Lost}
 use Rattle.partial_memory.specs.declared.answers.UpdatedIf.{UpdatedIf}

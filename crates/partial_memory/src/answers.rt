@@ -17,12 +17,3 @@ pub enum UpdatedIf {
     /// It had no effect: the component had this stamp, which is not the expected one.
     Changed { by: u64 },
 }
-
-/// How a scan was made.
-#[derive(Clone, Copy, Debug, PartialEq, Eq)]
-pub struct Scanned {
-    /// How many collects it made: 0 for a scan of no position, otherwise 2 to r + 2 for r positions.
-    pub collects: u32,
-    /// The stamp of the update whose view the scan took, if it was helped.
-    pub borrowed: Option<u64>,
-}

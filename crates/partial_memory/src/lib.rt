@@ -4,9 +4,7 @@
 
 mod answers;
 mod closed;
-mod embedded;
 mod error;
-mod get_set;
 pub mod law;
 mod lines;
 mod memory;
@@ -15,7 +13,7 @@ mod rule;
 mod scan;
 mod update;
 
-pub use answers::{Scanned, Updated, UpdatedIf};
+pub use answers::{Updated, UpdatedIf};
 pub use closed::Closed;
 pub use error::{CloseError, OpenError};
 pub use law::{
@@ -23,6 +21,7 @@ pub use law::{
     led_calls_claim_once, opened_ports_are_all, refusals_at_once_fit,
 };
 pub use memory::Memory;
+pub use partial_lines::Scanned;
 pub use partial_words::Link;
 pub use port::Port;
 pub use rule::About;

@@ -10,11 +10,49 @@ ghost use Rattle.partial_machine.specs.Machine.{advance, at_stage, step_of};
 ghost use Rattle.partial_machine.specs.Possible.{IsPossible};
 ghost use Rattle.partial_memory.specs.Rule.{IsOne, one_of};
 ghost use Rattle.partial_memory.specs.Inner.Steps.{Begins, CallMade};
-ghost use Rattle.partial_memory.specs.Inner.Lines.{IsGoing, Leads, machine_of};
+ghost use Rattle.std.proofs.Common.{refl, ◌∙◌};
+ghost use Rattle.partial_memory.specs.Inner.Lines.{IsGoing, Leads, leads_itself, leads_on, machine_of};
 
-use crate::rule::{GoesOn, Makes, Moment, Place, PutsOn, Words};
+use crate::rule::{GoesOn, MachineStep, Moment, Place, PutsOn, Words};
 use partial_core::{Change, Core};
+use partial_lines::Makes;
 use partial_words::{Step, announcement_size};
+
+/// The steps of the call of a seat's port, made on the shared words.
+#[derive(Drop)]
+pub struct SeatLines<'a> {
+    /// The words that all threads share.
+    pub words: &'a Words,
+    /// The seat of the port.
+    pub seat: Place,
+}
+
+impl<'a> Makes for SeatLines<'a> {
+    ghost goes = { λ l. IsGoing l.words.now.table_id l.words.now.key l.seat.table_id l.seat.me };
+
+    ghost machine = { λ l. machine_of l.seat.me };
+
+    ghost leads = { λ l k. (k.words ≡ l.words) × Leads (one_of l.seat.me.0) (one_of k.seat.me.0) };
+
+    #[inline(always)]
+    fn make(&mut self, step: Step) -> u64 {
+        make(self.words, &mut self.seat, step)
+    }
+
+    #[inline(always)]
+    fn load(&mut self, word: u64) -> u64 {
+        make_load(self.words, &mut self.seat, word)
+    }
+
+    ghost sound = { λ l w. let m = w.under.3 in m.made.sound };
+
+    ghost leads_itself = { λ l. (refl, leads_itself (one_of l.seat.me.0)) };
+
+    ghost leads_on = { λ l k j f g. (
+      g.0 ∙ f.0,
+      leads_on (one_of l.seat.me.0) (one_of k.seat.me.0) (one_of j.seat.me.0) f.1 g.1,
+    ) };
+}
 
 /// Makes the first step of an update, the load of its component word, and returns the answer. `G` is the
 /// machine that begins the update.
@@ -32,7 +70,7 @@ pub fn begin_update<G: Moment>(words: &Words, seat: &mut Place, core: &Core, cha
     ensures possible { IsPossible G.core result }
 {
     let word = core.sizes().component_word(change.component);
-    words.load::<Makes<G>>(seat, word as usize)
+    words.load::<MachineStep<G>>(seat, word as usize)
 }
 
 /// Makes the first step of a scan of these positions, the claim of its announcement, and returns the
@@ -52,7 +90,7 @@ pub fn begin_scan<G: Moment>(words: &Words, seat: &mut Place, core: &Core, which
 {
     let word = core.sizes().pool_counter();
     let size = announcement_size(which.len() as u64);
-    words.fetch_add::<Makes<G>>(seat, word as usize, size)
+    words.fetch_add::<MachineStep<G>>(seat, word as usize, size)
 }
 
 /// Makes the step that is due in the call of the seat's port, and returns its answer.

@@ -16,7 +16,7 @@ ghost use Rattle.partial_memory.specs.Closing.{Closes};
 ghost use Rattle.partial_memory.specs.Reopening.{ContinuesAll, MayNotReopen, extended};
 ghost use Rattle.std.specs.List.{AllByRecursion};
 
-use crate::answers::{Scanned, Updated, UpdatedIf};
+use crate::answers::{Updated, UpdatedIf};
 use crate::closed::{Closed, closed_of};
 use crate::error::{CloseError, OpenError};
 use crate::port::{Port, take_seat};
@@ -24,7 +24,8 @@ use crate::rule::{About, BeginsRead, Deals, Gathers, GoesOn, Lawful, Looks, Plac
 use crate::scan::scan;
 use crate::update::update;
 use atomic_table::Table;
-use partial_core::{Change, Core, Reply};
+use partial_core::{Change, Core};
+use partial_lines::{Exchanged, Scanned};
 use partial_model::{Opening, Refused, Sequence};
 use partial_words::{Sizes, value_word};
 use std::alloc::{AllocError, Global};
@@ -178,10 +179,9 @@ impl Memory {
             value,
         };
         match update(&self.table.shared, &mut me.badge, &mut me.core, change) {
-            Reply::Applied { stamp } => Ok(Updated::Applied { stamp }),
-            Reply::Lost { by } => Ok(Updated::Lost { by }),
-            Reply::Refused(cause) => Err(cause),
-            Reply::Scanned { .. } | Reply::Read { .. } | Reply::Changed { .. } => unreachable!(),
+            Ok(Exchanged::Applied { stamp }) => Ok(Updated::Applied { stamp }),
+            Ok(Exchanged::Overtaken { by }) => Ok(Updated::Lost { by }),
+            Err(cause) => Err(cause),
         }
     }
 
@@ -214,10 +214,9 @@ impl Memory {
             value,
         };
         match update(&self.table.shared, &mut me.badge, &mut me.core, conditional) {
-            Reply::Applied { stamp } => Ok(UpdatedIf::Applied { stamp }),
-            Reply::Changed { by } => Ok(UpdatedIf::Changed { by }),
-            Reply::Refused(cause) => Err(cause),
-            Reply::Scanned { .. } | Reply::Read { .. } | Reply::Lost { .. } => unreachable!(),
+            Ok(Exchanged::Applied { stamp }) => Ok(UpdatedIf::Applied { stamp }),
+            Ok(Exchanged::Overtaken { by }) => Ok(UpdatedIf::Changed { by }),
+            Err(cause) => Err(cause),
         }
     }
 
@@ -270,12 +269,7 @@ impl Memory {
             });
         }
         me.core.may_scan(which)?;
-        match scan(&self.table.shared, &mut me.badge, &mut me.core, which, into) {
-            Reply::Scanned { collects, borrowed } => Ok(Scanned { collects, borrowed }),
-            Reply::Refused(cause) => Err(cause),
-            Reply::Applied { .. } | Reply::Lost { .. } => unreachable!(),
-            Reply::Read { .. } | Reply::Changed { .. } => unreachable!(),
-        }
+        scan(&self.table.shared, &mut me.badge, &mut me.core, which, into)
     }
 
     /// Merges what two ports have observed. Takes three atomic steps.

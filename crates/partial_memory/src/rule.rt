@@ -62,11 +62,11 @@ impl Moment for Brand {
 }
 
 /// A step of the machine `G`. It is answered with the number that the word had.
-pub struct Makes<G> {
+pub struct MachineStep<G> {
     moment: PhantomData<G>,
 }
 
-impl<G: Moment> Play<(), View> for Makes<G> {
+impl<G: Moment> Play<(), View> for MachineStep<G> {
     ghost use Rattle.partial_memory.specs.Rule.{makes};
 
     ghost then = { λ _. makes G.core };

@@ -17,8 +17,7 @@ use Rattle.partial_model.proofs.AllLemmas.{all_append, all_weaker}
 use Rattle.partial_model.proofs.WalkLaws.{true_within}
 use Rattle.partial_memory.specs.declared.answers.Updated.{Updated}
 use Rattle.partial_memory.specs.declared.answers.Updated.TheVariants.{Applied as IsApplied, Lost}
-use Rattle.partial_memory.specs.declared.answers.Scanned.{Scanned}
-use Rattle.partial_memory.specs.Calls.{Updates, Reads, Scans, Meets}
+use Rattle.partial_memory.specs.Calls.{Scanned, Updates, Reads, Scans, Meets}
 use Rattle.partial_memory.specs.Noting.{NotesMore}
 use Rattle.partial_memory.specs.Ports.{IsOf, IsRefused, MemoryView, PortView}
 use Rattle.partial_memory.proofs.Laws.{calls_note_once}

@@ -14,9 +14,8 @@ use Rattle.partial_model.specs.declared.call.Note.TheVariants as note
 use Rattle.partial_model.specs.declared.call.Refused.{Refused}
 use Rattle.partial_model.specs.declared.call.Refused.TheVariants as refused
 use Rattle.partial_model.specs.Notes.{Noted, MayBeRefused, NamesComponents, indices_of, seen_after, seen_by}
-use Rattle.partial_memory.specs.declared.answers.Scanned.{Scanned}
 use Rattle.partial_memory.specs.Ports.{IsOf, MemoryView, PortView, Answered, IsRefused}
-use Rattle.partial_memory.specs.Calls.{Scans}
+use Rattle.partial_memory.specs.Calls.{Scanned, Scans}
 use Rattle.partial_memory.proofs.Laws.{refusals_at_once_fit}
 use Rattle.partial_workers.specs.declared.end.Until.{Until}
 use Rattle.partial_workers.specs.declared.end.Until.TheVariants.{Made, Spent}

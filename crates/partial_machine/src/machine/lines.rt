@@ -3,8 +3,8 @@
 //! with its slot, and the machines of a getSet and of an embedded scan. The port's machine stays
 //! idle. It keeps the marks, what was found and the rows.
 
-ghost use Rattle.std.specs.Prelude.{◌≡◌, ◌==◌, length, map, slice_index, Some, None, true, OnOk, IfErr};
-ghost use Rattle.partial_active.specs.GetSet.{step_of};
+ghost use Rattle.std.specs.Prelude.{◌≡◌, ◌==◌, length, map, slice_index, Some, None, true, false, OnOk, IfErr};
+ghost use Rattle.partial_active.specs.GetSet.{fresh as unmarked, step_of};
 ghost use Rattle.partial_embedded.specs.Embedded.{GoTogether, fresh};
 ghost use Rattle.partial_embedded.specs.declared.embedded.Stage.TheVariants.{Done};
 ghost use Rattle.partial_machine.specs.declared.stage.Stage.TheVariants.{Idle};
@@ -196,5 +196,15 @@ impl Core {
         ensures { self.new ≡ record self.old { pool_spent = true } }
     {
         self.pool_spent = true;
+    }
+
+    /// Takes all marks off the port. It has come to words where it has made no claim.
+    pub fn clear_marks(&mut self)
+        requires { self.old.stage ≡ Idle }
+        ensures { self.new ≡ record self.old { pool_spent = false; slots_spent = false; get_set = unmarked self.old.sizes false } }
+    {
+        self.pool_spent = false;
+        self.slots_spent = false;
+        self.get_set = GetSet::new(self.sizes, false);
     }
 }

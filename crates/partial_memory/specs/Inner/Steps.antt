@@ -2,7 +2,6 @@
 use Rattle.std.specs.Prelude.{ℕ, ◌≡◌, ◌+◌, ◌||◌, List, length, Some}
 use Rattle.partial_words.specs.Layout.{IsLayout}
 use Rattle.partial_machine.specs.declared.stage.Reply.{Reply}
-use Rattle.partial_machine.specs.declared.stage.Reply.TheVariants as reply
 use Rattle.partial_machine.specs.declared.stage.Stage.TheVariants.{Idle}
 use Rattle.partial_machine.specs.Lines.{scan_asked}
 use Rattle.partial_machine.specs.Machine.{CoreState, reply_of}
@@ -43,8 +42,3 @@ pub record ScanEnded (before : CoreState) (which : List ℕ) (x : Seated) (r : R
   pub ended : Ended (scan_asked before which) x r core y
   pub asked : ended.machine.asked ≡ which
   pub rows : core.rows ≡ ended.machine.rows
-
--- what a caller's room has behind a scan with that reply: the values scanned, or what was there before
-abbrev pub values_behind : Reply → List ℕ → List ℕ → List ℕ
-values_behind (reply.Scanned collects borrowed) scanned before = scanned
-values_behind _ scanned before = before

@@ -1,16 +1,12 @@
-use Rattle.std.proofs.Common.{rules, ◌≡◌, ◌≤◌, refl, sym, ap, ◌∙◌, subst, length, map, Some, inl, inr}
-use Rattle.std.specs.Prelude.{slice_index}
+use Rattle.std.proofs.Common.{rules, ◌≡◌, ◌≤◌, refl, sym, ap, ◌∙◌, subst, length, Some, inl}
 use Rattle.std.proofs.lemmas.Result.{err_from_is_err_and}
 use Rattle.partial_model.specs.declared.call.Call.TheVariants as call
 use Rattle.partial_words.specs.Layout.{Layout}
-use Rattle.partial_machine.specs.declared.stage.Reply.TheVariants as reply
 use Rattle.partial_memory.specs.Ports.{PortView, refusal}
 use Rattle.partial_memory.specs.Rule.{one_in}
-use Rattle.partial_memory.specs.Inner.Steps.{values_behind}
 use Rattle.partial_memory.proofs.Resting.{asked_begins, refusal_here, rests, scan_begins, same_memory}
-use Rattle.partial_memory.proofs.Replies.{scan_ended, scan_copied, at_once, ok_ok, err_ok, err_err, ok_err}
+use Rattle.partial_memory.proofs.Replies.{scan_ended, scan_answered, at_once, err_err}
 use Rattle.partial_memory.proofs.memory.Memory.scan.Goals as goal
-use Rattle.partial_memory.proofs.memory.Memory.scan.Goals.{in-Scanned, in-Refused}
 
 pub scan-requires : goal.scan-requires
 scan-requires c =
@@ -37,24 +33,6 @@ invariant_of-me c =
     let begins = scan_begins _ _ _ c.me.invariant c.me.inside.badge.table_id _ _ few some c.in_ok-may_scan.ensures.ok (asked_begins c.me.inside.core _ some) in
     rests _ _ _ _ _ _ c.scan.ensures.one begins.begins c.scan.ensures.ended.ended c.me.invariant.number
 
-pub unreachable-requires : goal.unreachable-requires
-unreachable-requires c =
-    let some : length c.args.which.now ≡ 0 → ⊥ = search rules in
-    let sizes : c.me.inside.core.sizes ≡ c.args.self.now.about.sizes = search rules in
-    let few : length c.args.which.now ≤ c.me.inside.core.sizes.m = subst (λ (z : Layout). length c.args.which.now ≤ z.m) (sym sizes) c.requires.lengths.1 in
-    let ok = c.in_ok-may_scan.ensures.ok in
-    let told = scan_ended _ _ _ c.me.invariant _ _ c.scan.ensures.table _ c.me.view_is _ _ _ _ c.scan.ensures.ended.ended _ few some ok (asked_begins c.me.inside.core _ some) in
-    elim c.in-Applied.is [ inl w ↦ told (reply.Applied _) w.1 | inr w ↦ told (reply.Lost _) w.1 ]
-
-pub unreachable-requires-in-Read : goal.unreachable-requires-in-Read
-unreachable-requires-in-Read c =
-    let some : length c.args.which.now ≡ 0 → ⊥ = search rules in
-    let sizes : c.me.inside.core.sizes ≡ c.args.self.now.about.sizes = search rules in
-    let few : length c.args.which.now ≤ c.me.inside.core.sizes.m = subst (λ (z : Layout). length c.args.which.now ≤ z.m) (sym sizes) c.requires.lengths.1 in
-    let ok = c.in_ok-may_scan.ensures.ok in
-    let told = scan_ended _ _ _ c.me.invariant _ _ c.scan.ensures.table _ c.me.view_is _ _ _ _ c.scan.ensures.ended.ended _ few some ok (asked_begins c.me.inside.core _ some) in
-    elim c.in-Read.is [ inl w ↦ told (reply.Read _ _) w.2 | inr w ↦ told (reply.Changed _) w.1 ]
-
 pub returns-clause-answered : goal.returns-clause-answered
 returns-clause-answered c =
     let some : length c.args.which.now ≡ 0 → ⊥ = search rules in
@@ -63,11 +41,7 @@ returns-clause-answered c =
     let ok = c.in_ok-may_scan.ensures.ok in
     let told = scan_ended _ _ _ c.me.invariant _ _ c.scan.ensures.table _ c.me.view_is _ _ _ _ c.scan.ensures.ended.ended _ few some ok (asked_begins c.me.inside.core _ some) in
     let ended = c.scan.ensures.ended in
-    elim c.match-scan.branch [
-      | in-Scanned w ↦ ok_ok _ _ _ w.result-is (scan_copied _ _ _ _ ended.ended.machine _ _ _ some ended.asked ended.rows (c.scan.ensures.into ∙ ap (λ r. values_behind r (map (slice_index c.scan.new.core.rows.values) c.args.which.now) c.args.into.now) w.in-Scanned.is)
-          (told (reply.Scanned _ _) w.in-Scanned.is)).0
-      | in-Refused w ↦ err_ok _ _ _ w.result-is
-    ]
+    (scan_answered _ _ _ _ ended.ended.machine _ c.scan.result some ended.asked ended.rows c.scan.ensures.copied told).answered
 
 pub returns-clause-led : goal.returns-clause-led
 returns-clause-led c =
@@ -77,11 +51,7 @@ returns-clause-led c =
     let ok = c.in_ok-may_scan.ensures.ok in
     let told = scan_ended _ _ _ c.me.invariant _ _ c.scan.ensures.table _ c.me.view_is _ _ _ _ c.scan.ensures.ended.ended _ few some ok (asked_begins c.me.inside.core _ some) in
     let ended = c.scan.ensures.ended in
-    elim c.match-scan.branch [
-      | in-Scanned w ↦ ok_ok _ _ _ w.result-is (scan_copied _ _ _ _ ended.ended.machine _ _ _ some ended.asked ended.rows (c.scan.ensures.into ∙ ap (λ r. values_behind r (map (slice_index c.scan.new.core.rows.values) c.args.which.now) c.args.into.now) w.in-Scanned.is)
-          (told (reply.Scanned _ _) w.in-Scanned.is)).1
-      | in-Refused w ↦ err_ok _ _ _ w.result-is
-    ]
+    (scan_answered _ _ _ _ ended.ended.machine _ c.scan.result some ended.asked ended.rows c.scan.ensures.copied told).led
 
 pub returns-clause-refused : goal.returns-clause-refused
 returns-clause-refused c =
@@ -90,10 +60,8 @@ returns-clause-refused c =
     let few : length c.args.which.now ≤ c.me.inside.core.sizes.m = subst (λ (z : Layout). length c.args.which.now ≤ z.m) (sym sizes) c.requires.lengths.1 in
     let ok = c.in_ok-may_scan.ensures.ok in
     let told = scan_ended _ _ _ c.me.invariant _ _ c.scan.ensures.table _ c.me.view_is _ _ _ _ c.scan.ensures.ended.ended _ few some ok (asked_begins c.me.inside.core _ some) in
-    elim c.match-scan.branch [
-      | in-Scanned w ↦ ok_err _ _ _ w.result-is
-      | in-Refused w ↦ err_err _ _ _ w.result-is (inr (told (reply.Refused _) w.in-Refused.is).0)
-    ]
+    let ended = c.scan.ensures.ended in
+    (scan_answered _ _ _ _ ended.ended.machine _ c.scan.result some ended.asked ended.rows c.scan.ensures.copied told).refused
 
 pub returns-clause-led_to_refusal : goal.returns-clause-led_to_refusal
 returns-clause-led_to_refusal c =
@@ -102,18 +70,8 @@ returns-clause-led_to_refusal c =
     let few : length c.args.which.now ≤ c.me.inside.core.sizes.m = subst (λ (z : Layout). length c.args.which.now ≤ z.m) (sym sizes) c.requires.lengths.1 in
     let ok = c.in_ok-may_scan.ensures.ok in
     let told = scan_ended _ _ _ c.me.invariant _ _ c.scan.ensures.table _ c.me.view_is _ _ _ _ c.scan.ensures.ended.ended _ few some ok (asked_begins c.me.inside.core _ some) in
-    elim c.match-scan.branch [
-      | in-Scanned w ↦ ok_err _ _ _ w.result-is
-      | in-Refused w ↦ err_err _ _ _ w.result-is (λ _. (told (reply.Refused _) w.in-Refused.is).1)
-    ]
-
-pub returns-clause-unchanged : goal.returns-clause-unchanged
-returns-clause-unchanged c =
-    elim c.match-scan.branch [
-      | in-Scanned w ↦ ok_err _ _ _ w.result-is
-      | in-Refused w ↦ err_err _ _ _ w.result-is
-          (c.scan.ensures.into ∙ ap (λ r. values_behind r (map (slice_index c.scan.new.core.rows.values) c.args.which.now) c.args.into.now) w.in-Refused.is)
-    ]
+    let ended = c.scan.ensures.ended in
+    (scan_answered _ _ _ _ ended.ended.machine _ c.scan.result some ended.asked ended.rows c.scan.ensures.copied told).led_to_refusal
 
 pub returns-clause-same : goal.returns-clause-same
 returns-clause-same c = same_memory _ _ (one_in c.me.inside.badge.views) (one_in c.scan.new.badge.views) _ _ c.me.view_is c.requires.own c.scan.ensures.table c.scan.ensures.ended.ended.made.about

@@ -1,13 +1,15 @@
-use Rattle.std.proofs.Common.{rules, ◌≡◌, refl, sym, ap, ◌∙◌, Some, inl, inr}
+use Rattle.std.proofs.Common.{rules, ◌≡◌, refl, sym, ap, ◌∙◌, Some, Ok, inl, inr}
 use Rattle.std.proofs.lemmas.Result.{err_from_is_err_and}
 use Rattle.partial_model.specs.declared.call.Call.TheVariants as call
+use Rattle.partial_machine.specs.declared.stage.Change.{Change}
 use Rattle.partial_machine.specs.declared.stage.Reply.TheVariants as reply
+use Rattle.partial_lines.specs.Replies.{update_reply}
 use Rattle.partial_memory.specs.Ports.{PortView, refusal}
 use Rattle.partial_memory.specs.Rule.{one_in}
 use Rattle.partial_memory.proofs.Resting.{call_begins, refusal_here, rests, same_memory}
 use Rattle.partial_memory.proofs.Replies.{update_if_ended, at_once, ok_ok, err_ok, err_err, ok_err}
 use Rattle.partial_memory.proofs.memory.Memory.update_if.Goals as goal
-use Rattle.partial_memory.proofs.memory.Memory.update_if.Goals.{in-Applied, in-Changed, in-Refused}
+use Rattle.partial_memory.proofs.memory.Memory.update_if.Goals.{in-Ok-Applied, in-Ok-Overtaken, in-Err}
 
 pub update-requires : goal.update-requires
 update-requires c =
@@ -22,50 +24,48 @@ invariant_of-me c =
     let begins = call_begins _ _ _ c.me.invariant c.me.inside.badge.table_id _ (call.UpdateIf c.args.component c.args.expected c.args.value) tt ok refl refl in
     rests _ _ _ _ _ _ c.update.ensures.one begins.begins c.update.ensures.ended c.me.invariant.number
 
-pub unreachable-requires : goal.unreachable-requires
-unreachable-requires c =
-    let ok = c.in_ok-may_update.ensures.ok in
-    let told = update_if_ended _ _ _ c.me.invariant _ _ c.update.ensures.table _ c.me.view_is _ _ _ _ c.update.ensures.ended c.args.component c.args.expected c.args.value ok refl in
-    elim c.in-Scanned.is [ inl w ↦ told (reply.Scanned _ _) w.2 | inr w ↦ elim w [ inl v ↦ told (reply.Read _ _) v.2 | inr v ↦ told (reply.Lost _) v.1 ] ]
-
 pub returns-clause-answered : goal.returns-clause-answered
 returns-clause-answered c =
     let ok = c.in_ok-may_update.ensures.ok in
     let told = update_if_ended _ _ _ c.me.invariant _ _ c.update.ensures.table _ c.me.view_is _ _ _ _ c.update.ensures.ended c.args.component c.args.expected c.args.value ok refl in
+    let change : Change = record { component = c.args.component; expected = Some c.args.expected; value = c.args.value } in
     elim c.match-update.branch [
-      | in-Applied w ↦ ok_ok _ _ _ w.result-is (told (reply.Applied _) w.in-Applied.is).0
-      | in-Changed w ↦ ok_ok _ _ _ w.result-is (told (reply.Changed _) w.in-Changed.is).0
-      | in-Refused w ↦ err_ok _ _ _ w.result-is
+      | in-Ok-Applied w ↦ ok_ok _ _ _ w.result-is (told (reply.Applied _) (ap (update_reply change) (w.in-Ok-Applied.is ∙ ap Ok w.in-Ok-Applied.field-0-is))).0
+      | in-Ok-Overtaken w ↦ ok_ok _ _ _ w.result-is (told (reply.Changed _) (ap (update_reply change) (w.in-Ok-Overtaken.is ∙ ap Ok w.in-Ok-Overtaken.field-0-is))).0
+      | in-Err w ↦ err_ok _ _ _ w.result-is
     ]
 
 pub returns-clause-led : goal.returns-clause-led
 returns-clause-led c =
     let ok = c.in_ok-may_update.ensures.ok in
     let told = update_if_ended _ _ _ c.me.invariant _ _ c.update.ensures.table _ c.me.view_is _ _ _ _ c.update.ensures.ended c.args.component c.args.expected c.args.value ok refl in
+    let change : Change = record { component = c.args.component; expected = Some c.args.expected; value = c.args.value } in
     elim c.match-update.branch [
-      | in-Applied w ↦ ok_ok _ _ _ w.result-is (told (reply.Applied _) w.in-Applied.is).1
-      | in-Changed w ↦ ok_ok _ _ _ w.result-is (told (reply.Changed _) w.in-Changed.is).1
-      | in-Refused w ↦ err_ok _ _ _ w.result-is
+      | in-Ok-Applied w ↦ ok_ok _ _ _ w.result-is (told (reply.Applied _) (ap (update_reply change) (w.in-Ok-Applied.is ∙ ap Ok w.in-Ok-Applied.field-0-is))).1
+      | in-Ok-Overtaken w ↦ ok_ok _ _ _ w.result-is (told (reply.Changed _) (ap (update_reply change) (w.in-Ok-Overtaken.is ∙ ap Ok w.in-Ok-Overtaken.field-0-is))).1
+      | in-Err w ↦ err_ok _ _ _ w.result-is
     ]
 
 pub returns-clause-refused : goal.returns-clause-refused
 returns-clause-refused c =
     let ok = c.in_ok-may_update.ensures.ok in
     let told = update_if_ended _ _ _ c.me.invariant _ _ c.update.ensures.table _ c.me.view_is _ _ _ _ c.update.ensures.ended c.args.component c.args.expected c.args.value ok refl in
+    let change : Change = record { component = c.args.component; expected = Some c.args.expected; value = c.args.value } in
     elim c.match-update.branch [
-      | in-Applied w ↦ ok_err _ _ _ w.result-is
-      | in-Changed w ↦ ok_err _ _ _ w.result-is
-      | in-Refused w ↦ err_err _ _ _ w.result-is (inr (told (reply.Refused _) w.in-Refused.is).0)
+      | in-Ok-Applied w ↦ ok_err _ _ _ w.result-is
+      | in-Ok-Overtaken w ↦ ok_err _ _ _ w.result-is
+      | in-Err w ↦ err_err _ _ _ w.result-is (inr (told (reply.Refused _) (ap (update_reply change) w.in-Err.is)).0)
     ]
 
 pub returns-clause-led_to_refusal : goal.returns-clause-led_to_refusal
 returns-clause-led_to_refusal c =
     let ok = c.in_ok-may_update.ensures.ok in
     let told = update_if_ended _ _ _ c.me.invariant _ _ c.update.ensures.table _ c.me.view_is _ _ _ _ c.update.ensures.ended c.args.component c.args.expected c.args.value ok refl in
+    let change : Change = record { component = c.args.component; expected = Some c.args.expected; value = c.args.value } in
     elim c.match-update.branch [
-      | in-Applied w ↦ ok_err _ _ _ w.result-is
-      | in-Changed w ↦ ok_err _ _ _ w.result-is
-      | in-Refused w ↦ err_err _ _ _ w.result-is (λ _. (told (reply.Refused _) w.in-Refused.is).1)
+      | in-Ok-Applied w ↦ ok_err _ _ _ w.result-is
+      | in-Ok-Overtaken w ↦ ok_err _ _ _ w.result-is
+      | in-Err w ↦ err_err _ _ _ w.result-is (λ _. (told (reply.Refused _) (ap (update_reply change) w.in-Err.is)).1)
     ]
 
 pub returns-in_err-may_update-clause-refused : goal.returns-in_err-may_update-clause-refused

@@ -1,0 +1,28 @@
+use Rattle.std.proofs.Common.{◌≤◌, length, sym, ap, subst, ◌∙◌, arith}
+use Rattle.partial_machine.specs.Lines.{scan_asked}
+use Rattle.partial_machine.specs.Machine.{CoreState, advance}
+use Rattle.partial_machine.specs.Possible.{IsPossible}
+use Rattle.lines_tests.specs.Plain.{Begins}
+use Rattle.lines_tests.proofs.Turning.{scan_begins, scan_is}
+use Rattle.lines_tests.proofs.beside.scan_beside.Goals as goal
+
+pub open-requires-clause-begins : goal.open-requires-clause-begins
+open-requires-clause-begins c =
+    let some = c.requires.some in
+    let few = subst (λ (s : CoreState). length c.args.which.now ≤ s.sizes.m) (sym c.in_ok-beside.ensures) c.requires.few in
+    let begins = scan_begins c.in_ok-beside.beside c.begin_scan.new.self c.args.which.now few (λ e. omega (arith, some, e)) c.in_default.ensures.ok.0 c.in_default.ensures.ok.1 in
+    subst (λ (s : CoreState). Begins s c.begin_scan.new.self) c.in_ok-beside.ensures begins
+
+pub scan-behind-requires-clause-possible : goal.scan-behind-requires-clause-possible
+scan-behind-requires-clause-possible c =
+    let some = c.requires.some in
+    let begun = scan_is c.in_ok-beside.beside c.begin_scan.new.self c.args.which.now (λ e. omega (arith, some, e)) c.in_default.ensures.ok.1 in
+    let is = c.in_ok-lines.ensures.machine ∙ begun ∙ ap (λ (s : CoreState). scan_asked s c.args.which.now) (c.in_ok-beside.ensures ∙ sym c.in_ok-core.ensures) in
+    subst (λ (d : CoreState). IsPossible d c.follow-at.result) is c.follow-at.ensures.possible
+
+pub scan-behind-requires-clause-machine : goal.scan-behind-requires-clause-machine
+scan-behind-requires-clause-machine c =
+    let some = c.requires.some in
+    let begun = scan_is c.in_ok-beside.beside c.begin_scan.new.self c.args.which.now (λ e. omega (arith, some, e)) c.in_default.ensures.ok.1 in
+    let is = c.in_ok-lines.ensures.machine ∙ begun ∙ ap (λ (s : CoreState). scan_asked s c.args.which.now) (c.in_ok-beside.ensures ∙ sym c.in_ok-core.ensures) in
+    c.follow-at.ensures.machine ∙ ap (λ (d : CoreState). advance d c.follow-at.result) is

@@ -1,0 +1,242 @@
+//! Calls in straight lines, beside the machine of their port: the same steps, the same answers, the same
+//! replies.
+
+ghost use Rattle.std.specs.Prelude.{◌≡◌, ◌<◌, ◌≤◌, length, None, OnOk};
+ghost use Rattle.partial_machine.specs.declared.stage.Stage.TheVariants.{Idle, UpdateBegun};
+ghost use Rattle.partial_machine.specs.Calls.{update_refusal};
+ghost use Rattle.partial_machine.specs.Machine.{at_stage, expects};
+ghost use Rattle.partial_words.specs.Layout.{IsLayout};
+
+use crate::plain::Plain;
+use partial_core::{Change, Core, Reply};
+use partial_lines::{Exchanged, put, scan};
+use partial_model::Refused;
+use partial_words::{Sizes, Step, announcement_size};
+use std::alloc::{AllocError, Global};
+use std::test::Fail;
+
+// How a call ended beside its machine.
+#[derive(Clone, Copy)]
+struct Ending {
+    // Whether both made the same steps, and gave the same reply.
+    same: bool,
+    // The reply.
+    reply: Reply,
+    // Whether the record of an update has a view.
+    viewed: bool,
+}
+
+impl Ending {
+    // The end of a call that wrote no view.
+    fn of(same: bool, reply: Reply) -> Ending {
+        Ending {
+            same,
+            reply,
+            viewed: false,
+        }
+    }
+}
+
+// Whether the component has a stamp with which the update goes on.
+fn is_met(change: Change, stamp: u64) -> bool
+    ensures { result ≡ expects change stamp }
+{
+    match change.expected {
+        Some(expected) => expected == stamp,
+        None => true,
+    }
+}
+
+// Begins an update on its port's machine.
+fn begin(core: &mut Core, change: Change) -> Result<(), Refused>
+    requires { core.old.stage ≡ Idle }
+    ensures { OnOk result ((update_refusal core.old change.component ≡ None) ×
+        (core.new ≡ at_stage core.old (UpdateBegun change))) }
+{
+    match change.expected {
+        Some(expected) => core.begin_update_if(change.component, expected, change.value),
+        None => core.begin_update(change.component, change.value),
+    }
+}
+
+// The reply to an update whose exchange ended so.
+fn reply_to(change: Change, exchanged: Exchanged) -> Reply {
+    match exchanged {
+        Exchanged::Applied { stamp } => Reply::Applied { stamp },
+        Exchanged::Overtaken { by } => match change.expected {
+            Some(_) => Reply::Changed { by },
+            None => Reply::Lost { by },
+        },
+    }
+}
+
+// Whether the machine has these values of a scan.
+fn has_values(core: &Core, values: &[u64]) -> bool
+    requires { length values.now ≤ length core.now.asked }
+{
+    for k in 0..values.len() {
+        if core.scanned(k) != values[k] {
+            return false;
+        }
+    }
+    true
+}
+
+// Makes an update beside its machine.
+fn update_beside(
+    alloc: Global,
+    sizes: Sizes,
+    initial: &[u64],
+    change: Change,
+    seed: u64,
+) -> Result<Ending, AllocError>
+    requires sizes { IsLayout sizes }
+    requires values { length initial.now ≡ sizes.m }
+    requires component { change.component < sizes.m }
+{
+    let mut core = Core::new(alloc, sizes, 0)?;
+    let mut beside = Core::new(alloc, sizes, 0)?;
+    if let Err(cause) = begin(&mut beside, change) {
+        return Ok(Ending::of(true, Reply::Refused(cause)));
+    }
+    let mut lines = Plain::open(alloc, sizes, initial, beside, seed)?;
+    let component = sizes.component_word(change.component);
+    let old = lines.follow(Step::Load(component));
+    if !is_met(change, old) {
+        let reply = Reply::Changed { by: old };
+        return Ok(Ending::of(lines.ends_with(reply), reply));
+    }
+    let (mut behind, written) = put(lines, &mut core, change, old);
+    let Some(at) = written else {
+        let reply = Reply::Refused(Refused::PoolSpent);
+        return Ok(Ending::of(behind.ends_with(reply), reply));
+    };
+    let found = behind.follow(Step::Exchange(component, old, at));
+    let reply = reply_to(change, Exchanged::of(old, at, found));
+    let mut ending = Ending::of(behind.ends_with(reply), reply);
+    ending.viewed = !core.found_none();
+    Ok(ending)
+}
+
+// Makes a scan beside its machine. The values have to be the same too.
+fn scan_beside(
+    alloc: Global,
+    sizes: Sizes,
+    initial: &[u64],
+    which: &[u32],
+    seed: u64,
+) -> Result<Ending, AllocError>
+    requires sizes { IsLayout sizes }
+    requires values { length initial.now ≡ sizes.m }
+    requires some { 0 < length which.now }
+    requires few { length which.now ≤ sizes.m }
+{
+    let mut core = Core::new(alloc, sizes, 0)?;
+    let mut beside = Core::new(alloc, sizes, 0)?;
+    if let Err(cause) = beside.begin_scan(which) {
+        return Ok(Ending::of(true, Reply::Refused(cause)));
+    }
+    let mut into = vec![in alloc; 0; which.len()]?;
+    let mut lines = Plain::open(alloc, sizes, initial, beside, seed)?;
+    let size = announcement_size(which.len() as u64);
+    let at = lines.follow(Step::Add(sizes.pool_counter(), size));
+    let (mut behind, scanned) = scan(lines, &mut core, which, at, &mut into);
+    let reply = match scanned {
+        Ok(scanned) => Reply::Scanned {
+            collects: scanned.collects,
+            borrowed: scanned.borrowed,
+        },
+        Err(cause) => Reply::Refused(cause),
+    };
+    let same = scanned.is_err() || has_values(&behind.beside, &into);
+    Ok(Ending::of(behind.ends_with(reply) && same, reply))
+}
+
+#[test]
+fn updates(rt: HostRuntime) -> Result<(), Fail> {
+    let large = Sizes::new(3, 8, 16, 2000)?;
+    let small = Sizes::new(3, 8, 16, 20)?;
+    let initial = [5, 6, 7];
+    let mut applied = false;
+    let mut lost = false;
+    let mut refused = false;
+    let mut viewed = false;
+    for seed in 0..300u64 {
+        let change = Change {
+            component: (seed % 3) as u32,
+            expected: None,
+            value: seed,
+        };
+        let sizes = if seed % 4 == 0 { small } else { large };
+        let ending = update_beside(rt.alloc(), sizes, &initial, change, seed)?;
+        assert!(rt; ending.same, "at {seed}");
+        applied = applied || matches!(ending.reply, Reply::Applied { .. });
+        lost = lost || matches!(ending.reply, Reply::Lost { .. });
+        refused = refused || ending.reply == Reply::Refused(Refused::PoolSpent);
+        viewed = viewed || ending.viewed;
+    }
+    assert!(rt; applied);
+    assert!(rt; lost);
+    assert!(rt; refused);
+    assert!(rt; viewed);
+    Ok(())
+}
+
+#[test]
+fn conditional_updates(rt: HostRuntime) -> Result<(), Fail> {
+    let sizes = Sizes::new(3, 8, 16, 2000)?;
+    let initial = [5, 6, 7];
+    let mut applied = false;
+    let mut changed = false;
+    for seed in 0..300u64 {
+        let component = (seed % 3) as u32;
+        let change = Change {
+            component,
+            expected: Some(sizes.opening_word(&initial, component)),
+            value: seed,
+        };
+        let ending = update_beside(rt.alloc(), sizes, &initial, change, seed)?;
+        assert!(rt; ending.same, "at {seed}");
+        applied = applied || matches!(ending.reply, Reply::Applied { .. });
+        changed = changed || matches!(ending.reply, Reply::Changed { .. });
+    }
+    assert!(rt; applied && changed);
+    Ok(())
+}
+
+#[test]
+fn scans(rt: HostRuntime) -> Result<(), Fail> {
+    let large = Sizes::new(3, 8, 16, 2000)?;
+    let few_words = Sizes::new(3, 8, 16, 20)?;
+    let few_slots = Sizes::new(3, 1, 16, 2000)?;
+    let initial = [5, 6, 7];
+    let mut own = false;
+    let mut borrowed = false;
+    let mut pool = false;
+    let mut slots = false;
+    for seed in 0..300u64 {
+        let sizes = match seed % 4 {
+            0 => few_words,
+            1 => few_slots,
+            _ => large,
+        };
+        let ending = scan_beside(rt.alloc(), sizes, &initial, &[2, 0, 1], seed)?;
+        assert!(rt; ending.same, "at {seed}");
+        own = own || matches!(ending.reply, Reply::Scanned { borrowed: None, .. });
+        borrowed = borrowed
+            || matches!(
+                ending.reply,
+                Reply::Scanned {
+                    borrowed: Some(_),
+                    ..
+                }
+            );
+        pool = pool || ending.reply == Reply::Refused(Refused::PoolSpent);
+        slots = slots || ending.reply == Reply::Refused(Refused::SlotsSpent);
+    }
+    assert!(rt; own);
+    assert!(rt; borrowed);
+    assert!(rt; pool);
+    assert!(rt; slots);
+    Ok(())
+}

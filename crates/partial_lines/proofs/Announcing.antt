@@ -1,0 +1,38 @@
+-- The announcement of a scan in straight lines: which store is due, and where its answer leads.
+use Rattle.std.proofs.Common.{ℕ, ◌≡◌, ◌+◌, ◌<◌, ◌==◌, Bool, true, false, cond, length, Some, refl, sym, ap, ◌∙◌, arith}
+use Rattle.std.specs.Prelude.{slice_index}
+use Rattle.std.proofs.lemmas.Bool.{ne_eqb, eq-eqb, eqb-true, eqb-false, le-ltb}
+use Rattle.partial_words.specs.declared.step.Step.TheVariants.{Store}
+use Rattle.partial_words.specs.Announcement.{announcement_block, announcement_size}
+use Rattle.partial_words.specs.Layout.{pool_end}
+use Rattle.partial_machine.specs.declared.stage.Stage.{Stage}
+use Rattle.partial_machine.specs.declared.stage.Stage.TheVariants.{ScanBegun, StoringAnnouncement}
+use Rattle.partial_machine.specs.Machine.{CoreState, advance, advance_at, at_stage, begin_joining, pool_refused, step_of}
+use Rattle.partial_lines.specs.Lines.{announcing}
+
+abbrev either : CoreState → ℕ → ℕ → Bool → CoreState
+either s at k b = cond b (begin_joining s at) (at_stage s (StoringAnnouncement at k))
+
+pub storing : (s d : CoreState) (at k : ℕ) → d ≡ announcing s at k → k < announcement_size (length s.asked) → d ≡ at_stage s (StoringAnnouncement at k)
+storing s d at k is less = is ∙ ap (either s at k) (ne_eqb k (1 + length s.asked) (λ e. omega (arith, e, less)))
+
+-- all are stored
+pub joining : (s d : CoreState) (at k : ℕ) → d ≡ announcing s at k → k ≡ announcement_size (length s.asked) → d ≡ begin_joining s at
+joining s d at k is all = is ∙ ap (either s at k) (eq-eqb k (1 + length s.asked) all)
+
+module _ (s d : CoreState) (at k : ℕ) (storing : d ≡ at_stage s (StoringAnnouncement at k)) where
+  pub store_due : (word : ℕ) → word ≡ slice_index (announcement_block s.asked) k → step_of d ≡ Some (Store (at + k) word)
+  store_due word e = ap step_of storing ∙ ap (λ v. Some (Store (at + k) v)) (sym e)
+
+  same_end : (b : Bool) → (k == length s.asked) ≡ b → b ≡ (k + 1 == 1 + length s.asked)
+  same_end true e = let last = eqb-true k (length s.asked) e in sym (eq-eqb (k + 1) (1 + length s.asked) (omega (arith, last)))
+  same_end false e = let more = eqb-false k (length s.asked) e in sym (ne_eqb (k + 1) (1 + length s.asked) (λ e'. more (omega (arith, e'))))
+
+  pub store_then : (v : CoreState) (a : ℕ) → v ≡ advance d a → v ≡ announcing s at (k + 1)
+  store_then v a then = then ∙ ap (λ (t : CoreState). advance t a) storing ∙ ap (either s at (k + 1)) (same_end (k == length s.asked) refl)
+
+-- its words are past the end of the pool
+pub not_fitting : (s d : CoreState) (at : ℕ) → d ≡ advance s at → s.stage ≡ ScanBegun → pool_end s.sizes < at + announcement_size (length s.asked) → d ≡ pool_refused s
+not_fitting s d at is begun past =
+    is ∙ ap (λ (t : Stage). advance_at s t at) begun ∙ ap (λ (b : Bool). cond b (at_stage s (StoringAnnouncement at 0)) (pool_refused s))
+    (le-ltb (at + announcement_size (length s.asked)) (pool_end s.sizes + 1) (omega (arith, past)))

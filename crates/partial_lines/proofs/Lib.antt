@@ -1,0 +1,4 @@
+mod Writing
+mod Parts
+mod Announcing
+mod Resting

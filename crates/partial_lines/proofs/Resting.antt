@@ -1,0 +1,42 @@
+-- The machine that a port keeps behind a call: with the marks of the call's machine, and sound.
+use Rattle.std.proofs.Common.{◌≡◌, Bool, refl, sym, ap, subst, ◌∙◌}
+use Rattle.std.specs.Prelude.{nat_eq}
+use Rattle.std.specs.List.{IsDistinct}
+use Rattle.partial_words.specs.Layout.{Layout}
+use Rattle.partial_active.specs.Found.{Buffers, IsFor as AreBuffersFor}
+use Rattle.partial_active.specs.GetSet.{GetSetState}
+use Rattle.partial_embedded.specs.Embedded.{RowsState, IsFor as AreRowsFor}
+use Rattle.partial_machine.specs.declared.stage.Stage.{Stage}
+use Rattle.partial_machine.specs.declared.stage.Stage.TheVariants.{Idle}
+use Rattle.partial_machine.specs.Machine.{CoreState, at_stage}
+use Rattle.partial_machine.specs.Sound.{AreComponents, IsSound, is_sound_at}
+use Rattle.partial_machine.proofs.Laws.{rests_are_sound}
+use Rattle.partial_core.specs.Part.{IsMarkedLike}
+use Rattle.partial_lines.specs.Replies.{RestsLike}
+
+-- the port goes on with the machine of the call
+pub rests_there : (c core : CoreState) → IsSound c → core ≡ at_stage c Idle → RestsLike c core
+rests_there c core known is = record {
+  like = subst (IsMarkedLike c) (sym is) (record { sizes = refl; port = refl; pool = refl; slots = refl; lists = refl });
+  idle = ap (λ (d : CoreState). d.stage) is;
+  sound = subst IsSound (sym is) (rests_are_sound.idle c known);
+}
+
+-- it goes on with the machine before an update, but for the marks and what the machine m behind the getSet had found
+pub update_rests : (s m c core : CoreState) (p : Bool) (g : GetSetState) (f : Buffers) → IsSound s → s.stage ≡ Idle → IsSound m → m.sizes ≡ s.sizes → m.found ≡ f → IsMarkedLike c core →
+    core ≡ record s { pool_spent = p; get_set = g; found = f } → RestsLike c core
+update_rests s m c core p g f sound idle known sizes found like is = record {
+  like = like;
+  idle = ap (λ (d : CoreState). d.stage) is ∙ idle;
+  sound =
+      let buffers : AreBuffersFor s.sizes m.found = subst (λ (z : Layout). AreBuffersFor z m.found) sizes known.found in
+      let indices : AreComponents s.sizes m.found.indices = subst (λ (z : Layout). AreComponents z m.found.indices) sizes known.indices in
+      subst IsSound (sym is) (record {
+        asked = sound.asked;
+        found = subst (AreBuffersFor s.sizes) found buffers;
+        indices = subst (λ (l : Buffers). AreComponents s.sizes l.indices) found indices;
+        distinct = subst (λ (l : Buffers). IsDistinct nat_eq l.indices) found known.distinct;
+        rows = sound.rows;
+        stage = subst (λ (t : Stage). is_sound_at (record s { pool_spent = p; get_set = g; found = f }) t) (sym idle) tt;
+      });
+}

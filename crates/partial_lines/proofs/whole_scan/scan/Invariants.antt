@@ -1,0 +1,11 @@
+use Rattle.std.proofs.Common.{◌≡◌}
+use Rattle.partial_machine.specs.Lines.{scan_asked}
+use Rattle.partial_lines.specs.Lines.{announcing}
+use Rattle.partial_lines.proofs.whole_scan.scan.Given as goal
+
+abbrev pub invariant-loop-k : goal.invariant-loop-k
+invariant-loop-k g l = record {
+  going : g.M.Makes.goes l.lines;
+  leads : g.M.Makes.leads l.fn.lines l.lines;
+  machine : g.M.Makes.machine l.lines ≡ announcing (scan_asked l.fn.core l.which) l.at l.k;
+}

@@ -1,0 +1,30 @@
+-- The replies of a machine, as the calls in straight lines return them.
+use Rattle.std.specs.Prelude.{◌≡◌, Result, Ok, Err}
+use Rattle.partial_model.specs.declared.call.Refused.{Refused}
+use Rattle.partial_machine.specs.declared.stage.Change.{Change}
+use Rattle.partial_machine.specs.declared.stage.Reply.{Reply}
+use Rattle.partial_machine.specs.declared.stage.Reply.TheVariants as reply
+use Rattle.partial_machine.specs.declared.stage.Stage.TheVariants.{Idle}
+use Rattle.partial_machine.specs.Machine.{CoreState, overtaken}
+use Rattle.partial_machine.specs.Sound.{IsSound}
+use Rattle.partial_core.specs.Part.{IsMarkedLike}
+use Rattle.partial_lines.specs.declared.exchange.Exchanged.{Exchanged}
+use Rattle.partial_lines.specs.declared.exchange.Exchanged.TheVariants.{Applied, Overtaken}
+use Rattle.partial_lines.specs.declared.whole_scan.Scanned.{Scanned}
+
+-- the reply to an update that ended so
+abbrev pub update_reply : Change → Result Exchanged Refused → Reply
+update_reply c (Ok (Applied stamp)) = reply.Applied stamp
+update_reply c (Ok (Overtaken by)) = overtaken c by
+update_reply c (Err cause) = reply.Refused cause
+
+-- the reply to a scan that ended so
+abbrev pub scan_reply : Result Scanned Refused → Reply
+scan_reply (Ok s) = reply.Scanned s.collects s.borrowed
+scan_reply (Err cause) = reply.Refused cause
+
+-- the machine that a port keeps between calls goes on from the machine of a call: idle, sound and with its marks
+pub record RestsLike (machine core : CoreState) : Type 0 where
+  pub like : IsMarkedLike machine core
+  pub idle : core.stage ≡ Idle
+  pub sound : IsSound core

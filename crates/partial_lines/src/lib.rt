@@ -1,0 +1,17 @@
+//! The calls of a port in straight lines, generic over whoever makes the steps of the port's machine. Their
+//! contracts speak of that machine alone.
+#![tactic(auto)]
+
+mod embedded;
+mod exchange;
+mod get_set;
+mod makes;
+mod update;
+mod whole_scan;
+
+pub use embedded::ScanLoads;
+pub use exchange::Exchanged;
+pub use get_set::SetSteps;
+pub use makes::Makes;
+pub use update::put;
+pub use whole_scan::{Scanned, scan};

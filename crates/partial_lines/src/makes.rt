@@ -1,0 +1,52 @@
+//! Whoever makes the steps of a call.
+
+ghost use Rattle.std.specs.Prelude.{◌≡◌, Some};
+ghost use Rattle.partial_words.specs.declared.step.Step.TheVariants.{Load};
+ghost use Rattle.partial_machine.specs.Machine.{CoreState, advance, step_of};
+ghost use Rattle.partial_machine.specs.Possible.{IsPossible};
+ghost use Rattle.partial_machine.specs.Sound.{IsSound};
+ghost use Rattle.partial_lines.specs.Lines.{IsQuiet};
+
+use partial_words::Step;
+
+/// The steps of one call of a port, which steps of other ports may come between. To contracts it is the machine
+/// of the call, as the answers of its steps have led it.
+pub trait Makes {
+    /// The call is under way.
+    ghost goes: { Self → Type 0 };
+
+    /// The machine of the call, with all answers so far.
+    ghost machine: { Self → CoreState };
+
+    /// From the first, the call has come to the second by further steps.
+    ghost leads: { Self → Self → Type 0 };
+
+    /// Makes the step that is due, which exchanges no component word, and returns its answer.
+    fn make(&mut self, step: Step) -> u64
+        requires goes { goes self.old }
+        requires due { step_of (machine self.old) ≡ Some step }
+        requires quiet { IsQuiet (machine self.old).stage }
+        ensures goes { goes self.new }
+        ensures possible { IsPossible (machine self.old) result }
+        ensures machine { machine self.new ≡ advance (machine self.old) result }
+        ensures leads { leads self.old self.new };
+
+    /// Makes a load that is due, and returns its answer. It takes the word as a `u64`, so a caller that has one
+    /// need not cut it to the `u32` of a [`Step`].
+    fn load(&mut self, word: u64) -> u64
+        requires goes { goes self.old }
+        requires due { step_of (machine self.old) ≡ Some (Load word) }
+        ensures goes { goes self.new }
+        ensures possible { IsPossible (machine self.old) result }
+        ensures machine { machine self.new ≡ advance (machine self.old) result }
+        ensures leads { leads self.old self.new };
+
+    /// The machine of a call under way is sound.
+    ghost sound: { (x : Self) → goes x → IsSound (machine x) };
+
+    /// By no step a call stays where it is.
+    ghost leads_itself: { (x : Self) → leads x x };
+
+    /// Steps follow on steps.
+    ghost leads_on: { (x y z : Self) → leads x y → leads y z → leads x z };
+}

@@ -1,0 +1,123 @@
+//! An update in straight lines, from its getSet up to the exchange of its component. Its getSet and its
+//! embedded scan are made by their own machines, in loops.
+
+ghost use Rattle.std.specs.Prelude.{◌≡◌, ◌+◌, ◌^◌, ◌<◌, true, [], Some, None, IfSome, IfNone};
+ghost use Rattle.partial_model.specs.declared.call.Refused.TheVariants as refused;
+ghost use Rattle.partial_machine.specs.declared.stage.Reply.TheVariants as reply;
+ghost use Rattle.partial_machine.specs.declared.stage.Stage.TheVariants.{Idle, ClaimingRecord, Exchanging};
+ghost use Rattle.partial_machine.specs.Lines.{set_begun};
+ghost use Rattle.partial_machine.specs.Machine.{at_stage, pool_refused, record_size, reply_of};
+ghost use Rattle.partial_machine.specs.Sound.{IsSound};
+ghost use Rattle.partial_core.specs.Part.{IsMarkedLike};
+ghost use Rattle.partial_lines.specs.Lines.{set_made, writing};
+ghost use Rattle.partial_lines.specs.Replies.{RestsLike};
+
+use crate::embedded::scan_found;
+use crate::get_set::SetSteps;
+use crate::makes::Makes;
+use partial_core::{Change, Core};
+use partial_words::{Step, plain_record_size};
+
+/// Makes an update that has loaded `old` as its component's record, from its getSet up to the exchange of the
+/// component, and returns the reference of its record. The exchange of `old` for it is due then, and the caller
+/// makes it. Returns `None` when the claim of the record went past the end of the pool: the update is refused,
+/// and the port marked.
+#[inline(always)]
+pub fn put<M: Makes>(lines: M, core: &mut Core, change: Change, old: u64) -> (M, Option<u64>)
+    requires goes { M.goes lines }
+    requires idle { core.old.stage ≡ Idle }
+    requires sound { IsSound core.old }
+    requires machine { M.machine lines ≡ set_made (set_begun core.old) change old }
+    ensures goes { M.goes result.0 }
+    ensures leads { M.leads lines result.0 }
+    ensures due { IfSome result.1 (λ at. (M.machine result.0).stage ≡ Exchanging change old at) }
+    ensures refused { IfNone result.1 (reply_of (M.machine result.0) ≡ Some (reply.Refused refused.PoolSpent)) }
+    ensures rests { RestsLike (M.machine result.0) core.new }
+{
+    let mut steps = SetSteps { lines };
+    let set = core.make_set(&mut steps);
+    let SetSteps { mut lines } = steps;
+    if core.found_none() {
+        core.keep_list_mark(&set);
+        let at = write_plain(&mut lines, core, change, old);
+        return (lines, at);
+    }
+    core.keep_set(set);
+    let mut behind = scan_found(lines, core);
+    let at = write_record(&mut behind, core, change, old);
+    (behind, at)
+}
+
+// Claims and writes the record of an update that found no announced index. The record has no view. Returns its
+// reference, or `None` when the claim is refused.
+#[inline(always)]
+fn write_plain<M: Makes>(lines: &mut M, core: &mut Core, change: Change, old: u64) -> Option<u64>
+    requires goes { M.goes lines.old }
+    requires idle { core.old.stage ≡ Idle }
+    requires stage { (M.machine lines.old).stage ≡ ClaimingRecord change old }
+    requires none { (M.machine lines.old).found.indices ≡ [] }
+    requires borrowed { (M.machine lines.old).embedded.borrowed ≡ None }
+    requires like { IsMarkedLike (M.machine lines.old) core.old }
+    ensures goes { M.goes lines.new }
+    ensures leads { M.leads lines.old lines.new }
+    ensures due { IfSome result (λ at.
+        M.machine lines.new ≡ at_stage (M.machine lines.old) (Exchanging change old at)) }
+    ensures refused { IfNone result (M.machine lines.new ≡ pool_refused (M.machine lines.old)) }
+    ensures like { IsMarkedLike (M.machine lines.new) core.new }
+    ensures core { core.new ≡ record core.old { pool_spent = core.new.pool_spent } }
+{
+    let sizes = core.sizes();
+    let size = plain_record_size();
+    let at = lines.make(Step::Add(sizes.pool_counter(), size));
+    if at + size > u64::from(sizes.pool_end()) {
+        core.mark_pool();
+        return None;
+    }
+    lines.make(Step::Store(at as u32, old));
+    lines.make(Step::Store((at + 1) as u32, change.value));
+    lines.make(Step::Store((at + 2) as u32, 0));
+    Some(at)
+}
+
+// Claims and writes the record of an update that made an embedded scan. Returns its reference, or `None` when
+// the claim is refused.
+fn write_record<M: Makes>(lines: &mut M, core: &mut Core, change: Change, old: u64) -> Option<u64>
+    requires goes { M.goes lines.old }
+    requires idle { core.old.stage ≡ Idle }
+    requires machine { M.machine lines.old ≡ at_stage core.old (ClaimingRecord change old) }
+    ensures goes { M.goes lines.new }
+    ensures leads { M.leads lines.old lines.new }
+    ensures due { IfSome result (λ at. M.machine lines.new ≡ at_stage core.new (Exchanging change old at)) }
+    ensures refused { IfNone result ((M.machine lines.new ≡ pool_refused core.old) × (core.new.pool_spent ≡ true)) }
+    ensures core { core.new ≡ record core.old { pool_spent = core.new.pool_spent } }
+{
+    let sizes = core.sizes();
+    let size = core.record_size();
+    let at = lines.make(Step::Add(sizes.pool_counter(), size));
+    if at + size > u64::from(sizes.pool_end()) {
+        core.mark_pool();
+        return None;
+    }
+    store_word(lines, core, change, old, at, 0);
+    store_word(lines, core, change, old, at, 1);
+    store_word(lines, core, change, old, at, 2);
+    for k in 3..size {
+        store_word(lines, core, change, old, at, k);
+    }
+    Some(at)
+}
+
+// Stores word `k` of the record.
+#[inline(always)]
+fn store_word<M: Makes>(lines: &mut M, core: &Core, change: Change, old: u64, at: u64, k: u64)
+    requires goes { M.goes lines.old }
+    requires machine { M.machine lines.old ≡ at_stage core.now (writing core.now change old at k) }
+    requires more { k < record_size core.now }
+    requires fits { at + k < 2 ^ 32 }
+    ensures goes { M.goes lines.new }
+    ensures leads { M.leads lines.old lines.new }
+    ensures machine { M.machine lines.new ≡ at_stage core.now (writing core.now change old at (k + 1)) }
+{
+    let word = core.record_word(change, old, at, k);
+    lines.make(Step::Store((at + k) as u32, word));
+}

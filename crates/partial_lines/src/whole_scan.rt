@@ -1,0 +1,118 @@
+//! A scan in straight lines, behind its first step. Its embedded scan is made by its own machine, in loops.
+
+ghost use Rattle.std.specs.Prelude.{◌≡◌, ◌<◌, ◌+◌, ◌^◌, length, map, slice_index, false, Some, IfSome, IfNone, IfOk, IfErr};
+ghost use Rattle.partial_words.specs.Announcement.{announcement_size};
+ghost use Rattle.partial_machine.specs.declared.stage.Stage.TheVariants.{Idle, StoringAnnouncement, Scanning};
+ghost use Rattle.partial_machine.specs.Machine.{advance, at_stage, begin_joining, reply_of};
+ghost use Rattle.partial_machine.specs.Lines.{joined, not_joined, scan_asked, scan_begun};
+ghost use Rattle.partial_machine.specs.Possible.{IsPossible};
+ghost use Rattle.partial_machine.specs.Sound.{IsSound};
+ghost use Rattle.partial_lines.specs.Lines.{announcing};
+ghost use Rattle.partial_lines.specs.Replies.{RestsLike, scan_reply};
+
+use crate::embedded::scan_asked;
+use crate::makes::Makes;
+use partial_core::Core;
+use partial_model::Refused;
+use partial_words::{Sizes, Step, announcement_block_word, announcement_size};
+
+/// How a scan was made.
+#[derive(Clone, Copy, Debug, PartialEq, Eq)]
+pub struct Scanned {
+    /// How many collects it made: 0 for a scan of no position, otherwise 2 to r + 2 for r positions.
+    pub collects: u32,
+    /// The stamp of the update whose view the scan took, if it was helped.
+    pub borrowed: Option<u64>,
+}
+
+/// Makes a scan of these positions behind its first step, the claim of its announcement, which was answered
+/// with `at`. `into` has the values then. They are copied before the port leaves the active set: code behind a
+/// sequentially consistent store waits for the store.
+///
+/// # Errors
+/// [`Refused::PoolSpent`] when the announcement lies past the end of the pool, and [`Refused::SlotsSpent`] when
+/// no slot is left for it: the port is marked, and `into` is unchanged.
+#[inline(always)]
+pub fn scan<M: Makes>(
+    mut lines: M,
+    core: &mut Core,
+    which: &[u32],
+    at: u64,
+    into: &mut [u64],
+) -> (M, Result<Scanned, Refused>)
+    requires goes { M.goes lines }
+    requires idle { core.old.stage ≡ Idle }
+    requires sound { IsSound core.old }
+    requires possible { IsPossible (scan_asked core.old which.now) at }
+    requires machine { M.machine lines ≡ advance (scan_asked core.old which.now) at }
+    requires lengths { length into.old ≡ length which.now }
+    ensures goes { M.goes result.0 }
+    ensures leads { M.leads lines result.0 }
+    ensures replies { reply_of (M.machine result.0) ≡ Some (scan_reply result.1) }
+    ensures asked { (M.machine result.0).asked ≡ which.now }
+    ensures rows { core.new.rows ≡ (M.machine result.0).rows }
+    ensures rests { RestsLike (M.machine result.0) core.new }
+    ensures copied { IfOk result.1 (λ _. into.new ≡ map (slice_index core.new.rows.values) which.now) }
+    ensures unchanged { IfErr result.1 (λ _. into.new ≡ into.old) }
+{
+    let sizes = core.sizes();
+    let size = announcement_size(which.len() as u64);
+    if at + size > u64::from(sizes.pool_end()) {
+        core.mark_pool();
+        return (lines, Err(Refused::PoolSpent));
+    }
+    for k in 0..size {
+        store_index(&mut lines, which, at, k);
+    }
+    let Some(slot) = join(&mut lines, sizes, at) else {
+        core.mark_slots();
+        return (lines, Err(Refused::SlotsSpent));
+    };
+    let (mut behind, embedded) = scan_asked(lines, core, which);
+    core.copy_values(which, into);
+    behind.make(Step::Store(sizes.slot_word(slot), 1));
+    let scanned = Scanned {
+        collects: embedded.collects(),
+        borrowed: embedded.borrowed(),
+    };
+    (behind, Ok(scanned))
+}
+
+// Stores word `k` of the announcement of these positions, whose block begins at word `at`.
+#[inline(always)]
+fn store_index<M: Makes>(lines: &mut M, which: &[u32], at: u64, k: u64)
+    requires goes { M.goes lines.old }
+    requires asked { (M.machine lines.old).asked ≡ which.now }
+    requires stage { (M.machine lines.old).stage ≡ StoringAnnouncement at k }
+    requires more { k < announcement_size (length which.now) }
+    requires fits { at + k < 2 ^ 32 }
+    ensures goes { M.goes lines.new }
+    ensures leads { M.leads lines.old lines.new }
+    ensures machine { M.machine lines.new ≡ announcing (M.machine lines.old) at (k + 1) }
+{
+    let word = announcement_block_word(which, k as usize);
+    lines.make(Step::Store((at + k) as u32, word));
+}
+
+// Joins the active set with the announcement at word `at`. Returns its slot, or `None` when no slot is
+// left.
+#[inline(always)]
+fn join<M: Makes>(lines: &mut M, sizes: Sizes, at: u64) -> Option<u32>
+    requires goes { M.goes lines.old }
+    requires sizes { (M.machine lines.old).sizes ≡ sizes }
+    requires machine { M.machine lines.old ≡ begin_joining (M.machine lines.old) at }
+    ensures goes { M.goes lines.new }
+    ensures leads { M.leads lines.old lines.new }
+    ensures slot { IfSome result (λ slot. slot < sizes.slots) }
+    ensures joined { IfSome result (λ slot.
+        M.machine lines.new ≡ at_stage (scan_begun (joined (M.machine lines.old) at slot) false) Scanning) }
+    ensures spent { IfNone result (M.machine lines.new ≡ not_joined (M.machine lines.old) at) }
+{
+    let found = lines.make(Step::Add(sizes.slot_counter(), 1));
+    if found >= u64::from(sizes.slots()) {
+        return None;
+    }
+    let slot = found as u32;
+    lines.make(Step::Store(sizes.slot_word(slot), at));
+    Some(slot)
+}
