@@ -104,7 +104,7 @@ module _ (e : Plan) where
     change_fewer _ _ _ (changing.ChangeLeads.PassesAgain n here) may = let rest = pass_next (ports k).control.here.arena n in omega (arith, rest)
     change_fewer _ _ _ (changing.ChangeLeads.PassGivesUp n away) may = omega arith
     change_fewer _ _ _ (changing.ChangeLeads.LoadsOne i) may = let rest = load_next i in omega (arith, rest)
-    change_fewer _ _ _ (changing.ChangeLeads.SetsOne i o v is) may = let rest = set_next (i + 1) in let low = may.2 in omega (arith, rest, low, is)
+    change_fewer _ _ _ (changing.ChangeLeads.SetsOne i o v next is) may = let rest = set_next next in let low = may.2 in let most = may.3 in omega (arith, rest, low, most, is)
     change_fewer _ _ _ (changing.ChangeLeads.PublishesOnce o) may = omega arith
     change_fewer _ _ _ (changing.ChangeLeads.GivesLast o) may = omega arith
     change_fewer _ _ _ changing.ChangeLeads.Marks may = omega arith

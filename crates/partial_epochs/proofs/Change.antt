@@ -8,7 +8,7 @@ use Rattle.partial_model.specs.declared.history.Applied.{Applied}
 use Rattle.partial_model.proofs.ListLemmas.{some_same}
 use Rattle.partial_words.specs.Layout.{total}
 use Rattle.partial_epochs.specs.Lists.{put}
-use Rattle.partial_epochs.specs.Layout.{Plan, IsSealed, packed, current_word, base, control_words, arena_words, component_words, carried_words, set_word}
+use Rattle.partial_epochs.specs.Layout.{IsAsked, Plan, IsSealed, packed, current_word, base, control_words, arena_words, component_words, carried_words, set_word}
 use Rattle.partial_epochs.specs.Ports.{Control, Owned, Port, Epoch}
 use Rattle.partial_epochs.specs.Control.{LawfulControl, IsOwner}
 use Rattle.partial_epochs.specs.Epochs.{Beside, IsArena, IsFinished, IsNew, IsSetting, IsStanding, LawfulEpochs, controls, next_word, numbers, place_now}
@@ -223,11 +223,11 @@ module _ (e : Plan) (words : List ℕ) (ports : ℕ → Port) (b : Beside) (k : 
             let other = sets_other q o inside is (omega (arith, low)) in
             ap (slice_index words') at.2 ∙ h.outside (base e o.arena + at.0) (other_arena e x o.arena at.0 other at.1) ∙ ap (slice_index words) (sym at.2)
 
-        each : slice_index words' current_word ≡ packed p.control.here → (i : ℕ) → i < o.set → slice_index words' (set_word e o.arena i) ≡ next_word e b' i
-        each at i low = elim h.grows [
+        each : slice_index words' current_word ≡ packed p.control.here → (i : ℕ) → i < o.set → IsAsked e.sizes i → slice_index words' (set_word e o.arena i) ≡ next_word e b' i
+        each at i low asked = elim h.grows [
           | inl is ↦
               let log : b.log ≡ b.log ++ entries = sym (append-nil b.log) ∙ ap (λ (l : List Applied). b.log ++ l) (sym is) in
-              place i low ∙ t.each (sym first ∙ at ∙ ap (λ (c : Control). packed c.here) control) i low ∙ ap (λ (l : List Applied). next_word e (record b { log = l }) i) log
+              place i low ∙ t.each (sym first ∙ at ∙ ap (λ (c : Control). packed c.here) control) i low asked ∙ ap (λ (l : List Applied). next_word e (record b { log = l }) i) log
           | inr free ↦ absurd (free.2 (settled q o inside is t (omega (arith, low)) (sym first ∙ at ∙ ap (λ (c : Control). packed c.here) control) free.0 free.1 free.2))
         ]
 

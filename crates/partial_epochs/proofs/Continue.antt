@@ -12,10 +12,12 @@ use Rattle.partial_model.proofs.AllLemmas.{all_weaker}
 use Rattle.partial_words.specs.Layout.{first_free}
 use Rattle.partial_core.specs.Lawful as one
 use Rattle.partial_epochs.specs.Lists.{list_of}
-use Rattle.partial_epochs.specs.Layout.{arena_words, carried_word, carried_words}
+use Rattle.partial_epochs.specs.Layout.{Plan, arena_words, carried_word, carried_words}
 use Rattle.partial_epochs.specs.History.{carried_after, carried_behind, history_of, opening_behind, public_entry, public_log, public_stamp, EpochsContinue}
 use Rattle.partial_epochs.specs.Ports.{Port, Epoch}
+use Rattle.partial_epochs.specs.Ports.Entering.{Stands}
 use Rattle.partial_epochs.specs.Control.{IsAt}
+use Rattle.partial_epochs.specs.Epochs.{Beside, IsStanding, LawfulEpochs}
 use Rattle.partial_epochs.specs.Reads.{ReadsTellAllEpochs, read_stamp}
 use Rattle.partial_state.specs.LawfulWords.{IsEntry}
 use Rattle.partial_epochs.proofs.Lists.{at_of}
@@ -128,10 +130,25 @@ last_all P found j (e ∷ h) f all = last_all P (cond (e.component == j) (Some e
     by true = all.0
     by false = f
 
-all_taken : (P : Applied → Type 0) (h : List Applied) (n : ℕ) → AllByRecursion P h → AllByRecursion P (take n h)
+-- what holds of all entries holds of those at the beginning
+pub all_taken : (P : Applied → Type 0) (h : List Applied) (n : ℕ) → AllByRecursion P h → AllByRecursion P (take n h)
 all_taken P h zero all = tt
 all_taken P [] (suc n) all = tt
 all_taken P (e ∷ h) (suc n) all = (all.0, all_taken P h n all.1)
+
+-- what comes before the epoch where a port stands
+module _ (e : Plan) (words : List ℕ) (ports : ℕ → Port) (b : Beside) (k : ℕ) (w : LawfulEpochs e words ports b) (s : IsStanding b k (ports k)) where
+  pub epoch_behind : k < e.ports → (ports k).control.entering ≡ Stands → length (ports k).before ≡ (ports k).control.here.epoch
+  epoch_behind below stands =
+      let at = subst (IsAt e _ k (ports k).control.here) stands (w.control.at k below) in
+      let held = w.control.stands k (ports k).control.here below (w.control.places k below) at in
+      ap (λ (l : List (List Applied)). length l) (sym s.before) ∙ some_same (ap (option_map (λ (r : Epoch). length r.before)) (sym s.is) ∙ held)
+
+  pub carried_there : (j : ℕ) → j < e.sizes.m → get_or words (carried_word e (ports k).control.here.arena j) 0 ≡ carried_behind e.opening (ports k).before j
+  carried_there j inside =
+      let x : ℕ = (ports k).control.here.arena in
+      let at : get_or (carried_words e words x) j 0 ≡ get_or words (carried_word e x j) 0 = at_of (λ i. get_or words (carried_word e x i) 0) 0 e.sizes.m j inside ∙ ap (λ i. get_or words (carried_word e x i) 0) (omega arith) in
+      sym at ∙ (w.arenas (ports k).control.here.arena s.epoch s.is).stamps j inside ∙ ap (λ (l : List (List Applied)). carried_behind e.opening l j) s.before
 
 pub reads_tell_all_epochs : ReadsTellAllEpochs
 reads_tell_all_epochs e words ports b k j n w below stands inside s few =
@@ -154,23 +171,11 @@ reads_tell_all_epochs e words ports b k j n w below stands inside s few =
     lawful : one.Lawful e.sizes (opening_behind e.opening s.epoch.before) (arena_words e words (ports k).control.here.arena) (list_of s.epoch.part 0 e.ports) s.epoch.log
     lawful = (w.arenas (ports k).control.here.arena s.epoch s.is).lawful
 
-    epoch_is : length (ports k).before ≡ (ports k).control.here.epoch
-    epoch_is =
-        let at = subst (IsAt e _ k (ports k).control.here) stands (w.control.at k below) in
-        let held = w.control.stands k (ports k).control.here below (w.control.places k below) at in
-        ap (λ (l : List (List Applied)). length l) (sym s.before) ∙ some_same (ap (option_map (λ (r : Epoch). length r.before)) (sym s.is) ∙ held)
-
     entry_above : (t : Option Applied) → last_entry j (take n s.epoch.log) ≡ t → IfSome t (λ (x : Applied). first_free e.sizes ≤ x.stamp)
     entry_above t is = subst (λ (t : Option Applied). IfSome t (λ (x : Applied). first_free e.sizes ≤ x.stamp)) is
         (last_all (λ (x : Applied). first_free e.sizes ≤ x.stamp) None j (take n s.epoch.log) tt
         (all_taken (λ (x : Applied). first_free e.sizes ≤ x.stamp) s.epoch.log n
         (all_weaker (IsEntry e.sizes (arena_words e words (ports k).control.here.arena)) (λ (x : Applied). first_free e.sizes ≤ x.stamp) (λ x h. h.above) s.epoch.log lawful.memory.entries)))
-
-    carried : get_or words (carried_word e (ports k).control.here.arena j) 0 ≡ carried_behind e.opening (ports k).before j
-    carried =
-        let x : ℕ = (ports k).control.here.arena in
-        let at : get_or (carried_words e words x) j 0 ≡ get_or words (carried_word e x j) 0 = at_of (λ i. get_or words (carried_word e x i) 0) 0 e.sizes.m j inside ∙ ap (λ i. get_or words (carried_word e x i) 0) (omega arith) in
-        sym at ∙ (w.arenas (ports k).control.here.arena s.epoch s.is).stamps j inside ∙ ap (λ (l : List (List Applied)). carried_behind e.opening l j) s.before
 
     initial : initial_stamp (opening_behind e.opening (ports k).before) j < first_free e.sizes
     initial =
@@ -184,11 +189,11 @@ reads_tell_all_epochs e words ports b k j n w below stands inside s few =
         let o : Opening = opening_behind e.opening (ports k).before in
         ap (λ (t : Option Applied). read_stamp e words (ports k) j (option_map_or (λ (x : Applied). x.stamp) t (initial_stamp o j))) is
         ∙ ap (λ (c : Bool). cond c (get_or words (carried_word e (ports k).control.here.arena j) 0) (public_stamp (ports k).control.here.epoch (initial_stamp o j))) (lt-ltb (initial_stamp o j) (first_free e.sizes) initial)
-        ∙ carried
+        ∙ carried_there e words ports b k w s j inside
         ∙ sym (ap (λ (t : Option Applied). option_map_or (λ (x : Applied). public_stamp (length (ports k).before) x.stamp) t (carried_behind e.opening (ports k).before j)) is)
     stamp_is (Some x) is =
         let o : Opening = opening_behind e.opening (ports k).before in
         ap (λ (t : Option Applied). read_stamp e words (ports k) j (option_map_or (λ (x : Applied). x.stamp) t (initial_stamp o j))) is
         ∙ ap (λ (c : Bool). cond c (get_or words (carried_word e (ports k).control.here.arena j) 0) (public_stamp (ports k).control.here.epoch x.stamp)) (not_below x.stamp (first_free e.sizes) (entry_above (Some x) is))
-        ∙ ap (λ r. public_stamp r x.stamp) (sym epoch_is)
+        ∙ ap (λ r. public_stamp r x.stamp) (sym (epoch_behind e words ports b k w s below stands))
         ∙ sym (ap (λ (t : Option Applied). option_map_or (λ (x : Applied). public_stamp (length (ports k).before) x.stamp) t (carried_behind e.opening (ports k).before j)) is)

@@ -66,11 +66,11 @@ module _ (e : Plan) (words words' : List ℕ) (high : (i : ℕ) → control_size
       set_on q (Some o) is low h = record {
         few = h.few;
         sealed = h.sealed;
-        each = λ at i less.
+        each = λ at i less asked.
             let few = h.few in
             let pool = w.plan.sizes.pool.0 in
             let place = set_place e o.arena i pool (omega (arith, less, few)) in
-            high (set_word e o.arena i) (subst (λ n. control_size e ≤ n) (sym place.2) (omega arith)) ∙ h.each (sym first ∙ at) i less;
+            high (set_word e o.arena i) (subst (λ n. control_size e ≤ n) (sym place.2) (omega arith)) ∙ h.each (sym first ∙ at) i less asked;
       }
 
 pub cw_long : (e : Plan) (words : List ℕ) → length (control_words e words) ≡ control_size e
@@ -132,7 +132,7 @@ module _ (e : Plan) (words : List ℕ) (ports : ℕ → Port) (b : Beside) (k : 
   long = cw_long e words
 
   -- the mark that another port holds of port k
-  held_mark : (p : ℕ) (a : Place) → p < e.ports → MayPut (cs p) k a → IsPlace e a × IsEarlier a (cs k).here (cs k).entering
+  pub held_mark : (p : ℕ) (a : Place) → p < e.ports → MayPut (cs p) k a → IsPlace e a × IsEarlier a (cs k).here (cs k).entering
   held_mark p a low may =
       let own : IsOwner e (control_words e words) cs (place_now b) (numbers b) p may.owned =
       subst (λ (o : Option Owned). IfSome o (IsOwner e (control_words e words) cs (place_now b) (numbers b) p)) may.is (w.control.owners p low) in

@@ -19,12 +19,13 @@ use Rattle.partial_epochs.specs.History.{history_of, opening_behind}
 use Rattle.partial_epochs.specs.Ports.{Port}
 use Rattle.partial_epochs.specs.Ports.Entering.{Stands}
 use Rattle.partial_epochs.specs.Epochs.{Beside, IsStanding, LawfulEpochs}
-use Rattle.partial_epochs.specs.Reads.{LastWordsAreFinal, TellTheLast, read_stamp}
+use Rattle.partial_epochs.specs.Reads.{ComponentsNameRecords, LastWordsAreFinal, TellTheLast, read_stamp}
 use Rattle.partial_epochs.proofs.Continue.{behind_both, epochs_continue, history_took, reads_tell_all_epochs}
+use Rattle.partial_epochs.proofs.Places.{below_whole}
 use Rattle.partial_epochs.proofs.Worded.{plain_at, plain_component, plain_other}
 
 -- entries for other components leave a component as it was
-none_here : (j : ℕ) (h : List Applied) → AllByRecursion (λ (a : Applied). a.component ≢ j) h → last_from None j h ≡ None
+pub none_here : (j : ℕ) (h : List Applied) → AllByRecursion (λ (a : Applied). a.component ≢ j) h → last_from None j h ≡ None
 unfolding last_from
 none_here j [] all = refl
 none_here j (a ∷ h) all = ap (λ (t : Option Applied). last_from t j h) (other (a.component == j) (eqb_tells a.component j)) ∙ none_here j h all.1
@@ -74,7 +75,7 @@ module _ (e : Plan) (words : List ℕ) (ports : ℕ → Port) (b : Beside) (k j 
   low : j < total e.sizes
   low = omega (arith, inside)
 
-  is_raw : get_or bw j 0 ≡ unsealed raw
+  pub is_raw : get_or bw j 0 ≡ unsealed raw
   is_raw = plain_at e words x j low ∙ plain_component e words x j raw inside
 
   named : unsealed raw ≡ stamp_of (opening_behind e.opening (ports k).before) s.epoch.log j
@@ -91,7 +92,7 @@ module _ (e : Plan) (words : List ℕ) (ports : ℕ → Port) (b : Beside) (k j 
       weaker [] all = tt
       weaker (a ∷ h) all = (all.0.0, weaker h all.1)
 
-  within : get_or bw j 0 + 2 < total e.sizes
+  pub within : get_or bw j 0 + 2 < total e.sizes
   within =
       let l = long in
       let c = lawful.memory.count in
@@ -134,3 +135,12 @@ last_words_are_final e words ports b k j w below stands inside s = (
   tell e words ports b k j w below stands inside s,
   λ q c step lead sealed o log. stays o log lead.entries j (others e words (ports q).control.here.arena j lead.entries sealed lead.free),
 )
+
+pub components_name_records : ComponentsNameRecords
+components_name_records e words ports b k j w below stands inside s = record {
+  there =
+      let low = below_whole e (ports k).control.here.arena j (w.control.places k below).arena (omega (arith, inside)) in
+      let all = w.count in
+      omega (arith, low, all);
+  names = (tell e words ports b k j w below stands inside s).stamp;
+}

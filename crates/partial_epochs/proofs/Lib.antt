@@ -22,11 +22,15 @@ pub mod OwnerLooks
 pub mod OneHistory
 pub mod Taking
 pub mod Last
+pub mod Laws
 pub mod Public
 pub mod Seats
 pub mod Written
 pub mod NotesStay
 pub mod Sights
+pub mod SeenRecords
+pub mod Collects
+pub mod Time
 pub mod EveryStep
 pub mod Refused
 pub mod Left

@@ -82,7 +82,7 @@ module _ (e : Plan) where
   late_on words p _ _ _ (changing.ChangeLeads.PassesAgain n h1) late = absurd late
   late_on words p _ _ _ (changing.ChangeLeads.PassGivesUp n h1) late = absurd late
   late_on words p _ _ _ (changing.ChangeLeads.LoadsOne i) late = load_late i
-  late_on words p _ _ _ (changing.ChangeLeads.SetsOne i o v h1) late = set_late (i + 1)
+  late_on words p _ _ _ (changing.ChangeLeads.SetsOne i o v next h1) late = set_late next
   late_on words p _ _ _ (changing.ChangeLeads.PublishesOnce o) late = tt
   late_on words p _ _ _ (changing.ChangeLeads.GivesLast o) late = tt
   late_on words p _ _ _ changing.ChangeLeads.Marks late = tt
@@ -282,7 +282,7 @@ module _ (e : Plan) where
       step_ahead _ _ _ (changing.ChangeLeads.PassesAgain n0 h1) ahead = inl (inl (to_own (λ i. next_pass e i n0) (pass_ahead n0 ahead)))
       step_ahead _ _ _ (changing.ChangeLeads.PassGivesUp n0 h1) ahead = inl (inr tt)
       step_ahead _ _ _ (changing.ChangeLeads.LoadsOne i) ahead = absurd ahead
-      step_ahead _ _ _ (changing.ChangeLeads.SetsOne i o v h1) ahead = absurd ahead
+      step_ahead _ _ _ (changing.ChangeLeads.SetsOne i o v next h1) ahead = absurd ahead
       step_ahead _ _ _ (changing.ChangeLeads.PublishesOnce o) ahead = absurd ahead
       step_ahead _ _ _ (changing.ChangeLeads.GivesLast o) ahead = absurd ahead
       step_ahead _ _ _ changing.ChangeLeads.Marks ahead = absurd ahead

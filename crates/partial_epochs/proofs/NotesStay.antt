@@ -91,7 +91,7 @@ written_public e before (n ∷ ns) =
     ∙ sym (map-append (λ i. length (history_of before) + i) (wrote n.note) (places_written ns))
 
 -- what a machine's step notes is nothing, or one call
-one_or_none : (y : Part) (t : Option Reply) (new : List Noted) → AreNotesOf y t new → (new ≡ []) ⊎ ((r : Reply) × IsNoteOf y r new)
+pub one_or_none : (y : Part) (t : Option Reply) (new : List Noted) → AreNotesOf y t new → (new ≡ []) ⊎ ((r : Reply) × IsNoteOf y r new)
 one_or_none y None new w = inl w
 one_or_none y (Some (reply.Applied s)) new w = inr (reply.Applied s, w)
 one_or_none y (Some (reply.Lost s)) new w = inr (reply.Lost s, w)
@@ -113,6 +113,14 @@ shown_public off (note.Saw k) = refl
 first_behind : (z : Layout) (o : Opening) (words : List ℕ) (hs : List Holding) (log : List Applied) (low : ℕ) (s : CoreState) (ks : List Kept) → AreKept z o words hs log low s ks → 0 < length ks → low ≤ first_at ks
 first_behind z o words hs log low s [] w some = absurd (omega (arith, some))
 first_behind z o words hs log low s (k ∷ ks) w some = w.0.behind
+
+-- a call that is legal in a beginning of the history is legal in the history
+legal_longer : (o : Opening) (h es : List Applied) (p seen : ℕ) (n : Noted) → IsLegal o h p seen n → IsLegal o (h ++ es) p seen n
+legal_longer o h es p seen n w = (w.0, by n.note w.1)
+  where
+    by : (t : Option Note) → IfSome t (λ (u : Note). IsTrueOf o h p n.call n.answer u × (seen ≤ place_of u)) → IfSome t (λ (u : Note). IsTrueOf o (h ++ es) p n.call n.answer u × (seen ≤ place_of u))
+    by None is_true = tt
+    by (Some u) is_true = (IsTrueOf-grows o h es p n.call n.answer u is_true.0, is_true.1)
 
 module _ (e : Plan) (words : List ℕ) (ports : ℕ → Port) (b : Beside) (notes : ℕ → List Noted) (k : ℕ) (c : CoreState) (step : Step) (w : LawfulMemory e words ports b notes) (below : k < e.ports)
     (stands : (ports k).control.entering ≡ Stands) (lead : MachineLeads e words ports b k c step) (added : List Noted)
@@ -289,30 +297,31 @@ module _ (e : Plan) (words : List ℕ) (ports : ℕ → Port) (b : Beside) (note
   before_is : AllByRecursion (IsEpochHistory e) (ports k).before
   before_is = earlier e words ports b w.epochs k below (ports k) lead.standing w.noted.finished
 
-  -- and is legal in the one history
-  legal_public : (n : Note) (call_is : Noted) → lead.tells.new ≡ call_is ∷ [] → call_is.note ≡ Some n → seen_by 0 (notes k) ≤ length (history_of (ports k).before) + since_with c (ports k).part →
+  -- and is legal in what the port has seen of the one history
+  legal_seen : (n : Note) (call_is : Noted) → lead.tells.new ≡ call_is ∷ [] → call_is.note ≡ Some n → seen_by 0 (notes k) ≤ length (history_of (ports k).before) + since_with c (ports k).part →
       first_at lead.port.part.kept ≤ place_of n → ExpectedOne (opening_behind e.opening (ports k).before) lead.port.part.seen call_is.call call_is.answer →
-      IsLegal e.opening (one_history lead.beside) k (seen_by 0 (notes k)) (public_noted e (ports k).before call_is)
-  legal_public n m is noted seen behind expected =
+      IsLegal e.opening (history_of (lead.port.part.seen ∷ (ports k).before)) k (seen_by 0 (notes k)) (public_noted e (ports k).before call_is)
+  legal_seen n m is noted seen behind expected =
       let l = legal_here m is in
       let fit = subst (λ (t : Option Note). Fits (length (opening_behind e.opening (ports k).before).values) m.call m.answer t) noted l.0 in
       let true_here = (subst (λ (t : Option Note). IfSome t (λ (u : Note). IsTrueOf (opening_behind e.opening (ports k).before) lead.port.part.seen k m.call m.answer u × (seen_by 0 (ports k).part.notes ≤ place_of u))) noted l.1).0 in
       let then = public_true e w.epochs.plan (ports k).before lead.port.part.seen above_seen before_is k m.call m.answer n fit expected true_here in
-      let g = seen_begins e words' ports' lead.beside lead.lawful k below lead.port s' in
-      let history : one_history lead.beside ≡ history_of (lead.port.part.seen ∷ (ports k).before) ++ g.0 = g.1 ∙ ap (λ (l : List (List Applied)). history_of (lead.port.part.seen ∷ l) ++ g.0) lead.before in
       let low = since_low in
       let place = place_public (length (history_of (ports k).before)) n in
       subst (λ (t : Option Note). Fits (length e.opening.values) (public_call e (ports k).before m.call) (public_answer e (ports k).before m.call m.answer) (option_map (public_note (length (history_of (ports k).before))) t)
-      × IfSome (option_map (public_note (length (history_of (ports k).before))) t) (λ (u : Note). IsTrueOf e.opening (one_history lead.beside) k (public_call e (ports k).before m.call)
-      (public_answer e (ports k).before m.call m.answer) u × (seen_by 0 (notes k) ≤ place_of u))) (sym noted) (
-        public_fits e w.epochs.plan (ports k).before lead.port.part.seen above_seen before_is m.call m.answer n fit,
-        (
-          subst (λ (h : List Applied). IsTrueOf e.opening h k (public_call e (ports k).before m.call) (public_answer e (ports k).before m.call m.answer) (public_note (length (history_of (ports k).before)) n)) (sym history)
-              (IsTrueOf-grows e.opening (history_of (lead.port.part.seen ∷ (ports k).before)) g.0 k (public_call e (ports k).before m.call) (public_answer e (ports k).before m.call m.answer)
-              (public_note (length (history_of (ports k).before)) n) then),
-          omega (arith, seen, behind, low, place),
-        ),
-      )
+      × IfSome (option_map (public_note (length (history_of (ports k).before))) t) (λ (u : Note). IsTrueOf e.opening (history_of (lead.port.part.seen ∷ (ports k).before)) k (public_call e (ports k).before m.call)
+      (public_answer e (ports k).before m.call m.answer) u × (seen_by 0 (notes k) ≤ place_of u))) (sym noted)
+      (public_fits e w.epochs.plan (ports k).before lead.port.part.seen above_seen before_is m.call m.answer n fit, (then, omega (arith, seen, behind, low, place)))
+
+  -- so it is legal in the one history
+  legal_public : (n : Note) (call_is : Noted) → lead.tells.new ≡ call_is ∷ [] → call_is.note ≡ Some n → seen_by 0 (notes k) ≤ length (history_of (ports k).before) + since_with c (ports k).part →
+      first_at lead.port.part.kept ≤ place_of n → ExpectedOne (opening_behind e.opening (ports k).before) lead.port.part.seen call_is.call call_is.answer →
+      IsLegal e.opening (one_history lead.beside) k (seen_by 0 (notes k)) (public_noted e (ports k).before call_is)
+  legal_public n m is noted seen behind expected =
+      let g = seen_begins e words' ports' lead.beside lead.lawful k below lead.port s' in
+      let history : one_history lead.beside ≡ history_of (lead.port.part.seen ∷ (ports k).before) ++ g.0 = g.1 ∙ ap (λ (l : List (List Applied)). history_of (lead.port.part.seen ∷ l) ++ g.0) lead.before in
+      subst (λ (h : List Applied). IsLegal e.opening h k (seen_by 0 (notes k)) (public_noted e (ports k).before m)) (sym history)
+      (legal_longer e.opening (history_of (lead.port.part.seen ∷ (ports k).before)) g.0 k (seen_by 0 (notes k)) (public_noted e (ports k).before m) (legal_seen n m is noted seen behind expected))
 
   seen_more : seen_of (ports k) ≤ seen_of lead.port
   seen_more =
@@ -360,6 +369,22 @@ module _ (e : Plan) (words : List ℕ) (ports : ℕ → Port) (b : Beside) (note
       | inl nothing ↦ subst (λ (l : List Noted). Noting (map (public_noted e (ports k).before) l)) (sym nothing) quiet
       | inr m ↦ one_more m.0 m.1 all.1 all.2
     ])
+  ]
+
+  -- in what the port has seen its notes stay legal
+  pub legal_notes_seen : LegalNotes e.opening (history_of (lead.port.part.seen ∷ (ports k).before)) k 0 (notes k) → seen_by 0 (notes k) ≤ length (history_of (ports k).before) + since_with c (ports k).part →
+      AllByRecursion (λ (n : Noted). ExpectedOne (opening_behind e.opening (ports k).before) lead.port.part.seen n.call n.answer) lead.tells.new →
+      LegalNotes e.opening (history_of (lead.port.part.seen ∷ (ports k).before)) k 0 (notes k ++ map (public_noted e (ports k).before) lead.tells.new)
+  legal_notes_seen was seen expected = elim (one_or_none lead.port.part (reply_of (advance c (answer_of (arena_words e words (ports k).control.here.arena) step))) lead.tells.new lead.tells.noted) [
+    | inl nothing ↦ subst (λ (l : List Noted). LegalNotes e.opening (history_of (lead.port.part.seen ∷ (ports k).before)) k 0 (notes k ++ map (public_noted e (ports k).before) l)) (sym nothing)
+        (subst (LegalNotes e.opening (history_of (lead.port.part.seen ∷ (ports k).before)) k 0) (sym (append-nil (notes k))) was)
+    | inr some ↦
+        let m = some.1 in
+        let n : Noted = record { call = m.call; answer = answer_for (core_of lead.port.part) some.0; note = Some m.note } in
+        let is : lead.tells.new ≡ n ∷ [] = m.is in
+        let one = (subst (AllByRecursion (λ (n : Noted). ExpectedOne (opening_behind e.opening (ports k).before) lead.port.part.seen n.call n.answer)) is expected).0 in
+        subst (λ (l : List Noted). LegalNotes e.opening (history_of (lead.port.part.seen ∷ (ports k).before)) k 0 (notes k ++ map (public_noted e (ports k).before) l)) (sym is)
+        (LegalNotes-push e.opening (history_of (lead.port.part.seen ∷ (ports k).before)) k 0 (notes k) (public_noted e (ports k).before n) was (legal_seen m.note n is refl seen m.behind one))
   ]
 
   pub notes_then : LawfulNotes e ports' lead.beside (noting k added notes)

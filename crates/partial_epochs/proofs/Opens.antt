@@ -1,5 +1,5 @@
 -- An arena that was used before opens lawful again once the words below the first free one are set: what stands behind them doesn't matter.
-use Rattle.std.proofs.Common.{ℕ, zero, suc, ◌≡◌, ◌+◌, ◌-◌, ◌*◌, ◌/◌, ◌%◌, ◌<◌, ◌≤◌, ◌==◌, ◌++◌, Bool, true, false, cond, List, [], ◌∷◌, length, get_or, slice_index, Some, None, IfSome, refl, sym, ap, subst, inl, arith, ◌∙◌}
+use Rattle.std.proofs.Common.{ℕ, zero, suc, ◌≡◌, ◌+◌, ◌-◌, ◌*◌, ◌/◌, ◌%◌, ◌<◌, ◌≤◌, ◌==◌, ◌++◌, Bool, true, false, cond, List, [], ◌∷◌, length, get_or, slice_index, Some, None, IfSome, refl, sym, ap, subst, inl, inr, arith, ◌∙◌}
 use Rattle.std.specs.List.{AllByRecursion}
 use Rattle.std.proofs.lemmas.Bool.Decides.{nat_tests}
 use Rattle.partial_model.specs.declared.history.Opening.{Opening}
@@ -49,7 +49,7 @@ view_opens : (s : Layout) (o : Opening) (words : List ℕ) (j : ℕ) → OpensOv
 view_opens s o words j opens below =
     let pool : 3 * s.m ≤ s.pool = opens.sizes.pool.0 in
     let at : view_word (initial_record s j) ≡ pool_base s + (3 * j + 2) = omega arith in
-    ap (slice_index words) at ∙ opens.each (pool_base s + (3 * j + 2)) (omega (arith, pool, below)) ∙ opening_record s o.values (3 * j + 2) (omega (arith, below)) ∙ initial_view o.values j
+    ap (slice_index words) at ∙ opens.each (pool_base s + (3 * j + 2)) (omega (arith, pool, below)) (inr (omega arith)) ∙ opening_record s o.values (3 * j + 2) (omega (arith, below)) ∙ initial_view o.values j
 
 -- component j of an opening names its initial record, which holds its value and has none before it
 opening_agrees : (s : Layout) (o : Opening) (words : List ℕ) → OpensOver s o words → Agrees o words []
@@ -57,9 +57,9 @@ unfolding last_from links_from
 opening_agrees s o words opens j below =
     let in' : j < s.m = omega (arith, opens.values, below) in
     let pool : 3 * s.m ≤ s.pool = opens.sizes.pool.0 in
-    let named : slice_index words j ≡ pool_base s + 3 * j = opens.each j (omega arith) ∙ opening_component s o.values j in' in
-    let prev : slice_index words (pool_base s + 3 * j) ≡ 0 = opens.each (pool_base s + 3 * j) (omega arith) ∙ opening_record s o.values (3 * j) (omega arith) ∙ initial_prev o.values j in
-    let value : slice_index words (pool_base s + (3 * j + 1)) ≡ slice_index o.values j = opens.each (pool_base s + (3 * j + 1)) (omega arith) ∙ opening_record s o.values (3 * j + 1)
+    let named : slice_index words j ≡ pool_base s + 3 * j = opens.each j (omega arith) (inl (omega (arith, in'))) ∙ opening_component s o.values j in' in
+    let prev : slice_index words (pool_base s + 3 * j) ≡ 0 = opens.each (pool_base s + 3 * j) (omega arith) (inr (omega arith)) ∙ opening_record s o.values (3 * j) (omega arith) ∙ initial_prev o.values j in
+    let value : slice_index words (pool_base s + (3 * j + 1)) ≡ slice_index o.values j = opens.each (pool_base s + (3 * j + 1)) (omega arith) (inr (omega arith)) ∙ opening_record s o.values (3 * j + 1)
     (omega arith) ∙ initial_value o.values j in
     let stamp : o.first + 3 * j ≡ pool_base s + 3 * j = ap (λ n. n + 3 * j) opens.stamps in
     let next : slice_index words j + 1 ≡ pool_base s + (3 * j + 1) = omega (arith, named) in
@@ -117,10 +117,10 @@ slots_open z initial l below = grind (arith, nat_tests)
 opening_is_lawful : (z : Layout) (o : Opening) (words : List ℕ) (n : ℕ) → OpensOver z o words → n ≤ 64 → LawfulWords z o words (idle_holdings 0 n) []
 opening_is_lawful z o words n opens few =
     let some = opens.sizes.slots.0 in
-    let pool : get_or words (pool_counter z) 0 ≡ pool_base z + 3 * z.m = opens.each (pool_counter z) (omega (arith, some)) ∙ pool_opens z o.values in
-    let slots : get_or words (slot_counter z) 0 ≡ 0 = opens.each (slot_counter z) (omega (arith, some)) ∙ slot_opens z o.values some in
-    let head : get_or words (list_head z) 0 ≡ 0 = opens.each (list_head z) (omega (arith, some)) ∙ list_opens z o.values some in
-    let lists : get_or words (list_counter z) 0 ≡ list_base z = opens.each (list_counter z) (omega (arith, some)) ∙ lists_open z o.values some in
+    let pool : get_or words (pool_counter z) 0 ≡ pool_base z + 3 * z.m = opens.each (pool_counter z) (omega (arith, some)) (inl (omega (arith, some))) ∙ pool_opens z o.values in
+    let slots : get_or words (slot_counter z) 0 ≡ 0 = opens.each (slot_counter z) (omega (arith, some)) (inl (omega (arith, some))) ∙ slot_opens z o.values some in
+    let head : get_or words (list_head z) 0 ≡ 0 = opens.each (list_head z) (omega (arith, some)) (inl (omega (arith, some))) ∙ list_opens z o.values some in
+    let lists : get_or words (list_counter z) 0 ≡ list_base z = opens.each (list_counter z) (omega (arith, some)) (inl (omega (arith, some))) ∙ lists_open z o.values some in
     let room = opens.sizes.pool.0 in
     let count = idle_length 0 n in
     let blocks : announcements (idle_holdings 0 n) ++ unpublished (idle_holdings 0 n) ≡ [] = ap (λ (l : List Block). l ++ unpublished (idle_holdings 0 n))
@@ -141,7 +141,7 @@ opening_is_lawful z o words n opens few =
       fresh = λ k e s. let bad : None ≡ Some e = s in cc;
       covering = tt;
       due = idle_all (λ h. IfSome h.due _) (λ p. tt) 0 n;
-      unclaimed = λ l from below. opens.each (slot_word z l) (omega (arith, below)) ∙ slots_open z o.values l below;
+      unclaimed = λ l from below. opens.each (slot_word z l) (omega (arith, below)) (inl (omega (arith, below))) ∙ slots_open z o.values l below;
       taken = λ l below inside. absurd (omega (arith, slots, below));
       claims = idle_all (λ h. IfSome h.claimed _) (λ p. tt) 0 n;
       owners = idle_slots 0 n;

@@ -21,7 +21,7 @@ use Rattle.partial_epochs.proofs.Worded.{component_at, plain_at, plain_component
 module _ (e : Plan) (words : List ℕ) (w : OpensAll e words) where
   small : (j : ℕ) → j < e.sizes.m → get_or words (base e 0 + j) 0 < seal
   small j low =
-      let is = w.each j (omega (arith, low)) ∙ opening_component e.sizes e.opening.values j low in
+      let is = w.each j (omega (arith, low)) (inl (omega (arith, low))) ∙ opening_component e.sizes e.opening.values j low in
       let m = w.plan.sizes.components.1 in
       let slots = w.plan.sizes.slots.1 in
       let lists = w.plan.sizes.lists in
@@ -33,7 +33,7 @@ module _ (e : Plan) (words : List ℕ) (w : OpensAll e words) where
     values = w.plan.values;
     stamps = w.plan.first;
     count = length_of (λ i. plain e i (get_or words (base e 0 + i) 0)) 0 (total e.sizes);
-    each = λ i low. let pool = w.plan.sizes.pool.0 in plain_at e words 0 i (omega (arith, low, pool)) ∙ as_is i low (cases_lt i e.sizes.m) ∙ w.each i low;
+    each = λ i low asked. let pool = w.plan.sizes.pool.0 in plain_at e words 0 i (omega (arith, low, pool)) ∙ as_is i low (cases_lt i e.sizes.m) ∙ w.each i low asked;
   }
     where
       as_is : (i : ℕ) → i < first_free e.sizes → (i < e.sizes.m) ⊎ (e.sizes.m ≤ i) → plain e i (get_or words (base e 0 + i) 0) ≡ get_or words (base e 0 + i) 0
@@ -53,13 +53,13 @@ module _ (e : Plan) (words : List ℕ) (w : OpensAll e words) where
         let some_slots = w.plan.sizes.slots.0 in
         let some_components = w.plan.sizes.components.0 in
         let room = w.plan.opens in
-        let is : get_or (arena_words e words 0) (pool_counter e.sizes) 0 ≡ first_free e.sizes = opens.each (pool_counter e.sizes) (omega (arith, some_slots, some_components)) ∙ pool_opens e.sizes e.opening.values in
+        let is : get_or (arena_words e words 0) (pool_counter e.sizes) 0 ≡ first_free e.sizes = opens.each (pool_counter e.sizes) (omega (arith, some_slots, some_components)) (inl (omega (arith, some_slots))) ∙ pool_opens e.sizes e.opening.values in
         omega (arith, is, room);
     slots =
         let some_slots = w.plan.sizes.slots.0 in
         let some_components = w.plan.sizes.components.0 in
-        let pool : get_or (arena_words e words 0) (pool_counter e.sizes) 0 ≡ first_free e.sizes = opens.each (pool_counter e.sizes) (omega (arith, some_slots, some_components)) ∙ pool_opens e.sizes e.opening.values in
-        let claimed : get_or (arena_words e words 0) (slot_counter e.sizes) 0 ≡ 0 = opens.each (slot_counter e.sizes) (omega (arith, some_slots, some_components)) ∙ slot_opens e.sizes e.opening.values some_slots in
+        let pool : get_or (arena_words e words 0) (pool_counter e.sizes) 0 ≡ first_free e.sizes = opens.each (pool_counter e.sizes) (omega (arith, some_slots, some_components)) (inl (omega (arith, some_slots))) ∙ pool_opens e.sizes e.opening.values in
+        let claimed : get_or (arena_words e words 0) (slot_counter e.sizes) 0 ≡ 0 = opens.each (slot_counter e.sizes) (omega (arith, some_slots, some_components)) (inl (omega (arith, some_slots))) ∙ slot_opens e.sizes e.opening.values some_slots in
         let none = count_none (λ q. awaits_slot (fresh_part e.sizes q)) 0 e.ports (λ q. refl) in
         omega (arith, pool, claimed, none);
   }

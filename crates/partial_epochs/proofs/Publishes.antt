@@ -13,7 +13,7 @@ use Rattle.partial_words.specs.Chain.{opening_word}
 use Rattle.partial_core.specs.Part.{Part, fresh_part, fresh_parts}
 use Rattle.partial_core.specs.Lawful as one
 use Rattle.partial_epochs.specs.Lists.{list_of, put}
-use Rattle.partial_epochs.specs.Layout.{Plan, Place, IsSealed, at_word, arena_words, base, carried_word, carried_words, component_words, control_size, control_words, current_word, packed, plain, seal}
+use Rattle.partial_epochs.specs.Layout.{IsAsked, Plan, Place, IsSealed, at_word, arena_words, base, carried_word, carried_words, component_words, control_size, control_words, current_word, packed, plain, seal}
 use Rattle.partial_epochs.specs.History.{carried_behind, opening_behind}
 use Rattle.partial_epochs.specs.Ports.{Control, Owned, Port, Epoch}
 use Rattle.partial_epochs.specs.Control.{IsAt, IsOut, IsOwner, LawfulControl, MayPut}
@@ -94,7 +94,7 @@ module _ (e : Plan) (words : List ℕ) (ports : ℕ → Port) (b : Beside) (k : 
       cc
 
   rests_setting : (l : List ℕ) (d : Beside) (p : Port) → IsSetting e l d p (resting o)
-  rests_setting l d p = record { few = omega arith; sealed = λ less. absurd (omega (arith, less)); each = λ at i less. absurd (omega (arith, less)) }
+  rests_setting l d p = record { few = omega arith; sealed = λ less. absurd (omega (arith, less)); each = λ at i less _. absurd (omega (arith, less)) }
 
   placed_here : get_or (control_words e words) (at_word k) 0 ≡ packed (ports k).control.here
   placed_here = subst (IsAt e (control_words e words) k (ports k).control.here) own.stands (w.control.at k below)
@@ -207,11 +207,11 @@ module _ (e : Plan) (words : List ℕ) (ports : ℕ → Port) (b : Beside) (k : 
         subst (λ (d : Place). LawfulControl e (control_words e words') (controls (put k p' ports)) d (numbers b')) (same_place next (place_now b') epoch_is refl) w7
 
     -- the arena that was set
-    word_set : (i : ℕ) → i < first_free e.sizes → get_or words (base e o.arena + i) 0 ≡ opening_word e.sizes (opening_behind e.opening (b.log ∷ b.before)).values i
-    word_set i low =
+    word_set : (i : ℕ) → i < first_free e.sizes → IsAsked e.sizes i → get_or words (base e o.arena + i) 0 ≡ opening_word e.sizes (opening_behind e.opening (b.log ∷ b.before)).values i
+    word_set i low asked =
         let set = whole.set in
         sym (ap (λ (c : Bool). get_or words (cond c (base e o.arena + i) (base e o.arena + total e.sizes + (i - first_free e.sizes))) 0) (lt-ltb i (first_free e.sizes) low))
-        ∙ setting.each at i (omega (arith, set, low))
+        ∙ setting.each at i (omega (arith, set, low)) asked
         ∙ ap (λ (c : Bool). cond c (opening_word e.sizes (opening_behind e.opening (b.log ∷ b.before)).values i) (carried_behind e.opening (b.log ∷ b.before) (i - first_free e.sizes)))
         (lt-ltb i (first_free e.sizes) low)
 
@@ -222,13 +222,13 @@ module _ (e : Plan) (words : List ℕ) (ports : ℕ → Port) (b : Beside) (k : 
         let off : i - first_free e.sizes ≡ j = omega arith in
         let test = not_below i (first_free e.sizes) (omega arith) in
         sym (ap (λ (c : Bool). get_or words (cond c (base e o.arena + i) (base e o.arena + total e.sizes + (i - first_free e.sizes))) 0) test ∙ ap (λ n. get_or words (base e o.arena + total e.sizes + n) 0) off)
-        ∙ setting.each at i (omega (arith, set, low))
+        ∙ setting.each at i (omega (arith, set, low)) (inr (omega arith))
         ∙ ap (λ (c : Bool). cond c (opening_word e.sizes (opening_behind e.opening (b.log ∷ b.before)).values i) (carried_behind e.opening (b.log ∷ b.before) (i - first_free e.sizes))) test
         ∙ ap (carried_behind e.opening (b.log ∷ b.before)) off
 
     component_small : (j : ℕ) → j < e.sizes.m → get_or words (base e o.arena + j) 0 < seal
     component_small j low =
-        let is = word_set j (omega (arith, low)) ∙ opening_component e.sizes (opening_behind e.opening (b.log ∷ b.before)).values j low in
+        let is = word_set j (omega (arith, low)) (inl (omega (arith, low))) ∙ opening_component e.sizes (opening_behind e.opening (b.log ∷ b.before)).values j low in
         let m = w.plan.sizes.components.1 in
         let slots = w.plan.sizes.slots.1 in
         let lists = w.plan.sizes.lists in
@@ -240,7 +240,7 @@ module _ (e : Plan) (words : List ℕ) (ports : ℕ → Port) (b : Beside) (k : 
       values = values_long e.opening (b.log ∷ b.before) ∙ w.plan.values;
       stamps = first_same e.opening (b.log ∷ b.before) ∙ w.plan.first;
       count = length_of (λ i. plain e i (get_or words (base e o.arena + i) 0)) 0 (total e.sizes);
-      each = λ i low. let pool = w.plan.sizes.pool.0 in plain_at e words o.arena i (omega (arith, low, pool)) ∙ as_is i low (cases_lt i e.sizes.m) ∙ word_set i low;
+      each = λ i low asked. let pool = w.plan.sizes.pool.0 in plain_at e words o.arena i (omega (arith, low, pool)) ∙ as_is i low (cases_lt i e.sizes.m) ∙ word_set i low asked;
     }
       where
         as_is : (i : ℕ) → i < first_free e.sizes → (i < e.sizes.m) ⊎ (e.sizes.m ≤ i) → plain e i (get_or words (base e o.arena + i) 0) ≡ get_or words (base e o.arena + i) 0
@@ -261,16 +261,16 @@ module _ (e : Plan) (words : List ℕ) (ports : ℕ → Port) (b : Beside) (k : 
           let some_slots = w.plan.sizes.slots.0 in
           let some_components = w.plan.sizes.components.0 in
           let room = w.plan.opens in
-          let is : get_or (arena_words e words o.arena) (pool_counter e.sizes) 0 ≡ first_free e.sizes = opens.each (pool_counter e.sizes) (omega (arith, some_slots, some_components))
+          let is : get_or (arena_words e words o.arena) (pool_counter e.sizes) 0 ≡ first_free e.sizes = opens.each (pool_counter e.sizes) (omega (arith, some_slots, some_components)) (inl (omega (arith, some_slots)))
           ∙ pool_opens e.sizes (opening_behind e.opening (b.log ∷ b.before)).values in
           omega (arith, is, room);
       slots =
           let pool = w.plan.sizes.pool.0 in
           let some_slots = w.plan.sizes.slots.0 in
           let some_components = w.plan.sizes.components.0 in
-          let free : get_or (arena_words e words o.arena) (pool_counter e.sizes) 0 ≡ first_free e.sizes = opens.each (pool_counter e.sizes) (omega (arith, some_slots, some_components))
+          let free : get_or (arena_words e words o.arena) (pool_counter e.sizes) 0 ≡ first_free e.sizes = opens.each (pool_counter e.sizes) (omega (arith, some_slots, some_components)) (inl (omega (arith, some_slots)))
           ∙ pool_opens e.sizes (opening_behind e.opening (b.log ∷ b.before)).values in
-          let claimed : get_or (arena_words e words o.arena) (slot_counter e.sizes) 0 ≡ 0 = opens.each (slot_counter e.sizes) (omega (arith, some_slots, some_components))
+          let claimed : get_or (arena_words e words o.arena) (slot_counter e.sizes) 0 ≡ 0 = opens.each (slot_counter e.sizes) (omega (arith, some_slots, some_components)) (inl (omega (arith, some_slots)))
           ∙ slot_opens e.sizes (opening_behind e.opening (b.log ∷ b.before)).values some_slots in
           let none = count_none (λ q. awaits_slot (fresh_part e.sizes q)) 0 e.ports (λ q. refl) in
           omega (arith, free, claimed, none);
@@ -344,7 +344,7 @@ module _ (e : Plan) (words : List ℕ) (ports : ℕ → Port) (b : Beside) (k : 
             record {
               few = h.few;
               sealed = h.sealed;
-              each = λ at' i less.
+              each = λ at' i less asked.
                   let now : get_or words' current_word 0 ≡ v = get_or-set_same words current_word v 0 (omega (arith, count)) in
                   let both = packed_arena e (next_place (ports k).control.here o.arena) (ports q).control.here w.plan.arenas own.arena (w.control.places q low).arena (sym now ∙ at') in
                   absurd (not_stood q low mine.stands (sym both.1));

@@ -1,5 +1,5 @@
 -- What is known of a port that stands in an epoch, and what a port has seen of the one history.
-use Rattle.std.proofs.Common.{ℕ, ◌≡◌, ◌≢◌, ◌<◌, ◌++◌, List, [], ◌∷◌, length, drop, sym, ap, subst, ◌∙◌, inl, inr, arith, length-append, append_assoc}
+use Rattle.std.proofs.Common.{ℕ, ◌≡◌, ◌≢◌, ◌<◌, ◌≤◌, ◌++◌, List, [], ◌∷◌, length, drop, sym, ap, subst, ◌∙◌, inl, inr, arith, length-append, append_assoc}
 use Rattle.std.specs.List.{AllByRecursion}
 use Rattle.std.proofs.lemmas.Bool.Decides.{eqb_tells}
 use Rattle.std.proofs.lemmas.List.{map-append, take-append-drop}
@@ -72,8 +72,12 @@ module _ (e : Plan) (words : List ℕ) (ports : ℕ → Port) (b : Beside) (w : 
         (b.log ∷ f.0, ap (λ (l : List (List Applied)). b.log ∷ l) (f.1 ∙ ap (λ (l : List (List Applied)). f.0 ++ s.epoch.log ∷ l) s.before))
   ]
 
+  -- it has seen no more of its epoch than there is
+  pub seen_few : length p.part.seen ≤ length s.epoch.log
+  seen_few = no_longer p.part.seen s.epoch.log known.seen
+
   pub reached : length p.before ≡ p.control.here.epoch → Reached b p
-  reached n = record { later = among.0; log = s.epoch.log; is = among.1; seen = no_longer p.part.seen s.epoch.log known.seen; epoch = n }
+  reached n = record { later = among.0; log = s.epoch.log; is = among.1; seen = seen_few; epoch = n }
 
   -- the epochs before it are those of a lawful memory
   pub earlier : AllByRecursion (IsEpochHistory e) b.before → AllByRecursion (IsEpochHistory e) p.before

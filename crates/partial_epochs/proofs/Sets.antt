@@ -6,7 +6,7 @@ use Rattle.std.proofs.lemmas.Bool.Decides.{eqb_tells}
 use Rattle.std.proofs.lemmas.List.{get_or-set_same, get_or-set_other, length-set}
 use Rattle.partial_words.specs.Layout.{first_free, total}
 use Rattle.partial_epochs.specs.Lists.{put}
-use Rattle.partial_epochs.specs.Layout.{Plan, Place, IsPlace, at_word, arena_words, base, carried_word, carried_words, component_words, control_size, control_words, current_word, packed, plain, span, set_word}
+use Rattle.partial_epochs.specs.Layout.{IsAsked, Plan, Place, IsPlace, at_word, arena_words, base, carried_word, carried_words, component_words, control_size, control_words, current_word, packed, plain, span, set_word}
 use Rattle.partial_epochs.specs.Ports.{Control, Owned, Port, Epoch}
 use Rattle.partial_epochs.specs.Control.{IsAt, IsMarked, IsOwner, LawfulControl, MayPut, NotInto}
 use Rattle.partial_epochs.specs.Epochs.{Beside, IsArena, IsNew, IsSetting, IsStanding, LawfulEpochs, controls, next_word, numbers, place_now}
@@ -84,12 +84,12 @@ module _ (e : Plan) (words : List ℕ) (cs : ℕ → Control) (now : Place) (hol
       owners = λ q low. owner_of q (cs q).owned (w.owners q low);
     }
 
-    abbrev c : Control
-    c = record (cs k) { owned = Some (record o { set = o.set + 1 }) }
+    abbrev c : ℕ → Control
+    c next = record (cs k) { owned = Some (record o { set = next }) }
 
-    same_put : (j : ℕ) (a : Place) → MayPut c j a → MayPut (cs k) j a
-    same_put j a may =
-        let same : record o { set = o.set + 1 } ≡ may.owned = cc in
+    same_put : (next j : ℕ) (a : Place) → MayPut (c next) j a → MayPut (cs k) j a
+    same_put next j a may =
+        let same : record o { set = next } ≡ may.owned = cc in
         record {
           owned = o;
           is = owned;
@@ -98,8 +98,8 @@ module _ (e : Plan) (words : List ℕ) (cs : ℕ → Control) (now : Place) (hol
           again = ap (λ (t : Owned). t.again) same ∙ may.again;
         }
 
-    own_more : IsOwner e words cs now holds' k (record o { set = o.set + 1 })
-    own_more = let h = own in record {
+    own_more : (next : ℕ) → IsOwner e words cs now holds' k (record o { set = next })
+    own_more next = let h = own in record {
       stands = h.stands;
       arena = h.arena;
       apart = h.apart;
@@ -114,12 +114,16 @@ module _ (e : Plan) (words : List ℕ) (cs : ℕ → Control) (now : Place) (hol
       none = λ _. put_same o.arena None holds;
     }
 
-    pub set_control : LawfulControl e words (put k c cs) now holds'
-    set_control = knows_more e words cs now holds' emptied k below c refl refl (w.past k below) same_put own_more
+    pub set_control : (next : ℕ) → LawfulControl e words (put k (c next) cs) now holds'
+    set_control next = knows_more e words cs now holds' emptied k below (c next) refl refl (w.past k below) (same_put next) (own_more next)
 
-module _ (e : Plan) (words : List ℕ) (ports : ℕ → Port) (b : Beside) (k : ℕ) (o : Owned) (v : ℕ) (w : LawfulEpochs e words ports b) (below : k < e.ports) (owned : (ports k).control.owned ≡ Some o)
-    (done : o.clean ≡ e.ports) (more : o.set < first_free e.sizes + e.sizes.m) (passed : e.sizes.m ≤ (ports k).passed)
-    (value : get_or words current_word 0 ≡ packed (ports k).control.here → v ≡ next_word e b o.set) where
+module _ (e : Plan) (words : List ℕ) (ports : ℕ → Port) (b : Beside) (k : ℕ) (o : Owned) (v next : ℕ) (w : LawfulEpochs e words ports b) (below : k < e.ports) (owned : (ports k).control.owned ≡ Some o)
+    (done : o.clean ≡ e.ports) (goes : o.set < next) (most : next ≤ first_free e.sizes + e.sizes.m) (passed : e.sizes.m ≤ (ports k).passed)
+    (value : get_or words current_word 0 ≡ packed (ports k).control.here → (i : ℕ) → o.set ≤ i → i < next → IsAsked e.sizes i →
+    get_or (set words (set_word e o.arena o.set) v) (set_word e o.arena i) 0 ≡ next_word e b i) where
+  more : o.set < first_free e.sizes + e.sizes.m
+  more = omega (arith, goes, most)
+
   mine : IsOwner e (control_words e words) (controls ports) (place_now b) (numbers b) k o
   mine = own e (control_words e words) (controls ports) (place_now b) (numbers b) w.control k below o owned done
 
@@ -166,7 +170,7 @@ module _ (e : Plan) (words : List ℕ) (ports : ℕ → Port) (b : Beside) (k : 
       (subst (λ (l : List ℕ). IsArena e l (component_words e words y) (carried_words e words y) r F) (sym ws) h))
 
   abbrev q' : Port
-  q' = having_set (ports k) o
+  q' = having_set (ports k) o next
 
   abbrev b' : Beside
   b' = vacated b o.arena
@@ -194,8 +198,8 @@ module _ (e : Plan) (words : List ℕ) (ports : ℕ → Port) (b : Beside) (k : 
 
   control_then : LawfulControl e (control_words e after) (controls (put k q' ports)) (place_now b') (numbers b')
   control_then =
-      let c : Control = record (ports k).control { owned = Some (record o { set = o.set + 1 }) } in
-      let h = set_control e (control_words e words) (controls ports) (place_now b) (numbers b) w.control k below o owned done own_place in
+      let c : Control = record (ports k).control { owned = Some (record o { set = next }) } in
+      let h = set_control e (control_words e words) (controls ports) (place_now b) (numbers b) w.control k below o owned done own_place next in
       let cs_is : (q : ℕ) → put k c (controls ports) q ≡ controls (put k q' ports) q = λ q. put_all (λ i (d : Control). d ≡ (put k q' ports i).control) k c (controls ports) q
       (λ _. sym (ap (λ (p : Port). p.control) (put_same k q' ports))) (λ ne. sym (ap (λ (p : Port). p.control) (put_other k q' ports q ne))) in
       let ns_is : (y : ℕ) → put o.arena None (numbers b) y ≡ numbers b' y = λ y. put_all (λ i (t : Option ℕ). t ≡ numbers b' i) o.arena None (numbers b) y
@@ -221,32 +225,25 @@ module _ (e : Plan) (words : List ℕ) (ports : ℕ → Port) (b : Beside) (k : 
       record {
         few = h.few;
         sealed = h.sealed;
-        each = λ at i less.
+        each = λ at i less asked.
             let few = h.few in
             let pool = w.plan.sizes.pool.0 in
             let p = set_place e t.arena i pool (omega (arith, less, few)) in
-            other (set_word e t.arena i) (λ same. away t.arena p.0 apart p.1 (sym p.2 ∙ same)) ∙ h.each (sym (other current_word (omega (arith, up))) ∙ at) i less;
+            other (set_word e t.arena i) (λ same. away t.arena p.0 apart p.1 (sym p.2 ∙ same)) ∙ h.each (sym (other current_word (omega (arith, up))) ∙ at) i less asked;
       }
 
-  set_more : IsSetting e after b' q' (record o { set = o.set + 1 })
+  set_more : IsSetting e after b' q' (record o { set = next })
   set_more =
       let h : IsSetting e words b (ports k) o = subst (λ (t : Option Owned). IfSome t (IsSetting e words b (ports k))) owned (w.setting k below) in
       let up = spot_high in
-      let p = place in
-      let there = below_whole e o.arena p.0 mine.arena p.1 in
-      let count = w.count in
-      let at_is = p.2 in
       record {
-        few = omega (arith, more);
+        few = most;
         sealed = λ _. passed;
-        each = λ at i less.
+        each = λ at i less asked.
             let was : get_or words current_word 0 ≡ packed (ports k).control.here = sym (other current_word (omega (arith, up))) ∙ at in
-            elim (eqb_tells i o.set) [
-              | inl same ↦ ap (λ n. get_or after (set_word e o.arena n) 0) same.1 ∙ get_or-set_same words (set_word e o.arena o.set) v 0 (omega (arith, there, count, at_is)) ∙ value was
-                  ∙ ap (next_word e b) (sym same.1)
-              | inr ne ↦
-                  let low : i < o.set = (let other_number = ne.1 in omega (arith, less, other_number)) in
-                  other (set_word e o.arena i) (apart i low) ∙ h.each was i low
+            elim (cases_lt i o.set) [
+              | inl low ↦ other (set_word e o.arena i) (apart i low) ∙ h.each was i low asked
+              | inr from ↦ value was i from less asked
             ];
       }
     where
@@ -294,4 +291,4 @@ module _ (e : Plan) (words : List ℕ) (ports : ℕ → Port) (b : Beside) (k : 
       }
 
 pub sets_stay_lawful : SetsStayLawful
-sets_stay_lawful e words ports b k o v w below owned done more passed value = sets_on e words ports b k o v w below owned done more passed value
+sets_stay_lawful e words ports b k o v next w below owned done goes most passed value = sets_on e words ports b k o v next w below owned done goes most passed value

@@ -24,12 +24,12 @@ use Rattle.partial_epochs.specs.Ports.Entering.{Stands}
 use Rattle.partial_epochs.specs.Epochs.{Beside, IsArena, IsStanding, LawfulEpochs, awaits_slot}
 use Rattle.partial_epochs.specs.Entering.{arrived}
 use Rattle.partial_epochs.specs.Publishing.{having_published, next_beside}
-use Rattle.partial_epochs.specs.Notes.{ArrivalsKeepNotes, AsidesStayLawful, IsEpochHistory, IsSight, LawfulMemory, LawfulNotes, PublishesKeepNotes, Reached, SightLeads, SightsStayLawful, having_seen, noting, one_history, seen_of}
+use Rattle.partial_epochs.specs.Notes.{ArrivalsKeepNotes, AsidesStayLawful, GlanceLeads, GlancesStayLawful, IsEpochHistory, IsSight, LawfulMemory, LawfulNotes, PublishesKeepNotes, Reached, SightLeads, SightsStayLawful, having_seen, noting, one_history, seen_of}
 use Rattle.partial_epochs.proofs.Change.{Changes, beside_then, change_kept}
 use Rattle.partial_epochs.proofs.Lists.{Around, around_of, count_same, put_all, put_other, put_same}
 use Rattle.partial_epochs.proofs.OneHistory.{history_grows, present_history}
 use Rattle.partial_epochs.proofs.Present.{standing}
-use Rattle.partial_epochs.proofs.Seats.{among, reached, reached_grows}
+use Rattle.partial_epochs.proofs.Seats.{among, reached, reached_grows, seen_few}
 
 -- one port comes to have seen more, and the one history is as before
 module _ (e : Plan) (ports : ℕ → Port) (b c : Beside) (notes : ℕ → List Noted) (k : ℕ) (p : Port) (w : LawfulNotes e ports b notes) (below : k < e.ports) (same : one_history c ≡ one_history b)
@@ -64,7 +64,7 @@ asides_stay_lawful e words words' ports b c notes k p w below a then = record {
 }
 
 -- of two ends of one list the longer one ends in the shorter one
-ends : {A : Type 0} (l a m c : List A) → l ++ a ≡ m ++ c → length a ≤ length c → (mid : List A) × (c ≡ mid ++ a)
+pub ends : {A : Type 0} (l a m c : List A) → l ++ a ≡ m ++ c → length a ≤ length c → (mid : List A) × (c ≡ mid ++ a)
 ends l a [] c is low = (l, sym is)
 ends [] a (y ∷ m) c is low =
     let long = ap (λ (t : List _). length t) is in
@@ -193,9 +193,9 @@ module _ (e : Plan) (words : List ℕ) (ports : ℕ → Port) (b : Beside) (k : 
   abbrev pub beside_sighted : Beside
   beside_sighted = beside_then b x r' []
 
-module _ (e : Plan) (words : List ℕ) (ports : ℕ → Port) (b : Beside) (notes : ℕ → List Noted) (k i : ℕ) (n : Noted) (w : LawfulMemory e words ports b notes) (below : k < e.ports)
-    (stands : (ports k).control.entering ≡ Stands) (st : IsStanding b k (ports k)) (h : IsSight e k (ports k) st.epoch.log (notes k) n i) (c : Beside)
-    (log : c.log ≡ b.log ++ []) (epochs : c.before ≡ b.before) where
+-- the port of a look has seen the whole history of its epoch
+module _ (e : Plan) (words : List ℕ) (ports : ℕ → Port) (b : Beside) (notes : ℕ → List Noted) (k : ℕ) (w : LawfulMemory e words ports b notes) (below : k < e.ports)
+    (st : IsStanding b k (ports k)) (c : Beside) (log : c.log ≡ b.log ++ []) (epochs : c.before ≡ b.before) where
   same_history : one_history c ≡ one_history b
   same_history = ap (λ (l : List Applied). history_of (l ∷ c.before)) (log ∙ append-nil b.log) ∙ ap (λ (l : List (List Applied)). history_of (b.log ∷ l)) epochs
 
@@ -210,52 +210,62 @@ module _ (e : Plan) (words : List ℕ) (ports : ℕ → Port) (b : Beside) (note
         epoch = (w.noted.reached k below).epoch;
       }
 
-  one_legal : IsLegal e.opening (one_history b) k (seen_by 0 (notes k)) n
-  one_legal =
-      let am = among e words ports b w.epochs k below (ports k) st in
-      let g = history_grows am.0 (st.epoch.log ∷ (ports k).before) in
-      let all : one_history b ≡ history_of (st.epoch.log ∷ (ports k).before) ++ g.0 = ap history_of am.1 ∙ g.1 in
-      let saw : Note = note.Saw (length (history_of (ports k).before) + i) in (
-        h.fits,
-        subst (λ (t : Option Note). IfSome t (λ (u : Note). IsTrueOf e.opening (one_history b) k n.call n.answer u × (seen_by 0 (notes k) ≤ place_of u))) (sym h.noted) (
-          subst (λ (l : List Applied). IsTrueOf e.opening l k n.call n.answer saw) (sym all) (IsTrueOf-grows e.opening (history_of (st.epoch.log ∷ (ports k).before)) g.0 k n.call n.answer saw h.is_true),
-          h.behind,
-        ),
-      )
+  pub glance_noted : LawfulNotes e (put k (having_seen (ports k) st.epoch.log) ports) c notes
+  glance_noted =
+      let seen : length (ports k).part.seen ≤ length st.epoch.log = seen_few e words ports b w.epochs k below (ports k) st in
+      notes_kept e ports b c notes k (having_seen (ports k) st.epoch.log) w.noted below same_history
+      (subst (AllByRecursion (IsEpochHistory e)) (sym epochs) w.noted.finished)
+      (λ q low was. reached_grows b c (ports q) [] log epochs was)
+      own_reached (omega (arith, seen))
 
-  shown_one : seen_by 0 (notes k ++ n ∷ []) ≤ seen_of (having_seen (ports k) st.epoch.log)
-  shown_one =
-      let pushed = seen_by-push 0 (notes k) n ∙ ap (seen_after (seen_by 0 (notes k))) h.noted in
-      let within = h.within in
-      omega (arith, pushed, within)
+  -- and it notes an answer that is true there
+  module _ (i : ℕ) (n : Noted) (h : IsSight e k (ports k) st.epoch.log (notes k) n i) where
+    one_legal : IsLegal e.opening (one_history b) k (seen_by 0 (notes k)) n
+    one_legal =
+        let am = among e words ports b w.epochs k below (ports k) st in
+        let g = history_grows am.0 (st.epoch.log ∷ (ports k).before) in
+        let all : one_history b ≡ history_of (st.epoch.log ∷ (ports k).before) ++ g.0 = ap history_of am.1 ∙ g.1 in
+        let saw : Note = note.Saw (length (history_of (ports k).before) + i) in (
+          h.fits,
+          subst (λ (t : Option Note). IfSome t (λ (u : Note). IsTrueOf e.opening (one_history b) k n.call n.answer u × (seen_by 0 (notes k) ≤ place_of u))) (sym h.noted) (
+            subst (λ (l : List Applied). IsTrueOf e.opening l k n.call n.answer saw) (sym all) (IsTrueOf-grows e.opening (history_of (st.epoch.log ∷ (ports k).before)) g.0 k n.call n.answer saw h.is_true),
+            h.behind,
+          ),
+        )
 
-  nothing_written : places_written (notes k ++ n ∷ []) ≡ places_written (notes k)
-  nothing_written = places_written-append (notes k) (n ∷ []) ∙ ap (λ (t : Option Note). places_written (notes k) ++ (wrote t ++ [])) h.noted ∙ append-nil (places_written (notes k))
+    shown_one : seen_by 0 (notes k ++ n ∷ []) ≤ seen_of (having_seen (ports k) st.epoch.log)
+    shown_one =
+        let pushed = seen_by-push 0 (notes k) n ∙ ap (seen_after (seen_by 0 (notes k))) h.noted in
+        let within = h.within in
+        omega (arith, pushed, within)
 
-  pub sight_noted : LawfulNotes e (put k (having_seen (ports k) st.epoch.log) ports) c (noting k (n ∷ []) notes)
-  sight_noted = record {
-    finished = subst (AllByRecursion (IsEpochHistory e)) (sym epochs) w.noted.finished;
-    reached = λ q low. put_all (λ j (r : Port). j < e.ports → Reached c r) k (having_seen (ports k) st.epoch.log) ports q (λ _ _. own_reached)
-        (λ _ low. reached_grows b c (ports q) [] log epochs (w.noted.reached q low)) low;
-    legal = λ q low. put_all (λ j (ns : List Noted). j < e.ports → LegalNotes e.opening (one_history c) j 0 ns) k (notes k ++ n ∷ []) notes q
-        (λ _ _. subst (λ (l : List Applied). LegalNotes e.opening l k 0 (notes k ++ n ∷ [])) (sym same_history) (LegalNotes-push e.opening (one_history b) k 0 (notes k) n (w.noted.legal k below) one_legal))
-        (λ _ low. subst (λ (l : List Applied). LegalNotes e.opening l q 0 (notes q)) (sym same_history) (w.noted.legal q low)) low;
-    shown = λ q low. shown_then q low (eqb_tells q k);
-    once = λ q low. put_all (λ j (ns : List Noted). j < e.ports → EachOnce (one_history c) j ns) k (notes k ++ n ∷ []) notes q
-        (λ _ _. ap (places_by k 0) same_history ∙ w.noted.once k below ∙ sym nothing_written)
-        (λ _ low. ap (places_by q 0) same_history ∙ w.noted.once q low) low;
-  }
-    where
-      shown_then : (q : ℕ) → q < e.ports → (((q == k) ≡ true) × (q ≡ k)) ⊎ (((q == k) ≡ false) × (q ≢ k)) → seen_by 0 (noting k (n ∷ []) notes q) ≤ seen_of (put k (having_seen (ports k) st.epoch.log) ports q)
-      shown_then q low (inl same) =
-          let ns : noting k (n ∷ []) notes q ≡ notes k ++ n ∷ [] = ap (noting k (n ∷ []) notes) same.1 ∙ put_same k (notes k ++ n ∷ []) notes in
-          let there : put k (having_seen (ports k) st.epoch.log) ports q ≡ having_seen (ports k) st.epoch.log =
-          ap (put k (having_seen (ports k) st.epoch.log) ports) same.1 ∙ put_same k (having_seen (ports k) st.epoch.log) ports in
-          subst (λ (l : List Noted). seen_by 0 l ≤ seen_of (put k (having_seen (ports k) st.epoch.log) ports q)) (sym ns)
-          (subst (λ (r : Port). seen_by 0 (notes k ++ n ∷ []) ≤ seen_of r) (sym there) shown_one)
-      shown_then q low (inr ne) =
-          subst (λ (l : List Noted). seen_by 0 l ≤ seen_of (put k (having_seen (ports k) st.epoch.log) ports q)) (sym (put_other k (notes k ++ n ∷ []) notes q ne.1))
-          (subst (λ (r : Port). seen_by 0 (notes q) ≤ seen_of r) (sym (put_other k (having_seen (ports k) st.epoch.log) ports q ne.1)) (w.noted.shown q low))
+    nothing_written : places_written (notes k ++ n ∷ []) ≡ places_written (notes k)
+    nothing_written = places_written-append (notes k) (n ∷ []) ∙ ap (λ (t : Option Note). places_written (notes k) ++ (wrote t ++ [])) h.noted ∙ append-nil (places_written (notes k))
+
+    pub sight_noted : LawfulNotes e (put k (having_seen (ports k) st.epoch.log) ports) c (noting k (n ∷ []) notes)
+    sight_noted = record {
+      finished = subst (AllByRecursion (IsEpochHistory e)) (sym epochs) w.noted.finished;
+      reached = λ q low. put_all (λ j (r : Port). j < e.ports → Reached c r) k (having_seen (ports k) st.epoch.log) ports q (λ _ _. own_reached)
+          (λ _ low. reached_grows b c (ports q) [] log epochs (w.noted.reached q low)) low;
+      legal = λ q low. put_all (λ j (ns : List Noted). j < e.ports → LegalNotes e.opening (one_history c) j 0 ns) k (notes k ++ n ∷ []) notes q
+          (λ _ _. subst (λ (l : List Applied). LegalNotes e.opening l k 0 (notes k ++ n ∷ [])) (sym same_history) (LegalNotes-push e.opening (one_history b) k 0 (notes k) n (w.noted.legal k below) one_legal))
+          (λ _ low. subst (λ (l : List Applied). LegalNotes e.opening l q 0 (notes q)) (sym same_history) (w.noted.legal q low)) low;
+      shown = λ q low. shown_then q low (eqb_tells q k);
+      once = λ q low. put_all (λ j (ns : List Noted). j < e.ports → EachOnce (one_history c) j ns) k (notes k ++ n ∷ []) notes q
+          (λ _ _. ap (places_by k 0) same_history ∙ w.noted.once k below ∙ sym nothing_written)
+          (λ _ low. ap (places_by q 0) same_history ∙ w.noted.once q low) low;
+    }
+      where
+        shown_then : (q : ℕ) → q < e.ports → (((q == k) ≡ true) × (q ≡ k)) ⊎ (((q == k) ≡ false) × (q ≢ k)) → seen_by 0 (noting k (n ∷ []) notes q) ≤ seen_of (put k (having_seen (ports k) st.epoch.log) ports q)
+        shown_then q low (inl same) =
+            let ns : noting k (n ∷ []) notes q ≡ notes k ++ n ∷ [] = ap (noting k (n ∷ []) notes) same.1 ∙ put_same k (notes k ++ n ∷ []) notes in
+            let there : put k (having_seen (ports k) st.epoch.log) ports q ≡ having_seen (ports k) st.epoch.log =
+            ap (put k (having_seen (ports k) st.epoch.log) ports) same.1 ∙ put_same k (having_seen (ports k) st.epoch.log) ports in
+            subst (λ (l : List Noted). seen_by 0 l ≤ seen_of (put k (having_seen (ports k) st.epoch.log) ports q)) (sym ns)
+            (subst (λ (r : Port). seen_by 0 (notes k ++ n ∷ []) ≤ seen_of r) (sym there) shown_one)
+        shown_then q low (inr ne) =
+            subst (λ (l : List Noted). seen_by 0 l ≤ seen_of (put k (having_seen (ports k) st.epoch.log) ports q)) (sym (put_other k (notes k ++ n ∷ []) notes q ne.1))
+            (subst (λ (r : Port). seen_by 0 (notes q) ≤ seen_of r) (sym (put_other k (having_seen (ports k) st.epoch.log) ports q ne.1)) (w.noted.shown q low))
 
 pub sights_stay_lawful : SightsStayLawful
 sights_stay_lawful e words ports b notes k i n w below s stands h =
@@ -267,6 +277,20 @@ sights_stay_lawful e words ports b notes k i n w below s stands h =
       same = record { log = append-nil b.log; before = refl; arena = refl };
       lawful = record {
         epochs = sight_kept e words ports b k w.epochs below stands;
-        noted = sight_noted e words ports b notes k i n w below stands st (subst (λ (l : List Applied). IsSight e k (ports k) l (notes k) n i) same h) c refl refl;
+        noted = sight_noted e words ports b notes k w below st c refl refl i n (subst (λ (l : List Applied). IsSight e k (ports k) l (notes k) n i) same h);
+      };
+    })
+
+pub glances_stay_lawful : GlancesStayLawful
+glances_stay_lawful e words ports b notes k w below stands s =
+    let st : IsStanding b k (ports k) = standing e words ports b k w.epochs below stands in
+    let same : s.epoch.log ≡ st.epoch.log = ap (λ (r : Epoch). r.log) (some_same (sym s.is ∙ st.is)) in
+    let c : Beside = beside_sighted e words ports b k w.epochs below stands in
+    subst (λ (l : List Applied). GlanceLeads e words ports b notes k l) (sym same) (record {
+      beside = c;
+      same = record { log = append-nil b.log; before = refl; arena = refl };
+      lawful = record {
+        epochs = sight_kept e words ports b k w.epochs below stands;
+        noted = glance_noted e words ports b notes k w below st c refl refl;
       };
     })

@@ -260,7 +260,7 @@ still : (b : Beside) (k : ℕ) (p : Port) (t : Option Owned) → IsStanding b k 
 still b k p t s = record { epoch = s.epoch; is = s.is; before = s.before; part = s.part; passed = s.passed; over = s.over }
 
 nothing_set : (e : Plan) (words : List ℕ) (b : Beside) (p : Port) (o : Owned) → o.set ≡ 0 → IsSetting e words b p o
-nothing_set e words b p o none = record { few = omega (arith, none); sealed = λ some. absurd (omega (arith, some, none)); each = λ at i less. absurd (omega (arith, less, none)) }
+nothing_set e words b p o none = record { few = omega (arith, none); sealed = λ some. absurd (omega (arith, some, none)); each = λ at i less _. absurd (omega (arith, less, none)) }
 
 owner_is : (e : Plan) (words : List ℕ) (ports : ℕ → Port) (b : Beside) (k : ℕ) (o : Owned) → LawfulEpochs e words ports b → k < e.ports → (ports k).control.owned ≡ Some o →
     IsOwner e (control_words e words) (controls ports) (place_now b) (numbers b) k o

@@ -34,7 +34,7 @@ pub data Changing : Type 0 where
   -- it gives arena x back, in which it has found a port; it looks behind a pass
   GivesBack : ℕ → ℕ → Changing
   EndsPass : ℕ → Changing
-  -- it loads what the components have, with so many loads left behind this one; it sets word i of its arena; it publishes
+  -- it loads what the components have, with so many loads left behind this one; it sets the words from i on; it publishes
   LoadsLast : ℕ → Changing
   SetsWord : ℕ → Changing
   Publishes : Changing
@@ -138,7 +138,7 @@ pub data ChangeLeads (e : Plan) (words : List ℕ) (p : Port) : Changing → Act
   PassGivesUp : (n : ℕ) → (¬ IsHere words p) → ChangeLeads e words p (EndsPass n) (Moves every.Move.Looks) StoresMark
   -- the loads of what the components have, the stores of the next epoch's words, and the exchange of the current word
   LoadsOne : (i : ℕ) → ChangeLeads e words p (LoadsLast i) Sees (next_load i)
-  SetsOne : (i : ℕ) (o : Owned) (v : ℕ) → o.set ≡ i → ChangeLeads e words p (SetsWord i) (Moves (every.Move.Sets o v)) (next_set e (i + 1))
+  SetsOne : (i : ℕ) (o : Owned) (v next : ℕ) → o.set ≡ i → ChangeLeads e words p (SetsWord i) (Moves (every.Move.Sets o v next)) (next_set e next)
   PublishesOnce : (o : Owned) → ChangeLeads e words p Publishes (Moves (every.Move.Publishes o)) GivesUp
   GivesLast : (o : Owned) → ChangeLeads e words p GivesUp (Moves (every.Move.Gives o)) StoresMark
   -- the three steps of entering

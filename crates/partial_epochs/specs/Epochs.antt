@@ -13,7 +13,7 @@ use Rattle.partial_words.specs.Chain.{opening_word}
 use Rattle.partial_core.specs.Lawful.{Lawful}
 use Rattle.partial_core.specs.Lawful as one
 use Rattle.partial_epochs.specs.Lists.{list_of, count}
-use Rattle.partial_epochs.specs.Layout.{arena_limit, Plan, Place, packed, current_word, control_words, component_words, carried_words, whole, seals, IsSealed, arena_words, set_word}
+use Rattle.partial_epochs.specs.Layout.{arena_limit, Plan, Place, packed, current_word, control_words, component_words, carried_words, whole, seals, IsAsked, IsSealed, arena_words, set_word}
 use Rattle.partial_epochs.specs.History.{opening_behind, carried_behind}
 use Rattle.partial_epochs.specs.Ports.{Owned, Control, Port, Epoch}
 use Rattle.partial_epochs.specs.Control.{LawfulControl}
@@ -130,7 +130,7 @@ pub record IsSetting (e : Plan) (words : List ℕ) (b : Beside) (p : Port) (w : 
   -- it has passed each component of its own epoch before
   pub sealed : 0 < w.set → e.sizes.m ≤ p.passed
   -- while its epoch is the current one, the words that it has set are those of the next epoch
-  pub each : slice_index words current_word ≡ packed p.control.here → (i : ℕ) → i < w.set →
+  pub each : slice_index words current_word ≡ packed p.control.here → (i : ℕ) → i < w.set → IsAsked e.sizes i →
       slice_index words (set_word e w.arena i) ≡ next_word e b i
 
 -- The lawful state of a memory over all epochs.

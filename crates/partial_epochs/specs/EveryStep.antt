@@ -1,5 +1,5 @@
 -- Every step that a port of a long-lived memory makes, and the one law of them.
-use Rattle.std.specs.Prelude.{ℕ, ◌≡◌, ◌≢◌, ◌+◌, ◌<◌, ◌≤◌, ◌⊎◌, ◌++◌, Bool, true, false, List, [], slice_index, Option, Some, None}
+use Rattle.std.specs.Prelude.{ℕ, ◌≡◌, ◌≢◌, ◌+◌, ◌<◌, ◌≤◌, ◌⊎◌, ◌++◌, Bool, true, false, List, [], length, slice_index, Option, Some, None}
 use Rattle.partial_model.specs.declared.history.Applied.{Applied}
 use Rattle.partial_model.specs.Notes.{Noted}
 use Rattle.partial_words.specs.Layout.{first_free}
@@ -11,14 +11,16 @@ use Rattle.partial_machine.specs.declared.stage.Reply.TheVariants as reply
 use Rattle.partial_machine.specs.Machine.{CoreState, advance, reply_of, step_of}
 use Rattle.partial_core.specs.Part.{IsMachineOf}
 use Rattle.partial_core.specs.Steps.{since_with}
-use Rattle.partial_epochs.specs.Layout.{IsPlace, IsSealed, Place, Plan, arena_words, at_word, base, component_words, current_word, entering_mark, marked, own_word, packed, placed, seal, set_word}
+use Rattle.partial_epochs.specs.Lists.{put}
+use Rattle.partial_epochs.specs.Layout.{IsAsked, IsPlace, IsSealed, Place, Plan, arena_words, at_word, base, component_words, current_word, entering_mark, marked, own_word, packed, placed, seal, set_word}
 use Rattle.partial_epochs.specs.Ports.{Owned, Port}
 use Rattle.partial_epochs.specs.Ports.Entering.{Stands, Marks, Loaded}
-use Rattle.partial_epochs.specs.Epochs.{Beside, IsStanding, next_word}
+use Rattle.partial_epochs.specs.Epochs.{Beside, IsStanding, next_word, place_now}
 use Rattle.partial_epochs.specs.MachineSteps.{MachineLeads, MayClaim, MeetsSeal}
 use Rattle.partial_epochs.specs.Publishing.{IsWhole, next_place}
 use Rattle.partial_epochs.specs.Opening.{OpensAll, first_beside, first_ports}
 use Rattle.partial_epochs.specs.Notes.{IsSight, LawfulMemory, MayNote, one_history}
+use Rattle.partial_epochs.specs.Time.{KeepsTime}
 
 -- what a port may do next
 pub data Move : Type 0 where
@@ -41,8 +43,8 @@ pub data Move : Type 0 where
   FindsElsewhere : Owned → Place → Move
   LoadsMark : Owned → Move
   Puts : Owned → Place → Move
-  -- an owner sets the next word, and publishes
-  Sets : Owned → ℕ → Move
+  -- an owner sets the next word, so that the words below that number count as set, and publishes
+  Sets : Owned → ℕ → ℕ → Move
   Publishes : Owned → Move
   -- a port notes what it has seen by a look
   Notes : Noted → ℕ → Move
@@ -56,7 +58,7 @@ moved_words e words p k (ExchangesMark c) = words_after words (Exchange (at_word
 moved_words e words p k (Takes x) = words_after words (Exchange (own_word e x) 0 (k + 1))
 moved_words e words p k (Gives o) = words_after words (Store (own_word e o.arena) 0)
 moved_words e words p k (Puts o a) = words_after words (Exchange (at_word o.clean) (marked a) (packed p.control.here))
-moved_words e words p k (Sets o v) = words_after words (Store (set_word e o.arena o.set) v)
+moved_words e words p k (Sets o v next) = words_after words (Store (set_word e o.arena o.set) v)
 moved_words e words p k (Publishes o) = words_after words (Exchange current_word (packed p.control.here) (packed (next_place p.control.here o.arena)))
 moved_words e words p k _ = words
 
@@ -83,8 +85,10 @@ MayMove e words ports b notes k (LoadsMark o) =
     ((ports k).control.owned ≡ Some o) × (o.clean < e.ports) × (entering_mark ≤ slice_index words (at_word o.clean))
 MayMove e words ports b notes k (Puts o a) = ((ports k).control.owned ≡ Some o) × (o.looked ≡ true) × (o.clean < e.ports) × (o.set ≡ 0)
     × (o.mark ≡ Some a) × (o.again ≡ true) × (slice_index words (at_word o.clean) ≡ marked a)
-MayMove e words ports b notes k (Sets o v) = ((ports k).control.owned ≡ Some o) × (o.clean ≡ e.ports) × (o.set < first_free e.sizes + e.sizes.m)
-    × (e.sizes.m ≤ (ports k).passed) × (slice_index words current_word ≡ packed (ports k).control.here → v ≡ next_word e b o.set)
+MayMove e words ports b notes k (Sets o v next) = ((ports k).control.owned ≡ Some o) × (o.clean ≡ e.ports) × (o.set < next)
+    × (next ≤ first_free e.sizes + e.sizes.m) × (e.sizes.m ≤ (ports k).passed)
+    × (slice_index words current_word ≡ packed (ports k).control.here → (i : ℕ) → o.set ≤ i → i < next → IsAsked e.sizes i →
+    slice_index (words_after words (Store (set_word e o.arena o.set) v)) (set_word e o.arena i) ≡ next_word e b i)
 MayMove e words ports b notes k (Publishes o) = IsWhole e (ports k) o
 MayMove e words ports b notes k (Notes n i) = ((ports k).control.entering ≡ Stands)
     × ((s : IsStanding b k (ports k)) × IsSight e k (ports k) s.epoch.log (notes k) n i)
@@ -105,6 +109,11 @@ abbrev pub IsPlacedBy : Move → Place → Place → Type 0
 IsPlacedBy (ExchangesMark c) here then = here.epoch < then.epoch
 IsPlacedBy _ here then = then ≡ here
 
+-- for each port the number of the epoch that was the current one as it stored its last entering mark, behind the move
+abbrev pub since_behind : Beside → ℕ → Move → (ℕ → ℕ) → ℕ → ℕ
+since_behind b k StoresMark since = put k (length b.before) since
+since_behind b k _ since = since
+
 -- what the move leads to: a lawful memory, in which all other ports are as they were
 pub record MoveLeads (e : Plan) (words words' : List ℕ) (ports : ℕ → Port) (b : Beside) (notes : ℕ → List Noted) (k : ℕ) (m : Move) :
     Type 0 where
@@ -119,6 +128,9 @@ pub record MoveLeads (e : Plan) (words words' : List ℕ) (ports : ℕ → Port)
   pub entries : List Applied
   pub history : one_history beside ≡ one_history b ++ entries
   pub adds : (entries ≡ []) ⊎ MayAdd e words (ports k) m
+  -- a memory that kept time keeps it
+  pub time : (since : ℕ → ℕ) → KeepsTime e words ports (place_now b) since →
+      KeepsTime e words' ports_then (place_now beside) (since_behind b k m since)
 
 -- every step of every port keeps the memory lawful
 abbrev pub EveryStepStaysLawful : Type 0

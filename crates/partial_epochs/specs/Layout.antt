@@ -1,7 +1,7 @@
 -- The words of a memory whose arenas are used again and again, one place for each offset: control words, and arenas.
-use Rattle.std.specs.Prelude.{ℕ, ◌+◌, ◌*◌, ◌/◌, ◌%◌, ◌<◌, ◌≤◌, nat_lt, List, slice_index, if◌then◌else◌, ◌-◌}
+use Rattle.std.specs.Prelude.{ℕ, ◌+◌, ◌*◌, ◌/◌, ◌%◌, ◌<◌, ◌≤◌, ◌⊎◌, nat_lt, List, slice_index, if◌then◌else◌, ◌-◌}
 use Rattle.partial_model.specs.declared.history.Opening.{Opening}
-use Rattle.partial_words.specs.Layout.{Layout, total, first_free}
+use Rattle.partial_words.specs.Layout.{Layout, total, first_free, list_base, pool_base}
 use Rattle.partial_words.specs.declared.step.Step.{Step}
 use Rattle.partial_words.specs.declared.step.Step.TheVariants.{Load, Store, Exchange, Add}
 use Rattle.partial_epochs.specs.Lists.{list_of}
@@ -131,3 +131,7 @@ placed e x (Add w k) = Add (base e x + w) k
 -- the word that an owner sets as number i: those of an opening first, and then the carried stamps
 abbrev pub set_word : Plan → ℕ → ℕ → ℕ
 set_word e x i = if nat_lt i (first_free e.sizes) then base e x + i else base e x + total e.sizes + (i - first_free e.sizes)
+
+-- an opening asks of that word what stands there: it asks nothing of list words
+abbrev pub IsAsked : Layout → ℕ → Type 0
+IsAsked s w = (w < list_base s) ⊎ (pool_base s ≤ w)

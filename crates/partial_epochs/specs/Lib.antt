@@ -11,7 +11,9 @@ pub mod Owning
 pub mod Publishing
 pub mod Opening
 pub mod Reads
+pub mod Collects
 pub mod Notes
+pub mod Time
 pub mod EveryStep
 pub mod Changing
 pub mod Calls

@@ -190,6 +190,19 @@ SightsStayLawful = (e : Plan) (words : List ℕ) (ports : ℕ → Port) (b : Bes
     (ports k).control.entering ≡ Stands → IsSight e k (ports k) s.epoch.log (notes k) n i →
     SightLeads e words ports b notes k s.epoch.log n
 
+-- A look that notes nothing leads to a lawful memory: its port has seen the whole history of its epoch.
+pub record GlanceLeads (e : Plan) (words : List ℕ) (ports : ℕ → Port) (b : Beside) (notes : ℕ → List Noted) (k : ℕ) (log : List Applied) :
+    Type 0 where
+  pub beside : Beside
+  pub same : IsBesideAs b beside
+  pub lawful : LawfulMemory e words (put k (having_seen (ports k) log) ports) beside notes
+
+-- so it is for each port that stands
+abbrev pub GlancesStayLawful : Type 0
+GlancesStayLawful = (e : Plan) (words : List ℕ) (ports : ℕ → Port) (b : Beside) (notes : ℕ → List Noted) (k : ℕ) →
+    LawfulMemory e words ports b notes → k < e.ports → (ports k).control.entering ≡ Stands → (s : IsStanding b k (ports k)) →
+    GlanceLeads e words ports b notes k s.epoch.log
+
 -- what a lawful memory says of the one history: it is a history over the opening, by the ports, and their notes fit it
 pub record FitsOneHistory (e : Plan) (b : Beside) (notes : ℕ → List Noted) : Type 0 where
   pub history : IsHistory e.opening (one_history b)

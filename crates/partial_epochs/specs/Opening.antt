@@ -7,18 +7,18 @@ use Rattle.partial_core.specs.Part.{fresh_part, fresh_parts}
 use Rattle.partial_words.specs.Chain.{opening_word}
 use Rattle.partial_core.specs.Lawful.{Lawful}
 use Rattle.partial_epochs.specs.Lists.{put}
-use Rattle.partial_epochs.specs.Layout.{Plan, Place, base, carried_word, control_size, whole}
+use Rattle.partial_epochs.specs.Layout.{IsAsked, Plan, Place, base, carried_word, control_size, whole}
 use Rattle.partial_epochs.specs.Ports.{Port, Epoch}
 use Rattle.partial_epochs.specs.Epochs.{IsPlan, Beside, LawfulEpochs}
 use Rattle.partial_epochs.specs.Entering.{arrived}
 
--- the words below the first free one are those of an opening; behind it anything may stand
+-- the words below the first free one are those of an opening, but for list words; behind it anything may stand
 pub record OpensOver (s : Layout) (o : Opening) (words : List ℕ) : Type 0 where
   pub sizes : IsLayout s
   pub values : length o.values ≡ s.m
   pub stamps : o.first ≡ pool_base s
   pub count : length words ≡ total s
-  pub each : (w : ℕ) → w < first_free s → slice_index words w ≡ opening_word s o.values w
+  pub each : (w : ℕ) → w < first_free s → IsAsked s w → slice_index words w ≡ opening_word s o.values w
 
 -- such words are lawful, with nothing applied
 abbrev pub OpensOverLawful : Type 0
@@ -30,7 +30,7 @@ pub record OpensAll (e : Plan) (words : List ℕ) : Type 0 where
   pub some : 0 < e.arenas
   pub count : length words ≡ whole e
   pub control : (i : ℕ) → i < control_size e → slice_index words i ≡ 0
-  pub each : (i : ℕ) → i < first_free e.sizes → slice_index words (base e 0 + i) ≡ opening_word e.sizes e.opening.values i
+  pub each : (i : ℕ) → i < first_free e.sizes → IsAsked e.sizes i → slice_index words (base e 0 + i) ≡ opening_word e.sizes e.opening.values i
   pub carried : (j : ℕ) → j < e.sizes.m → slice_index words (carried_word e 0 j) ≡ initial_stamp e.opening j
 
 abbrev pub first_place : Place

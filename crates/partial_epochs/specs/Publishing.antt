@@ -5,25 +5,27 @@ use Rattle.partial_words.specs.declared.step.Step.TheVariants.{Store, Exchange}
 use Rattle.partial_core.specs.Part.{fresh_part}
 use Rattle.partial_words.specs.Step.{words_after}
 use Rattle.partial_epochs.specs.Lists.{put}
-use Rattle.partial_epochs.specs.Layout.{epoch_limit, Plan, Place, packed, current_word, set_word}
+use Rattle.partial_epochs.specs.Layout.{IsAsked, epoch_limit, Plan, Place, packed, current_word, set_word}
 use Rattle.partial_epochs.specs.Ports.{Owned, Port, Epoch}
 use Rattle.partial_epochs.specs.Epochs.{Beside, next_word, LawfulEpochs, IsPresent}
 
--- a port that has set one word more of its arena
-abbrev pub having_set : Port → Owned → Port
-having_set p o = record p { control = record p.control { owned = Some (record o { set = o.set + 1 }) } }
+-- a port that has set the words of its arena below that number
+abbrev pub having_set : Port → Owned → ℕ → Port
+having_set p o next = record p { control = record p.control { owned = Some (record o { set = next }) } }
 
 -- the arena x holds no epoch then
 abbrev pub vacated : Beside → ℕ → Beside
 vacated b x = record b { holds = put x None b.holds }
 
--- A port that is done with all others, and has found all components of its epoch sealed, sets the next word of its arena: to the word of
--- the next epoch, if its own epoch is the current one yet.
+-- A port that is done with all others, and has found all components of its epoch sealed, sets the next word of its arena. The words from it
+-- on that count as set behind the store are those of the next epoch, if its own epoch is the current one yet.
 abbrev pub SetsStayLawful : Type 0
-SetsStayLawful = (e : Plan) (words : List ℕ) (ports : ℕ → Port) (b : Beside) (k : ℕ) (o : Owned) (v : ℕ) → LawfulEpochs e words ports b →
-    k < e.ports → (ports k).control.owned ≡ Some o → o.clean ≡ e.ports → o.set < first_free e.sizes + e.sizes.m →
-    e.sizes.m ≤ (ports k).passed → (slice_index words current_word ≡ packed (ports k).control.here → v ≡ next_word e b o.set) →
-    LawfulEpochs e (words_after words (Store (set_word e o.arena o.set) v)) (put k (having_set (ports k) o) ports) (vacated b o.arena)
+SetsStayLawful = (e : Plan) (words : List ℕ) (ports : ℕ → Port) (b : Beside) (k : ℕ) (o : Owned) (v next : ℕ) → LawfulEpochs e words ports b →
+    k < e.ports → (ports k).control.owned ≡ Some o → o.clean ≡ e.ports → o.set < next → next ≤ first_free e.sizes + e.sizes.m →
+    e.sizes.m ≤ (ports k).passed →
+    (slice_index words current_word ≡ packed (ports k).control.here → (i : ℕ) → o.set ≤ i → i < next → IsAsked e.sizes i →
+    slice_index (words_after words (Store (set_word e o.arena o.set) v)) (set_word e o.arena i) ≡ next_word e b i) →
+    LawfulEpochs e (words_after words (Store (set_word e o.arena o.set) v)) (put k (having_set (ports k) o next) ports) (vacated b o.arena)
 
 -- an arena that a port owns, as it was when it came to own it
 abbrev pub resting : Owned → Owned

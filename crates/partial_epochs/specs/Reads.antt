@@ -1,6 +1,6 @@
 -- What a read answers is true of the one history.
 use Rattle.std.specs.Prelude.{◌++◌, ℕ, ◌+◌, ◌<◌, ◌≤◌, nat_lt, List, ◌∷◌, slice_index, if◌then◌else◌, length, ◌≡◌, take}
-use Rattle.partial_words.specs.Layout.{first_free}
+use Rattle.partial_words.specs.Layout.{first_free, total}
 use Rattle.partial_words.specs.Record.{value_word}
 use Rattle.partial_words.specs.declared.step.Step.{Step}
 use Rattle.partial_machine.specs.Machine.{CoreState}
@@ -11,8 +11,8 @@ use Rattle.partial_model.specs.Notes.{IsTrueOf}
 use Rattle.partial_model.specs.declared.call.Call.TheVariants as call
 use Rattle.partial_model.specs.declared.call.Answer.TheVariants as answer
 use Rattle.partial_model.specs.declared.call.Note.TheVariants as note
-use Rattle.partial_epochs.specs.Layout.{Plan, IsSealed, base, carried_word, component_words, unsealed}
-use Rattle.partial_epochs.specs.History.{public_stamp, history_of, opening_behind}
+use Rattle.partial_epochs.specs.Layout.{Plan, IsSealed, base, carried_word, component_words, seal, unsealed}
+use Rattle.partial_epochs.specs.History.{carried_behind, public_stamp, history_of, opening_behind}
 use Rattle.partial_epochs.specs.Ports.{Port}
 use Rattle.partial_epochs.specs.Epochs.{Beside, IsStanding, LawfulEpochs}
 use Rattle.partial_epochs.specs.Ports.Entering.{Stands}
@@ -48,3 +48,46 @@ LastWordsAreFinal = (e : Plan) (words : List ℕ) (ports : ℕ → Port) (b : Be
     × ((q : ℕ) (c : CoreState) (step : Step) (lead : MachineLeads e words ports b q c step) →
     IsSealed (slice_index (component_words e words (ports q).control.here.arena) j) → (o : Opening) (log : List Applied) →
     (value_of o (log ++ lead.entries) j ≡ value_of o log j) × (stamp_of o (log ++ lead.entries) j ≡ stamp_of o log j))
+
+-- the component word of the arena where a port stands names the record that the component has behind its epoch's history
+pub record NamesRecord (e : Plan) (words : List ℕ) (p : Port) (log : List Applied) (j : ℕ) : Type 0 where
+  pub there : base e p.control.here.arena + j < length words
+  pub names : unsealed (slice_index words (base e p.control.here.arena + j)) ≡ stamp_of (opening_behind e.opening p.before) log j
+
+-- so it is for each port that stands, and each component
+abbrev pub ComponentsNameRecords : Type 0
+ComponentsNameRecords = (e : Plan) (words : List ℕ) (ports : ℕ → Port) (b : Beside) (k j : ℕ) → LawfulEpochs e words ports b → k < e.ports →
+    (ports k).control.entering ≡ Stands → j < e.sizes.m → (s : IsStanding b k (ports k)) → NamesRecord e words (ports k) s.epoch.log j
+
+-- the stamp of component j behind the first n entries that a port has seen of its epoch
+abbrev pub seen_stamp : Plan → Port → ℕ → ℕ → ℕ
+seen_stamp e p j n = stamp_of (opening_behind e.opening p.before) (take n p.part.seen) j
+
+-- The record of component j behind the first n entries that a port has seen of its epoch, in the words of its arena: it lies behind the
+-- component words, below the seals and within the arena, and holds the value that the component had there.
+pub record IsSeenRecord (e : Plan) (words : List ℕ) (p : Port) (j n : ℕ) : Type 0 where
+  pub some : 0 < seen_stamp e p j n
+  pub small : seen_stamp e p j n < seal
+  pub within : value_word (seen_stamp e p j n) < total e.sizes
+  pub there : base e p.control.here.arena + value_word (seen_stamp e p j n) < length words
+  pub value : slice_index words (base e p.control.here.arena + value_word (seen_stamp e p j n))
+      ≡ value_of (opening_behind e.opening p.before) (take n p.part.seen) j
+
+-- what a port that stands finds of component j in its arena, of an epoch with this history
+pub record AreSeenRecords (e : Plan) (words : List ℕ) (p : Port) (log : List Applied) (j : ℕ) : Type 0 where
+  -- what it has seen is a beginning of the epoch's history
+  pub seen : p.part.seen ≡ take (length p.part.seen) log
+  pub few : length p.part.seen ≤ length log
+  -- so many epochs come before, and they have left a value for each component
+  pub epoch : length p.before ≡ p.control.here.epoch
+  pub values : length (opening_behind e.opening p.before).values ≡ e.sizes.m
+  -- its record at each length of what the port has seen
+  pub each : (n : ℕ) → n ≤ length p.part.seen → IsSeenRecord e words p j n
+  -- its carried stamp
+  pub there : carried_word e p.control.here.arena j < length words
+  pub carried : slice_index words (carried_word e p.control.here.arena j) ≡ carried_behind e.opening p.before j
+
+-- what a port has seen of its epoch it can read there, whatever other ports have done since
+abbrev pub SeenRecordsStay : Type 0
+SeenRecordsStay = (e : Plan) (words : List ℕ) (ports : ℕ → Port) (b : Beside) (k j : ℕ) → LawfulEpochs e words ports b → k < e.ports →
+    (ports k).control.entering ≡ Stands → j < e.sizes.m → (s : IsStanding b k (ports k)) → AreSeenRecords e words (ports k) s.epoch.log j

@@ -8,12 +8,14 @@ ghost use Rattle.partial_epochs.specs.Entering.{LooksAreTrue, MarksStayLawful, E
 ghost use Rattle.partial_epochs.specs.Owning.{TakesStayLawful, GivesStayLawful, OwnersLook, OwnersLookAway, OthersAreElsewhere, MarksAreLoaded, PutsStayLawful};
 ghost use Rattle.partial_epochs.specs.Publishing.{SetsStayLawful, PublishesStayLawful};
 ghost use Rattle.partial_epochs.specs.Opening.{OpensOverLawful, EpochsOpenLawful};
-ghost use Rattle.partial_epochs.specs.Notes.{EpochsFitOneHistory, NotesStayLawful, SightsStayLawful, AsidesStayLawful, ArrivalsKeepNotes, PublishesKeepNotes, PublicStampsAreUnique};
+ghost use Rattle.partial_epochs.specs.Notes.{EpochsFitOneHistory, NotesStayLawful, SightsStayLawful, GlancesStayLawful, AsidesStayLawful, ArrivalsKeepNotes, PublishesKeepNotes, PublicStampsAreUnique};
+ghost use Rattle.partial_epochs.specs.Time.{OpeningsKeepTime, MarksKeepTime, EntriesKeepTime, ArrivalsKeepTime, LooksKeepTime, LoadedMarksKeepTime, PutsKeepTime, PublishesKeepTime, AsidesKeepTime, StepsKeepPlaces};
 ghost use Rattle.partial_epochs.specs.EveryStep.{EveryStepStaysLawful, MemoriesOpenLawful};
 ghost use Rattle.partial_epochs.specs.Calls.{CallsStayLawful};
 ghost use Rattle.partial_epochs.specs.Bounds.{ReadsMakeEight, UpdatesAreBounded, ConditionalUpdatesAreBounded, ScansAreBounded, ChangesAreBounded};
 ghost use Rattle.partial_epochs.specs.Refusals.{RefusedCallsApplyNothing, ComponentsAreMissing, OvertakenCallsMovedOn, ChangesAreRefused, NoArenaIsFree};
-ghost use Rattle.partial_epochs.specs.Reads.{ReadsTellAllEpochs, LastWordsAreFinal};
+ghost use Rattle.partial_epochs.specs.Reads.{ReadsTellAllEpochs, LastWordsAreFinal, ComponentsNameRecords, SeenRecordsStay};
+ghost use Rattle.partial_epochs.specs.Collects.{CollectsStandTogether, EpochsAreHistories};
 
 /// A memory as it opens is lawful, with nothing applied, whatever stands in the arenas that hold no epoch.
 pub fn epochs_open_lawful()
@@ -167,6 +169,30 @@ pub fn last_words_are_final()
     ensures { LastWordsAreFinal }
 {}
 
+/// The component word of the arena where a port stands, with its seals taken off, names the record that the component
+/// has behind the history of the port's epoch.
+pub fn components_name_records()
+    ensures { ComponentsNameRecords }
+{}
+
+/// What a port that stands has seen of its epoch stays in the words of its arena, whatever other ports do: the record
+/// of each component at each length of the history that it has seen, with its value, and the carried stamp.
+pub fn seen_records_stay()
+    ensures { SeenRecordsStay }
+{}
+
+/// The history of the epoch where a port stands is a history over what the epochs before have left: its stamps are
+/// distinct, and none is an initial one.
+pub fn epochs_are_histories()
+    ensures { EpochsAreHistories }
+{}
+
+/// What two collects of a scan found that have equal stamps stood together, with its values, at each moment between the
+/// last load of the first collect and the first load of the second.
+pub fn collects_stand_together()
+    ensures { CollectsStandTogether }
+{}
+
 /// Each step of a port's machine keeps the memory lawful with its notes. What the port notes of its epoch it notes over
 /// all epochs with public stamps, if its earlier notes show no more than it had seen as the call began. A call that has
 /// no entry in the history may go unnoted, as a scan does that is made again in a later epoch.
@@ -178,6 +204,11 @@ pub fn notes_stay_lawful()
 /// and keeps the memory lawful. So reads, and conditional updates that find another stamp, need no step of a machine.
 pub fn sights_stay_lawful()
     ensures { SightsStayLawful }
+{}
+
+/// A port that stands may see the whole history of its epoch and note nothing, and keeps the memory lawful.
+pub fn glances_stay_lawful()
+    ensures { GlancesStayLawful }
 {}
 
 /// A step that changes neither histories nor what its port has seen, its place or its notes keeps the memory lawful with
@@ -196,13 +227,65 @@ pub fn publishes_keep_notes()
     ensures { PublishesKeepNotes }
 {}
 
+/// A memory as it opens keeps time: each port's last entering is of the first epoch.
+pub fn openings_keep_time()
+    ensures { OpeningsKeepTime }
+{}
+
+/// The first step of entering keeps time: from then on the port comes to no older epoch than the one that is the current
+/// one at that step. No other port may put it yet.
+pub fn marks_keep_time()
+    ensures { MarksKeepTime }
+{}
+
+/// The second step of entering, the load of the current place, keeps time.
+pub fn entries_keep_time()
+    ensures { EntriesKeepTime }
+{}
+
+/// The third step of entering keeps time: the port comes to an epoch that is no older than the one that was the current
+/// one as it stored its mark, whether it loaded that place itself or another port put it there.
+pub fn arrivals_keep_time()
+    ensures { ArrivalsKeepTime }
+{}
+
+/// An owner that loads its own place as the current one keeps time: it may put a port there whose mark it holds.
+pub fn looks_keep_time()
+    ensures { LooksKeepTime }
+{}
+
+/// An owner that loads an entering mark keeps time: it may not put that port before it has looked again.
+pub fn loaded_marks_keep_time()
+    ensures { LoadedMarksKeepTime }
+{}
+
+/// An owner that puts an entering port where it stands itself keeps time.
+pub fn puts_keep_time()
+    ensures { PutsKeepTime }
+{}
+
+/// The exchange that opens the next epoch keeps time.
+pub fn publishes_keep_time()
+    ensures { PublishesKeepTime }
+{}
+
+/// A step that changes no port's word and place, and by which no port comes to be one that may put another, keeps time.
+pub fn asides_keep_time()
+    ensures { AsidesKeepTime }
+{}
+
+/// A step made in an arena, the store of a word that an owner sets, and a step on an owner word change no port's word.
+pub fn steps_keep_places()
+    ensures { StepsKeepPlaces }
+{}
+
 /// A memory as it opens is lawful, and nobody has noted anything.
 pub fn memories_open_lawful()
     ensures { MemoriesOpenLawful }
 {}
 
 /// The one law of the long-lived memory: from a lawful memory, whatever step a port makes next, the memory is lawful
-/// again, and all other ports and their notes are as they were.
+/// again, all other ports and their notes are as they were, and a memory that kept time keeps it.
 pub fn every_step_stays_lawful()
     ensures { EveryStepStaysLawful }
 {}

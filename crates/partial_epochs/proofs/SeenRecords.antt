@@ -1,0 +1,113 @@
+-- What a port has seen of its epoch it finds in the words of its arena.
+use Rattle.std.proofs.Common.{ℕ, ◌≡◌, ◌+◌, ◌<◌, ◌≤◌, List, length, take, get_or, sym, ap, subst, ◌∙◌, arith}
+use Rattle.partial_model.specs.declared.history.Applied.{Applied}
+use Rattle.partial_model.specs.declared.history.Opening.{Opening}
+use Rattle.partial_model.specs.History.{stamp_of, value_of}
+use Rattle.partial_model.proofs.HistoryLemmas.{stamp_all}
+use Rattle.partial_model.proofs.StampsStay.{take_within}
+use Rattle.partial_words.specs.Layout.{total}
+use Rattle.partial_words.proofs.ChainLemmas.{value_behind_stamp}
+use Rattle.partial_core.specs.Lawful as one
+use Rattle.partial_core.specs.Ports.{RecordsAreWithin}
+use Rattle.partial_core.proofs.Laws.{lawful_records_are_within}
+use Rattle.partial_epochs.specs.Lists.{list_of}
+use Rattle.partial_epochs.specs.Layout.{Plan, arena_words, base}
+use Rattle.partial_epochs.specs.History.{opening_behind}
+use Rattle.partial_epochs.specs.Ports.{Port}
+use Rattle.partial_epochs.specs.Epochs.{Beside, IsStanding, LawfulEpochs}
+use Rattle.partial_epochs.specs.Reads.{IsSeenRecord, SeenRecordsStay}
+use Rattle.partial_epochs.proofs.Continue.{all_taken, carried_there, epoch_behind}
+use Rattle.partial_epochs.proofs.Places.{below_whole}
+use Rattle.partial_epochs.proofs.Seats.{known, seen_few}
+use Rattle.partial_epochs.proofs.Worded.{plain_at, plain_other}
+
+module _ (e : Plan) (words : List ℕ) (ports : ℕ → Port) (b : Beside) (k j : ℕ) (w : LawfulEpochs e words ports b) (below : k < e.ports) (inside : j < e.sizes.m) (s : IsStanding b k (ports k)) where
+  abbrev x : ℕ
+  x = (ports k).control.here.arena
+
+  abbrev o : Opening
+  o = opening_behind e.opening (ports k).before
+
+  abbrev bw : List ℕ
+  bw = arena_words e words x
+
+  abbrev seen : List Applied
+  seen = (ports k).part.seen
+
+  facts : RecordsAreWithin e.sizes o bw s.epoch.log
+  facts = lawful_records_are_within e.sizes o bw (list_of s.epoch.part 0 e.ports) s.epoch.log
+      (subst (λ (l : List (List Applied)). one.Lawful e.sizes (opening_behind e.opening l) bw (list_of s.epoch.part 0 e.ports) s.epoch.log) s.before (w.arenas x s.epoch s.is).lawful)
+
+  count : length bw ≡ total e.sizes
+  count = (w.arenas x s.epoch s.is).lawful.memory.count
+
+  begins : seen ≡ take (length seen) s.epoch.log
+  begins = (known e words ports b w k below (ports k) s).seen
+
+  -- at each length of what the port has seen
+  module _ (n : ℕ) (few : n ≤ length seen) where
+    abbrev at : ℕ
+    at = stamp_of (opening_behind e.opening (ports k).before) (take n (ports k).part.seen) j
+
+    taken : take n (ports k).part.seen ≡ take n s.epoch.log
+    taken = ap (take n) begins ∙ take_within n (length seen) s.epoch.log few
+
+    lies : (e.sizes.m ≤ at) × (at + 2 < length bw)
+    lies = subst (λ (h : List Applied). (e.sizes.m ≤ stamp_of o h j) × (stamp_of o h j + 2 < length bw)) (sym taken)
+        (stamp_all (λ i. (e.sizes.m ≤ i) × (i + 2 < length bw)) o j (take n s.epoch.log)
+        (all_taken (λ (a : Applied). (e.sizes.m ≤ a.stamp) × (a.stamp + 2 < length bw)) s.epoch.log n facts.entries) (facts.initial j inside))
+
+    arena_is : x < e.arenas
+    arena_is = (w.control.places k below).arena
+
+    stands_there : base e x + (at + 1) < length words
+    stands_there =
+        let up = lies.1 in
+        let c = count in
+        let all = w.count in
+        let low = below_whole e x (at + 1) arena_is (omega (arith, up, c)) in
+        omega (arith, low, all)
+
+    read : get_or words (base e x + (at + 1)) 0 ≡ value_of o (take n seen) j
+    read =
+        let from = lies.0 in
+        let up = lies.1 in
+        let c = count in
+        let values = facts.values in
+        sym (plain_at e words x (at + 1) (omega (arith, up, c)) ∙ plain_other e words x (at + 1) (get_or words (base e x + (at + 1)) 0) (omega (arith, from)))
+        ∙ ap (λ (h : List Applied). get_or bw (stamp_of o h j + 1) 0) taken
+        ∙ value_behind_stamp o bw s.epoch.log j n facts.agrees (omega (arith, values, inside))
+        ∙ ap (λ (h : List Applied). value_of o h j) (sym taken)
+
+    is_record : IsSeenRecord e words (ports k) j n
+    is_record =
+        let from = lies.0 in
+        let up = lies.1 in
+        let c = count in
+        let sizes = w.plan.sizes in
+        let some = sizes.components.0 in
+        let few_components = sizes.components.1 in
+        let few_slots = sizes.slots.1 in
+        let few_lists = sizes.lists in
+        let few_pool = sizes.pool.1 in
+        record {
+          some = omega (arith, from, some);
+          small = omega (arith, up, c, few_components, few_slots, few_lists, few_pool);
+          within = omega (arith, up, c);
+          there = stands_there;
+          value = read;
+        }
+
+pub seen_records_stay : SeenRecordsStay
+seen_records_stay e words ports b k j w below stands inside s = record {
+  seen = begins e words ports b k j w below inside s;
+  few = seen_few e words ports b w k below (ports k) s;
+  epoch = epoch_behind e words ports b k w s below stands;
+  values = (facts e words ports b k j w below inside s).values;
+  each = is_record e words ports b k j w below inside s;
+  there =
+      let low = below_whole e (ports k).control.here.arena (total e.sizes + j) (w.control.places k below).arena (omega (arith, inside)) in
+      let all = w.count in
+      omega (arith, low, all);
+  carried = carried_there e words ports b k w s j inside;
+}
