@@ -1,0 +1,114 @@
+//! The calls of a port in a memory that one caller uses.
+
+ghost use Rattle.std.specs.Prelude.{◌≤◌};
+ghost use Rattle.partial_long_lived.specs.Ports.{IsOf};
+
+use partial_long_lived::{LongLived, Options, Port, Refused, Updated};
+use std::process::Abort;
+use std::test::Fail;
+
+// Each port reads the initial values. Their stamps are distinct, and stay as they are.
+#[test]
+fn initial_reads(rt: HostRuntime) -> Result<(), Fail> {
+    let alloc = rt.alloc();
+    let greatest = u64::MAX;
+    let (memory, mut ports) = LongLived::open(alloc, &[10, greatest, 30], 2, Options::default())?;
+    let mut last = ports.pop().ok_or("a last port")?;
+    let mut first = ports.pop().ok_or("a first port")?;
+    let (ten, ten_stamp) = memory.read(&mut first, 0)?;
+    let (most, most_stamp) = memory.read(&mut first, 1)?;
+    let (thirty, thirty_stamp) = memory.read(&mut first, 2)?;
+    assert_eq!(rt; (ten, most, thirty), (10, greatest, 30));
+    assert!(rt; ten_stamp < most_stamp);
+    assert!(rt; most_stamp < thirty_stamp);
+    assert_eq!(rt; memory.read(&mut last, 2)?, (30, thirty_stamp));
+    assert_eq!(rt; memory.read(&mut first, 0)?, (10, ten_stamp));
+    Ok(())
+}
+
+// A read of a component that isn't there is refused, and the port reads on.
+#[test]
+fn refused_reads(rt: HostRuntime) -> Result<(), Fail> {
+    let (memory, mut ports) = LongLived::open(rt.alloc(), &[10, 20], 1, Options::default())?;
+    let mut port = ports.pop().ok_or("a port")?;
+    assert_eq!(rt; memory.read(&mut port, 2), Err(Refused::Component));
+    assert_eq!(rt; memory.read(&mut port, u32::MAX), Err(Refused::Component));
+    let (value, _) = memory.read(&mut port, 1)?;
+    assert_eq!(rt; value, 20);
+    Ok(())
+}
+
+// Sets component 0, and reads it and component 1, which is 20.
+fn sets_first(rt: &impl Abort, memory: &LongLived, port: &mut Port, value: u64)
+    requires { IsOf memory.now port.old }
+    ensures { IsOf memory.now port.new }
+{
+    let Ok(Updated::Applied { stamp }) = memory.update(port, 0, value) else {
+        panic!(rt; "not applied");
+    };
+    assert_eq!(rt; memory.read(port, 0), Ok((value, stamp)));
+    let Ok((second, _)) = memory.read(port, 1) else {
+        panic!(rt; "not read");
+    };
+    assert_eq!(rt; second, 20);
+}
+
+// Scans both components.
+fn shows(rt: &impl Abort, memory: &LongLived, port: &mut Port, values: [u64; 2])
+    requires own { IsOf memory.now port.old }
+    requires both { 2 ≤ memory.now.about.sizes.m }
+    ensures { IsOf memory.now port.new }
+{
+    let mut into = [0u64; 2];
+    let Ok(_) = memory.scan(port, &[0, 1], &mut into) else {
+        panic!(rt; "not scanned");
+    };
+    assert_eq!(rt; into, values);
+}
+
+// Sets component 0 and scans, in epoch after epoch.
+fn works(rt: &impl Abort, memory: &LongLived, port: &mut Port)
+    requires own { IsOf memory.now port.old }
+    requires both { 2 ≤ memory.now.about.sizes.m }
+{
+    sets_first(rt, memory, port, 11);
+    sets_first(rt, memory, port, 12);
+    shows(rt, memory, port, [12, 20]);
+    sets_first(rt, memory, port, 13);
+    shows(rt, memory, port, [13, 20]);
+}
+
+// With a pool of one word each call makes its port spent, so that the next one changes the epoch.
+#[test]
+fn updates_over_epochs(rt: HostRuntime) -> Result<(), Fail> {
+    let options = Options { lists: 2, pool: 1 };
+    let (memory, mut ports) = LongLived::open(rt.alloc(), &[10, 20], 1, options)?;
+    let mut port = ports.pop().ok_or("a port")?;
+    works(&rt, &memory, &mut port);
+    Ok(())
+}
+
+// The first port sets component 0 in some epochs; the other one, which stands in the first epoch, goes on from there.
+fn takes_turns(rt: &impl Abort, memory: &LongLived, first: &mut Port, last: &mut Port)
+    requires first { IsOf memory.now first.old }
+    requires last { IsOf memory.now last.old }
+    requires both { 2 ≤ memory.now.about.sizes.m }
+{
+    sets_first(rt, memory, first, 11);
+    sets_first(rt, memory, first, 12);
+    sets_first(rt, memory, first, 13);
+    shows(rt, memory, last, [13, 20]);
+    sets_first(rt, memory, last, 14);
+    shows(rt, memory, first, [14, 20]);
+}
+
+// A port that stands in an old epoch scans and updates in the current one.
+#[test]
+fn ports_in_two_epochs(rt: HostRuntime) -> Result<(), Fail> {
+    let options = Options { lists: 2, pool: 1 };
+    let (memory, mut ports) = LongLived::open(rt.alloc(), &[10, 20], 2, options)?;
+    let mut last = ports.pop().ok_or("a last port")?;
+    let mut first = ports.pop().ok_or("a first port")?;
+    takes_turns(&rt, &memory, &mut first, &mut last);
+    Ok(())
+}

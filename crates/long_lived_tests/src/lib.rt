@@ -1,0 +1,9 @@
+//! Tests of the long-lived memory. They use what it offers, so that it is proved without them.
+#![tactic(auto)]
+
+#[cfg(test)]
+mod calls;
+#[cfg(test)]
+mod growths;
+#[cfg(test)]
+mod openings;

@@ -1,0 +1,335 @@
+-- A call of a port: how it begins at the seat that was taken out, and what it leaves once the seat is put back.
+use Rattle.std.proofs.Common.{ℕ, zero, suc, None, append-nil, ◌≡◌, ◌<◌, ◌≤◌, ◌++◌, ◌∷◌, [], Option, Some, IfSome, Bool, true, false, true≢false, List, length}
+use Rattle.std.proofs.Common.{take, refl, sym, ap, subst, ◌∙◌, inl, inr, arith}
+use Rattle.std.specs.Prelude.{Contains, nat_lt, slice_index}
+use Rattle.std.specs.List.{AllByRecursion, list_all}
+use Rattle.std.specs.Option.{option_map}
+use Rattle.std.proofs.Math.Seq.{take-append_seam}
+use Rattle.atomic_table.specs.Seated.{TableId}
+use Rattle.partial_model.specs.declared.history.Applied.{Applied}
+use Rattle.partial_model.specs.declared.call.Call.TheVariants as call
+use Rattle.partial_model.specs.declared.call.Answer.TheVariants as answer
+use Rattle.partial_model.specs.declared.call.Note.TheVariants as note
+use Rattle.partial_model.specs.Notes.{IsEntryFor, IsLegal, LegalNotes, Noted, seen_by}
+use Rattle.partial_model.proofs.Decisions.{Decides-list_all, Decides-nat_lt}
+use Rattle.partial_model.proofs.NotesLemmas.{AllByRecursion-get, LegalNotes-last}
+use Rattle.partial_words.specs.Layout.{Layout}
+use Rattle.partial_active.specs.GetSet.{fresh as unmarked}
+use Rattle.partial_machine.specs.Machine.{CoreState, fresh}
+use Rattle.partial_machine.specs.Sound.{AreComponents, IsSound, is_sound_at}
+use Rattle.partial_core.specs.Part.{IsBetween, IsMarkedLike, core_of}
+use Rattle.partial_machine.specs.Calls.{is_at_rest}
+use Rattle.partial_epochs.specs.History.{public_stamp}
+use Rattle.partial_long_lived.specs.declared.error.Refused.{Refused}
+use Rattle.partial_long_lived.specs.declared.error.Refused.TheVariants.{Component, Overtaken, NoArena, EpochsSpent}
+use Rattle.partial_long_lived.specs.declared.rule.About.{About}
+use Rattle.partial_long_lived.specs.declared.stand.Stand.{Stand}
+use Rattle.partial_long_lived.specs.declared.seating.Seating.{Seating}
+use Rattle.partial_long_lived.specs.Rule.{Began, Seated, one_in}
+use Rattle.partial_long_lived.specs.Ports.{IsOf, MemoryView, PortView, port_view, seen_in}
+use Rattle.partial_long_lived.specs.Calls as calls
+use Rattle.partial_long_lived.specs.Seating.{IsStandOf, IsSeatingOf}
+use Rattle.partial_long_lived.specs.Resting.{IsResting}
+use Rattle.partial_long_lived.specs.Inner.Steps.{Goes}
+use Rattle.partial_long_lived.specs.Inner.Held.{IsHeld, port_at}
+use Rattle.partial_long_lived.specs.Inner.Calls.{HasCome, HasRead, IsIdle}
+use Rattle.partial_long_lived.specs.Inner.Changing.{Changed, NotChanged}
+use Rattle.partial_long_lived.specs.Inner.Scans.{HasScanned, RestsUnmarked, ScanMade, noted_scan}
+use Rattle.partial_long_lived.specs.Inner.Rests.{NotScanned, RestsAt}
+use Rattle.partial_long_lived.proofs.Coming.{goes_on}
+use Rattle.partial_long_lived.proofs.Resting.{kept_is, rests_kept, taken_is}
+
+-- the port of the seat that was taken out, as callers see it
+pub view_taken : (m : MemoryView) (s : Seating) (t : Stand) (p : PortView) → IsStandOf s t → port_view s.badge.table_id (one_in s.badge.views) ≡ p → IsOf m p → port_view m.table (port_at t) ≡ p
+view_taken m s t p k view own =
+    let table : s.badge.table_id ≡ m.table = ap (λ (q : PortView). q.memory.table) view ∙ ap (λ (v : MemoryView). v.table) own in
+    ap (port_view m.table) (taken_is s t k) ∙ ap (λ (i : TableId). port_view i (one_in s.badge.views)) (sym table) ∙ view
+
+-- and that of the seat that was put back
+pub view_kept : (m : MemoryView) (t : Stand) (s : Seating) → IsHeld m.table m.about t → IsSeatingOf t s → port_view m.table (port_at t) ≡ port_view s.badge.table_id (one_in s.badge.views)
+view_kept m t s h k = ap (λ (i : TableId). port_view i (port_at t)) (sym (k.table ∙ h.fits)) ∙ ap (port_view s.badge.table_id) (sym (kept_is t s k))
+
+-- what callers see of the steps of a call
+pub goes_seen : (table : TableId) (x y : Seated) (new : List Noted) → Goes x y → y.notes ≡ x.notes ++ new → calls.Goes (port_view table x) (port_view table y) new
+goes_seen table x y new g notes = record {
+  memory = ap (λ (a : About). record { table = table; about = a }) g.about;
+  number = g.number;
+  seen = sym (take-append_seam (seen_in x.port) g.seen.0) ∙ ap (λ (l : List Applied). take (length (seen_in x.port)) l) (sym g.seen.1);
+  notes = notes;
+  knows = g.known.knows;
+}
+
+-- a read, as callers see it
+pub has_read_seen : (table : TableId) (s t : Stand) (j value stamp : ℕ) → HasRead s t j value stamp → j < (port_at s).about.sizes.m →
+    calls.Reads (port_view table (port_at s)) j value stamp (port_view table (port_at t))
+has_read_seen table s t j value stamp w inside =
+    let first = w.first in
+    let behind = w.behind in (
+      length (seen_in (port_at t).port),
+      record {
+        inside = (inside, tt);
+        goes = goes_seen table (port_at s) (port_at t) _ w.come.goes w.notes;
+        behind = omega (arith, first, behind);
+        within = omega arith;
+      },
+    )
+
+-- what holds of the port as its seat was taken out, and as it was put back, is what callers see
+module _ (m : MemoryView) (s : Seating) (t u : Stand) (s' : Seating) (p : PortView) (k : IsStandOf s t) (view : port_view s.badge.table_id (one_in s.badge.views) ≡ p) (own : IsOf m p)
+    (held : IsHeld m.table m.about u) (k' : IsSeatingOf u s') where
+  pub callers_see : (P : PortView → PortView → Type 0) → P (port_view m.table (port_at t)) (port_view m.table (port_at u)) → P p (port_view s'.badge.table_id (one_in s'.badge.views))
+  callers_see P is = subst (λ (a : PortView). P a (port_view s'.badge.table_id (one_in s'.badge.views))) (view_taken m s t p k view own)
+      (subst (λ (a : PortView). P (port_view m.table (port_at t)) a) (view_kept m u s' held k') is)
+
+  pub read_seen : (j value stamp : ℕ) → HasRead t u j value stamp → j < m.about.sizes.m → calls.Reads p j value stamp (port_view s'.badge.table_id (one_in s'.badge.views))
+  read_seen j value stamp w inside =
+      let about : (port_at t).about ≡ m.about = sym w.come.goes.about ∙ held.own in
+      callers_see (λ (a b : PortView). calls.Reads a j value stamp b) (has_read_seen m.table t u j value stamp w (subst (λ (a : About). j < a.sizes.m) (sym about) inside))
+
+-- a port between two calls rests in the seat that is taken out
+pub rests_taken : (s : Seating) (t : Stand) (core : CoreState) (spent : Bool) → IsResting s core spent → IsStandOf s t → RestsAt t core spent
+rests_taken s t core spent w k =
+    let is = sym (taken_is s t k) in record {
+      free = record { stands = ap (λ (x : Seated). x.port.control.entering) (taken_is s t k) ∙ w.stands; free = ap (λ (x : Seated). x.port.control.owned) (taken_is s t k) ∙ w.free };
+      idle = w.idle;
+      sound = w.sound;
+      sizes = subst (λ (x : Seated). core.sizes ≡ x.about.sizes) is w.sizes;
+      port = w.port ∙ sym k.number;
+      between = λ no. subst (λ (x : Seated). IsBetween x.port.part core × (x.port.over ≡ false) × (core.pool_spent ≡ false) × (core.slots_spent ≡ false)) is (w.between no);
+    }
+
+-- the seat that is taken out has its port's number
+pub rests_number : (s : Seating) (t : Stand) (core : CoreState) (spent : Bool) → IsResting s core spent → IsStandOf s t → t.number ≡ (port_at t).number
+rests_number s t core spent w k = k.number ∙ w.number ∙ ap (λ (x : Seated). x.number) (sym (taken_is s t k))
+
+-- and rests once it is put back
+pub rests_put : (m : MemoryView) (t : Stand) (s : Seating) (core : CoreState) (spent : Bool) → IsHeld m.table m.about t → IsSeatingOf t s → RestsAt t core spent → IsResting s core spent
+rests_put m t s core spent h k w =
+    rests_kept m.table m.about t s core spent h k w.free.stands w.free.free w.idle w.sound (w.sizes ∙ ap (λ (a : About). a.sizes) h.own) w.port w.between
+
+-- a port that has come to no later epoch rests with the machine that it had
+pub rests_here : (s t : Stand) (core : CoreState) (spent : Bool) → HasCome s t → RestsAt s core spent → t.epoch ≡ s.epoch → RestsAt t core spent
+rests_here s t core spent come w here = record {
+  free = come.idle;
+  idle = w.idle;
+  sound = w.sound;
+  sizes = w.sizes ∙ ap (λ (a : About). a.sizes) (sym come.goes.about);
+  port = w.port ∙ sym come.number;
+  between = λ no. elim come.machine [
+    | inl same ↦
+        let old = w.between no in
+        let machine = sym same.1 in (
+          record {
+            rest = subst (λ (c : CoreState). is_at_rest c.stage ≡ true) machine old.0.rest;
+            like = subst (λ (c : CoreState). IsMarkedLike c core) machine old.0.like;
+            idle = old.0.idle;
+            sound = old.0.sound;
+          },
+          same.2 ∙ old.1,
+          old.2,
+          old.3,
+        )
+    | inr later ↦ let up = later.0 in absurd (omega (arith, up, here))
+  ];
+}
+
+-- one that has come to a later epoch rests with a machine whose marks are cleared
+module _ (s t : Stand) (core : CoreState) (spent : Bool) (own : s.number ≡ (port_at s).number) (come : HasCome s t) (w : RestsAt s core spent) (away : t.epoch ≡ s.epoch → ⊥) where
+  abbrev last : CoreState
+  last = record core { pool_spent = false; slots_spent = false; get_set = unmarked core.sizes false }
+
+  last_sound : IsSound last
+  last_sound = record {
+    asked = w.sound.asked;
+    found = w.sound.found;
+    indices = w.sound.indices;
+    distinct = w.sound.distinct;
+    rows = w.sound.rows;
+    stage = subst (is_sound_at last) (sym w.idle) tt;
+  }
+
+  last_like : IsMarkedLike (fresh (port_at s).about.sizes (port_at s).number) last
+  last_like = record { sizes = w.sizes; port = w.port ∙ own; pool = refl; slots = refl; lists = refl }
+
+  last_rests : RestsAt t last false
+  last_rests = record {
+    free = come.idle;
+    idle = w.idle;
+    sound = last_sound;
+    sizes = w.sizes ∙ ap (λ (a : About). a.sizes) (sym come.goes.about);
+    port = w.port ∙ sym come.number;
+    between = λ no. elim come.machine [
+      | inl same ↦ absurd (away same.0)
+      | inr later ↦
+          let machine = sym later.1 in (
+            record {
+              rest = subst (λ (c : CoreState). is_at_rest c.stage ≡ true) machine refl;
+              like = subst (λ (c : CoreState). IsMarkedLike c last) machine last_like;
+              idle = w.idle;
+              sound = last_sound;
+            },
+            later.2,
+            refl,
+            refl,
+          )
+    ];
+  }
+
+  pub rests_anew : (c : CoreState) → c ≡ last → RestsAt t c false
+  rests_anew c is = subst (λ (d : CoreState). RestsAt t d false) (sym is) last_rests
+
+-- a port that isn't spent in its epoch has a machine that may begin a scan there
+pub rests_unmarked : (table : TableId) (about : About) (s : Stand) (core : CoreState) (spent : Bool) → IsHeld table about s → RestsAt s core spent →
+    spent ≡ false → RestsUnmarked (port_at s) core × ((port_at s).port.over ≡ false)
+rests_unmarked table about s core spent h w spare =
+    let b = w.between spare in
+    (record { between = b.0; sizes = w.sizes; port = w.port ∙ h.number; pool = b.2; slots = b.3 }, b.1)
+
+-- and rests behind the scan, spent if it has claimed past the limit
+pub unmarked_rests : (table : TableId) (about : About) (t : Stand) (core : CoreState) (spent : Bool) →
+    IsHeld table about t → IsIdle t → RestsUnmarked (port_at t) core → (port_at t).port.over ≡ spent →
+    RestsAt t core spent
+unmarked_rests table about t core spent h idle w over = record {
+  free = idle;
+  idle = w.between.idle;
+  sound = w.between.sound;
+  sizes = w.sizes;
+  port = w.port ∙ sym h.number;
+  between = λ no. (w.between, over ∙ no, w.pool, w.slots);
+}
+
+-- the first steps of a call have changed the epoch
+module _ (table : TableId) (about : About) (s u : Stand) (core : CoreState) (spent : Bool) (h : IsHeld table about s) (w : RestsAt s core spent) (changed : Changed true s u) where
+  changed_idle : IsIdle u
+  changed_idle = record { stands = ap (λ (x : Seated). x.port.control.entering) changed.is; free = ap (λ (x : Seated). x.port.control.owned) changed.is }
+
+  pub changed_over : (port_at u).port.over ≡ false
+  changed_over = ap (λ (x : Seated). x.port.over) changed.is
+
+  pub changed_fresh : (port_at u).began.epoch ≤ u.epoch
+  changed_fresh = let same = ap (λ (x : Seated). x.began.epoch) changed.is in let fresh = changed.fresh in omega (arith, same, fresh)
+
+  pub changed_free : IsIdle u
+  changed_free = changed_idle
+
+  changed_come : HasCome s u
+  changed_come = record {
+    shape = changed.shape;
+    number = changed.number;
+    goes = changed.goes;
+    idle = changed_idle;
+    machine = inr (let up = changed.later in let epoch = h.epoch in omega (arith, up, epoch), ap (λ (x : Seated). core_of x.port.part) changed.is, changed_over);
+  }
+
+  pub changed_unmarked : (held : IsHeld table about u) (c : CoreState) → c ≡ record core { pool_spent = false; slots_spent = false; get_set = unmarked core.sizes false } → RestsUnmarked (port_at u) c
+  changed_unmarked held c is =
+      let up = changed.later in
+      let epoch = h.epoch in
+      let own : s.number ≡ (port_at s).number = h.number in
+      (rests_unmarked table about u c false held (rests_anew s u core spent own changed_come w (λ same. omega (arith, up, epoch, same)) c is) refl).0
+
+  pub changed_scanned : (t : Stand) (which values : List ℕ) (collects : ℕ) (borrowed : Option ℕ) → ScanMade u t which values collects borrowed → HasScanned s t which values collects borrowed
+  changed_scanned t which values collects borrowed made = record {
+    shape = made.shape ∙ changed.shape;
+    number = made.number ∙ changed.number;
+    later = let same = made.epoch in let up = changed.later in let epoch = h.epoch in omega (arith, same, up, epoch);
+    goes = goes_on (port_at s) (port_at u) (port_at t) changed.goes made.goes;
+    idle = made.idle;
+    place = made.place;
+    notes = made.notes ∙ ap (λ (x : Seated). x.notes ++ noted_scan t.epoch which values collects borrowed made.place ∷ []) changed.is;
+    first =
+        let few = changed.began in
+        let same = ap (λ (x : Seated). x.began.length) changed.is in
+        let then = ap (λ (g : Began). g.length) made.began in
+        omega (arith, few, same, then);
+    behind = made.behind;
+    within = made.within;
+  }
+
+-- a port whose epoch couldn't be changed rests spent
+pub unchanged_rests : (s t : Stand) (core : CoreState) (spent : Bool) → RestsAt s core spent → NotChanged true s t → RestsAt t core true
+unchanged_rests s t core spent w n = record {
+  free = n.free;
+  idle = w.idle;
+  sound = w.sound;
+  sizes = w.sizes ∙ ap (λ (a : About). a.sizes) (sym n.goes.about);
+  port = w.port ∙ sym n.number;
+  between = λ no. absurd (true≢false no);
+}
+
+-- whether each index is below the number of components
+pub are_below : (m : ℕ) (js : List ℕ) (b : Bool) → b ≡ list_all (λ i. nat_lt i m) js → b ≡ true → AllByRecursion (λ j. j < m) js
+are_below m js b is all = (Decides-list_all (λ i. nat_lt i m) (λ j. j < m) (λ i. Decides-nat_lt i m) js).0 (sym is ∙ all)
+
+pub not_below : (m : ℕ) (js : List ℕ) (b : Bool) → b ≡ list_all (λ i. nat_lt i m) js → b ≡ false → AllByRecursion (λ j. j < m) js → ⊥
+not_below m js b is some all = true≢false (sym ((Decides-list_all (λ i. nat_lt i m) (λ j. j < m) (λ i. Decides-nat_lt i m) js).1 all) ∙ sym is ∙ some)
+
+-- such indices are those of components
+below_at : (m : ℕ) (js : List ℕ) → AllByRecursion (λ j. j < m) js → (k : ℕ) → k < length js → slice_index js k < m
+below_at m [] all k low = absurd (omega (arith, low))
+below_at m (j ∷ js) all zero low = all.0
+below_at m (j ∷ js) all (suc k) low = below_at m js all.1 k (omega (arith, low))
+
+pub are_components : (z : Layout) (m : ℕ) (js : List ℕ) → m ≡ z.m → AllByRecursion (λ j. j < m) js → length js ≤ z.m → AreComponents z js
+are_components z m js is all few = record { few = few; each = λ k low. let below = below_at m js all k low in omega (arith, below, is) }
+
+-- the public stamp of a view that a scan has borrowed fits a word
+module _ (s t : Stand) (which values : List ℕ) (collects : ℕ) (borrowed : Option ℕ) (w : HasScanned s t which values collects borrowed) where
+  legal_scan : IsLegal (port_at t).about.opening (seen_in (port_at t).port) (port_at t).number (seen_by 0 (port_at s).notes) (noted_scan t.epoch which values collects borrowed w.place)
+  legal_scan = LegalNotes-last (port_at t).about.opening (seen_in (port_at t).port) (port_at t).number 0 (port_at s).notes (noted_scan t.epoch which values collects borrowed w.place)
+      (subst (LegalNotes (port_at t).about.opening (seen_in (port_at t).port) (port_at t).number 0) w.notes w.goes.known.knows.legal)
+
+  fits_by : (b : Option ℕ) → IfSome (option_map (public_stamp t.epoch) b) (λ v. (k j : ℕ) × (w.place ≤ k) × Contains which j × IsEntryFor (seen_in (port_at t).port) k j v) →
+      IfSome b (λ at. public_stamp t.epoch at < 18446744073709551616)
+  fits_by None is = tt
+  fits_by (Some at) is =
+      let entry = is.4 in
+      let low = AllByRecursion-get (λ (a : Applied). a.stamp < 18446744073709551616) (seen_in (port_at t).port) is.0 entry.0 w.goes.known.fits.each entry.1 in
+      subst (λ n. n < 18446744073709551616) entry.3 low
+
+  pub borrowed_fits : IfSome borrowed (λ at. public_stamp t.epoch at < 18446744073709551616)
+  borrowed_fits = fits_by borrowed legal_scan.1.0.borrowed
+
+-- a scan, as callers see it
+pub has_scanned_seen : (table : TableId) (s t : Stand) (which values : List ℕ) (collects : ℕ) (borrowed public : Option ℕ) → HasScanned s t which values collects borrowed →
+    public ≡ option_map (public_stamp t.epoch) borrowed → 0 < length which → AllByRecursion (λ j. j < (port_at s).about.sizes.m) which →
+    calls.Scans (port_view table (port_at s)) which values (record { collects = collects; borrowed = public }) (port_view table (port_at t))
+has_scanned_seen table s t [] values collects borrowed public w is some inside = absurd (omega (arith, some))
+has_scanned_seen table s t (j ∷ js) values collects borrowed public w is some inside =
+    let first = w.first in
+    let behind = w.behind in (
+      w.place,
+      record {
+        inside = inside;
+        goes = goes_seen table (port_at s) (port_at t) _ w.goes (w.notes ∙ ap (λ (b : Option ℕ). (port_at s).notes
+            ++ record { call = call.Scan (j ∷ js); answer = answer.Scanned values collects b; note = Some (note.Saw w.place) } ∷ []) (sym is));
+        behind = omega (arith, first, behind);
+        within = w.within;
+      },
+    )
+
+-- a scan that was refused, as callers see it
+pub not_scanned_seen : (table : TableId) (s t : Stand) (which : List ℕ) (cause : Refused) → NotScanned s t cause → AllByRecursion (λ j. j < (port_at s).about.sizes.m) which →
+    calls.IsRefused (port_view table (port_at s)) (call.Scan which) cause (port_view table (port_at t))
+not_scanned_seen table s t which Component w inside = absurd w.why
+not_scanned_seen table s t which Overtaken w inside = absurd w.why
+not_scanned_seen table s t which NoArena w inside = (inside, goes_seen table (port_at s) (port_at t) [] w.same.goes (w.same.notes ∙ sym (append-nil (port_at s).notes)))
+not_scanned_seen table s t which EpochsSpent w inside = (inside, goes_seen table (port_at s) (port_at t) [] w.same.goes (w.same.notes ∙ sym (append-nil (port_at s).notes)))
+
+-- the same, from the seat that was taken out to the one that was put back
+module _ (m : MemoryView) (s : Seating) (t u : Stand) (s' : Seating) (p : PortView) (k : IsStandOf s t) (view : port_view s.badge.table_id (one_in s.badge.views) ≡ p) (own : IsOf m p)
+    (held : IsHeld m.table m.about u) (k' : IsSeatingOf u s') (which : List ℕ) (below : AllByRecursion (λ j. j < m.about.sizes.m) which) where
+  below_there : (port_at u).about ≡ (port_at t).about → AllByRecursion (λ j. j < (port_at t).about.sizes.m) which
+  below_there same = subst (λ (a : About). AllByRecursion (λ j. j < a.sizes.m) which) (sym (sym same ∙ held.own)) below
+
+  pub scan_answered : (values : List ℕ) (collects : ℕ) (borrowed public : Option ℕ) → HasScanned t u which values collects borrowed →
+      public ≡ option_map (public_stamp u.epoch) borrowed → 0 < length which →
+      calls.Scans p which values (record { collects = collects; borrowed = public }) (port_view s'.badge.table_id (one_in s'.badge.views))
+  scan_answered values collects borrowed public w is some =
+      callers_see m s t u s' p k view own held k' (λ (a b : PortView). calls.Scans a which values (record { collects = collects; borrowed = public }) b)
+      (has_scanned_seen m.table t u which values collects borrowed public w is some (below_there w.goes.about))
+
+  pub scan_refused : (cause : Refused) → NotScanned t u cause → calls.IsRefused p (call.Scan which) cause (port_view s'.badge.table_id (one_in s'.badge.views))
+  scan_refused cause w =
+      callers_see m s t u s' p k view own held k' (λ (a b : PortView). calls.IsRefused a (call.Scan which) cause b)
+      (not_scanned_seen m.table t u which cause w (below_there w.same.goes.about))

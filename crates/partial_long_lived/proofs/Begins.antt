@@ -1,0 +1,53 @@
+-- When a call begins, and where a port that looks stands.
+use Rattle.std.proofs.Common.{ℕ, ◌≡◌, ◌<◌, ◌≤◌, ◌++◌, Bool, true, false, List, [], ◌∷◌, length, get_or, refl, sym, ap, ◌∙◌, arith, length-append}
+use Rattle.partial_model.specs.declared.history.Applied.{Applied}
+use Rattle.partial_model.specs.Notes.{Noted}
+use Rattle.partial_epochs.specs.Layout.{current_word, packed}
+use Rattle.partial_epochs.specs.History.{history_of}
+use Rattle.partial_epochs.specs.Ports.{Port}
+use Rattle.partial_epochs.specs.Epochs.{Beside, LawfulEpochs, place_now}
+use Rattle.partial_epochs.specs.Notes.{LawfulMemory, one_history}
+use Rattle.partial_epochs.proofs.Entering.{current_is}
+use Rattle.partial_epochs.proofs.Places.{packed_arena}
+use Rattle.partial_epochs.proofs.Present.{same_place}
+use Rattle.partial_long_lived.specs.declared.rule.About.{About}
+use Rattle.partial_long_lived.specs.Rule.{Began, HasBegun, IsSeat, Seated, plan_of}
+use Rattle.partial_long_lived.specs.Ports.{seen_in}
+use Rattle.partial_long_lived.specs.Inner.Moves.{BeganBy}
+use Rattle.partial_long_lived.proofs.Seen.{seen_begins}
+
+-- what a port has seen is no more than there is
+pub seen_few : (a : About) (words : List ℕ) (ports : ℕ → Port) (notes : ℕ → List Noted) (b : Beside) (since : ℕ → ℕ) (x : Seated) → LawfulMemory (plan_of a) words ports b notes →
+    IsSeat a ports notes b since x → length (seen_in x.port) ≤ length (one_history b)
+seen_few a words ports notes b since x w s =
+    let r = w.noted.reached x.number s.number in
+    let g = seen_begins b x.port s.seen r.later r.log (r.is ∙ ap (λ (p : Port). r.later ++ r.log ∷ p.before) (sym s.port)) in
+    let long = ap (λ (l : List Applied). length l) g.1 in
+    let both = length-append (seen_in x.port) g.0 in
+    omega (arith, long, both)
+
+-- the call begins now
+abbrev pub now : Beside → Began
+now b = record { epoch = length b.before; length = length (one_history b) }
+
+pub now_has_begun : (b : Beside) → HasBegun b (now b)
+now_has_begun b = record { come = omega arith; reached = λ later before log is epoch. by later before log is epoch }
+  where
+    by : (later before : List (List Applied)) (log : List Applied) → b.log ∷ b.before ≡ later ++ log ∷ before → length before ≡ length b.before → length (one_history b) ≤ length (history_of (log ∷ before))
+    by [] before log is epoch = let same = ap (λ (l : List (List Applied)). length (history_of l)) is in omega (arith, same)
+    by (h ∷ later) before log is epoch =
+        let long = ap (λ (l : List (List Applied)). length l) is in
+        let both = length-append later (log ∷ before) in
+        absurd (omega (arith, long, both, epoch))
+
+-- when the call of a step began
+pub began_by : (first : Bool) (x : Seated) (b : Beside) → length (seen_in x.port) ≤ length (one_history b) → HasBegun b x.began → (n : Began) × BeganBy first x n × HasBegun b n
+began_by true x b few w = (now b, few, now_has_begun b)
+began_by false x b few w = (x.began, refl, w)
+
+-- a port that finds its own place as the current one stands there
+pub here_is : (a : About) (words : List ℕ) (ports : ℕ → Port) (b : Beside) → LawfulEpochs (plan_of a) words ports b → (k : ℕ) → k < a.ports →
+    get_or words current_word 0 ≡ packed (ports k).control.here → (ports k).control.here ≡ place_now b
+here_is a words ports b w k below at =
+    let both = packed_arena (plan_of a) (ports k).control.here (place_now b) w.plan.arenas (w.control.places k below).arena w.control.place.arena (sym at ∙ current_is (plan_of a) words ports b k w below) in
+    same_place (ports k).control.here (place_now b) both.0 both.1

@@ -1,0 +1,48 @@
+-- A change of epoch, from its look to the epoch that is entered.
+use Rattle.std.proofs.Common.{ℕ, ◌≡◌, ◌<◌, ◌≤◌, Bool, List, None, refl, ap, subst, ◌∙◌}
+use Rattle.partial_model.specs.Notes.{Noted}
+use Rattle.partial_epochs.specs.Layout.{Place}
+use Rattle.partial_epochs.specs.Ports.{Port}
+use Rattle.partial_epochs.specs.Entering.{arrived}
+use Rattle.partial_long_lived.specs.declared.rule.About.{About}
+use Rattle.partial_long_lived.specs.declared.stand.Stand.{Stand}
+use Rattle.partial_long_lived.specs.Rule.{Began, Seated, plan_of}
+use Rattle.partial_long_lived.specs.Inner.Held.{port_at}
+use Rattle.partial_long_lived.specs.Inner.Calls.{Entered, Kept, Looked}
+use Rattle.partial_long_lived.specs.Inner.Changing.{Changed, Stays}
+use Rattle.partial_long_lived.proofs.Coming.{goes_on}
+use Rattle.partial_long_lived.proofs.Looking.{looked_keeps}
+
+module _ (first : Bool) (s t u v : Stand) (b : Bool) (kept : Kept s t) (looked : Looked first s b t) (stays : Stays t u) (entered : Entered u v) where
+  abbrev place : Place
+  place = record { epoch = v.epoch; arena = v.arena }
+
+  -- a port that has come to that place
+  abbrev come : About → ℕ → List Noted → Began → Seated
+  come a k notes n = record { about = a; number = k; port = arrived (plan_of a) k place entered.before; notes = notes; began = n; found = None }
+
+  about_is : (port_at u).about ≡ (port_at s).about
+  about_is = stays.goes.about ∙ kept.goes.about
+
+  number_is : (port_at u).number ≡ (port_at s).number
+  number_is = stays.goes.number ∙ kept.goes.number
+
+  notes_are : (port_at u).notes ≡ (port_at s).notes
+  notes_are = stays.notes ∙ ap (λ (x : Seated). x.notes) looked.looks.2
+
+  began_is : (port_at u).began ≡ looked.looks.0
+  began_is = stays.began ∙ ap (λ (x : Seated). x.began) looked.looks.2
+
+  pub changed : Changed first s v
+  changed = record {
+    shape = entered.shape ∙ stays.shape ∙ kept.shape;
+    number = entered.number ∙ stays.number ∙ kept.number;
+    goes = goes_on (port_at s) (port_at t) (port_at v) kept.goes (goes_on (port_at t) (port_at u) (port_at v) stays.goes entered.goes);
+    n = looked.looks.0;
+    began = looked.looks.1;
+    before = entered.before;
+    is = entered.is ∙ ap (λ a. come a (port_at u).number (port_at u).notes (port_at u).began) about_is ∙ ap (λ k. come (port_at s).about k (port_at u).notes (port_at u).began) number_is
+        ∙ ap (λ l. come (port_at s).about (port_at s).number l (port_at u).began) notes_are ∙ ap (come (port_at s).about (port_at s).number (port_at s).notes) began_is;
+    later = subst (λ (d : Place). d.epoch < v.epoch) (stays.here ∙ looked_keeps first s t b looked (λ (p : Port). p.control.here) (λ o. refl) refl) entered.later;
+    fresh = subst (λ (n : Began). n.epoch ≤ v.epoch) began_is entered.fresh;
+  }

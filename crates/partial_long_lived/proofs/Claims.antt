@@ -1,0 +1,301 @@
+-- A machine claims words of the pool once in a call.
+use Rattle.std.proofs.Common.{ℕ, ◌≡◌, ◌+◌, ◌≤◌, ◌==◌, ◌⊎◌, Bool, true, false, cond, Option, Some, None, List, length, refl, sym, ap, subst, ◌∙◌, inl, inr, arith}
+use Rattle.std.specs.Option.{option_map_or}
+use Rattle.partial_model.proofs.ListLemmas.{some_same}
+use Rattle.partial_words.specs.declared.step.Step.{Step}
+use Rattle.partial_words.specs.declared.step.Step.TheVariants.{Load, Store, Exchange, Add}
+use Rattle.partial_words.specs.Layout.{Layout, list_counter, list_head, pool_counter, slot_counter, slot_word}
+use Rattle.partial_active.specs.declared.join.JoinStage.{JoinStage}
+use Rattle.partial_active.specs.declared.join.JoinStage.TheVariants.{Claiming, Storing, Joined, Spent}
+use Rattle.partial_active.specs.declared.get_set.Stage.{Stage as SetStage}
+use Rattle.partial_active.specs.declared.get_set.Stage.TheVariants as set
+use Rattle.partial_active.specs.GetSet as finding
+use Rattle.partial_active.specs.Join.{join_step}
+use Rattle.partial_embedded.specs.Embedded as viewing
+use Rattle.partial_embedded.specs.declared.embedded.Stage.{Stage as ScanStage}
+use Rattle.partial_embedded.specs.declared.embedded.Stage.TheVariants as scan
+use Rattle.partial_words.specs.Announcement.{announcement_size}
+use Rattle.partial_machine.specs.declared.stage.Change.{Change}
+use Rattle.partial_machine.specs.declared.stage.Reply.TheVariants as reply
+use Rattle.partial_machine.specs.declared.stage.Stage.{Stage}
+use Rattle.partial_machine.specs.declared.stage.Stage.TheVariants.{Idle, ReadBegun, LoadingValue, UpdateBegun, GettingSet, Viewing, ClaimingRecord, StoringRecord, Exchanging, ScanBegun, StoringAnnouncement, Joining, Scanning, Leaving, Finished}
+use Rattle.partial_machine.specs.Machine.{CoreState, advance, advance_at, after_joining, at_stage, begin_getting, begin_joining, expects, fits_pool, getting, pool_refused, record_size, step_at, step_of, with_getting}
+use Rattle.partial_machine.specs.Sound.{IsSound, is_sound_at}
+use Rattle.partial_lines.specs.Lines.{IsQuiet}
+use Rattle.partial_long_lived.specs.Inner.Machine.{IsBehind}
+use Rattle.partial_long_lived.specs.Inner.Under.{before_claim, claim_of}
+
+-- a machine that has yet to claim had yet to claim before
+pub unclaimed_before : (s : CoreState) (x : ℕ) → before_claim (advance s x).stage ≡ true → before_claim s.stage ≡ true
+unclaimed_before s x = by s.stage refl
+  where
+    two : (c : Bool) (a b : Stage) → before_claim a ≡ false → before_claim b ≡ false → before_claim (cond c a b) ≡ false
+    two true a b p q = p
+    two false a b p q = q
+
+    two_of : (c : Bool) (a b : CoreState) → before_claim a.stage ≡ false → before_claim b.stage ≡ false → before_claim (cond c a b).stage ≡ false
+    two_of true a b p q = p
+    two_of false a b p q = q
+
+    never : (b : Bool) (t : Stage) → b ≡ false → b ≡ true → before_claim t ≡ true
+    never b t p q = let bad : false ≡ true = sym p ∙ q in cc
+
+    scans : (s : CoreState) (o : Option Step) (a b : Stage) → s.stage ≡ a → before_claim a ≡ false → before_claim b ≡ false → before_claim (option_map_or (λ _. s) o (at_stage s b)).stage ≡ false
+    scans s None a b is p q = q
+    scans s (Some u) a b is p q = ap before_claim is ∙ p
+
+    joins : (s : CoreState) (j : JoinStage) → s.stage ≡ Joining → before_claim (after_joining s j).stage ≡ false
+    joins s Claiming is = ap before_claim is
+    joins s (Storing slot) is = ap before_claim is
+    joins s (Joined slot) is = refl
+    joins s Spent is = refl
+
+    by : (t : Stage) → s.stage ≡ t → before_claim (advance_at s t x).stage ≡ true → before_claim t ≡ true
+    by Idle is h = sym (ap before_claim is) ∙ h
+    by (ReadBegun j) is h = h
+    by (LoadingValue stamp) is h = h
+    by (UpdateBegun c) is h = refl
+    by (GettingSet c old) is h = refl
+    by (Viewing c old) is h = refl
+    by (ClaimingRecord c old) is h = refl
+    by (StoringRecord c old at k) is h = never (before_claim (cond (k + 1 == record_size s) (Exchanging c old at) (StoringRecord c old at (k + 1)))) (StoringRecord c old at k)
+        (two (k + 1 == record_size s) (Exchanging c old at) (StoringRecord c old at (k + 1)) refl refl) h
+    by (Exchanging c old at) is h = h
+    by ScanBegun is h = refl
+    by (StoringAnnouncement at k) is h = never _ (StoringAnnouncement at k) (two_of (k == length s.asked) (begin_joining s at) (at_stage s (StoringAnnouncement at (k + 1))) refl refl) h
+    by Joining is h = never _ Joining (joins _ _ is) h
+    by Scanning is h = never _ Scanning (scans _ _ Scanning Leaving is refl refl) h
+    by Leaving is h = h
+    by (Finished r) is h = sym (ap before_claim is) ∙ h
+
+-- where a record lies that is claimed: it has just been claimed there, or was before
+pub claimed_from : (s : CoreState) (x at : ℕ) → claim_of (advance s x).stage ≡ Some at → ((c : Change) × (old : ℕ) × (s.stage ≡ ClaimingRecord c old) × (at ≡ x)) ⊎ (claim_of s.stage ≡ Some at)
+claimed_from s x at = by s.stage refl
+  where
+    R : Stage → Type 0
+    R t = ((c : Change) × (old : ℕ) × (t ≡ ClaimingRecord c old) × (at ≡ x)) ⊎ (claim_of t ≡ Some at)
+
+    none : (t : Stage) (o : Option ℕ) → o ≡ None → o ≡ Some at → ((c : Change) × (old : ℕ) × (t ≡ ClaimingRecord c old) × (at ≡ x)) ⊎ (claim_of t ≡ Some at)
+    none t o is h = let bad : None ≡ Some at = sym is ∙ h in cc
+
+    two : (c : Bool) (a b : CoreState) → claim_of a.stage ≡ None → claim_of b.stage ≡ None → claim_of (cond c a b).stage ≡ None
+    two true a b p q = p
+    two false a b p q = q
+
+    two_stages : (c : Bool) (a b : Stage) → claim_of a ≡ None → claim_of b ≡ None → claim_of (cond c a b) ≡ None
+    two_stages true a b p q = p
+    two_stages false a b p q = q
+
+    scans : (s : CoreState) (o : Option Step) (a b : Stage) → s.stage ≡ a → claim_of a ≡ None → claim_of b ≡ None → claim_of (option_map_or (λ _. s) o (at_stage s b)).stage ≡ None
+    scans s None a b is p q = q
+    scans s (Some u) a b is p q = ap claim_of is ∙ p
+
+    gets : (s : CoreState) (o : Option Step) (c : Change) (old : ℕ) → s.stage ≡ GettingSet c old →
+        claim_of (option_map_or (λ _. s) o (record s { embedded = viewing.fresh s.sizes true; stage = cond (length s.found.indices == 0) (ClaimingRecord c old) (Viewing c old) })).stage ≡ None
+    gets s None c old is = two_stages (length s.found.indices == 0) (ClaimingRecord c old) (Viewing c old) refl refl
+    gets s (Some u) c old is = ap claim_of is
+
+    joins : (s : CoreState) (j : JoinStage) → s.stage ≡ Joining → claim_of (after_joining s j).stage ≡ None
+    joins s Claiming is = ap claim_of is
+    joins s (Storing slot) is = ap claim_of is
+    joins s (Joined slot) is = refl
+    joins s Spent is = refl
+
+    by : (t : Stage) → s.stage ≡ t → claim_of (advance_at s t x).stage ≡ Some at → ((c : Change) × (old : ℕ) × (t ≡ ClaimingRecord c old) × (at ≡ x)) ⊎ (claim_of t ≡ Some at)
+    by Idle is h = inr (sym (ap claim_of is) ∙ h)
+    by (ReadBegun j) is h = none (ReadBegun j) _ refl h
+    by (LoadingValue stamp) is h = none (LoadingValue stamp) _ refl h
+    by (UpdateBegun c) is h = none (UpdateBegun c) _ (two (expects c x) (begin_getting s c x) (at_stage s (Finished (reply.Changed x))) refl refl) h
+    by (GettingSet c old) is h =
+        let p : CoreState = with_getting s (finding.advance (getting s) x) in
+        none (GettingSet c old) (claim_of (advance_at s (GettingSet c old) x).stage) (gets p (finding.step_of p.get_set) c old is) h
+    by (Viewing c old) is h = none (Viewing c old) _ (scans _ _ (Viewing c old) (ClaimingRecord c old) is refl refl) h
+    by (ClaimingRecord c old) is h = claims (fits_pool s.sizes (record_size s) x) h
+      where
+        claims : (b : Bool) → claim_of (cond b (at_stage s (StoringRecord c old x 0)) (pool_refused s)).stage ≡ Some at →
+            ((d : Change) × (o : ℕ) × (ClaimingRecord c old ≡ ClaimingRecord d o) × (at ≡ x)) ⊎ (claim_of (ClaimingRecord c old) ≡ Some at)
+        claims true h = inl (c, old, refl, sym (some_same h))
+        claims false h = let bad : None ≡ Some at = h in cc
+    by (StoringRecord c old at' k) is h = stores (k + 1 == record_size s) h
+      where
+        stores : (b : Bool) → claim_of (cond b (Exchanging c old at') (StoringRecord c old at' (k + 1))) ≡ Some at →
+            ((d : Change) × (o : ℕ) × (StoringRecord c old at' k ≡ ClaimingRecord d o) × (at ≡ x)) ⊎ (Some at' ≡ Some at)
+        stores true h = inr h
+        stores false h = inr h
+    by (Exchanging c old at') is h = none (Exchanging c old at') _ refl h
+    by ScanBegun is h = none ScanBegun _ (two (fits_pool s.sizes (announcement_size (length s.asked)) x) (at_stage s (StoringAnnouncement x 0)) (pool_refused s) refl refl) h
+    by (StoringAnnouncement at' k) is h = none (StoringAnnouncement at' k) _ (two (k == length s.asked) (begin_joining s at') (at_stage s (StoringAnnouncement at' (k + 1))) refl refl) h
+    by Joining is h = none Joining _ (joins _ _ is) h
+    by Scanning is h = none Scanning _ (scans _ _ Scanning Leaving is refl refl) h
+    by Leaving is h = none Leaving _ refl h
+    by (Finished r) is h = inr (sym (ap claim_of is) ∙ h)
+
+-- a step of an embedded scan is no claim
+scan_never : (z : Layout) (indices last : List ℕ) (t : ScanStage) (w n : ℕ) (R : Type 0) → viewing.step_at z indices last t ≡ Some (Add w n) → R
+scan_never z indices last (scan.Collect k) w n R is = let bad : Load _ ≡ Add w n = some_same is in cc
+scan_never z indices last (scan.View stamp) w n R is = let bad : Load _ ≡ Add w n = some_same is in cc
+scan_never z indices last (scan.Len at) w n R is = let bad : Load _ ≡ Add w n = some_same is in cc
+scan_never z indices last (scan.Index at left) w n R is = let bad : Load _ ≡ Add w n = some_same is in cc
+scan_never z indices last (scan.PairValue at left index) w n R is = let bad : Load _ ≡ Add w n = some_same is in cc
+scan_never z indices last (scan.Value k) w n R is = let bad : Load _ ≡ Add w n = some_same is in cc
+scan_never z indices last scan.Done w n R is = cc
+
+-- a claim of a getSet is one of list words
+set_claims : (y : Layout) (head : ℕ) (t : SetStage) (w n : ℕ) → finding.step_at y head t ≡ Some (Add w n) → w ≡ list_counter y
+set_claims y head set.Head w n is = cc
+set_claims y head (set.ListLen at) w n is = cc
+set_claims y head (set.ListLow at left) w n is = cc
+set_claims y head (set.ListHigh at left lo) w n is = cc
+set_claims y head set.Counter w n is = cc
+set_claims y head (set.Slot slot) w n is = cc
+set_claims y head (set.Len slot at) w n is = cc
+set_claims y head (set.Index slot at left) w n is = cc
+set_claims y head (set.Claim words) w n is = let same : Add (list_counter y) words ≡ Add w n = some_same is in cc
+set_claims y head (set.Write at k words word) w n is = cc
+set_claims y head (set.Publish at) w n is = cc
+set_claims y head set.Done w n is = cc
+
+-- a claim of a join is one of a slot
+join_claims : (y : Layout) (at : ℕ) (t : JoinStage) (w n : ℕ) → join_step y at t ≡ Some (Add w n) → w ≡ slot_counter y
+join_claims y at Claiming w n is = let same : Add (slot_counter y) 1 ≡ Add w n = some_same is in cc
+join_claims y at (Storing slot) w n is = cc
+join_claims y at (Joined slot) w n is = cc
+join_claims y at Spent w n is = cc
+
+-- a claim of pool words is that of a record or of an announcement, and behind it the machine has claimed
+pub record Claims (c : CoreState) : Type 0 where
+  pub now : before_claim c.stage ≡ true
+  pub then : (a : ℕ) → before_claim (advance c a).stage ≡ false
+
+pub pool_claims : (c : CoreState) (z : Layout) → IsSound c → c.sizes ≡ z → (w n : ℕ) → step_of c ≡ Some (Add w n) → w ≡ pool_counter z → Claims c
+pool_claims c z sound sizes w n due pool = by c.stage refl sound.stage due
+  where
+    two_of : (b : Bool) (x y : CoreState) → before_claim x.stage ≡ false → before_claim y.stage ≡ false → before_claim (cond b x y).stage ≡ false
+    two_of true x y p q = p
+    two_of false x y p q = q
+
+    m_same : (y : Layout) → y ≡ c.sizes → y.m ≡ z.m
+    m_same y is = ap (λ (s : Layout). s.m) (is ∙ sizes)
+
+    by : (t : Stage) → c.stage ≡ t → is_sound_at c t → step_at c t ≡ Some (Add w n) → Claims c
+    by Idle at ok is = let bad : None ≡ Some (Add w n) = is in cc
+    by (ReadBegun j) at ok is = let bad : Load _ ≡ Add w n = some_same is in cc
+    by (LoadingValue stamp) at ok is = let bad : Load _ ≡ Add w n = some_same is in cc
+    by (UpdateBegun d) at ok is = let bad : Load _ ≡ Add w n = some_same is in cc
+    by (GettingSet d old) at ok is =
+        let same = m_same c.get_set.sizes ok.2 in
+        let list = set_claims c.get_set.sizes c.get_set.head c.get_set.stage w n is in
+        absurd (omega (arith, same, list, pool))
+    by (Viewing d old) at ok is = scan_never c.embedded.sizes c.found.indices c.rows.last c.embedded.stage w n (Claims c) is
+    by (ClaimingRecord d old) at ok is = record {
+      now = ap before_claim at;
+      then = λ a. subst (λ (t : Stage). before_claim (advance_at c t a).stage ≡ false) (sym at) (two_of (fits_pool c.sizes (record_size c) a) (at_stage c (StoringRecord d old a 0)) (pool_refused c) refl refl);
+    }
+    by (StoringRecord d old at' k) at ok is = let bad : Store _ _ ≡ Add w n = some_same is in cc
+    by (Exchanging d old at') at ok is = let bad : Exchange _ _ _ ≡ Add w n = some_same is in cc
+    by ScanBegun at ok is = record {
+      now = ap before_claim at;
+      then = λ a. subst (λ (t : Stage). before_claim (advance_at c t a).stage ≡ false) (sym at) (two_of (fits_pool c.sizes (announcement_size (length c.asked)) a) (at_stage c (StoringAnnouncement a 0)) (pool_refused c) refl refl);
+    }
+    by (StoringAnnouncement at' k) at ok is = let bad : Store _ _ ≡ Add w n = some_same is in cc
+    by Joining at ok is =
+        let same = m_same c.join.sizes ok.2 in
+        let slot = join_claims c.join.sizes c.join.announcement c.join.stage w n is in
+        absurd (omega (arith, same, slot, pool))
+    by Scanning at ok is = scan_never c.embedded.sizes c.asked c.rows.last c.embedded.stage w n (Claims c) is
+    by Leaving at ok is = leaves c.leave.left is
+      where
+        leaves : (b : Bool) → cond b None (Some (Store (slot_word c.leave.sizes c.leave.slot) 1)) ≡ Some (Add w n) → Claims c
+        leaves true is = let bad : None ≡ Some (Add w n) = is in cc
+        leaves false is = let bad : Store _ _ ≡ Add w n = some_same is in cc
+    by (Finished r) at ok is = let bad : None ≡ Some (Add w n) = is in cc
+
+-- nor an exchange
+scan_exchanges : (z : Layout) (indices last : List ℕ) (t : ScanStage) (w old new : ℕ) (R : Type 0) → viewing.step_at z indices last t ≡ Some (Exchange w old new) → R
+scan_exchanges z indices last (scan.Collect k) w old new R is = let bad : Load _ ≡ Exchange w old new = some_same is in cc
+scan_exchanges z indices last (scan.View stamp) w old new R is = let bad : Load _ ≡ Exchange w old new = some_same is in cc
+scan_exchanges z indices last (scan.Len at) w old new R is = let bad : Load _ ≡ Exchange w old new = some_same is in cc
+scan_exchanges z indices last (scan.Index at left) w old new R is = let bad : Load _ ≡ Exchange w old new = some_same is in cc
+scan_exchanges z indices last (scan.PairValue at left index) w old new R is = let bad : Load _ ≡ Exchange w old new = some_same is in cc
+scan_exchanges z indices last (scan.Value k) w old new R is = let bad : Load _ ≡ Exchange w old new = some_same is in cc
+scan_exchanges z indices last scan.Done w old new R is = cc
+
+-- a getSet exchanges the list head
+set_exchanges : (y : Layout) (head : ℕ) (t : SetStage) (w old new : ℕ) → finding.step_at y head t ≡ Some (Exchange w old new) → w ≡ list_head y
+set_exchanges y head set.Head w old new is = cc
+set_exchanges y head (set.ListLen at) w old new is = cc
+set_exchanges y head (set.ListLow at left) w old new is = cc
+set_exchanges y head (set.ListHigh at left lo) w old new is = cc
+set_exchanges y head set.Counter w old new is = cc
+set_exchanges y head (set.Slot slot) w old new is = cc
+set_exchanges y head (set.Len slot at) w old new is = cc
+set_exchanges y head (set.Index slot at left) w old new is = cc
+set_exchanges y head (set.Claim words) w old new is = cc
+set_exchanges y head (set.Write at k words word) w old new is = cc
+set_exchanges y head (set.Publish at) w old new is = let same : Exchange (list_head y) head at ≡ Exchange w old new = some_same is in cc
+set_exchanges y head set.Done w old new is = cc
+
+-- a join exchanges nothing
+join_exchanges : (y : Layout) (at : ℕ) (t : JoinStage) (w old new : ℕ) (R : Type 0) → join_step y at t ≡ Some (Exchange w old new) → R
+join_exchanges y at Claiming w old new R is = cc
+join_exchanges y at (Storing slot) w old new R is = cc
+join_exchanges y at (Joined slot) w old new R is = cc
+join_exchanges y at Spent w old new R is = cc
+
+-- a step that exchanges no component word or adds to a word stands behind the component words
+pub inner_word : (c : CoreState) (z : Layout) → IsSound c → c.sizes ≡ z → IsQuiet c.stage → (s : Step) → step_of c ≡ Some s → IsBehind z s
+inner_word c z sound sizes quiet (Load w) due = tt
+inner_word c z sound sizes quiet (Store w v) due = tt
+inner_word c z sound sizes quiet (Exchange w old new) due = by c.stage refl sound.stage quiet due
+  where
+    m_same : (y : Layout) → y ≡ c.sizes → y.m ≡ z.m
+    m_same y is = ap (λ (s : Layout). s.m) (is ∙ sizes)
+
+    by : (t : Stage) → c.stage ≡ t → is_sound_at c t → IsQuiet t → step_at c t ≡ Some (Exchange w old new) → z.m ≤ w
+    by Idle at ok q is = let bad : None ≡ Some (Exchange w old new) = is in cc
+    by (ReadBegun j) at ok q is = let bad : Load _ ≡ Exchange w old new = some_same is in cc
+    by (LoadingValue stamp) at ok q is = let bad : Load _ ≡ Exchange w old new = some_same is in cc
+    by (UpdateBegun d) at ok q is = let bad : Load _ ≡ Exchange w old new = some_same is in cc
+    by (GettingSet d o) at ok q is = let same = m_same c.get_set.sizes ok.2 in let list = set_exchanges c.get_set.sizes c.get_set.head c.get_set.stage w old new is in omega (arith, same, list)
+    by (Viewing d o) at ok q is = scan_exchanges c.embedded.sizes c.found.indices c.rows.last c.embedded.stage w old new (z.m ≤ w) is
+    by (ClaimingRecord d o) at ok q is = let bad : Add _ _ ≡ Exchange w old new = some_same is in cc
+    by (StoringRecord d o at' k) at ok q is = let bad : Store _ _ ≡ Exchange w old new = some_same is in cc
+    by (Exchanging d o at') at ok q is = absurd q
+    by ScanBegun at ok q is = let bad : Add _ _ ≡ Exchange w old new = some_same is in cc
+    by (StoringAnnouncement at' k) at ok q is = let bad : Store _ _ ≡ Exchange w old new = some_same is in cc
+    by Joining at ok q is = join_exchanges c.join.sizes c.join.announcement c.join.stage w old new (z.m ≤ w) is
+    by Scanning at ok q is = scan_exchanges c.embedded.sizes c.asked c.rows.last c.embedded.stage w old new (z.m ≤ w) is
+    by Leaving at ok q is = leaves c.leave.left is
+      where
+        leaves : (b : Bool) → cond b None (Some (Store (slot_word c.leave.sizes c.leave.slot) 1)) ≡ Some (Exchange w old new) → z.m ≤ w
+        leaves true is = let bad : None ≡ Some (Exchange w old new) = is in cc
+        leaves false is = let bad : Store _ _ ≡ Exchange w old new = some_same is in cc
+    by (Finished r) at ok q is = let bad : None ≡ Some (Exchange w old new) = is in cc
+inner_word c z sound sizes quiet (Add w k) due = by c.stage refl sound.stage due
+  where
+    m_same : (y : Layout) → y ≡ c.sizes → y.m ≡ z.m
+    m_same y is = ap (λ (s : Layout). s.m) (is ∙ sizes)
+
+    pool : (n : ℕ) → Add (pool_counter c.sizes) n ≡ Add w k → z.m ≤ w
+    pool n is = let same : pool_counter c.sizes ≡ w = cc in let m = m_same c.sizes refl in omega (arith, same, m)
+
+    by : (t : Stage) → c.stage ≡ t → is_sound_at c t → step_at c t ≡ Some (Add w k) → z.m ≤ w
+    by Idle at ok is = let bad : None ≡ Some (Add w k) = is in cc
+    by (ReadBegun j) at ok is = let bad : Load _ ≡ Add w k = some_same is in cc
+    by (LoadingValue stamp) at ok is = let bad : Load _ ≡ Add w k = some_same is in cc
+    by (UpdateBegun d) at ok is = let bad : Load _ ≡ Add w k = some_same is in cc
+    by (GettingSet d o) at ok is = let same = m_same c.get_set.sizes ok.2 in let list = set_claims c.get_set.sizes c.get_set.head c.get_set.stage w k is in omega (arith, same, list)
+    by (Viewing d o) at ok is = scan_never c.embedded.sizes c.found.indices c.rows.last c.embedded.stage w k (z.m ≤ w) is
+    by (ClaimingRecord d o) at ok is = pool (record_size c) (some_same is)
+    by (StoringRecord d o at' i) at ok is = let bad : Store _ _ ≡ Add w k = some_same is in cc
+    by (Exchanging d o at') at ok is = let bad : Exchange _ _ _ ≡ Add w k = some_same is in cc
+    by ScanBegun at ok is = pool (announcement_size (length c.asked)) (some_same is)
+    by (StoringAnnouncement at' i) at ok is = let bad : Store _ _ ≡ Add w k = some_same is in cc
+    by Joining at ok is = let same = m_same c.join.sizes ok.2 in let slot = join_claims c.join.sizes c.join.announcement c.join.stage w k is in omega (arith, same, slot)
+    by Scanning at ok is = scan_never c.embedded.sizes c.asked c.rows.last c.embedded.stage w k (z.m ≤ w) is
+    by Leaving at ok is = leaves c.leave.left is
+      where
+        leaves : (b : Bool) → cond b None (Some (Store (slot_word c.leave.sizes c.leave.slot) 1)) ≡ Some (Add w k) → z.m ≤ w
+        leaves true is = let bad : None ≡ Some (Add w k) = is in cc
+        leaves false is = let bad : Store _ _ ≡ Add w k = some_same is in cc
+    by (Finished r) at ok is = let bad : None ≡ Some (Add w k) = is in cc

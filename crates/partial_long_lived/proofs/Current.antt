@@ -1,0 +1,109 @@
+-- The words of the current arena tell the last values.
+use Rattle.std.proofs.Common.{ℕ, ◌≡◌, ◌+◌, ◌<◌, ◌≤◌, List, length, take, get_or, sym, ap, subst, ◌∙◌, arith}
+use Rattle.std.proofs.lemmas.List.{take_all}
+use Rattle.partial_model.specs.declared.history.Applied.{Applied}
+use Rattle.partial_model.specs.declared.history.Opening.{Opening}
+use Rattle.partial_model.specs.History.{stamp_of, value_of}
+use Rattle.partial_model.proofs.AllLemmas.{all_weaker}
+use Rattle.partial_model.proofs.HistoryLemmas.{stamp_all}
+use Rattle.partial_words.specs.Layout.{total}
+use Rattle.partial_words.proofs.ChainLemmas.{records_within, value_behind_stamp}
+use Rattle.partial_core.specs.Lawful as one
+use Rattle.partial_core.proofs.Laws.{lawful_records_are_within}
+use Rattle.partial_epochs.specs.Lists.{list_of}
+use Rattle.partial_epochs.specs.Layout.{Plan, arena_words, base, unsealed}
+use Rattle.partial_epochs.specs.History.{opening_behind}
+use Rattle.partial_epochs.specs.Ports.{Port}
+use Rattle.partial_epochs.specs.Epochs.{Beside, LawfulEpochs}
+use Rattle.partial_epochs.specs.Notes.{one_history}
+use Rattle.partial_epochs.proofs.Continue.{epochs_continue}
+use Rattle.partial_epochs.proofs.Entering.{current_is}
+use Rattle.partial_epochs.proofs.Places.{below_whole}
+use Rattle.partial_epochs.proofs.Worded.{plain_at, plain_component, plain_other}
+use Rattle.partial_long_lived.specs.Inner.Last.{HaveLast, arena_now, component_now, value_now}
+
+module _ (e : Plan) (words : List ℕ) (ports : ℕ → Port) (b : Beside) (w : LawfulEpochs e words ports b) where
+  -- the current word names the current arena
+  arena_is : arena_now words ≡ b.arena
+  arena_is =
+      let some = w.plan.some in
+      let few = w.plan.arenas in
+      let low = w.control.place.arena in
+      let is = current_is e words ports b 0 w (omega (arith, some)) in
+      omega (arith, is, few, low)
+
+  abbrev o : Opening
+  o = opening_behind e.opening b.before
+
+  abbrev inner : List ℕ
+  inner = arena_words e words b.arena
+
+  lawful : (parts : List (Rattle.partial_core.specs.Part.Part)) × one.Lawful e.sizes o inner parts b.log
+  lawful = (
+    list_of w.now.0.part 0 e.ports,
+    subst (λ (l : List (List Applied)). one.Lawful e.sizes (opening_behind e.opening l) inner (list_of w.now.0.part 0 e.ports) b.log) w.now.3
+        (subst (λ (l : List Applied). one.Lawful e.sizes (opening_behind e.opening w.now.0.before) inner (list_of w.now.0.part 0 e.ports) l) w.now.2 (w.arenas b.arena w.now.0 w.now.1).lawful),
+  )
+
+  module _ (j : ℕ) (inside : j < e.sizes.m) where
+    abbrev raw : ℕ
+    raw = get_or words (base e b.arena + j) 0
+
+    named : unsealed raw ≡ stamp_of o b.log j
+    named =
+        let long = lawful.1.memory.values in
+        sym (plain_at e words b.arena j (omega (arith, inside)) ∙ plain_component e words b.arena j raw inside) ∙ (lawful.1.memory.agrees j (omega (arith, long, inside))).0
+
+    -- the record lies behind the component words, and within the arena
+    above : e.sizes.m ≤ stamp_of o b.log j
+    above =
+        let r = lawful_records_are_within e.sizes o inner lawful.0 b.log lawful.1 in
+        stamp_all (λ n. e.sizes.m ≤ n) o j b.log
+        (all_weaker (λ (a : Applied). (e.sizes.m ≤ a.stamp) × (a.stamp + 2 < length inner)) (λ (a : Applied). e.sizes.m ≤ a.stamp) (λ a h. h.0) b.log r.entries) (r.initial j inside).0
+
+    within : unsealed raw + 2 < total e.sizes
+    within =
+        let long = lawful.1.memory.values in
+        let count = lawful.1.memory.count in
+        let r = (records_within o inner b.log lawful.1.memory.agrees).components j (omega (arith, long, inside)) in
+        let same = plain_at e words b.arena j (omega (arith, inside)) ∙ plain_component e words b.arena j raw inside in
+        omega (arith, r, count, same)
+
+    value : get_or words (base e b.arena + (unsealed raw + 1)) 0 ≡ value_of e.opening (one_history b) j
+    value =
+        let long = lawful.1.memory.values in
+        let at = named in
+        let from = above in
+        let up = within in
+        let values = w.plan.values in
+        let all : take (length b.log) b.log ≡ b.log = take_all (length b.log) b.log (omega arith) in
+        let here = plain_at e words b.arena (unsealed raw + 1) (omega (arith, up)) in
+        let other = plain_other e words b.arena (unsealed raw + 1) (get_or words (base e b.arena + (unsealed raw + 1)) 0) (omega (arith, at, from)) in
+        sym (here ∙ other)
+        ∙ ap (λ n. get_or inner (n + 1) 0) named
+        ∙ ap (λ (h : List Applied). get_or inner (stamp_of o h j + 1) 0) (sym all)
+        ∙ value_behind_stamp o inner b.log j (length b.log) lawful.1.memory.agrees (omega (arith, long, inside))
+        ∙ ap (λ (h : List Applied). value_of o h j) all
+        ∙ sym (epochs_continue e.opening b.log b.before j (omega (arith, values, inside))).value
+
+    pub value_last : get_or words (value_now e words j) 0 ≡ value_of e.opening (one_history b) j
+    value_last = ap (λ x. get_or words (base e x + (unsealed (get_or words (base e x + j) 0) + 1)) 0) arena_is ∙ value
+
+    component_there : component_now e words j < length words
+    component_there =
+        let low = below_whole e b.arena j w.control.place.arena (omega (arith, inside)) in
+        subst (λ x. base e x + j < length words) (sym arena_is) (let all = w.count in omega (arith, low, all))
+
+    value_there : value_now e words j < length words
+    value_there =
+        let up = within in
+        let low = below_whole e b.arena (unsealed raw + 1) w.control.place.arena (omega (arith, up)) in
+        subst (λ x. base e x + (unsealed (get_or words (base e x + j) 0) + 1) < length words) (sym arena_is) (let all = w.count in omega (arith, low, all))
+
+  pub have_last : HaveLast e words
+  have_last = record {
+    some = let all = w.count in omega (arith, all);
+    arena = subst (λ x. x < e.arenas) (sym arena_is) w.control.place.arena;
+    components = component_there;
+    values = value_there;
+  }

@@ -1,0 +1,143 @@
+-- The exchange of the entering mark is allowed.
+use Rattle.std.proofs.Common.{ℕ, ◌≡◌, ◌<◌, ◌≤◌, ◌==◌, ◌++◌, cond, None, List, [], ◌∷◌, length, get_or, set, refl, sym, ap, subst, ◌∙◌, inl, inr, arith, append-nil, append_assoc}
+use Rattle.std.proofs.lemmas.Bool.Decides.{eqb_tells}
+use prog.Atomic.{either}
+use Rattle.atomic_table.specs.Table.{Me, Allows}
+use Rattle.partial_model.specs.declared.history.Applied.{Applied}
+use Rattle.partial_model.specs.Notes.{LegalNotes, Noted}
+use Rattle.partial_epochs.specs.Lists.{put}
+use Rattle.partial_epochs.specs.Layout.{IsPlace, Place, Plan, at_word, marked, packed}
+use Rattle.partial_epochs.specs.History.{history_of, public_log}
+use Rattle.partial_epochs.specs.Ports.{Entering, Port}
+use Rattle.partial_epochs.specs.Ports.Entering.{Loaded}
+use Rattle.partial_epochs.specs.Entering.{arrived}
+use Rattle.partial_epochs.specs.Entering as law
+use Rattle.partial_epochs.specs.Epochs.{Beside, LawfulEpochs, place_now}
+use Rattle.partial_epochs.specs.Time.{KeepsTime}
+use Rattle.partial_epochs.specs.Notes.{LawfulMemory, Reached}
+use Rattle.partial_epochs.proofs.Entering.{not_marked}
+use Rattle.partial_epochs.proofs.Laws.{arrivals_keep_notes, arrivals_keep_time, arrivals_stay_lawful}
+use Rattle.partial_epochs.proofs.Lists.{put_other, put_same}
+use Rattle.partial_epochs.proofs.OneHistory.{history_grows}
+use Rattle.partial_epochs.proofs.Seats.{history_longer}
+use Rattle.partial_epochs.proofs.Sights.{ends}
+use Rattle.partial_long_lived.specs.declared.rule.About.{About}
+use Rattle.partial_long_lived.specs.Rule.{IsKept, IsSeat, IsSeen, IsSince, Seated, one_of, plan_of}
+use Rattle.partial_long_lived.specs.Ports.{seen_in}
+use Rattle.partial_long_lived.specs.Inner.Steps.{Begins, IsKnown, IsOne, tells}
+use Rattle.partial_long_lived.specs.Inner.Moves.{Arrives, place_found, unpacked}
+use Rattle.partial_long_lived.proofs.Seen.{legal_begins}
+use Rattle.partial_long_lived.proofs.Kept.{Moved, allowed, none_grown, not_grown}
+use Rattle.partial_long_lived.proofs.Control.{unpacked_is}
+use Rattle.partial_long_lived.proofs.Changes.{either_cond}
+
+-- the place to which the port comes is the one that its word tells
+arrival_place : (e : Plan) (words : List ℕ) (ports : ℕ → Port) (b : Beside) (k : ℕ) (c : Place) → LawfulEpochs e words ports b → k < e.ports → (w : law.Arrives e words ports b k c) →
+    place_found (ports k) c (get_or words (at_word k) 0) ≡ w.place
+arrival_place e words ports b k c lawful below w = elim w.is [
+  | inl won ↦ (elim (eqb_tells n (marked here)) [
+    | inl same ↦ ap (λ t. cond t c (unpacked n)) same.0 ∙ sym won.1
+    | inr other ↦ absurd (other.1 won.0)
+  ])
+  | inr lost ↦ (elim (eqb_tells n (marked here)) [
+    | inl same ↦ absurd (not_marked e w.place here lawful.plan.arenas there (sym lost ∙ same.1))
+    | inr other ↦ ap (λ t. cond t c (unpacked n)) other.0 ∙ ap unpacked lost ∙ unpacked_is w.place lawful.plan.arenas there.arena
+  ])
+]
+  where
+    n : ℕ
+    n = get_or words (at_word k) 0
+
+    here : Place
+    here = (ports k).control.here
+
+    there : IsPlace e w.place
+    there = subst (λ (p : Port). IsPlace e p.control.here) (put_same k (arrived e k w.place w.before) ports) (w.lawful.control.places k below)
+
+-- what the port has seen is a beginning of what lies behind it then
+arrival_seen : (b : Beside) (p q : Port) → IsSeen b p → Reached b p → Reached b q → length p.before < length q.before → q.part.seen ≡ [] → Begins (seen_in p) (seen_in q)
+arrival_seen b p q seen old new later none =
+    let rest = seen old.later old.log old.is in
+    let mid = ends old.later (old.log ∷ p.before) (new.later ++ new.log ∷ []) q.before (sym old.is ∙ new.is ∙ split new.later new.log q.before) (omega (arith, later)) in
+    let g = history_grows mid.0 (old.log ∷ p.before) in (
+      public_log (length p.before) rest.0 ++ g.0,
+      ap (λ (l : List Applied). history_of (l ∷ q.before)) none ∙ append-nil (history_of q.before) ∙ ap history_of mid.1 ∙ g.1
+          ∙ ap (λ (l : List Applied). l ++ g.0) (ap (λ (l : List Applied). history_of (l ∷ p.before)) rest.1 ∙ history_longer p.part.seen rest.0 p.before)
+          ∙ append_assoc (seen_in p) (public_log (length p.before) rest.0) g.0,
+    )
+  where
+    split : (l : List (List Applied)) (x : List Applied) (t : List (List Applied)) → l ++ x ∷ t ≡ (l ++ x ∷ []) ++ t
+    split [] x t = refl
+    split (y ∷ l) x t = ap (λ (m : List (List Applied)). y ∷ m) (split l x t)
+
+arrival : (a : About) (words : List ℕ) (ports : ℕ → Port) (notes : ℕ → List Noted) (b : Beside) (since : ℕ → ℕ) (x : Seated) → LawfulMemory (plan_of a) words ports b notes →
+    KeepsTime (plan_of a) words ports (place_now b) since → IsSeat a ports notes b since x → IsKnown x → (c : Place) → x.port.control.entering ≡ Loaded c → (v : ℕ) →
+    cond (get_or words (at_word x.number) 0 == marked (ports x.number).control.here) (packed c) (get_or words (at_word x.number) 0) ≡ v →
+    Moved a (set words (at_word x.number) v) ports notes b since x (Arrives c x (get_or words (at_word x.number) 0))
+arrival a words ports notes b since x w time s known c loaded v word =
+    let e : Plan = plan_of a in
+    let k : ℕ = x.number in
+    let n : ℕ = get_or words (at_word k) 0 in
+    let own : x.about ≡ a = s.about in
+    let loaded' : (ports k).control.entering ≡ Loaded c = ap (λ (p : Port). p.control.entering) (sym s.port) ∙ loaded in
+    let to : law.Arrives (plan_of a) words ports b k c = arrivals_stay_lawful e words ports b k c w.epochs s.number loaded' in
+    let p : Port = arrived e k to.place to.before in
+    let lawful : LawfulMemory e (set words (at_word k) v) (put k p ports) b notes =
+    subst (λ v. LawfulMemory e (set words (at_word k) v) (put k p ports) b notes) word (arrivals_keep_notes e words ports b notes k c w s.number to) in
+    let in_time = arrivals_keep_time e words ports b k c since w.epochs s.number loaded' time to in
+    let place : place_found x.port c n ≡ to.place = ap (λ (q : Port). place_found q c n) s.port ∙ arrival_place e words ports b k c w.epochs s.number to in
+    let old : Reached b x.port = subst (Reached b) (sym s.port) (w.noted.reached k s.number) in
+    let new : Reached b p = subst (Reached b) (put_same k p ports) (lawful.noted.reached k s.number) in
+    let later : x.port.control.here.epoch < to.place.epoch = subst (λ (q : Port). q.control.here.epoch < to.place.epoch) (sym s.port) to.later in
+    let few = old.epoch in
+    let many = to.epoch in
+    let seen : Begins (seen_in x.port) (seen_in p) = arrival_seen b x.port p s.seen old new (omega (arith, few, many, later)) refl in
+    let knows = known.knows in
+    let began : x.began.epoch ≤ since k = subst (λ (t : Entering). IsSince x.began t (since k)) loaded s.entering in
+    let up = in_time.0 in
+    record {
+      y = record x { port = p; found = None };
+      ports' = put k p ports;
+      notes' = notes;
+      beside = b;
+      since' = since;
+      lawful = lawful;
+      time = subst (λ v. KeepsTime e (set words (at_word k) v) (put k p ports) (place_now b) since) word in_time.1;
+      others = λ q ne. (put_other k p ports q ne, refl, refl);
+      number = refl;
+      seat = record {
+        about = own;
+        number = s.number;
+        port = sym (put_same k p ports);
+        noted = s.noted;
+        seen = λ later log is. (log, refl);
+        began = s.began;
+        entering = tt;
+        found = tt;
+      };
+      grown = λ q low ne. not_grown (ports q) b b refl refl;
+      all_grown = none_grown b b refl refl;
+      later = omega arith;
+      reached = (new.later, new.log, new.is);
+      seen = seen;
+      legal = legal_begins a.opening (seen_in x.port) (seen_in p) k 0 x.notes seen (subst (λ (z : About). LegalNotes z.opening (seen_in x.port) k 0 x.notes) own knows.legal);
+      says = (
+        to.before,
+        subst (λ (d : Place). x.port.control.here.epoch < d.epoch) (sym place) later,
+        subst (λ (d : Place). x.began.epoch ≤ d.epoch) (sym place) (omega (arith, began, up)),
+        ap (λ (z : About). record x { port = arrived (plan_of z) k to.place to.before; found = None }) (sym own)
+            ∙ ap (λ (d : Place). record x { port = arrived (plan_of x.about) k d to.before; found = None }) (sym place),
+      );
+    }
+
+-- the third step of entering
+module _ {S : Type 0} (a : About) (slots id : ℕ) (me : Me S (List Seated)) (one : IsOne me) (own : (one_of me.0).about ≡ a) (known : IsKnown (one_of me.0)) where
+  abbrev x : Seated
+  x = one_of me.0
+
+  pub may_arrive : (c : Place) → x.port.control.entering ≡ Loaded c →
+      Allows (IsKept a) slots id me (at_word x.number) (λ n. either (n == marked x.port.control.here) (packed c) n) (tells (Arrives c) me)
+  may_arrive c loaded = allowed a slots id me (at_word x.number) (λ n. either (n == marked x.port.control.here) (packed c) n) (Arrives c) one own (λ words ports notes b since w time s small.
+      let n : ℕ = get_or words (at_word x.number) 0 in
+      arrival a words ports notes b since x w time s known c loaded (either (n == marked x.port.control.here) (packed c) n)
+      (ap (λ (p : Port). cond (n == marked p.control.here) (packed c) n) (sym s.port) ∙ either_cond (n == marked x.port.control.here) (packed c) n))

@@ -1,0 +1,52 @@
+-- How a port enters an epoch, step by step.
+use Rattle.std.proofs.Common.{ℕ, ◌≡◌, ◌+◌, ◌==◌, List, sym, ap, subst, ◌∙◌, arith}
+use prog.Atomic.{either}
+use Rattle.atomic_table.specs.Table.{Me, Allows}
+use Rattle.atomic_table.specs.Seated.{TableId}
+use Rattle.partial_epochs.specs.Layout.{at_word, marked, packed}
+use Rattle.partial_long_lived.specs.declared.rule.About.{About}
+use Rattle.partial_long_lived.specs.declared.stand.Stand.{Stand}
+use Rattle.partial_long_lived.specs.Rule.{IsKept, Seated, one_of}
+use Rattle.partial_long_lived.specs.Inner.Steps.{tells}
+use Rattle.partial_long_lived.specs.Inner.Held.{IsHeld, port_at}
+use Rattle.partial_long_lived.specs.Inner.Moves.{Arrives, LoadsCurrent, StoresMark, unpacked}
+use Rattle.partial_long_lived.specs.Inner.Calls.{MayEnter}
+use Rattle.partial_long_lived.proofs.Control.{may_load, may_mark}
+use Rattle.partial_long_lived.proofs.Enters.{may_arrive}
+use Rattle.partial_long_lived.proofs.Standing.{place_is}
+
+module _ (table : TableId) (about : About) (s : Stand) (h : IsHeld table about s) where
+  -- the mark that is stored
+  mark_is : (mark : ℕ) → mark ≡ packed (record { epoch = s.epoch; arena = s.arena }) → 9223372036854775808 + mark ≡ marked (port_at s).port.control.here
+  mark_is mark is = let place = place_is table about s h in omega (arith, is, place)
+
+  word_is : 1 + s.number ≡ at_word (port_at s).number
+  word_is = ap (λ n. 1 + n) h.number
+
+  pub mark_asked : MayEnter s → (slots id : ℕ) (mark : ℕ) → mark ≡ packed (record { epoch = s.epoch; arena = s.arena }) →
+      Allows (IsKept about) slots id s.seat.me (1 + s.number) (λ n. 9223372036854775808 + mark) (tells StoresMark s.seat.me)
+  mark_asked may slots id mark is =
+      subst (λ i. Allows (IsKept about) slots id s.seat.me i (λ n. 9223372036854775808 + mark) (tells StoresMark s.seat.me)) (sym word_is)
+      (subst (λ v. Allows (IsKept about) slots id s.seat.me (at_word (port_at s).number) (λ n. v) (tells StoresMark s.seat.me)) (sym (mark_is mark is))
+      (may_mark about slots id s.seat.me h.one h.own h.known may.stands may.past may.free))
+
+  -- the port behind the first step
+  module _ (me : Me (Unit {0}) (List Seated)) (a : ℕ) (told : tells StoresMark s.seat.me a me) where
+    pub load_asked : (slots id : ℕ) → Allows (IsKept about) slots id me 0 (λ n. n) (tells LoadsCurrent me)
+    load_asked slots id = may_load about slots id me told.0 (told.1.about ∙ h.own) told.1.known (ap (λ (x : Seated). x.port.control.entering) told.2)
+
+    -- and behind the second
+    module _ (me' : Me (Unit {0}) (List Seated)) (current : ℕ) (told' : tells LoadsCurrent me current me') where
+      number_is : (one_of me'.0).number ≡ (port_at s).number
+      number_is = told'.1.number ∙ told.1.number
+
+      here_is : (one_of me'.0).port.control.here ≡ (port_at s).port.control.here
+      here_is = ap (λ (x : Seated). x.port.control.here) told'.2.2 ∙ ap (λ (x : Seated). x.port.control.here) told.2
+
+      pub arrive_asked : (slots id : ℕ) (mark : ℕ) → mark ≡ packed (record { epoch = s.epoch; arena = s.arena }) →
+          Allows (IsKept about) slots id me' (1 + s.number) (λ n. either (n == 9223372036854775808 + mark) current n) (tells (Arrives (unpacked current)) me')
+      arrive_asked slots id mark is =
+          subst (λ i. Allows (IsKept about) slots id me' i (λ n. either (n == 9223372036854775808 + mark) current n) (tells (Arrives (unpacked current)) me')) (ap at_word number_is ∙ sym word_is)
+          (subst (λ v. Allows (IsKept about) slots id me' (at_word (one_of me'.0).number) (λ n. either (n == v) current n) (tells (Arrives (unpacked current)) me')) (ap marked here_is ∙ sym (mark_is mark is))
+          (subst (λ v. Allows (IsKept about) slots id me' (at_word (one_of me'.0).number) (λ n. either (n == marked (one_of me'.0).port.control.here) v n) (tells (Arrives (unpacked current)) me')) (sym told'.2.0)
+          (may_arrive about slots id me' told'.0 (told'.1.about ∙ told.1.about ∙ h.own) told'.1.known (unpacked current) (ap (λ (x : Seated). x.port.control.entering) told'.2.2))))

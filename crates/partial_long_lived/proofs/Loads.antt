@@ -1,0 +1,311 @@
+-- Loads of component words are allowed, and what they tell.
+use Rattle.std.proofs.Common.{ℕ, ◌≡◌, ◌≢◌, ◌+◌, ◌<◌, ◌≤◌, ◌==◌, ◌⊎◌, ◌&&◌, ◌++◌, not, Bool, true, false, cond, Option, Some, None, IfSome, List, [], ◌∷◌, length, take, get_or, set, refl, sym, ap, subst, ◌∙◌, inl, inr, arith, append-nil, append_assoc, length-append}
+use Rattle.std.specs.Prelude.{⊤, nat_lt}
+use Rattle.std.specs.List.{AllByRecursion}
+use Rattle.std.proofs.lemmas.Bool.Decides.{eqb_tells}
+use Rattle.std.proofs.lemmas.List.{length-map, take_all}
+use Rattle.partial_model.specs.declared.history.Applied.{Applied}
+use Rattle.partial_model.specs.declared.history.Opening.{Opening}
+use Rattle.partial_model.specs.declared.call.Call.TheVariants as call
+use Rattle.partial_model.specs.declared.call.Answer.TheVariants as answer
+use Rattle.partial_model.specs.declared.call.Note.{Note}
+use Rattle.partial_model.specs.declared.call.Note.TheVariants as note
+use Rattle.partial_model.specs.History.{stamp_of, value_of}
+use Rattle.partial_model.specs.Notes.{Fits, IsTrueOf, LegalNotes, Noted, place_of, seen_by}
+use Rattle.partial_model.proofs.NotesLemmas.{LegalNotes-push}
+use Rattle.partial_words.specs.Layout.{first_free}
+use Rattle.partial_epochs.specs.Lists.{put}
+use Rattle.partial_epochs.specs.Control.{MayPut}
+use Rattle.partial_epochs.proofs.Last.{is_raw, within as arena_within}
+use Rattle.partial_epochs.specs.Layout.{Place, Plan, base, component_words, seal, unsealed}
+use Rattle.partial_epochs.specs.History.{carried_after, carried_behind, history_of, opening_behind, public_entry, public_log}
+use Rattle.partial_epochs.specs.Ports.{Port}
+use Rattle.partial_epochs.specs.Ports.Entering.{Stands}
+use Rattle.partial_epochs.specs.Epochs.{Beside, IsStanding, place_now}
+use Rattle.partial_epochs.specs.Notes.{LawfulMemory, having_seen, noting, public_of}
+use Rattle.partial_epochs.specs.Sealing.{IsBesideAs}
+use Rattle.partial_epochs.specs.Time.{KeepsTime}
+use Rattle.partial_epochs.proofs.Laws.{asides_keep_time, components_name_records, epochs_continue, glances_stay_lawful, sights_stay_lawful, unsealed_is_present}
+use Rattle.partial_epochs.proofs.Continue.{history_took}
+use Rattle.partial_epochs.proofs.Lists.{at_of, put_all, put_other, put_same}
+use Rattle.partial_epochs.proofs.OneHistory.{held_history, history_grows}
+use Rattle.partial_epochs.proofs.Public.{stamp_public, value_public}
+use Rattle.partial_epochs.proofs.Seats.{among, history_longer}
+use Rattle.partial_long_lived.specs.declared.rule.About.{About}
+use Rattle.partial_long_lived.specs.Rule.{Began, Found, HasBegun, IsFinal, IsSeat, Seated, plan_of}
+use Rattle.partial_long_lived.specs.Ports.{seen_in}
+use Rattle.partial_long_lived.specs.Inner.Steps.{Begins, IsKnown}
+use Rattle.partial_long_lived.specs.Inner.Loads.{Sees, Wish, found_by, noted_by, place_seen, stamp_seen}
+use Rattle.partial_long_lived.specs.Inner.Loads.Wish.{Expects, Finds, Glances, Reads}
+use Rattle.partial_long_lived.proofs.Begins.{began_by, seen_few}
+use Rattle.partial_long_lived.proofs.Control.{load_same, stands_since}
+use Rattle.partial_long_lived.proofs.Kept.{Moved, begun_grows, final_grows, none_grown, not_grown}
+use Rattle.partial_long_lived.proofs.Lists.{cut, same_before}
+use Rattle.partial_long_lived.proofs.Seen.{legal_begins}
+
+-- the port wants what the next epoch begins with
+abbrev pub IsFinding : Wish → Type 0
+IsFinding Finds = ⊤
+IsFinding _ = ⊥
+
+-- what a port sees in an epoch no older than its call is no older than the call
+pub begun_place : (b : Beside) (g : Began) (later before : List (List Applied)) (log : List Applied) → HasBegun b g → b.log ∷ b.before ≡ later ++ log ∷ before → g.epoch ≤ length before →
+    g.length ≤ length (history_of (log ∷ before))
+begun_place b g later before log w is young = elim (eqb_tells (length before) g.epoch) [
+  | inl same ↦ w.reached later before log is same.1
+  | inr other ↦
+      let ne = other.1 in
+      let c = cut g.epoch before (omega (arith, young, ne)) in
+      let all : b.log ∷ b.before ≡ (later ++ log ∷ c.0) ++ c.1 ∷ c.2 = is ∙ ap (λ (l : List (List Applied)). later ++ log ∷ l) c.3 ∙ sym (append_assoc later (log ∷ c.0) (c.1 ∷ c.2)) in
+      let was = w.reached (later ++ log ∷ c.0) c.2 c.1 all c.4 in
+      let grows = history_grows c.0 (c.1 ∷ c.2) in
+      let long = ap (λ (l : List (List Applied)). length (history_of l)) c.3 ∙ ap (λ (l : List Applied). length l) grows.1 in
+      let both = length-append (history_of (c.1 ∷ c.2)) grows.0 in
+      let over = length-append (history_of before) (public_log (length before) log) in
+      omega (arith, was, long, both, over)
+]
+
+-- the seat of a port of which all is known
+abbrev pub seat_at : About → (ℕ → Port) → (ℕ → List Noted) → ℕ → Began → Option Found → Seated
+seat_at a ports notes k g f = record { about = a; number = k; port = ports k; notes = notes k; began = g; found = f }
+
+pub seat_is : (a : About) (ports : ℕ → Port) (notes : ℕ → List Noted) (b : Beside) (since : ℕ → ℕ) (x : Seated) → IsSeat a ports notes b since x → x ≡ seat_at a ports notes x.number x.began x.found
+seat_is a ports notes b since x s =
+    ap (λ (z : About). record { about = z; number = x.number; port = x.port; notes = x.notes; began = x.began; found = x.found }) s.about
+    ∙ ap (λ (p : Port). record { about = a; number = x.number; port = p; notes = x.notes; began = x.began; found = x.found }) s.port
+    ∙ ap (λ (l : List Noted). record { about = a; number = x.number; port = ports x.number; notes = l; began = x.began; found = x.found }) s.noted
+
+module _ (a : About) (words : List ℕ) (ports : ℕ → Port) (notes : ℕ → List Noted) (b : Beside) (since : ℕ → ℕ) (w : LawfulMemory (plan_of a) words ports b notes)
+    (time : KeepsTime (plan_of a) words ports (place_now b) since) (k : ℕ) (below : k < a.ports) (g : Began) (f : Option Found) (stands : (ports k).control.entering ≡ Stands) where
+  abbrev e : Plan
+  e = plan_of a
+
+  abbrev p : Port
+  p = ports k
+
+  abbrev X : Seated
+  X = seat_at a ports notes k g f
+
+  pub standing : IsStanding b k (ports k)
+  standing = w.epochs.standing k below stands
+
+  abbrev log : List Applied
+  log = standing.epoch.log
+
+  abbrev o : Opening
+  o = opening_behind a.opening (ports k).before
+
+  all_taken : take (length log) log ≡ log
+  all_taken = take_all (length log) log (omega arith)
+
+  above : AllByRecursion (λ (c : Applied). first_free e.sizes ≤ c.stamp) log
+  above = (held_history e words ports b w.epochs (ports k).control.here.arena standing.epoch standing.is).above
+
+  pub where_is : (later : List (List Applied)) × (b.log ∷ b.before ≡ later ++ log ∷ (ports k).before)
+  where_is = among e words ports b w.epochs k below (ports k) standing
+
+  long : length (history_of (log ∷ (ports k).before)) ≡ length (history_of (ports k).before) + length log
+  long = length-append (history_of (ports k).before) (public_log (length (ports k).before) log) ∙ ap (λ n. length (history_of (ports k).before) + n) (length-map log (public_entry (length (ports k).before)))
+
+  -- a note that is true behind the epoch's history
+  abbrev IsTrueHere : Noted → Type 0
+  IsTrueHere n = (n.note ≡ Some (note.Saw (length (history_of (ports k).before) + length log))) × Fits (length a.opening.values) n.call n.answer n.note
+      × IsTrueOf a.opening (history_of (log ∷ (ports k).before)) k n.call n.answer (note.Saw (length (history_of (ports k).before) + length log))
+
+  -- public values and stamps
+  module _ (j : ℕ) (inside : j < a.sizes.m) where
+    value_is : value_of o log j ≡ value_of a.opening (take (length (history_of (ports k).before) + length log) (history_of (log ∷ (ports k).before))) j
+    value_is = ap (λ (l : List Applied). value_of o l j) (sym all_taken) ∙ value_public e w.epochs.plan (ports k).before log above (length log) j inside
+
+    stamp_is : public_of e (ports k).before j (stamp_of o log j) ≡ stamp_of a.opening (take (length (history_of (ports k).before) + length log) (history_of (log ∷ (ports k).before))) j
+    stamp_is = ap (λ (l : List Applied). public_of e (ports k).before j (stamp_of o l j)) (sym all_taken) ∙ stamp_public e w.epochs.plan (ports k).before log above (length log) j inside
+
+    carried_is : public_of e (ports k).before j (stamp_of o log j) ≡ carried_after (length (ports k).before) (carried_behind a.opening (ports k).before) log j
+    carried_is =
+        let values = w.epochs.plan.values in
+        stamp_is ∙ ap (λ (l : List Applied). stamp_of a.opening l j) (history_took log (ports k).before (length log)) ∙ ap (λ (l : List Applied). stamp_of a.opening (history_of (l ∷ (ports k).before)) j) all_taken
+        ∙ (epochs_continue a.opening log (ports k).before j (omega (arith, values, inside))).stamp
+
+    abbrev changed_note : ℕ → ℕ → Noted
+    changed_note expected v = record { call = call.UpdateIf j expected v; answer = answer.Changed (stamp_seen X log j); note = Some (note.Saw (place_seen X log)) }
+
+    -- what is noted is true
+    notes_true : (wish : Wish) → AllByRecursion IsTrueHere (noted_by wish X log j)
+    notes_true Glances = tt
+    notes_true Finds = tt
+    notes_true Reads =
+        let values = w.epochs.plan.values in
+        ((ap (λ n. Some (note.Saw n)) long, omega (arith, values, inside), (omega (arith, long), value_is, stamp_is)), tt)
+    notes_true (Expects expected v) = elim (eqb_tells (stamp_seen X log j) expected) [
+      | inl same ↦ subst (λ (c : Bool). AllByRecursion IsTrueHere (cond c [] (changed_note expected v ∷ []))) (sym same.0) tt
+      | inr ne ↦
+          let values = w.epochs.plan.values in
+          subst (λ (c : Bool). AllByRecursion IsTrueHere (cond c [] (changed_note expected v ∷ []))) (sym ne.0)
+          ((ap (λ n. Some (note.Saw n)) long, omega (arith, values, inside), (omega (arith, long), sym stamp_is, ne.1)), tt)
+    ]
+
+  -- the port once it has seen all of its epoch, and has noted these calls
+  module _ (s : IsSeat a ports notes b since X) (known : IsKnown X) (j : ℕ) (inside : j < a.sizes.m) where
+    abbrev p' : Port
+    p' = having_seen (ports k) log
+
+    seen_rest : (rest : List Applied) × (log ≡ (ports k).part.seen ++ rest)
+    seen_rest = s.seen where_is.0 log where_is.1
+
+    seen_begins_then : Begins (seen_in (ports k)) (seen_in p')
+    seen_begins_then = let r = seen_rest in (
+      public_log (length (ports k).before) r.0,
+      ap (λ (l : List Applied). history_of (l ∷ (ports k).before)) r.1 ∙ history_longer (ports k).part.seen r.0 (ports k).before,
+    )
+
+    -- what it has found stays so
+    final_seen : (f : Option Found) → IfSome f (IsFinal e b (ports k)) → IfSome f (IsFinal e b p')
+    final_seen None h = tt
+    final_seen (Some f) h = record { inside = h.inside; passed = h.passed; last = h.last }
+
+    -- a lawful memory with what is noted
+    pub record Seen (added : List Noted) : Type 0 where
+      pub beside : Beside
+      pub same : IsBesideAs b beside
+      pub notes' : ℕ → List Noted
+      pub own : notes' k ≡ notes k ++ added
+      pub others : (q : ℕ) → q ≢ k → notes' q ≡ notes q
+      pub lawful : LawfulMemory e words (put k p' ports) beside notes'
+
+    shown_few : seen_by 0 (notes k) ≤ length (history_of (ports k).before) + length log
+    shown_few =
+        let shown = w.noted.shown k below in
+        let few = ap (λ (l : List Applied). length l) seen_rest.1 in
+        let both = length-append (ports k).part.seen seen_rest.0 in
+        omega (arith, shown, few, both)
+
+    sees_nothing : Seen []
+    sees_nothing =
+        let to = glances_stay_lawful e words ports b notes k w below stands standing in
+        record { beside = to.beside; same = to.same; notes' = notes; own = sym (append-nil (notes k)); others = λ q ne. refl; lawful = to.lawful }
+
+    sees_note : (n : Noted) → IsTrueHere n → Seen (n ∷ [])
+    sees_note n is =
+        let to = sights_stay_lawful e words ports b notes k (length log) n w below standing stands (record { noted = is.0; within = omega arith; behind = shown_few; fits = is.1; is_true = is.2 }) in
+        record { beside = to.beside; same = to.same; notes' = noting k (n ∷ []) notes; own = put_same k (notes k ++ n ∷ []) notes; others = λ q ne. put_other k (notes k ++ n ∷ []) notes q ne; lawful = to.lawful }
+
+    legal_then : LegalNotes a.opening (seen_in p') k 0 (notes k)
+    legal_then = legal_begins a.opening (seen_in (ports k)) (seen_in p') k 0 (notes k) seen_begins_then known.knows.legal
+
+    legal_note : (n : Noted) → IsTrueHere n → LegalNotes a.opening (seen_in p') k 0 (notes k ++ n ∷ [])
+    legal_note n is = LegalNotes-push a.opening (seen_in p') k 0 (notes k) n legal_then
+        (is.1, subst (λ (t : Option Note). IfSome t (λ m. IsTrueOf a.opening (seen_in p') k n.call n.answer m × (seen_by 0 (notes k) ≤ place_of m))) (sym is.0) (is.2, shown_few))
+
+    -- what a load of the component's word leads to
+    module _ (first : Bool) (wish : Wish) (finds : IsFinding wish → j < (ports k).passed) where
+      abbrev i : ℕ
+      i = base e (ports k).control.here.arena + j
+
+      abbrev n : ℕ
+      n = get_or words i 0
+
+      names : unsealed n ≡ stamp_of o log j
+      names = (components_name_records e words ports b k j w.epochs below stands inside standing).names
+
+      -- an unsealed word is one of the current epoch
+      young : n < seal → length b.before ≡ (ports k).control.here.epoch
+      young less =
+          let at : get_or (component_words e words (ports k).control.here.arena) j 0 ≡ n =
+          at_of (λ i. get_or words (base e (ports k).control.here.arena + i) 0) 0 a.sizes.m j inside ∙ ap (λ i. get_or words (base e (ports k).control.here.arena + i) 0) (omega arith) in
+          let here = (unsealed_is_present e words ports b k j w.epochs below stands inside (λ sealed. omega (arith, at, less, sealed))).here in
+          sym (ap (λ (d : Place). d.epoch) here)
+
+      found_final : (wish : Wish) → (IsFinding wish → j < (ports k).passed) → (c : Beside) → c.log ≡ b.log → c.before ≡ b.before → IfSome (found_by wish X log j) (IsFinal e c p')
+      found_final Finds passed c same before = record {
+        inside = inside;
+        passed = passed tt;
+        last = λ later l is.
+            let all : b.log ∷ b.before ≡ later ++ l ∷ (ports k).before = ap (λ (t : List Applied). t ∷ b.before) (sym same) ∙ ap (λ (t : List (List Applied)). c.log ∷ t) (sym before) ∙ is in
+            let one = same_before where_is.0 later log l (ports k).before (sym where_is.1 ∙ all) in
+            record {
+              value = ap (λ (t : List Applied). value_of o t j) (sym one);
+              stamp = ap (λ (t : List Applied). carried_after (length (ports k).before) (carried_behind a.opening (ports k).before) t j) (sym one) ∙ sym (carried_is j inside);
+            };
+      }
+      found_final Glances passed c same before = final_grows a p' b c (not_grown p' b c same before) f (final_seen f s.found)
+      found_final Reads passed c same before = final_grows a p' b c (not_grown p' b c same before) f (final_seen f s.found)
+      found_final (Expects x v) passed c same before = final_grows a p' b c (not_grown p' b c same before) f (final_seen f s.found)
+
+      pub moved_by : (added : List Noted) → Seen added → LegalNotes a.opening (seen_in p') k 0 (notes k ++ added) → added ≡ cond (first && not (nat_lt n seal)) [] (noted_by wish X log j) →
+          Moved a (set words i n) ports notes b since X (Sees first wish j X n)
+      moved_by added to legal is =
+          let d = began_by first X b (seen_few a words ports notes b since X w s) s.began in
+          let same_log = to.same.log in
+          let same_before_is = to.same.before in
+          let grown = not_grown p' b to.beside same_log same_before_is in
+          let lawful' : LawfulMemory e (set words i n) (put k p' ports) to.beside to.notes' = subst (λ (l : List ℕ). LawfulMemory e l (put k p' ports) to.beside to.notes') (load_same words i) to.lawful in
+          record {
+            y = record { about = a; number = k; port = p'; notes = notes k ++ cond (first && not (nat_lt n seal)) [] (noted_by wish X log j); began = d.0; found = found_by wish X log j };
+            ports' = put k p' ports;
+            notes' = to.notes';
+            beside = to.beside;
+            since' = since;
+            lawful = lawful';
+            time = subst (λ (l : List ℕ). KeepsTime e l (put k p' ports) (place_now to.beside) since) (load_same words i)
+                (asides_keep_time e words words ports (put k p' ports) (place_now b) (place_now to.beside) since (record {
+                  at = λ q low. refl;
+                  here = λ q low. put_all (λ i (r : Port). r.control.here ≡ (ports i).control.here) k p' ports q (λ _. refl) (λ _. refl);
+                  entering = λ q low. put_all (λ i (r : Port). r.control.entering ≡ (ports i).control.entering) k p' ports q (λ _. refl) (λ _. refl);
+                  puts = λ q i m low. put_all (λ h (r : Port). MayPut r.control i m → MayPut (ports h).control i m) k p' ports q (λ _ may. may) (λ _ may. may);
+                  later = let longer = ap (λ (l : List (List Applied)). length l) same_before_is in omega (arith, longer);
+                }) time);
+            others = λ q ne. (put_other k p' ports q ne, to.others q ne, refl);
+            number = refl;
+            seat = record {
+              about = refl;
+              number = below;
+              port = sym (put_same k p' ports);
+              noted = ap (λ (l : List Noted). notes k ++ l) (sym is) ∙ sym to.own;
+              seen = λ later l at.
+                  let all : b.log ∷ b.before ≡ later ++ l ∷ (ports k).before = ap (λ (t : List Applied). t ∷ b.before) (sym same_log) ∙ ap (λ (t : List (List Applied)). to.beside.log ∷ t) (sym same_before_is) ∙ at in
+                  ([], sym (same_before where_is.0 later log l (ports k).before (sym where_is.1 ∙ all)) ∙ sym (append-nil log));
+              began = begun_grows b to.beside d.0 (let longer = ap (λ (l : List (List Applied)). length l) same_before_is in omega (arith, longer)) (none_grown b to.beside same_log same_before_is) d.2;
+              entering = stands_since d.0 (ports k).control.entering (since k) stands;
+              found = found_final wish finds to.beside same_log same_before_is;
+            };
+            grown = λ q low ne. not_grown (ports q) b to.beside same_log same_before_is;
+            all_grown = none_grown b to.beside same_log same_before_is;
+            later = let longer = ap (λ (l : List (List Applied)). length l) same_before_is in omega (arith, longer);
+            reached = (where_is.0, log, ap (λ (t : List Applied). t ∷ to.beside.before) same_log ∙ ap (λ (t : List (List Applied)). b.log ∷ t) same_before_is ∙ where_is.1);
+            seen = seen_begins_then;
+            legal = subst (λ (l : List Noted). LegalNotes a.opening (seen_in p') k 0 (notes k ++ l)) is legal;
+            says = record {
+              n = d.0;
+              began = d.1;
+              log = log;
+              is = refl;
+              stamp = names;
+              within = let is_here = is_raw e words ports b k j w.epochs below stands inside standing in let low = arena_within e words ports b k j w.epochs below stands inside standing in omega (arith, is_here, low);
+              present = λ less. let come = (d.2).come in let here = young less in omega (arith, come, here);
+              time = λ fresh. begun_place b d.0 where_is.0 (ports k).before log d.2 where_is.1 (let epoch = (w.noted.reached k below).epoch in omega (arith, fresh, epoch));
+            };
+          }
+
+      -- what is noted is nothing or one call
+      one_note : (wish : Wish) → (noted_by wish X log j ≡ []) ⊎ ((m : Noted) × (noted_by wish X log j ≡ m ∷ []))
+      one_note Glances = inl refl
+      one_note Finds = inl refl
+      one_note Reads = inr (_, refl)
+      one_note (Expects expected v) = by (stamp_seen X log j == expected)
+        where
+          by : (c : Bool) → (cond c [] (changed_note j inside expected v ∷ []) ≡ []) ⊎ ((m : Noted) × (cond c [] (changed_note j inside expected v ∷ []) ≡ m ∷ []))
+          by true = inl refl
+          by false = inr (_, refl)
+
+      pub moved_see : Moved a (set words i n) ports notes b since X (Sees first wish j X n)
+      moved_see = by (first && not (nat_lt n seal)) refl (one_note wish)
+        where
+          nothing : [] ≡ cond (first && not (nat_lt n seal)) [] (noted_by wish X log j) → Moved a (set words i n) ports notes b since X (Sees first wish j X n)
+          nothing is = moved_by [] sees_nothing (subst (λ (l : List Noted). LegalNotes a.opening (seen_in p') k 0 l) (sym (append-nil (notes k))) legal_then) is
+
+          by : (c : Bool) → (first && not (nat_lt n seal)) ≡ c → ((noted_by wish X log j ≡ []) ⊎ ((m : Noted) × (noted_by wish X log j ≡ m ∷ []))) → Moved a (set words i n) ports notes b since X (Sees first wish j X n)
+          by true skip some = nothing (sym (ap (λ (c : Bool). cond c [] (noted_by wish X log j)) skip))
+          by false skip (inl none) = nothing (sym (ap (λ (c : Bool). cond c [] (noted_by wish X log j)) skip ∙ none))
+          by false skip (inr one) =
+              let is_true = (subst (AllByRecursion IsTrueHere) one.1 (notes_true j inside wish)).0 in
+              moved_by (one.0 ∷ []) (sees_note one.0 is_true) (legal_note one.0 is_true) (sym (ap (λ (c : Bool). cond c [] (noted_by wish X log j)) skip ∙ one.1))

@@ -1,0 +1,361 @@
+-- The steps of a port's machine are allowed.
+use Rattle.std.proofs.Common.{ℕ, ◌≡◌, ◌≢◌, ◌+◌, ◌<◌, ◌≤◌, ◌||◌, ◌++◌, Bool, true, false, cond, Option, Some, None, IfSome, List, [], ◌∷◌, length, map, take, drop, get_or, set, refl, sym, ap, subst, ◌∙◌, inl, inr, arith, append-nil, append_assoc, length-append}
+use Rattle.std.specs.List.{AllByRecursion}
+use Rattle.std.proofs.lemmas.List.{length-map, take-append-drop, take-append-le}
+use lib.Seq.{set-get_or}
+use Rattle.partial_model.specs.declared.history.Applied.{Applied}
+use Rattle.partial_model.specs.declared.call.Call.{Call}
+use Rattle.partial_model.specs.declared.call.Call.TheVariants as call
+use Rattle.partial_model.specs.declared.call.Answer.{Answer}
+use Rattle.partial_model.specs.declared.call.Answer.TheVariants as answer
+use Rattle.partial_model.specs.History.{stamp_of}
+use Rattle.partial_model.specs.Notes.{LegalNotes, Noted, seen_by}
+use Rattle.partial_words.specs.declared.step.Step.{Step}
+use Rattle.partial_words.specs.declared.step.Step.TheVariants.{Load, Store, Exchange, Add}
+use Rattle.partial_words.specs.Step.{answer_of, word_of, words_after}
+use Rattle.partial_machine.specs.Machine.{CoreState, advance, reply_of}
+use Rattle.partial_machine.specs.Calls.{answer_for, call_of, is_begun}
+use Rattle.partial_core.specs.Part.{Part, core_of}
+use Rattle.partial_core.specs.Steps.{begun_with, since_with}
+use Rattle.partial_epochs.specs.Lists.{put}
+use Rattle.partial_epochs.specs.Layout.{IsSealed, Place, Plan, arena_words, base, component_words, plain, placed}
+use Rattle.partial_epochs.specs.History.{history_of, opening_behind, public_entry, public_log}
+use Rattle.partial_epochs.proofs.Seats.{among, history_longer, known}
+use Rattle.partial_epochs.specs.Ports.{Control, Entering, Epoch, Port}
+use Rattle.partial_epochs.specs.Ports.Entering.{Stands, Marks, Loaded}
+use Rattle.partial_epochs.specs.Control.{IsOld, MayPut}
+use Rattle.std.specs.Option.{option_map}
+use Rattle.partial_epochs.proofs.OneHistory.{present_history}
+use Rattle.partial_model.proofs.AllLemmas.{all_back}
+use Rattle.partial_epochs.specs.Epochs.{Beside, IsStanding, LawfulEpochs, numbers, place_now}
+use Rattle.partial_epochs.specs.MachineSteps.{HaveSlots, MachineLeads, MeetsSeal, ends_over}
+use Rattle.partial_epochs.specs.Notes.{ExpectedOne, LawfulMemory, Reached, noting, public_noted}
+use Rattle.partial_epochs.specs.Time.{KeepsTime}
+use Rattle.partial_epochs.proofs.Laws.{asides_keep_time, machines_are_never_refused, notes_stay_lawful, steps_keep_places}
+use Rattle.partial_epochs.proofs.Lists.{put_all, put_other, put_same}
+use Rattle.partial_epochs.proofs.NotesStay.{legal_notes_seen, one_or_none}
+use Rattle.partial_long_lived.specs.declared.rule.About.{About}
+use Rattle.partial_long_lived.specs.Rule.{Began, Found, IsFinal, IsLast, IsSeat, Seated, plan_of}
+use Rattle.partial_long_lived.specs.Ports.{seen_in}
+use Rattle.partial_long_lived.specs.Inner.Steps.{Begins, IsKnown}
+use Rattle.partial_long_lived.specs.Inner.Machine.{IsApart, Makes, MayMake, answered, change_of, over_by, told_of}
+use Rattle.partial_long_lived.proofs.Begins.{began_by, seen_few}
+use Rattle.partial_long_lived.proofs.Control.{stands_since}
+use Rattle.partial_long_lived.proofs.Kept.{Grows, HasGrown, HaveGrown, Moved, begun_grows, final_grows, moved_says}
+use Rattle.partial_long_lived.proofs.Lists.{same_before}
+use Rattle.partial_long_lived.proofs.Seen.{legal_begins}
+use Rattle.partial_long_lived.proofs.Loads.{begun_place, seat_at}
+
+-- a step does the same to plain words as to those of a table
+pub words_then : (words : List ℕ) (e : Plan) (x : ℕ) (s : Step) → words_after words (placed e x s) ≡ set words (base e x + word_of s) (change_of s (get_or words (base e x + word_of s) 0))
+words_then words e x (Load w) = sym (set-get_or words (base e x + w) 0)
+words_then words e x (Store w v) = refl
+words_then words e x (Exchange w old new) = refl
+words_then words e x (Add w k) = refl
+
+told_then : (words : List ℕ) (e : Plan) (x : ℕ) (s : Step) → answer_of words (placed e x s) ≡ told_of s (get_or words (base e x + word_of s) 0)
+told_then words e x (Load w) = refl
+told_then words e x (Store w v) = refl
+told_then words e x (Exchange w old new) = refl
+told_then words e x (Add w k) = refl
+
+over_then : (e : Plan) (words : List ℕ) (s : Step) → ends_over e words s ≡ over_by e s (answer_of words s)
+over_then e words (Load w) = refl
+over_then e words (Store w v) = refl
+over_then e words (Exchange w old new) = refl
+over_then e words (Add w k) = refl
+
+pub never_met : (e : Plan) (components : List ℕ) (s : Step) → IsApart e.sizes s → MeetsSeal e components s → ⊥
+never_met e components (Load w) apart meets = meets
+never_met e components (Store w v) apart meets = meets
+never_met e components (Exchange w old new) apart meets = let low = meets.0 in omega (arith, apart, low)
+never_met e components (Add w k) apart meets = meets
+
+-- how the histories grow by a machine's step
+module _ (e : Plan) (words : List ℕ) (ports : ℕ → Port) (b : Beside) (w : LawfulEpochs e words ports b) (k : ℕ) (c : CoreState) (step : Step) (lead : MachineLeads e words ports b k c step) where
+  -- a port that has come to the current epoch stands there
+  stands_now : (q : ℕ) → q < e.ports → length (ports q).before ≡ (ports q).control.here.epoch → (ports q).before ≡ b.before → (ports q).control.entering ≡ Stands
+  stands_now q low epoch same = by (ports q).control.entering refl (w.control.old q low)
+    where
+      by : (t : Entering) → (ports q).control.entering ≡ t → IsOld e (length b.before) (ports q).control.here t → (ports q).control.entering ≡ Stands
+      by Stands is old = is
+      by Marks is old = let long = ap (λ (l : List (List Applied)). length l) same in absurd (omega (arith, epoch, long, old))
+      by (Loaded d) is old =
+          let long = ap (λ (l : List (List Applied)). length l) same in
+          let up = old.0 in
+          let now = old.1 in
+          absurd (omega (arith, epoch, long, up, now))
+
+  -- what it has passed there is sealed, so the entries are for other components
+  free_of : (q : ℕ) → q < e.ports → length (ports q).before ≡ (ports q).control.here.epoch → (ports q).before ≡ b.before → (j : ℕ) → j < (ports q).passed →
+      AllByRecursion (λ (a : Applied). a.component ≢ j) lead.entries
+  free_of q low epoch same j passed = elim lead.present [
+    | inl none ↦ subst (AllByRecursion (λ (a : Applied). a.component ≢ j)) (sym none) tt
+    | inr here ↦
+        let stands = stands_now q low epoch same in
+        let s = w.standing q low stands in
+        let long = ap (λ (l : List (List Applied)). length l) (s.before ∙ same) in
+        let number : numbers b (ports q).control.here.arena ≡ Some (length s.epoch.before) = ap (option_map (λ (r : Epoch). length r.before)) s.is in
+        let arena : (ports q).control.here.arena ≡ b.arena = (elim (w.control.earlier (ports q).control.here.arena (length s.epoch.before) number) [
+          | inl less ↦ absurd (omega (arith, less, long))
+          | inr now ↦ now.1
+        ]) in
+        let mine : (ports k).control.here.arena ≡ b.arena = ap (λ (d : Place). d.arena) here.here in
+        let sealed : (a : Applied) → a.component < e.sizes.m → a.component ≡ j → IsSealed (get_or (component_words e words (ports k).control.here.arena) a.component 0) = λ a inside is.
+        subst (λ z. IsSealed (get_or (component_words e words z) a.component 0)) (arena ∙ sym mine)
+        ((w.arenas (ports q).control.here.arena s.epoch s.is).passed q a.component low (let count = s.passed in omega (arith, count, passed, is)) inside) in
+        all_free sealed lead.entries inside_all lead.free
+  ]
+    where
+      inside_all : AllByRecursion (λ (a : Applied). a.component < e.sizes.m) lead.entries
+      inside_all = all_back (λ (a : Applied). a.component < e.sizes.m) b.log lead.entries
+          (subst (AllByRecursion (λ (a : Applied). a.component < e.sizes.m)) lead.log (present_history e (words_after words (placed e (ports k).control.here.arena step)) (put k lead.port ports) lead.beside lead.lawful).components)
+
+      all_free : ((a : Applied) → a.component < e.sizes.m → a.component ≡ j → IsSealed (get_or (component_words e words (ports k).control.here.arena) a.component 0)) → (h : List Applied) →
+          AllByRecursion (λ (a : Applied). a.component < e.sizes.m) h → AllByRecursion (λ (a : Applied). ¬ IsSealed (get_or (component_words e words (ports k).control.here.arena) a.component 0)) h →
+          AllByRecursion (λ (a : Applied). a.component ≢ j) h
+      all_free sealed [] inside free = tt
+      all_free sealed (a ∷ h) inside free = (λ is. free.0 (sealed a inside.0 is), all_free sealed h inside.1 free.1)
+
+  -- the histories have grown, where the entries are free of these components
+  grown_by : (P : ℕ → Type 0) (before : List (List Applied)) → (before ≡ b.before → (j : ℕ) → P j → AllByRecursion (λ (a : Applied). a.component ≢ j) lead.entries) →
+      (later : List (List Applied)) (log : List Applied) → lead.beside.log ∷ lead.beside.before ≡ later ++ log ∷ before → Grows P before b lead.beside later log
+  grown_by P before free [] log is =
+      let first : lead.beside.log ≡ log = cc in
+      let rest : lead.beside.before ≡ before = cc in
+      let same : b.before ≡ before = sym lead.epochs ∙ rest in
+      record {
+        later' = [];
+        log' = b.log;
+        entries = lead.entries;
+        was = ap (λ (l : List (List Applied)). b.log ∷ l) same;
+        is = sym first ∙ lead.log;
+        free = free (sym same);
+      }
+  grown_by P before free (h ∷ later) log is =
+      let rest : lead.beside.before ≡ later ++ log ∷ before = cc in
+      record {
+        later' = b.log ∷ later;
+        log' = log;
+        entries = [];
+        was = ap (λ (l : List (List Applied)). b.log ∷ l) (sym lead.epochs ∙ rest);
+        is = sym (append-nil log);
+        free = λ j low. tt;
+      }
+
+  pub port_grown : (q : ℕ) → q < e.ports → length (ports q).before ≡ (ports q).control.here.epoch → HasGrown (ports q) b lead.beside
+  port_grown q low epoch = grown_by (λ j. j < (ports q).passed) (ports q).before (λ same j passed. free_of q low epoch same j passed)
+
+  pub all_grown : HaveGrown b lead.beside
+  all_grown before later log few is = grown_by (λ j. ⊥) before (λ same j no. absurd no) later log is
+
+module _ (a : About) (words : List ℕ) (ports : ℕ → Port) (notes : ℕ → List Noted) (b : Beside) (since : ℕ → ℕ) (w : LawfulMemory (plan_of a) words ports b notes)
+    (time : KeepsTime (plan_of a) words ports (place_now b) since) (k : ℕ) (below : k < a.ports) (g : Began) (f : Option Found) (s : IsSeat a ports notes b since (seat_at a ports notes k g f))
+    (of_port : IsKnown (seat_at a ports notes k g f)) (slots : HaveSlots (plan_of a)) (first : Bool) (c : CoreState) (step : Step) (may : MayMake (seat_at a ports notes k g f) c step)
+    (lead : MachineLeads (plan_of a) words ports b k c step) where
+  abbrev e : Plan
+  e = plan_of a
+
+  abbrev X : Seated
+  X = seat_at a ports notes k g f
+
+  abbrev i : ℕ
+  i = base e (ports k).control.here.arena + word_of step
+
+  abbrev n : ℕ
+  n = get_or words i 0
+
+  abbrev A : ℕ
+  A = answer_of (arena_words e words (ports k).control.here.arena) step
+
+  answer_is : answered e step n ≡ A
+  answer_is = ap (plain e (word_of step)) (sym (told_then words e (ports k).control.here.arena step)) ∙ lead.gives
+
+  -- the port behind the step
+  port_is : lead.port ≡ record (ports k) { part = lead.port.part; over = (ports k).over || over_by e step A }
+  port_is =
+      let over : lead.port.over ≡ ((ports k).over || over_by e step A) = lead.over ∙ ap (λ t. (ports k).over || t) (over_then e (arena_words e words (ports k).control.here.arena) step) in
+      ap (λ (t : Control). record { control = t; part = lead.port.part; passed = lead.port.passed; over = lead.port.over; before = lead.port.before }) lead.control
+      ∙ ap (λ t. record { control = (ports k).control; part = lead.port.part; passed = t; over = lead.port.over; before = lead.port.before }) lead.passed
+      ∙ ap (λ t. record { control = (ports k).control; part = lead.port.part; passed = (ports k).passed; over = t; before = lead.port.before }) over
+      ∙ ap (λ (t : List (List Applied)). record { control = (ports k).control; part = lead.port.part; passed = (ports k).passed; over = (ports k).over || over_by e step A; before = t }) lead.before
+
+  seen_is : lead.port.part.seen ≡ lead.standing.epoch.log ++ lead.entries
+  seen_is = ap (λ (t : Part). t.seen) lead.tells.part
+
+  -- what had been seen is a beginning of what is seen
+  seen_rest : (rest : List Applied) × (lead.port.part.seen ≡ (ports k).part.seen ++ rest)
+  seen_rest =
+      let was = lead.tells.seen in (
+        drop (length (ports k).part.seen) lead.standing.epoch.log ++ lead.entries,
+        seen_is ∙ ap (λ (l : List Applied). l ++ lead.entries) (sym (take-append-drop (length (ports k).part.seen) lead.standing.epoch.log) ∙ ap (λ (l : List Applied). l ++ drop (length (ports k).part.seen) lead.standing.epoch.log) (sym was))
+            ∙ append_assoc (ports k).part.seen (drop (length (ports k).part.seen) lead.standing.epoch.log) lead.entries,
+      )
+
+  begins_then : Begins (seen_in (ports k)) (seen_in lead.port)
+  begins_then = let r = seen_rest in (
+    public_log (length (ports k).before) r.0,
+    ap (λ (l : List (List Applied)). history_of (lead.port.part.seen ∷ l)) lead.before ∙ ap (λ (l : List Applied). history_of (l ∷ (ports k).before)) r.1 ∙ history_longer (ports k).part.seen r.0 (ports k).before,
+  )
+
+  shown_then : seen_by 0 (notes k) ≤ length (history_of (ports k).before) + since_with c (ports k).part
+  shown_then = elim may.shown [
+    | inl begun ↦
+        let is : since_with c (ports k).part ≡ length (ports k).part.seen = ap (λ t. cond t (length (ports k).part.seen) (ports k).part.since) begun in
+        let shown = w.noted.shown k below in
+        omega (arith, is, shown)
+    | inr low ↦ by_begun low
+  ]
+    where
+      by_begun : seen_by 0 (notes k) ≤ length (history_of (ports k).before) + (ports k).part.since → seen_by 0 (notes k) ≤ length (history_of (ports k).before) + since_with c (ports k).part
+      by_begun low = by (is_begun c.stage) refl
+        where
+          by : (t : Bool) → is_begun c.stage ≡ t → seen_by 0 (notes k) ≤ length (history_of (ports k).before) + since_with c (ports k).part
+          by true is =
+              let same : since_with c (ports k).part ≡ length (ports k).part.seen = ap (λ t. cond t (length (ports k).part.seen) (ports k).part.since) is in
+              let shown = w.noted.shown k below in
+              omega (arith, same, shown)
+          by false is =
+              let same : since_with c (ports k).part ≡ (ports k).part.since = ap (λ t. cond t (length (ports k).part.seen) (ports k).part.since) is in
+              omega (arith, same, low)
+
+  -- a conditional update that found another stamp expected one of the epoch's
+  expected_one : (l : List Noted) → lead.tells.new ≡ l → AllByRecursion (λ (m : Noted). ExpectedOne (opening_behind a.opening (ports k).before) lead.port.part.seen m.call m.answer) l
+  expected_one l is = elim (one_or_none lead.port.part (reply_of (advance c A)) lead.tells.new lead.tells.noted) [
+    | inl none ↦ subst (AllByRecursion (λ (m : Noted). ExpectedOne (opening_behind a.opening (ports k).before) lead.port.part.seen m.call m.answer)) (sym none ∙ is) tt
+    | inr some ↦
+        let m = some.1 in
+        subst (AllByRecursion (λ (m : Noted). ExpectedOne (opening_behind a.opening (ports k).before) lead.port.part.seen m.call m.answer)) (sym m.is ∙ is)
+        (by m.call (answer_for (core_of lead.port.part) some.0) (ap call_of (sym (ap (λ (t : Part). t.begun) lead.tells.part)) ∙ m.made), tt)
+  ]
+    where
+      by : (d : Call) (r : Answer) → call_of (begun_with c (ports k).part) ≡ Some d → ExpectedOne (opening_behind a.opening (ports k).before) lead.port.part.seen d r
+      by (call.UpdateIf j x v) (answer.Changed t) made =
+          let had = may.expects j x v made in
+          let r = seen_rest in
+          let long = ap (λ (l : List Applied). length l) r.1 in
+          let both = length-append (ports k).part.seen r.0 in
+          let few = had.1 in
+          (had.0, omega (arith, long, both, few), had.2 ∙ ap (λ (l : List Applied). stamp_of (opening_behind a.opening (ports k).before) l j) (sym (take-append-le had.0 (ports k).part.seen r.0 few) ∙ ap (take had.0) (sym r.1)))
+      by (call.UpdateIf j x v) (answer.Applied t) made = tt
+      by (call.UpdateIf j x v) (answer.Lost t) made = tt
+      by (call.UpdateIf j x v) (answer.Scanned vs n b) made = tt
+      by (call.UpdateIf j x v) (answer.Read y t) made = tt
+      by (call.UpdateIf j x v) (answer.Refused cause) made = tt
+      by (call.Update j v) r made = tt
+      by (call.Scan js) r made = tt
+      by (call.Read j) r made = tt
+
+  abbrev words' : List ℕ
+  words' = words_after words (placed e (ports k).control.here.arena step)
+
+  abbrev ports' : ℕ → Port
+  ports' = put k lead.port ports
+
+  -- where the port stands then
+  there_then : IsStanding lead.beside k lead.port
+  there_then =
+      let there = lead.lawful.standing k below in
+      subst (λ (p : Port). p.control.entering ≡ Stands → IsStanding lead.beside k p) (put_same k lead.port ports) there (ap (λ (t : Control). t.entering) lead.control ∙ may.stands)
+
+  -- what it has found stays so
+  final_then : (f : Option Found) → IfSome f (IsFinal e b (ports k)) → IfSome f (IsFinal e lead.beside lead.port)
+  final_then None h = tt
+  final_then (Some f) h =
+      let was = final_grows a (ports k) b lead.beside (port_grown e words ports b w.epochs k c step lead k below (w.noted.reached k below).epoch) (Some f) h in
+      record {
+        inside = was.inside;
+        passed = let low = was.passed in let same = lead.passed in omega (arith, low, same);
+        last = subst (λ (before : List (List Applied)). (later : List (List Applied)) (log : List Applied) → lead.beside.log ∷ lead.beside.before ≡ later ++ log ∷ before → IsLast e before log f) (sym lead.before) was.last;
+      }
+
+  -- the port's notes are legal in what it has seen
+  legal_then : LegalNotes a.opening (seen_in lead.port) k 0 (notes k ++ map (public_noted e (ports k).before) lead.tells.new)
+  legal_then =
+      let expected = expected_one lead.tells.new refl in
+      let is : seen_in lead.port ≡ history_of (lead.port.part.seen ∷ (ports k).before) = ap (λ (l : List (List Applied)). history_of (lead.port.part.seen ∷ l)) lead.before in
+      let was = subst (λ (l : List Applied). LegalNotes a.opening l k 0 (notes k)) is (legal_begins a.opening (seen_in (ports k)) (seen_in lead.port) k 0 (notes k) begins_then of_port.knows.legal) in
+      subst (λ (l : List Applied). LegalNotes a.opening l k 0 (notes k ++ map (public_noted e (ports k).before) lead.tells.new)) (sym is)
+      (legal_notes_seen e words ports b notes k c step w below may.stands lead (map (public_noted e (ports k).before) lead.tells.new) (inr (refl, shown_then, expected)) was shown_then expected)
+
+  -- the step that is due leads on
+  pub moved_make : Moved a (set words i (change_of step n)) ports notes b since X (λ y. Makes first c step X (answered e step n) y)
+  moved_make =
+      let stands = may.stands in
+      let words_is = words_then words e (ports k).control.here.arena step in
+      let expected = expected_one lead.tells.new refl in
+      let added : List Noted = map (public_noted e (ports k).before) lead.tells.new in
+      let whole : LawfulMemory e (words_after words (placed e (ports k).control.here.arena step)) (put k lead.port ports) lead.beside (noting k added notes) =
+      notes_stay_lawful e words ports b notes k c step w below stands lead added (inr (refl, shown_then, expected)) in
+      let lawful' : LawfulMemory e (set words i (change_of step n)) (put k lead.port ports) lead.beside (noting k added notes) =
+      subst (λ (l : List ℕ). LawfulMemory e l (put k lead.port ports) lead.beside (noting k added notes)) words_is whole in
+      let r = w.noted.reached k below in
+      let again = whole.noted.reached k below in
+      let there : Reached lead.beside lead.port = subst (λ (p : Port). Reached lead.beside p) (put_same k lead.port ports) again in
+      let d = began_by first X b (seen_few a words ports notes b since X w s) s.began in
+      let longer = ap (λ (l : List (List Applied)). length l) lead.epochs in
+      let more : length b.before ≤ length lead.beside.before = omega (arith, longer) in
+      let began' = begun_grows b lead.beside d.0 more (all_grown e words ports b w.epochs k c step lead) d.2 in
+      let grown = port_grown e words ports b w.epochs k c step lead k below r.epoch in
+      let young : d.0.epoch ≤ (ports k).control.here.epoch → d.0.length ≤ length (history_of (ports k).before) + length (lead.standing.epoch.log ++ lead.entries) = λ fresh.
+      let at = among e words ports b w.epochs k below (ports k) lead.standing in
+      let epoch = r.epoch in
+      let was = begun_place b d.0 at.0 (ports k).before lead.standing.epoch.log d.2 at.1 (omega (arith, fresh, epoch)) in
+      let both = length-append (history_of (ports k).before) (public_log (length (ports k).before) lead.standing.epoch.log) in
+      let same = length-map lead.standing.epoch.log (public_entry (length (ports k).before)) in
+      let all = length-append lead.standing.epoch.log lead.entries in
+      omega (arith, was, both, same, all) in
+      record {
+        y = record { about = a; number = k; port = lead.port; notes = notes k ++ added; began = d.0; found = f };
+        ports' = put k lead.port ports;
+        notes' = noting k added notes;
+        beside = lead.beside;
+        since' = since;
+        lawful = lawful';
+        time = subst (λ (l : List ℕ). KeepsTime e l (put k lead.port ports) (place_now lead.beside) since) words_is
+            (asides_keep_time e words (words_after words (placed e (ports k).control.here.arena step)) ports (put k lead.port ports) (place_now b) (place_now lead.beside) since (record {
+              at = λ q low. (steps_keep_places e words q low).arena (ports k).control.here.arena step;
+              here = λ q low. put_all (λ h (r : Port). r.control.here ≡ (ports h).control.here) k lead.port ports q (λ _. ap (λ (t : Control). t.here) lead.control) (λ _. refl);
+              entering = λ q low. put_all (λ h (r : Port). r.control.entering ≡ (ports h).control.entering) k lead.port ports q (λ _. ap (λ (t : Control). t.entering) lead.control) (λ _. refl);
+              puts = λ q j m low. put_all (λ h (r : Port). MayPut r.control j m → MayPut (ports h).control j m) k lead.port ports q (λ _. subst (λ (t : Control). MayPut t j m) lead.control) (λ _ may. may);
+              later = more;
+            }) time);
+        others = λ q ne. (put_other k lead.port ports q ne, put_other k (notes k ++ added) notes q ne, refl);
+        number = refl;
+        seat = record {
+          about = refl;
+          number = below;
+          port = sym (put_same k lead.port ports);
+          noted = sym (put_same k (notes k ++ added) notes);
+          seen = λ later log is.
+              let at = among e words' ports' lead.beside lead.lawful k below lead.port there_then in
+              let one = same_before at.0 later there_then.epoch.log log lead.port.before (sym at.1 ∙ is) in
+              let kept = (known e words' ports' lead.beside lead.lawful k below lead.port there_then).seen in
+              (drop (length lead.port.part.seen) log, sym (take-append-drop (length lead.port.part.seen) log) ∙ ap (λ (l : List Applied). l ++ drop (length lead.port.part.seen) log) (ap (take (length lead.port.part.seen)) (sym one) ∙ sym kept));
+          began = began';
+          entering = stands_since d.0 lead.port.control.entering (since k) (ap (λ (t : Control). t.entering) lead.control ∙ stands);
+          found = final_then f s.found;
+        };
+        grown = λ q low ne. port_grown e words ports b w.epochs k c step lead q low (w.noted.reached q low).epoch;
+        all_grown = all_grown e words ports b w.epochs k c step lead;
+        later = more;
+        reached = (there.later, there.log, there.is);
+        seen = begins_then;
+        legal = legal_then;
+        says = subst (λ t. Makes first c step X t (record { about = a; number = k; port = lead.port; notes = notes k ++ added; began = d.0; found = f })) (sym answer_is) (record {
+          n = d.0;
+          began = d.1;
+          log = lead.standing.epoch.log;
+          entries = lead.entries;
+          told = lead.tells;
+          is = ap (λ (p : Port). record { about = a; number = k; port = p; notes = notes k ++ added; began = d.0; found = f }) port_is;
+          shown = shown_then;
+          unrefused = λ cause is. machines_are_never_refused e words ports b k c step below stands slots lead cause is;
+          time = young;
+        });
+      }
+
+  -- its call began in an epoch that has come
+  pub moved_come : Moved a (set words i (change_of step n)) ports notes b since X (λ y. Makes first c step X (answered e step n) y × (y.began.epoch ≤ length b.before))
+  unfolding moved_make
+  moved_come = moved_says moved_make (moved_make.says, (began_by first X b (seen_few a words ports notes b since X w s) s.began).2.come)

@@ -1,0 +1,123 @@
+-- The steps of the machine of a seat's port are allowed.
+use Rattle.std.proofs.Common.{ℕ, ◌≡◌, ◌+◌, ◌<◌, Bool, false, cond, List, get_or, set, refl, sym, ap, subst, ◌∙◌, inl, inr, arith, ◌⊎◌}
+use lib.Seq.{set-get_or}
+use Rattle.atomic_table.specs.Table.{Me, Allows}
+use Rattle.partial_words.specs.declared.step.Step.{Step}
+use Rattle.partial_words.specs.declared.step.Step.TheVariants.{Load, Exchange}
+use Rattle.partial_words.specs.Step.{word_of}
+use Rattle.partial_machine.specs.Machine.{CoreState}
+use Rattle.partial_epochs.specs.Layout.{IsSealed, Place, Plan, base, component_words}
+use Rattle.partial_epochs.specs.MachineSteps.{HaveSlots, MachineLeads, MeetsSeal}
+use Rattle.partial_epochs.proofs.Laws.{machine_steps_stay_lawful, unsealed_is_present}
+use Rattle.partial_epochs.proofs.Lists.{at_of}
+use Rattle.std.proofs.lemmas.Bool.Decides.{eqb_tells}
+use Rattle.partial_long_lived.specs.declared.rule.About.{About}
+use Rattle.partial_long_lived.specs.Rule.{IsKept, IsSeat, Seated, one_of, plan_of}
+use Rattle.partial_long_lived.specs.Inner.Steps.{IsKnown, IsOne, tells}
+use Rattle.partial_long_lived.specs.Inner.Machine.{Begins as BeginsUpdate, Exchanges, IsApart, Makes, MayMake, MissesSeal, answered, change_of, makes}
+use Rattle.partial_long_lived.proofs.Sights.{nothing_moved}
+use Rattle.partial_epochs.specs.Layout.{seal, unsealed}
+use Rattle.std.proofs.lemmas.Bool.{cases_lt, lt-ltb}
+use Rattle.partial_long_lived.specs.Inner.Loads.Wish.{Glances}
+use Rattle.partial_long_lived.proofs.Kept.{Moved, allowed, moved_as, moved_says}
+use Rattle.partial_long_lived.proofs.Loads.{moved_see, seat_at, seat_is}
+use Rattle.partial_long_lived.proofs.Machine.{moved_come, moved_make, never_met, words_then}
+
+-- a word is the record old, sealed, or it isn't
+seal_cases : (old n : ℕ) → (IsSealed n × unsealed n ≡ old) ⊎ MissesSeal old n
+seal_cases old n = elim (cases_lt n seal) [
+  | inl less ↦ inr (inl less)
+  | inr from ↦ (elim (eqb_tells (unsealed n) old) [
+    | inl same ↦ inl (from, same.1)
+    | inr other ↦ inr (inr other.1)
+  ])
+]
+
+-- an exchange leaves such a word as it is
+stays_sealed : (step : Step) (j old new n : ℕ) → step ≡ Exchange j old new → IsSealed n → unsealed n ≡ old → change_of step n ≡ n
+stays_sealed step j old new n is sealed same = ap (λ (t : Step). change_of t n) is ∙ (elim (eqb_tells n old) [
+  | inl equal ↦ let low = equal.1 in absurd (omega (arith, low, sealed, same))
+  | inr other ↦ ap (λ (c : Bool). cond c new n) other.0
+])
+
+-- a step of the machine of a seat's port is allowed
+module _ {S : Type 0} (a : About) (slots id : ℕ) (me : Me S (List Seated)) (one : IsOne me) (own : (one_of me.0).about ≡ a) (known : IsKnown (one_of me.0)) (room : HaveSlots (plan_of a))
+    (c : CoreState) (step : Step) (may : MayMake (one_of me.0) c step) where
+  abbrev x : Seated
+  x = one_of me.0
+
+  abbrev e : Plan
+  e = plan_of a
+
+  pub may_make : (first : Bool) → IsApart a.sizes step → Allows (IsKept a) slots id me (base e x.port.control.here.arena + word_of step) (change_of step) (makes first c step me)
+  may_make first apart = allowed a slots id me (base e x.port.control.here.arena + word_of step) (change_of step) (λ x n y. Makes first c step x (answered (plan_of x.about) step n) y) one own
+      (λ words ports notes b since w time s small.
+      let k : ℕ = x.number in
+      let X : Seated = seat_at a ports notes k x.began x.found in
+      let same = seat_is a ports notes b since x s in
+      let P : Seated → Type 0 = λ z. Moved a (set words (base e z.port.control.here.arena + word_of step) (change_of step (get_or words (base e z.port.control.here.arena + word_of step) 0))) ports notes b since z
+      (λ y. Makes first c step z (answered (plan_of z.about) step (get_or words (base e z.port.control.here.arena + word_of step) 0)) y) in
+      let may' : MayMake X c step = subst (λ (z : Seated). MayMake z c step) same may in
+      let lead : MachineLeads e words ports b k c step = (elim (machine_steps_stay_lawful e words ports b k c step w.epochs s.number may'.stands may'.machine may'.due may'.claim) [
+        | inl met ↦ absurd (never_met e (component_words e words (ports k).control.here.arena) step apart met.0)
+        | inr lead ↦ lead
+      ]) in
+      subst P (sym same) (moved_make a words ports notes b since w time k s.number x.began x.found (subst (IsSeat a ports notes b since) same s) (subst IsKnown same known) room first c step may' lead))
+
+  -- the exchange of its component
+  pub may_exchange : (j old new : ℕ) → j < a.sizes.m → step ≡ Exchange j old new → Allows (IsKept a) slots id me (base e x.port.control.here.arena + word_of step) (change_of step) (tells (Exchanges c old step) me)
+  may_exchange j old new inside is = allowed a slots id me (base e x.port.control.here.arena + word_of step) (change_of step) (Exchanges c old step) one own
+      (λ words ports notes b since w time s small.
+      let k : ℕ = x.number in
+      let X : Seated = seat_at a ports notes k x.began x.found in
+      let same = seat_is a ports notes b since x s in
+      let i : ℕ = base e (ports k).control.here.arena + word_of step in
+      let n : ℕ = get_or words i 0 in
+      let P : Seated → Type 0 = λ z. Moved a (set words (base e z.port.control.here.arena + word_of step) (change_of step (get_or words (base e z.port.control.here.arena + word_of step) 0))) ports notes b since z
+      (Exchanges c old step z (get_or words (base e z.port.control.here.arena + word_of step) 0)) in
+      let may' : MayMake X c step = subst (λ (z : Seated). MayMake z c step) same may in
+      let of_port = subst IsKnown same known in
+      let seat = subst (IsSeat a ports notes b since) same s in
+      subst P (sym same) (elim (seal_cases old n) [
+        | inl met ↦ nothing_moved a words (set words i (change_of step n)) ports notes b since w time X seat refl of_port may'.stands (ap (set words i) (stays_sealed step j old new n is met.0 met.1) ∙ set-get_or words i 0)
+            (Exchanges c old step X n) (inl (met.0, met.1, refl))
+        | inr misses ↦ (elim (machine_steps_stay_lawful e words ports b k c step w.epochs s.number may'.stands may'.machine may'.due may'.claim) [
+          | inl met ↦
+              let is_met = subst (λ (t : Step). MeetsSeal e (component_words e words (ports k).control.here.arena) t) is met.0 in
+              let at : get_or (component_words e words (ports k).control.here.arena) j 0 ≡ n =
+              at_of (λ i. get_or words (base e (ports k).control.here.arena + i) 0) 0 a.sizes.m j inside ∙ ap (λ i. get_or words (base e (ports k).control.here.arena + i) 0) (omega arith) ∙ ap (λ (t : Step). get_or words (base e (ports k).control.here.arena + word_of t) 0) (sym is) in
+              nothing_moved a words (set words i (change_of step n)) ports notes b since w time X seat refl of_port may'.stands (sym (words_then words e (ports k).control.here.arena step) ∙ met.1) (Exchanges c old step X n)
+              (inl (subst IsSealed at is_met.1, ap unsealed (sym at) ∙ is_met.2, refl))
+          | inr lead ↦ moved_as (λ y m. inr (misses, m)) (moved_make a words ports notes b since w time k s.number x.began x.found seat of_port room false c step may' lead)
+        ])
+      ]))
+
+  -- the load by which an update begins
+  pub may_begin : (first : Bool) (j : ℕ) → j < a.sizes.m → step ≡ Load j → Allows (IsKept a) slots id me (base e x.port.control.here.arena + j) (λ n. n) (tells (BeginsUpdate first c j) me)
+  may_begin first j inside is = allowed a slots id me (base e x.port.control.here.arena + j) (λ n. n) (BeginsUpdate first c j) one own
+      (λ words ports notes b since w time s small.
+      let k : ℕ = x.number in
+      let X : Seated = seat_at a ports notes k x.began x.found in
+      let same = seat_is a ports notes b since x s in
+      let i : ℕ = base e (ports k).control.here.arena + j in
+      let n : ℕ = get_or words i 0 in
+      let P : Seated → Type 0 = λ z. Moved a (set words (base e z.port.control.here.arena + j) (get_or words (base e z.port.control.here.arena + j) 0)) ports notes b since z
+      (BeginsUpdate first c j z (get_or words (base e z.port.control.here.arena + j) 0)) in
+      let may' : MayMake X c (Load j) = subst (λ (t : Step). MayMake X c t) is (subst (λ (z : Seated). MayMake z c step) same may) in
+      let of_port = subst IsKnown same known in
+      let seat = subst (IsSeat a ports notes b since) same s in
+      subst P (sym same) (elim (cases_lt n seal) [
+        | inl less ↦
+            let lead : MachineLeads e words ports b k c (Load j) = (elim (machine_steps_stay_lawful e words ports b k c (Load j) w.epochs s.number may'.stands may'.machine may'.due may'.claim) [
+              | inl met ↦ absurd (never_met e (component_words e words (ports k).control.here.arena) (Load j) tt met.0)
+              | inr lead ↦ lead
+            ]) in
+            let plain_is : answered e (Load j) n ≡ n = ap (λ (t : Bool). cond t (unsealed n) n) (lt-ltb j a.sizes.m inside) ∙ omega (arith, less) in
+            let m = moved_come a words ports notes b since w time k s.number x.began x.found seat of_port room first c (Load j) may' lead in
+            let at : get_or (component_words e words (ports k).control.here.arena) j 0 ≡ n = at_of (λ i. get_or words (base e (ports k).control.here.arena + i) 0) 0 a.sizes.m j inside ∙ ap (λ i. get_or words (base e (ports k).control.here.arena + i) 0) (omega arith) in
+            let here = ap (λ (d : Place). d.epoch) (unsealed_is_present e words ports b k j w.epochs s.number may'.stands inside (λ sealed. omega (arith, at, less, sealed))).here in
+            let come = m.says.1 in
+            moved_says m (inr (less, subst (λ t. Makes first c (Load j) X t m.y) plain_is m.says.0, omega (arith, come, here)))
+        | inr from ↦ moved_as (λ y m. inl (from, m))
+            (moved_see a words ports notes b since w time k s.number x.began x.found may'.stands seat of_port j inside first Glances (λ no. absurd no))
+      ]))

@@ -1,0 +1,85 @@
+-- A port gets a seat of its own, and seats are gathered.
+use Rattle.std.proofs.Common.{ℕ, zero, suc, ◌≡◌, ◌≢◌, ◌++◌, List, [], ◌∷◌, set, refl, sym, ap, subst, ◌∙◌, arith, append-nil}
+use Rattle.std.specs.List.{AllByRecursion}
+use lib.ListN.{get_elem?}
+use Rattle.atomic_table.specs.Table.{Joins, Splits, State}
+use Rattle.partial_model.proofs.AllLemmas.{all_after, all_append, all_at, all_back, all_before, all_front}
+use Rattle.partial_long_lived.specs.declared.rule.About.{About}
+use Rattle.partial_long_lived.specs.Rule.{IsKept, IsSeat, Seated, first_of, flatten, others_of, seats_of}
+use Rattle.partial_long_lived.proofs.Views.{around, flatten-snoc, seats_both}
+
+-- the rule holds with the same seats in other views
+regrouped : {S : Type 0} (about : About) (s : State S (List Seated)) (views : List (List Seated)) (kept : IsKept about s) →
+    AllByRecursion (IsSeat about kept.ports kept.notes kept.beside kept.since) (flatten views) → ((k : ℕ) → seats_of k (flatten views) ≡ seats_of k (flatten s.views)) →
+    IsKept about (record { words = s.words; homes = s.homes; views = views })
+regrouped about s views kept seats same = record {
+  ports = kept.ports;
+  notes = kept.notes;
+  beside = kept.beside;
+  since = kept.since;
+  lawful = kept.lawful;
+  time = kept.time;
+  seats = seats;
+  once = λ k. let once = kept.once k in let is = same k in omega (arith, once, is);
+}
+
+-- the first port of a view may have a seat of its own
+pub deals : {S : Type 0} (about : About) (id : ℕ) (v : List Seated) → Splits {S = S} (IsKept about) id v (others_of v) (first_of v)
+deals about id [] s kept at =
+    let r = around s.views id [] at in
+    let same : flatten (set s.views id [] ++ [] ∷ []) ≡ flatten s.views = flatten-snoc (set s.views id []) [] ∙ append-nil (flatten (set s.views id [])) ∙ r.then [] ∙ sym r.now in
+    regrouped about s (set s.views id [] ++ [] ∷ []) kept (subst (AllByRecursion (IsSeat about kept.ports kept.notes kept.beside kept.since)) (sym same) kept.seats) (λ k. ap (seats_of k) same)
+deals about id (x ∷ xs) s kept at =
+    let P : Seated → Type 0 = IsSeat about kept.ports kept.notes kept.beside kept.since in
+    let r = around s.views id (x ∷ xs) at in
+    let then : flatten (set s.views id xs ++ (x ∷ []) ∷ []) ≡ (r.before ++ (xs ++ r.behind)) ++ x ∷ [] = flatten-snoc (set s.views id xs) (x ∷ []) ∙ ap (λ l. l ++ x ∷ []) (r.then xs) in
+    let all : AllByRecursion P (r.before ++ x ∷ (xs ++ r.behind)) = subst (AllByRecursion P) r.now kept.seats in
+    regrouped about s (set s.views id xs ++ (x ∷ []) ∷ []) kept
+    (subst (AllByRecursion P) (sym then) (all_append P (r.before ++ (xs ++ r.behind)) (x ∷ [])
+    (all_append P r.before (xs ++ r.behind) (all_before P r.before x (xs ++ r.behind) all) (all_after P r.before x (xs ++ r.behind) all)) (all_at P r.before x (xs ++ r.behind) all, tt)))
+    (λ k.
+    let now_is = ap (seats_of k) r.now in
+    let then_is = ap (seats_of k) then in
+    let front = seats_both k r.before (x ∷ (xs ++ r.behind)) in
+    let rest = seats_both k r.before (xs ++ r.behind) in
+    let last = seats_both k (r.before ++ (xs ++ r.behind)) (x ∷ []) in
+    omega (arith, now_is, then_is, front, rest, last))
+
+-- another view is as it was
+elsewhere : (views : List (List Seated)) (id other : ℕ) (u : List Seated) → other ≢ id → get_elem? (set views id u) other ≡ get_elem? views other
+elsewhere [] id other u ne = refl
+elsewhere (v ∷ views) zero zero u ne = absurd (ne refl)
+elsewhere (v ∷ views) zero (suc other) u ne = refl
+elsewhere (v ∷ views) (suc id) zero u ne = refl
+elsewhere (v ∷ views) (suc id) (suc other) u ne = elsewhere views id other u (λ same. ne (ap suc same))
+
+-- a seat may take in the ports of another
+pub gathers : {S : Type 0} (about : About) (id : ℕ) (v : List Seated) (other : ℕ) (w : List Seated) → Joins {S = S} (IsKept about) id v other w (v ++ w) []
+gathers about id v other w s kept at ne there =
+    let P : Seated → Type 0 = IsSeat about kept.ports kept.notes kept.beside kept.since in
+    let r = around s.views id v at in
+    let q = around (set s.views id (v ++ w)) other w there in
+    let o = around s.views other w (sym (elsewhere s.views id other (v ++ w) ne) ∙ there) in
+    let own : AllByRecursion P (r.before ++ (v ++ r.behind)) = subst (AllByRecursion P) r.now kept.seats in
+    let theirs : AllByRecursion P w = all_front P w o.behind (all_back P o.before (w ++ o.behind) (subst (AllByRecursion P) o.now kept.seats)) in
+    let behind : AllByRecursion P (v ++ r.behind) = all_back P r.before (v ++ r.behind) own in
+    let both : AllByRecursion P (r.before ++ ((v ++ w) ++ r.behind)) = all_append P r.before ((v ++ w) ++ r.behind) (all_front P r.before (v ++ r.behind) own)
+    (all_append P (v ++ w) r.behind (all_append P v w (all_front P v r.behind behind) theirs) (all_back P v r.behind behind)) in
+    let with_both : r.before ++ ((v ++ w) ++ r.behind) ≡ q.before ++ (w ++ q.behind) = sym (r.then (v ++ w)) ∙ q.now in
+    let all : AllByRecursion P (q.before ++ (w ++ q.behind)) = subst (AllByRecursion P) with_both both in
+    regrouped about s (set (set s.views id (v ++ w)) other []) kept
+    (subst (AllByRecursion P) (sym (q.then []))
+    (all_append P q.before q.behind (all_front P q.before (w ++ q.behind) all) (all_back P w q.behind (all_back P q.before (w ++ q.behind) all))))
+    (λ k.
+    let now_is = ap (seats_of k) r.now in
+    let then_is = ap (seats_of k) (q.then []) in
+    let same = ap (seats_of k) with_both in
+    let a = seats_both k r.before (v ++ r.behind) in
+    let b = seats_both k v r.behind in
+    let c = seats_both k r.before ((v ++ w) ++ r.behind) in
+    let d = seats_both k (v ++ w) r.behind in
+    let f = seats_both k v w in
+    let g = seats_both k q.before (w ++ q.behind) in
+    let h = seats_both k w q.behind in
+    let i = seats_both k q.before q.behind in
+    omega (arith, now_is, then_is, same, a, b, c, d, f, g, h, i))

@@ -1,0 +1,71 @@
+-- The rule holds as a memory opens.
+use Rattle.std.proofs.Common.{ℕ, zero, suc, ◌≡◌, ◌+◌, ◌<◌, ◌≤◌, Bool, cond, List, [], refl, sym, ap, subst, inl, inr, arith, append-nil}
+use Rattle.std.specs.List.{AllByRecursion}
+use Rattle.std.proofs.lemmas.Bool.Decides.{eqb_tells}
+use Rattle.atomic_table.specs.Table.{opening}
+use Rattle.partial_epochs.specs.Opening.{OpensAll, first_beside, first_ports}
+use Rattle.partial_epochs.proofs.Laws.{memories_open_lawful, openings_keep_time}
+use Rattle.partial_long_lived.specs.declared.rule.About.{About}
+use Rattle.partial_long_lived.specs.Rule.{IsKept, IsSeat, Seated, newcomer, newcomers, plan_of, seats_of}
+use Rattle.partial_long_lived.specs.Inner.Steps.{IsKnown}
+
+-- what is so of the seat of each port is so of all
+newcomers_all : (P : Seated → Type 0) (a : About) (k n : ℕ) → ((i : ℕ) → i < k + n → P (newcomer a i)) → AllByRecursion P (newcomers a k n)
+newcomers_all P a k zero each = tt
+newcomers_all P a k (suc n) each = (each k (omega arith), newcomers_all P a (k + 1) n (λ i low. each i (omega (arith, low))))
+
+-- no port has two seats, and none before the first has one
+newcomers_once : (a : About) (q k n : ℕ) → (seats_of q (newcomers a k n) ≤ 1) × (q < k → seats_of q (newcomers a k n) ≡ 0)
+newcomers_once a q k zero = (omega arith, λ low. refl)
+newcomers_once a q k (suc n) =
+    let rest = newcomers_once a q (k + 1) n in
+    let most = rest.0 in
+    let none = rest.1 in
+    (elim (eqb_tells k q) [
+      | inl same ↦
+          let one = ap (λ (t : Bool). cond t 1 0 + seats_of q (newcomers a (k + 1) n)) same.0 in
+          let is = same.1 in
+          let no_more = none (omega (arith, is)) in
+          (omega (arith, one, no_more), λ low. absurd (omega (arith, low, is)))
+      | inr other ↦
+          let zero_more = ap (λ (t : Bool). cond t 1 0 + seats_of q (newcomers a (k + 1) n)) other.0 in
+          (omega (arith, zero_more, most), λ low. let no_more = none (omega (arith, low)) in omega (arith, zero_more, no_more))
+    ])
+
+-- the rule holds of the words of an opening, with one seat for all ports
+pub opens : {S : Type 0} (a : About) (words : List ℕ) → OpensAll (plan_of a) words → IsKept {S = S} a (opening words [] (newcomers a 0 a.ports))
+opens a words w = record {
+  ports = first_ports (plan_of a);
+  notes = λ k. [];
+  beside = first_beside (plan_of a);
+  since = λ k. 0;
+  lawful = memories_open_lawful (plan_of a) words w;
+  time = openings_keep_time (plan_of a) words;
+  seats = subst (AllByRecursion (IsSeat a (first_ports (plan_of a)) (λ k. []) (first_beside (plan_of a)) (λ k. 0))) (sym (append-nil (newcomers a 0 a.ports)))
+      (newcomers_all (IsSeat a (first_ports (plan_of a)) (λ k. []) (first_beside (plan_of a)) (λ k. 0)) a 0 a.ports (λ i low. record {
+        about = refl;
+        number = omega (arith, low);
+        port = refl;
+        noted = refl;
+        seen = λ later log is. (log, refl);
+        began = record { come = omega arith; reached = λ later before log is epoch. omega arith };
+        entering = tt;
+        found = tt;
+      }));
+  once = λ k. subst (λ l. seats_of k l ≤ 1) (sym (append-nil (newcomers a 0 a.ports))) (newcomers_once a k 0 a.ports).0;
+}
+
+-- what is known of a port as the memory opens
+pub newcomer_known : (a : About) (words : List ℕ) → OpensAll (plan_of a) words → (k : ℕ) → k < a.ports → IsKnown (newcomer a k)
+newcomer_known a words w k low = record {
+  plan = w.plan;
+  number = low;
+  place = let some = w.some in record { epoch = omega arith; arena = omega (arith, some) };
+  epoch = refl;
+  knows = record { history = record { components = tt; distinct = tt; not_initial = tt }; legal = tt; once = refl; others = tt };
+  fits = record { each = tt };
+}
+
+-- and of all
+pub newcomers_known : (a : About) (words : List ℕ) → OpensAll (plan_of a) words → AllByRecursion IsKnown (newcomers a 0 a.ports)
+newcomers_known a words w = newcomers_all IsKnown a 0 a.ports (λ i low. newcomer_known a words w i (omega (arith, low)))

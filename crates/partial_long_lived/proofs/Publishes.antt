@@ -1,0 +1,124 @@
+-- The exchange of the current word is allowed.
+use Rattle.std.proofs.Common.{ℕ, ◌≡◌, ◌<◌, ◌≤◌, ◌==◌, ◌++◌, cond, List, [], ◌∷◌, length, get_or, set, refl, sym, ap, subst, ◌∙◌, inl, inr, arith, append-nil, length-append}
+use prog.Atomic.{either}
+use Rattle.atomic_table.specs.Table.{Me, Allows}
+use Rattle.partial_model.specs.declared.history.Applied.{Applied}
+use Rattle.partial_model.specs.Notes.{LegalNotes, Noted}
+use Rattle.partial_epochs.specs.Lists.{put}
+use Rattle.partial_epochs.specs.Layout.{Plan, current_word, packed}
+use Rattle.partial_epochs.specs.Ports.{Owned, Port}
+use Rattle.partial_epochs.specs.Epochs.{Beside, LawfulEpochs, place_now}
+use Rattle.partial_epochs.specs.Time.{KeepsTime}
+use Rattle.partial_epochs.specs.Publishing.{IsWhole, having_published, next_beside, next_place}
+use Rattle.partial_epochs.specs.Notes.{LawfulMemory}
+use Rattle.partial_epochs.proofs.Laws.{publishes_keep_notes, publishes_keep_time, publishes_stay_lawful}
+use Rattle.partial_epochs.proofs.Lists.{put_other, put_same}
+use Rattle.partial_long_lived.specs.declared.rule.About.{About}
+use Rattle.partial_long_lived.specs.Rule.{IsKept, IsSeat, Seated, one_of, plan_of}
+use Rattle.partial_long_lived.specs.Ports.{seen_in}
+use Rattle.partial_long_lived.specs.Inner.Steps.{IsKnown, IsOne, tells}
+use Rattle.partial_long_lived.specs.Inner.Moves.{Publishes, becomes}
+use Rattle.partial_long_lived.proofs.Kept.{Grows, HasGrown, HaveGrown, Moved, allowed, begun_grows, final_grows, seen_grows}
+use Rattle.partial_long_lived.proofs.Asides.{IsQuiet, aside, final_same}
+use Rattle.partial_long_lived.proofs.Changes.{either_cond}
+
+-- once the next epoch is open, the epochs that had come have the histories that they had
+next_grows : (P : ℕ → Type 0) (e : Plan) (b : Beside) (y : ℕ) (before later : List (List Applied)) (log : List Applied) → length before ≤ length b.before →
+    [] ∷ b.log ∷ b.before ≡ later ++ log ∷ before → Grows P before b (next_beside e b y) later log
+next_grows P e b y before [] log few is =
+    let long = ap (λ (l : List (List Applied)). length l) is in
+    absurd (omega (arith, few, long))
+next_grows P e b y before (l ∷ later) log few is = record {
+  later' = later;
+  log' = log;
+  entries = [];
+  was = cc;
+  is = sym (append-nil log);
+  free = λ j low. tt;
+}
+
+published_quiet : (o : Owned) → IsQuiet (λ p. having_published p o)
+published_quiet o = record { part = λ p. refl; before = λ p. refl; here = λ p. refl; passed = λ p. omega arith }
+
+won : (a : About) (words words' : List ℕ) (ports : ℕ → Port) (notes : ℕ → List Noted) (b : Beside) (since : ℕ → ℕ) (x : Seated) → LawfulMemory (plan_of a) words ports b notes →
+    IsSeat a ports notes b since x → IsKnown x → (o : Owned) →
+    LawfulEpochs (plan_of a) words' (put x.number (having_published (ports x.number) o) ports) (next_beside (plan_of a) b o.arena) →
+    KeepsTime (plan_of a) words' (put x.number (having_published (ports x.number) o) ports) (place_now (next_beside (plan_of a) b o.arena)) since → (P : Seated → Type 0) →
+    P (becomes x x.began (having_published x.port o)) → Moved a words' ports notes b since x P
+won a words words' ports notes b since x w s known o then time P says =
+    let e : Plan = plan_of a in
+    let k : ℕ = x.number in
+    let p : Port = having_published (ports k) o in
+    let q : Port = having_published x.port o in
+    let c : Beside = next_beside e b o.arena in
+    let own : x.about ≡ a = s.about in
+    let knows = known.knows in
+    let to = publishes_keep_notes e words words' ports b notes k o w s.number then in
+    let come : (i : ℕ) → i < a.ports → length (ports i).before ≤ length b.before =
+    λ i low. few b (ports i).before (w.noted.reached i low).later (w.noted.reached i low).log (w.noted.reached i low).is in
+    let own_come : length x.port.before ≤ length b.before = subst (λ (r : Port). length r.before ≤ length b.before) (sym s.port) (come k s.number) in
+    let grown : HasGrown q b c = λ later log is. next_grows (λ j. j < q.passed) e b o.arena q.before later log own_come is in
+    let all : HaveGrown b c = λ before later log low is. next_grows (λ j. ⊥) e b o.arena before later log low is in
+    let r = w.noted.reached k s.number in
+    record {
+      y = becomes x x.began q;
+      ports' = put k p ports;
+      notes' = notes;
+      beside = c;
+      since' = since;
+      lawful = to.0;
+      time = time;
+      others = λ i ne. (put_other k p ports i ne, refl, refl);
+      number = refl;
+      seat = record {
+        about = own;
+        number = s.number;
+        port = ap (λ (r : Port). having_published r o) s.port ∙ sym (put_same k p ports);
+        noted = s.noted;
+        seen = seen_grows q b c grown s.seen;
+        began = begun_grows b c x.began (omega arith) all s.began;
+        entering = s.entering;
+        found = final_grows a q b c grown x.found (final_same a b (λ t. having_published t o) x.port (published_quiet o) x.found s.found);
+      };
+      grown = λ i low ne later log is. next_grows (λ j. j < (ports i).passed) e b o.arena (ports i).before later log (come i low) is;
+      all_grown = all;
+      later = omega arith;
+      reached = ([] ∷ r.later, r.log, ap (λ (l : List (List Applied)). [] ∷ l) (r.is ∙ ap (λ (t : Port). r.later ++ r.log ∷ t.before) (sym s.port)));
+      seen = ([], sym (append-nil (seen_in x.port)));
+      legal = subst (λ (z : About). LegalNotes z.opening (seen_in x.port) k 0 x.notes) own knows.legal;
+      says = says;
+    }
+  where
+    few : (b : Beside) (before later : List (List Applied)) (log : List Applied) → b.log ∷ b.before ≡ later ++ log ∷ before → length before ≤ length b.before
+    few b before later log is =
+        let long = ap (λ (l : List (List Applied)). length l) is in
+        let both = length-append later (log ∷ before) in
+        omega (arith, long, both)
+
+module _ {S : Type 0} (a : About) (slots id : ℕ) (me : Me S (List Seated)) (one : IsOne me) (own : (one_of me.0).about ≡ a) (known : IsKnown (one_of me.0)) where
+  abbrev x : Seated
+  x = one_of me.0
+
+  pub may_publish : (o : Owned) → IsWhole (plan_of a) x.port o →
+      Allows (IsKept a) slots id me current_word (λ n. either (n == packed x.port.control.here) (packed (next_place x.port.control.here o.arena)) n) (tells (Publishes o) me)
+  may_publish o whole = allowed a slots id me current_word (λ n. either (n == packed x.port.control.here) (packed (next_place x.port.control.here o.arena)) n) (Publishes o) one own
+      (λ words ports notes b since w time s small.
+      let e : Plan = plan_of a in
+      let k : ℕ = x.number in
+      let n : ℕ = get_or words current_word 0 in
+      let p : Port = having_published (ports k) o in
+      let v : ℕ = either (n == packed x.port.control.here) (packed (next_place x.port.control.here o.arena)) n in
+      let word : cond (n == packed (ports k).control.here) (packed (next_place (ports k).control.here o.arena)) n ≡ v =
+      ap (λ (q : Port). cond (n == packed q.control.here) (packed (next_place q.control.here o.arena)) n) (sym s.port)
+      ∙ either_cond (n == packed x.port.control.here) (packed (next_place x.port.control.here o.arena)) n in
+      let words' : List ℕ = set words current_word v in
+      (elim (publishes_stay_lawful e words ports b k o w.epochs s.number (subst (λ (q : Port). IsWhole e q o) s.port whole)) [
+        | inl opened ↦ won a words words' ports notes b since x w s known o
+            (subst (λ v. LawfulEpochs e (set words current_word v) (put k p ports) (next_beside e b o.arena)) word opened.2)
+            (subst (λ v. KeepsTime e (set words current_word v) (put k p ports) (place_now (next_beside e b o.arena)) since) word
+            (publishes_keep_time e words ports (place_now b) (place_now (next_beside e b o.arena)) k o since s.number (omega arith) time)) (Publishes o x n) refl
+        | inr lost ↦ aside a words words' ports notes b b since since x w s known (λ q. having_published q o) (published_quiet o) x.began s.entering s.began
+            (subst (λ v. KeepsTime e (set words current_word v) (put k p ports) (place_now b) since) word
+            (publishes_keep_time e words ports (place_now b) (place_now b) k o since s.number (omega arith) time)) (λ q ne. refl) refl refl
+            (subst (λ v. LawfulEpochs e (set words current_word v) (put k p ports) b) word lost.1) (Publishes o x n) refl
+      ]))

@@ -1,0 +1,163 @@
+-- The rounds of an update: an attempt, and a change of epoch, and so on.
+use Rattle.std.proofs.Common.{Result, Ok, Err, IfOk, IfErr, ◌≡◌, ◌≤◌, ◌++◌, Bool, true, false, List, [], ◌∷◌, length, refl, sym, ap, subst, ◌∙◌, arith, append-nil}
+use Rattle.atomic_table.specs.Seated.{TableId}
+use Rattle.partial_model.specs.declared.history.Applied.{Applied}
+use Rattle.partial_model.specs.Notes.{Noted}
+use Rattle.std.proofs.lemmas.List.{length-append}
+use Rattle.partial_machine.specs.declared.stage.Change.{Change}
+use Rattle.partial_machine.specs.Machine.{CoreState}
+use Rattle.partial_lines.specs.declared.exchange.Exchanged.{Exchanged}
+use Rattle.partial_long_lived.specs.declared.rule.About.{About}
+use Rattle.partial_long_lived.specs.declared.error.Refused.{Refused}
+use Rattle.partial_long_lived.specs.declared.error.Refused.TheVariants.{Component, Overtaken, NoArena, EpochsSpent}
+use Rattle.partial_long_lived.specs.declared.stand.Stand.{Stand}
+use Rattle.partial_long_lived.specs.Inner.Changing.{IsCause}
+use Rattle.partial_long_lived.specs.Rule.{Began, Seated}
+use Rattle.partial_long_lived.specs.Ports.{seen_in}
+use Rattle.partial_long_lived.specs.Inner.Steps.{Goes}
+use Rattle.partial_long_lived.specs.Inner.Moves.{BeganBy}
+use Rattle.partial_long_lived.specs.Inner.Held.{IsHeld, port_at}
+use Rattle.partial_long_lived.specs.Inner.Calls.{IsIdle}
+use Rattle.partial_long_lived.specs.Inner.Updates.{Attempted, CameBy, IsLate, IsOwn, MayCall, MeetsSealed, Updated, noted_update}
+use Rattle.partial_long_lived.proofs.Coming.{goes_on}
+
+-- whether the call began with its first step here, or as before, where the next step may still be its first one
+abbrev pub BeganSo : Bool → Bool → Stand → Stand → Type 0
+BeganSo first true s t = first ≡ true
+BeganSo first false s t = BeganBy first (port_at s) (port_at t).began
+
+-- a part of a call, behind which the call goes on
+pub record RoundsOn (table : TableId) (about : About) (first next : Bool) (s t : Stand) (core : CoreState) : Type 0 where
+  pub held : IsHeld table about t
+  pub idle : IsIdle t
+  pub may : MayCall (port_at t) core
+  pub shape : t.shape ≡ s.shape
+  pub number : t.number ≡ s.number
+  pub goes : Goes (port_at s) (port_at t)
+  pub notes : (port_at t).notes ≡ (port_at s).notes
+  pub began : BeganSo first next s t
+
+-- a port has gone nowhere yet
+pub goes_nowhere : (table : TableId) (about : About) (s : Stand) → IsHeld table about s → Goes (port_at s) (port_at s)
+goes_nowhere table about s h = record { about = refl; number = refl; seen = ([], sym (append-nil (seen_in (port_at s).port))); known = h.known }
+
+pub begins_so : (first : Bool) (s : Stand) → BeganSo first first s s
+begins_so true s = refl
+begins_so false s = refl
+
+pub rounds_begin : (table : TableId) (about : About) (first : Bool) (s : Stand) (core : CoreState) → IsHeld table about s → IsIdle s → MayCall (port_at s) core → RoundsOn table about first first s s core
+rounds_begin table about first s core h idle may = record {
+  held = h;
+  idle = idle;
+  may = may;
+  shape = refl;
+  number = refl;
+  goes = goes_nowhere table about s h;
+  notes = refl;
+  began = begins_so first s;
+}
+
+-- a port has seen no less than before
+seen_grows : (x y : Seated) → Goes x y → length (seen_in x.port) ≤ length (seen_in y.port)
+seen_grows x y goes =
+    let all = ap (λ (l : List Applied). length l) goes.seen.1 in
+    let both = length-append (seen_in x.port) goes.seen.0 in
+    omega (arith, all, both)
+
+-- the call began when the next step says
+pub began_on : (first next : Bool) (s t : Stand) (n : Began) → BeganSo first next s t → Goes (port_at s) (port_at t) → BeganBy next (port_at t) n → BeganBy first (port_at s) n
+began_on first true s t n is goes began = subst (λ f. BeganBy f (port_at s) n) (sym is) (let more = seen_grows (port_at s) (port_at t) goes in omega (arith, began, more))
+began_on first false s t n is goes began = subst (BeganBy first (port_at s)) (sym began) is
+
+-- the machine of a port that may make a call is the port's
+pub may_own : (x : Seated) (core : CoreState) → MayCall x core → IsOwn x core
+may_own x core may = record { idle = may.rests.between.idle; sound = may.rests.between.sound; sizes = may.rests.sizes; port = may.rests.port }
+
+module _ (table : TableId) (about : About) (first next : Bool) (s u : Stand) (core : CoreState) (on : RoundsOn table about first next s u core) (t : Stand) where
+  -- the attempt has ended the update
+  pub round_ended : (c : Change) (r : Exchanged) → Attempted next c r u t → Updated first c r s t
+  round_ended c r attempt =
+      let goes = attempt.stayed.kept.goes in
+      record {
+        shape = attempt.stayed.kept.shape ∙ on.shape;
+        number = attempt.stayed.kept.number ∙ on.number;
+        goes = goes_on (port_at s) (port_at u) (port_at t) on.goes goes;
+        began = began_on first next s u (port_at t).began on.began on.goes attempt.stayed.began;
+        place = attempt.place;
+        notes = attempt.notes ∙ ap (λ (l : List Noted). l ++ noted_update t.epoch c r attempt.place ∷ []) on.notes;
+        behind = attempt.behind;
+        within = attempt.within;
+      }
+
+  -- it has met a seal, and so has come so far
+  pub round_met : MeetsSealed next u t → CameBy first s t
+  round_met met = record {
+    shape = met.stayed.kept.shape ∙ on.shape;
+    number = met.stayed.kept.number ∙ on.number;
+    goes = goes_on (port_at s) (port_at u) (port_at t) on.goes met.stayed.kept.goes;
+    notes = met.notes ∙ on.notes;
+    began = began_on first next s u (port_at t).began on.began on.goes met.stayed.began;
+  }
+
+-- a further part of the call
+pub came_on : (first : Bool) (s t v : Stand) → CameBy first s t → CameBy false t v → CameBy first s v
+came_on first s t v a b = record {
+  shape = b.shape ∙ a.shape;
+  number = b.number ∙ a.number;
+  goes = goes_on (port_at s) (port_at t) (port_at v) a.goes b.goes;
+  notes = b.notes ∙ a.notes;
+  began = subst (BeganBy first (port_at s)) (sym b.began) a.began;
+}
+
+-- the call goes on from there
+pub came_rounds : (table : TableId) (about : About) (first : Bool) (s t : Stand) (core : CoreState) → IsHeld table about t → IsIdle t → MayCall (port_at t) core → CameBy first s t →
+    RoundsOn table about first false s t core
+came_rounds table about first s t core h idle may came = record {
+  held = h;
+  idle = idle;
+  may = may;
+  shape = came.shape;
+  number = came.number;
+  goes = came.goes;
+  notes = came.notes;
+  began = came.began;
+}
+
+-- so far the call has made a step, and noted nothing
+pub rounds_came : (table : TableId) (about : About) (first next : Bool) (s t : Stand) (core : CoreState) → RoundsOn table about first next s t core → next ≡ false → CameBy first s t
+rounds_came table about first next s t core on later = record {
+  shape = on.shape;
+  number = on.number;
+  goes = on.goes;
+  notes = on.notes;
+  began = subst (λ (n : Bool). BeganSo first n s t) later on.began;
+}
+
+-- an update that began with a change of epoch
+pub updated_behind : (c : Change) (r : Exchanged) (s t v : Stand) → CameBy true s t → Updated false c r t v → Updated true c r s v
+updated_behind c r s t v came ended = record {
+  shape = ended.shape ∙ came.shape;
+  number = ended.number ∙ came.number;
+  goes = goes_on (port_at s) (port_at t) (port_at v) came.goes ended.goes;
+  began = subst (BeganBy true (port_at s)) (sym ended.began) came.began;
+  place = ended.place;
+  notes = ended.notes ∙ ap (λ (l : List Noted). l ++ noted_update v.epoch c r ended.place ∷ []) came.notes;
+  behind = ended.behind;
+  within = ended.within;
+}
+
+-- a change of epoch is refused behind some steps
+pub late_of : (s : Stand) (cause : Refused) → IsCause s cause → IsLate cause
+late_of s Component is = absurd is
+late_of s Overtaken is = tt
+late_of s NoArena is = tt
+late_of s EpochsSpent is = tt
+
+-- what holds of an answer may be told in another way
+pub ok_as : (A E : Type 0) (r : Result A E) (P Q : A → Type 0) → ((a : A) → P a → Q a) → IfOk r P → IfOk r Q
+ok_as A E (Ok a) P Q f w = f a w
+ok_as A E (Err e) P Q f w = tt
+
+pub err_as : (A E : Type 0) (r : Result A E) (P Q : E → Type 0) → ((e : E) → P e → Q e) → IfErr r P → IfErr r Q
+err_as A E (Ok a) P Q f w = tt
+err_as A E (Err e) P Q f w = f e w

@@ -1,0 +1,263 @@
+-- A scan where a port stands: its first step is allowed, and what it leaves of its port.
+use Rattle.std.proofs.Common.{ℕ, ◌≡◌, ◌+◌, ◌-◌, ◌%◌, ◌^◌, ◌<◌, ◌≤◌, ◌||◌, ◌++◌, Bool, false, cond, Option, Some, List, [], ◌∷◌, length, map, refl, sym, ap, subst, ◌∙◌, inl, inr, arith, length-append}
+use Rattle.std.specs.Prelude.{is_some, slice_index}
+use Rattle.std.proofs.lemmas.List.{length-map}
+use Rattle.atomic_table.specs.Table.{Allows}
+use Rattle.atomic_table.specs.Seated.{TableId}
+use Rattle.partial_model.specs.declared.history.Applied.{Applied}
+use Rattle.partial_model.specs.declared.call.Call.{Call}
+use Rattle.partial_model.specs.declared.call.Call.TheVariants as call
+use Rattle.partial_model.specs.declared.call.Answer.TheVariants as answer
+use Rattle.partial_model.specs.declared.call.Note.{Note}
+use Rattle.partial_model.specs.declared.call.Note.TheVariants as note
+use Rattle.partial_model.specs.Notes.{Noted, place_of}
+use Rattle.partial_words.specs.declared.step.Step.TheVariants.{Add}
+use Rattle.partial_words.specs.Layout.{Layout, IsLayout, pool_counter, total}
+use Rattle.partial_words.specs.Announcement.{announcement_size}
+use Rattle.partial_embedded.specs.Embedded.{RowsState}
+use Rattle.partial_machine.specs.declared.stage.Reply.{Reply}
+use Rattle.partial_machine.specs.declared.stage.Reply.TheVariants as reply
+use Rattle.partial_machine.specs.Calls.{call_of}
+use Rattle.partial_machine.specs.Lines.{scan_asked}
+use Rattle.partial_machine.specs.Machine.{CoreState, advance, reply_of, scanned_values, step_of}
+use Rattle.partial_machine.specs.Sound.{AreComponents, IsSound}
+use Rattle.partial_core.specs.Steps.{AreNotesOf, IsNoteOf, IsPlacedAt}
+use Rattle.partial_epochs.specs.Layout.{Plan, base, plain, unsealed}
+use Rattle.partial_epochs.specs.History.{history_of, public_entry, public_log}
+use Rattle.partial_epochs.specs.Notes.{public_noted}
+use Rattle.partial_epochs.specs.Ports.{Control}
+use Rattle.partial_epochs.proofs.Places.{not_below}
+use Rattle.partial_lines.specs.Replies.{RestsLike}
+use Rattle.partial_long_lived.specs.declared.rule.About.{About}
+use Rattle.partial_long_lived.specs.declared.stand.Stand.{Stand}
+use Rattle.partial_long_lived.specs.Rule.{Began, IsKept, Seated, plan_of}
+use Rattle.partial_long_lived.specs.Inner.Steps.{Goes, IsOne}
+use Rattle.partial_long_lived.specs.Inner.Held.{IsHeld, port_at}
+use Rattle.partial_long_lived.specs.Inner.Calls.{IsIdle}
+use Rattle.partial_long_lived.specs.Inner.Loads.{component_at}
+use Rattle.partial_long_lived.specs.Inner.Machine.{Makes, answered, makes, over_by, word_at}
+use Rattle.partial_long_lived.specs.Inner.Scans.{HasScanned, RestsUnmarked, ScanBegun, ScanMade, SettledFirst, noted_scan}
+use Rattle.partial_long_lived.specs.Inner.Under.{CallMade, IsGoing, Leads, MayBegin, machine_at}
+use Rattle.partial_long_lived.proofs.Coming.{goes_on}
+use Rattle.partial_long_lived.proofs.Making.{may_make}
+use Rattle.partial_long_lived.proofs.Standing.{arena_there, held_then, room_of}
+use Rattle.partial_long_lived.proofs.Under.{first_made, first_may}
+use Rattle.partial_long_lived.proofs.Unmarked.{marks_stay}
+
+-- a machine without marks may begin a scan of some components
+pub scan_begins : (table : TableId) (about : About) (s : Stand) (core : CoreState) (which : List ℕ) → IsHeld table about s → IsIdle s → RestsUnmarked (port_at s) core → (port_at s).port.over ≡ false →
+    AreComponents core.sizes which → 0 < length which → MayBegin (scan_asked core which) (port_at s)
+scan_begins table about s core which h idle rests spare asked some =
+    let between = rests.between in
+    let like = between.like in
+    let old = between.sound in
+    let sound : IsSound (scan_asked core which) = record {
+      asked = asked;
+      found = old.found;
+      indices = old.indices;
+      distinct = old.distinct;
+      rows = old.rows;
+      stage = (some, rests.pool, rests.slots);
+    } in
+    record {
+      stands = idle.stands;
+      begun = record { begun = refl; rest = between.rest; like = record { sizes = like.sizes; port = like.port; pool = like.pool; slots = like.slots; lists = like.lists }; sound = sound };
+      sound = sound;
+      layout = subst IsLayout (sym rests.sizes) h.known.plan.sizes;
+      sizes = rests.sizes;
+      spare = spare;
+      unmarked = (rests.pool, rests.slots);
+      expects = λ j t v is. (let bad : Some (call.Scan which) ≡ Some (call.UpdateIf j t v) = is in cc);
+    }
+
+-- the first step, the claim of n words by the add to word w of the arena
+module _ (table : TableId) (about : About) (s : Stand) (h : IsHeld table about s) (b core : CoreState) (which : List ℕ) (moment : b ≡ scan_asked core which) (begins : MayBegin b (port_at s))
+    (w n : ℕ) (at : w ≡ pool_counter s.shape.sizes) (many : n ≡ announcement_size (length which)) where
+  sizes_same : s.shape.sizes ≡ (port_at s).about.sizes
+  sizes_same = sym (ap (λ (e : Plan). e.sizes) h.shape) ∙ ap (λ (a : About). a.sizes) (sym h.own)
+
+  at_there : w ≡ pool_counter (port_at s).about.sizes
+  at_there = at ∙ ap pool_counter sizes_same
+
+  due : step_of b ≡ Some (Add w n)
+  due = ap step_of moment ∙ ap (λ (z : Layout). Some (Add (pool_counter z) (announcement_size (length which)))) (sym (ap (λ (c : CoreState). c.sizes) moment) ∙ begins.sizes)
+      ∙ ap (λ v. Some (Add v (announcement_size (length which)))) (sym at_there) ∙ ap (λ k. Some (Add w k)) (sym many)
+
+  base_is : s.base ≡ base (plan_of about) (port_at s).port.control.here.arena
+  base_is = h.base ∙ ap (base (plan_of about)) h.arena
+
+  word_same : component_at (port_at s) (s.base + w) ≡ w
+  word_same = let is = base_is in ap (λ (a : About). s.base + w - base (plan_of a) (port_at s).port.control.here.arena) h.own ∙ omega (arith, is)
+
+  pub claim_there : s.base + w < table.words
+  claim_there =
+      let is = at_there in
+      let own = ap (λ (a : About). a.sizes) h.own in
+      let low : w < total about.sizes = subst (λ (z : Layout). w < total z) own (subst (λ v. v < total (port_at s).about.sizes) (sym is) (omega arith)) in
+      arena_there table about s h w (omega (arith, low))
+
+  pub claim_asked : (slots id : ℕ) → Allows (IsKept about) slots id s.seat.me (s.base + w) (λ v. (v + n) % 2 ^ 64) (makes false b (Add (word_at s.seat.me (s.base + w)) n) s.seat.me)
+  claim_asked slots id =
+      subst (λ u. Allows (IsKept about) slots id s.seat.me (s.base + w) (λ v. (v + n) % 2 ^ 64) (makes false b (Add u n) s.seat.me)) (sym word_same)
+      (subst (λ i. Allows (IsKept about) slots id s.seat.me (i + w) (λ v. (v + n) % 2 ^ 64) (makes false b (Add w n) s.seat.me)) (sym base_is)
+      (may_make about slots id s.seat.me h.one h.own h.known (room_of table about s h) b (Add w n) (first_may b (port_at s) begins (Add w n) due) false tt))
+
+  -- the claim behind the component words is answered as it is
+  module _ (t : Stand) (id : t.seat.table_id ≡ s.seat.table_id) (one : IsOne t.seat.me) (goes : Goes (port_at s) (port_at t)) (a : ℕ)
+      (told : Makes false b (Add (word_at s.seat.me (s.base + w)) n) (port_at s) (answered (plan_of (port_at s).about) (Add (word_at s.seat.me (s.base + w)) n) a) (port_at t))
+      (shape : t.shape ≡ s.shape) (number : t.number ≡ s.number) (epoch : t.epoch ≡ s.epoch) (arena : t.arena ≡ s.arena) (base_same : t.base ≡ s.base) (passed : t.passed ≡ s.passed) where
+    claim_told : Makes false b (Add w n) (port_at s) a (port_at t)
+    claim_told =
+        let is = at_there in
+        let plain_is : plain (plan_of (port_at s).about) w a ≡ a = ap (λ (c : Bool). cond c (unsealed a) a) (not_below w (port_at s).about.sizes.m (omega (arith, is))) in
+        subst (λ x. Makes false b (Add w n) (port_at s) x (port_at t)) plain_is
+        (subst (λ u. Makes false b (Add u n) (port_at s) (answered (plan_of (port_at s).about) (Add u n) a) (port_at t)) word_same told)
+
+    machine_is : machine_at t ≡ advance b a
+    machine_is = sym claim_told.told.machine.is
+
+    call_made : CallMade b (port_at s) (machine_at t) (port_at t)
+    call_made = subst (λ (d : CoreState). CallMade b (port_at s) d (port_at t)) (sym machine_is) (first_made b (port_at s) begins false (Add w n) due a (port_at t) goes claim_told)
+
+    pub scan_going : IsGoing table about t
+    scan_going = record {
+      held = held_then table about s t h id one goes (ap (λ (x : Seated). x.port.control.here) claim_told.is) shape number epoch arena base_same
+          (passed ∙ h.passed ∙ sym (ap (λ (x : Seated). x.port.passed) claim_told.is));
+      under = (b, port_at s, begins, call_made);
+    }
+
+    pub scan_begun : ScanBegun b (length which) s a t
+    scan_begun = record {
+      kept = record { shape = shape; number = number; epoch = epoch; arena = arena; base = base_same; passed = passed; goes = goes };
+      made = call_made;
+      machine = machine_is;
+      possible = claim_told.told.possible;
+      began = ap (λ (x : Seated). x.began) claim_told.is ∙ claim_told.began;
+      over = ap (λ (x : Seated). x.port.over) claim_told.is ∙ ap (λ c. c || over_by (plan_of (port_at s).about) (Add w n) a) begins.spare
+          ∙ ap (λ v. over_by (plan_of (port_at s).about) (Add v n) a) at_there ∙ ap (λ k. over_by (plan_of (port_at s).about) (Add (pool_counter (port_at s).about.sizes) k) a) many;
+    }
+
+-- a scan is noted at a place that it has seen
+saw_at : (collects : ℕ) (borrowed : Option ℕ) (n : Note) (seen : ℕ) → IsPlacedAt (reply.Scanned collects borrowed) n seen → (k : ℕ) × (n ≡ note.Saw k) × (k ≤ seen)
+saw_at collects borrowed (note.Saw k) seen placed = (k, refl, placed)
+saw_at collects borrowed (note.Wrote k) seen placed = absurd placed
+saw_at collects borrowed (note.Lost k) seen placed = absurd placed
+
+-- The scan that the machine b began at the stand s, whose first step led to the stand u, has come to its reply at the stand t.
+module _ (table : TableId) (about : About) (s u t : Stand) (h : IsHeld table about s) (idle : IsIdle s) (core : CoreState) (which : List ℕ) (begins : MayBegin (scan_asked core which) (port_at s))
+    (a : ℕ) (begun : ScanBegun (scan_asked core which) (length which) s a u) (leads : Leads u t) (collects : ℕ) (borrowed : Option ℕ)
+    (replies : reply_of (machine_at t) ≡ Some (reply.Scanned collects borrowed)) where
+  abbrev x : Seated
+  x = port_at s
+
+  abbrev y : Seated
+  y = port_at t
+
+  abbrev b : CoreState
+  b = scan_asked core which
+
+  call_over : CallMade b x (machine_at t) y
+  call_over = leads.call b x begins begun.made
+
+  note_of : IsNoteOf y.port.part (reply.Scanned collects borrowed) call_over.made.new
+  note_of = subst (λ (r : Option Reply). AreNotesOf y.port.part r call_over.made.new) replies call_over.made.noted
+
+  saw : (k : ℕ) × (note_of.note ≡ note.Saw k) × (k ≤ length y.port.part.seen)
+  saw = saw_at collects borrowed note_of.note (length y.port.part.seen) note_of.placed
+
+  call_is : note_of.call ≡ call.Scan which
+  call_is = let same : Some note_of.call ≡ Some (call.Scan which) = sym note_of.made ∙ ap call_of call_over.made.begun in cc
+
+  before_same : y.port.before ≡ x.port.before
+  before_same = call_over.before
+
+  began_same : y.began ≡ x.began
+  began_same = leads.began ∙ begun.began
+
+  epoch_same : t.epoch ≡ s.epoch
+  epoch_same = leads.epoch ∙ begun.kept.epoch
+
+  epochs_before : length x.port.before ≡ t.epoch
+  epochs_before = h.known.epoch ∙ sym h.epoch ∙ sym epoch_same
+
+  module _ (values : List ℕ) (rows : RowsState) (is_values : values ≡ map (slice_index rows.values) which) (asked : (machine_at t).asked ≡ which) (rows_are : rows ≡ (machine_at t).rows) where
+    values_are : values ≡ scanned_values (machine_at t)
+    values_are = is_values ∙ ap (λ (r : RowsState). map (slice_index r.values) which) rows_are ∙ ap (map (slice_index (machine_at t).rows.values)) (sym asked)
+
+    new_is : call_over.made.new ≡ record { call = call.Scan which; answer = answer.Scanned values collects borrowed; note = Some (note.Saw saw.0) } ∷ []
+    new_is = note_of.is
+        ∙ ap (λ (c : Call). record { call = c; answer = answer.Scanned (scanned_values (machine_at t)) collects borrowed; note = Some note_of.note } ∷ []) call_is
+        ∙ ap (λ (n : Note). record { call = call.Scan which; answer = answer.Scanned (scanned_values (machine_at t)) collects borrowed; note = Some n } ∷ []) saw.1
+        ∙ ap (λ (v : List ℕ). record { call = call.Scan which; answer = answer.Scanned v collects borrowed; note = Some (note.Saw saw.0) } ∷ []) (sym values_are)
+
+    notes_are : y.notes ≡ x.notes ++ noted_scan t.epoch which values collects borrowed (length (history_of x.port.before) + saw.0) ∷ []
+    notes_are = call_over.notes ∙ ap (λ (l : List Noted). x.notes ++ map (public_noted (plan_of x.about) x.port.before) l) new_is
+        ∙ ap (λ e. x.notes ++ noted_scan e which values collects borrowed (length (history_of x.port.before) + saw.0) ∷ []) epochs_before
+
+    -- the port has scanned
+    pub scan_made : x.began.epoch ≤ s.epoch → ScanMade s t which values collects borrowed
+    scan_made young = record {
+      shape = leads.shape ∙ begun.kept.shape;
+      number = leads.number ∙ begun.kept.number;
+      epoch = epoch_same;
+      goes = call_over.goes;
+      idle = record { stands = ap (λ (c : Control). c.entering) call_over.control ∙ idle.stands; free = ap (λ (c : Control). c.owned) call_over.control ∙ idle.free };
+      began = began_same;
+      place = length (history_of x.port.before) + saw.0;
+      notes = notes_are;
+      behind =
+          let began = ap (λ (g : Began). g.epoch) began_same in
+          let here = ap (λ (c : Control). c.here.epoch) call_over.control in
+          let epoch = h.epoch in
+          let early = call_over.time (omega (arith, young, began, here, epoch)) in
+          let behind = note_of.behind in
+          let place = ap place_of saw.1 in
+          let before = ap (λ (l : List (List Applied)). length (history_of l)) before_same in
+          omega (arith, early, behind, place, before);
+      within =
+          let few = saw.2 in
+          let before = ap (λ (l : List (List Applied)). length (history_of l)) before_same in
+          let all = length-append (history_of y.port.before) (public_log (length y.port.before) y.port.part.seen) in
+          let len = length-map y.port.part.seen (public_entry (length y.port.before)) in
+          omega (arith, few, before, all, len);
+    }
+
+  -- its machine is at rest, and has no mark
+  pub scan_rests : (last : CoreState) → RestsUnmarked x core → RestsLike (machine_at t) last → RestsUnmarked y last
+  scan_rests last rests end =
+      let like = end.like in
+      let made = call_over.made in
+      let marks = marks_stay b (machine_at t) _ begins.layout begins.sound made.run call_over.unrefused in
+      record {
+        between = record {
+          rest = made.rests ∙ ap is_some replies;
+          like = like;
+          idle = end.idle;
+          sound = end.sound;
+        };
+        sizes = like.sizes ∙ made.sizes ∙ sym (ap (λ (o : About). o.sizes) call_over.goes.about);
+        port = like.port ∙ made.number ∙ ap (λ (c : CoreState). c.port) made.begun ∙ rests.port ∙ sym call_over.goes.number;
+        pool = like.pool ∙ marks.0 ∙ rests.pool;
+        slots = like.slots ∙ marks.1 ∙ rests.slots;
+      }
+
+-- a scan in an epoch to which the port came as the scan began
+pub has_scanned : (s u t : Stand) (which values : List ℕ) (collects : ℕ) (borrowed : Option ℕ) → SettledFirst s u → ScanMade u t which values collects borrowed →
+    HasScanned s t which values collects borrowed
+has_scanned s u t which values collects borrowed settled made = record {
+  shape = made.shape ∙ settled.come.shape;
+  number = made.number ∙ settled.come.number;
+  later =
+      let same = made.epoch in
+      (elim settled.come.machine [
+        | inl here ↦ let is = here.0 in omega (arith, same, is)
+        | inr later ↦ let up = later.0 in omega (arith, same, up)
+      ]);
+  goes = goes_on (port_at s) (port_at u) (port_at t) settled.come.goes made.goes;
+  idle = made.idle;
+  place = made.place;
+  notes = made.notes ∙ ap (λ (l : List Noted). l ++ noted_scan t.epoch which values collects borrowed made.place ∷ []) settled.notes;
+  first = let few = settled.first in let same = ap (λ (g : Began). g.length) made.began in omega (arith, few, same);
+  behind = made.behind;
+  within = made.within;
+}

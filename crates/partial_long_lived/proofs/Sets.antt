@@ -1,0 +1,218 @@
+-- The stores of an owner are allowed.
+use Rattle.std.proofs.Common.{ℕ, ◌≡◌, ◌≢◌, ◌+◌, ◌-◌, ◌*◌, ◌/◌, ◌%◌, ◌<◌, ◌≤◌, ◌==◌, ◌⊎◌, ◌++◌, true, false, cond, Option, Some, IfSome, List, [], ◌∷◌, length}
+use Rattle.std.proofs.Common.{get_or, set, refl, sym, ap, subst, ◌∙◌, inl, inr, arith, length-append}
+use Rattle.std.specs.Prelude.{nat_lt}
+use Rattle.std.proofs.lemmas.Bool.{lt-ltb}
+use Rattle.std.proofs.lemmas.Bool.Decides.{eqb_tells}
+use Rattle.std.proofs.lemmas.List.{get_or-set_same}
+use Rattle.atomic_table.specs.Table.{Me, Allows}
+use Rattle.partial_model.specs.declared.history.Applied.{Applied}
+use Rattle.partial_model.specs.declared.history.Opening.{Opening}
+use Rattle.partial_model.specs.History.{value_of}
+use Rattle.partial_model.specs.Notes.{Noted}
+use Rattle.partial_model.proofs.ListLemmas.{some_same}
+use Rattle.partial_words.specs.Layout.{Layout, first_free, initial_record, list_base, list_counter, pool_base, pool_counter}
+use Rattle.partial_words.specs.Chain.{initial_record_word, opening_word}
+use Rattle.partial_epochs.specs.Lists.{list_of}
+use Rattle.partial_epochs.specs.Layout.{IsAsked, Place, Plan, control_words, current_word, packed, set_word}
+use Rattle.partial_epochs.specs.History.{carried_behind, opening_behind}
+use Rattle.partial_epochs.specs.Ports.{Owned, Port}
+use Rattle.partial_epochs.specs.Control.{MayPut}
+use Rattle.partial_epochs.specs.Epochs.{Beside, controls, next_word, numbers, place_now}
+use Rattle.partial_epochs.specs.Publishing.{having_set, vacated}
+use Rattle.partial_epochs.specs.Notes.{LawfulMemory}
+use Rattle.partial_epochs.proofs.Continue.{many}
+use Rattle.partial_epochs.proofs.Laws.{sets_stay_lawful}
+use Rattle.partial_epochs.proofs.Lists.{at_of}
+use Rattle.partial_epochs.proofs.Places.{below_whole, not_below, set_place}
+use Rattle.partial_epochs.proofs.Sets as law
+use Rattle.partial_long_lived.specs.declared.rule.About.{About}
+use Rattle.partial_long_lived.specs.Rule.{Found, IsFinal, IsKept, IsLast, IsSeat, Seated, one_of, plan_of}
+use Rattle.partial_long_lived.specs.Inner.Steps.{IsKnown, IsOne, tells}
+use Rattle.partial_long_lived.specs.Inner.Moves.{Sets}
+use Rattle.partial_long_lived.proofs.Asides.{IsQuiet, aside}
+use Rattle.partial_long_lived.proofs.Begins.{here_is}
+use Rattle.partial_long_lived.proofs.Changes.{store_at}
+use Rattle.partial_long_lived.proofs.Control.{time_aside}
+use Rattle.partial_long_lived.proofs.Kept.{allowed, begun_grows, none_grown}
+
+-- a word of an opening that is the same whatever the values are
+same_word : (s : Layout) (l : List ℕ) (i : ℕ) → (i < pool_base s) ⊎ ((i - pool_base s) % 3 ≢ 1) → opening_word s l i ≡ opening_word s [] i
+same_word s l i free = ap (λ t. cond (nat_lt i s.m) (initial_record s i) (cond (i == pool_counter s) (first_free s) (cond (i == list_counter s) (list_base s) t))) (by free)
+  where
+    rest : List ℕ → ℕ
+    rest l = cond (nat_lt i (first_free s)) (initial_record_word l (i - pool_base s)) 0
+
+    by : (i < pool_base s) ⊎ ((i - pool_base s) % 3 ≢ 1) → cond (nat_lt i (pool_base s)) 0 (rest l) ≡ cond (nat_lt i (pool_base s)) 0 (rest [])
+    by (inl below) = ap (λ c. cond c 0 (rest l)) (lt-ltb i (pool_base s) below) ∙ sym (ap (λ c. cond c 0 (rest [])) (lt-ltb i (pool_base s) below))
+    by (inr ne) = (elim (eqb_tells ((i - pool_base s) % 3) 1) [
+      | inl same ↦ absurd (ne same.1)
+      | inr other ↦ ap (λ t. cond (nat_lt i (pool_base s)) 0 (cond (nat_lt i (first_free s)) t 0))
+          (ap (λ c. cond c (get_or l ((i - pool_base s) / 3) 0) 0) other.0 ∙ sym (ap (λ c. cond c (get_or [] ((i - pool_base s) / 3) 0) 0) other.0))
+    ])
+
+pub unlike : (n m : ℕ) → n ≢ m → (n == m) ≡ false
+unlike n m ne = elim (eqb_tells n m) [ inl same ↦ absurd (ne same.1) | inr other ↦ other.0 ]
+
+pub alike : (n m : ℕ) → n ≡ m → (n == m) ≡ true
+alike n m is = elim (eqb_tells n m) [ inl same ↦ same.0 | inr other ↦ absurd (other.1 is) ]
+
+-- the value word of an initial record
+value_word : (s : Layout) (l : List ℕ) (j i : ℕ) → j < s.m → i ≡ pool_base s + 3 * j + 1 → opening_word s l i ≡ get_or l j 0
+value_word s l j i low is =
+    ap (λ c. cond c (initial_record s i) others) (not_below i s.m (omega (arith, is)))
+    ∙ ap (λ c. cond c (first_free s) lists) (unlike i (pool_counter s) (omega (arith, is)))
+    ∙ ap (λ c. cond c (list_base s) pool) (unlike i (list_counter s) (omega (arith, is)))
+    ∙ ap (λ c. cond c 0 records) (not_below i (pool_base s) (omega (arith, is)))
+    ∙ ap (λ c. cond c (initial_record_word l (i - pool_base s)) 0) (lt-ltb i (first_free s) (omega (arith, is, low)))
+    ∙ ap (λ c. cond c (get_or l ((i - pool_base s) / 3) 0) 0) (alike ((i - pool_base s) % 3) 1 (omega (arith, is)))
+    ∙ ap (λ k. get_or l k 0) (omega (arith, is))
+  where
+    records : ℕ
+    records = cond (nat_lt i (first_free s)) (initial_record_word l (i - pool_base s)) 0
+
+    pool : ℕ
+    pool = cond (nat_lt i (pool_base s)) 0 records
+
+    lists : ℕ
+    lists = cond (i == list_counter s) (list_base s) pool
+
+    others : ℕ
+    others = cond (i == pool_counter s) (first_free s) lists
+
+-- the word of a value, and that of a carried stamp, in the next epoch
+module _ (e : Plan) (b : Beside) (i j : ℕ) where
+  next_below : i < first_free e.sizes → next_word e b i ≡ opening_word e.sizes (opening_behind e.opening (b.log ∷ b.before)).values i
+  next_below low = ap (λ c. cond c (opening_word e.sizes (opening_behind e.opening (b.log ∷ b.before)).values i) (carried_behind e.opening (b.log ∷ b.before) (i - first_free e.sizes)))
+      (lt-ltb i (first_free e.sizes) low)
+
+  next_value : length e.opening.values ≡ e.sizes.m → j < e.sizes.m → i ≡ pool_base e.sizes + 3 * j + 1 → next_word e b i ≡ value_of (opening_behind e.opening b.before) b.log j
+  next_value long low is =
+      let o : Opening = opening_behind e.opening b.before in
+      let n = many e.opening b.before in
+      next_below (omega (arith, low, is)) ∙ value_word e.sizes (list_of (value_of o b.log) 0 (length o.values)) j i low is
+      ∙ at_of (value_of o b.log) 0 (length o.values) j (omega (arith, low, n, long)) ∙ ap (value_of o b.log) (omega arith)
+
+  next_stamp : i ≡ first_free e.sizes + j → next_word e b i ≡ carried_behind e.opening (b.log ∷ b.before) j
+  next_stamp is = ap (λ c. cond c (opening_word e.sizes (opening_behind e.opening (b.log ∷ b.before)).values i) (carried_behind e.opening (b.log ∷ b.before) (i - first_free e.sizes)))
+      (not_below i (first_free e.sizes) (omega (arith, is))) ∙ ap (carried_behind e.opening (b.log ∷ b.before)) (omega (arith, is))
+
+-- a port whose epoch is the current one has all finished epochs behind it
+before_is : (a : About) (words : List ℕ) (ports : ℕ → Port) (notes : ℕ → List Noted) (b : Beside) (k : ℕ) → LawfulMemory (plan_of a) words ports b notes → k < a.ports →
+    get_or words current_word 0 ≡ packed (ports k).control.here → (ports k).before ≡ b.before
+before_is a words ports notes b k w below at =
+    let r = w.noted.reached k below in
+    by r.later r.log (ports k).before r.is (r.epoch ∙ ap (λ (d : Place). d.epoch) (here_is a words ports b w.epochs k below at))
+  where
+    by : (later : List (List Applied)) (log : List Applied) (before : List (List Applied)) → b.log ∷ b.before ≡ later ++ log ∷ before → length before ≡ length b.before → before ≡ b.before
+    by [] log before is same = let rest : b.before ≡ before = cc in sym rest
+    by (h ∷ later) log before is same =
+        let long = ap (λ (l : List (List Applied)). length l) is in
+        let both = length-append later (log ∷ before) in
+        absurd (omega (arith, long, both, same))
+
+set_quiet : (o : Owned) (next : ℕ) → IsQuiet (λ p. having_set p o next)
+set_quiet o next = record { part = λ p. refl; before = λ p. refl; here = λ p. refl; passed = λ p. omega arith }
+
+set_puts : (p : Port) (o : Owned) (next : ℕ) → p.control.owned ≡ Some o → (j : ℕ) (m : Place) → MayPut (having_set p o next).control j m → MayPut p.control j m
+set_puts p o next is j m may =
+    let same : record o { set = next } ≡ may.owned = some_same may.is in
+    record {
+      owned = o;
+      is = is;
+      port = ap (λ (t : Owned). t.clean) same ∙ may.port;
+      mark = ap (λ (t : Owned). t.mark) same ∙ may.mark;
+      again = ap (λ (t : Owned). t.again) same ∙ may.again;
+    }
+
+-- what a port has found in its own epoch is the last of all epochs, while that is the current one
+found_last : (a : About) (b : Beside) (x : Port) (t : Option Found) (f : Found) → t ≡ Some f → IfSome t (IsFinal (plan_of a) b x) → x.before ≡ b.before →
+    (f.component < a.sizes.m) × IsLast (plan_of a) b.before b.log f
+found_last a b x t f is w before =
+    let final : IsFinal (plan_of a) b x f = subst (λ t. IfSome t (IsFinal (plan_of a) b x)) is w in
+    (final.inside, subst (λ (l : List (List Applied)). IsLast (plan_of a) l b.log f) before (final.last [] b.log (ap (λ (l : List (List Applied)). b.log ∷ l) (sym before))))
+
+module _ {S : Type 0} (a : About) (slots id : ℕ) (me : Me S (List Seated)) (one : IsOne me) (own : (one_of me.0).about ≡ a) (known : IsKnown (one_of me.0)) where
+  abbrev x : Seated
+  x = one_of me.0
+
+  abbrev e : Plan
+  e = plan_of a
+
+  -- the words that count as set behind the store are those of the next epoch, while the port's epoch is the current one
+  abbrev Right : Owned → ℕ → ℕ → Type 0
+  Right o v next = (words : List ℕ) (ports : ℕ → Port) (notes : ℕ → List Noted) (b : Beside) (since : ℕ → ℕ) → LawfulMemory (plan_of a) words ports b notes → IsSeat a ports notes b since x →
+      get_or words current_word 0 ≡ packed (ports x.number).control.here → (i : ℕ) → o.set ≤ i → i < next → IsAsked a.sizes i →
+      get_or (set words (set_word e o.arena o.set) v) (set_word e o.arena i) 0 ≡ next_word e b i
+
+  pub may_set : (o : Owned) (v next : ℕ) → x.port.control.owned ≡ Some o → o.clean ≡ a.ports → o.set < next → next ≤ first_free a.sizes + a.sizes.m → a.sizes.m ≤ x.port.passed →
+      Right o v next →
+      Allows (IsKept a) slots id me (set_word e o.arena o.set) (λ n. v) (tells (Sets o next) me)
+  may_set o v next owned clean less most passed right = allowed a slots id me (set_word e o.arena o.set) (λ n. v) (Sets o next) one own (λ words ports notes b since w time s small.
+      let k : ℕ = x.number in
+      let i : ℕ = set_word e o.arena o.set in
+      let c : Beside = vacated b o.arena in
+      let owned' : (ports k).control.owned ≡ Some o = ap (λ (p : Port). p.control.owned) (sym s.port) ∙ owned in
+      let pool = w.epochs.plan.sizes.pool.0 in
+      let place = set_place e o.arena o.set pool (omega (arith, less, most)) in
+      let at = place.2 in
+      let to = sets_stay_lawful e words ports b k o v next w.epochs s.number owned' clean less most (subst (λ (p : Port). a.sizes.m ≤ p.passed) s.port passed)
+      (λ current i from up asked. right words ports notes b since w s current i from up asked) in
+      aside a words (set words i v) ports notes b c since since x w s known (λ p. having_set p o next) (set_quiet o next) x.began s.entering
+      (begun_grows b c x.began (omega arith) (none_grown b c refl refl) s.began)
+      (time_aside a words (set words i v) ports b c since time refl k (having_set (ports k) o next)
+      (λ q low. store_at e words i v q low (omega (arith, at))) refl refl (set_puts (ports k) o next owned'))
+      (λ q ne. refl) refl refl to (Sets o next x (get_or words i 0)) refl)
+
+  -- where the store is that of a word of the next epoch, and an opening asks nothing of the words behind it that count as set
+  may_set_word : (o : Owned) (v next : ℕ) → x.port.control.owned ≡ Some o → o.clean ≡ a.ports → o.set < next → next ≤ first_free a.sizes + a.sizes.m → a.sizes.m ≤ x.port.passed →
+      ((i : ℕ) → o.set < i → i < next → ¬ IsAsked a.sizes i) →
+      ((b : Beside) → length a.opening.values ≡ a.sizes.m → IfSome x.found (IsFinal (plan_of a) b x.port) → x.port.before ≡ b.before → v ≡ next_word e b o.set) →
+      Allows (IsKept a) slots id me (set_word e o.arena o.set) (λ n. v) (tells (Sets o next) me)
+  may_set_word o v next owned clean less most passed between value = may_set o v next owned clean less most passed (λ words ports notes b since w s current i from up asked.
+      let k : ℕ = x.number in
+      (elim (eqb_tells i o.set) [
+        | inl same ↦
+            let owned' : (ports k).control.owned ≡ Some o = ap (λ (p : Port). p.control.owned) (sym s.port) ∙ owned in
+            let mine = law.own e (control_words e words) (controls ports) (place_now b) (numbers b) w.epochs.control k s.number o owned' clean in
+            let pool = w.epochs.plan.sizes.pool.0 in
+            let place = set_place e o.arena o.set pool (omega (arith, less, most)) in
+            let at = place.2 in
+            let inside = below_whole e o.arena place.0 mine.arena place.1 in
+            let count = w.epochs.count in
+            ap (λ j. get_or (set words (set_word e o.arena o.set) v) (set_word e o.arena j) 0) same.1 ∙ get_or-set_same words (set_word e o.arena o.set) v 0 (omega (arith, at, inside, count))
+            ∙ value b w.epochs.plan.values s.found (ap (λ (p : Port). p.before) s.port ∙ before_is a words ports notes b k w s.number current) ∙ ap (next_word e b) (sym same.1)
+        | inr other ↦ let ne = other.1 in absurd (between i (omega (arith, from, ne)) up asked)
+      ]))
+
+  -- a word that is the same whatever the values are
+  pub may_set_same : (o : Owned) (v : ℕ) → x.port.control.owned ≡ Some o → o.clean ≡ a.ports → a.sizes.m ≤ x.port.passed → o.set < first_free a.sizes →
+      (o.set < pool_base a.sizes) ⊎ ((o.set - pool_base a.sizes) % 3 ≢ 1) → v ≡ opening_word a.sizes [] o.set →
+      Allows (IsKept a) slots id me (set_word e o.arena o.set) (λ n. v) (tells (Sets o (o.set + 1)) me)
+  may_set_same o v owned clean passed low free is = may_set_word o v (o.set + 1) owned clean (omega arith) (omega (arith, low)) passed (λ i from up. absurd (omega (arith, from, up)))
+      (λ b long found before. is ∙ sym (same_word a.sizes (opening_behind a.opening (b.log ∷ b.before)).values o.set free) ∙ sym (next_below e b o.set 0 low))
+
+  -- the last word before the list words, of which an opening asks nothing
+  pub may_set_over_lists : (o : Owned) (v : ℕ) → x.port.control.owned ≡ Some o → o.clean ≡ a.ports → a.sizes.m ≤ x.port.passed → o.set + 1 ≡ list_base a.sizes → v ≡ opening_word a.sizes [] o.set →
+      Allows (IsKept a) slots id me (set_word e o.arena o.set) (λ n. v) (tells (Sets o (pool_base a.sizes)) me)
+  may_set_over_lists o v owned clean passed last is = may_set_word o v (pool_base a.sizes) owned clean (omega (arith, last)) (omega arith) passed
+      (λ i from up asked. elim asked [ inl low ↦ absurd (omega (arith, from, last, low)) | inr high ↦ absurd (omega (arith, up, high)) ])
+      (λ b long found before. is ∙ sym (same_word a.sizes (opening_behind a.opening (b.log ∷ b.before)).values o.set (inl (omega (arith, last)))) ∙ sym (next_below e b o.set 0 (omega (arith, last))))
+
+  -- the value that the port has found last of component j, in its initial record
+  pub may_set_value : (o : Owned) (f : Found) → x.port.control.owned ≡ Some o → o.clean ≡ a.ports → a.sizes.m ≤ x.port.passed → x.found ≡ Some f →
+      o.set ≡ pool_base a.sizes + 3 * f.component + 1 → f.component < a.sizes.m →
+      Allows (IsKept a) slots id me (set_word e o.arena o.set) (λ n. f.value) (tells (Sets o (o.set + 1)) me)
+  may_set_value o f owned clean passed found at inside = may_set_word o f.value (o.set + 1) owned clean (omega arith) (omega (arith, at, inside)) passed (λ i from up. absurd (omega (arith, from, up)))
+      (λ b long final before.
+      let last = found_last a b x.port x.found f found final before in
+      sym last.1.value ∙ sym (next_value e b o.set f.component long inside at))
+
+  -- the public stamp that it has found
+  pub may_set_stamp : (o : Owned) (f : Found) → x.port.control.owned ≡ Some o → o.clean ≡ a.ports → a.sizes.m ≤ x.port.passed → x.found ≡ Some f →
+      o.set ≡ first_free a.sizes + f.component → f.component < a.sizes.m →
+      Allows (IsKept a) slots id me (set_word e o.arena o.set) (λ n. f.stamp) (tells (Sets o (o.set + 1)) me)
+  may_set_stamp o f owned clean passed found at inside = may_set_word o f.stamp (o.set + 1) owned clean (omega arith) (omega (arith, at, inside)) passed (λ i from up. absurd (omega (arith, from, up)))
+      (λ b long final before.
+      let last = found_last a b x.port x.found f found final before in
+      sym last.1.stamp ∙ sym (next_stamp e b o.set f.component at))

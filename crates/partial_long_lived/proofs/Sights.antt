@@ -1,0 +1,82 @@
+-- The loads of a call are allowed.
+use Rattle.std.proofs.Common.{ℕ, ◌≡◌, ◌+◌, ◌<◌, ◌++◌, Bool, List, [], ◌∷◌, get_or, set, refl, sym, ap, subst, ◌∙◌, arith, append-nil}
+use Rattle.atomic_table.specs.Table.{Me, Allows}
+use Rattle.partial_model.specs.Notes.{LegalNotes, Noted}
+use Rattle.partial_epochs.specs.Layout.{Plan, base}
+use Rattle.partial_epochs.specs.Ports.{Port}
+use Rattle.partial_epochs.specs.Ports.Entering.{Stands}
+use Rattle.partial_epochs.specs.Epochs.{Beside, place_now}
+use Rattle.partial_epochs.specs.Notes.{LawfulMemory}
+use Rattle.partial_epochs.specs.Time.{KeepsTime}
+use Rattle.partial_epochs.proofs.Laws.{seen_records_stay}
+use Rattle.partial_long_lived.specs.declared.rule.About.{About}
+use Rattle.partial_long_lived.specs.Rule.{IsKept, IsSeat, Seated, one_of, plan_of}
+use Rattle.partial_long_lived.specs.Ports.{seen_in}
+use Rattle.partial_long_lived.specs.Inner.Steps.{IsKnown, IsOne, tells}
+use Rattle.partial_long_lived.specs.Inner.Loads.{Recalls, Sees, Wish}
+use Rattle.partial_long_lived.proofs.Control.{load_same}
+use Rattle.partial_long_lived.proofs.Kept.{Moved, allowed, none_grown, not_grown}
+use Rattle.partial_long_lived.proofs.Loads.{IsFinding, moved_see, seat_at, seat_is, standing, where_is}
+
+-- nothing has changed
+pub nothing_moved : (a : About) (words words' : List ℕ) (ports : ℕ → Port) (notes : ℕ → List Noted) (b : Beside) (since : ℕ → ℕ) (w : LawfulMemory (plan_of a) words ports b notes) →
+    KeepsTime (plan_of a) words ports (place_now b) since → (x : Seated) → IsSeat a ports notes b since x → x.about ≡ a → IsKnown x → (ports x.number).control.entering ≡ Stands → words' ≡ words →
+    (P : Seated → Type 0) → P x → Moved a words' ports notes b since x P
+nothing_moved a words words' ports notes b since w time x s own known stands same P says =
+    let k : ℕ = x.number in
+    let there = standing a words ports notes b since w time k s.number x.began x.found stands in
+    let at = where_is a words ports notes b since w time k s.number x.began x.found stands in
+    record {
+      y = x;
+      ports' = ports;
+      notes' = notes;
+      beside = b;
+      since' = since;
+      lawful = subst (λ (l : List ℕ). LawfulMemory (plan_of a) l ports b notes) (sym same) w;
+      time = subst (λ (l : List ℕ). KeepsTime (plan_of a) l ports (place_now b) since) (sym same) time;
+      others = λ q ne. (refl, refl, refl);
+      number = refl;
+      seat = s;
+      grown = λ q low ne. not_grown (ports q) b b refl refl;
+      all_grown = none_grown b b refl refl;
+      later = omega arith;
+      reached = (at.0, there.epoch.log, at.1 ∙ ap (λ (p : Port). at.0 ++ there.epoch.log ∷ p.before) (sym s.port));
+      seen = ([], sym (append-nil (seen_in x.port)));
+      legal = subst (λ (z : About). LegalNotes z.opening (seen_in x.port) k 0 x.notes) own known.knows.legal;
+      says = says;
+    }
+
+module _ {S : Type 0} (a : About) (slots id : ℕ) (me : Me S (List Seated)) (one : IsOne me) (own : (one_of me.0).about ≡ a) (known : IsKnown (one_of me.0)) (stands : (one_of me.0).port.control.entering ≡ Stands) where
+  abbrev x : Seated
+  x = one_of me.0
+
+  abbrev e : Plan
+  e = plan_of a
+
+  -- a load of a component word
+  pub may_see : (first : Bool) (wish : Wish) (j : ℕ) → j < a.sizes.m → (IsFinding wish → j < x.port.passed) →
+      Allows (IsKept a) slots id me (base e x.port.control.here.arena + j) (λ n. n) (tells (Sees first wish j) me)
+  may_see first wish j inside finds = allowed a slots id me (base e x.port.control.here.arena + j) (λ n. n) (Sees first wish j) one own (λ words ports notes b since w time s small.
+      let same = seat_is a ports notes b since x s in
+      let P : Seated → Type 0 = λ z. Moved a (set words (base e z.port.control.here.arena + j) (get_or words (base e z.port.control.here.arena + j) 0)) ports notes b since z
+      (Sees first wish j z (get_or words (base e z.port.control.here.arena + j) 0)) in
+      subst P (sym same) (moved_see a words ports notes b since w time x.number s.number x.began x.found (ap (λ (p : Port). p.control.entering) (sym s.port) ∙ stands)
+      (subst (IsSeat a ports notes b since) same s) (subst IsKnown same known) j inside first wish (λ is. subst (λ (p : Port). j < p.passed) s.port (finds is))))
+
+  -- a load of a word that is final
+  pub may_recall : (i : ℕ) → Allows (IsKept a) slots id me i (λ n. n) (tells (Recalls i) me)
+  may_recall i = allowed a slots id me i (λ n. n) (Recalls i) one own (λ words ports notes b since w time s small.
+      let k : ℕ = x.number in
+      let n : ℕ = get_or words i 0 in
+      let same = seat_is a ports notes b since x s in
+      let stands' = ap (λ (p : Port). p.control.entering) (sym s.port) ∙ stands in
+      let X : Seated = seat_at a ports notes k x.began x.found in
+      let there = standing a words ports notes b since w time k s.number x.began x.found stands' in
+      let records = λ (j : ℕ) (inside : j < a.sizes.m). seen_records_stay e words ports b k j w.epochs s.number stands' inside there in
+      let words_same = load_same words i in
+      let recalled : Recalls i X n X = record {
+        same = refl;
+        value = λ j m inside few is. ap (λ h. get_or words h 0) is ∙ ((records j inside).each m few).value;
+        carried = λ j inside is. ap (λ h. get_or words h 0) is ∙ (records j inside).carried;
+      } in
+      nothing_moved a words (set words i n) ports notes b since w time x s own known stands' (sym words_same) (Recalls i x n) (subst (λ (z : Seated). Recalls i z n z) (sym same) recalled))

@@ -1,0 +1,327 @@
+-- The steps of a call of a port's machine, one after the other.
+use Rattle.std.proofs.Common.{ℕ, ◌≡◌, ◌≢◌, ◌+◌, ◌*◌, ◌<◌, ◌≤◌, ◌==◌, ◌⊎◌, ◌&&◌, ◌||◌, ◌++◌, Bool, true, false, cond, Option, Some, None, List, [], ◌∷◌, length, map, take, refl, sym, ap, subst, ◌∙◌, inl, inr, arith, append-nil}
+use Rattle.std.specs.Prelude.{nat_lt}
+use Rattle.std.proofs.lemmas.Bool.Decides.{eqb_tells}
+use Rattle.std.proofs.lemmas.List.{append_cancel_left}
+use Rattle.partial_model.specs.declared.history.Applied.{Applied}
+use Rattle.partial_model.specs.declared.history.Opening.{Opening}
+use Rattle.partial_model.specs.declared.call.Call.TheVariants as call
+use Rattle.partial_model.specs.declared.call.Refused.{Refused}
+use Rattle.partial_model.specs.History.{stamp_of}
+use Rattle.partial_model.specs.Notes.{Noted, seen_by}
+use Rattle.partial_words.specs.declared.step.Step.{Step}
+use Rattle.partial_words.specs.declared.step.Step.TheVariants.{Load, Store, Exchange, Add}
+use Rattle.partial_words.specs.Layout.{Layout, IsLayout, greatest_record, pool_counter, total}
+use Rattle.partial_words.specs.Step.{word_of}
+use Rattle.partial_machine.specs.declared.stage.Reply.TheVariants as reply
+use Rattle.partial_machine.specs.declared.stage.Reply.{Reply}
+use Rattle.partial_machine.specs.declared.stage.Stage.{Stage}
+use Rattle.partial_machine.specs.declared.stage.Stage.TheVariants.{Idle, ReadBegun, LoadingValue, UpdateBegun, GettingSet, Viewing, ClaimingRecord, StoringRecord, Exchanging, ScanBegun, StoringAnnouncement, Joining, Scanning, Leaving, Finished}
+use Rattle.partial_machine.specs.Behind.{IsBehind, refuses_pool, refuses_slots}
+use Rattle.partial_machine.proofs.Sound.{size_few}
+use Rattle.partial_model.proofs.ListLemmas.{some_same}
+use Rattle.partial_epochs.proofs.Places.{not_below}
+use Rattle.std.proofs.lemmas.Bool.{cases_lt}
+use Rattle.partial_machine.specs.Machine.{CoreState, advance, record_size, reply_of, step_at, step_of}
+use Rattle.partial_machine.specs.Calls.{call_of, is_begun}
+use Rattle.partial_machine.specs.Sound.{IsSound}
+use Rattle.partial_machine.proofs.Laws.{due_is_unreplied, due_words_are_there}
+use Rattle.partial_core.specs.Part.{Kept, Part, first_at}
+use Rattle.partial_core.specs.Calls.{Made}
+use Rattle.partial_core.specs.Steps.{AreNotesOf, Tells, begun_with, moved}
+use Rattle.partial_core.proofs.Parts.{seen_within as no_longer}
+use Rattle.partial_model.proofs.StampsStay.{take_within}
+use Rattle.partial_core.proofs.Laws.{first_steps_make_calls, further_steps_make_calls}
+use Rattle.partial_epochs.specs.History.{history_of, opening_behind}
+use Rattle.partial_epochs.specs.Ports.{Control}
+use Rattle.partial_epochs.specs.MachineSteps.{MayClaim}
+use Rattle.partial_epochs.specs.Notes.{public_noted}
+use Rattle.partial_long_lived.specs.declared.rule.About.{About}
+use Rattle.partial_long_lived.specs.Rule.{Began, Seated, plan_of}
+use Rattle.partial_long_lived.specs.Inner.Steps.{Goes}
+use Rattle.partial_long_lived.specs.Inner.Loads.{opening_of}
+use Rattle.partial_long_lived.specs.Inner.Machine.{Makes, MayMake, over_by}
+use Rattle.partial_long_lived.specs.Inner.Under.{CallMade, MayBegin, before_claim, claim_of}
+use Rattle.partial_long_lived.proofs.Claims.{claimed_from, pool_claims, unclaimed_before}
+use Rattle.partial_long_lived.proofs.Coming.{goes_on}
+
+first_stays : (ks : List Kept) (last : Kept) → 0 < length ks → first_at (ks ++ last ∷ []) ≡ first_at ks
+first_stays [] last some = absurd (omega (arith, some))
+first_stays (k ∷ ks) last some = refl
+
+-- where a machine has yet to claim, its last step was no claim past the limit
+spare_step : (a : About) (c : CoreState) (s : Step) (x : ℕ) → IsSound c → c.sizes ≡ a.sizes → step_of c ≡ Some s → before_claim (advance c x).stage ≡ true → over_by (plan_of a) s x ≡ false
+spare_step a c (Load w) x sound sizes due yet = refl
+spare_step a c (Store w v) x sound sizes due yet = refl
+spare_step a c (Exchange w old new) x sound sizes due yet = refl
+spare_step a c (Add w k) x sound sizes due yet = elim (eqb_tells w (pool_counter a.sizes)) [
+  | inl same ↦
+      let claims = pool_claims c a.sizes sound sizes w k due same.1 in
+      let bad : true ≡ false = sym yet ∙ claims.then x in
+      cc
+  | inr other ↦ ap (λ t. t && nat_lt a.limit (x + k)) other.0
+]
+
+-- so a port that has yet to claim may claim
+pub may_claim : (a : About) (c : CoreState) (s : Step) (over : Bool) → IsSound c → c.sizes ≡ a.sizes → step_of c ≡ Some s → (before_claim c.stage ≡ true → over ≡ false) → MayClaim (plan_of a) over s
+may_claim a c (Load w) over sound sizes due spare = tt
+may_claim a c (Store w v) over sound sizes due spare = tt
+may_claim a c (Exchange w old new) over sound sizes due spare = tt
+may_claim a c (Add w k) over sound sizes due spare = λ is. spare (pool_claims c a.sizes sound sizes w k due is).now
+
+-- an update that has claimed its record makes no other claim
+no_over : (a : About) (c : CoreState) (s : Step) (x : ℕ) (t : Stage) (at : ℕ) → claim_of t ≡ Some at → step_at c t ≡ Some s → over_by (plan_of a) s x ≡ false
+no_over a c s x Idle at is due = cc
+no_over a c s x (ReadBegun j) at is due = cc
+no_over a c s x (LoadingValue stamp) at is due = cc
+no_over a c s x (UpdateBegun d) at is due = cc
+no_over a c s x (GettingSet d old) at is due = cc
+no_over a c s x (Viewing d old) at is due = cc
+no_over a c s x (ClaimingRecord d old) at is due = cc
+no_over a c s x (StoringRecord d old at' k) at is due = subst (λ (t : Step). over_by (plan_of a) t x ≡ false) (some_same due) refl
+no_over a c s x (Exchanging d old at') at is due = subst (λ (t : Step). over_by (plan_of a) t x ≡ false) (some_same due) refl
+no_over a c s x ScanBegun at is due = cc
+no_over a c s x (StoringAnnouncement at' k) at is due = cc
+no_over a c s x Joining at is due = cc
+no_over a c s x Scanning at is due = cc
+no_over a c s x Leaving at is due = cc
+no_over a c s x (Finished r) at is due = cc
+
+-- a step behind the claim is no claim
+over_stays : (a : About) (c : CoreState) (s : Step) (x : ℕ) → IsSound c → c.sizes ≡ a.sizes → step_of c ≡ Some s → before_claim c.stage ≡ false → over_by (plan_of a) s x ≡ false
+over_stays a c (Load w) x sound sizes due behind = refl
+over_stays a c (Store w v) x sound sizes due behind = refl
+over_stays a c (Exchange w old new) x sound sizes due behind = refl
+over_stays a c (Add w k) x sound sizes due behind = elim (eqb_tells w (pool_counter a.sizes)) [
+  | inl same ↦ let claims = pool_claims c a.sizes sound sizes w k due same.1 in let bad : true ≡ false = sym claims.now ∙ behind in cc
+  | inr other ↦ ap (λ t. t && nat_lt a.limit (x + k)) other.0
+]
+
+-- what stays unclaimed was unclaimed
+behind_stays : (c : CoreState) (x : ℕ) → before_claim c.stage ≡ false → before_claim (advance c x).stage ≡ false
+behind_stays c x behind = by (before_claim (advance c x).stage) refl
+  where
+    by : (b : Bool) → before_claim (advance c x).stage ≡ b → before_claim (advance c x).stage ≡ false
+    by true is = let bad : true ≡ false = sym (unclaimed_before c x is) ∙ behind in cc
+    by false is = is
+
+-- a machine that isn't refused comes to no marks
+stays_unmarked : (c : CoreState) (x : ℕ) → IsBehind c x → ((cause : Refused) → reply_of (advance c x) ≢ Some (reply.Refused cause)) → (c.pool_spent ≡ false) × (c.slots_spent ≡ false) →
+    ((advance c x).pool_spent ≡ false) × ((advance c x).slots_spent ≡ false)
+stays_unmarked c x b none was = (
+  b.pool ∙ ap (λ t. refuses_pool (reply_of (advance c x)) || t) was.0 ∙ ap (λ t. t || false) (no_pool (reply_of (advance c x)) none),
+  b.slots ∙ ap (λ t. refuses_slots (reply_of (advance c x)) || t) was.1 ∙ ap (λ t. t || false) (no_slots (reply_of (advance c x)) none),
+)
+  where
+    no_pool : (r : Option Reply) → ((cause : Refused) → r ≢ Some (reply.Refused cause)) → refuses_pool r ≡ false
+    no_pool None none = refl
+    no_pool (Some (reply.Refused cause)) none = absurd (none cause refl)
+    no_pool (Some (reply.Applied s)) none = refl
+    no_pool (Some (reply.Lost s)) none = refl
+    no_pool (Some (reply.Changed s)) none = refl
+    no_pool (Some (reply.Read v s)) none = refl
+    no_pool (Some (reply.Scanned n b)) none = refl
+
+    no_slots : (r : Option Reply) → ((cause : Refused) → r ≢ Some (reply.Refused cause)) → refuses_slots r ≡ false
+    no_slots None none = refl
+    no_slots (Some (reply.Refused cause)) none = absurd (none cause refl)
+    no_slots (Some (reply.Applied s)) none = refl
+    no_slots (Some (reply.Lost s)) none = refl
+    no_slots (Some (reply.Changed s)) none = refl
+    no_slots (Some (reply.Read v s)) none = refl
+    no_slots (Some (reply.Scanned n b)) none = refl
+
+-- a claim of a record ends past the limit only where a greatest record would
+claim_step : (a : About) (c : CoreState) (s : Step) (x : ℕ) (over : Bool) → IsSound c → c.sizes ≡ a.sizes → step_of c ≡ Some s → (before_claim c.stage ≡ true → over ≡ false) →
+    ((at : ℕ) → claim_of c.stage ≡ Some at → (over ≡ false) ⊎ (a.limit < at + greatest_record a.sizes)) → (at : ℕ) → claim_of (advance c x).stage ≡ Some at →
+    ((over || over_by (plan_of a) s x) ≡ false) ⊎ (a.limit < at + greatest_record a.sizes)
+claim_step a c s x over sound sizes due spare was at is = elim (claimed_from c x at is) [
+  | inl new ↦
+      let stage = new.2 in
+      let step : Add (pool_counter c.sizes) (record_size c) ≡ s = some_same (sym (ap (step_at c) stage) ∙ due) in
+      let few : record_size c ≤ 4 + 2 * c.sizes.m = (size_few c sound.indices.few).1 in
+      let m = ap (λ (z : Layout). z.m) sizes in
+      let counter = ap (λ (z : Layout). pool_counter z) sizes in
+      let none = spare (ap before_claim stage) in
+      let same = new.3 in
+      subst (λ (t : Step). ((over || over_by (plan_of a) t x) ≡ false) ⊎ (a.limit < at + greatest_record a.sizes)) step
+      (elim (cases_lt a.limit (x + record_size c)) [
+        | inl past ↦ inr (omega (arith, past, few, m, same))
+        | inr room ↦ inl (ap (λ t. t || ((pool_counter c.sizes == pool_counter a.sizes) && nat_lt a.limit (x + record_size c))) none
+            ∙ ap (λ t. (pool_counter c.sizes == pool_counter a.sizes) && t) (not_below a.limit (x + record_size c) room) ∙ and_false (pool_counter c.sizes == pool_counter a.sizes))
+      ])
+  | inr before ↦
+      elim (was at before) [
+        | inl none ↦ inl (ap (λ t. t || over_by (plan_of a) s x) none ∙ no_over a c s x c.stage at before due)
+        | inr past ↦ inr past
+      ]
+]
+  where
+    and_false : (b : Bool) → (b && false) ≡ false
+    and_false true = refl
+    and_false false = refl
+
+-- the first step of a call is allowed
+pub first_may : (b : CoreState) (x : Seated) → MayBegin b x → (s : Step) → step_of b ≡ Some s → MayMake x b s
+first_may b x begins s due = record {
+  stands = begins.stands;
+  machine = inl begins.begun;
+  due = due;
+  claim = may_claim x.about b s x.port.over begins.sound begins.sizes due (λ _. begins.spare);
+  shown = inl begins.begun.begun;
+  expects = begins.expects;
+}
+
+-- the first step of a call
+module _ (b : CoreState) (x : Seated) (begins : MayBegin b x) (first : Bool) (s : Step) (due : step_of b ≡ Some s) (a : ℕ) (y : Seated) (goes : Goes x y) (m : Makes first b s x a y) where
+  part_is : y.port.part ≡ moved b a (m.log ++ m.entries) m.told.new x.port.part
+  part_is = m.told.part
+
+  begun_is : is_begun b.stage ≡ true
+  begun_is = begins.begun.begun
+
+  first_call : Made x.about.sizes (opening_of x) b x.port.part (advance b a) y.port.part
+  first_call = first_steps_make_calls x.about.sizes (opening_of x) m.log m.entries b x.port.part a y.port.part begins.begun begins.sound m.told
+
+  pub first_made : CallMade b x (advance b a) y
+  first_made = record {
+    goes = goes;
+    control = ap (λ (z : Seated). z.port.control) m.is;
+    before = ap (λ (z : Seated). z.port.before) m.is;
+    passed = ap (λ (z : Seated). z.port.passed) m.is;
+    made = first_call;
+    spare = λ yet. ap (λ (z : Seated). z.port.over) m.is ∙ ap (λ t. t || over_by (plan_of x.about) s a) begins.spare ∙ spare_step x.about b s a begins.sound begins.sizes due yet;
+    claimed = λ at is. subst (λ o. (o ≡ false) ⊎ (x.about.limit < at + greatest_record x.about.sizes)) (sym (ap (λ (z : Seated). z.port.over) m.is))
+        (claim_step x.about b s a x.port.over begins.sound begins.sizes due (λ _. begins.spare) (λ i is. inl begins.spare) at is);
+    unmarked = stays_unmarked b a m.told.behind m.unrefused begins.unmarked;
+    unrefused = m.unrefused;
+    notes = ap (λ (z : Seated). z.notes) m.is ∙ ap (λ (l : List Noted). x.notes ++ map (public_noted (plan_of x.about) x.port.before) l)
+        (append_cancel_left x.port.part.notes m.told.new first_call.new (sym (ap (λ (p : Part). p.notes) part_is) ∙ first_call.notes));
+    shown =
+        let shown = m.shown in
+        let since = ap (λ (p : Part). p.since) part_is in
+        let before = ap (λ (z : Seated). length (history_of z.port.before)) m.is in
+        omega (arith, shown, since, before);
+    time = λ young.
+        let n = ap (λ (z : Seated). z.began) m.is in
+        let early = m.time (let e = ap (λ (g : Began). g.epoch) n in let h = ap (λ (z : Seated). z.port.control.here.epoch) m.is in omega (arith, young, e, h)) in
+        let len = ap (λ (g : Began). g.length) n in
+        let before = ap (λ (z : Seated). length (history_of z.port.before)) m.is in
+        let kept : y.port.part.kept ≡ record { answer = a; at = length (m.log ++ m.entries) } ∷ [] = ap (λ (p : Part). p.kept) part_is ∙ ap (λ t. cond t [] x.port.part.kept ++ record { answer = a; at = length (m.log ++ m.entries) } ∷ []) begun_is in
+        let at = ap first_at kept in
+        omega (arith, early, len, before, at);
+  }
+
+-- a further step
+module _ (b : CoreState) (x : Seated) (begins : MayBegin b x) (c : CoreState) (y : Seated) (had : CallMade b x c y) (s : Step) (due : step_of c ≡ Some s) where
+  going : is_begun c.stage ≡ false
+  going = had.made.machine.going
+
+  -- nothing is noted yet
+  none_yet : had.made.new ≡ []
+  none_yet = subst (λ r. AreNotesOf y.port.part r had.made.new) (due_is_unreplied c s due) had.made.noted
+
+  pub notes_same : y.notes ≡ x.notes
+  notes_same = had.notes ∙ ap (λ (l : List Noted). x.notes ++ map (public_noted (plan_of x.about) x.port.before) l) none_yet ∙ append-nil x.notes
+
+  about_same : y.about ≡ x.about
+  about_same = had.goes.about
+
+  sizes_same : c.sizes ≡ y.about.sizes
+  sizes_same = had.made.sizes ∙ sym (ap (λ (a : About). a.sizes) about_same)
+
+  opening_same : opening_of y ≡ opening_of x
+  opening_same = ap (λ (a : About). opening_behind a.opening y.port.before) about_same ∙ ap (opening_behind x.about.opening) had.before
+
+  pub next_within : word_of s < total x.about.sizes
+  next_within = subst (λ (z : Layout). word_of s < total z) had.made.sizes (due_words_are_there c s (subst IsLayout (begins.sizes ∙ sym had.made.sizes) begins.layout) had.made.sound due)
+
+  pub next_may : MayMake y c s
+  next_may = record {
+    stands = ap (λ (t : Control). t.entering) had.control ∙ begins.stands;
+    machine = inr had.made.machine;
+    due = due;
+    claim = may_claim y.about c s y.port.over had.made.sound sizes_same due had.spare;
+    shown = inr (let shown = had.shown in let same = ap (seen_by 0) notes_same in omega (arith, shown, same));
+    expects = λ j t v is.
+        let of_b : call_of (begun_with b x.port.part) ≡ Some (call.UpdateIf j t v) =
+        ap (λ f. call_of (cond f b x.port.part.begun)) begins.begun.begun ∙ ap call_of (sym had.made.begun) ∙ ap (λ f. call_of (cond f c y.port.part.begun)) (sym going) ∙ is in
+        let n = begins.expects j t v of_b in
+        let few = n.1 in
+        (n.0, seen_more n.0 few, n.2 ∙ ap (λ (o : Opening). stamp_of o (take n.0 x.port.part.seen) j) (sym opening_same) ∙ ap (λ (l : List Applied). stamp_of (opening_of y) l j) (taken n.0 few));
+  }
+    where
+      more : length x.port.part.seen ≤ length y.port.part.seen
+      more = no_longer x.port.part.seen y.port.part.seen had.made.seen
+
+      seen_more : (n : ℕ) → n ≤ length x.port.part.seen → n ≤ length y.port.part.seen
+      seen_more n few = let up = more in omega (arith, few, up)
+
+      taken : (n : ℕ) → n ≤ length x.port.part.seen → take n x.port.part.seen ≡ take n y.port.part.seen
+      taken n few = ap (take n) had.made.seen ∙ take_within n (length x.port.part.seen) y.port.part.seen few
+
+  module _ (a : ℕ) (z : Seated) (goes : Goes y z) (m : Makes false c s y a z) where
+    next_part : z.port.part ≡ moved c a (m.log ++ m.entries) m.told.new y.port.part
+    next_part = m.told.part
+
+    told_there : Tells x.about.sizes (opening_of x) m.log m.entries y.port.part c a z.port.part
+    told_there = subst (λ (o : Opening). Tells x.about.sizes o m.log m.entries y.port.part c a z.port.part) opening_same
+        (subst (λ (d : About). Tells d.sizes (opening_of y) m.log m.entries y.port.part c a z.port.part) about_same m.told)
+
+    next_call : Made x.about.sizes (opening_of x) b x.port.part (advance c a) z.port.part
+    next_call = further_steps_make_calls x.about.sizes (opening_of x) m.log m.entries b x.port.part c y.port.part a z.port.part had.made told_there
+
+    -- what is noted by the call is noted by this step
+    new_same : m.told.new ≡ next_call.new
+    new_same =
+        let was : y.port.part.notes ≡ x.port.part.notes = had.made.notes ∙ ap (λ (l : List Noted). x.port.part.notes ++ l) none_yet ∙ append-nil x.port.part.notes in
+        append_cancel_left x.port.part.notes m.told.new next_call.new (ap (λ (l : List Noted). l ++ m.told.new) (sym was) ∙ sym (ap (λ (p : Part). p.notes) next_part) ∙ next_call.notes)
+
+    pub next_made : CallMade b x (advance c a) z
+    next_made = record {
+      goes = goes_on x y z had.goes goes;
+      control = ap (λ (t : Seated). t.port.control) m.is ∙ had.control;
+      before = ap (λ (t : Seated). t.port.before) m.is ∙ had.before;
+      passed = ap (λ (t : Seated). t.port.passed) m.is ∙ had.passed;
+      made = next_call;
+      spare = λ yet. ap (λ (t : Seated). t.port.over) m.is ∙ ap (λ t. t || over_by (plan_of y.about) s a) (had.spare (unclaimed_before c a yet)) ∙ spare_step y.about c s a had.made.sound sizes_same due yet;
+      claimed = λ at is. subst (λ o. (o ≡ false) ⊎ (x.about.limit < at + greatest_record x.about.sizes)) (sym (ap (λ (t : Seated). t.port.over) m.is))
+          (subst (λ (d : About). ((y.port.over || over_by (plan_of d) s a) ≡ false) ⊎ (x.about.limit < at + greatest_record x.about.sizes)) (sym about_same)
+          (claim_step x.about c s a y.port.over had.made.sound had.made.sizes due had.spare had.claimed at is));
+      unmarked = stays_unmarked c a m.told.behind m.unrefused had.unmarked;
+      unrefused = m.unrefused;
+      notes = ap (λ (t : Seated). t.notes) m.is ∙ ap (λ (l : List Noted). l ++ map (public_noted (plan_of y.about) y.port.before) m.told.new) notes_same
+          ∙ ap (λ (d : About). x.notes ++ map (public_noted (plan_of d) y.port.before) m.told.new) about_same ∙ ap (λ (l : List (List Applied)). x.notes ++ map (public_noted (plan_of x.about) l) m.told.new) had.before
+          ∙ ap (λ (l : List Noted). x.notes ++ map (public_noted (plan_of x.about) x.port.before) l) new_same;
+      shown =
+          let shown = had.shown in
+          let since = ap (λ (p : Part). p.since) next_part ∙ ap (λ t. cond t (length y.port.part.seen) y.port.part.since) going in
+          let before = ap (λ (t : Seated). length (history_of t.port.before)) m.is in
+          omega (arith, shown, since, before);
+      time = λ young.
+          let same : z.began ≡ y.began = ap (λ (t : Seated). t.began) m.is ∙ m.began in
+          let here = ap (λ (t : Seated). t.port.control.here.epoch) m.is in
+          let e = ap (λ (g : Began). g.epoch) same in
+          let early = had.time (omega (arith, young, e, here)) in
+          let len = ap (λ (g : Began). g.length) same in
+          let before = ap (λ (t : Seated). length (history_of t.port.before)) m.is in
+          let last : Kept = record { answer = a; at = length (m.log ++ m.entries) } in
+          let kept : z.port.part.kept ≡ y.port.part.kept ++ last ∷ [] = ap (λ (p : Part). p.kept) next_part ∙ ap (λ t. cond t [] y.port.part.kept ++ last ∷ []) going in
+          let at = ap first_at kept ∙ first_stays y.port.part.kept last had.made.some in
+          omega (arith, early, len, before, at);
+    }
+
+    -- the call began when it did
+    pub next_began : z.began ≡ y.began
+    next_began = ap (λ (t : Seated). t.began) m.is ∙ m.began
+
+    -- behind its claim it makes no other
+    pub next_over : before_claim c.stage ≡ false → (before_claim (advance c a).stage ≡ false) × (z.port.over ≡ y.port.over)
+    next_over behind = (
+      behind_stays c a behind,
+      ap (λ (t : Seated). t.port.over) m.is ∙ ap (λ t. y.port.over || t) (over_stays y.about c s a had.made.sound sizes_same due behind) ∙ or_false y.port.over,
+    )
+      where
+        or_false : (b : Bool) → (b || false) ≡ b
+        or_false true = refl
+        or_false false = refl

@@ -1,0 +1,50 @@
+-- A call that is not refused leaves its machine without marks.
+use Rattle.std.proofs.Common.{ℕ, ◌≡◌, ◌≢◌, ◌||◌, false, Option, Some, None, List, [], ◌∷◌, refl, sym, ap, subst, ◌∙◌}
+use Rattle.partial_model.specs.declared.call.Refused.{Refused}
+use Rattle.partial_model.specs.declared.call.Refused.TheVariants as refused
+use Rattle.partial_words.specs.Layout.{IsLayout}
+use Rattle.partial_machine.specs.declared.stage.Reply.{Reply}
+use Rattle.partial_machine.specs.declared.stage.Reply.TheVariants as reply
+use Rattle.partial_machine.specs.declared.stage.Stage.{Stage}
+use Rattle.partial_machine.specs.declared.stage.Stage.TheVariants.{Finished}
+use Rattle.partial_machine.specs.Behind.{refuses_pool, refuses_slots}
+use Rattle.partial_machine.specs.Machine.{CoreState, advance, reply_at, reply_of}
+use Rattle.partial_machine.specs.Possible.{IsPossibleAt}
+use Rattle.partial_machine.specs.Sound.{IsSound}
+use Rattle.partial_machine.specs.Steps.{Run}
+use Rattle.partial_machine.proofs.Laws.{answers_lead_on}
+
+-- the reply is no refusal
+abbrev IsUnrefused : Option Reply → Type 0
+IsUnrefused r = (cause : Refused) → r ≢ Some (reply.Refused cause)
+
+-- so it is none for a region
+no_refusal : (r : Option Reply) → IsUnrefused r → (refuses_pool r ≡ false) × (refuses_slots r ≡ false)
+no_refusal None h = (refl, refl)
+no_refusal (Some (reply.Refused refused.Component)) h = (refl, refl)
+no_refusal (Some (reply.Refused refused.PoolSpent)) h = absurd (h refused.PoolSpent refl)
+no_refusal (Some (reply.Refused refused.SlotsSpent)) h = absurd (h refused.SlotsSpent refl)
+no_refusal (Some (reply.Applied s)) h = (refl, refl)
+no_refusal (Some (reply.Lost by)) h = (refl, refl)
+no_refusal (Some (reply.Read v s)) h = (refl, refl)
+no_refusal (Some (reply.Scanned n b)) h = (refl, refl)
+no_refusal (Some (reply.Changed by)) h = (refl, refl)
+
+-- a machine with a possible answer is not refused
+going_on : (s : CoreState) (t : Stage) (a : ℕ) → IsPossibleAt s t a → IsUnrefused (reply_at t)
+going_on s (Finished r) a p = absurd p
+going_on s _ a p = λ cause is. (let bad : None ≡ Some (reply.Refused cause) = is in cc)
+
+-- a run that ends with no refusal has met none
+met_none : (s t : CoreState) (xs : List ℕ) → Run s xs t → IsUnrefused (reply_of t) → IsUnrefused (reply_of s)
+met_none s t [] is h = subst (λ (c : CoreState). IsUnrefused (reply_of c)) is h
+met_none s t (x ∷ xs) run h = going_on s s.stage x run.0
+
+-- and leaves the marks as they were
+pub marks_stay : (s t : CoreState) (xs : List ℕ) → IsLayout s.sizes → IsSound s → Run s xs t → IsUnrefused (reply_of t) → (t.pool_spent ≡ s.pool_spent) × (t.slots_spent ≡ s.slots_spent)
+marks_stay s t [] layout sound is h = (ap (λ (c : CoreState). c.pool_spent) is, ap (λ (c : CoreState). c.slots_spent) is)
+marks_stay s t (x ∷ xs) layout sound run h =
+    let on = answers_lead_on s x layout sound run.0 in
+    let rest = marks_stay (advance s x) t xs (subst IsLayout (sym on.sizes) layout) on.sound run.1 h in
+    let none = no_refusal (reply_of (advance s x)) (met_none (advance s x) t xs run.1 h) in
+    (rest.0 ∙ on.pool ∙ ap (λ b. b || s.pool_spent) none.0, rest.1 ∙ on.slots ∙ ap (λ b. b || s.slots_spent) none.1)

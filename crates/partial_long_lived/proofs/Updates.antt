@@ -1,0 +1,110 @@
+-- An update of a port, as callers see it.
+use Rattle.std.proofs.Common.{ℕ, ◌≡◌, ◌<◌, Bool, true, false, [], sym, subst, ◌∙◌, arith, append-nil}
+use Rattle.atomic_table.specs.Seated.{TableId}
+use Rattle.partial_model.specs.declared.history.Applied.{Applied}
+use Rattle.partial_model.specs.declared.call.Call.TheVariants as call
+use Rattle.partial_model.specs.Notes.{IsLegal, LegalNotes, seen_by}
+use Rattle.partial_model.proofs.NotesLemmas.{AllByRecursion-get, LegalNotes-last}
+use Rattle.partial_machine.specs.declared.stage.Change.{Change}
+use Rattle.partial_machine.specs.Machine.{CoreState}
+use Rattle.partial_lines.specs.declared.exchange.Exchanged.{Exchanged}
+use Rattle.partial_lines.specs.declared.exchange.Exchanged.TheVariants.{Applied as IsApplied, Overtaken as IsOvertaken}
+use Rattle.partial_long_lived.specs.declared.rule.About.{About}
+use Rattle.partial_long_lived.specs.declared.error.Refused.{Refused}
+use Rattle.partial_long_lived.specs.declared.error.Refused.TheVariants.{Component, Overtaken, NoArena, EpochsSpent}
+use Rattle.partial_long_lived.specs.declared.stand.Stand.{Stand}
+use Rattle.partial_long_lived.specs.declared.seating.Seating.{Seating}
+use Rattle.partial_long_lived.specs.Rule.{one_in}
+use Rattle.partial_long_lived.specs.Ports.{IsOf, MemoryView, PortView, port_view, seen_in}
+use Rattle.partial_long_lived.specs.Calls as calls
+use Rattle.partial_long_lived.specs.Seating.{IsStandOf, IsSeatingOf}
+use Rattle.partial_long_lived.specs.Inner.Held.{IsHeld, port_at}
+use Rattle.partial_long_lived.specs.Inner.Calls.{IsIdle}
+use Rattle.partial_long_lived.specs.Inner.Rests.{RestsAt}
+use Rattle.partial_long_lived.specs.Inner.Updates.{CameBy, IsLate, IsOwn, MayCall, Updated, noted_update, public_update, stamp_from}
+use Rattle.partial_long_lived.proofs.Answering.{callers_see, goes_seen, rests_unmarked}
+
+-- a port in a call rests where the call ends
+pub rests_may : (table : TableId) (about : About) (s : Stand) (core : CoreState) (spent : Bool) → IsHeld table about s → RestsAt s core spent → spent ≡ false → MayCall (port_at s) core
+rests_may table about s core spent h w spare = let both = rests_unmarked table about s core spent h w spare in record { rests = both.0; over = both.1 }
+
+pub rests_own : (table : TableId) (about : About) (s : Stand) (core : CoreState) (spent : Bool) → IsHeld table about s → RestsAt s core spent → IsOwn (port_at s) core
+rests_own table about s core spent h w = record { idle = w.idle; sound = w.sound; sizes = w.sizes; port = w.port ∙ h.number }
+
+pub own_rests : (table : TableId) (about : About) (s : Stand) (core : CoreState) (spent : Bool) → IsHeld table about s → IsIdle s → IsOwn (port_at s) core → (spent ≡ false → MayCall (port_at s) core) →
+    RestsAt s core spent
+own_rests table about s core spent h free own may = record {
+  free = free;
+  idle = own.idle;
+  sound = own.sound;
+  sizes = own.sizes;
+  port = own.port ∙ sym h.number;
+  between = λ no. let m = may no in (m.rests.between, m.over, m.rests.pool, m.rests.slots);
+}
+
+-- the public stamp of the entry that an update names fits a word
+module _ (s t : Stand) (c : Change) (r : Exchanged) (w : Updated true c r s t) where
+  legal_update : IsLegal (port_at t).about.opening (seen_in (port_at t).port) (port_at t).number (seen_by 0 (port_at s).notes) (noted_update t.epoch c r w.place)
+  legal_update = LegalNotes-last (port_at t).about.opening (seen_in (port_at t).port) (port_at t).number 0 (port_at s).notes (noted_update t.epoch c r w.place)
+      (subst (LegalNotes (port_at t).about.opening (seen_in (port_at t).port) (port_at t).number 0) w.notes w.goes.known.knows.legal)
+
+  fits_by : (r : Exchanged) → IsLegal (port_at t).about.opening (seen_in (port_at t).port) (port_at t).number (seen_by 0 (port_at s).notes) (noted_update t.epoch c r w.place) → stamp_from t.epoch r < 18446744073709551616
+  fits_by (IsApplied stamp) is = AllByRecursion-get (λ (a : Applied). a.stamp < 18446744073709551616) (seen_in (port_at t).port) w.place _ w.goes.known.fits.each is.1.0
+  fits_by (IsOvertaken by) is =
+      let entry = is.1.0 in
+      subst (λ n. n < 18446744073709551616) entry.3 (AllByRecursion-get (λ (a : Applied). a.stamp < 18446744073709551616) (seen_in (port_at t).port) w.place entry.0 w.goes.known.fits.each entry.1)
+
+  pub update_fits : stamp_from t.epoch r < 18446744073709551616
+  update_fits = fits_by r legal_update
+
+-- an update that ended, as callers see it
+has_updated_seen : (table : TableId) (s t : Stand) (c : Change) (r : Exchanged) → Updated true c r s t → c.component < (port_at s).about.sizes.m →
+    calls.Updates (port_view table (port_at s)) c.component c.value (public_update t.epoch r) (port_view table (port_at t))
+has_updated_seen table s t c (IsApplied stamp) w inside =
+    let first = w.began in
+    let behind = w.behind in
+    let within = w.within in (
+      w.place,
+      record {
+        inside = (inside, tt);
+        goes = goes_seen table (port_at s) (port_at t) _ w.goes w.notes;
+        behind = omega (arith, first, behind);
+        within = omega (arith, within);
+      },
+      within,
+    )
+has_updated_seen table s t c (IsOvertaken by) w inside =
+    let first = w.began in
+    let behind = w.behind in
+    let within = w.within in (
+      w.place,
+      record {
+        inside = (inside, tt);
+        goes = goes_seen table (port_at s) (port_at t) _ w.goes w.notes;
+        behind = omega (arith, first, behind);
+        within = omega (arith, within);
+      },
+    )
+
+-- an update that was refused, as callers see it
+not_updated_seen : (table : TableId) (s t : Stand) (j v : ℕ) (cause : Refused) → IsLate cause → CameBy true s t → j < (port_at s).about.sizes.m →
+    calls.IsRefused (port_view table (port_at s)) (call.Update j v) cause (port_view table (port_at t))
+not_updated_seen table s t j v Component late w inside = absurd late
+not_updated_seen table s t j v Overtaken late w inside = ((inside, tt), goes_seen table (port_at s) (port_at t) [] w.goes (w.notes ∙ sym (append-nil (port_at s).notes)))
+not_updated_seen table s t j v NoArena late w inside = ((inside, tt), goes_seen table (port_at s) (port_at t) [] w.goes (w.notes ∙ sym (append-nil (port_at s).notes)))
+not_updated_seen table s t j v EpochsSpent late w inside = ((inside, tt), goes_seen table (port_at s) (port_at t) [] w.goes (w.notes ∙ sym (append-nil (port_at s).notes)))
+
+-- the same, from the seat that was taken out to the one that was put back
+module _ (m : MemoryView) (s : Seating) (t u : Stand) (s' : Seating) (p : PortView) (k : IsStandOf s t) (view : port_view s.badge.table_id (one_in s.badge.views) ≡ p) (own : IsOf m p)
+    (held : IsHeld m.table m.about u) (k' : IsSeatingOf u s') where
+  pub update_answered : (c : Change) (r : Exchanged) → Updated true c r t u → c.component < m.about.sizes.m →
+      calls.Updates p c.component c.value (public_update u.epoch r) (port_view s'.badge.table_id (one_in s'.badge.views))
+  update_answered c r w inside =
+      callers_see m s t u s' p k view own held k' (λ (a b : PortView). calls.Updates a c.component c.value (public_update u.epoch r) b)
+      (has_updated_seen m.table t u c r w (subst (λ (a : About). c.component < a.sizes.m) (sym (sym w.goes.about ∙ held.own)) inside))
+
+  pub update_refused : (j v : ℕ) (cause : Refused) → IsLate cause → CameBy true t u → j < m.about.sizes.m →
+      calls.IsRefused p (call.Update j v) cause (port_view s'.badge.table_id (one_in s'.badge.views))
+  update_refused j v cause late w inside =
+      callers_see m s t u s' p k view own held k' (λ (a b : PortView). calls.IsRefused a (call.Update j v) cause b)
+      (not_updated_seen m.table t u j v cause late w (subst (λ (a : About). j < a.sizes.m) (sym (sym w.goes.about ∙ held.own)) inside))

@@ -1,0 +1,133 @@
+-- What the owner of an arena has behind its steps.
+use Rattle.std.proofs.Common.{ℕ, ◌≡◌, ◌≢◌, ◌+◌, ◌-◌, ◌%◌, ◌<◌, ◌≤◌, Bool, true, cond, Option, Some, None, IfSome, refl, sym, ap, subst, ◌∙◌, inl, inr, arith}
+use Rattle.std.specs.Prelude.{nat_lt}
+use Rattle.std.proofs.lemmas.Bool.{lt-ltb}
+use Rattle.partial_words.specs.Layout.{Layout, first_free, pool_base}
+use Rattle.partial_epochs.specs.Layout.{Place, arena_limit, entering_mark, marked}
+use Rattle.partial_epochs.specs.Ports.{Owned}
+use Rattle.partial_epochs.specs.Ports.Entering.{Stands}
+use Rattle.partial_epochs.specs.Owning.{cleaner, having_loaded, owning}
+use Rattle.partial_epochs.specs.Publishing.{resting}
+use Rattle.partial_epochs.proofs.Places.{not_below}
+use Rattle.partial_long_lived.specs.declared.rule.About.{About}
+use Rattle.partial_long_lived.specs.declared.stand.Stand.{Stand}
+use Rattle.partial_long_lived.specs.Rule.{Seated}
+use Rattle.partial_long_lived.specs.Inner.Held.{port_at}
+use Rattle.partial_long_lived.specs.Inner.Moves.{LoadsPort, Publishes, PutsPort, Sets, becomes, elsewhere, port_loaded, port_put, unpacked}
+use Rattle.partial_long_lived.specs.Inner.Changing.{HasLoadedPort, IsRight, MayPutPort, OfOwned, Owns, PutsBy, SetsLists, SetsNext, Works}
+use Rattle.partial_long_lived.proofs.Sets.{alike, unlike}
+
+-- a step by the arena that the port owns
+own_told : (R : Owned → Seated → ℕ → Seated → Type 0) (x : Seated) (a : ℕ) (y : Seated) (o : Owned) → x.port.control.owned ≡ Some o → OfOwned R x a y → R o x a y
+own_told R x a y o is told = subst (λ (t : Option Owned). IfSome t (λ o. R o x a y)) is told
+
+-- the words that are set are those of an opening, and carried stamps
+pub right_low : (about : About) (x : Seated) (v i : ℕ) → x.about ≡ about → IsRight x v i → i < first_free about.sizes + about.sizes.m
+right_low about x v i own right = subst (λ (a : About). i < first_free a.sizes + a.sizes.m) own (by x.about.sizes right)
+  where
+    by : (z : Layout) → IsRight x v i → i < first_free x.about.sizes + x.about.sizes.m
+    by z (inl r) = let low = r.within in omega (arith, low)
+    by z (inr (inl r)) = let low = r.inside in let at = r.at in omega (arith, low, at)
+    by z (inr (inr r)) = let low = r.inside in let at = r.at in omega (arith, low, at)
+
+-- the port with another state of its arena
+module _ (s t : Stand) (o : Owned) (is : port_at t ≡ becomes (port_at s) (port_at s).began (owning (port_at s).port o)) (stands : (port_at s).port.control.entering ≡ Stands) where
+  stands_then : (port_at t).port.control.entering ≡ Stands
+  stands_then = ap (λ (z : Seated). z.port.control.entering) is ∙ stands
+
+  owned_then : (port_at t).port.control.owned ≡ Some o
+  owned_then = ap (λ (z : Seated). z.port.control.owned) is
+
+  works_then : (y q i : ℕ) → o.arena ≡ y → o.looked ≡ true → o.clean ≡ q → o.mark ≡ None → o.set ≡ i → Works t y q i
+  works_then y q i arena looked clean mark set = record { stands = stands_then; owned = o; is = owned_then; arena = arena; looked = looked; clean = clean; mark = mark; set = set }
+
+module _ (s t : Stand) (y q i a : ℕ) (w : Works s y q i) where
+  abbrev o : Owned
+  o = w.owned
+
+  pub set_works : SetsNext (port_at s) a (port_at t) → Works t y q (i + 1)
+  set_works told =
+      let r : Sets o (o.set + 1) (port_at s) a (port_at t) = own_told (λ o. Sets o (o.set + 1)) (port_at s) a (port_at t) o w.is told in
+      works_then s t (record o { set = o.set + 1 }) r w.stands y q (i + 1) w.arena w.looked w.clean w.mark (ap (λ n. n + 1) w.set)
+
+  pub set_lists_works : (z : Layout) → (port_at s).about.sizes ≡ z → SetsLists (port_at s) a (port_at t) → Works t y q (pool_base z)
+  set_lists_works z same told =
+      let r : Sets o (pool_base (port_at s).about.sizes) (port_at s) a (port_at t) = own_told (λ o. Sets o (pool_base (port_at s).about.sizes)) (port_at s) a (port_at t) o w.is told in
+      works_then s t (record o { set = pool_base (port_at s).about.sizes }) r w.stands y q (pool_base z) w.arena w.looked w.clean w.mark (ap pool_base same)
+
+  pub publish_owns : OfOwned Publishes (port_at s) a (port_at t) → Owns t y
+  publish_owns told =
+      let r : Publishes o (port_at s) a (port_at t) = own_told Publishes (port_at s) a (port_at t) o w.is told in
+      record { stands = ap (λ (z : Seated). z.port.control.entering) r ∙ w.stands; owned = resting o; is = ap (λ (z : Seated). z.port.control.owned) r; arena = w.arena }
+
+-- the load of the word of the next port
+module _ (s t : Stand) (y q a : ℕ) (w : Works s y q 0) (told : OfOwned LoadsPort (port_at s) a (port_at t)) where
+  abbrev own : Owned
+  own = w.owned
+
+  abbrev holding : Owned
+  holding = having_loaded own (unpacked (a - entering_mark))
+
+  told_is : port_at t ≡ becomes (port_at s) (port_at s).began (owning (port_at s).port (port_loaded a own))
+  told_is = own_told LoadsPort (port_at s) a (port_at t) own w.is told
+
+  loaded_as : (o' : Owned) → port_loaded a own ≡ o' → port_at t ≡ becomes (port_at s) (port_at s).began (owning (port_at s).port o')
+  loaded_as o' same = told_is ∙ ap (λ (o : Owned). becomes (port_at s) (port_at s).began (owning (port_at s).port o)) same
+
+  unmarked : a < entering_mark → port_loaded a own ≡ elsewhere a own
+  unmarked low = ap (λ (c : Bool). cond c (elsewhere a own) holding) (lt-ltb a entering_mark low)
+
+  is_away : a < entering_mark → a % arena_limit ≢ y → port_loaded a own ≡ cleaner own
+  is_away low ne = unmarked low ∙ ap (λ (c : Bool). cond c own (cleaner own)) (unlike (unpacked a).arena own.arena (λ same. ne (same ∙ w.arena)))
+
+  is_there : a < entering_mark → a % arena_limit ≡ y → port_loaded a own ≡ own
+  is_there low same = unmarked low ∙ ap (λ (c : Bool). cond c own (cleaner own)) (alike (unpacked a).arena own.arena (same ∙ sym w.arena))
+
+  is_marked : entering_mark ≤ a → port_loaded a own ≡ holding
+  is_marked from = ap (λ (c : Bool). cond c (elsewhere a own) holding) (not_below a entering_mark from)
+
+  pub port_load : HasLoadedPort t y q a
+  port_load = record {
+    away = λ low ne. works_then s t (cleaner own) (loaded_as (cleaner own) (is_away low ne)) w.stands y (q + 1) 0 w.arena w.looked (ap (λ n. n + 1) w.clean) refl w.set;
+    there = λ low same. works_then s t own (loaded_as own (is_there low same)) w.stands y q 0 w.arena w.looked w.clean w.mark w.set;
+    marked = λ from.
+        let now = loaded_as holding (is_marked from) in
+        record {
+          stands = stands_then s t holding now w.stands;
+          owned = holding;
+          is = owned_then s t holding now w.stands;
+          arena = w.arena;
+          looked = w.looked;
+          clean = w.clean;
+          mark = refl;
+          set = w.set;
+        };
+  }
+
+-- the exchange of its mark m
+module _ (s t : Stand) (y q m a : ℕ) (w : MayPutPort s y q m) (from : entering_mark ≤ m) (told : PutsBy m (port_at s) a (port_at t)) where
+  abbrev put : Owned
+  put = w.holds.owned
+
+  abbrev mark : Place
+  mark = unpacked (m - entering_mark)
+
+  put_is : port_at t ≡ becomes (port_at s) (port_at s).began (owning (port_at s).port (port_put mark a put))
+  put_is = own_told (λ o. PutsPort o mark) (port_at s) a (port_at t) put w.holds.is told
+
+  named : marked mark ≡ m
+  named = omega (arith, from)
+
+  put_as : port_put mark a put ≡ cleaner put → Works t y (q + 1) 0
+  put_as same = works_then s t (cleaner put) (put_is ∙ ap (λ (o : Owned). becomes (port_at s) (port_at s).began (owning (port_at s).port o)) same) w.holds.stands
+      y (q + 1) 0 w.holds.arena w.holds.looked (ap (λ n. n + 1) w.holds.clean) refl w.holds.set
+
+  abbrev others : Bool → Owned
+  others c = cond c (elsewhere a put) put
+
+  pub put_won : a ≡ m → Works t y (q + 1) 0
+  put_won same = put_as (ap (λ (c : Bool). cond c (cleaner put) (others (nat_lt a entering_mark))) (alike a (marked mark) (same ∙ sym named)))
+
+  pub put_away : a < entering_mark → a % arena_limit ≢ y → Works t y (q + 1) 0
+  put_away low ne = put_as (ap (λ (c : Bool). cond c (cleaner put) (others (nat_lt a entering_mark))) (unlike a (marked mark) (λ same. absurd (omega (arith, same, low))))
+      ∙ ap others (lt-ltb a entering_mark low) ∙ ap (λ (c : Bool). cond c put (cleaner put)) (unlike (unpacked a).arena put.arena (λ same. ne (same ∙ w.holds.arena))))

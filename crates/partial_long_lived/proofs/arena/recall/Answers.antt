@@ -1,0 +1,8 @@
+use Rattle.std.proofs.Common.{sym, subst, ◌<◌}
+use Rattle.partial_long_lived.proofs.Sights.{may_recall}
+use Rattle.partial_long_lived.proofs.arena.recall.Goals as goal
+
+pub load-requires : goal.load-requires
+load-requires c =
+    let h = c.requires.held in
+    (h.fits, subst (λ n. c.args.word < n) (sym h.words) c.requires.within, may_recall _ _ _ _ h.one h.own h.known c.requires.stands c.args.word)

@@ -1,0 +1,8 @@
+use Rattle.std.proofs.Common.{◌≡◌, ◌&&◌, drop}
+use Rattle.std.specs.Prelude.{nat_lt}
+use Rattle.std.specs.List.{list_all}
+use Rattle.partial_long_lived.proofs.calls.all_below.Given as goal
+
+-- what was looked at with what is left is all
+abbrev pub invariant-loop-index : goal.invariant-loop-index
+invariant-loop-index l = (l.all && list_all (λ i. nat_lt i l.components) (drop l.index-index l.indices)) ≡ list_all (λ i. nat_lt i l.components) l.indices

@@ -1,0 +1,8 @@
+use Rattle.partial_long_lived.proofs.Asked.{give_asked, own_there}
+use Rattle.partial_long_lived.proofs.claim.give.Goals as goal
+
+pub store-requires : goal.store-requires
+store-requires c =
+    let h = c.requires.held in
+    let word = c.own_word-word.ensures in
+    (h.fits, own_there _ _ _ h _ _ c.requires.inside word, give_asked _ _ _ h c.args.arena c.requires.owns _ _ _ word)

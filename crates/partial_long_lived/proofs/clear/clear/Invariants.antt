@@ -1,0 +1,10 @@
+use Rattle.partial_long_lived.specs.Inner.Held.{IsHeld}
+use Rattle.partial_long_lived.specs.Inner.Changing.{Remains, Works}
+use Rattle.partial_long_lived.proofs.clear.clear.Given as goal
+
+abbrev pub invariant-loop-port : goal.invariant-loop-port
+invariant-loop-port l = record {
+  held : IsHeld l.words.table_id l.words.key l.stand;
+  remains : Remains l.fn.stand l.stand;
+  works : Works l.stand l.arena l.port 0;
+}

@@ -1,0 +1,22 @@
+use Rattle.std.proofs.Common.{refl, sym, ◌∙◌}
+use Rattle.partial_long_lived.proofs.Asked.{port_there, put_asked}
+use Rattle.partial_long_lived.proofs.Working.{put_away, put_won}
+use Rattle.partial_long_lived.proofs.clear.put_port.Goals as goal
+
+pub compare_exchange-found-requires : goal.compare_exchange-found-requires
+compare_exchange-found-requires c =
+    let h = c.requires.held in
+    (h.fits, port_there _ _ _ h c.args.port c.requires.inside, put_asked _ _ _ h c.args.arena c.args.port c.args.mark c.requires.may c.requires.marked c.requires.inside _ _ _ c.packed-here.ensures)
+
+pub returns-then-found-mark-clause-cleared : goal.returns-then-found-mark-clause-cleared
+returns-then-found-mark-clause-cleared c =
+    let found = c.compare_exchange-found in
+    (refl, put_won c.args.stand.now _ c.args.arena c.args.port c.args.mark found.result c.requires.may c.requires.marked found.ensures.2.2 c.if-found-mark.true)
+
+pub returns-then-found-from-clause-cleared : goal.returns-then-found-from-clause-cleared
+returns-then-found-from-clause-cleared c =
+    let found = c.compare_exchange-found in (
+      refl,
+      put_away c.args.stand.now _ c.args.arena c.args.port c.args.mark found.result c.requires.may c.requires.marked found.ensures.2.2
+          c.if-found-lt-MARK.true (λ same. c.if-found-from.true (same ∙ sym c.from.ensures)),
+    )

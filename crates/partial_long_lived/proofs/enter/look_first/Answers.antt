@@ -1,0 +1,9 @@
+use Rattle.std.proofs.Common.{true}
+use Rattle.partial_long_lived.proofs.Control.{may_look}
+use Rattle.partial_long_lived.proofs.Standing.{some_word, own_look}
+use Rattle.partial_long_lived.proofs.enter.look_first.Goals as goal
+
+pub load-found-requires : goal.load-found-requires
+load-found-requires c =
+    let h = c.requires.held in
+    (h.fits, some_word _ _ _ h, may_look _ _ _ _ h.one h.own h.known true (own_look _ _ h.own c.requires.may))

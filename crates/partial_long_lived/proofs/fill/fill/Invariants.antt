@@ -1,0 +1,21 @@
+use Rattle.std.proofs.Common.{◌+◌, ◌*◌, ◌≤◌}
+use Rattle.partial_words.specs.Layout.{first_free, pool_base}
+use Rattle.partial_long_lived.specs.Inner.Held.{IsHeld, port_at}
+use Rattle.partial_long_lived.specs.Inner.Changing.{Stays, Works}
+use Rattle.partial_long_lived.proofs.fill.fill.Given as goal
+
+abbrev pub invariant-loop-component : goal.invariant-loop-component
+invariant-loop-component l = record {
+  held : IsHeld l.words.table_id l.words.key l.stand;
+  stays : Stays l.fn.stand l.stand;
+  sealed : l.words.key.sizes.m ≤ (port_at l.stand).port.passed;
+  works : Works l.stand l.arena l.words.key.ports (pool_base l.words.key.sizes + 3 * l.component);
+}
+
+abbrev pub invariant-loop-component-2 : goal.invariant-loop-component-2
+invariant-loop-component-2 l = record {
+  held : IsHeld l.words.table_id l.words.key l.stand;
+  stays : Stays l.fn.stand l.stand;
+  sealed : l.words.key.sizes.m ≤ (port_at l.stand).port.passed;
+  works : Works l.stand l.arena l.words.key.ports (first_free l.words.key.sizes + l.component);
+}

@@ -1,0 +1,21 @@
+use Rattle.std.proofs.Common.{◌<◌, ◌+◌, ap, arith}
+use Rattle.partial_words.specs.Layout.{first_free}
+use Rattle.partial_long_lived.specs.declared.rule.About.{About}
+use Rattle.partial_long_lived.proofs.Asked.{set_lists_asked, set_there}
+use Rattle.partial_long_lived.proofs.Working.{set_lists_works}
+use Rattle.partial_long_lived.proofs.fill.set_lists.Goals as goal
+
+pub store-requires : goal.store-requires
+store-requires c =
+    let h = c.requires.held in
+    let word = c.set_word-at.ensures in
+    let last = c.requires.last in
+    let low : c.args.word < first_free c.args.words.now.key.sizes + c.args.words.now.key.sizes.m = omega (arith, last) in (
+      h.fits,
+      set_there _ _ _ h c.args.arena c.args.word _ c.requires.inside low word,
+      set_lists_asked _ _ _ h c.args.arena c.args.word c.requires.works c.requires.sealed last c.requires.zero _ _ _ word,
+    )
+
+pub returns-clause-works : goal.returns-clause-works
+returns-clause-works c =
+    set_lists_works c.args.stand.now _ c.args.arena _ c.args.word 0 c.requires.works c.args.words.now.key.sizes (ap (λ (a : About). a.sizes) c.requires.held.own) c.store.ensures.2.2

@@ -1,0 +1,64 @@
+use Rattle.std.proofs.Common.{Some, refl, ap, ◌∙◌}
+use Rattle.partial_words.specs.declared.step.Step.TheVariants.{Store, Exchange, Add}
+use Rattle.partial_long_lived.proofs.Straight.{add_asked, add_told, exchange_asked, exchange_told, going_on, leads_there, step_there, store_asked, store_told}
+use Rattle.partial_long_lived.proofs.lines.make.Goals as goal
+
+pub store-requires : goal.store-requires
+store-requires c =
+    let w = c.requires.going in
+    let due = c.requires.due ∙ ap Some c.in-Store.is in
+    rw c.from-in-Store.ensures (w.held.fits, step_there _ _ _ w (Store _ _) due, store_asked _ _ _ w _ _ due _ _)
+
+pub returns-in-Store-clause-going : goal.returns-in-Store-clause-going
+returns-in-Store-clause-going c =
+    let w = c.requires.going in
+    let due = c.requires.due ∙ ap Some c.in-Store.is in
+    let told = rw c.from-in-Store.ensures at c.store.ensures.2 in
+    going_on _ _ _ w (Store _ _) due _ c.store.ensures.0 told.0 told.1 _ (store_told _ _ _ w _ _ due 0 _ told.2) refl refl refl refl refl refl
+
+pub returns-in-Store-clause-leads : goal.returns-in-Store-clause-leads
+returns-in-Store-clause-leads c =
+    let w = c.requires.going in
+    let due = c.requires.due ∙ ap Some c.in-Store.is in
+    let told = rw c.from-in-Store.ensures at c.store.ensures.2 in
+    leads_there _ _ _ w (Store _ _) due _ c.store.ensures.0 told.0 told.1 _ (store_told _ _ _ w _ _ due 0 _ told.2) refl refl refl refl refl refl
+
+pub compare_exchange-requires : goal.compare_exchange-requires
+compare_exchange-requires c =
+    let w = c.requires.going in
+    let due = c.requires.due ∙ ap Some c.in-Exchange.is in
+    rw c.from-in-Exchange.ensures (w.held.fits, step_there _ _ _ w (Exchange _ _ _) due, exchange_asked _ _ _ w c.requires.quiet _ _ _ due _ _)
+
+pub returns-in-Exchange-clause-going : goal.returns-in-Exchange-clause-going
+returns-in-Exchange-clause-going c =
+    let w = c.requires.going in
+    let due = c.requires.due ∙ ap Some c.in-Exchange.is in
+    let told = rw c.from-in-Exchange.ensures at c.compare_exchange.ensures.2 in
+    going_on _ _ _ w (Exchange _ _ _) due _ c.compare_exchange.ensures.0 told.0 told.1 _ (exchange_told _ _ _ w c.requires.quiet _ _ _ due _ _ told.2) refl refl refl refl refl refl
+
+pub returns-in-Exchange-clause-leads : goal.returns-in-Exchange-clause-leads
+returns-in-Exchange-clause-leads c =
+    let w = c.requires.going in
+    let due = c.requires.due ∙ ap Some c.in-Exchange.is in
+    let told = rw c.from-in-Exchange.ensures at c.compare_exchange.ensures.2 in
+    leads_there _ _ _ w (Exchange _ _ _) due _ c.compare_exchange.ensures.0 told.0 told.1 _ (exchange_told _ _ _ w c.requires.quiet _ _ _ due _ _ told.2) refl refl refl refl refl refl
+
+pub fetch_add-requires : goal.fetch_add-requires
+fetch_add-requires c =
+    let w = c.requires.going in
+    let due = c.requires.due ∙ ap Some c.in-Add.is in
+    rw c.from-in-Add.ensures (w.held.fits, step_there _ _ _ w (Add _ _) due, add_asked _ _ _ w c.requires.quiet _ _ due _ _)
+
+pub returns-in-Add-clause-going : goal.returns-in-Add-clause-going
+returns-in-Add-clause-going c =
+    let w = c.requires.going in
+    let due = c.requires.due ∙ ap Some c.in-Add.is in
+    let told = rw c.from-in-Add.ensures at c.fetch_add.ensures.2 in
+    going_on _ _ _ w (Add _ _) due _ c.fetch_add.ensures.0 told.0 told.1 _ (add_told _ _ _ w c.requires.quiet _ _ due _ _ told.2) refl refl refl refl refl refl
+
+pub returns-in-Add-clause-leads : goal.returns-in-Add-clause-leads
+returns-in-Add-clause-leads c =
+    let w = c.requires.going in
+    let due = c.requires.due ∙ ap Some c.in-Add.is in
+    let told = rw c.from-in-Add.ensures at c.fetch_add.ensures.2 in
+    leads_there _ _ _ w (Add _ _) due _ c.fetch_add.ensures.0 told.0 told.1 _ (add_told _ _ _ w c.requires.quiet _ _ due _ _ told.2) refl refl refl refl refl refl

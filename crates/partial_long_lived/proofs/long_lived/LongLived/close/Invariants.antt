@@ -1,0 +1,15 @@
+use Rattle.std.proofs.Common.{◌≡◌}
+use Rattle.std.specs.List.{AllByRecursion}
+use Rattle.partial_long_lived.specs.Ports.{IsOf}
+use Rattle.partial_long_lived.proofs.Closes.{Taken}
+use Rattle.partial_long_lived.proofs.long_lived.LongLived.close.Given as goal
+
+abbrev pub invariant-loop-port : goal.invariant-loop-port
+invariant-loop-port l = record {
+  table : l.seat.table_id ≡ l.table.shared.table_id;
+  left : AllByRecursion (IsOf l.fn.self) l.rest.items;
+  taken : Taken l.fn.self.table l.fn.port l.fn.rest.items l.rest.items l.seat.me.0;
+}
+
+abbrev pub decreases-loop-port : goal.decreases-loop-port
+decreases-loop-port l = goal.left-loop-port l

@@ -1,0 +1,15 @@
+use Rattle.std.proofs.Common.{◌≡◌, ◌-◌, ◌≤◌, [], ◌++◌}
+use Rattle.std.specs.Vec.{vec_len, vec_capacity}
+use Rattle.partial_long_lived.specs.Rule.{newcomers}
+use Rattle.partial_long_lived.specs.Ports.{new_ports}
+use Rattle.partial_long_lived.proofs.long_lived.LongLived.open.Given as goal
+
+abbrev pub invariant-loop-number : goal.invariant-loop-number
+invariant-loop-number l = record {
+  table : l.seat.table_id ≡ l.table.shared.table_id;
+  parts : l.seat.me.0 ≡ newcomers l.table.shared.key l.number (l.ports - l.number);
+  none : l.seat.me.1 ≡ [];
+  made : new_ports l.table.shared.table_id (newcomers l.table.shared.key 0 l.ports) ≡ l.all.items ++ new_ports l.table.shared.table_id l.seat.me.0;
+  many : vec_len l.all ≡ l.number;
+  room : l.ports ≤ vec_capacity l.all;
+}

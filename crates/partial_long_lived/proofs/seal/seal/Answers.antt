@@ -1,0 +1,27 @@
+use Rattle.std.proofs.Common.{◌+◌, refl, sym, ap, ◌∙◌}
+use Rattle.partial_epochs.specs.Layout.{Plan}
+use Rattle.partial_long_lived.proofs.Staying.{same_itself, same_then, stays_same, stays_then}
+use Rattle.partial_long_lived.proofs.seal.seal.Goals as goal
+
+pub loop-init : goal.loop-init
+loop-init c =
+    let h = c.requires.held in record {
+      held = h;
+      stays = stays_same _ _ _ h;
+      same = same_itself _;
+      free = c.requires.may;
+      at = refl;
+      all = c.m-m.ensures.value ∙ sym (ap (λ (e : Plan). e.sizes.m) h.shape);
+    }
+
+pub loop-preserved : goal.loop-preserved
+loop-preserved c =
+    let w = c.loop.invariant in
+    let p = c.pass.ensures in record {
+      held = p.held;
+      stays = stays_then _ _ _ w.stays p.stays;
+      same = same_then _ _ _ w.same p.same;
+      free = p.free;
+      at = ap (λ n. n + 1) w.at ∙ sym p.passed;
+      all = w.all;
+    }

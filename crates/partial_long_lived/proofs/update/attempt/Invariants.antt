@@ -1,0 +1,7 @@
+use Rattle.partial_machine.specs.declared.stage.Stage.TheVariants.{UpdateBegun}
+use Rattle.partial_machine.specs.Machine.{at_stage}
+use Rattle.partial_long_lived.proofs.update.attempt.Given as goal
+
+-- the machine that begins the update
+abbrev pub ghosts-begin : goal.ghosts-begin
+ghosts-begin a = record { core = at_stage a.core.now (UpdateBegun a.change) }

@@ -1,0 +1,14 @@
+use Rattle.std.proofs.Common.{◌<◌, arith}
+use Rattle.partial_long_lived.proofs.Standing.{component_there}
+use Rattle.partial_long_lived.proofs.Updating.{exchange_asked, exchanged_at}
+use Rattle.partial_long_lived.proofs.update.exchange.Goals as goal
+
+pub compare_exchange-requires : goal.compare_exchange-requires
+compare_exchange-requires c =
+    let w = c.requires.going in
+    let is = c.from.ensures in
+    let inside : c.from.result < c.args.words.now.key.sizes.m = (let low = c.requires.inside in omega (arith, is, low)) in
+    (w.held.fits, component_there _ _ _ w.held _ inside, exchange_asked _ _ _ w c.args.change c.args.old c.args.at c.requires.due c.requires.inside _ is _ _)
+
+pub returns-clause-exchanged : goal.returns-clause-exchanged
+returns-clause-exchanged c = exchanged_at _ _ _ c.requires.going c.args.change c.args.old c.args.at c.requires.due c.requires.inside _ c.from.ensures _ _ c.compare_exchange.ensures.2

@@ -1,0 +1,50 @@
+use Rattle.std.proofs.Common.{rules, refl, arith}
+use Rattle.partial_long_lived.specs.Inner.Updates.{Attempted, MeetsSealed}
+use Rattle.partial_long_lived.proofs.Rounds.{came_on, came_rounds, may_own, round_ended, round_met, rounds_begin, rounds_came}
+use Rattle.partial_long_lived.proofs.update.rounds.Goals as goal
+
+pub loop-init : goal.loop-init
+loop-init c = let r = c.requires in (rounds_begin _ _ c.args.first c.args.stand _ r.held r.idle r.may, λ some. absurd (omega (arith, some)))
+
+pub attempt-behind-requires-clause-held : goal.attempt-behind-requires-clause-held
+attempt-behind-requires-clause-held c = c.loop.invariant.0.held
+
+pub attempt-behind-requires-clause-idle : goal.attempt-behind-requires-clause-idle
+attempt-behind-requires-clause-idle c = c.loop.invariant.0.idle
+
+pub attempt-behind-requires-clause-may : goal.attempt-behind-requires-clause-may
+attempt-behind-requires-clause-may c = c.loop.invariant.0.may
+
+pub returns-in-Some-clause-updated : goal.returns-in-Some-clause-updated
+returns-in-Some-clause-updated c =
+    let ended : Attempted c.loop.first_step c.args.change c.in-Some.exchanged c.loop.stand c.attempt-behind.result.0 = search rules in
+    round_ended _ _ c.args.first c.loop.first_step c.args.stand c.loop.stand _ c.loop.invariant.0 _ _ _ ended
+
+pub returns-in-Err-clause-refused : goal.returns-in-Err-clause-refused
+returns-in-Err-clause-refused c =
+    let met : MeetsSealed c.loop.first_step c.loop.stand c.attempt-behind.result.0 = search rules in
+    (search rules, came_on c.args.first c.args.stand c.attempt-behind.result.0 _ (round_met _ _ c.args.first c.loop.first_step c.args.stand c.loop.stand _ c.loop.invariant.0 _ met) c.renew.ensures.came)
+
+pub loop-preserved : goal.loop-preserved
+loop-preserved c =
+    let met : MeetsSealed c.loop.first_step c.loop.stand c.attempt-behind.result.0 = search rules in
+    let came = came_on c.args.first c.args.stand c.attempt-behind.result.0 _ (round_met _ _ c.args.first c.loop.first_step c.args.stand c.loop.stand _ c.loop.invariant.0 _ met) c.renew.ensures.came in
+    (came_rounds _ _ c.args.first c.args.stand _ _ c.renew.ensures.held c.renew.ensures.idle (search rules) came, λ some. refl)
+
+pub returns-clause-held : goal.returns-clause-held
+returns-clause-held c = c.loop.invariant.0.held
+
+pub returns-clause-idle : goal.returns-clause-idle
+returns-clause-idle c = c.loop.invariant.0.idle
+
+pub returns-clause-rests : goal.returns-clause-rests
+returns-clause-rests c = may_own _ _ c.loop.invariant.0.may
+
+pub returns-clause-spare : goal.returns-clause-spare
+returns-clause-spare c = λ _. c.loop.invariant.0.may
+
+pub returns-clause-refused : goal.returns-clause-refused
+returns-clause-refused c =
+    let some = c.requires.some in
+    let over = c.loop-test.false in
+    (tt, rounds_came _ _ c.args.first c.loop.first_step c.args.stand c.loop.stand _ c.loop.invariant.0 (c.loop.invariant.1 (omega (arith, some, over))))

@@ -1,0 +1,14 @@
+use Rattle.std.proofs.Common.{true, false}
+use Rattle.partial_lines.specs.declared.exchange.Exchanged.{Exchanged}
+use Rattle.partial_long_lived.specs.declared.error.Refused.{Refused}
+use Rattle.partial_long_lived.specs.Inner.Updates.{CameBy, IsLate, Updated}
+use Rattle.partial_long_lived.proofs.Rounds.{came_on, err_as, ok_as, updated_behind}
+use Rattle.partial_long_lived.proofs.update.update.Goals as goal
+
+pub returns-clause-updated : goal.returns-clause-updated
+returns-clause-updated c = ok_as Exchanged Refused c.rounds-2.result.2 (λ r. Updated false c.args.change r c.renew.new.stand c.rounds-2.result.0) (λ r. Updated true c.args.change r c.args.stand c.rounds-2.result.0)
+    (λ r w. updated_behind c.args.change r c.args.stand c.renew.new.stand c.rounds-2.result.0 c.renew.ensures.came w) c.rounds-2.ensures.updated
+
+pub returns-clause-refused : goal.returns-clause-refused
+returns-clause-refused c = err_as Exchanged Refused c.rounds-2.result.2 (λ cause. IsLate cause × CameBy false c.renew.new.stand c.rounds-2.result.0) (λ cause. IsLate cause × CameBy true c.args.stand c.rounds-2.result.0)
+    (λ cause w. (w.0, came_on true c.args.stand c.renew.new.stand c.rounds-2.result.0 c.renew.ensures.came w.1)) c.rounds-2.ensures.refused

@@ -1,0 +1,54 @@
+-- What each call of a memory leaves of its port.
+use Rattle.std.specs.Prelude.{ℕ, ◌≡◌, ◌+◌, ◌≤◌, List, [], ◌∷◌, ◌++◌, length, take, None, Some}
+use Rattle.partial_model.specs.declared.call.Call.{Call}
+use Rattle.partial_model.specs.declared.call.Call.TheVariants as call
+use Rattle.partial_model.specs.declared.call.Answer.{Answer}
+use Rattle.partial_model.specs.declared.call.Answer.TheVariants as answer
+use Rattle.partial_model.specs.declared.call.Note.{Note}
+use Rattle.partial_model.specs.declared.call.Note.TheVariants as note
+use Rattle.partial_model.specs.Notes.{NamesComponents, Noted, place_of, shown_by}
+pub use Rattle.partial_lines.specs.declared.whole_scan.Scanned.{Scanned}
+use Rattle.partial_long_lived.specs.declared.answers.Updated.{Updated}
+use Rattle.partial_long_lived.specs.declared.answers.Updated.TheVariants.{Applied as IsApplied, Lost}
+use Rattle.partial_long_lived.specs.declared.error.Refused.{Refused}
+use Rattle.partial_long_lived.specs.declared.error.Refused.TheVariants.{Component, Overtaken}
+use Rattle.partial_long_lived.specs.Ports.{Knows, PortView}
+
+-- what every call does to its port: the history that it has observed grows, and it has noted these calls more
+pub record Goes (p q : PortView) (new : List Noted) : Type 0 where
+  pub memory : q.memory ≡ p.memory
+  pub number : q.number ≡ p.number
+  pub seen : p.seen ≡ take (length p.seen) q.seen
+  pub notes : q.notes ≡ p.notes ++ new
+  pub knows : Knows q.memory.about q.number q.seen q.notes
+
+-- a call that was answered with a note: at a place behind all that the port had seen before the call, within what it has seen now
+pub record Answered (p q : PortView) (c : Call) (a : Answer) (n : Note) : Type 0 where
+  pub inside : NamesComponents p.memory.about.sizes.m c
+  pub goes : Goes p q (record { call = c; answer = a; note = Some n } ∷ [])
+  pub behind : length p.seen ≤ place_of n
+  pub within : shown_by n ≤ length q.seen
+
+-- a read that ended: the value and the stamp of the component after a prefix of what is seen now
+abbrev pub Reads : PortView → ℕ → ℕ → ℕ → PortView → Type 0
+Reads p j value stamp q = (n : ℕ) × Answered p q (call.Read j) (answer.Read value stamp) (note.Saw n)
+
+-- An update that ended: an applied one is the last entry of all that is seen, a lost one was overwritten by an entry that had not been seen
+-- before.
+abbrev pub Updates : PortView → ℕ → ℕ → Updated → PortView → Type 0
+Updates p j v (IsApplied stamp) q = (k : ℕ) × Answered p q (call.Update j v) (answer.Applied stamp) (note.Wrote k) × (k + 1 ≡ length q.seen)
+Updates p j v (Lost by) q = (k : ℕ) × Answered p q (call.Update j v) (answer.Lost by) (note.Lost k)
+
+-- a scan that ended: the values after one prefix of what is seen now; one of no position makes no step and isn't noted
+abbrev pub Scans : PortView → List ℕ → List ℕ → Scanned → PortView → Type 0
+Scans p [] values s q = (values ≡ []) × (s.collects ≡ 0) × (s.borrowed ≡ None) × (q ≡ p)
+Scans p (j ∷ js) values s q =
+    (n : ℕ) × Answered p q (call.Scan (j ∷ js)) (answer.Scanned values s.collects s.borrowed) (note.Saw n)
+
+-- Why a call is refused, and what is left of its port. For a component that isn't there nothing has changed; otherwise nothing is noted,
+-- and the port may have seen more. A read has no other cause, and only an update is overtaken.
+abbrev pub IsRefused : PortView → Call → Refused → PortView → Type 0
+IsRefused p c Component q = (¬ NamesComponents p.memory.about.sizes.m c) × (q ≡ p)
+IsRefused p (call.Read j) cause q = ⊥
+IsRefused p (call.Scan js) Overtaken q = ⊥
+IsRefused p c cause q = NamesComponents p.memory.about.sizes.m c × Goes p q []

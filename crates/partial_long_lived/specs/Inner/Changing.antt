@@ -1,0 +1,224 @@
+-- What the parts of a change of epoch leave of a port.
+use Rattle.std.specs.Prelude.{ℕ, ◌≡◌, ◌≢◌, ◌+◌, ◌-◌, ◌*◌, ◌%◌, ◌<◌, ◌≤◌, ◌⊎◌, Bool, true, false, IfSome, List, [], Option, None, Some}
+use Rattle.partial_model.specs.declared.history.Applied.{Applied}
+use Rattle.partial_words.specs.Layout.{Layout, first_free, pool_base}
+use Rattle.partial_words.specs.Chain.{opening_word}
+use Rattle.partial_epochs.specs.Layout.{arena_limit, entering_mark, epoch_limit}
+use Rattle.partial_epochs.specs.Ports.{Owned}
+use Rattle.partial_epochs.specs.Ports.Entering.{Stands}
+use Rattle.partial_epochs.specs.Entering.{arrived}
+use Rattle.partial_epochs.specs.Owning.{just_taken}
+use Rattle.partial_long_lived.specs.declared.claim.Claimed.{Claimed}
+use Rattle.partial_long_lived.specs.declared.claim.Claimed.TheVariants.{Clean, Taken, Ended}
+use Rattle.partial_long_lived.specs.declared.error.Refused.{Refused}
+use Rattle.partial_long_lived.specs.declared.error.Refused.TheVariants.{EpochsSpent, NoArena}
+use Rattle.partial_long_lived.specs.declared.stand.Stand.{Stand}
+use Rattle.partial_long_lived.specs.Rule.{Began, Found, Seated, plan_of}
+use Rattle.partial_long_lived.specs.Inner.Steps.{Goes}
+use Rattle.partial_long_lived.specs.Inner.Moves.{BeganBy, PutsPort, Sets, Takes, unpacked}
+use Rattle.partial_long_lived.specs.Inner.Calls.{IsIdle}
+use Rattle.partial_long_lived.specs.Inner.Loads.{stamp_seen, value_seen}
+use Rattle.partial_long_lived.specs.Inner.Held.{port_at}
+
+-- what a step does by the arena that the port owns
+abbrev pub OfOwned : (Owned → Seated → ℕ → Seated → Type 0) → Seated → ℕ → Seated → Type 0
+OfOwned R x a y = IfSome x.port.control.owned (λ o. R o x a y)
+
+-- the exchange of the owner word w
+abbrev pub TakesBy : ℕ → Seated → ℕ → Seated → Type 0
+TakesBy w x a y = Takes (w - (1 + x.about.ports)) x a y
+
+-- the exchange of the mark w of a port
+abbrev pub PutsBy : ℕ → Seated → ℕ → Seated → Type 0
+PutsBy w x a y = OfOwned (λ o. PutsPort o (unpacked (w - entering_mark))) x a y
+
+-- the store of the next word of the owned arena
+abbrev pub SetsNext : Seated → ℕ → Seated → Type 0
+SetsNext x a y = OfOwned (λ o. Sets o (o.set + 1)) x a y
+
+-- and that of the last one before the list words, which count as set then
+abbrev pub SetsLists : Seated → ℕ → Seated → Type 0
+SetsLists x a y = OfOwned (λ o. Sets o (pool_base x.about.sizes)) x a y
+
+-- The port stands where it stood, in the same call, with the same notes; what it has seen, passed, found and owns may be another.
+pub record Stays (s t : Stand) : Type 0 where
+  pub shape : t.shape ≡ s.shape
+  pub number : t.number ≡ s.number
+  pub epoch : t.epoch ≡ s.epoch
+  pub arena : t.arena ≡ s.arena
+  pub base : t.base ≡ s.base
+  pub goes : Goes (port_at s) (port_at t)
+  pub here : (port_at t).port.control.here ≡ (port_at s).port.control.here
+  pub entering : (port_at t).port.control.entering ≡ (port_at s).port.control.entering
+  pub notes : (port_at t).notes ≡ (port_at s).notes
+  pub began : (port_at t).began ≡ (port_at s).began
+
+-- its part in the epoch is as it was
+pub record IsSame (s t : Stand) : Type 0 where
+  pub part : (port_at t).port.part ≡ (port_at s).port.part
+  pub before : (port_at t).port.before ≡ (port_at s).port.before
+  pub over : (port_at t).port.over ≡ (port_at s).port.over
+
+-- the port has passed as many components as before
+abbrev pub HasPassed : Stand → Stand → Type 0
+HasPassed s t = (port_at t).port.passed ≡ (port_at s).port.passed
+
+-- the port stands where it stood, and nothing has become of it but what it owns, and that it may have seen its epoch's end
+pub record Remains (s t : Stand) : Type 0 where
+  pub stays : Stays s t
+  pub same : IsSame s t
+  pub passed : HasPassed s t
+
+-- the port stands, and owns arena x
+pub record Owns (s : Stand) (x : ℕ) : Type 0 where
+  pub stands : (port_at s).port.control.entering ≡ Stands
+  pub owned : Owned
+  pub is : (port_at s).port.control.owned ≡ Some owned
+  pub arena : owned.arena ≡ x
+
+-- it has looked, is done with the ports below q, and has set so many words
+pub record Works (s : Stand) (x q n : ℕ) : Type 0 where
+  pub stands : (port_at s).port.control.entering ≡ Stands
+  pub owned : Owned
+  pub is : (port_at s).port.control.owned ≡ Some owned
+  pub arena : owned.arena ≡ x
+  pub looked : owned.looked ≡ true
+  pub clean : owned.clean ≡ q
+  pub mark : owned.mark ≡ None
+  pub set : owned.set ≡ n
+
+-- it has just taken the arena
+pub record HasTaken (s : Stand) (x : ℕ) : Type 0 where
+  pub stands : (port_at s).port.control.entering ≡ Stands
+  pub is : (port_at s).port.control.owned ≡ Some (just_taken x)
+
+-- whether it has, or owns none
+abbrev pub Tried : ℕ → Bool → Stand → Type 0
+Tried x true s = HasTaken s x
+Tried x false s = IsIdle s
+
+-- it has looked, is done with the ports below q, and has loaded the word a of port q, which is a mark
+pub record HoldsMark (s : Stand) (x q a : ℕ) : Type 0 where
+  pub stands : (port_at s).port.control.entering ≡ Stands
+  pub owned : Owned
+  pub is : (port_at s).port.control.owned ≡ Some owned
+  pub arena : owned.arena ≡ x
+  pub looked : owned.looked ≡ true
+  pub clean : owned.clean ≡ q
+  pub mark : owned.mark ≡ Some (unpacked (a - entering_mark))
+  pub set : owned.set ≡ 0
+
+-- it has looked since
+pub record MayPutPort (s : Stand) (x q a : ℕ) : Type 0 where
+  pub holds : HoldsMark s x q a
+  pub again : holds.owned.again ≡ true
+
+-- what it has loaded of port q
+pub record HasLoadedPort (s : Stand) (x q a : ℕ) : Type 0 where
+  pub away : a < entering_mark → a % arena_limit ≢ x → Works s x (q + 1) 0
+  pub there : a < entering_mark → a % arena_limit ≡ x → Works s x q 0
+  pub marked : entering_mark ≤ a → HoldsMark s x q a
+
+-- the port has seen that its epoch has ended
+abbrev pub IsPast : Stand → Type 0
+IsPast s = (port_at s).port.control.past ≡ true
+
+-- what has come of arenas: the port owns one of which it is done with all ports, or none
+abbrev pub HasClaimed : Claimed → Stand → Type 0
+HasClaimed (Clean x) s = (x < (port_at s).about.arenas) × Works s x (port_at s).about.ports 0
+HasClaimed Taken s = IsIdle s
+HasClaimed Ended s = IsIdle s × IsPast s
+
+-- what has come of the ports below n, of arena x
+abbrev pub HasCleared : ℕ → ℕ → Claimed → Stand → Type 0
+HasCleared x n (Clean y) s = (y ≡ x) × Works s x n 0
+HasCleared x n Taken s = Owns s x
+HasCleared x n Ended s = Owns s x × IsPast s
+
+-- v is what each opening has in word i, whatever its values are
+pub record IsSetting (z : Layout) (v i : ℕ) : Type 0 where
+  pub within : i < first_free z
+  pub free : (i < pool_base z) ⊎ ((i - pool_base z) % 3 ≢ 1)
+  pub is : v ≡ opening_word z [] i
+
+-- v is the value that has been found, and word i that of its initial record
+pub record IsInitialValue (z : Layout) (found : Option Found) (v i : ℕ) : Type 0 where
+  pub f : Found
+  pub found_is : found ≡ Some f
+  pub inside : f.component < z.m
+  pub at : i ≡ pool_base z + 3 * f.component + 1
+  pub is : v ≡ f.value
+
+-- v is the stamp that has been found, and word i that of the stamp that is carried
+pub record IsCarriedStamp (z : Layout) (found : Option Found) (v i : ℕ) : Type 0 where
+  pub f : Found
+  pub found_is : found ≡ Some f
+  pub inside : f.component < z.m
+  pub at : i ≡ first_free z + f.component
+  pub is : v ≡ f.stamp
+
+-- v is what the next epoch begins with in word i
+abbrev pub IsRight : Seated → ℕ → ℕ → Type 0
+IsRight x v i = IsSetting x.about.sizes v i ⊎ (IsInitialValue x.about.sizes x.found v i ⊎ IsCarriedStamp x.about.sizes x.found v i)
+
+-- the port's control is as it was
+abbrev pub HasControl : Stand → Stand → Type 0
+HasControl s t = (port_at t).port.control ≡ (port_at s).port.control
+
+-- the port has found the last value and the last stamp of component j, as behind all that it has seen
+abbrev pub HasFound : Stand → ℕ → Type 0
+HasFound t j = (port_at t).found ≡ Some (record {
+  component = j;
+  value = value_seen (port_at t) (port_at t).port.part.seen j;
+  stamp = stamp_seen (port_at t) (port_at t).port.part.seen j;
+})
+
+-- v is the value, or the stamp, of component j that the port has found
+pub record FoundValue (t : Stand) (j v : ℕ) : Type 0 where
+  pub found : Found
+  pub is : (port_at t).found ≡ Some found
+  pub component : found.component ≡ j
+  pub value : v ≡ found.value
+
+pub record FoundStamp (t : Stand) (j v : ℕ) : Type 0 where
+  pub found : Found
+  pub is : (port_at t).found ≡ Some found
+  pub component : found.component ≡ j
+  pub stamp : v ≡ found.stamp
+
+-- The port has come to a later epoch, no older than the one that was the current one as its call began, with a new part there.
+pub record Changed (first : Bool) (s t : Stand) : Type 0 where
+  pub shape : t.shape ≡ s.shape
+  pub number : t.number ≡ s.number
+  pub goes : Goes (port_at s) (port_at t)
+  pub n : Began
+  pub began : BeganBy first (port_at s) n
+  pub before : List (List Applied)
+  pub is : port_at t ≡ record (port_at s) {
+    port = arrived (plan_of (port_at s).about) (port_at s).number (record { epoch = t.epoch; arena = t.arena }) before;
+    began = n;
+    found = None;
+  }
+  pub later : (port_at s).port.control.here.epoch < t.epoch
+  pub fresh : n.epoch ≤ t.epoch
+
+-- Why a change of epoch is refused: the port's epoch is the last one that a word can name, or it isn't, and each of its components is sealed,
+-- but no arena was free.
+abbrev pub IsCause : Stand → Refused → Type 0
+IsCause s EpochsSpent = s.epoch + 1 ≡ epoch_limit
+IsCause s NoArena = (s.epoch + 1 < epoch_limit) × ((port_at s).about.sizes.m ≤ (port_at s).port.passed)
+IsCause s _ = ⊥
+
+-- The change is refused: the port stands where it stood, with the part that it had, and owns no arena.
+pub record NotChanged (first : Bool) (s t : Stand) : Type 0 where
+  pub shape : t.shape ≡ s.shape
+  pub number : t.number ≡ s.number
+  pub epoch : t.epoch ≡ s.epoch
+  pub arena : t.arena ≡ s.arena
+  pub base : t.base ≡ s.base
+  pub goes : Goes (port_at s) (port_at t)
+  pub began : BeganBy first (port_at s) (port_at t).began
+  pub here : (port_at t).port.control.here ≡ (port_at s).port.control.here
+  pub free : IsIdle t
+  pub notes : (port_at t).notes ≡ (port_at s).notes
+  pub same : IsSame s t

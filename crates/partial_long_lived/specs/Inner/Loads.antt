@@ -1,0 +1,92 @@
+-- What a load in the arena where a port stands tells it.
+use Rattle.std.specs.Prelude.{ℕ, ◌≡◌, ◌+◌, ◌-◌, ◌<◌, ◌≤◌, ◌==◌, ◌&&◌, ◌++◌, nat_lt, Bool, not, List, [], ◌∷◌, length, take, Option, Some, if◌then◌else◌}
+use Rattle.atomic_table.specs.Table.{Me}
+use Rattle.partial_model.specs.declared.history.Applied.{Applied}
+use Rattle.partial_model.specs.declared.history.Opening.{Opening}
+use Rattle.partial_model.specs.declared.call.Call.TheVariants as call
+use Rattle.partial_model.specs.declared.call.Answer.TheVariants as answer
+use Rattle.partial_model.specs.declared.call.Note.TheVariants as note
+use Rattle.partial_model.specs.History.{stamp_of, value_of}
+use Rattle.partial_model.specs.Notes.{Noted}
+use Rattle.partial_words.specs.Layout.{total}
+use Rattle.partial_words.specs.Record.{value_word}
+use Rattle.partial_epochs.specs.Layout.{base, carried_word, seal, unsealed}
+use Rattle.partial_epochs.specs.History.{carried_behind, history_of, opening_behind}
+use Rattle.partial_epochs.specs.Notes.{having_seen, public_of}
+use Rattle.partial_long_lived.specs.Rule.{Began, Found, Seated, one_of, plan_of}
+use Rattle.partial_long_lived.specs.Inner.Steps.{tells}
+use Rattle.partial_long_lived.specs.Inner.Moves.{BeganBy}
+
+-- what a port wants of a component word: its record, to answer a read, to compare its stamp with the one that a conditional update with this
+-- value expects, or what the next epoch begins with
+pub data Wish : Type 0 where
+  Glances : Wish
+  Reads : Wish
+  Expects : ℕ → ℕ → Wish
+  Finds : Wish
+
+-- the opening of the port's epoch
+abbrev pub opening_of : Seated → Opening
+opening_of x = opening_behind x.about.opening x.port.before
+
+-- the value and the public stamp of component j behind that history of the port's epoch
+abbrev pub value_seen : Seated → List Applied → ℕ → ℕ
+value_seen x log j = value_of (opening_of x) log j
+
+abbrev pub stamp_seen : Seated → List Applied → ℕ → ℕ
+stamp_seen x log j = public_of (plan_of x.about) x.port.before j (stamp_of (opening_of x) log j)
+
+-- the place behind that history
+abbrev pub place_seen : Seated → List Applied → ℕ
+place_seen x log = length (history_of (log ∷ x.port.before))
+
+-- what the port notes where its wish is answered
+abbrev pub noted_by : Wish → Seated → List Applied → ℕ → List Noted
+noted_by Reads x log j =
+    record { call = call.Read j; answer = answer.Read (value_seen x log j) (stamp_seen x log j); note = Some (note.Saw (place_seen x log)) } ∷ []
+noted_by (Expects expected v) x log j =
+    if stamp_seen x log j == expected then []
+    else record { call = call.UpdateIf j expected v; answer = answer.Changed (stamp_seen x log j); note = Some (note.Saw (place_seen x log)) } ∷ []
+noted_by _ x log j = []
+
+-- what the port has found then
+abbrev pub found_by : Wish → Seated → List Applied → ℕ → Option Found
+found_by Finds x log j = Some (record { component = j; value = value_seen x log j; stamp = stamp_seen x log j })
+found_by _ x log j = x.found
+
+-- A load of the word of component j, by which the port sees its epoch's whole history. The first load of a call answers nothing where the
+-- component is sealed, since the epoch may have passed before the call began.
+pub record Sees (first : Bool) (wish : Wish) (j : ℕ) (x : Seated) (a : ℕ) (y : Seated) : Type 0 where
+  pub n : Began
+  pub began : BeganBy first x n
+  pub log : List Applied
+  pub is : y ≡ record x {
+    port = having_seen x.port log;
+    began = n;
+    notes = x.notes ++ (if first && not (nat_lt a seal) then [] else noted_by wish x log j);
+    found = found_by wish x log j;
+  }
+  -- the word names the component's last record, which lies in the arena
+  pub stamp : unsealed a ≡ stamp_of (opening_of x) log j
+  pub within : value_word (unsealed a) < total x.about.sizes
+  -- a component that isn't sealed is one of the current epoch
+  pub present : a < seal → n.epoch ≤ x.port.control.here.epoch
+  -- what the port sees in an epoch that is no older than its call is no older either
+  pub time : n.epoch ≤ x.port.control.here.epoch → n.length ≤ place_seen x log
+
+-- A load of word i of the table tells what the port has seen: the value of a record, or a carried stamp.
+pub record Recalls (i : ℕ) (x : Seated) (a : ℕ) (y : Seated) : Type 0 where
+  pub same : y ≡ x
+  pub value : (j n : ℕ) → j < x.about.sizes.m → n ≤ length x.port.part.seen →
+      i ≡ base (plan_of x.about) x.port.control.here.arena + value_word (stamp_of (opening_of x) (take n x.port.part.seen) j) →
+      a ≡ value_of (opening_of x) (take n x.port.part.seen) j
+  pub carried : (j : ℕ) → j < x.about.sizes.m → i ≡ carried_word (plan_of x.about) x.port.control.here.arena j →
+      a ≡ carried_behind x.about.opening x.port.before j
+
+-- the component of that word of the table, where the seat's port stands
+abbrev pub component_at : Seated → ℕ → ℕ
+component_at x i = i - base (plan_of x.about) x.port.control.here.arena
+
+-- a load of that word of the table
+abbrev pub sees : {S : Type 0} → Bool → Wish → ℕ → Me S (List Seated) → ℕ → Me S (List Seated) → Type 0
+sees first wish i me = tells (Sees first wish (component_at (one_of me.0) i)) me

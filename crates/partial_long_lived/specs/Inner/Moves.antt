@@ -1,0 +1,110 @@
+-- What the steps of a change of epoch, and of entering one, do to a port, by what they find.
+use Rattle.std.specs.Prelude.{ℕ, ◌≡◌, ◌-◌, ◌/◌, ◌%◌, ◌<◌, ◌≤◌, ◌==◌, nat_lt, Bool, true, false, List, length, None, if◌then◌else◌}
+use Rattle.std.specs.Option.{option_map_or}
+use Rattle.partial_model.specs.declared.history.Applied.{Applied}
+use Rattle.partial_epochs.specs.Layout.{Place, IsPlace, arena_limit, entering_mark, marked, packed, seal}
+use Rattle.partial_epochs.specs.Ports.{Owned, Port}
+use Rattle.partial_epochs.specs.Ports.Entering.{Marks, Loaded}
+use Rattle.partial_epochs.specs.Entering.{arrived, having_passed}
+use Rattle.partial_epochs.specs.Sealing.{passing}
+use Rattle.partial_epochs.specs.Owning.{cleaner, having_given, having_loaded, having_looked, just_taken, owning}
+use Rattle.partial_epochs.specs.Publishing.{having_published, having_set}
+use Rattle.partial_long_lived.specs.Rule.{Began, Seated, plan_of}
+use Rattle.partial_long_lived.specs.Ports.{seen_in}
+
+-- the place that a word names
+abbrev pub unpacked : ℕ → Place
+unpacked w = record { epoch = w / arena_limit; arena = w % arena_limit }
+
+-- the seat of the port once it is so, in a call that began then
+abbrev pub becomes : Seated → Began → Port → Seated
+becomes x n p = record x { port = p; began = n }
+
+-- when the call of a step began: as it did before; or with this step, when all that had been seen lay in the history
+abbrev pub BeganBy : Bool → Seated → Began → Type 0
+BeganBy true x n = length (seen_in x.port) ≤ n.length
+BeganBy false x n = n ≡ x.began
+
+-- a port that has found its own place as the current one
+abbrev pub having_found : Port → Port
+having_found p = option_map_or (having_looked p) p.control.owned p
+
+-- a port that has loaded the current word a
+abbrev pub looked_at : ℕ → Port → Port
+looked_at a p = if a == packed p.control.here then having_found p else having_passed p
+
+-- a look, perhaps as the first step of a call: where the port's own place is the current one, the call began in no later epoch
+abbrev pub Looks : Bool → Seated → ℕ → Seated → Type 0
+Looks first x a y = (n : Began) × BeganBy first x n × (y ≡ becomes x n (looked_at a x.port))
+    × (a ≡ packed x.port.control.here → n.epoch ≤ x.port.control.here.epoch)
+
+-- the first two steps of entering
+abbrev pub marks : Port → Port
+marks p = record p { control = record p.control { entering = Marks } }
+
+abbrev pub StoresMark : Seated → ℕ → Seated → Type 0
+StoresMark x a y = y ≡ becomes x x.began (marks x.port)
+
+abbrev pub loads : Place → Port → Port
+loads c p = record p { control = record p.control { entering = Loaded c } }
+
+abbrev pub LoadsCurrent : Seated → ℕ → Seated → Type 0
+LoadsCurrent x a y = (a ≡ packed (unpacked a)) × IsPlace (plan_of x.about) (unpacked a) × (y ≡ becomes x x.began (loads (unpacked a) x.port))
+
+-- the place to which the exchange of the mark brings a port that has loaded c, where it finds a
+abbrev pub place_found : Port → Place → ℕ → Place
+place_found p c a = if a == marked p.control.here then c else unpacked a
+
+-- the third: the port comes to a later epoch, with a new part there
+abbrev pub Arrives : Place → Seated → ℕ → Seated → Type 0
+Arrives c x a y = (before : List (List Applied)) × (x.port.control.here.epoch < (place_found x.port c a).epoch)
+    × (x.began.epoch ≤ (place_found x.port c a).epoch)
+    × (y ≡ record x { port = arrived (plan_of x.about) x.number (place_found x.port c a) before; found = None })
+
+-- the load of a component word in a change of epoch: the port passes the component if it is sealed
+abbrev pub passed_at : ℕ → Port → Port
+passed_at a p = if nat_lt a seal then p else passing p
+
+abbrev pub PassesSealed : Seated → ℕ → Seated → Type 0
+PassesSealed x a y = y ≡ becomes x x.began (passed_at a x.port)
+
+-- a seal
+abbrev pub Seals : Seated → ℕ → Seated → Type 0
+Seals x a y = y ≡ becomes x x.began (passing x.port)
+
+-- the exchange of the owner word of arena i
+abbrev pub taken_at : ℕ → ℕ → Port → Port
+taken_at i a p = if a == 0 then owning p (just_taken i) else p
+
+abbrev pub Takes : ℕ → Seated → ℕ → Seated → Type 0
+Takes i x a y = y ≡ becomes x x.began (taken_at i a x.port)
+
+-- the store that gives the arena back
+abbrev pub Gives : Seated → ℕ → Seated → Type 0
+Gives x a y = y ≡ becomes x x.began (having_given x.port)
+
+-- what an owner does with the word of the next port, which is the unmarked word a: it is done with that port if the port is in another arena
+abbrev pub elsewhere : ℕ → Owned → Owned
+elsewhere a o = if (unpacked a).arena == o.arena then o else cleaner o
+
+-- the load of that word
+abbrev pub port_loaded : ℕ → Owned → Owned
+port_loaded a o = if nat_lt a entering_mark then elsewhere a o else having_loaded o (unpacked (a - entering_mark))
+
+abbrev pub LoadsPort : Owned → Seated → ℕ → Seated → Type 0
+LoadsPort o x a y = y ≡ becomes x x.began (owning x.port (port_loaded a o))
+
+-- the exchange of its mark m for the owner's place
+abbrev pub port_put : Place → ℕ → Owned → Owned
+port_put m a o = if a == marked m then cleaner o else (if nat_lt a entering_mark then elsewhere a o else o)
+
+abbrev pub PutsPort : Owned → Place → Seated → ℕ → Seated → Type 0
+PutsPort o m x a y = y ≡ becomes x x.began (owning x.port (port_put m a o))
+
+-- a store by which the words of the owned arena below that number count as set
+abbrev pub Sets : Owned → ℕ → Seated → ℕ → Seated → Type 0
+Sets o next x a y = y ≡ becomes x x.began (having_set x.port o next)
+
+-- the exchange of the current word
+abbrev pub Publishes : Owned → Seated → ℕ → Seated → Type 0
+Publishes o x a y = y ≡ becomes x x.began (having_published x.port o)

@@ -1,0 +1,116 @@
+-- A call of a port's machine under way, in the arena where the port stands.
+use Rattle.std.specs.Prelude.{ℕ, ◌≡◌, ◌≢◌, ◌+◌, ◌<◌, ◌≤◌, ◌⊎◌, ◌++◌, Bool, true, false, Option, length, map, Some, None}
+use Rattle.std.proofs.Common.{refl, ◌∙◌}
+use Rattle.atomic_table.specs.Seated.{TableId}
+use Rattle.partial_model.specs.declared.call.Refused.{Refused}
+use Rattle.partial_model.specs.Notes.{seen_by}
+use Rattle.partial_words.specs.Layout.{IsLayout, greatest_record}
+use Rattle.partial_machine.specs.declared.stage.Stage.{Stage}
+use Rattle.partial_machine.specs.declared.stage.Stage.TheVariants.{UpdateBegun, GettingSet, Viewing, ClaimingRecord, StoringRecord, Exchanging, ScanBegun}
+use Rattle.partial_machine.specs.declared.stage.Reply.TheVariants as reply
+use Rattle.partial_machine.specs.Machine.{CoreState, reply_of}
+use Rattle.partial_machine.specs.Sound.{IsSound}
+use Rattle.partial_core.specs.Part.{HasBegun, core_of, first_at}
+use Rattle.partial_core.specs.Calls.{Made}
+use Rattle.partial_epochs.specs.History.{history_of}
+use Rattle.partial_epochs.specs.Notes.{public_noted}
+use Rattle.partial_epochs.specs.Ports.Entering.{Stands}
+use Rattle.partial_long_lived.specs.declared.rule.About.{About}
+use Rattle.partial_long_lived.specs.declared.stand.Stand.{Stand}
+use Rattle.partial_long_lived.specs.Rule.{Seated, plan_of}
+use Rattle.partial_long_lived.specs.Inner.Steps.{Goes}
+use Rattle.partial_long_lived.specs.Inner.Held.{IsHeld, port_at}
+use Rattle.partial_long_lived.specs.Inner.Loads.{opening_of}
+use Rattle.partial_long_lived.specs.Inner.Machine.{ExpectsSeen}
+
+-- whether a machine at this stage has yet to claim words of the pool
+abbrev pub before_claim : Stage → Bool
+before_claim (UpdateBegun c) = true
+before_claim (GettingSet c old) = true
+before_claim (Viewing c old) = true
+before_claim (ClaimingRecord c old) = true
+before_claim ScanBegun = true
+before_claim _ = false
+
+-- where the record of an update lies that has been claimed
+abbrev pub claim_of : Stage → Option ℕ
+claim_of (StoringRecord c old at k) = Some at
+claim_of (Exchanging c old at) = Some at
+claim_of _ = None
+
+-- the machine b may begin a call at the port x, which has made no claim past the limit
+pub record MayBegin (b : CoreState) (x : Seated) : Type 0 where
+  pub stands : x.port.control.entering ≡ Stands
+  pub begun : HasBegun b x.port.part
+  pub sound : IsSound b
+  pub layout : IsLayout b.sizes
+  pub sizes : b.sizes ≡ x.about.sizes
+  pub spare : x.port.over ≡ false
+  pub unmarked : (b.pool_spent ≡ false) × (b.slots_spent ≡ false)
+  pub expects : ExpectsSeen x b
+
+-- The call has made some steps, which have led to the machine c and the port y.
+pub record CallMade (b : CoreState) (x : Seated) (c : CoreState) (y : Seated) : Type 0 where
+  pub goes : Goes x y
+  pub control : y.port.control ≡ x.port.control
+  pub before : y.port.before ≡ x.port.before
+  pub passed : y.port.passed ≡ x.port.passed
+  pub made : Made x.about.sizes (opening_of x) b x.port.part c y.port.part
+  -- it has made no claim past the limit before its claim
+  pub spare : before_claim c.stage ≡ true → y.port.over ≡ false
+  -- its claim ends past the limit only where a greatest record would
+  pub claimed : (at : ℕ) → claim_of c.stage ≡ Some at → (y.port.over ≡ false) ⊎ (x.about.limit < at + greatest_record x.about.sizes)
+  -- the machine has no marks
+  pub unmarked : (c.pool_spent ≡ false) × (c.slots_spent ≡ false)
+  -- it isn't refused
+  pub unrefused : (cause : Refused) → reply_of c ≢ Some (reply.Refused cause)
+  -- the port notes over all epochs what it notes in the epoch
+  pub notes : y.notes ≡ x.notes ++ map (public_noted (plan_of x.about) x.port.before) made.new
+  -- its earlier notes show no more than it had seen as the call began
+  pub shown : seen_by 0 x.notes ≤ length (history_of y.port.before) + y.port.part.since
+  -- the call made its first step here when all of the history that it began with was there
+  pub time : y.began.epoch ≤ y.port.control.here.epoch → y.began.length ≤ length (history_of y.port.before) + first_at y.port.part.kept
+
+-- the call of the port is under way, or over
+abbrev pub IsUnderWay : Seated → Type 0
+IsUnderWay y = (b : CoreState) × (x : Seated) × MayBegin b x × CallMade b x (core_of y.port.part) y
+
+-- the machine of the seat's port
+abbrev pub machine_at : Stand → CoreState
+machine_at s = core_of (port_at s).port.part
+
+-- the seat is of one port of that memory, whose call is under way
+pub record IsGoing (table : TableId) (about : About) (s : Stand) : Type 0 where
+  pub held : IsHeld table about s
+  pub under : IsUnderWay (port_at s)
+
+-- from the one stand the call has come to the other by further steps
+pub record Leads (s t : Stand) : Type 0 where
+  pub shape : t.shape ≡ s.shape
+  pub number : t.number ≡ s.number
+  pub epoch : t.epoch ≡ s.epoch
+  pub arena : t.arena ≡ s.arena
+  pub base : t.base ≡ s.base
+  pub passed : t.passed ≡ s.passed
+  pub began : (port_at t).began ≡ (port_at s).began
+  pub call : (b : CoreState) (x : Seated) → MayBegin b x → CallMade b x (machine_at s) (port_at s) → CallMade b x (machine_at t) (port_at t)
+  -- behind its claim a call makes no other
+  pub over : before_claim (machine_at s).stage ≡ false → (before_claim (machine_at t).stage ≡ false) × ((port_at t).port.over ≡ (port_at s).port.over)
+
+-- by no step a call stays where it is
+pub leads_itself : (s : Stand) → Leads s s
+leads_itself s = record { shape = refl; number = refl; epoch = refl; arena = refl; base = refl; passed = refl; began = refl; call = λ b x begins had. had; over = λ behind. (behind, refl) }
+
+-- steps follow on steps
+pub leads_on : (s t u : Stand) → Leads s t → Leads t u → Leads s u
+leads_on s t u f g = record {
+  shape = g.shape ∙ f.shape;
+  number = g.number ∙ f.number;
+  epoch = g.epoch ∙ f.epoch;
+  arena = g.arena ∙ f.arena;
+  base = g.base ∙ f.base;
+  passed = g.passed ∙ f.passed;
+  began = g.began ∙ f.began;
+  call = λ b x begins had. g.call b x begins (f.call b x begins had);
+  over = λ behind. let first = f.over behind in let then = g.over first.0 in (then.0, then.1 ∙ first.1);
+}

@@ -1,0 +1,109 @@
+-- Parts of an update.
+use Rattle.std.specs.Prelude.{⊤, ℕ, ◌≡◌, ◌+◌, ◌<◌, ◌≤◌, ◌++◌, Bool, false, [], ◌∷◌, length, Some}
+use Rattle.partial_model.specs.declared.call.Call.TheVariants as call
+use Rattle.partial_model.specs.declared.call.Answer.TheVariants as answer
+use Rattle.partial_model.specs.declared.call.Note.TheVariants as note
+use Rattle.partial_model.specs.Notes.{Noted}
+use Rattle.partial_words.specs.declared.step.Step.TheVariants.{Exchange}
+use Rattle.partial_machine.specs.declared.stage.Change.{Change}
+use Rattle.partial_lines.specs.declared.exchange.Exchanged.{Exchanged}
+use Rattle.partial_lines.specs.declared.exchange.Exchanged.TheVariants.{Applied, Overtaken}
+use Rattle.partial_machine.specs.declared.stage.Stage.TheVariants.{Idle}
+use Rattle.partial_machine.specs.Machine.{CoreState}
+use Rattle.partial_machine.specs.Sound.{IsSound}
+use Rattle.partial_epochs.specs.History.{public_stamp}
+use Rattle.partial_long_lived.specs.declared.answers.Updated as answers
+use Rattle.partial_long_lived.specs.declared.answers.Updated.TheVariants as ended
+use Rattle.partial_long_lived.specs.declared.error.Refused.{Refused}
+use Rattle.partial_long_lived.specs.declared.error.Refused.TheVariants.{Component}
+use Rattle.partial_long_lived.specs.declared.stand.Stand.{Stand}
+use Rattle.partial_long_lived.specs.Rule.{Seated}
+use Rattle.partial_long_lived.specs.Ports.{seen_in}
+use Rattle.partial_long_lived.specs.Inner.Moves.{BeganBy}
+use Rattle.partial_long_lived.specs.Inner.Calls.{IsIdle, Kept}
+use Rattle.partial_long_lived.specs.Inner.Held.{port_at}
+use Rattle.partial_long_lived.specs.Inner.Steps.{Goes}
+use Rattle.partial_long_lived.specs.Inner.Machine.{Exchanges}
+use Rattle.partial_long_lived.specs.Inner.Scans.{RestsUnmarked}
+use Rattle.partial_long_lived.specs.Inner.Under.{machine_at}
+
+-- the exchange of the component has found this word
+abbrev pub ExchangeDue : Stand → Change → ℕ → ℕ → ℕ → Stand → Type 0
+ExchangeDue s c old at found t = Exchanges (machine_at s) old (Exchange c.component old at) (port_at s) found (port_at t)
+
+-- what a port notes of an update in that epoch that ended so, with an entry at that place
+abbrev pub noted_update : ℕ → Change → Exchanged → ℕ → Noted
+noted_update epoch c (Applied stamp) place =
+    record { call = call.Update c.component c.value; answer = answer.Applied (public_stamp epoch stamp); note = Some (note.Wrote place) }
+noted_update epoch c (Overtaken by) place =
+    record { call = call.Update c.component c.value; answer = answer.Lost (public_stamp epoch by); note = Some (note.Lost place) }
+
+-- the public stamp of the record that an update put, or that overwrote it
+abbrev pub stamp_from : ℕ → Exchanged → ℕ
+stamp_from epoch (Applied stamp) = public_stamp epoch stamp
+stamp_from epoch (Overtaken by) = public_stamp epoch by
+
+-- how such an update ended, as its caller is told
+abbrev pub public_update : ℕ → Exchanged → answers.Updated
+public_update epoch (Applied stamp) = ended.Applied (public_stamp epoch stamp)
+public_update epoch (Overtaken by) = ended.Lost (public_stamp epoch by)
+
+-- where the entry lies among n that the port has seen: an applied update is the last of them
+abbrev pub IsEntryOf : Exchanged → ℕ → ℕ → Type 0
+IsEntryOf (Applied stamp) place n = place + 1 ≡ n
+IsEntryOf (Overtaken by) place n = place < n
+
+-- The port stands where it stood, in a call that began as before or with its first step here, and owns no arena.
+pub record Stayed (first : Bool) (s t : Stand) : Type 0 where
+  pub kept : Kept s t
+  pub idle : IsIdle t
+  pub began : BeganBy first (port_at s) (port_at t).began
+
+-- The component is sealed: the port has noted nothing.
+pub record MeetsSealed (first : Bool) (s t : Stand) : Type 0 where
+  pub stayed : Stayed first s t
+  pub notes : (port_at t).notes ≡ (port_at s).notes
+
+-- The update has ended in the port's epoch: the port has noted this answer, with an entry that is not before the call began.
+pub record Attempted (first : Bool) (c : Change) (r : Exchanged) (s t : Stand) : Type 0 where
+  pub stayed : Stayed first s t
+  pub place : ℕ
+  pub notes : (port_at t).notes ≡ (port_at s).notes ++ noted_update t.epoch c r place ∷ []
+  pub behind : (port_at t).began.length ≤ place
+  pub within : IsEntryOf r place (length (seen_in (port_at t).port))
+
+-- the machine is idle, sound, and of the port
+pub record IsOwn (x : Seated) (core : CoreState) : Type 0 where
+  pub idle : core.stage ≡ Idle
+  pub sound : IsSound core
+  pub sizes : core.sizes ≡ x.about.sizes
+  pub port : core.port ≡ x.number
+
+-- it may begin a call in the port's epoch, where the port has made no claim past the limit
+pub record MayCall (x : Seated) (core : CoreState) : Type 0 where
+  pub rests : RestsUnmarked x core
+  pub over : x.port.over ≡ false
+
+-- a cause for which a call is refused behind some steps
+abbrev pub IsLate : Refused → Type 0
+IsLate Component = ⊥
+IsLate cause = ⊤
+
+-- A part of a call has led the port from the one stand to the other, and the port has noted nothing.
+pub record CameBy (first : Bool) (s t : Stand) : Type 0 where
+  pub shape : t.shape ≡ s.shape
+  pub number : t.number ≡ s.number
+  pub goes : Goes (port_at s) (port_at t)
+  pub notes : (port_at t).notes ≡ (port_at s).notes
+  pub began : BeganBy first (port_at s) (port_at t).began
+
+-- The update has ended: the port has noted this answer, with an entry that is not before the call began.
+pub record Updated (first : Bool) (c : Change) (r : Exchanged) (s t : Stand) : Type 0 where
+  pub shape : t.shape ≡ s.shape
+  pub number : t.number ≡ s.number
+  pub goes : Goes (port_at s) (port_at t)
+  pub began : BeganBy first (port_at s) (port_at t).began
+  pub place : ℕ
+  pub notes : (port_at t).notes ≡ (port_at s).notes ++ noted_update t.epoch c r place ∷ []
+  pub behind : (port_at t).began.length ≤ place
+  pub within : IsEntryOf r place (length (seen_in (port_at t).port))

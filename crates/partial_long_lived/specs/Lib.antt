@@ -1,0 +1,12 @@
+pub mod AllPorts
+pub mod Calls
+pub mod Closing
+pub mod Inner
+pub mod Options
+pub mod Ports
+pub mod Refusals
+pub mod Resting
+pub mod Rule
+pub mod Seating
+pub mod Shape
+pub mod Sized

@@ -1,0 +1,62 @@
+-- The sizes of a memory for its options, and why there are none.
+use Rattle.std.specs.Prelude.{ℕ, ◌≡◌, ◌+◌, ◌*◌, ◌/◌, ◌<◌, ◌≤◌, ◌⊎◌}
+use Rattle.partial_words.specs.Layout.{Layout, first_free}
+use Rattle.partial_long_lived.specs.declared.open_error.OpenError.{OpenError}
+use Rattle.partial_long_lived.specs.declared.open_error.OpenError.TheVariants.{Ports, Components, Lists, Pool, Memory}
+use Rattle.partial_long_lived.specs.declared.options.Options.{Options}
+use Rattle.partial_long_lived.specs.declared.shape.Shape.{Shape}
+
+-- the most list words, and the most pool words behind the initial records
+abbrev pub most_lists : ℕ
+most_lists = 65536
+
+abbrev pub most_words : ℕ
+most_words = 131072
+
+-- how many words the pool has behind the initial records: those of the options, and room for the greatest record of each port
+abbrev pub words_behind : ℕ → ℕ → Options → ℕ
+words_behind count ports o = o.pool + (4 + 2 * count) * ports
+
+-- the sizes of an arena: so many pool words, and a slot for each two of them
+abbrev pub layout_for : ℕ → ℕ → Options → Layout
+layout_for count ports o = record {
+  m = count;
+  slots = (words_behind count ports o + 1) / 2;
+  lists = o.lists;
+  pool = 3 * count + words_behind count ports o;
+}
+
+-- the shape of a memory with so many components, n ports, and these options
+pub record IsShapeFor (count n : ℕ) (o : Options) (s : Shape) : Type 0 where
+  pub sizes : s.sizes ≡ layout_for count n o
+  pub ports : s.ports ≡ n
+  pub arenas : s.arenas ≡ 2 * n
+  pub limit : s.limit ≡ first_free s.sizes + o.pool
+
+-- the number of ports is in its range; that of components; that of list words; that of pool words
+abbrev pub ArePorts : ℕ → Type 0
+ArePorts ports = (1 ≤ ports) × (ports ≤ 64)
+
+abbrev pub AreComponents : ℕ → Type 0
+AreComponents count = (1 ≤ count) × (count ≤ 65536)
+
+-- Why there are no such sizes: the first of these that is out of its range.
+abbrev pub IsShapeError : ℕ → ℕ → Options → OpenError → Type 0
+IsShapeError count ports o Ports = (ports ≡ 0) ⊎ (64 < ports)
+IsShapeError count ports o Components = ArePorts ports × ((count ≡ 0) ⊎ (65536 < count))
+IsShapeError count ports o Lists = ArePorts ports × AreComponents count × (most_lists < o.lists)
+IsShapeError count ports o Pool = ArePorts ports × AreComponents count × (o.lists ≤ most_lists) × (most_words < words_behind count ports o)
+IsShapeError count ports o Memory = ⊥
+
+-- why a memory may not open with these components, ports and options: there are no such sizes, or memory is refused only where there are
+abbrev pub MayNotOpen : ℕ → ℕ → Options → OpenError → Type 0
+MayNotOpen count ports o Memory = ArePorts ports × AreComponents count × (o.lists ≤ most_lists) × (words_behind count ports o ≤ most_words)
+MayNotOpen count ports o e = IsShapeError count ports o e
+
+-- the numbers of the refusals
+abbrev pub open_code : OpenError → ℕ
+open_code Ports = 5
+open_code Components = 1
+open_code Lists = 3
+open_code Pool = 4
+open_code Memory = 6

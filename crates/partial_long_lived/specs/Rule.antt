@@ -1,0 +1,139 @@
+-- The rule of the table: its words and what the ports know are those of a lawful memory over all epochs.
+use Rattle.std.specs.Prelude.{⊤, ℕ, zero, suc, ◌≡◌, ◌+◌, ◌<◌, ◌≤◌, ◌==◌, List, [], ◌∷◌, ◌++◌, length, Option, None, IfSome, if◌then◌else◌}
+use Rattle.std.specs.List.{AllByRecursion}
+use Rattle.atomic_table.specs.Table.{State}
+use Rattle.partial_model.specs.declared.history.Applied.{Applied}
+use Rattle.partial_model.specs.History.{value_of}
+use Rattle.partial_model.specs.Notes.{Noted}
+use Rattle.partial_epochs.specs.Layout.{Plan}
+use Rattle.partial_epochs.specs.History.{carried_after, carried_behind, history_of, opening_behind}
+use Rattle.partial_epochs.specs.Ports.{Entering, Port}
+use Rattle.partial_epochs.specs.Ports.Entering.{Stands}
+use Rattle.partial_epochs.specs.Epochs.{Beside, place_now}
+use Rattle.partial_epochs.specs.Opening.{first_place}
+use Rattle.partial_epochs.specs.Entering.{arrived}
+use Rattle.partial_epochs.specs.Notes.{LawfulMemory}
+use Rattle.partial_epochs.specs.Time.{KeepsTime}
+use Rattle.partial_long_lived.specs.declared.rule.About.{About}
+
+-- the last value and the last public stamp of a component of a port's epoch, which the port has passed in a change of epoch
+pub record Found : Type 0 where
+  pub component : ℕ
+  pub value : ℕ
+  pub stamp : ℕ
+
+-- When a call made its first step: in which epoch, and how long the one history was then.
+pub record Began : Type 0 where
+  pub epoch : ℕ
+  pub length : ℕ
+
+-- what a seat knows of a port: the memory that it belongs to, its number, what it does, its notes over all epochs, when its last
+-- call began, and what it has found
+pub record Seated : Type 0 where
+  pub about : About
+  pub number : ℕ
+  pub port : Port
+  pub notes : List Noted
+  pub began : Began
+  pub found : Option Found
+
+-- the sizes and the opening of a memory, as the law of epochs has them
+abbrev pub plan_of : About → Plan
+plan_of a = record { sizes = a.sizes; ports = a.ports; arenas = a.arenas; opening = a.opening; limit = a.limit }
+
+-- the ports of all views
+abbrev pub flatten : List (List Seated) → List Seated
+flatten [] = []
+flatten (v ∷ vs) = v ++ flatten vs
+
+-- how many of these seats are of that port
+abbrev pub seats_of : ℕ → List Seated → ℕ
+seats_of k [] = 0
+seats_of k (x ∷ xs) = (if x.number == k then 1 else 0) + seats_of k xs
+
+-- the component has that value and that public stamp behind an epoch with this history, and behind the epochs before it
+pub record IsLast (e : Plan) (before : List (List Applied)) (log : List Applied) (f : Found) : Type 0 where
+  pub value : value_of (opening_behind e.opening before) log f.component ≡ f.value
+  pub stamp : carried_after (length before) (carried_behind e.opening before) log f.component ≡ f.stamp
+
+-- what the port has found is the last of a component that is sealed, and so it stays
+pub record IsFinal (e : Plan) (b : Beside) (x : Port) (f : Found) : Type 0 where
+  pub inside : f.component < e.sizes.m
+  pub passed : f.component < x.passed
+  pub last : (later : List (List Applied)) (log : List Applied) → b.log ∷ b.before ≡ later ++ log ∷ x.before → IsLast e x.before log f
+
+-- what the port has seen is a beginning of its epoch's history
+abbrev pub IsSeen : Beside → Port → Type 0
+IsSeen b x = (later : List (List Applied)) (log : List Applied) → b.log ∷ b.before ≡ later ++ log ∷ x.before →
+    (rest : List Applied) × (log ≡ x.part.seen ++ rest)
+
+-- the call began in an epoch that has come, and not before the one history was so long
+pub record HasBegun (b : Beside) (g : Began) : Type 0 where
+  pub come : g.epoch ≤ length b.before
+  pub reached : (later before : List (List Applied)) (log : List Applied) → b.log ∷ b.before ≡ later ++ log ∷ before → length before ≡ g.epoch →
+      g.length ≤ length (history_of (log ∷ before))
+
+-- a port that is entering stored its mark no earlier than its call began
+abbrev pub IsSince : Began → Entering → ℕ → Type 0
+IsSince g Stands since = ⊤
+IsSince g _ since = g.epoch ≤ since
+
+-- the seat is of a port of the memory, and knows what the port does and has noted
+pub record IsSeat (a : About) (ports : ℕ → Port) (notes : ℕ → List Noted) (b : Beside) (since : ℕ → ℕ) (x : Seated) : Type 0 where
+  pub about : x.about ≡ a
+  pub number : x.number < a.ports
+  pub port : x.port ≡ ports x.number
+  pub noted : x.notes ≡ notes x.number
+  pub seen : IsSeen b x.port
+  pub began : HasBegun b x.began
+  pub entering : IsSince x.began x.port.control.entering (since x.number)
+  pub found : IfSome x.found (IsFinal (plan_of a) b x.port)
+
+-- The rule: the words are lawful over all epochs, with ports that keep time, of which the seats know, and no two seats are of one port.
+pub record IsKept {S : Type 0} (about : About) (s : State S (List Seated)) : Type 0 where
+  pub ports : ℕ → Port
+  pub notes : ℕ → List Noted
+  pub beside : Beside
+  pub since : ℕ → ℕ
+  pub lawful : LawfulMemory (plan_of about) s.words ports beside notes
+  pub time : KeepsTime (plan_of about) s.words ports (place_now beside) since
+  pub seats : AllByRecursion (IsSeat about ports notes beside since) (flatten s.views)
+  pub once : (k : ℕ) → seats_of k (flatten s.views) ≤ 1
+
+-- the seat of a port that has made no call
+abbrev pub newcomer : About → ℕ → Seated
+newcomer about k = record { about = about; number = k; port = arrived (plan_of about) k first_place []; notes = []; began = record { epoch = 0; length = 0 }; found = None }
+
+-- n such seats from that number on
+abbrev pub newcomers : About → ℕ → ℕ → List Seated
+newcomers about k zero = []
+newcomers about k (suc n) = newcomer about k ∷ newcomers about (k + 1) n
+
+-- what stands for a seat when a view has none
+abbrev pub nobody : Seated
+nobody = newcomer (record {
+  sizes = record { m = 1; slots = 1; lists = 0; pool = 3 };
+  opening = record { values = []; first = 0 };
+  ports = 0;
+  arenas = 0;
+  limit = 0;
+}) 0
+
+-- the first seat of a view, and of the first view
+abbrev pub one_of : List Seated → Seated
+one_of [] = nobody
+one_of (x ∷ xs) = x
+
+abbrev pub one_in : List (List Seated) → Seated
+one_in [] = nobody
+one_in (v ∷ vs) = one_of v
+
+-- the first port of a view, as a view of its own
+abbrev pub first_of : List Seated → List Seated
+first_of [] = []
+first_of (x ∷ xs) = x ∷ []
+
+-- the ports of a view but the first
+abbrev pub others_of : List Seated → List Seated
+others_of [] = []
+others_of (x ∷ xs) = xs

@@ -1,0 +1,14 @@
+-- Sizes that a long-lived memory may have.
+use Rattle.std.specs.Prelude.{ℕ, ◌≡◌, ◌+◌, ◌*◌, ◌≤◌}
+use Rattle.partial_words.specs.Layout.{Layout, IsLayout, first_free, greatest_record, pool_end}
+
+-- The sizes of an arena are in range, there are 1 to 64 ports and twice as many arenas, above the limit there is room for the greatest claim of
+-- each port, and there is a slot for each two words of the pool.
+pub record IsSized (sizes : Layout) (ports arenas limit : ℕ) : Type 0 where
+  pub layout : IsLayout sizes
+  pub some : 1 ≤ ports
+  pub few : ports ≤ 64
+  pub twice : arenas ≡ 2 * ports
+  pub opens : first_free sizes ≤ limit
+  pub room : limit + greatest_record sizes * ports ≤ pool_end sizes
+  pub slots : sizes.pool ≤ 2 * sizes.slots + 3 * sizes.m

@@ -1,0 +1,99 @@
+//! Loads in the arena where a port stands.
+
+ghost use Rattle.std.specs.Prelude.{◌≡◌, ◌<◌, true, false};
+ghost use Rattle.partial_epochs.specs.Layout.{whole};
+ghost use Rattle.partial_epochs.specs.Notes.{public_of};
+ghost use Rattle.partial_epochs.specs.Ports.Entering.{Stands};
+ghost use Rattle.partial_long_lived.specs.Rule.{plan_of};
+ghost use Rattle.partial_long_lived.specs.Inner.Held.{IsHeld, port_at};
+ghost use Rattle.partial_long_lived.specs.Inner.Calls.{HasLoaded, HasValue, IsIdle, Kept};
+ghost use Rattle.partial_long_lived.specs.Inner.Loads.{Recalls, Sees};
+ghost use Rattle.partial_long_lived.specs.Inner.Loads.Wish.{Reads};
+
+use crate::plays::{ReadAgain, ReadFirst, Recall};
+use crate::rule::Words;
+use crate::stand::Stand;
+use partial_words::value_word;
+
+/// What a seal adds to a component word, which refers to a record below it.
+pub const SEAL: u64 = 1 << 56;
+
+/// Each word of an arena is below this number. A public stamp is an epoch times it, and the reference of a record.
+pub const STAMPS: u64 = 1 << 23;
+
+/// Loads the word of component `component` as the first step of a read.
+#[inline(always)]
+pub fn read_first(words: &Words, stand: &mut Stand, component: u32) -> u64
+    requires held { IsHeld words.now.table_id words.now.key stand.old }
+    requires idle { IsIdle stand.old }
+    requires inside { component < words.now.key.sizes.m }
+    ensures held { IsHeld words.now.table_id words.now.key stand.new }
+    ensures kept { Kept stand.old stand.new }
+    ensures sees { Sees true Reads component (port_at stand.old) result (port_at stand.new) }
+{
+    let word = stand.base + u64::from(component);
+    words.load::<ReadFirst>(&mut stand.seat, word as usize)
+}
+
+/// Loads it in an epoch that was the current one during the read.
+pub fn read_again(words: &Words, stand: &mut Stand, component: u32) -> u64
+    requires held { IsHeld words.now.table_id words.now.key stand.old }
+    requires idle { IsIdle stand.old }
+    requires inside { component < words.now.key.sizes.m }
+    ensures held { IsHeld words.now.table_id words.now.key stand.new }
+    ensures kept { Kept stand.old stand.new }
+    ensures sees { Sees false Reads component (port_at stand.old) result (port_at stand.new) }
+{
+    let word = stand.base + u64::from(component);
+    words.load::<ReadAgain>(&mut stand.seat, word as usize)
+}
+
+/// Loads a word that is final for the port.
+#[inline(always)]
+pub fn recall(words: &Words, stand: &mut Stand, word: u64) -> u64
+    requires held { IsHeld words.now.table_id words.now.key stand.old }
+    requires stands { (port_at stand.old).port.control.entering ≡ Stands }
+    requires within { word < whole (plan_of words.now.key) }
+    ensures held { IsHeld words.now.table_id words.now.key stand.new }
+    ensures kept { Kept stand.old stand.new }
+    ensures recalls { Recalls word (port_at stand.old) result (port_at stand.new) }
+{
+    words.load::<Recall>(&mut stand.seat, word as usize)
+}
+
+/// Loads the value of the record at `at`, which the port has loaded as that of component `component`.
+#[inline(always)]
+pub fn load_value(words: &Words, stand: &mut Stand, component: u32, at: u64) -> u64
+    requires held { IsHeld words.now.table_id words.now.key stand.old }
+    requires stands { (port_at stand.old).port.control.entering ≡ Stands }
+    requires inside { component < words.now.key.sizes.m }
+    requires loaded { HasLoaded stand.old component at }
+    ensures held { IsHeld words.now.table_id words.now.key stand.new }
+    ensures kept { Kept stand.old stand.new }
+    ensures same { port_at stand.new ≡ port_at stand.old }
+    ensures value { HasValue stand.old component result }
+{
+    let word = stand.base + value_word(at);
+    recall(words, stand, word)
+}
+
+/// The public stamp of that record: a record of the epoch's own, or the carried stamp.
+#[inline(always)]
+pub fn public_stamp(words: &Words, stand: &mut Stand, component: u32, at: u64) -> u64
+    requires held { IsHeld words.now.table_id words.now.key stand.old }
+    requires stands { (port_at stand.old).port.control.entering ≡ Stands }
+    requires inside { component < words.now.key.sizes.m }
+    requires loaded { HasLoaded stand.old component at }
+    ensures held { IsHeld words.now.table_id words.now.key stand.new }
+    ensures kept { Kept stand.old stand.new }
+    ensures same { port_at stand.new ≡ port_at stand.old }
+    ensures stamp { result ≡ public_of (plan_of words.now.key) (port_at stand.old).port.before component at }
+{
+    let sizes = stand.shape.sizes;
+    if at < u64::from(sizes.first_free()) {
+        let carried = stand.base + u64::from(sizes.total()) + u64::from(component);
+        recall(words, stand, carried)
+    } else {
+        stand.epoch * STAMPS + at
+    }
+}

@@ -1,0 +1,131 @@
+//! The calls of a port.
+
+ghost use Rattle.std.specs.Prelude.{◌≡◌, ◌≤◌, length, nat_lt, IfOk, IfErr};
+ghost use Rattle.std.specs.List.{list_all};
+ghost use Rattle.partial_model.specs.declared.call.Call.TheVariants as call;
+ghost use Rattle.partial_long_lived.specs.Calls.{IsRefused, Reads, Scans, Updates};
+ghost use Rattle.partial_long_lived.specs.Ports.{IsOf};
+
+use crate::answers::Updated;
+use crate::error::Refused;
+use crate::long_lived::LongLived;
+use crate::port::Port;
+use crate::read::read;
+use crate::scan::{public_borrowed, scan_from};
+use crate::update::update;
+use partial_core::Change;
+use partial_lines::Scanned;
+
+impl LongLived {
+    /// Sets component `component` to `value`.
+    ///
+    /// An applied update is the last entry of the history that the port has observed afterwards. A lost one was
+    /// overwritten during the call, by an entry that the port had not observed before. A port that is spent in its epoch
+    /// changes the epoch first, and one whose component is sealed changes the epoch and tries again.
+    ///
+    /// # Errors
+    /// [`Refused::Component`] exactly when the index isn't below the number of components: no step was made.
+    /// [`Refused::Overtaken`] when the port has come to a later epoch 16 times during the call; [`Refused::NoArena`] and
+    /// [`Refused::EpochsSpent`] when the epoch has to be changed and can't be. Nothing was applied or noted.
+    pub fn update(&self, me: &mut Port, component: u32, value: u64) -> Result<Updated, Refused>
+        requires { IsOf self.now me.old }
+        ensures same { IsOf self.now me.new }
+        ensures answered { IfOk result (λ r. Updates me.old component value r me.new) }
+        ensures refused { IfErr result (λ cause. IsRefused me.old (call.Update component value) cause me.new) }
+    {
+        if component >= self.shape.sizes.m() {
+            return Err(Refused::Component);
+        }
+        let change = Change {
+            component,
+            expected: None,
+            value,
+        };
+        let stand = me.seating.take();
+        let words = &self.table.shared;
+        let (stand, spent, ended) = update(words, stand, &mut me.core, change, me.spent);
+        let epoch = stand.epoch;
+        me.spent = spent;
+        me.seating.keep(stand);
+        match ended {
+            Ok(exchanged) => Ok(Updated::of(epoch, exchanged)),
+            Err(cause) => Err(cause),
+        }
+    }
+
+    /// Reads component `component`: its value and its stamp, as they stood at one moment of the call. No two updates
+    /// have the same stamp, whatever their epochs.
+    ///
+    /// # Errors
+    /// [`Refused::Component`] exactly when the index isn't below the number of components: no step was made.
+    pub fn read(&self, me: &mut Port, component: u32) -> Result<(u64, u64), Refused>
+        requires { IsOf self.now me.old }
+        ensures same { IsOf self.now me.new }
+        ensures answered { IfOk result (λ r. Reads me.old component r.0 r.1 me.new) }
+        ensures refused { IfErr result (λ cause. IsRefused me.old (call.Read component) cause me.new) }
+    {
+        if component >= self.shape.sizes.m() {
+            return Err(Refused::Component);
+        }
+        let mut stand = me.seating.take();
+        let epoch = stand.epoch;
+        let answer = read(&self.table.shared, &mut stand, component);
+        if stand.epoch != epoch {
+            me.core.clear_marks();
+            me.spent = false;
+        }
+        me.seating.keep(stand);
+        Ok(answer)
+    }
+
+    /// Scans these components, in this order and with repeats: `into` has their values as they stood together at one
+    /// moment of the call. It makes at most as many collects as there are positions, and two more; a scan of no
+    /// position makes no step. A port that is spent in its epoch changes the epoch first.
+    ///
+    /// # Errors
+    /// [`Refused::Component`] exactly when an index isn't below the number of components: no step was made.
+    /// [`Refused::NoArena`] and [`Refused::EpochsSpent`] when the epoch has to be changed and can't be: nothing is
+    /// noted. `into` is unchanged.
+    pub fn scan(&self, me: &mut Port, which: &[u32], into: &mut [u64]) -> Result<Scanned, Refused>
+        requires own { IsOf self.now me.old }
+        requires lengths { (length into.old ≡ length which.now) × (length which.now ≤ self.now.about.sizes.m) }
+        ensures same { IsOf self.now me.new }
+        ensures answered { IfOk result (λ s. Scans me.old which.now into.new s me.new) }
+        ensures refused { IfErr result (λ cause. IsRefused me.old (call.Scan which.now) cause me.new) }
+        ensures unchanged { IfErr result (λ _. into.new ≡ into.old) }
+    {
+        if which.is_empty() {
+            return Ok(Scanned {
+                collects: 0,
+                borrowed: None,
+            });
+        }
+        if !all_below(which, self.shape.sizes.m()) {
+            return Err(Refused::Component);
+        }
+        let words = &self.table.shared;
+        let stand = me.seating.take();
+        let (stand, spent, scanned) = scan_from(words, stand, &mut me.core, me.spent, which, into);
+        let epoch = stand.epoch;
+        me.spent = spent;
+        me.seating.keep(stand);
+        match scanned {
+            Ok(Scanned { collects, borrowed }) => Ok(Scanned {
+                collects,
+                borrowed: public_borrowed(epoch, borrowed),
+            }),
+            Err(cause) => Err(cause),
+        }
+    }
+}
+
+// Checks whether each index is below the number of components.
+fn all_below(indices: &[u32], components: u32) -> bool
+    ensures { result ≡ list_all (λ i. nat_lt i components) indices.now }
+{
+    let mut all = true;
+    for index in indices {
+        all = all & (*index < components);
+    }
+    all
+}

@@ -1,0 +1,101 @@
+//! A change of epoch.
+
+ghost use Rattle.std.specs.Prelude.{◌≡◌, ◌+◌, ◌<◌, ◌==◌, IfErr, IfOk, true};
+ghost use Rattle.partial_words.specs.Layout.{first_free};
+ghost use Rattle.partial_long_lived.specs.Inner.Held.{IsHeld, port_at};
+ghost use Rattle.partial_long_lived.specs.Inner.Calls.{IsIdle, Kept, Looked, MayLook};
+ghost use Rattle.partial_long_lived.specs.Inner.Changing.{Changed, IsCause, IsPast, IsSame, NotChanged, Owns, Stays, Works};
+
+use crate::change_plays::Publish;
+use crate::claim::{Claimed, claim, give};
+use crate::enter::{ARENAS, enter, look, look_first};
+use crate::error::Refused;
+use crate::fill::fill;
+use crate::rule::Words;
+use crate::seal::seal;
+use crate::stand::Stand;
+
+/// The number of each epoch is below this one.
+const EPOCHS: u64 = 2_199_023_255_552;
+
+/// Changes the epoch, or enters the one to which another port has changed it. `first` says that the look with which it
+/// begins is the first step of its call.
+///
+/// # Errors
+/// [`Refused::NoArena`] when three passes over the arenas for each port have found no free one;
+/// [`Refused::EpochsSpent`] when the port's epoch is the last one. The port stands where it stood, and owns no arena.
+pub fn change(words: &Words, stand: &mut Stand, first: bool) -> Result<(), Refused>
+    requires held { IsHeld words.now.table_id words.now.key stand.old }
+    requires may { IsIdle stand.old }
+    ensures held { IsHeld words.now.table_id words.now.key stand.new }
+    ensures changed { IfOk result (λ _. Changed first stand.old stand.new) }
+    ensures refused { IfErr result (λ _. NotChanged first stand.old stand.new) }
+    ensures cause { IfErr result (IsCause stand.new) }
+{
+    if !look_as(words, stand, first) {
+        enter(words, stand);
+        return Ok(());
+    }
+    open_next(words, stand)?;
+    enter(words, stand);
+    Ok(())
+}
+
+// Looks, as the first step of a call or as another one.
+fn look_as(words: &Words, stand: &mut Stand, first: bool) -> bool
+    requires held { IsHeld words.now.table_id words.now.key stand.old }
+    requires may { MayLook stand.old }
+    ensures held { IsHeld words.now.table_id words.now.key stand.new }
+    ensures kept { Kept stand.old stand.new }
+    ensures looked { Looked first stand.old result stand.new }
+{
+    if first {
+        look_first(words, stand)
+    } else {
+        look(words, stand)
+    }
+}
+
+// Seals the components of the port's epoch and opens the next one, unless another port does so first.
+fn open_next(words: &Words, stand: &mut Stand) -> Result<(), Refused>
+    requires held { IsHeld words.now.table_id words.now.key stand.old }
+    requires may { IsIdle stand.old }
+    ensures held { IsHeld words.now.table_id words.now.key stand.new }
+    ensures stays { Stays stand.old stand.new }
+    ensures free { IsIdle stand.new }
+    ensures past { IfOk result (λ _. IsPast stand.new) }
+    ensures same { IfErr result (λ _. IsSame stand.old stand.new) }
+    ensures cause { IfErr result (IsCause stand.new) }
+{
+    if stand.epoch + 1 == EPOCHS {
+        return Err(Refused::EpochsSpent);
+    }
+    seal(words, stand);
+    match claim(words, stand) {
+        Claimed::Clean(arena) => {
+            fill(words, stand, arena);
+            publish(words, stand, arena);
+            give(words, stand, arena);
+            Ok(())
+        }
+        Claimed::Taken => Err(Refused::NoArena),
+        Claimed::Ended => Ok(()),
+    }
+}
+
+// Makes the epoch in the arena the current one, unless the port's epoch has ended.
+fn publish(words: &Words, stand: &mut Stand, arena: u32)
+    requires held { IsHeld words.now.table_id words.now.key stand.old }
+    requires works { Works stand.old arena words.now.key.ports
+        (first_free words.now.key.sizes + words.now.key.sizes.m) }
+    requires inside { arena < words.now.key.arenas }
+    requires room { stand.old.epoch + 1 < 2199023255552 }
+    ensures held { IsHeld words.now.table_id words.now.key stand.new }
+    ensures stays { Stays stand.old stand.new }
+    ensures owns { Owns stand.new arena }
+    ensures past { IsPast stand.new }
+{
+    let here = stand.packed();
+    let next = (stand.epoch + 1) * ARENAS + u64::from(arena);
+    words.compare_exchange::<Publish>(&mut stand.seat, 0, here, next);
+}

@@ -1,0 +1,107 @@
+//! What the atomic steps of a change of epoch tell their ports.
+
+use crate::rule::View;
+use atomic_table::Play;
+
+/// The load of the word of the next component.
+pub struct Pass;
+
+impl Play<(), View> for Pass {
+    ghost use Rattle.partial_long_lived.specs.Inner.Steps.{tells};
+    ghost use Rattle.partial_long_lived.specs.Inner.Moves.{PassesSealed};
+
+    ghost then = { λ _. tells PassesSealed };
+}
+
+/// The addition that seals it.
+pub struct Seal;
+
+impl Play<(), View> for Seal {
+    ghost use Rattle.partial_long_lived.specs.Inner.Steps.{tells};
+    ghost use Rattle.partial_long_lived.specs.Inner.Moves.{Seals};
+
+    ghost then = { λ _. tells Seals };
+}
+
+/// The exchange of the owner word of an arena.
+pub struct Take;
+
+impl Play<(), View> for Take {
+    ghost use Rattle.partial_long_lived.specs.Inner.Steps.{tells};
+    ghost use Rattle.partial_long_lived.specs.Inner.Changing.{TakesBy};
+
+    ghost then = { λ s. tells (TakesBy s.word) };
+}
+
+/// The store that gives the arena back.
+pub struct Give;
+
+impl Play<(), View> for Give {
+    ghost use Rattle.partial_long_lived.specs.Inner.Steps.{tells};
+    ghost use Rattle.partial_long_lived.specs.Inner.Moves.{Gives};
+
+    ghost then = { λ _. tells Gives };
+}
+
+/// The load of the word of the next port, with which the owner of an arena isn't done yet.
+pub struct LoadPort;
+
+impl Play<(), View> for LoadPort {
+    ghost use Rattle.partial_long_lived.specs.Inner.Steps.{tells};
+    ghost use Rattle.partial_long_lived.specs.Inner.Moves.{LoadsPort};
+    ghost use Rattle.partial_long_lived.specs.Inner.Changing.{OfOwned};
+
+    ghost then = { λ _. tells (OfOwned LoadsPort) };
+}
+
+/// The exchange of the mark of that port.
+pub struct Put;
+
+impl Play<(), View> for Put {
+    ghost use Rattle.partial_long_lived.specs.Inner.Steps.{tells};
+    ghost use Rattle.partial_long_lived.specs.Inner.Changing.{PutsBy};
+
+    ghost then = { λ s. tells (PutsBy s.first) };
+}
+
+/// The store of the next word of the owned arena.
+pub struct SetWord;
+
+impl Play<(), View> for SetWord {
+    ghost use Rattle.partial_long_lived.specs.Inner.Steps.{tells};
+    ghost use Rattle.partial_long_lived.specs.Inner.Changing.{SetsNext};
+
+    ghost then = { λ _. tells SetsNext };
+}
+
+/// The store of the last word before the list words.
+pub struct SetLists;
+
+impl Play<(), View> for SetLists {
+    ghost use Rattle.partial_long_lived.specs.Inner.Steps.{tells};
+    ghost use Rattle.partial_long_lived.specs.Inner.Changing.{SetsLists};
+
+    ghost then = { λ _. tells SetsLists };
+}
+
+/// The load of a component word that is sealed, for what the next epoch begins with.
+pub struct Find;
+
+impl Play<(), View> for Find {
+    ghost use Rattle.std.specs.Prelude.{false};
+    ghost use Rattle.partial_long_lived.specs.Inner.Loads.{sees};
+    ghost use Rattle.partial_long_lived.specs.Inner.Loads.Wish.{Finds};
+
+    ghost then = { λ s. sees false Finds s.word };
+}
+
+/// The exchange of the current word.
+pub struct Publish;
+
+impl Play<(), View> for Publish {
+    ghost use Rattle.partial_long_lived.specs.Inner.Steps.{tells};
+    ghost use Rattle.partial_long_lived.specs.Inner.Moves.{Publishes};
+    ghost use Rattle.partial_long_lived.specs.Inner.Changing.{OfOwned};
+
+    ghost then = { λ _. tells (OfOwned Publishes) };
+}

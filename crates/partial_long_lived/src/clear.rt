@@ -1,0 +1,89 @@
+//! How the owner of an arena sees that no port stands there or comes to it.
+
+ghost use Rattle.std.specs.Prelude.{◌≡◌, ◌+◌, ◌<◌, ◌≤◌};
+ghost use Rattle.partial_long_lived.specs.Inner.Held.{IsHeld};
+ghost use Rattle.partial_long_lived.specs.Inner.Changing.{HasCleared, HasLoadedPort, HasTaken, MayPutPort, Remains, Works};
+
+use crate::change_plays::{LoadPort, Put};
+use crate::claim::Claimed;
+use crate::enter::{ARENAS, MARK, look};
+use crate::rule::Words;
+use crate::stand::Stand;
+
+/// Looks as the owner of an arena, and goes over all ports in the order of their numbers.
+pub fn clear(words: &Words, stand: &mut Stand, arena: u32) -> Claimed
+    requires held { IsHeld words.now.table_id words.now.key stand.old }
+    requires taken { HasTaken stand.old arena }
+    ensures held { IsHeld words.now.table_id words.now.key stand.new }
+    ensures remains { Remains stand.old stand.new }
+    ensures cleared { HasCleared arena words.now.key.ports result stand.new }
+{
+    if !look(words, stand) {
+        return Claimed::Ended;
+    }
+    for port in 0..stand.shape.ports {
+        match clear_port(words, stand, arena, port) {
+            Claimed::Clean(_) => {}
+            Claimed::Taken => return Claimed::Taken,
+            Claimed::Ended => return Claimed::Ended,
+        }
+    }
+    Claimed::Clean(arena)
+}
+
+// Sees that the next port is in another arena; a port that is entering is put where the owner stands.
+fn clear_port(words: &Words, stand: &mut Stand, arena: u32, port: u32) -> Claimed
+    requires held { IsHeld words.now.table_id words.now.key stand.old }
+    requires works { Works stand.old arena port 0 }
+    requires inside { port < words.now.key.ports }
+    ensures held { IsHeld words.now.table_id words.now.key stand.new }
+    ensures remains { Remains stand.old stand.new }
+    ensures cleared { HasCleared arena (port + 1) result stand.new }
+{
+    let found = load_port(words, stand, arena, port);
+    if found < MARK {
+        return if found % ARENAS == u64::from(arena) {
+            Claimed::Taken
+        } else {
+            Claimed::Clean(arena)
+        };
+    }
+    if look(words, stand) {
+        put_port(words, stand, arena, port, found)
+    } else {
+        Claimed::Ended
+    }
+}
+
+// Loads the word of the next port.
+fn load_port(words: &Words, stand: &mut Stand, arena: u32, port: u32) -> u64
+    requires held { IsHeld words.now.table_id words.now.key stand.old }
+    requires works { Works stand.old arena port 0 }
+    requires inside { port < words.now.key.ports }
+    ensures held { IsHeld words.now.table_id words.now.key stand.new }
+    ensures remains { Remains stand.old stand.new }
+    ensures loaded { HasLoadedPort stand.new arena port result }
+{
+    words.load::<LoadPort>(&mut stand.seat, 1 + port as usize)
+}
+
+// Puts the next port, of which the owner has loaded the mark, where the owner stands.
+fn put_port(words: &Words, stand: &mut Stand, arena: u32, port: u32, mark: u64) -> Claimed
+    requires held { IsHeld words.now.table_id words.now.key stand.old }
+    requires may { MayPutPort stand.old arena port mark }
+    requires marked { 9223372036854775808 ≤ mark }
+    requires inside { port < words.now.key.ports }
+    ensures held { IsHeld words.now.table_id words.now.key stand.new }
+    ensures remains { Remains stand.old stand.new }
+    ensures cleared { HasCleared arena (port + 1) result stand.new }
+{
+    let here = stand.packed();
+    let found = words.compare_exchange::<Put>(&mut stand.seat, 1 + port as usize, mark, here);
+    if found == mark {
+        return Claimed::Clean(arena);
+    }
+    if found < MARK && found % ARENAS != u64::from(arena) {
+        return Claimed::Clean(arena);
+    }
+    Claimed::Taken
+}

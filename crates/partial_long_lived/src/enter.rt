@@ -1,0 +1,71 @@
+//! A look at the current epoch, and how a port enters it.
+
+ghost use Rattle.std.specs.Prelude.{◌≡◌, ◌<◌, true, false};
+ghost use Rattle.partial_epochs.specs.Layout.{packed};
+ghost use Rattle.partial_long_lived.specs.Inner.Held.{IsHeld};
+ghost use Rattle.partial_long_lived.specs.Inner.Calls.{Kept, Looked, MayLook, Entered, MayEnter};
+
+use crate::plays::{Arrive, FirstLook, LoadCurrent, Look, Mark};
+use crate::rule::Words;
+use crate::stand::Stand;
+
+/// The highest bit of a word: the port is entering from the place that the word names.
+pub const MARK: u64 = 1 << 63;
+
+/// One and the greatest number of an arena.
+pub const ARENAS: u64 = 1 << 16;
+
+impl Stand {
+    /// The word of the place where the port stands.
+    #[inline(always)]
+    pub fn packed(&self) -> u64
+        requires { (self.now.epoch < 2199023255552) × (self.now.arena < 65536) }
+        ensures { result ≡ packed (record { epoch = self.now.epoch; arena = self.now.arena }) }
+    {
+        self.epoch * ARENAS + u64::from(self.arena)
+    }
+}
+
+/// Loads the current word, and says whether the port's epoch is the current one. If not, that epoch has ended.
+pub fn look(words: &Words, stand: &mut Stand) -> bool
+    requires held { IsHeld words.now.table_id words.now.key stand.old }
+    requires may { MayLook stand.old }
+    ensures held { IsHeld words.now.table_id words.now.key stand.new }
+    ensures kept { Kept stand.old stand.new }
+    ensures looked { Looked false stand.old result stand.new }
+{
+    let found = words.load::<Look>(&mut stand.seat, 0);
+    found == stand.packed()
+}
+
+/// The same as the first step of a call.
+pub fn look_first(words: &Words, stand: &mut Stand) -> bool
+    requires held { IsHeld words.now.table_id words.now.key stand.old }
+    requires may { MayLook stand.old }
+    ensures held { IsHeld words.now.table_id words.now.key stand.new }
+    ensures kept { Kept stand.old stand.new }
+    ensures looked { Looked true stand.old result stand.new }
+{
+    let found = words.load::<FirstLook>(&mut stand.seat, 0);
+    found == stand.packed()
+}
+
+/// Enters the current epoch, or a later one than the port's where another port puts this one. The port has looked, and
+/// owns no arena.
+pub fn enter(words: &Words, stand: &mut Stand)
+    requires held { IsHeld words.now.table_id words.now.key stand.old }
+    requires may { MayEnter stand.old }
+    ensures held { IsHeld words.now.table_id words.now.key stand.new }
+    ensures entered { Entered stand.old stand.new }
+{
+    let mark = MARK + stand.packed();
+    let at = 1 + stand.number as usize;
+    words.store::<Mark>(&mut stand.seat, at, mark);
+    let current = words.load::<LoadCurrent>(&mut stand.seat, 0);
+    let found = words.compare_exchange::<Arrive>(&mut stand.seat, at, mark, current);
+    let place = if found == mark { current } else { found };
+    stand.epoch = place / ARENAS;
+    stand.arena = (place % ARENAS) as u32;
+    stand.base = stand.shape.base(stand.arena);
+    stand.passed = 0;
+}

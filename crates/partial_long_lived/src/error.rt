@@ -1,0 +1,38 @@
+//! Why a call of a long-lived memory is refused.
+
+ghost use Rattle.std.specs.Prelude.{◌≡◌};
+
+use thiserror::Error;
+
+/// Why a call is refused. A refused call applies nothing.
+#[derive(Clone, Copy, Debug, PartialEq, Eq, Error)]
+pub enum Refused {
+    /// An index isn't below the number of components.
+    #[error("component out of range")]
+    Component,
+    /// The update has come to a later epoch as often as it may, and took effect in none.
+    #[error("overtaken by changes of epoch")]
+    Overtaken,
+    /// Each arena is in use: three passes over them for each port have found no free one.
+    #[error("no arena is free")]
+    NoArena,
+    /// The current epoch is the last one that a word can name.
+    #[error("epochs used up")]
+    EpochsSpent,
+}
+
+impl Refused {
+    ghost use Rattle.partial_long_lived.specs.Refusals.{refused_code};
+
+    /// The number of the refusal: 7 for `Component`, 25 for `Overtaken`, 26 for `NoArena`, 27 for `EpochsSpent`.
+    pub fn code(&self) -> u8
+        ensures { result ≡ refused_code self.now }
+    {
+        match self {
+            Refused::Component => 7,
+            Refused::Overtaken => 25,
+            Refused::NoArena => 26,
+            Refused::EpochsSpent => 27,
+        }
+    }
+}

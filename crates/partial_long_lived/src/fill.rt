@@ -1,0 +1,137 @@
+//! How the owner of an arena sets its words to those with which the next epoch begins.
+
+ghost use Rattle.std.specs.Prelude.{◌≡◌, ◌+◌, ◌*◌, ◌<◌, ◌≤◌, []};
+ghost use Rattle.partial_words.specs.Layout.{first_free, list_base, pool_base};
+ghost use Rattle.partial_words.specs.Chain.{opening_word};
+ghost use Rattle.partial_long_lived.specs.Inner.Held.{IsHeld, port_at};
+ghost use Rattle.partial_long_lived.specs.Inner.Changing.{HasPassed, IsRight, Stays, Works};
+
+use crate::change_plays::{SetLists, SetWord};
+use crate::find::{find_stamp, find_value};
+use crate::rule::Words;
+use crate::stand::Stand;
+use partial_words::Sizes;
+
+/// Sets all words of the arena.
+pub fn fill(words: &Words, stand: &mut Stand, arena: u32)
+    requires held { IsHeld words.now.table_id words.now.key stand.old }
+    requires works { Works stand.old arena words.now.key.ports 0 }
+    requires inside { arena < words.now.key.arenas }
+    requires sealed { words.now.key.sizes.m ≤ (port_at stand.old).port.passed }
+    ensures held { IsHeld words.now.table_id words.now.key stand.new }
+    ensures stays { Stays stand.old stand.new }
+    ensures works { Works stand.new arena words.now.key.ports
+        (first_free words.now.key.sizes + words.now.key.sizes.m) }
+{
+    fill_front(words, stand, arena);
+    for component in 0..stand.shape.sizes.m() {
+        fill_record(words, stand, arena, component);
+    }
+    for component in 0..stand.shape.sizes.m() {
+        fill_stamp(words, stand, arena, component);
+    }
+}
+
+// Sets the words before the list words: components, counters and slots. An opening asks nothing of list words.
+fn fill_front(words: &Words, stand: &mut Stand, arena: u32)
+    requires held { IsHeld words.now.table_id words.now.key stand.old }
+    requires works { Works stand.old arena words.now.key.ports 0 }
+    requires inside { arena < words.now.key.arenas }
+    requires sealed { words.now.key.sizes.m ≤ (port_at stand.old).port.passed }
+    ensures held { IsHeld words.now.table_id words.now.key stand.new }
+    ensures stays { Stays stand.old stand.new }
+    ensures passed { HasPassed stand.old stand.new }
+    ensures works { Works stand.new arena words.now.key.ports (pool_base words.now.key.sizes) }
+{
+    let last = stand.shape.sizes.list_base() - 1;
+    for word in 0..last {
+        let value = front_word(&stand.shape.sizes, word);
+        set_word(words, stand, arena, word, value);
+    }
+    set_lists(words, stand, arena, last);
+}
+
+// The word before the list words with which each epoch begins.
+fn front_word(sizes: &Sizes, word: u32) -> u64
+    requires { word < list_base sizes.now }
+    ensures { result ≡ opening_word sizes.now [] word }
+{
+    if word < sizes.m() {
+        u64::from(sizes.initial_record(word))
+    } else if word == sizes.pool_counter() {
+        u64::from(sizes.first_free())
+    } else if word == sizes.list_counter() {
+        u64::from(sizes.list_base())
+    } else {
+        0
+    }
+}
+
+// Sets the initial record of a component.
+fn fill_record(words: &Words, stand: &mut Stand, arena: u32, component: u32)
+    requires held { IsHeld words.now.table_id words.now.key stand.old }
+    requires works { Works stand.old arena words.now.key.ports (pool_base words.now.key.sizes + 3 * component) }
+    requires inside { arena < words.now.key.arenas }
+    requires within { component < words.now.key.sizes.m }
+    requires sealed { words.now.key.sizes.m ≤ (port_at stand.old).port.passed }
+    ensures held { IsHeld words.now.table_id words.now.key stand.new }
+    ensures stays { Stays stand.old stand.new }
+    ensures passed { HasPassed stand.old stand.new }
+    ensures works { Works stand.new arena words.now.key.ports (pool_base words.now.key.sizes + 3 * component + 3) }
+{
+    let at = stand.shape.sizes.initial_record(component);
+    set_word(words, stand, arena, at, 0);
+    let value = find_value(words, stand, component);
+    set_word(words, stand, arena, at + 1, value);
+    set_word(words, stand, arena, at + 2, 0);
+}
+
+// Sets the stamp that a component carries into the next epoch.
+fn fill_stamp(words: &Words, stand: &mut Stand, arena: u32, component: u32)
+    requires held { IsHeld words.now.table_id words.now.key stand.old }
+    requires works { Works stand.old arena words.now.key.ports (first_free words.now.key.sizes + component) }
+    requires inside { arena < words.now.key.arenas }
+    requires within { component < words.now.key.sizes.m }
+    requires sealed { words.now.key.sizes.m ≤ (port_at stand.old).port.passed }
+    ensures held { IsHeld words.now.table_id words.now.key stand.new }
+    ensures stays { Stays stand.old stand.new }
+    ensures passed { HasPassed stand.old stand.new }
+    ensures works { Works stand.new arena words.now.key.ports (first_free words.now.key.sizes + component + 1) }
+{
+    let stamp = find_stamp(words, stand, component);
+    let word = stand.shape.sizes.first_free() + component;
+    set_word(words, stand, arena, word, stamp);
+}
+
+// Sets the next word of the arena.
+fn set_word(words: &Words, stand: &mut Stand, arena: u32, word: u32, value: u64)
+    requires held { IsHeld words.now.table_id words.now.key stand.old }
+    requires works { Works stand.old arena words.now.key.ports word }
+    requires inside { arena < words.now.key.arenas }
+    requires sealed { words.now.key.sizes.m ≤ (port_at stand.old).port.passed }
+    requires right { IsRight (port_at stand.old) value word }
+    ensures held { IsHeld words.now.table_id words.now.key stand.new }
+    ensures stays { Stays stand.old stand.new }
+    ensures passed { HasPassed stand.old stand.new }
+    ensures works { Works stand.new arena words.now.key.ports (word + 1) }
+{
+    let at = stand.shape.set_word(arena, word) as usize;
+    words.store::<SetWord>(&mut stand.seat, at, value);
+}
+
+// Sets the last word before the list words to 0, which stand for set then.
+fn set_lists(words: &Words, stand: &mut Stand, arena: u32, word: u32)
+    requires held { IsHeld words.now.table_id words.now.key stand.old }
+    requires works { Works stand.old arena words.now.key.ports word }
+    requires inside { arena < words.now.key.arenas }
+    requires sealed { words.now.key.sizes.m ≤ (port_at stand.old).port.passed }
+    requires last { word + 1 ≡ list_base words.now.key.sizes }
+    requires zero { 0 ≡ opening_word words.now.key.sizes [] word }
+    ensures held { IsHeld words.now.table_id words.now.key stand.new }
+    ensures stays { Stays stand.old stand.new }
+    ensures passed { HasPassed stand.old stand.new }
+    ensures works { Works stand.new arena words.now.key.ports (pool_base words.now.key.sizes) }
+{
+    let at = stand.shape.set_word(arena, word) as usize;
+    words.store::<SetLists>(&mut stand.seat, at, 0);
+}

@@ -1,0 +1,16 @@
+//! Laws about the ports of a memory. The functions have no code: their contracts hold of the definitions by which those
+//! of the calls are stated.
+
+ghost use Rattle.partial_long_lived.specs.AllPorts.{ClosedWithAllPorts, OpenedPortsAreAll};
+
+/// The ports with which a memory opens are all of its ports: one for each number.
+pub fn opened_ports_are_all()
+    ensures { OpenedPortsAreAll }
+{}
+
+/// When a memory is closed with all its ports, in any order, there is one history of distinct stamps over all epochs. In
+/// it each port's notes are legal and its entries are the updates that its notes say were applied; each entry is in the
+/// notes of exactly one port; and the values are those after it.
+pub fn closed_with_all_ports()
+    ensures { ClosedWithAllPorts }
+{}

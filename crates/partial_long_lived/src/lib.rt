@@ -1,0 +1,43 @@
+//! A memory that never wears out. Its words lie in arenas, one for each epoch, that are used again and again; its
+//! ports go from epoch to epoch, and no caller waits for another.
+#![tactic(auto)]
+
+mod answers;
+mod arena;
+mod calls;
+mod change;
+mod change_plays;
+mod claim;
+mod clear;
+mod closed;
+mod enter;
+mod error;
+mod fill;
+mod find;
+pub mod law;
+mod lines;
+mod long_lived;
+mod machine_plays;
+mod open_error;
+mod options;
+mod places;
+mod plays;
+mod port;
+mod read;
+mod rule;
+mod scan;
+mod seal;
+mod seating;
+mod shape;
+mod stand;
+mod update;
+
+pub use answers::Updated;
+pub use error::Refused;
+pub use law::{closed_with_all_ports, opened_ports_are_all};
+pub use long_lived::{LongLived, Unclosed};
+pub use open_error::OpenError;
+pub use options::Options;
+pub use partial_lines::Scanned;
+pub use port::Port;
+pub use rule::About;

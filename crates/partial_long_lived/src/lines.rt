@@ -1,0 +1,97 @@
+//! The steps of a call of a port's machine, made in the arena where the port stands.
+
+ghost use Rattle.std.specs.Prelude.{◌≡◌, ◌<◌, Some};
+ghost use Rattle.std.proofs.Common.{refl, ◌∙◌};
+ghost use Rattle.partial_words.specs.declared.step.Step.TheVariants.{Load};
+ghost use Rattle.partial_machine.specs.Machine.{advance, step_of};
+ghost use Rattle.partial_machine.specs.Possible.{IsPossible};
+ghost use Rattle.partial_lines.specs.Lines.{IsQuiet};
+ghost use Rattle.partial_long_lived.specs.Inner.Under.{IsGoing, Leads, leads_itself, leads_on, machine_at};
+
+use crate::arena::SEAL;
+use crate::machine_plays::{AddOn, ExchangeOn, LoadOn, StoreOn};
+use crate::rule::Words;
+use crate::stand::Stand;
+use partial_lines::Makes;
+use partial_words::Step;
+
+/// The steps of the call of a port, made in its arena.
+#[derive(Drop)]
+pub struct ArenaLines<'a> {
+    /// The words that all threads share.
+    pub words: &'a Words,
+    /// The seat of the port.
+    pub stand: Stand,
+}
+
+impl<'a> Makes for ArenaLines<'a> {
+    ghost goes = { λ l. IsGoing l.words.now.table_id l.words.now.key l.stand };
+
+    ghost machine = { λ l. machine_at l.stand };
+
+    ghost leads = { λ l k. (k.words ≡ l.words) × Leads l.stand k.stand };
+
+    #[inline(always)]
+    fn make(&mut self, step: Step) -> u64 {
+        make(self.words, &mut self.stand, step)
+    }
+
+    #[inline(always)]
+    fn load(&mut self, word: u64) -> u64 {
+        make_load(self.words, &mut self.stand, word)
+    }
+
+    ghost sound = { λ l w. let m = w.under.3 in m.made.sound };
+
+    ghost leads_itself = { λ l. (refl, leads_itself l.stand) };
+
+    ghost leads_on = { λ l k j f g. (g.0 ∙ f.0, leads_on l.stand k.stand j.stand f.1 g.1) };
+}
+
+/// Makes the step that is due in the call of the port, and returns its answer.
+#[inline(always)]
+pub fn make(words: &Words, stand: &mut Stand, step: Step) -> u64
+    requires going { IsGoing words.now.table_id words.now.key stand.old }
+    requires due { step_of (machine_at stand.old) ≡ Some step }
+    requires quiet { IsQuiet (machine_at stand.old).stage }
+    ensures going { IsGoing words.now.table_id words.now.key stand.new }
+    ensures leads { Leads stand.old stand.new }
+    ensures machine { machine_at stand.new ≡ advance (machine_at stand.old) result }
+    ensures possible { IsPossible (machine_at stand.old) result }
+{
+    match step {
+        Step::Load(word) => make_load(words, stand, u64::from(word)),
+        Step::Store(word, value) => {
+            let at = stand.base + u64::from(word);
+            words.store::<StoreOn>(&mut stand.seat, at as usize, value);
+            0
+        }
+        Step::Exchange(word, old, new) => {
+            let at = stand.base + u64::from(word);
+            words.compare_exchange::<ExchangeOn>(&mut stand.seat, at as usize, old, new)
+        }
+        Step::Add(word, by) => {
+            let at = stand.base + u64::from(word);
+            words.fetch_add::<AddOn>(&mut stand.seat, at as usize, by)
+        }
+    }
+}
+
+/// Makes a load that is due, and returns its answer: a component word without its seals.
+#[inline(always)]
+pub fn make_load(words: &Words, stand: &mut Stand, word: u64) -> u64
+    requires going { IsGoing words.now.table_id words.now.key stand.old }
+    requires due { step_of (machine_at stand.old) ≡ Some (Load word) }
+    ensures going { IsGoing words.now.table_id words.now.key stand.new }
+    ensures leads { Leads stand.old stand.new }
+    ensures machine { machine_at stand.new ≡ advance (machine_at stand.old) result }
+    ensures possible { IsPossible (machine_at stand.old) result }
+{
+    let at = stand.base + word;
+    let found = words.load::<LoadOn>(&mut stand.seat, at as usize);
+    if word < u64::from(stand.shape.sizes.m()) {
+        found % SEAL
+    } else {
+        found
+    }
+}

@@ -1,0 +1,54 @@
+//! Why a long-lived memory was not opened.
+
+ghost use Rattle.std.specs.Prelude.{◌≡◌};
+
+use std::alloc::AllocError;
+use thiserror::Error;
+
+/// Why a memory was not opened. Nothing is left of the attempt.
+#[derive(Clone, Copy, Debug, PartialEq, Eq, Error)]
+pub enum OpenError {
+    /// There are not 1 to 64 ports.
+    #[error("ports out of range")]
+    Ports,
+    /// There are not 1 to 65,536 initial values.
+    #[error("components out of range")]
+    Components,
+    /// There are more than 65,536 list words.
+    #[error("list words out of range")]
+    Lists,
+    /// An arena would have more than 131,072 pool words behind the initial records: those of the options, and room for
+    /// the greatest record of each port.
+    #[error("pool words out of range")]
+    Pool,
+    /// An allocation was refused.
+    #[error("out of memory")]
+    Memory,
+}
+
+impl OpenError {
+    ghost use Rattle.partial_long_lived.specs.Options.{open_code};
+
+    /// The number of the refusal: 5 for `Ports`, 1 for `Components`, 3 for `Lists`, 4 for `Pool`, 6 for `Memory`.
+    pub fn code(&self) -> u8
+        ensures { result ≡ open_code self.now }
+    {
+        match self {
+            OpenError::Ports => 5,
+            OpenError::Components => 1,
+            OpenError::Lists => 3,
+            OpenError::Pool => 4,
+            OpenError::Memory => 6,
+        }
+    }
+}
+
+impl From<AllocError> for OpenError {
+    ghost use Rattle.partial_long_lived.specs.declared.open_error.OpenError.TheVariants.{Memory};
+
+    ghost from_gives = { λ _ e. e ≡ Memory };
+
+    fn from(_error: AllocError) -> OpenError {
+        OpenError::Memory
+    }
+}

@@ -1,0 +1,88 @@
+//! What the atomic steps of calls tell their ports.
+
+use crate::rule::View;
+use atomic_table::Play;
+
+/// A load of the current word.
+pub struct Look;
+
+impl Play<(), View> for Look {
+    ghost use Rattle.std.specs.Prelude.{false};
+    ghost use Rattle.partial_long_lived.specs.Inner.Steps.{tells};
+    ghost use Rattle.partial_long_lived.specs.Inner.Moves.{Looks};
+
+    ghost then = { λ _. tells (Looks false) };
+}
+
+/// A load of the current word that is the first step of a call.
+pub struct FirstLook;
+
+impl Play<(), View> for FirstLook {
+    ghost use Rattle.std.specs.Prelude.{true};
+    ghost use Rattle.partial_long_lived.specs.Inner.Steps.{tells};
+    ghost use Rattle.partial_long_lived.specs.Inner.Moves.{Looks};
+
+    ghost then = { λ _. tells (Looks true) };
+}
+
+/// The store of the entering mark.
+pub struct Mark;
+
+impl Play<(), View> for Mark {
+    ghost use Rattle.partial_long_lived.specs.Inner.Steps.{tells};
+    ghost use Rattle.partial_long_lived.specs.Inner.Moves.{StoresMark};
+
+    ghost then = { λ _. tells StoresMark };
+}
+
+/// The load of the current place into which a port enters.
+pub struct LoadCurrent;
+
+impl Play<(), View> for LoadCurrent {
+    ghost use Rattle.partial_long_lived.specs.Inner.Steps.{tells};
+    ghost use Rattle.partial_long_lived.specs.Inner.Moves.{LoadsCurrent};
+
+    ghost then = { λ _. tells LoadsCurrent };
+}
+
+/// The exchange of the entering mark, whose operand is the word of the place that was loaded.
+pub struct Arrive;
+
+impl Play<(), View> for Arrive {
+    ghost use Rattle.partial_long_lived.specs.Inner.Steps.{tells};
+    ghost use Rattle.partial_long_lived.specs.Inner.Moves.{Arrives, unpacked};
+
+    ghost then = { λ s. tells (Arrives (unpacked s.second)) };
+}
+
+/// The load of a component word that is the first step of a read.
+pub struct ReadFirst;
+
+impl Play<(), View> for ReadFirst {
+    ghost use Rattle.std.specs.Prelude.{true};
+    ghost use Rattle.partial_long_lived.specs.Inner.Loads.{sees};
+    ghost use Rattle.partial_long_lived.specs.Inner.Loads.Wish.{Reads};
+
+    ghost then = { λ s. sees true Reads s.word };
+}
+
+/// The load of a component word by which a read goes on, in an epoch that was the current one during its call.
+pub struct ReadAgain;
+
+impl Play<(), View> for ReadAgain {
+    ghost use Rattle.std.specs.Prelude.{false};
+    ghost use Rattle.partial_long_lived.specs.Inner.Loads.{sees};
+    ghost use Rattle.partial_long_lived.specs.Inner.Loads.Wish.{Reads};
+
+    ghost then = { λ s. sees false Reads s.word };
+}
+
+/// The load of a value that the port has seen, or of a carried stamp.
+pub struct Recall;
+
+impl Play<(), View> for Recall {
+    ghost use Rattle.partial_long_lived.specs.Inner.Steps.{tells};
+    ghost use Rattle.partial_long_lived.specs.Inner.Loads.{Recalls};
+
+    ghost then = { λ s. tells (Recalls s.word) };
+}

@@ -1,0 +1,62 @@
+//! A port: what one caller holds of a memory.
+
+ghost use Rattle.std.specs.Prelude.{◌≡◌, [], ◌∷◌};
+ghost use Rattle.partial_long_lived.specs.Rule.{Seated};
+ghost use Rattle.partial_long_lived.specs.Inner.Steps.{IsKnown};
+ghost use Rattle.partial_long_lived.specs.Ports.{Knows, port_view};
+
+use crate::rule::Token;
+use crate::seating::Seating;
+use partial_core::Core;
+use std::marker::Model;
+
+/// A caller's token of a memory. One caller at a time uses it. To contracts it is what the caller reasons about: its
+/// memory, its number, the history that it has observed, and the notes of its calls.
+#[derive(Drop)]
+pub struct Port {
+    pub(crate) seating: Seating,
+    pub(crate) core: Core,
+    // Whether the port has claimed past the limit in its epoch, or its machine has met a seal there.
+    pub(crate) spent: bool,
+    // Keeps ports that lie side by side on separate cache lines.
+    pub(crate) apart: [u64; 16],
+}
+
+impl Model for Port {
+    ghost use Rattle.partial_long_lived.specs.Rule.{one_in};
+    ghost use Rattle.partial_long_lived.specs.Ports.{PortView, port_view};
+    ghost use Rattle.partial_long_lived.specs.Resting.{IsResting};
+
+    ghost Value = { PortView };
+
+    ghost view = { λ p. port_view p.seating.badge.table_id (one_in p.seating.badge.views) };
+
+    ghost invariant = { λ p. IsResting p.seating p.core p.spent };
+}
+
+impl Port {
+    /// The number of the port: ports are numbered from 0 in the order in which `open` returns them. The clause `knows`
+    /// holds whatever calls the port has made: its notes are legal in the history that it has observed, and its entries
+    /// there are those of its notes.
+    pub fn number(&self) -> u32
+        ensures value { result ≡ self.now.number }
+        ensures knows { Knows self.now.memory.about self.now.number self.now.seen self.now.notes }
+    {
+        self.seating.number
+    }
+
+    // Takes the seat of a port that makes no further call.
+    pub(crate) fn into_seat(self) -> Token
+        ensures table { result.table_id ≡ self.memory.table }
+        ensures one { (x : Seated) × (result.me ≡ (x ∷ [], [])) × (port_view self.memory.table x ≡ self) × IsKnown x }
+    {
+        let Port {
+            seating,
+            core: _,
+            spent: _,
+            apart: _,
+        } = self;
+        let Seating { badge, .. } = seating;
+        badge.into_seat()
+    }
+}

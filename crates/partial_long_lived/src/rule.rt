@@ -1,0 +1,75 @@
+//! The rule of the table, and the ports of its seats.
+
+use atomic_table::{Join, Seat, Shared, Split, TableRule};
+use partial_model::Opening;
+use partial_words::Sizes;
+use std::marker::Model;
+
+/// What a long-lived memory was opened with.
+#[derive(Drop)]
+pub struct About {
+    /// The sizes of an arena: the number of components, slots, list words and pool words.
+    pub sizes: Sizes,
+    /// The initial values, and the stamp of component 0.
+    pub opening: Opening,
+    /// How many ports it has: 1 to 64.
+    pub ports: u32,
+    /// How many arenas it has: twice as many.
+    pub arenas: u32,
+    /// The word of an arena's pool at which the claim of an update ends, or it is the port's last one in the epoch.
+    pub limit: u64,
+}
+
+/// The ports that a seat stands for, mostly one. It is ghost state: no value of it is ever made.
+#[derive(Drop)]
+pub struct View {
+    none: (),
+}
+
+impl Model for View {
+    ghost use Rattle.std.specs.Prelude.{List, []};
+    ghost use Rattle.partial_long_lived.specs.Rule.{Seated};
+
+    ghost Value = { List Seated };
+
+    ghost view = { λ _. [] };
+}
+
+/// The rule of the table: the words and the ports of all seats are those of a lawful memory over all epochs.
+pub struct Lawful;
+
+impl TableRule<(), View, About> for Lawful {
+    ghost use Rattle.partial_long_lived.specs.Rule.{IsKept, newcomers};
+
+    ghost holds = { λ about s. IsKept about s };
+
+    ghost first = { λ about. newcomers about 0 about.ports };
+}
+
+/// The words of a memory, shared by its threads.
+pub type Words = Shared<(), View, About, Lawful>;
+
+/// A seat of the table. Whoever holds it may make steps for its ports.
+pub type Token = Seat<(), View>;
+
+/// Gives the first port of a seat a seat of its own.
+pub struct Deals;
+
+impl Split<View> for Deals {
+    ghost use Rattle.partial_long_lived.specs.Rule.{first_of, others_of};
+
+    ghost left = { others_of };
+
+    ghost right = { first_of };
+}
+
+/// Gathers the ports of two seats in the first one.
+pub struct Gathers;
+
+impl Join<View> for Gathers {
+    ghost use Rattle.std.specs.Prelude.{[], ◌++◌};
+
+    ghost both = { λ v w. v ++ w };
+
+    ghost spent = { [] };
+}

@@ -1,0 +1,19 @@
+//! The sizes of a long-lived memory.
+
+ghost use Rattle.partial_long_lived.specs.Sized.{IsSized};
+
+use partial_words::Sizes;
+
+/// The sizes of an arena, how many ports and arenas there are, and where an update's claim ends.
+#[derive(Clone, Copy, Debug)]
+pub struct Shape {
+    /// The sizes of an arena.
+    pub sizes: Sizes,
+    /// How many ports there are.
+    pub ports: u32,
+    /// How many arenas there are.
+    pub arenas: u32,
+    /// The word of an arena's pool at which the claim of an update ends, or it is its port's last one in the epoch.
+    pub limit: u64,
+    pub ghost sized: { IsSized sizes ports arenas limit },
+}

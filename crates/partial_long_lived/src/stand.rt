@@ -1,0 +1,23 @@
+//! The seat of a port in a call.
+
+use crate::rule::Token;
+use crate::shape::Shape;
+
+/// The seat of a port, with where the port stands, or from where it enters an epoch.
+#[derive(Drop)]
+pub struct Stand {
+    /// The seat of the port.
+    pub seat: Token,
+    /// The sizes of the memory.
+    pub shape: Shape,
+    /// The number of the port.
+    pub number: u32,
+    /// The epoch in which it stands.
+    pub epoch: u64,
+    /// The arena of that epoch.
+    pub arena: u32,
+    /// The first word of the arena.
+    pub base: u64,
+    /// How many components of the arena it has passed in changes of epoch: each of them is sealed.
+    pub passed: u32,
+}

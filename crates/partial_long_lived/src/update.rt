@@ -1,0 +1,194 @@
+//! Updates.
+
+ghost use Rattle.std.specs.Prelude.{◌≡◌, ◌<◌, IfSome, IfNone, IfOk, IfErr, None, true, false};
+ghost use Rattle.partial_machine.specs.declared.stage.Stage.TheVariants.{Idle, UpdateBegun, Exchanging};
+ghost use Rattle.partial_machine.specs.Machine.{at_stage};
+ghost use Rattle.partial_machine.specs.Sound.{IsSound};
+ghost use Rattle.partial_long_lived.specs.Inner.Held.{IsHeld, port_at};
+ghost use Rattle.partial_long_lived.specs.Inner.Calls.{IsIdle, Kept};
+ghost use Rattle.partial_long_lived.specs.Inner.Machine.{Begins};
+ghost use Rattle.partial_long_lived.specs.Inner.Rests.{RestsAt};
+ghost use Rattle.partial_long_lived.specs.Inner.Under.{IsGoing, MayBegin, machine_at};
+ghost use Rattle.partial_long_lived.specs.Inner.Updates.{Attempted, CameBy, ExchangeDue, IsLate, IsOwn, MayCall, MeetsSealed, Updated};
+
+use crate::arena::SEAL;
+use crate::change::change;
+use crate::error::Refused;
+use crate::lines::ArenaLines;
+use crate::machine_plays::{BeginAgain, BeginFirst, ExchangeComponent, Moment};
+use crate::rule::Words;
+use crate::stand::Stand;
+use partial_core::{Change, Core};
+use partial_lines::{Exchanged, put};
+use partial_words::full_record_size;
+use std::marker::Brand;
+
+/// How many epochs an update may change before it is refused.
+const MOST_CHANGES: u32 = 16;
+
+/// Makes an update of a port, in as many epochs as it takes. `spent` says whether the port is spent in its epoch. Returns
+/// the seat, whether the port is spent then, and how the update ended, with stamps of the epoch where the port stands.
+///
+/// # Errors
+/// [`Refused::Overtaken`] when the port has come to a later epoch 16 times; [`Refused::NoArena`] and
+/// [`Refused::EpochsSpent`] when the epoch has to be changed and can't be. Nothing was applied.
+pub fn update(
+    words: &Words,
+    mut stand: Stand,
+    core: &mut Core,
+    change: Change,
+    spent: bool,
+) -> (Stand, bool, Result<Exchanged, Refused>)
+    requires held { IsHeld words.now.table_id words.now.key stand }
+    requires rests { RestsAt stand core.old spent }
+    requires inside { change.component < words.now.key.sizes.m }
+    requires plain { change.expected ≡ None }
+    ensures held { IsHeld words.now.table_id words.now.key result.0 }
+    ensures rests { RestsAt result.0 core.new result.1 }
+    ensures updated { IfOk result.2 (λ r. Updated true change r stand result.0) }
+    ensures refused { IfErr result.2 (λ cause. IsLate cause × CameBy true stand result.0) }
+{
+    if !spent {
+        return rounds(words, stand, core, change, true, MOST_CHANGES);
+    }
+    if let Err(cause) = renew(words, &mut stand, core, true) {
+        return (stand, true, Err(cause));
+    }
+    rounds(words, stand, core, change, false, MOST_CHANGES - 1)
+}
+
+// Makes an update of a port that is not spent, and changes the epoch behind each attempt that met a seal, so many times.
+// `first` says that the first step of the update is the first one of its call.
+fn rounds(
+    words: &Words,
+    mut stand: Stand,
+    core: &mut Core,
+    change: Change,
+    first: bool,
+    times: u32,
+) -> (Stand, bool, Result<Exchanged, Refused>)
+    requires held { IsHeld words.now.table_id words.now.key stand }
+    requires idle { IsIdle stand }
+    requires may { MayCall (port_at stand) core.old }
+    requires inside { change.component < words.now.key.sizes.m }
+    requires plain { change.expected ≡ None }
+    requires some { 0 < times }
+    ensures held { IsHeld words.now.table_id words.now.key result.0 }
+    ensures idle { IsIdle result.0 }
+    ensures rests { IsOwn (port_at result.0) core.new }
+    ensures spare { result.1 ≡ false → MayCall (port_at result.0) core.new }
+    ensures updated { IfOk result.2 (λ r. Updated first change r stand result.0) }
+    ensures refused { IfErr result.2 (λ cause. IsLate cause × CameBy first stand result.0) }
+{
+    let mut first_step = first;
+    for _ in 0..times {
+        let (behind, ended) = attempt(words, stand, core, change, first_step);
+        stand = behind;
+        if let Some((exchanged, spent)) = ended {
+            return (stand, spent, Ok(exchanged));
+        }
+        if let Err(cause) = renew(words, &mut stand, core, false) {
+            return (stand, true, Err(cause));
+        }
+        first_step = false;
+    }
+    (stand, false, Err(Refused::Overtaken))
+}
+
+// Changes the epoch of a port, whose machine is a new one then. `first` says that its look is the first step of a call.
+// It is refused as `change` is: the port stands where it stood, with the machine that it had.
+fn renew(words: &Words, stand: &mut Stand, core: &mut Core, first: bool) -> Result<(), Refused>
+    requires held { IsHeld words.now.table_id words.now.key stand.old }
+    requires idle { IsIdle stand.old }
+    requires rests { IsOwn (port_at stand.old) core.old }
+    ensures held { IsHeld words.now.table_id words.now.key stand.new }
+    ensures idle { IsIdle stand.new }
+    ensures rests { IsOwn (port_at stand.new) core.new }
+    ensures spare { IfOk result (λ _. MayCall (port_at stand.new) core.new) }
+    ensures came { CameBy first stand.old stand.new }
+    ensures late { IfErr result IsLate }
+{
+    change(words, stand, first)?;
+    core.clear_marks();
+    Ok(())
+}
+
+// Makes an update of a port that is not spent, in the port's epoch. Returns how it ended, with stamps of the epoch's own,
+// and whether the port is spent then; or `None` when the component is sealed. Then nothing was applied, and the port is
+// spent. `first` says that the first step of the update is the first one of its call.
+fn attempt(
+    words: &Words,
+    mut stand: Stand,
+    core: &mut Core,
+    change: Change,
+    first: bool,
+) -> (Stand, Option<(Exchanged, bool)>)
+    requires held { IsHeld words.now.table_id words.now.key stand }
+    requires idle { IsIdle stand }
+    requires may { MayCall (port_at stand) core.old }
+    requires inside { change.component < words.now.key.sizes.m }
+    requires plain { change.expected ≡ None }
+    ensures held { IsHeld words.now.table_id words.now.key result.0 }
+    ensures attempted { IfSome result.1 (λ r. Attempted first change r.0 stand result.0) }
+    ensures sealed { IfNone result.1 (MeetsSealed first stand result.0) }
+    ensures rests { IsOwn (port_at result.0) core.new }
+    ensures spare { IfSome result.1 (λ r. r.1 ≡ false → MayCall (port_at result.0) core.new) }
+{
+    let old = begin::<Brand>(words, &mut stand, core, change, first);
+    if old >= SEAL {
+        return (stand, None);
+    }
+    let (lines, written) = put(ArenaLines { words, stand }, core, change, old);
+    let ArenaLines {
+        words: _,
+        mut stand,
+    } = lines;
+    let Some(at) = written else { unreachable!() };
+    let found = exchange(words, &mut stand, change, old, at);
+    if found >= SEAL && found % SEAL == old {
+        return (stand, None);
+    }
+    let greatest = full_record_size(u64::from(stand.shape.sizes.m()));
+    let spent = at + greatest > stand.shape.limit;
+    (stand, Some((Exchanged::of(old, at, found % SEAL), spent)))
+}
+
+// Makes the first step of an update in the port's epoch, the load of its component word, and returns the word. `G` is the
+// machine that begins the update, unless the component is sealed. `first` says that the step is the first one of the call.
+#[inline(always)]
+fn begin<G: Moment>(
+    words: &Words,
+    stand: &mut Stand,
+    core: &Core,
+    change: Change,
+    first: bool,
+) -> u64
+    requires held { IsHeld words.now.table_id words.now.key stand.old }
+    requires begins { MayBegin G.core (port_at stand.old) }
+    requires moment { G.core ≡ at_stage core.now (UpdateBegun change) }
+    requires inside { change.component < words.now.key.sizes.m }
+    ensures held { IsHeld words.now.table_id words.now.key stand.new }
+    ensures kept { Kept stand.old stand.new }
+    ensures begun { Begins first G.core change.component (port_at stand.old) result (port_at stand.new) }
+{
+    let word = stand.base + u64::from(change.component);
+    if first {
+        words.load::<BeginFirst<G>>(&mut stand.seat, word as usize)
+    } else {
+        words.load::<BeginAgain<G>>(&mut stand.seat, word as usize)
+    }
+}
+
+// Exchanges the component of an update whose record lies at `at`, and returns the word that was found.
+#[inline(always)]
+fn exchange(words: &Words, stand: &mut Stand, change: Change, old: u64, at: u64) -> u64
+    requires going { IsGoing words.now.table_id words.now.key stand.old }
+    requires due { (machine_at stand.old).stage ≡ Exchanging change old at }
+    requires inside { change.component < words.now.key.sizes.m }
+    ensures held { IsHeld words.now.table_id words.now.key stand.new }
+    ensures kept { Kept stand.old stand.new }
+    ensures exchanged { ExchangeDue stand.old change old at result stand.new }
+{
+    let word = stand.base + u64::from(change.component);
+    words.compare_exchange::<ExchangeComponent>(&mut stand.seat, word as usize, old, at)
+}
