@@ -54,6 +54,10 @@ compile() {
 build_bitcode() {
     bindings/bitcode.sh "$made/bitcode/libpartial_door.a" >"$made/flags"
 }
+# Whether this example of the crate for Rust runs to its end.
+example() {
+    (cd bindings/rust && cargo run --offline --quiet --release --example "$1")
+}
 # Whether the program of these tests has a function of the library for scans, and none for reads.
 calls_no_read() {
     cat "$made"/bitcode/target/release/deps/threads-* >"$made/program" &&
@@ -96,6 +100,8 @@ item "the header is one of C++ too" sh -c 'echo "#include \"partial.h\"" |
 item "the C test is compiled with the address sanitizer" compile "$made/test_address" bindings/c/test.c \
     -fsanitize=address,undefined -g
 counts "the C test with the address sanitizer" "$made/test_address"
+item "the example in C is compiled" compile "$made/producers" bindings/c/examples/producers.c
+item "the example in C" "$made/producers"
 item "the test of refused growths is compiled" compile "$made/growths" bindings/c/growths.c
 counts "the test of refused growths" "$made/growths"
 if command -v cargo >/dev/null 2>&1; then
@@ -104,6 +110,9 @@ if command -v cargo >/dev/null 2>&1; then
     CARGO_TARGET_DIR=$made/target
     export CARGO_TARGET_DIR
     item "the tests and examples of the Rust binding" sh -c 'cd bindings/rust && cargo test --offline --quiet'
+    for example in bindings/rust/examples/*.rs; do
+        item "the example $example" example "$(basename "$example" .rs)"
+    done
     item "the Rust binding without the library" without_library
     item "a library of another name is refused" refuses "$PWD/other.a" \
         "PARTIAL_DOOR_LIB has to name a file libpartial_door.a, and names $PWD/other.a"

@@ -78,6 +78,7 @@ refuse_all replay_tests 'replays::growths::.*'
 refuse_all client_tests 'rounds::growths::.*'
 refuse_all replay_tests 'commands::growths::.*'
 refuse_all memory_tests 'growths::.*'
+refuse_all long_lived_tests 'growths::.*'
 refuse_all client_tests 'pipeline::growths::.*'
 refuse_all picture_tests 'growths::.*' manages
 

@@ -132,6 +132,9 @@ count "$top/tests/runs.py" "$program"
 # Random plans of one port: what is run is what is replayed.
 count "$top/tests/alone.py" "$program"
 
+# Long work is shown on a terminal, and nowhere else.
+count "$top/tests/terminal.py" "$program"
+
 # 64 ports where there is no room for 64 threads: nothing is written, once the started ones have ended.
 {
     printf 'sizes 2 64 64 4096\ninitial 10 20\n'
@@ -146,7 +149,7 @@ else
 fi
 
 # Nothing of that first plan is run where the second one has fewer components: its refusal comes first.
-expect "" "" $'partial: refused 13: fewer components than before\n'
+expect "" "" "partial: refused 13: $room/small.plan: fewer components than before"$'\n'
 printf '%s' $'sizes 1 4 8 64\ninitial 0\nport\nsteps\n' >"$room/small.plan"
 if (failed=0 && ulimit -v 100000 && case_of fewer_components_before_threads 1 run "$room/threads.plan" "$room/small.plan" &&
     [ "$failed" -eq 0 ]); then
@@ -223,14 +226,22 @@ printf '%s' $'sizes 3 4 8 64\ninitial 0 0 0\nport read 0; read 2\nsteps rest\n' 
 printf '%s' $'sizes 1 4 8 64\ninitial 0\nport\nsteps\n' >"$room/small.plan"
 expect "" $'call 0 0 applied 24\ncall 0 1 read 7 24\nvalues 7 20\ncall 0 0 read 7 19\ncall 0 1 read 0 25\nvalues 7 20 0\n' ""
 case_of run_goes_on 0 run "$room/first.plan" "$room/second.plan"
-expect "" "" $'partial: refused 13: fewer components than before\n'
+# A fault names the file that it is of.
+expect "" "" "partial: refused 13: $room/small.plan: fewer components than before"$'\n'
 case_of run_with_fewer_components 1 run "$room/first.plan" "$room/small.plan"
-expect "" "" $'partial: refused 11: read fault\n'
+expect "" "" "partial: refused 11: $room/missing: read fault"$'\n'
 case_of run_with_missing_next_file 1 run "$room/first.plan" "$room/missing"
 case_of run_of_missing_file_with_next 1 run "$room/missing" "$room/second.plan"
-expect "" "" $'partial: refused 10: line 0: size\n'
+expect "" "" "partial: refused 11: $room: read fault"$'\n'
+case_of run_with_unreadable_next_file 1 run "$room/first.plan" "$room"
+expect "" "" "partial: refused 10: $room/long.plan: line 0: size"$'\n'
 head -c 4194305 /dev/zero >"$room/long.plan"
 case_of run_with_too_long_next_plan 1 run "$room/first.plan" "$room/long.plan"
+case_of run_of_too_long_plan_with_next 1 run "$room/long.plan" "$room/second.plan"
+printf '%s' "$head" >"$room/ended.plan"
+expect "" "" "partial: refused 10: $room/ended.plan: line 3: end"$'\n'
+case_of run_of_refused_plan_with_next 1 run "$room/ended.plan" "$room/second.plan"
+case_of run_with_refused_next_plan 1 run "$room/first.plan" "$room/ended.plan"
 
 # A plan that is longer than a plan may be: 4,194,305 bytes.
 expect "" "" $'partial: refused 10: line 0: size\n'

@@ -4,7 +4,7 @@ use clap::Error;
 use clap::error::ErrorKind;
 use partial_cmd::Fault;
 use partial_replay::PlanError;
-use std::alloc::AllocError;
+use std::alloc::{AllocError, Global};
 use std::{fmt, io};
 
 /// Why the program ends with nothing done.
@@ -14,6 +14,8 @@ pub enum Stop {
     Usage,
     /// The request was refused.
     Refused(Fault),
+    /// The request was refused for a fault of the plan in the file with this name.
+    RefusedFile(String, Fault),
 }
 
 impl Stop {
@@ -21,7 +23,20 @@ impl Stop {
     pub fn status(&self) -> u8 {
         match self {
             Stop::Usage => 2,
-            Stop::Refused(_) => 1,
+            Stop::Refused(_) | Stop::RefusedFile(..) => 1,
+        }
+    }
+
+    /// A refusal of two plans, that names the file of the one at fault when it is a fault of a plan.
+    pub fn of_file(alloc: Global, path: &str, fault: Fault) -> Stop {
+        let names = match fault {
+            Fault::Plan(PlanError::Memory) => false,
+            Fault::Plan(_) | Fault::TooSmall => true,
+            _ => false,
+        };
+        match format!(in alloc; "{path}") {
+            Ok(name) if names => Stop::RefusedFile(name, fault),
+            _ => Stop::Refused(fault),
         }
     }
 }
@@ -31,6 +46,9 @@ impl fmt::Display for Stop {
         match self {
             Stop::Usage => write!(f, "usage"),
             Stop::Refused(fault) => write!(f, "refused {}: {fault}", fault.code()),
+            Stop::RefusedFile(path, fault) => {
+                write!(f, "refused {}: {path}: {fault}", fault.code())
+            }
         }
     }
 }

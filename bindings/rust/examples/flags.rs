@@ -1,0 +1,53 @@
+//! A store of flags, 64 to a component, that threads flip by conditional updates. No flip is lost: at the end a flag
+//! is set exactly when it was flipped an odd number of times.
+
+use partial_door::{open, Port, Refused, Sizes};
+use std::error::Error;
+use std::thread;
+
+const WORDS: u32 = 4;
+const THREADS: u32 = 4;
+const FLIPS: u64 = 10_000;
+
+/// Flips flags by turns, and returns which ones this thread has flipped an odd number of times.
+fn flip(mut port: Port, thread: u32) -> Result<[u64; WORDS as usize], Refused> {
+    let mut odd = [0; WORDS as usize];
+    for turn in 0..FLIPS {
+        let number = (turn * 7 + u64::from(thread)) % (64 * u64::from(WORDS));
+        let (word, flag) = ((number / 64) as u32, 1 << (number % 64));
+        port.modify(word, |flags| Some(flags ^ flag))?;
+        odd[word as usize] ^= flag;
+    }
+    Ok(odd)
+}
+
+/// Sets the first flag that is clear in two words, when one is, as they stand together at one moment.
+fn set_first_clear(port: &mut Port, words: [u32; 2]) -> Result<Option<u64>, Refused> {
+    for (word, flags) in words.into_iter().zip(port.scan_array(words)?) {
+        if flags != u64::MAX {
+            let flag = flags.trailing_ones();
+            port.modify(word, |flags| (flags & (1 << flag) == 0).then_some(flags | 1 << flag))?;
+            return Ok(Some(64 * u64::from(word) + u64::from(flag)));
+        }
+    }
+    Ok(None)
+}
+
+fn main() -> Result<(), Box<dyn Error + Send + Sync>> {
+    let (memory, ports) = open(&[0; WORDS as usize], Sizes::default(), THREADS)?;
+    let threads: Vec<_> =
+        (0..).zip(ports).map(|(thread, port)| thread::spawn(move || flip(port, thread))).collect();
+    let mut odd = [0; WORDS as usize];
+    for thread in threads {
+        for (all, one) in odd.iter_mut().zip(thread.join().expect("no thread panics")?) {
+            *all ^= one;
+        }
+    }
+    let mut port = memory.port().expect("a port that was dropped is given out again");
+    assert_eq!(port.scan_array([0, 1, 2, 3])?, odd);
+    let set = set_first_clear(&mut port, [1, 3])?;
+    drop(port);
+    let flags: u32 = memory.close(Vec::new())?.values().iter().map(|word| word.count_ones()).sum();
+    println!("{} flips by {THREADS} threads: {flags} flags are set, at last {set:?}", FLIPS * u64::from(THREADS));
+    Ok(())
+}
