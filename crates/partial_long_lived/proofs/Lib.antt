@@ -9,6 +9,8 @@ pub mod Changes
 pub mod Claims
 pub mod Closes
 pub mod Coming
+pub mod Conditional
+pub mod ConditionalRounds
 pub mod Control
 pub mod Current
 pub mod Enters

@@ -1,5 +1,5 @@
 -- The rounds of an update: an attempt, and a change of epoch, and so on.
-use Rattle.std.proofs.Common.{Result, Ok, Err, IfOk, IfErr, ◌≡◌, ◌≤◌, ◌++◌, Bool, true, false, List, [], ◌∷◌, length, refl, sym, ap, subst, ◌∙◌, arith, append-nil}
+use Rattle.std.proofs.Common.{ℕ, Option, None, Result, Ok, Err, IfOk, IfErr, ◌≡◌, ◌≤◌, ◌++◌, Bool, true, false, List, [], ◌∷◌, length, refl, sym, ap, subst, ◌∙◌, arith, append-nil}
 use Rattle.atomic_table.specs.Seated.{TableId}
 use Rattle.partial_model.specs.declared.history.Applied.{Applied}
 use Rattle.partial_model.specs.Notes.{Noted}
@@ -18,7 +18,7 @@ use Rattle.partial_long_lived.specs.Inner.Steps.{Goes}
 use Rattle.partial_long_lived.specs.Inner.Moves.{BeganBy}
 use Rattle.partial_long_lived.specs.Inner.Held.{IsHeld, port_at}
 use Rattle.partial_long_lived.specs.Inner.Calls.{IsIdle}
-use Rattle.partial_long_lived.specs.Inner.Updates.{Attempted, CameBy, IsLate, IsOwn, MayCall, MeetsSealed, Updated, noted_update}
+use Rattle.partial_long_lived.specs.Inner.Updates.{Attempted, CameBy, IsEntryOf, IsLate, IsOwn, MayCall, NotesNothing, Updated, noted_update, noted_where}
 use Rattle.partial_long_lived.proofs.Coming.{goes_on}
 
 -- whether the call began with its first step here, or as before, where the next step may still be its first one
@@ -75,22 +75,25 @@ may_own x core may = record { idle = may.rests.between.idle; sound = may.rests.b
 
 module _ (table : TableId) (about : About) (first next : Bool) (s u : Stand) (core : CoreState) (on : RoundsOn table about first next s u core) (t : Stand) where
   -- the attempt has ended the update
-  pub round_ended : (c : Change) (r : Exchanged) → Attempted next c r u t → Updated first c r s t
-  round_ended c r attempt =
+  pub round_ended : (c : Change) → c.expected ≡ None → (r : Exchanged) → IsHeld table about t → Attempted next c r u t → Updated first c r s t
+  round_ended c plain r held attempt =
       let goes = attempt.stayed.kept.goes in
+      let epoch = held.known.epoch ∙ sym held.epoch in
+      let noted : noted_where (port_at t) c.expected c r attempt.place ≡ noted_update t.epoch c r attempt.place =
+      ap (λ (e : Option ℕ). noted_where (port_at t) e c r attempt.place) plain ∙ ap (λ n. noted_update n c r attempt.place) epoch in
       record {
         shape = attempt.stayed.kept.shape ∙ on.shape;
         number = attempt.stayed.kept.number ∙ on.number;
         goes = goes_on (port_at s) (port_at u) (port_at t) on.goes goes;
         began = began_on first next s u (port_at t).began on.began on.goes attempt.stayed.began;
         place = attempt.place;
-        notes = attempt.notes ∙ ap (λ (l : List Noted). l ++ noted_update t.epoch c r attempt.place ∷ []) on.notes;
+        notes = attempt.notes ∙ ap (λ n. (port_at u).notes ++ n ∷ []) noted ∙ ap (λ (l : List Noted). l ++ noted_update t.epoch c r attempt.place ∷ []) on.notes;
         behind = attempt.behind;
-        within = attempt.within;
+        within = subst (λ (e : Option ℕ). IsEntryOf e r attempt.place (length (seen_in (port_at t).port))) plain attempt.within;
       }
 
   -- it has met a seal, and so has come so far
-  pub round_met : MeetsSealed next u t → CameBy first s t
+  pub round_met : NotesNothing next u t → CameBy first s t
   round_met met = record {
     shape = met.stayed.kept.shape ∙ on.shape;
     number = met.stayed.kept.number ∙ on.number;

@@ -10,6 +10,9 @@ use Rattle.partial_machine.specs.Machine.{CoreState}
 use Rattle.partial_lines.specs.declared.exchange.Exchanged.{Exchanged}
 use Rattle.partial_lines.specs.declared.exchange.Exchanged.TheVariants.{Applied as IsApplied, Overtaken as IsOvertaken}
 use Rattle.partial_long_lived.specs.declared.rule.About.{About}
+use Rattle.partial_long_lived.specs.declared.answers.UpdatedIf.{UpdatedIf}
+use Rattle.partial_long_lived.specs.declared.answers.UpdatedIf.TheVariants as conditional
+use Rattle.partial_long_lived.specs.declared.update_if.Asked.{Asked}
 use Rattle.partial_long_lived.specs.declared.error.Refused.{Refused}
 use Rattle.partial_long_lived.specs.declared.error.Refused.TheVariants.{Component, Overtaken, NoArena, EpochsSpent}
 use Rattle.partial_long_lived.specs.declared.stand.Stand.{Stand}
@@ -20,6 +23,7 @@ use Rattle.partial_long_lived.specs.Calls as calls
 use Rattle.partial_long_lived.specs.Seating.{IsStandOf, IsSeatingOf}
 use Rattle.partial_long_lived.specs.Inner.Held.{IsHeld, port_at}
 use Rattle.partial_long_lived.specs.Inner.Calls.{IsIdle}
+use Rattle.partial_long_lived.specs.Inner.Conditional.{HasUpdatedIf}
 use Rattle.partial_long_lived.specs.Inner.Rests.{RestsAt}
 use Rattle.partial_long_lived.specs.Inner.Updates.{CameBy, IsLate, IsOwn, MayCall, Updated, noted_update, public_update, stamp_from}
 use Rattle.partial_long_lived.proofs.Answering.{callers_see, goes_seen, rests_unmarked}
@@ -94,6 +98,42 @@ not_updated_seen table s t j v Overtaken late w inside = ((inside, tt), goes_see
 not_updated_seen table s t j v NoArena late w inside = ((inside, tt), goes_seen table (port_at s) (port_at t) [] w.goes (w.notes ∙ sym (append-nil (port_at s).notes)))
 not_updated_seen table s t j v EpochsSpent late w inside = ((inside, tt), goes_seen table (port_at s) (port_at t) [] w.goes (w.notes ∙ sym (append-nil (port_at s).notes)))
 
+-- a conditional update that ended, as callers see it
+has_updated_if_seen : (table : TableId) (s t : Stand) (a : Asked) (r : UpdatedIf) → HasUpdatedIf a r s t → a.component < (port_at s).about.sizes.m →
+    calls.UpdatesIf (port_view table (port_at s)) a.component a.expected a.value r (port_view table (port_at t))
+has_updated_if_seen table s t a (conditional.Applied stamp) w inside =
+    let first = w.began in
+    let behind = w.behind in
+    let within = w.within in (
+      w.place,
+      record {
+        inside = (inside, tt);
+        goes = goes_seen table (port_at s) (port_at t) _ w.goes w.notes;
+        behind = omega (arith, first, behind);
+        within = omega (arith, within);
+      },
+      within,
+    )
+has_updated_if_seen table s t a (conditional.Changed by) w inside =
+    let first = w.began in
+    let behind = w.behind in (
+      w.place,
+      record {
+        inside = (inside, tt);
+        goes = goes_seen table (port_at s) (port_at t) _ w.goes w.notes;
+        behind = omega (arith, first, behind);
+        within = w.within;
+      },
+    )
+
+-- one that was refused, as callers see it
+not_updated_if_seen : (table : TableId) (s t : Stand) (j e v : ℕ) (cause : Refused) → IsLate cause → CameBy true s t → j < (port_at s).about.sizes.m →
+    calls.IsRefused (port_view table (port_at s)) (call.UpdateIf j e v) cause (port_view table (port_at t))
+not_updated_if_seen table s t j e v Component late w inside = absurd late
+not_updated_if_seen table s t j e v Overtaken late w inside = ((inside, tt), goes_seen table (port_at s) (port_at t) [] w.goes (w.notes ∙ sym (append-nil (port_at s).notes)))
+not_updated_if_seen table s t j e v NoArena late w inside = ((inside, tt), goes_seen table (port_at s) (port_at t) [] w.goes (w.notes ∙ sym (append-nil (port_at s).notes)))
+not_updated_if_seen table s t j e v EpochsSpent late w inside = ((inside, tt), goes_seen table (port_at s) (port_at t) [] w.goes (w.notes ∙ sym (append-nil (port_at s).notes)))
+
 -- the same, from the seat that was taken out to the one that was put back
 module _ (m : MemoryView) (s : Seating) (t u : Stand) (s' : Seating) (p : PortView) (k : IsStandOf s t) (view : port_view s.badge.table_id (one_in s.badge.views) ≡ p) (own : IsOf m p)
     (held : IsHeld m.table m.about u) (k' : IsSeatingOf u s') where
@@ -108,3 +148,15 @@ module _ (m : MemoryView) (s : Seating) (t u : Stand) (s' : Seating) (p : PortVi
   update_refused j v cause late w inside =
       callers_see m s t u s' p k view own held k' (λ (a b : PortView). calls.IsRefused a (call.Update j v) cause b)
       (not_updated_seen m.table t u j v cause late w (subst (λ (a : About). j < a.sizes.m) (sym (sym w.goes.about ∙ held.own)) inside))
+
+  pub update_if_answered : (a : Asked) (r : UpdatedIf) → HasUpdatedIf a r t u → a.component < m.about.sizes.m →
+      calls.UpdatesIf p a.component a.expected a.value r (port_view s'.badge.table_id (one_in s'.badge.views))
+  update_if_answered a r w inside =
+      callers_see m s t u s' p k view own held k' (λ (x y : PortView). calls.UpdatesIf x a.component a.expected a.value r y)
+      (has_updated_if_seen m.table t u a r w (subst (λ (b : About). a.component < b.sizes.m) (sym (sym w.goes.about ∙ held.own)) inside))
+
+  pub update_if_refused : (j e v : ℕ) (cause : Refused) → IsLate cause → CameBy true t u → j < m.about.sizes.m →
+      calls.IsRefused p (call.UpdateIf j e v) cause (port_view s'.badge.table_id (one_in s'.badge.views))
+  update_if_refused j e v cause late w inside =
+      callers_see m s t u s' p k view own held k' (λ (a b : PortView). calls.IsRefused a (call.UpdateIf j e v) cause b)
+      (not_updated_if_seen m.table t u j e v cause late w (subst (λ (a : About). j < a.sizes.m) (sym (sym w.goes.about ∙ held.own)) inside))

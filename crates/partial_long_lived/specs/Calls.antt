@@ -10,6 +10,8 @@ use Rattle.partial_model.specs.Notes.{NamesComponents, Noted, place_of, shown_by
 pub use Rattle.partial_lines.specs.declared.whole_scan.Scanned.{Scanned}
 use Rattle.partial_long_lived.specs.declared.answers.Updated.{Updated}
 use Rattle.partial_long_lived.specs.declared.answers.Updated.TheVariants.{Applied as IsApplied, Lost}
+use Rattle.partial_long_lived.specs.declared.answers.UpdatedIf.{UpdatedIf}
+use Rattle.partial_long_lived.specs.declared.answers.UpdatedIf.TheVariants as conditional
 use Rattle.partial_long_lived.specs.declared.error.Refused.{Refused}
 use Rattle.partial_long_lived.specs.declared.error.Refused.TheVariants.{Component, Overtaken}
 use Rattle.partial_long_lived.specs.Ports.{Knows, PortView}
@@ -39,6 +41,12 @@ abbrev pub Updates : PortView → ℕ → ℕ → Updated → PortView → Type 
 Updates p j v (IsApplied stamp) q = (k : ℕ) × Answered p q (call.Update j v) (answer.Applied stamp) (note.Wrote k) × (k + 1 ≡ length q.seen)
 Updates p j v (Lost by) q = (k : ℕ) × Answered p q (call.Update j v) (answer.Lost by) (note.Lost k)
 
+-- a conditional update that ended: applied likewise, or it saw another stamp than the expected one
+abbrev pub UpdatesIf : PortView → ℕ → ℕ → ℕ → UpdatedIf → PortView → Type 0
+UpdatesIf p j expected v (conditional.Applied stamp) q =
+    (k : ℕ) × Answered p q (call.UpdateIf j expected v) (answer.Applied stamp) (note.Wrote k) × (k + 1 ≡ length q.seen)
+UpdatesIf p j expected v (conditional.Changed by) q = (n : ℕ) × Answered p q (call.UpdateIf j expected v) (answer.Changed by) (note.Saw n)
+
 -- a scan that ended: the values after one prefix of what is seen now; one of no position makes no step and isn't noted
 abbrev pub Scans : PortView → List ℕ → List ℕ → Scanned → PortView → Type 0
 Scans p [] values s q = (values ≡ []) × (s.collects ≡ 0) × (s.borrowed ≡ None) × (q ≡ p)
@@ -46,7 +54,7 @@ Scans p (j ∷ js) values s q =
     (n : ℕ) × Answered p q (call.Scan (j ∷ js)) (answer.Scanned values s.collects s.borrowed) (note.Saw n)
 
 -- Why a call is refused, and what is left of its port. For a component that isn't there nothing has changed; otherwise nothing is noted,
--- and the port may have seen more. A read has no other cause, and only an update is overtaken.
+-- and the port may have seen more. A read has no other cause, and only updates are overtaken.
 abbrev pub IsRefused : PortView → Call → Refused → PortView → Type 0
 IsRefused p c Component q = (¬ NamesComponents p.memory.about.sizes.m c) × (q ≡ p)
 IsRefused p (call.Read j) cause q = ⊥

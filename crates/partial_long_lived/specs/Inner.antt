@@ -10,5 +10,6 @@ pub mod Last
 pub mod Opening
 pub mod Calls
 pub mod Changing
+pub mod Conditional
 pub mod Scans
 pub mod Rests

@@ -13,6 +13,15 @@ pub enum Updated {
     Lost { by: u64 },
 }
 
+/// How a conditional update ended.
+#[derive(Clone, Copy, Debug, PartialEq, Eq)]
+pub enum UpdatedIf {
+    /// It took effect: the component had the expected stamp, and its entry in the history has this one.
+    Applied { stamp: u64 },
+    /// It had no effect: the component had this stamp, which is not the expected one.
+    Changed { by: u64 },
+}
+
 impl Updated {
     ghost use Rattle.std.specs.Prelude.{◌≡◌, ◌<◌};
     ghost use Rattle.partial_long_lived.specs.Inner.Updates.{public_update, stamp_from};

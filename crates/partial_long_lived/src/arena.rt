@@ -77,13 +77,13 @@ pub fn load_value(words: &Words, stand: &mut Stand, component: u32, at: u64) -> 
     recall(words, stand, word)
 }
 
-/// The public stamp of that record: a record of the epoch's own, or the carried stamp.
+/// The public stamp of the record of component `component` at `at`: a record of the epoch's own, or the carried stamp.
 #[inline(always)]
 pub fn public_stamp(words: &Words, stand: &mut Stand, component: u32, at: u64) -> u64
     requires held { IsHeld words.now.table_id words.now.key stand.old }
     requires stands { (port_at stand.old).port.control.entering ≡ Stands }
     requires inside { component < words.now.key.sizes.m }
-    requires loaded { HasLoaded stand.old component at }
+    requires small { at < 8388608 }
     ensures held { IsHeld words.now.table_id words.now.key stand.new }
     ensures kept { Kept stand.old stand.new }
     ensures same { port_at stand.new ≡ port_at stand.old }

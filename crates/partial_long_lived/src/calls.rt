@@ -3,16 +3,17 @@
 ghost use Rattle.std.specs.Prelude.{◌≡◌, ◌≤◌, length, nat_lt, IfOk, IfErr};
 ghost use Rattle.std.specs.List.{list_all};
 ghost use Rattle.partial_model.specs.declared.call.Call.TheVariants as call;
-ghost use Rattle.partial_long_lived.specs.Calls.{IsRefused, Reads, Scans, Updates};
+ghost use Rattle.partial_long_lived.specs.Calls.{IsRefused, Reads, Scans, Updates, UpdatesIf};
 ghost use Rattle.partial_long_lived.specs.Ports.{IsOf};
 
-use crate::answers::Updated;
+use crate::answers::{Updated, UpdatedIf};
 use crate::error::Refused;
 use crate::long_lived::LongLived;
 use crate::port::Port;
 use crate::read::read;
 use crate::scan::{public_borrowed, scan_from};
 use crate::update::update;
+use crate::update_if::{Asked, update_if};
 use partial_core::Change;
 use partial_lines::Scanned;
 
@@ -51,6 +52,45 @@ impl LongLived {
             Ok(exchanged) => Ok(Updated::of(epoch, exchanged)),
             Err(cause) => Err(cause),
         }
+    }
+
+    /// Sets component `component` to `value` if it has the stamp `expected`, which a read or an update has told. No stamp
+    /// ever comes back, so a component that has its stamp again has had it ever since.
+    ///
+    /// An applied update is the last entry of the history that the port has observed afterwards. One that finds another
+    /// stamp tells it, as it stood at a moment of the call. A port that is spent in its epoch changes the epoch when it
+    /// finds the expected stamp, and one whose component is sealed changes the epoch and tries again.
+    ///
+    /// # Errors
+    /// [`Refused::Component`] exactly when the index isn't below the number of components: no step was made.
+    /// [`Refused::Overtaken`] when the port has come to a later epoch 16 times during the call; [`Refused::NoArena`] and
+    /// [`Refused::EpochsSpent`] when the epoch has to be changed and can't be. Nothing was applied or noted.
+    pub fn update_if(
+        &self,
+        me: &mut Port,
+        component: u32,
+        expected: u64,
+        value: u64,
+    ) -> Result<UpdatedIf, Refused>
+        requires { IsOf self.now me.old }
+        ensures same { IsOf self.now me.new }
+        ensures answered { IfOk result (λ r. UpdatesIf me.old component expected value r me.new) }
+        ensures refused { IfErr result (λ cause. IsRefused me.old (call.UpdateIf component expected value) cause me.new) }
+    {
+        if component >= self.shape.sizes.m() {
+            return Err(Refused::Component);
+        }
+        let asked = Asked {
+            component,
+            expected,
+            value,
+        };
+        let stand = me.seating.take();
+        let words = &self.table.shared;
+        let (stand, spent, ended) = update_if(words, stand, &mut me.core, asked, me.spent);
+        me.spent = spent;
+        me.seating.keep(stand);
+        ended
     }
 
     /// Reads component `component`: its value and its stamp, as they stood at one moment of the call. No two updates

@@ -31,8 +31,9 @@ mod seating;
 mod shape;
 mod stand;
 mod update;
+mod update_if;
 
-pub use answers::Updated;
+pub use answers::{Updated, UpdatedIf};
 pub use error::Refused;
 pub use law::{closed_with_all_ports, opened_ports_are_all};
 pub use long_lived::{LongLived, Unclosed};

@@ -2,6 +2,7 @@
 
 use crate::rule::View;
 use atomic_table::Play;
+use std::marker::{Brand, PhantomData};
 
 /// A load of the current word.
 pub struct Look;
@@ -75,6 +76,43 @@ impl Play<(), View> for ReadAgain {
     ghost use Rattle.partial_long_lived.specs.Inner.Loads.Wish.{Reads};
 
     ghost then = { λ s. sees false Reads s.word };
+}
+
+/// What a call wants of the component words that it loads. Each call picks its own.
+pub trait Wishes {
+    ghost use Rattle.partial_long_lived.specs.Inner.Loads.{Wish};
+
+    ghost wish: { Wish };
+}
+
+impl Wishes for Brand {
+    ghost use Rattle.partial_long_lived.specs.Inner.Loads.Wish.{Glances};
+
+    ghost wish = { Glances };
+}
+
+/// The load of a component word with the wish `G`, as the first step of a call.
+pub struct SeeFirst<G> {
+    wish: PhantomData<G>,
+}
+
+impl<G: Wishes> Play<(), View> for SeeFirst<G> {
+    ghost use Rattle.std.specs.Prelude.{true};
+    ghost use Rattle.partial_long_lived.specs.Inner.Loads.{sees};
+
+    ghost then = { λ s. sees true G.wish s.word };
+}
+
+/// The same in an epoch that was the current one during the call.
+pub struct SeeAgain<G> {
+    wish: PhantomData<G>,
+}
+
+impl<G: Wishes> Play<(), View> for SeeAgain<G> {
+    ghost use Rattle.std.specs.Prelude.{false};
+    ghost use Rattle.partial_long_lived.specs.Inner.Loads.{sees};
+
+    ghost then = { λ s. sees false G.wish s.word };
 }
 
 /// The load of a value that the port has seen, or of a carried stamp.

@@ -1,6 +1,6 @@
 //! Updates.
 
-ghost use Rattle.std.specs.Prelude.{◌≡◌, ◌<◌, IfSome, IfNone, IfOk, IfErr, None, true, false};
+ghost use Rattle.std.specs.Prelude.{◌≡◌, ◌<◌, ◌≤◌, IfSome, IfNone, IfOk, IfErr, None, true, false};
 ghost use Rattle.partial_machine.specs.declared.stage.Stage.TheVariants.{Idle, UpdateBegun, Exchanging};
 ghost use Rattle.partial_machine.specs.Machine.{at_stage};
 ghost use Rattle.partial_machine.specs.Sound.{IsSound};
@@ -9,7 +9,7 @@ ghost use Rattle.partial_long_lived.specs.Inner.Calls.{IsIdle, Kept};
 ghost use Rattle.partial_long_lived.specs.Inner.Machine.{Begins};
 ghost use Rattle.partial_long_lived.specs.Inner.Rests.{RestsAt};
 ghost use Rattle.partial_long_lived.specs.Inner.Under.{IsGoing, MayBegin, machine_at};
-ghost use Rattle.partial_long_lived.specs.Inner.Updates.{Attempted, CameBy, ExchangeDue, IsLate, IsOwn, MayCall, MeetsSealed, Updated};
+ghost use Rattle.partial_long_lived.specs.Inner.Updates.{Attempted, CameBy, ExchangeDue, ExpectsOne, IsLate, IsOwn, MayCall, NotesNothing, Updated};
 
 use crate::arena::SEAL;
 use crate::change::change;
@@ -24,7 +24,7 @@ use partial_words::full_record_size;
 use std::marker::Brand;
 
 /// How many epochs an update may change before it is refused.
-const MOST_CHANGES: u32 = 16;
+pub const MOST_CHANGES: u32 = 16;
 
 /// Makes an update of a port, in as many epochs as it takes. `spent` says whether the port is spent in its epoch. Returns
 /// the seat, whether the port is spent then, and how the update ended, with stamps of the epoch where the port stands.
@@ -95,9 +95,11 @@ fn rounds(
     (stand, false, Err(Refused::Overtaken))
 }
 
-// Changes the epoch of a port, whose machine is a new one then. `first` says that its look is the first step of a call.
-// It is refused as `change` is: the port stands where it stood, with the machine that it had.
-fn renew(words: &Words, stand: &mut Stand, core: &mut Core, first: bool) -> Result<(), Refused>
+/// Changes the epoch of a port, whose machine is a new one then. `first` says that its look is the first step of a call.
+///
+/// # Errors
+/// As those of [`change`]: the port stands where it stood, with the machine that it had.
+pub fn renew(words: &Words, stand: &mut Stand, core: &mut Core, first: bool) -> Result<(), Refused>
     requires held { IsHeld words.now.table_id words.now.key stand.old }
     requires idle { IsIdle stand.old }
     requires rests { IsOwn (port_at stand.old) core.old }
@@ -106,6 +108,7 @@ fn renew(words: &Words, stand: &mut Stand, core: &mut Core, first: bool) -> Resu
     ensures rests { IsOwn (port_at stand.new) core.new }
     ensures spare { IfOk result (λ _. MayCall (port_at stand.new) core.new) }
     ensures came { CameBy first stand.old stand.new }
+    ensures fresh { IfOk result (λ _. (port_at stand.new).began.epoch ≤ stand.new.epoch) }
     ensures late { IfErr result IsLate }
 {
     change(words, stand, first)?;
@@ -113,10 +116,10 @@ fn renew(words: &Words, stand: &mut Stand, core: &mut Core, first: bool) -> Resu
     Ok(())
 }
 
-// Makes an update of a port that is not spent, in the port's epoch. Returns how it ended, with stamps of the epoch's own,
-// and whether the port is spent then; or `None` when the component is sealed. Then nothing was applied, and the port is
-// spent. `first` says that the first step of the update is the first one of its call.
-fn attempt(
+/// Makes an update of a port that is not spent, in the port's epoch. Returns how it ended, with stamps of the epoch's own,
+/// and whether the port is spent then; or `None` when the component is sealed. Then nothing was applied, and the port is
+/// spent. `first` says that the first step of the update is the first one of its call.
+pub fn attempt(
     words: &Words,
     mut stand: Stand,
     core: &mut Core,
@@ -127,16 +130,21 @@ fn attempt(
     requires idle { IsIdle stand }
     requires may { MayCall (port_at stand) core.old }
     requires inside { change.component < words.now.key.sizes.m }
-    requires plain { change.expected ≡ None }
+    requires expects { ExpectsOne (port_at stand) change }
     ensures held { IsHeld words.now.table_id words.now.key result.0 }
     ensures attempted { IfSome result.1 (λ r. Attempted first change r.0 stand result.0) }
-    ensures sealed { IfNone result.1 (MeetsSealed first stand result.0) }
+    ensures sealed { IfNone result.1 (NotesNothing first stand result.0) }
     ensures rests { IsOwn (port_at result.0) core.new }
     ensures spare { IfSome result.1 (λ r. r.1 ≡ false → MayCall (port_at result.0) core.new) }
 {
     let old = begin::<Brand>(words, &mut stand, core, change, first);
     if old >= SEAL {
         return (stand, None);
+    }
+    if let Some(expected) = change.expected {
+        if expected != old {
+            return (stand, Some((Exchanged::Overtaken { by: old }, false)));
+        }
     }
     let (lines, written) = put(ArenaLines { words, stand }, core, change, old);
     let ArenaLines {

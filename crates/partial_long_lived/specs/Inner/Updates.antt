@@ -1,8 +1,9 @@
 -- Parts of an update.
-use Rattle.std.specs.Prelude.{⊤, ℕ, ◌≡◌, ◌+◌, ◌<◌, ◌≤◌, ◌++◌, Bool, false, [], ◌∷◌, length, Some}
+use Rattle.std.specs.Prelude.{⊤, ℕ, ◌≡◌, ◌+◌, ◌<◌, ◌≤◌, ◌++◌, Bool, false, [], ◌∷◌, length, take, Option, None, Some, IfSome}
 use Rattle.partial_model.specs.declared.call.Call.TheVariants as call
 use Rattle.partial_model.specs.declared.call.Answer.TheVariants as answer
 use Rattle.partial_model.specs.declared.call.Note.TheVariants as note
+use Rattle.partial_model.specs.History.{stamp_of}
 use Rattle.partial_model.specs.Notes.{Noted}
 use Rattle.partial_words.specs.declared.step.Step.TheVariants.{Exchange}
 use Rattle.partial_machine.specs.declared.stage.Change.{Change}
@@ -11,18 +12,20 @@ use Rattle.partial_lines.specs.declared.exchange.Exchanged.TheVariants.{Applied,
 use Rattle.partial_machine.specs.declared.stage.Stage.TheVariants.{Idle}
 use Rattle.partial_machine.specs.Machine.{CoreState}
 use Rattle.partial_machine.specs.Sound.{IsSound}
-use Rattle.partial_epochs.specs.History.{public_stamp}
+use Rattle.partial_epochs.specs.History.{public_stamp, stamp_limit}
+use Rattle.partial_epochs.specs.Notes.{public_of}
 use Rattle.partial_long_lived.specs.declared.answers.Updated as answers
 use Rattle.partial_long_lived.specs.declared.answers.Updated.TheVariants as ended
 use Rattle.partial_long_lived.specs.declared.error.Refused.{Refused}
 use Rattle.partial_long_lived.specs.declared.error.Refused.TheVariants.{Component}
 use Rattle.partial_long_lived.specs.declared.stand.Stand.{Stand}
-use Rattle.partial_long_lived.specs.Rule.{Seated}
+use Rattle.partial_long_lived.specs.Rule.{Seated, plan_of}
 use Rattle.partial_long_lived.specs.Ports.{seen_in}
 use Rattle.partial_long_lived.specs.Inner.Moves.{BeganBy}
 use Rattle.partial_long_lived.specs.Inner.Calls.{IsIdle, Kept}
 use Rattle.partial_long_lived.specs.Inner.Held.{port_at}
 use Rattle.partial_long_lived.specs.Inner.Steps.{Goes}
+use Rattle.partial_long_lived.specs.Inner.Loads.{opening_of}
 use Rattle.partial_long_lived.specs.Inner.Machine.{Exchanges}
 use Rattle.partial_long_lived.specs.Inner.Scans.{RestsUnmarked}
 use Rattle.partial_long_lived.specs.Inner.Under.{machine_at}
@@ -48,10 +51,35 @@ abbrev pub public_update : ℕ → Exchanged → answers.Updated
 public_update epoch (Applied stamp) = ended.Applied (public_stamp epoch stamp)
 public_update epoch (Overtaken by) = ended.Lost (public_stamp epoch by)
 
--- where the entry lies among n that the port has seen: an applied update is the last of them
-abbrev pub IsEntryOf : Exchanged → ℕ → ℕ → Type 0
-IsEntryOf (Applied stamp) place n = place + 1 ≡ n
-IsEntryOf (Overtaken by) place n = place < n
+-- what a port notes where its update has ended so in its epoch, at that place: a conditional update expected the record at that word
+abbrev pub noted_where : Seated → Option ℕ → Change → Exchanged → ℕ → Noted
+noted_where x None c r place = noted_update (length x.port.before) c r place
+noted_where x (Some at) c (Applied stamp) place = record {
+  call = call.UpdateIf c.component (public_of (plan_of x.about) x.port.before c.component at) c.value;
+  answer = answer.Applied (public_stamp (length x.port.before) stamp);
+  note = Some (note.Wrote place);
+}
+noted_where x (Some at) c (Overtaken by) place = record {
+  call = call.UpdateIf c.component (public_of (plan_of x.about) x.port.before c.component at) c.value;
+  answer = answer.Changed (public_of (plan_of x.about) x.port.before c.component by);
+  note = Some (note.Saw place);
+}
+
+-- Where an update has its place among n entries that the port has seen: an applied one is the last of them, a lost one names one of them, and
+-- a conditional one that found another record sees some of them.
+abbrev pub IsEntryOf : Option ℕ → Exchanged → ℕ → ℕ → Type 0
+IsEntryOf expected (Applied stamp) place n = place + 1 ≡ n
+IsEntryOf None (Overtaken by) place n = place < n
+IsEntryOf (Some at) (Overtaken by) place n = place ≤ n
+
+-- the word of the arena where the record lies that an update put, or that it found
+abbrev pub word_from : Exchanged → ℕ
+word_from (Applied stamp) = stamp
+word_from (Overtaken by) = by
+
+-- a conditional update expects a record that its component has had in the epoch, as far as the port has seen
+abbrev pub ExpectsOne : Seated → Change → Type 0
+ExpectsOne x c = IfSome c.expected (λ at. (n : ℕ) × (n ≤ length x.port.part.seen) × (at ≡ stamp_of (opening_of x) (take n x.port.part.seen) c.component))
 
 -- The port stands where it stood, in a call that began as before or with its first step here, and owns no arena.
 pub record Stayed (first : Bool) (s t : Stand) : Type 0 where
@@ -59,8 +87,8 @@ pub record Stayed (first : Bool) (s t : Stand) : Type 0 where
   pub idle : IsIdle t
   pub began : BeganBy first (port_at s) (port_at t).began
 
--- The component is sealed: the port has noted nothing.
-pub record MeetsSealed (first : Bool) (s t : Stand) : Type 0 where
+-- Nothing has come of the attempt, as where the component is sealed: the port has noted nothing.
+pub record NotesNothing (first : Bool) (s t : Stand) : Type 0 where
   pub stayed : Stayed first s t
   pub notes : (port_at t).notes ≡ (port_at s).notes
 
@@ -68,9 +96,11 @@ pub record MeetsSealed (first : Bool) (s t : Stand) : Type 0 where
 pub record Attempted (first : Bool) (c : Change) (r : Exchanged) (s t : Stand) : Type 0 where
   pub stayed : Stayed first s t
   pub place : ℕ
-  pub notes : (port_at t).notes ≡ (port_at s).notes ++ noted_update t.epoch c r place ∷ []
+  pub notes : (port_at t).notes ≡ (port_at s).notes ++ noted_where (port_at t) c.expected c r place ∷ []
   pub behind : (port_at t).began.length ≤ place
-  pub within : IsEntryOf r place (length (seen_in (port_at t).port))
+  pub within : IsEntryOf c.expected r place (length (seen_in (port_at t).port))
+  pub before : (port_at t).port.before ≡ (port_at s).port.before
+  pub small : word_from r < stamp_limit
 
 -- the machine is idle, sound, and of the port
 pub record IsOwn (x : Seated) (core : CoreState) : Type 0 where
@@ -106,4 +136,4 @@ pub record Updated (first : Bool) (c : Change) (r : Exchanged) (s t : Stand) : T
   pub place : ℕ
   pub notes : (port_at t).notes ≡ (port_at s).notes ++ noted_update t.epoch c r place ∷ []
   pub behind : (port_at t).began.length ≤ place
-  pub within : IsEntryOf r place (length (seen_in (port_at t).port))
+  pub within : IsEntryOf None r place (length (seen_in (port_at t).port))

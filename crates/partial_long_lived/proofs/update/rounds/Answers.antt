@@ -1,5 +1,5 @@
 use Rattle.std.proofs.Common.{rules, refl, arith}
-use Rattle.partial_long_lived.specs.Inner.Updates.{Attempted, MeetsSealed}
+use Rattle.partial_long_lived.specs.Inner.Updates.{Attempted, NotesNothing}
 use Rattle.partial_long_lived.proofs.Rounds.{came_on, came_rounds, may_own, round_ended, round_met, rounds_begin, rounds_came}
 use Rattle.partial_long_lived.proofs.update.rounds.Goals as goal
 
@@ -18,16 +18,16 @@ attempt-behind-requires-clause-may c = c.loop.invariant.0.may
 pub returns-in-Some-clause-updated : goal.returns-in-Some-clause-updated
 returns-in-Some-clause-updated c =
     let ended : Attempted c.loop.first_step c.args.change c.in-Some.exchanged c.loop.stand c.attempt-behind.result.0 = search rules in
-    round_ended _ _ c.args.first c.loop.first_step c.args.stand c.loop.stand _ c.loop.invariant.0 _ _ _ ended
+    round_ended _ _ c.args.first c.loop.first_step c.args.stand c.loop.stand _ c.loop.invariant.0 _ _ c.requires.plain _ c.attempt-behind.ensures.held ended
 
 pub returns-in-Err-clause-refused : goal.returns-in-Err-clause-refused
 returns-in-Err-clause-refused c =
-    let met : MeetsSealed c.loop.first_step c.loop.stand c.attempt-behind.result.0 = search rules in
+    let met : NotesNothing c.loop.first_step c.loop.stand c.attempt-behind.result.0 = search rules in
     (search rules, came_on c.args.first c.args.stand c.attempt-behind.result.0 _ (round_met _ _ c.args.first c.loop.first_step c.args.stand c.loop.stand _ c.loop.invariant.0 _ met) c.renew.ensures.came)
 
 pub loop-preserved : goal.loop-preserved
 loop-preserved c =
-    let met : MeetsSealed c.loop.first_step c.loop.stand c.attempt-behind.result.0 = search rules in
+    let met : NotesNothing c.loop.first_step c.loop.stand c.attempt-behind.result.0 = search rules in
     let came = came_on c.args.first c.args.stand c.attempt-behind.result.0 _ (round_met _ _ c.args.first c.loop.first_step c.args.stand c.loop.stand _ c.loop.invariant.0 _ met) c.renew.ensures.came in
     (came_rounds _ _ c.args.first c.args.stand _ _ c.renew.ensures.held c.renew.ensures.idle (search rules) came, λ some. refl)
 

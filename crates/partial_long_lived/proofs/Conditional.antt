@@ -1,0 +1,241 @@
+-- A conditional update of a port: the comparison, and how it ends in the port's epoch.
+use Rattle.std.proofs.Common.{ℕ, ◌≡◌, ◌+◌, ◌<◌, ◌≤◌, ◌==◌, ◌&&◌, ◌++◌, Bool, true, false, not, cond, Option, None, Some, List, [], ◌∷◌, length, refl, sym, ap, subst, ◌∙◌, inl, inr, arith, append-nil}
+use Rattle.std.specs.Prelude.{nat_lt, take}
+use Rattle.std.proofs.lemmas.Bool.{cases_lt}
+use Rattle.atomic_table.specs.Seated.{TableId}
+use Rattle.partial_model.specs.declared.history.Applied.{Applied}
+use Rattle.partial_model.specs.declared.call.Call.TheVariants as call
+use Rattle.partial_model.specs.declared.call.Answer.TheVariants as answer
+use Rattle.partial_model.specs.declared.call.Note.TheVariants as note
+use Rattle.partial_model.specs.Notes.{Noted}
+use Rattle.partial_model.specs.History.{stamp_of}
+use Rattle.partial_words.specs.Layout.{Layout, total}
+use Rattle.partial_words.specs.Record.{value_word}
+use Rattle.partial_machine.specs.declared.stage.Change.{Change}
+use Rattle.partial_machine.specs.Calls.{is_at_rest}
+use Rattle.partial_machine.specs.Machine.{CoreState}
+use Rattle.partial_core.specs.Part.{IsMarkedLike, core_of}
+use Rattle.partial_lines.specs.declared.exchange.Exchanged.{Exchanged}
+use Rattle.partial_lines.specs.declared.exchange.Exchanged.TheVariants.{Applied as IsApplied, Overtaken}
+use Rattle.partial_epochs.specs.History.{public_stamp}
+use Rattle.partial_epochs.specs.Layout.{seal, unsealed}
+use Rattle.partial_epochs.specs.Notes.{public_of}
+use Rattle.partial_epochs.proofs.Places.{not_below}
+use Rattle.partial_long_lived.specs.declared.rule.About.{About}
+use Rattle.partial_long_lived.specs.declared.answers.UpdatedIf.{UpdatedIf}
+use Rattle.partial_long_lived.specs.declared.answers.UpdatedIf.TheVariants as ended
+use Rattle.partial_long_lived.specs.declared.update_if.Asked.{Asked}
+use Rattle.partial_long_lived.specs.declared.update_if.Compared.TheVariants.{Sealed, Same, Other}
+use Rattle.partial_long_lived.specs.declared.stand.Stand.{Stand}
+use Rattle.partial_long_lived.specs.Rule.{Began, Seated, plan_of}
+use Rattle.partial_long_lived.specs.Ports.{seen_in}
+use Rattle.partial_long_lived.specs.Inner.Calls.{IsIdle, Kept}
+use Rattle.partial_long_lived.specs.Inner.Conditional.{EndedIf, HasFound, HasLooked, IsExpected, IsPlaceOf, noted_if, outcome_of}
+use Rattle.partial_long_lived.specs.Inner.Held.{IsHeld, port_at}
+use Rattle.partial_long_lived.specs.Inner.Loads.{Sees, noted_by, opening_of, place_seen, stamp_seen}
+use Rattle.partial_long_lived.specs.Inner.Loads.Wish.{Expects}
+use Rattle.partial_long_lived.specs.Inner.Moves.{BeganBy}
+use Rattle.partial_long_lived.specs.Inner.Updates.{Attempted, ExpectsOne, IsEntryOf, IsOwn, MayCall, NotesNothing, Stayed, noted_where}
+use Rattle.partial_long_lived.proofs.Coming.{goes_on, kept_on}
+
+-- the word of a record is a small number
+pub record_small : (table : TableId) (about : About) (s : Stand) (at : ℕ) → IsHeld table about s → value_word at < total (port_at s).about.sizes → at < 8388608
+record_small table about s at h within =
+    let plan = h.known.plan in
+    let m = plan.sizes.components.1 in
+    let slots = plan.sizes.slots.1 in
+    let lists = plan.sizes.lists in
+    let pool = plan.sizes.pool.1 in
+    omega (arith, within, m, slots, lists, pool)
+
+-- The load of a component's word by which its stamp is compared, and the stand behind the comparison.
+module _ (table : TableId) (about : About) (s u t : Stand) (h : IsHeld table about u) (idle : IsIdle s) (first : Bool) (asked : Asked) (a : ℕ) (kept : Kept s u)
+    (w : Sees first (Expects asked.expected asked.value) asked.component (port_at s) a (port_at u)) (kept' : Kept u t) (same : port_at t ≡ port_at u) where
+  abbrev x : Seated
+  x = port_at s
+
+  abbrev j : ℕ
+  j = asked.component
+
+  is : port_at t ≡ record x {
+    port = record x.port { part = record x.port.part { seen = w.log } };
+    began = w.n;
+    notes = x.notes ++ (cond (first && not (nat_lt a seal)) [] (noted_by (Expects asked.expected asked.value) x w.log j));
+    found = x.found;
+  }
+  is = same ∙ w.is
+
+  pub see_small : unsealed a < 8388608
+  see_small = record_small table about u (unsealed a) h (subst (λ (b : About). value_word (unsealed a) < total b.sizes) (sym kept.goes.about) w.within)
+
+  pub looked_so : HasLooked first s t
+  looked_so = record {
+    stayed = record {
+      kept = kept_on s u t kept kept';
+      idle = record { stands = ap (λ (y : Seated). y.port.control.entering) is ∙ idle.stands; free = ap (λ (y : Seated). y.port.control.owned) is ∙ idle.free };
+      began = subst (BeganBy first x) (sym (ap (λ (y : Seated). y.began) is)) w.began;
+    };
+    machine = ap (λ (y : Seated). core_of y.port.part) is;
+    over = ap (λ (y : Seated). y.port.over) is;
+  }
+
+  notes_are : (port_at t).notes ≡ x.notes ++ cond (first && not (nat_lt a seal)) [] (noted_by (Expects asked.expected asked.value) x w.log j)
+  notes_are = ap (λ (y : Seated). y.notes) is
+
+  -- where the call is not to know the epoch as the current one, it notes nothing
+  pub found_sealed : first ≡ true → seal ≤ a → HasFound asked s Sealed t
+  found_sealed begins sealed =
+      let skip : (first && not (nat_lt a seal)) ≡ true = ap (λ b. b && not (nat_lt a seal)) begins ∙ ap not (not_below a seal sealed) in
+      notes_are ∙ ap (λ b. x.notes ++ cond b [] (noted_by (Expects asked.expected asked.value) x w.log j)) skip ∙ append-nil x.notes
+
+  -- otherwise it has compared the component's last stamp
+  module _ (answers : (first && not (nat_lt a seal)) ≡ false) (stamp : ℕ) (stamp_is : stamp ≡ public_of (plan_of about) (port_at u).port.before j (unsealed a)) where
+    stamp_last : stamp ≡ stamp_seen x w.log j
+    stamp_last =
+        let own : about ≡ x.about = sym h.own ∙ kept.goes.about in
+        stamp_is ∙ ap (λ (y : Seated). public_of (plan_of about) y.port.before j (unsealed a)) w.is ∙ ap (λ (z : About). public_of (plan_of z) x.port.before j (unsealed a)) own
+        ∙ ap (public_of (plan_of x.about) x.port.before j) w.stamp
+
+    abbrev changed : Noted
+    changed = record { call = call.UpdateIf j asked.expected asked.value; answer = answer.Changed (stamp_seen x w.log j); note = Some (note.Saw (place_seen x w.log)) }
+
+    noted_then : (port_at t).notes ≡ x.notes ++ cond (stamp_seen x w.log j == asked.expected) [] (changed ∷ [])
+    noted_then = notes_are ∙ ap (λ b. x.notes ++ cond b [] (noted_by (Expects asked.expected asked.value) x w.log j)) answers
+
+    pub found_same : (stamp == asked.expected) ≡ true → stamp ≡ asked.expected → HasFound asked s (Same (unsealed a)) t
+    found_same equal expected = (
+      noted_then ∙ ap (λ n. x.notes ++ cond (n == asked.expected) [] (changed ∷ [])) (sym stamp_last) ∙ ap (λ b. x.notes ++ cond b [] (changed ∷ [])) equal ∙ append-nil x.notes,
+      record {
+        last = w.stamp ∙ ap (λ (y : Seated). stamp_of (opening_of y) y.port.part.seen j) (sym is);
+        stamp = ap (λ (y : Seated). public_of (plan_of y.about) y.port.before j (unsealed a)) is ∙ ap (public_of (plan_of x.about) x.port.before j) w.stamp ∙ sym stamp_last ∙ expected;
+      },
+    )
+
+    pub found_other : (stamp == asked.expected) ≡ false → ((port_at t).began.epoch ≤ x.port.control.here.epoch) → HasFound asked s (Other stamp) t
+    found_other unequal young =
+        let place : place_seen x w.log ≡ length (seen_in (port_at t).port) = ap (λ (y : Seated). length (seen_in y.port)) (sym is) in
+        let n : (port_at t).began ≡ w.n = ap (λ (y : Seated). y.began) is in
+        let epochs = ap (λ (g : Began). g.epoch) n in
+        let lengths = ap (λ (g : Began). g.length) n in
+        let time = w.time (omega (arith, young, epochs)) in (
+          noted_then ∙ ap (λ n. x.notes ++ cond (n == asked.expected) [] (changed ∷ [])) (sym stamp_last) ∙ ap (λ b. x.notes ++ cond b [] (changed ∷ [])) unequal
+              ∙ ap (λ n. x.notes ++ record { call = call.UpdateIf j asked.expected asked.value; answer = answer.Changed n; note = Some (note.Saw (place_seen x w.log)) } ∷ []) (sym stamp_last)
+              ∙ ap (λ n. x.notes ++ record { call = call.UpdateIf j asked.expected asked.value; answer = answer.Changed stamp; note = Some (note.Saw n) } ∷ []) place,
+          omega (arith, time, lengths, place),
+        )
+
+    -- the call began in an epoch that is no later
+    pub found_young : (first ≡ false → x.began.epoch ≤ s.epoch) → s.epoch ≡ x.port.control.here.epoch → (port_at t).began.epoch ≤ x.port.control.here.epoch
+    found_young again here = by first refl
+      where
+        by : (b : Bool) → first ≡ b → (port_at t).began.epoch ≤ x.port.control.here.epoch
+        by true begins = elim (cases_lt a seal) [
+          | inl low ↦ (let young = w.present low in let n = ap (λ (y : Seated). y.began.epoch) is in omega (arith, young, n))
+          | inr up ↦ (let bad : true ≡ false = sym (ap (λ b. b && not (nat_lt a seal)) begins ∙ ap not (not_below a seal up)) ∙ answers in cc)
+        ]
+        by false later =
+            let old = again later in
+            let n = ap (λ (y : Seated). y.began.epoch) is in
+            let same_began : w.n ≡ x.began = subst (λ b. BeganBy b x w.n) later w.began in
+            let epochs = ap (λ (g : Began). g.epoch) same_began in
+            omega (arith, old, n, epochs, here)
+
+-- a machine that may begin a call may do so behind the comparison
+pub looked_may : (first : Bool) (s t : Stand) (core : CoreState) → HasLooked first s t → MayCall (port_at s) core → MayCall (port_at t) core
+looked_may first s t core w may =
+    let rests = may.rests in
+    let between = rests.between in record {
+      rests = record {
+        between = record {
+          rest = ap (λ (c : CoreState). is_at_rest c.stage) w.machine ∙ between.rest;
+          like = subst (λ (c : CoreState). IsMarkedLike c core) (sym w.machine) between.like;
+          idle = between.idle;
+          sound = between.sound;
+        };
+        sizes = rests.sizes ∙ ap (λ (a : About). a.sizes) (sym w.stayed.kept.goes.about);
+        port = rests.port ∙ sym w.stayed.kept.goes.number;
+        pool = rests.pool;
+        slots = rests.slots;
+      };
+      over = w.over ∙ may.over;
+    }
+
+pub looked_own : (first : Bool) (s t : Stand) (core : CoreState) → HasLooked first s t → IsOwn (port_at s) core → IsOwn (port_at t) core
+looked_own first s t core w own = record {
+  idle = own.idle;
+  sound = own.sound;
+  sizes = own.sizes ∙ ap (λ (a : About). a.sizes) (sym w.stayed.kept.goes.about);
+  port = own.port ∙ sym w.stayed.kept.goes.number;
+}
+
+-- the comparison has noted nothing
+pub looked_nothing : (first : Bool) (s t : Stand) → HasLooked first s t → (port_at t).notes ≡ (port_at s).notes → NotesNothing first s t
+looked_nothing first s t w same = record { stayed = w.stayed; notes = same }
+
+-- or has ended the call
+pub looked_ended : (first : Bool) (asked : Asked) (stamp : ℕ) (s t : Stand) → HasLooked first s t → HasFound asked s (Other stamp) t → EndedIf first asked (ended.Changed stamp) s t
+looked_ended first asked stamp s t w found = record {
+  stayed = w.stayed;
+  place = length (seen_in (port_at t).port);
+  notes = found.0;
+  behind = found.1;
+  within = omega arith;
+}
+
+-- the expected record is one that the component has had
+pub expects_one : (asked : Asked) (at : ℕ) (t : Stand) → IsExpected asked at t → ExpectsOne (port_at t) (record { component = asked.component; expected = Some at; value = asked.value })
+expects_one asked at t w = (length (port_at t).port.part.seen, omega arith, w.last ∙ ap (λ (l : List Applied). stamp_of (opening_of (port_at t)) l asked.component) (sym (take_all (port_at t).port.part.seen)))
+  where
+    take_all : (l : List Applied) → take (length l) l ≡ l
+    take_all [] = refl
+    take_all (a ∷ l) = ap (λ (m : List Applied). a ∷ m) (take_all l)
+
+-- an attempt behind the comparison
+module _ (first : Bool) (s u v : Stand) (looked : HasLooked first s u) (same : (port_at u).notes ≡ (port_at s).notes) where
+  stayed_on : Stayed false u v → Stayed first s v
+  stayed_on w = record {
+    kept = kept_on s u v looked.stayed.kept w.kept;
+    idle = w.idle;
+    began = subst (BeganBy first (port_at s)) (sym w.began) looked.stayed.began;
+  }
+
+  pub nothing_behind : NotesNothing false u v → NotesNothing first s v
+  nothing_behind w = record { stayed = stayed_on w.stayed; notes = w.notes ∙ same }
+
+  -- what it has noted, with public stamps
+  module _ (asked : Asked) (at : ℕ) (r : Exchanged) (expected : IsExpected asked at u) (w : Attempted false (record { component = asked.component; expected = Some at; value = asked.value }) r u v) where
+    abbrev d : Change
+    d = record { component = asked.component; expected = Some at; value = asked.value }
+
+    expected_then : public_of (plan_of (port_at v).about) (port_at v).port.before asked.component at ≡ asked.expected
+    expected_then = ap (λ (a : About). public_of (plan_of a) (port_at v).port.before asked.component at) w.stayed.kept.goes.about
+        ∙ ap (λ (l : List (List Applied)). public_of (plan_of (port_at u).about) l asked.component at) w.before ∙ expected.stamp
+
+    noted_public : (r : Exchanged) (k : ℕ) → noted_where (port_at v) (Some at) d r k ≡ noted_if asked (outcome_of (port_at v) asked.component r) k
+    noted_public (IsApplied stamp) k = ap (λ e. record { call = call.UpdateIf asked.component e asked.value; answer = answer.Applied (public_stamp (length (port_at v).port.before) stamp); note = Some (note.Wrote k) }) expected_then
+    noted_public (Overtaken by) k = ap (λ e. record { call = call.UpdateIf asked.component e asked.value; answer = answer.Changed (public_of (plan_of (port_at v).about) (port_at v).port.before asked.component by); note = Some (note.Saw k) }) expected_then
+
+    placed : (r : Exchanged) (k n : ℕ) → IsEntryOf (Some at) r k n → IsPlaceOf (outcome_of (port_at v) asked.component r) k n
+    placed (IsApplied stamp) k n is = is
+    placed (Overtaken by) k n is = is
+
+    pub ended_behind : (t : Stand) → Kept v t → port_at t ≡ port_at v → (o : UpdatedIf) → o ≡ outcome_of (port_at v) asked.component r → EndedIf first asked o s t
+    ended_behind t kept is o outcome = record {
+      stayed = record {
+        kept = kept_on s v t (stayed_on w.stayed).kept kept;
+        idle = record { stands = ap (λ (y : Seated). y.port.control.entering) is ∙ w.stayed.idle.stands; free = ap (λ (y : Seated). y.port.control.owned) is ∙ w.stayed.idle.free };
+        began = subst (λ (y : Seated). BeganBy first (port_at s) y.began) (sym is) (stayed_on w.stayed).began;
+      };
+      place = w.place;
+      notes = ap (λ (y : Seated). y.notes) is ∙ w.notes ∙ ap (λ n. (port_at u).notes ++ n ∷ []) (noted_public r w.place ∙ ap (λ (q : UpdatedIf). noted_if asked q w.place) (sym outcome))
+          ∙ ap (λ (l : List Noted). l ++ noted_if asked o w.place ∷ []) same;
+      behind = subst (λ (y : Seated). y.began.length ≤ w.place) (sym is) w.behind;
+      within = subst (λ (y : Seated). IsPlaceOf o w.place (length (seen_in y.port))) (sym is) (subst (λ (q : UpdatedIf). IsPlaceOf q w.place (length (seen_in (port_at v).port))) (sym outcome) (placed r w.place (length (seen_in (port_at v).port)) w.within));
+    }
+
+-- a stand of which nothing but its seat's table has changed is as good
+pub same_may : (s t : Stand) (core : CoreState) → port_at t ≡ port_at s → MayCall (port_at s) core → MayCall (port_at t) core
+same_may s t core is may = subst (λ (y : Seated). MayCall y core) (sym is) may
+
+pub same_own : (s t : Stand) (core : CoreState) → port_at t ≡ port_at s → IsOwn (port_at s) core → IsOwn (port_at t) core
+same_own s t core is own = subst (λ (y : Seated). IsOwn y core) (sym is) own

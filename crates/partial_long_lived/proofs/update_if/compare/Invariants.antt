@@ -1,0 +1,6 @@
+use Rattle.partial_long_lived.specs.Inner.Loads.Wish.{Expects}
+use Rattle.partial_long_lived.proofs.update_if.compare.Given as goal
+
+-- the port compares the component's stamp with the expected one
+abbrev pub ghosts-see : goal.ghosts-see
+ghosts-see a = record { wish = Expects a.asked.expected a.asked.value }

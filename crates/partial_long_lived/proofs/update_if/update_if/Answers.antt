@@ -1,0 +1,38 @@
+use Rattle.std.proofs.Common.{true, refl, arith}
+use Rattle.partial_long_lived.proofs.ConditionalRounds.{compares_again, compares_begin, compares_came, compares_ended, compares_met}
+use Rattle.partial_long_lived.proofs.Rounds.{came_on}
+use Rattle.partial_long_lived.proofs.Updates.{own_rests}
+use Rattle.partial_long_lived.proofs.update_if.update_if.Goals as goal
+
+pub loop-init : goal.loop-init
+loop-init c = let r = c.requires in (compares_begin _ _ c.args.stand _ c.args.spent r.held r.rests, λ some. absurd (omega (arith, some)))
+
+pub returns-in-Some-clause-updated : goal.returns-in-Some-clause-updated
+returns-in-Some-clause-updated c =
+    compares_ended _ _ c.loop.first c.loop.used c.args.stand c.loop.stand _ c.loop.invariant.0 _ c.args.asked c.in-Some.updated (rw c.in-Some.is at c.round-behind.ensures.ended)
+
+pub returns-in-Err-clause-refused : goal.returns-in-Err-clause-refused
+returns-in-Err-clause-refused c =
+    let met = rw c.in_default.is at c.round-behind.ensures.none in (
+      rw c.in-Err.is at c.renew.ensures.late,
+      came_on true c.args.stand c.round-behind.result.0 _ (compares_met _ _ c.loop.first c.loop.used c.args.stand c.loop.stand _ c.loop.invariant.0 _ met) c.renew.ensures.came,
+    )
+
+pub loop-preserved : goal.loop-preserved
+loop-preserved c =
+    let met = rw c.in_default.is at c.round-behind.ensures.none in
+    let came = came_on true c.args.stand c.round-behind.result.0 _ (compares_met _ _ c.loop.first c.loop.used c.args.stand c.loop.stand _ c.loop.invariant.0 _ met) c.renew.ensures.came in (
+      compares_again _ _ c.args.stand _ _ c.renew.ensures.held c.renew.ensures.idle (rw c.in_default-renew.is at c.renew.ensures.spare) came (rw c.in_default-renew.is at c.renew.ensures.fresh),
+      λ some. (refl, refl),
+    )
+
+pub returns-clause-rests : goal.returns-clause-rests
+returns-clause-rests c =
+    let over = c.loop-test.false in
+    let on = c.loop.invariant.0 in
+    own_rests _ _ _ _ _ on.held on.idle on.own (λ _. on.may (c.loop.invariant.1 (omega (arith, over))).1)
+
+pub returns-clause-refused : goal.returns-clause-refused
+returns-clause-refused c =
+    let over = c.loop-test.false in
+    (tt, compares_came _ _ c.loop.first c.loop.used c.args.stand c.loop.stand _ c.loop.invariant.0 (c.loop.invariant.1 (omega (arith, over))).0)

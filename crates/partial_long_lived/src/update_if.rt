@@ -1,0 +1,193 @@
+//! Conditional updates.
+
+ghost use Rattle.std.specs.Prelude.{◌≡◌, ◌<◌, ◌≤◌, IfSome, IfNone, IfOk, IfErr, true, false};
+ghost use Rattle.partial_long_lived.specs.Inner.Held.{IsHeld, port_at};
+ghost use Rattle.partial_long_lived.specs.Inner.Calls.{IsIdle, Kept};
+ghost use Rattle.partial_long_lived.specs.Inner.Conditional.{EndedIf, HasFound, HasLooked, HasUpdatedIf, outcome_of};
+ghost use Rattle.partial_long_lived.specs.Inner.Loads.{Sees};
+ghost use Rattle.partial_long_lived.specs.Inner.Loads.Wish.{Expects};
+ghost use Rattle.partial_long_lived.specs.Inner.Rests.{RestsAt};
+ghost use Rattle.partial_long_lived.specs.Inner.Updates.{CameBy, IsLate, IsOwn, MayCall, NotesNothing, word_from};
+
+use crate::answers::UpdatedIf;
+use crate::arena::{SEAL, STAMPS, public_stamp};
+use crate::error::Refused;
+use crate::plays::{SeeAgain, SeeFirst, Wishes};
+use crate::rule::Words;
+use crate::stand::Stand;
+use crate::update::{MOST_CHANGES, attempt, renew};
+use partial_core::{Change, Core};
+use partial_lines::Exchanged;
+use std::marker::Brand;
+
+/// A conditional update: the value for a component, and the public stamp that the component has to have.
+#[derive(Clone, Copy)]
+pub struct Asked {
+    pub component: u32,
+    pub expected: u64,
+    pub value: u64,
+}
+
+/// What the comparison of a component's stamp with the expected one has found.
+pub enum Compared {
+    /// The component is sealed, and may have been so before the call.
+    Sealed,
+    /// It has the expected stamp. Its record lies at this word of the arena.
+    Same { at: u64 },
+    /// It has this public stamp in place of the expected one.
+    Other { stamp: u64 },
+}
+
+/// Makes a conditional update of a port, in as many epochs as it takes. `spent` says whether the port is spent in its
+/// epoch. Returns the seat, whether the port is spent then, and how the update ended. An update that finds another stamp
+/// needs no claim, so a spent port ends it in its epoch.
+///
+/// # Errors
+/// [`Refused::Overtaken`] when the port has come to a later epoch 16 times; [`Refused::NoArena`] and
+/// [`Refused::EpochsSpent`] when the epoch has to be changed and can't be. Nothing was applied.
+pub fn update_if(
+    words: &Words,
+    mut stand: Stand,
+    core: &mut Core,
+    asked: Asked,
+    spent: bool,
+) -> (Stand, bool, Result<UpdatedIf, Refused>)
+    requires held { IsHeld words.now.table_id words.now.key stand }
+    requires rests { RestsAt stand core.old spent }
+    requires inside { asked.component < words.now.key.sizes.m }
+    ensures held { IsHeld words.now.table_id words.now.key result.0 }
+    ensures rests { RestsAt result.0 core.new result.1 }
+    ensures updated { IfOk result.2 (λ r. HasUpdatedIf asked r stand result.0) }
+    ensures refused { IfErr result.2 (λ cause. IsLate cause × CameBy true stand result.0) }
+{
+    let mut first = true;
+    let mut used = spent;
+    for _ in 0..MOST_CHANGES {
+        let (behind, ended) = round(words, stand, core, asked, first, used);
+        stand = behind;
+        if let Some((updated, spent)) = ended {
+            return (stand, spent, Ok(updated));
+        }
+        if let Err(cause) = renew(words, &mut stand, core, false) {
+            return (stand, true, Err(cause));
+        }
+        first = false;
+        used = false;
+    }
+    (stand, false, Err(Refused::Overtaken))
+}
+
+// Makes a conditional update in the port's epoch. Returns how it ended, and whether the port is spent then; or `None` when
+// the component is sealed, or when a spent port finds the expected stamp. Then nothing was applied. `first` says that the
+// first step is the first one of the call; else the epoch was the current one during the call.
+fn round(
+    words: &Words,
+    mut stand: Stand,
+    core: &mut Core,
+    asked: Asked,
+    first: bool,
+    spent: bool,
+) -> (Stand, Option<(UpdatedIf, bool)>)
+    requires held { IsHeld words.now.table_id words.now.key stand }
+    requires idle { IsIdle stand }
+    requires own { IsOwn (port_at stand) core.old }
+    requires may { spent ≡ false → MayCall (port_at stand) core.old }
+    requires inside { asked.component < words.now.key.sizes.m }
+    requires fresh { first ≡ false → (port_at stand).began.epoch ≤ stand.epoch }
+    ensures held { IsHeld words.now.table_id words.now.key result.0 }
+    ensures ended { IfSome result.1 (λ r. EndedIf first asked r.0 stand result.0) }
+    ensures none { IfNone result.1 (NotesNothing first stand result.0) }
+    ensures own { IsOwn (port_at result.0) core.new }
+    ensures spare { IfSome result.1 (λ r. r.1 ≡ false → MayCall (port_at result.0) core.new) }
+{
+    let at = match compare(words, &mut stand, asked, first) {
+        Compared::Sealed => return (stand, None),
+        Compared::Other { stamp } => {
+            return (stand, Some((UpdatedIf::Changed { by: stamp }, spent)));
+        }
+        Compared::Same { at } => at,
+    };
+    if spent {
+        return (stand, None);
+    }
+    let change = Change {
+        component: asked.component,
+        expected: Some(at),
+        value: asked.value,
+    };
+    let (mut behind, ended) = attempt(words, stand, core, change, false);
+    let Some((exchanged, spent)) = ended else {
+        return (behind, None);
+    };
+    let updated = public_outcome(words, &mut behind, asked.component, exchanged);
+    (behind, Some((updated, spent)))
+}
+
+// Compares the public stamp of a component with the expected one.
+fn compare(words: &Words, stand: &mut Stand, asked: Asked, first: bool) -> Compared
+    requires held { IsHeld words.now.table_id words.now.key stand.old }
+    requires idle { IsIdle stand.old }
+    requires inside { asked.component < words.now.key.sizes.m }
+    requires fresh { first ≡ false → (port_at stand.old).began.epoch ≤ stand.old.epoch }
+    ensures held { IsHeld words.now.table_id words.now.key stand.new }
+    ensures looked { HasLooked first stand.old stand.new }
+    ensures found { HasFound asked stand.old result stand.new }
+{
+    let found = see::<Brand>(words, stand, asked, first);
+    if first && found >= SEAL {
+        return Compared::Sealed;
+    }
+    let at = found % SEAL;
+    let stamp = public_stamp(words, stand, asked.component, at);
+    if stamp == asked.expected {
+        Compared::Same { at }
+    } else {
+        Compared::Other { stamp }
+    }
+}
+
+// Loads the component's word with the wish `G` to compare its stamp. `first` says that the load is the first step of the
+// call.
+#[inline(always)]
+fn see<G: Wishes>(words: &Words, stand: &mut Stand, asked: Asked, first: bool) -> u64
+    requires held { IsHeld words.now.table_id words.now.key stand.old }
+    requires idle { IsIdle stand.old }
+    requires inside { asked.component < words.now.key.sizes.m }
+    requires wish { G.wish ≡ Expects asked.expected asked.value }
+    ensures held { IsHeld words.now.table_id words.now.key stand.new }
+    ensures kept { Kept stand.old stand.new }
+    ensures sees { Sees first (Expects asked.expected asked.value) asked.component (port_at stand.old) result (port_at stand.new) }
+{
+    let word = stand.base + u64::from(asked.component);
+    if first {
+        words.load::<SeeFirst<G>>(&mut stand.seat, word as usize)
+    } else {
+        words.load::<SeeAgain<G>>(&mut stand.seat, word as usize)
+    }
+}
+
+// How a conditional update ended in the port's epoch, with public stamps.
+fn public_outcome(
+    words: &Words,
+    stand: &mut Stand,
+    component: u32,
+    exchanged: Exchanged,
+) -> UpdatedIf
+    requires held { IsHeld words.now.table_id words.now.key stand.old }
+    requires idle { IsIdle stand.old }
+    requires inside { component < words.now.key.sizes.m }
+    requires small { word_from exchanged < 8388608 }
+    ensures held { IsHeld words.now.table_id words.now.key stand.new }
+    ensures kept { Kept stand.old stand.new }
+    ensures same { port_at stand.new ≡ port_at stand.old }
+    ensures public { result ≡ outcome_of (port_at stand.old) component exchanged }
+{
+    match exchanged {
+        Exchanged::Applied { stamp } => UpdatedIf::Applied {
+            stamp: stand.epoch * STAMPS + stamp,
+        },
+        Exchanged::Overtaken { by } => UpdatedIf::Changed {
+            by: public_stamp(words, stand, component, by),
+        },
+    }
+}
