@@ -8,9 +8,11 @@ pub mod Changed
 pub mod Changes
 pub mod Claims
 pub mod Closes
+pub mod Collects
 pub mod Coming
 pub mod Control
 pub mod Current
+pub mod DoubleCollect
 pub mod Enters
 pub mod Entry
 pub mod Kept

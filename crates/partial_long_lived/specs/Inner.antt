@@ -11,4 +11,5 @@ pub mod Opening
 pub mod Calls
 pub mod Changing
 pub mod Scans
+pub mod DoubleCollect
 pub mod Rests

@@ -79,8 +79,12 @@ impl LongLived {
     }
 
     /// Scans these components, in this order and with repeats: `into` has their values as they stood together at one
-    /// moment of the call. It makes at most as many collects as there are positions, and two more; a scan of no
-    /// position makes no step. A port that is spent in its epoch changes the epoch first.
+    /// moment of the call. A scan of no position makes no step.
+    ///
+    /// It first tries a double collect, which makes 2 collects at most and stores nothing. When these differ, or the port
+    /// stands in an epoch that has ended, the scan is announced; a port that is spent in its epoch changes the epoch
+    /// before it announces. An announced scan makes at most as many collects as there are positions, and two more.
+    /// `collects` counts the collects of the way that gave the values.
     ///
     /// # Errors
     /// [`Refused::Component`] exactly when an index isn't below the number of components: no step was made.
@@ -105,7 +109,9 @@ impl LongLived {
         }
         let words = &self.table.shared;
         let stand = me.seating.take();
-        let (stand, spent, scanned) = scan_from(words, stand, &mut me.core, me.spent, which, into);
+        let kept = me.collected.as_mut_slice();
+        let core = &mut me.core;
+        let (stand, spent, scanned) = scan_from(words, stand, core, me.spent, which, kept, into);
         let epoch = stand.epoch;
         me.spent = spent;
         me.seating.keep(stand);

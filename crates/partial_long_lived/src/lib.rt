@@ -10,6 +10,7 @@ mod change_plays;
 mod claim;
 mod clear;
 mod closed;
+mod double_collect;
 mod enter;
 mod error;
 mod fill;
