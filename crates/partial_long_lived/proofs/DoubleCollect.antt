@@ -133,13 +133,13 @@ module _ (table : TableId) (about : About) (s u t : Stand) (h : IsHeld table abo
     pub look_notes : (port_at t).notes ≡ (port_at s).notes
     look_notes = ap (λ (x : Seated). x.notes) looked.looks.2 ∙ notes_are
 
--- what the first load has settled stays so
-pub collect_settled : (s t u : Stand) (j w : ℕ) → HasBegunCollect s t j w → HasGlanced t u → SettledFirst s u
-collect_settled s t u j w b g = record {
-  come = come_on s t u b.settled.come (glanced_come t u b.settled.come.idle g);
-  notes = ap (λ (x : Seated). x.notes) g.is ∙ b.settled.notes;
-  first = let few = b.settled.first in let same = ap (λ (x : Seated). x.began.length) g.is in omega (arith, few, same);
-  fresh = let young = b.settled.fresh in let same = ap (λ (x : Seated). x.began.epoch) g.is in let epoch = g.kept.epoch in omega (arith, young, same, epoch);
+-- what the first steps have settled stays so
+pub settled_on : (s t u : Stand) → SettledFirst s t → HasGlanced t u → SettledFirst s u
+settled_on s t u b g = record {
+  come = come_on s t u b.come (glanced_come t u b.come.idle g);
+  notes = ap (λ (x : Seated). x.notes) g.is ∙ b.notes;
+  first = let few = b.first in let same = ap (λ (x : Seated). x.began.length) g.is in omega (arith, few, same);
+  fresh = let young = b.fresh in let same = ap (λ (x : Seated). x.began.epoch) g.is in let epoch = g.kept.epoch in omega (arith, young, same, epoch);
 }
 
 -- how much of the one history a port has seen

@@ -35,6 +35,7 @@ pub mod Sets
 pub mod Sights
 pub mod Standing
 pub mod Staying
+pub mod StillStanding
 pub mod Straight
 pub mod Under
 pub mod Unmarked

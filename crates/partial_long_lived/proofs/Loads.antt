@@ -139,6 +139,11 @@ module _ (a : About) (words : List ℕ) (ports : ℕ → Port) (notes : ℕ → 
     stamp_is : public_of e (ports k).before j (stamp_of o log j) ≡ stamp_of a.opening (take (length (history_of (ports k).before) + length log) (history_of (log ∷ (ports k).before))) j
     stamp_is = ap (λ (l : List Applied). public_of e (ports k).before j (stamp_of o l j)) (sym all_taken) ∙ stamp_public e w.epochs.plan (ports k).before log above (length log) j inside
 
+    public_is : stamp_of a.opening (history_of (log ∷ (ports k).before)) j ≡ stamp_seen X log j
+    public_is =
+        sym (stamp_is ∙ ap (λ (l : List Applied). stamp_of a.opening l j)
+        (take_all (length (history_of (ports k).before) + length log) (history_of (log ∷ (ports k).before)) (omega (arith, long))))
+
     carried_is : public_of e (ports k).before j (stamp_of o log j) ≡ carried_after (length (ports k).before) (carried_behind a.opening (ports k).before) log j
     carried_is =
         let values = w.epochs.plan.values in
@@ -354,6 +359,7 @@ module _ (a : About) (words : List ℕ) (ports : ℕ → Port) (notes : ℕ → 
             is = ap (λ (l : List Noted). record { about = a; number = k; port = p'; notes = notes k ++ l; began = d.0; found = found_by wish X log j }) is;
             stamp = names;
             within = let is_here = is_raw e words ports b k j w.epochs below stands inside standing in let low = arena_within e words ports b k j w.epochs below stands inside standing in omega (arith, is_here, low);
+            public = public_is j inside;
             present = λ less. let come = (d.2).come in let here = young less in omega (arith, come, here);
             time = λ fresh. begun_place b d.0 where_is.0 (ports k).before log d.2 where_is.1 (let epoch = (w.noted.reached k below).epoch in omega (arith, fresh, epoch));
           })

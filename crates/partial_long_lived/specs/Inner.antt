@@ -12,4 +12,5 @@ pub mod Calls
 pub mod Changing
 pub mod Scans
 pub mod DoubleCollect
+pub mod Unchanged
 pub mod Rests

@@ -1,9 +1,9 @@
 //! The calls of a port.
 
-ghost use Rattle.std.specs.Prelude.{◌≡◌, ◌≤◌, length, nat_lt, IfOk, IfErr};
+ghost use Rattle.std.specs.Prelude.{◌≡◌, ◌≤◌, true, false, length, nat_lt, IfOk, IfErr};
 ghost use Rattle.std.specs.List.{list_all};
 ghost use Rattle.partial_model.specs.declared.call.Call.TheVariants as call;
-ghost use Rattle.partial_long_lived.specs.Calls.{IsRefused, Reads, Scans, Updates};
+ghost use Rattle.partial_long_lived.specs.Calls.{Differ, IsRefused, Reads, Scans, StillStand, Updates};
 ghost use Rattle.partial_long_lived.specs.Ports.{IsOf};
 
 use crate::answers::Updated;
@@ -12,6 +12,7 @@ use crate::long_lived::LongLived;
 use crate::port::Port;
 use crate::read::read;
 use crate::scan::{public_borrowed, scan_from};
+use crate::unchanged::unchanged;
 use crate::update::update;
 use partial_core::Change;
 use partial_lines::Scanned;
@@ -122,6 +123,29 @@ impl LongLived {
             }),
             Err(cause) => Err(cause),
         }
+    }
+
+    /// Says whether each of these components still has this stamp, as [`read`](LongLived::read) gives it. It makes a look,
+    /// perhaps enters the current epoch, and makes one or two loads for each component. With `true` those whose stamps the port has observed stood together at one moment of the call, and so
+    /// did the values that it read with them. `false` says that a component isn't there, or had another stamp at a moment
+    /// of the call. The call notes nothing.
+    pub fn unchanged(&self, me: &mut Port, which: &[u32], stamps: &[u64]) -> bool
+        requires own { IsOf self.now me.old }
+        requires lengths { length stamps.now ≡ length which.now }
+        ensures same { IsOf self.now me.new }
+        ensures still { result ≡ true → StillStand me.old me.new which.now stamps.now }
+        ensures differ { result ≡ false → Differ me.old me.new which.now stamps.now }
+    {
+        let mut stand = me.seating.take();
+        let epoch = stand.epoch;
+        let answer = unchanged(&self.table.shared, &mut stand, which, stamps);
+        let entered = stand.epoch != epoch;
+        if entered {
+            me.core.clear_marks();
+            me.spent = false;
+        }
+        me.seating.keep(stand);
+        answer
     }
 }
 

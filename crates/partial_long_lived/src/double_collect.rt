@@ -88,9 +88,9 @@ fn glance_first(words: &Words, stand: &mut Stand, component: u32) -> u64
     words.load::<GlanceFirst>(&mut stand.seat, word as usize)
 }
 
-// Loads the word of a component.
+/// Loads the word of a component.
 #[inline(always)]
-fn glance(words: &Words, stand: &mut Stand, component: u32) -> u64
+pub fn glance(words: &Words, stand: &mut Stand, component: u32) -> u64
     requires held { IsHeld words.now.table_id words.now.key stand.old }
     requires idle { IsIdle stand.old }
     requires inside { component < words.now.key.sizes.m }

@@ -31,6 +31,7 @@ mod seal;
 mod seating;
 mod shape;
 mod stand;
+mod unchanged;
 mod update;
 
 pub use answers::Updated;

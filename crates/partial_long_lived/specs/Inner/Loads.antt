@@ -71,6 +71,8 @@ pub record Sees (first : Bool) (wish : Wish) (j : ℕ) (x : Seated) (a : ℕ) (y
   -- the word names the component's last record, which lies in the arena
   pub stamp : unsealed a ≡ stamp_of (opening_of x) log j
   pub within : value_word (unsealed a) < total x.about.sizes
+  -- in the one history the component has the public stamp of that record
+  pub public : stamp_of x.about.opening (history_of (log ∷ x.port.before)) j ≡ stamp_seen x log j
   -- a component that isn't sealed is one of the current epoch
   pub present : a < seal → n.epoch ≤ x.port.control.here.epoch
   -- what the port sees in an epoch that is no older than its call is no older either
