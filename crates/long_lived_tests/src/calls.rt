@@ -112,3 +112,60 @@ fn ports_in_two_epochs(rt: HostRuntime) -> Result<(), Fail> {
     takes_turns(&rt, &memory, &mut first, &mut last);
     Ok(())
 }
+
+// Scans that no update disturbs store nothing, so that not even a spent port changes the epoch by them: the stamp of the
+// next update is one of the first epoch.
+fn scans_alone(rt: &impl Abort, memory: &LongLived, first: &mut Port, last: &mut Port)
+    requires first { IsOf memory.now first.old }
+    requires last { IsOf memory.now last.old }
+    requires both { 2 ≤ memory.now.about.sizes.m }
+{
+    sets_first(rt, memory, first, 11);
+    shows(rt, memory, first, [11, 20]);
+    shows(rt, memory, first, [11, 20]);
+    let Ok(Updated::Applied { stamp }) = memory.update(last, 0, 12) else {
+        panic!(rt; "not applied");
+    };
+    assert!(rt; stamp < 1 << 23);
+    shows(rt, memory, first, [12, 20]);
+}
+
+// Ports that are spent in the first epoch scan there.
+#[test]
+fn scans_of_spent_ports(rt: HostRuntime) -> Result<(), Fail> {
+    let options = Options { lists: 2, pool: 1 };
+    let (memory, mut ports) = LongLived::open(rt.alloc(), &[10, 20], 2, options)?;
+    let mut last = ports.pop().ok_or("a last port")?;
+    let mut first = ports.pop().ok_or("a first port")?;
+    scans_alone(&rt, &memory, &mut first, &mut last);
+    Ok(())
+}
+
+// Two components keep their stamps, over changes of epoch too, until one of them is updated.
+fn keeps_stamps(rt: &impl Abort, memory: &LongLived, first: &mut Port, last: &mut Port)
+    requires first { IsOf memory.now first.old }
+    requires last { IsOf memory.now last.old }
+{
+    let (Ok((_, zero)), Ok((_, one))) = (memory.read(first, 0), memory.read(first, 1)) else {
+        panic!(rt; "not read");
+    };
+    assert!(rt; memory.unchanged(first, &[0, 1], &[zero, one]));
+    assert!(rt; memory.unchanged(last, &[1, 0], &[one, zero]));
+    assert!(rt; !memory.unchanged(first, &[0, 1], &[one, zero]));
+    assert!(rt; !memory.unchanged(first, &[1, 2], &[one, zero]));
+    sets_first(rt, memory, last, 11);
+    sets_first(rt, memory, last, 12);
+    assert!(rt; !memory.unchanged(first, &[0, 1], &[zero, one]));
+    assert!(rt; memory.unchanged(first, &[1], &[one]));
+}
+
+// The pool has one word, so that the second update changes the epoch.
+#[test]
+fn stamps_over_epochs(rt: HostRuntime) -> Result<(), Fail> {
+    let options = Options { lists: 2, pool: 1 };
+    let (memory, mut ports) = LongLived::open(rt.alloc(), &[10, 20], 2, options)?;
+    let mut last = ports.pop().ok_or("a last port")?;
+    let mut first = ports.pop().ok_or("a first port")?;
+    keeps_stamps(&rt, &memory, &mut first, &mut last);
+    Ok(())
+}

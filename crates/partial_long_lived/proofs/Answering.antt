@@ -313,8 +313,8 @@ pub not_scanned_seen : (table : TableId) (s t : Stand) (which : List ℕ) (cause
     calls.IsRefused (port_view table (port_at s)) (call.Scan which) cause (port_view table (port_at t))
 not_scanned_seen table s t which Component w inside = absurd w.why
 not_scanned_seen table s t which Overtaken w inside = absurd w.why
-not_scanned_seen table s t which NoArena w inside = (inside, goes_seen table (port_at s) (port_at t) [] w.same.goes (w.same.notes ∙ sym (append-nil (port_at s).notes)))
-not_scanned_seen table s t which EpochsSpent w inside = (inside, goes_seen table (port_at s) (port_at t) [] w.same.goes (w.same.notes ∙ sym (append-nil (port_at s).notes)))
+not_scanned_seen table s t which NoArena w inside = (inside, goes_seen table (port_at s) (port_at t) [] w.goes (w.notes ∙ sym (append-nil (port_at s).notes)))
+not_scanned_seen table s t which EpochsSpent w inside = (inside, goes_seen table (port_at s) (port_at t) [] w.goes (w.notes ∙ sym (append-nil (port_at s).notes)))
 
 -- the same, from the seat that was taken out to the one that was put back
 module _ (m : MemoryView) (s : Seating) (t u : Stand) (s' : Seating) (p : PortView) (k : IsStandOf s t) (view : port_view s.badge.table_id (one_in s.badge.views) ≡ p) (own : IsOf m p)
@@ -332,4 +332,4 @@ module _ (m : MemoryView) (s : Seating) (t u : Stand) (s' : Seating) (p : PortVi
   pub scan_refused : (cause : Refused) → NotScanned t u cause → calls.IsRefused p (call.Scan which) cause (port_view s'.badge.table_id (one_in s'.badge.views))
   scan_refused cause w =
       callers_see m s t u s' p k view own held k' (λ (a b : PortView). calls.IsRefused a (call.Scan which) cause b)
-      (not_scanned_seen m.table t u which cause w (below_there w.same.goes.about))
+      (not_scanned_seen m.table t u which cause w (below_there w.goes.about))

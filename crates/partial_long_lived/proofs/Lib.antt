@@ -8,11 +8,13 @@ pub mod Changed
 pub mod Changes
 pub mod Claims
 pub mod Closes
+pub mod Collects
 pub mod Coming
 pub mod Conditional
 pub mod ConditionalRounds
 pub mod Control
 pub mod Current
+pub mod DoubleCollect
 pub mod Enters
 pub mod Entry
 pub mod Kept
@@ -35,6 +37,7 @@ pub mod Sets
 pub mod Sights
 pub mod Standing
 pub mod Staying
+pub mod StillStanding
 pub mod Straight
 pub mod Under
 pub mod Unmarked

@@ -1,9 +1,9 @@
 -- Loads of component words are allowed, and what they tell.
-use Rattle.std.proofs.Common.{ℕ, ◌≡◌, ◌≢◌, ◌+◌, ◌<◌, ◌≤◌, ◌==◌, ◌⊎◌, ◌&&◌, ◌++◌, not, Bool, true, false, cond, Option, Some, None, IfSome, List, [], ◌∷◌, length, take, get_or, set, refl, sym, ap, subst, ◌∙◌, inl, inr, arith, append-nil, append_assoc, length-append}
+use Rattle.std.proofs.Common.{ℕ, ◌≡◌, ◌≢◌, ◌+◌, ◌<◌, ◌≤◌, ◌==◌, ◌⊎◌, ◌&&◌, ◌++◌, not, Bool, true, false, cond, Option, Some, None, IfSome, List, [], ◌∷◌, length, map, take, get_or, set, refl, sym, ap, subst, ◌∙◌, inl, inr, arith, append-nil, append_assoc, length-append}
 use Rattle.std.specs.Prelude.{⊤, nat_lt}
 use Rattle.std.specs.List.{AllByRecursion}
 use Rattle.std.proofs.lemmas.Bool.Decides.{eqb_tells}
-use Rattle.std.proofs.lemmas.List.{length-map, take_all}
+use Rattle.std.proofs.lemmas.List.{length-map, take-append-le, take_all}
 use Rattle.partial_model.specs.declared.history.Applied.{Applied}
 use Rattle.partial_model.specs.declared.history.Opening.{Opening}
 use Rattle.partial_model.specs.declared.call.Call.TheVariants as call
@@ -11,7 +11,7 @@ use Rattle.partial_model.specs.declared.call.Answer.TheVariants as answer
 use Rattle.partial_model.specs.declared.call.Note.{Note}
 use Rattle.partial_model.specs.declared.call.Note.TheVariants as note
 use Rattle.partial_model.specs.History.{stamp_of, value_of}
-use Rattle.partial_model.specs.Notes.{Fits, IsTrueOf, LegalNotes, Noted, place_of, seen_by}
+use Rattle.partial_model.specs.Notes.{Fits, IsTrueOf, LegalNotes, Noted, place_of, seen_by, AreCollects}
 use Rattle.partial_model.proofs.NotesLemmas.{LegalNotes-push}
 use Rattle.partial_words.specs.Layout.{first_free}
 use Rattle.partial_epochs.specs.Lists.{put}
@@ -25,7 +25,7 @@ use Rattle.partial_epochs.specs.Epochs.{Beside, IsStanding, place_now}
 use Rattle.partial_epochs.specs.Notes.{LawfulMemory, having_seen, noting, public_of}
 use Rattle.partial_epochs.specs.Sealing.{IsBesideAs}
 use Rattle.partial_epochs.specs.Time.{KeepsTime}
-use Rattle.partial_epochs.proofs.Laws.{asides_keep_time, components_name_records, epochs_continue, glances_stay_lawful, sights_stay_lawful, unsealed_is_present}
+use Rattle.partial_epochs.proofs.Laws.{asides_keep_time, components_name_records, epochs_are_histories, epochs_continue, glances_stay_lawful, seen_records_stay, sights_stay_lawful, unsealed_is_present}
 use Rattle.partial_epochs.proofs.Continue.{history_took}
 use Rattle.partial_epochs.proofs.Lists.{at_of, put_all, put_other, put_same}
 use Rattle.partial_epochs.proofs.OneHistory.{held_history, history_grows}
@@ -35,7 +35,8 @@ use Rattle.partial_long_lived.specs.declared.rule.About.{About}
 use Rattle.partial_long_lived.specs.Rule.{Began, Found, HasBegun, IsFinal, IsSeat, Seated, plan_of}
 use Rattle.partial_long_lived.specs.Ports.{seen_in}
 use Rattle.partial_long_lived.specs.Inner.Steps.{Begins, IsKnown}
-use Rattle.partial_long_lived.specs.Inner.Loads.{Sees, Wish, found_by, noted_by, place_seen, stamp_seen}
+use Rattle.partial_long_lived.specs.Inner.Loads.{Recalls, Sees, Wish, found_by, noted_by, place_seen, stamp_seen}
+use Rattle.partial_long_lived.specs.Inner.DoubleCollect.{MayNote, NotesScan, noted_together}
 use Rattle.partial_long_lived.specs.Inner.Loads.Wish.{Expects, Finds, Glances, Reads}
 use Rattle.partial_long_lived.proofs.Begins.{began_by, seen_few}
 use Rattle.partial_long_lived.proofs.Control.{load_same, stands_since}
@@ -64,6 +65,11 @@ begun_place b g later before log w is young = elim (eqb_tells (length before) g.
       let over = length-append (history_of before) (public_log (length before) log) in
       omega (arith, was, long, both, over)
 ]
+
+-- a scan of some positions may make two collects
+two_collects : (js : List ℕ) → 0 < length js → AreCollects (length js) 2 None
+two_collects [] some = absurd (omega (arith, some))
+two_collects (j ∷ js) some = (omega arith, omega arith, λ none. let bad : false ≡ true = none in cc)
 
 -- the seat of a port of which all is known
 abbrev pub seat_at : About → (ℕ → Port) → (ℕ → List Noted) → ℕ → Began → Option Found → Seated
@@ -107,10 +113,23 @@ module _ (a : About) (words : List ℕ) (ports : ℕ → Port) (notes : ℕ → 
   long : length (history_of (log ∷ (ports k).before)) ≡ length (history_of (ports k).before) + length log
   long = length-append (history_of (ports k).before) (public_log (length (ports k).before) log) ∙ ap (λ n. length (history_of (ports k).before) + n) (length-map log (public_entry (length (ports k).before)))
 
-  -- a note that is true behind the epoch's history
+  -- a note that is true behind the first i entries of the epoch's history, and behind all of them
+  abbrev IsTrueAt : ℕ → Noted → Type 0
+  IsTrueAt i n = (n.note ≡ Some (note.Saw (length (history_of (ports k).before) + i))) × Fits (length a.opening.values) n.call n.answer n.note
+      × IsTrueOf a.opening (history_of (log ∷ (ports k).before)) k n.call n.answer (note.Saw (length (history_of (ports k).before) + i))
+
   abbrev IsTrueHere : Noted → Type 0
-  IsTrueHere n = (n.note ≡ Some (note.Saw (length (history_of (ports k).before) + length log))) × Fits (length a.opening.values) n.call n.answer n.note
-      × IsTrueOf a.opening (history_of (log ∷ (ports k).before)) k n.call n.answer (note.Saw (length (history_of (ports k).before) + length log))
+  IsTrueHere n = IsTrueAt (length log) n
+
+  -- what the port recalls of its epoch from word i of the table
+  pub recalled : (i : ℕ) → Recalls i X (get_or words i 0) X
+  recalled i =
+      let records = λ (j : ℕ) (inside : j < a.sizes.m). seen_records_stay e words ports b k j w.epochs below stands inside standing in
+      record {
+        same = refl;
+        value = λ j m inside few is. ap (λ h. get_or words h 0) is ∙ ((records j inside).each m few).value;
+        carried = λ j inside is. ap (λ h. get_or words h 0) is ∙ (records j inside).carried;
+      }
 
   -- public values and stamps
   module _ (j : ℕ) (inside : j < a.sizes.m) where
@@ -119,6 +138,11 @@ module _ (a : About) (words : List ℕ) (ports : ℕ → Port) (notes : ℕ → 
 
     stamp_is : public_of e (ports k).before j (stamp_of o log j) ≡ stamp_of a.opening (take (length (history_of (ports k).before) + length log) (history_of (log ∷ (ports k).before))) j
     stamp_is = ap (λ (l : List Applied). public_of e (ports k).before j (stamp_of o l j)) (sym all_taken) ∙ stamp_public e w.epochs.plan (ports k).before log above (length log) j inside
+
+    public_is : stamp_of a.opening (history_of (log ∷ (ports k).before)) j ≡ stamp_seen X log j
+    public_is =
+        sym (stamp_is ∙ ap (λ (l : List Applied). stamp_of a.opening l j)
+        (take_all (length (history_of (ports k).before) + length log) (history_of (log ∷ (ports k).before)) (omega (arith, long))))
 
     carried_is : public_of e (ports k).before j (stamp_of o log j) ≡ carried_after (length (ports k).before) (carried_behind a.opening (ports k).before) log j
     carried_is =
@@ -145,7 +169,7 @@ module _ (a : About) (words : List ℕ) (ports : ℕ → Port) (notes : ℕ → 
     ]
 
   -- the port once it has seen all of its epoch, and has noted these calls
-  module _ (s : IsSeat a ports notes b since X) (known : IsKnown X) (j : ℕ) (inside : j < a.sizes.m) where
+  module _ (s : IsSeat a ports notes b since X) (known : IsKnown X) where
     abbrev p' : Port
     p' = having_seen (ports k) log
 
@@ -184,20 +208,112 @@ module _ (a : About) (words : List ℕ) (ports : ℕ → Port) (notes : ℕ → 
         let to = glances_stay_lawful e words ports b notes k w below stands standing in
         record { beside = to.beside; same = to.same; notes' = notes; own = sym (append-nil (notes k)); others = λ q ne. refl; lawful = to.lawful }
 
-    sees_note : (n : Noted) → IsTrueHere n → Seen (n ∷ [])
-    sees_note n is =
-        let to = sights_stay_lawful e words ports b notes k (length log) n w below standing stands (record { noted = is.0; within = omega arith; behind = shown_few; fits = is.1; is_true = is.2 }) in
+    sees_note : (i : ℕ) → i ≤ length log → seen_by 0 (notes k) ≤ length (history_of (ports k).before) + i → (n : Noted) → IsTrueAt i n → Seen (n ∷ [])
+    sees_note i few behind n is =
+        let to = sights_stay_lawful e words ports b notes k i n w below standing stands (record { noted = is.0; within = few; behind = behind; fits = is.1; is_true = is.2 }) in
         record { beside = to.beside; same = to.same; notes' = noting k (n ∷ []) notes; own = put_same k (notes k ++ n ∷ []) notes; others = λ q ne. put_other k (notes k ++ n ∷ []) notes q ne; lawful = to.lawful }
 
     legal_then : LegalNotes a.opening (seen_in p') k 0 (notes k)
     legal_then = legal_begins a.opening (seen_in (ports k)) (seen_in p') k 0 (notes k) seen_begins_then known.knows.legal
 
-    legal_note : (n : Noted) → IsTrueHere n → LegalNotes a.opening (seen_in p') k 0 (notes k ++ n ∷ [])
-    legal_note n is = LegalNotes-push a.opening (seen_in p') k 0 (notes k) n legal_then
-        (is.1, subst (λ (t : Option Note). IfSome t (λ m. IsTrueOf a.opening (seen_in p') k n.call n.answer m × (seen_by 0 (notes k) ≤ place_of m))) (sym is.0) (is.2, shown_few))
+    legal_note : (i : ℕ) → seen_by 0 (notes k) ≤ length (history_of (ports k).before) + i → (n : Noted) → IsTrueAt i n → LegalNotes a.opening (seen_in p') k 0 (notes k ++ n ∷ [])
+    legal_note i behind n is = LegalNotes-push a.opening (seen_in p') k 0 (notes k) n legal_then
+        (is.1, subst (λ (t : Option Note). IfSome t (λ m. IsTrueOf a.opening (seen_in p') k n.call n.answer m × (seen_by 0 (notes k) ≤ place_of m))) (sym is.0) (is.2, behind))
+
+    -- what a load of word i leads to, by which the port sees all of its epoch
+    moved_to : (i : ℕ) (n : Began) → HasBegun b n → (added : List Noted) → Seen added → LegalNotes a.opening (seen_in p') k 0 (notes k ++ added) → (found : Option Found) →
+        ((c : Beside) → c.log ≡ b.log → c.before ≡ b.before → IfSome found (IsFinal e c p')) → (P : Seated → Type 0) →
+        P (record { about = a; number = k; port = p'; notes = notes k ++ added; began = n; found = found }) → Moved a (set words i (get_or words i 0)) ports notes b since X P
+    moved_to i n has added to legal found final P says =
+        let same_log = to.same.log in
+        let same_before_is = to.same.before in
+        let grown = not_grown p' b to.beside same_log same_before_is in
+        let lawful' : LawfulMemory e (set words i (get_or words i 0)) (put k p' ports) to.beside to.notes' =
+        subst (λ (l : List ℕ). LawfulMemory e l (put k p' ports) to.beside to.notes') (load_same words i) to.lawful in
+        record {
+          y = record { about = a; number = k; port = p'; notes = notes k ++ added; began = n; found = found };
+          ports' = put k p' ports;
+          notes' = to.notes';
+          beside = to.beside;
+          since' = since;
+          lawful = lawful';
+          time = subst (λ (l : List ℕ). KeepsTime e l (put k p' ports) (place_now to.beside) since) (load_same words i)
+              (asides_keep_time e words words ports (put k p' ports) (place_now b) (place_now to.beside) since (record {
+                at = λ q low. refl;
+                here = λ q low. put_all (λ i (r : Port). r.control.here ≡ (ports i).control.here) k p' ports q (λ _. refl) (λ _. refl);
+                entering = λ q low. put_all (λ i (r : Port). r.control.entering ≡ (ports i).control.entering) k p' ports q (λ _. refl) (λ _. refl);
+                puts = λ q i m low. put_all (λ h (r : Port). MayPut r.control i m → MayPut (ports h).control i m) k p' ports q (λ _ may. may) (λ _ may. may);
+                later = let longer = ap (λ (l : List (List Applied)). length l) same_before_is in omega (arith, longer);
+              }) time);
+          others = λ q ne. (put_other k p' ports q ne, to.others q ne, refl);
+          number = refl;
+          seat = record {
+            about = refl;
+            number = below;
+            port = sym (put_same k p' ports);
+            noted = sym to.own;
+            seen = λ later l at.
+                let all : b.log ∷ b.before ≡ later ++ l ∷ (ports k).before =
+                ap (λ (t : List Applied). t ∷ b.before) (sym same_log) ∙ ap (λ (t : List (List Applied)). to.beside.log ∷ t) (sym same_before_is) ∙ at in
+                ([], sym (same_before where_is.0 later log l (ports k).before (sym where_is.1 ∙ all)) ∙ sym (append-nil log));
+            began = begun_grows b to.beside n (let longer = ap (λ (l : List (List Applied)). length l) same_before_is in omega (arith, longer)) (none_grown b to.beside same_log same_before_is) has;
+            entering = stands_since n (ports k).control.entering (since k) stands;
+            found = final to.beside same_log same_before_is;
+          };
+          grown = λ q low ne. not_grown (ports q) b to.beside same_log same_before_is;
+          all_grown = none_grown b to.beside same_log same_before_is;
+          later = let longer = ap (λ (l : List (List Applied)). length l) same_before_is in omega (arith, longer);
+          reached = (where_is.0, log, ap (λ (t : List Applied). t ∷ to.beside.before) same_log ∙ ap (λ (t : List (List Applied)). b.log ∷ t) same_before_is ∙ where_is.1);
+          seen = seen_begins_then;
+          legal = legal;
+          says = says;
+        }
+
+    -- a load of word i by which the port notes a scan by a double collect
+    module _ (js : List ℕ) (m : ℕ) (may : MayNote js m X) where
+      abbrev scan : Noted
+      scan = noted_together js m X
+
+      few_seen : m ≤ length log
+      few_seen =
+          let few = may.seen in
+          let whole = ap (λ (l : List Applied). length l) seen_rest.1 in
+          let both = length-append (ports k).part.seen seen_rest.0 in
+          omega (arith, few, whole, both)
+
+      taken_seen : take m (ports k).part.seen ≡ take m log
+      taken_seen = sym (take-append-le m (ports k).part.seen seen_rest.0 may.seen) ∙ ap (λ (l : List Applied). take m l) (sym seen_rest.1)
+
+      values_then : (is : List ℕ) → AllByRecursion (λ j. j < a.sizes.m) is →
+          map (λ j. value_of o (take m log) j) is ≡ map (λ j. value_of a.opening (take (length (history_of (ports k).before) + m) (history_of (log ∷ (ports k).before))) j) is
+      values_then [] all = refl
+      values_then (j ∷ is) all =
+          ap (λ v. v ∷ map (λ j. value_of o (take m log) j) is) (value_public e w.epochs.plan (ports k).before log above m j all.0)
+          ∙ ap (λ (l : List ℕ). value_of a.opening (take (length (history_of (ports k).before) + m) (history_of (log ∷ (ports k).before))) j ∷ l) (values_then is all.1)
+
+      scan_true : IsTrueAt m scan
+      scan_true =
+          let values = w.epochs.plan.values in
+          let few = few_seen in (
+            refl,
+            subst (λ n. AllByRecursion (λ j. j < n) js) (sym values) may.inside,
+            record {
+              within = omega (arith, few, long);
+              values = ap (λ (l : List Applied). map (λ j. value_of o l j) js) taken_seen ∙ values_then js may.inside;
+              collects = two_collects js may.some;
+              borrowed = tt;
+            },
+          )
+
+      pub moved_note : (i : ℕ) → Moved a (set words i (get_or words i 0)) ports notes b since X (NotesScan js m i X (get_or words i 0))
+      moved_note i =
+          let histories = epochs_are_histories e words ports b k w.epochs below stands standing in
+          moved_to i g s.began (scan ∷ []) (sees_note m few_seen may.behind scan scan_true) (legal_note m may.behind scan scan_true) f
+          (λ c same before. final_grows a p' b c (not_grown p' b c same before) f (final_seen f s.found)) (NotesScan js m i X (get_or words i 0))
+          (record { recalls = recalled i; log = log; begins = seen_rest; is = refl; history = histories.0; values = histories.1 })
 
     -- what a load of the component's word leads to
-    module _ (first : Bool) (wish : Wish) (finds : IsFinding wish → j < (ports k).passed) where
+    module _ (j : ℕ) (inside : j < a.sizes.m) (first : Bool) (wish : Wish) (finds : IsFinding wish → j < (ports k).passed) where
       abbrev i : ℕ
       i = base e (ports k).control.here.arena + j
 
@@ -235,56 +351,18 @@ module _ (a : About) (words : List ℕ) (ports : ℕ → Port) (notes : ℕ → 
           Moved a (set words i n) ports notes b since X (Sees first wish j X n)
       moved_by added to legal is =
           let d = began_by first X b (seen_few a words ports notes b since X w s) s.began in
-          let same_log = to.same.log in
-          let same_before_is = to.same.before in
-          let grown = not_grown p' b to.beside same_log same_before_is in
-          let lawful' : LawfulMemory e (set words i n) (put k p' ports) to.beside to.notes' = subst (λ (l : List ℕ). LawfulMemory e l (put k p' ports) to.beside to.notes') (load_same words i) to.lawful in
-          record {
-            y = record { about = a; number = k; port = p'; notes = notes k ++ cond (first && not (nat_lt n seal)) [] (noted_by wish X log j); began = d.0; found = found_by wish X log j };
-            ports' = put k p' ports;
-            notes' = to.notes';
-            beside = to.beside;
-            since' = since;
-            lawful = lawful';
-            time = subst (λ (l : List ℕ). KeepsTime e l (put k p' ports) (place_now to.beside) since) (load_same words i)
-                (asides_keep_time e words words ports (put k p' ports) (place_now b) (place_now to.beside) since (record {
-                  at = λ q low. refl;
-                  here = λ q low. put_all (λ i (r : Port). r.control.here ≡ (ports i).control.here) k p' ports q (λ _. refl) (λ _. refl);
-                  entering = λ q low. put_all (λ i (r : Port). r.control.entering ≡ (ports i).control.entering) k p' ports q (λ _. refl) (λ _. refl);
-                  puts = λ q i m low. put_all (λ h (r : Port). MayPut r.control i m → MayPut (ports h).control i m) k p' ports q (λ _ may. may) (λ _ may. may);
-                  later = let longer = ap (λ (l : List (List Applied)). length l) same_before_is in omega (arith, longer);
-                }) time);
-            others = λ q ne. (put_other k p' ports q ne, to.others q ne, refl);
-            number = refl;
-            seat = record {
-              about = refl;
-              number = below;
-              port = sym (put_same k p' ports);
-              noted = ap (λ (l : List Noted). notes k ++ l) (sym is) ∙ sym to.own;
-              seen = λ later l at.
-                  let all : b.log ∷ b.before ≡ later ++ l ∷ (ports k).before = ap (λ (t : List Applied). t ∷ b.before) (sym same_log) ∙ ap (λ (t : List (List Applied)). to.beside.log ∷ t) (sym same_before_is) ∙ at in
-                  ([], sym (same_before where_is.0 later log l (ports k).before (sym where_is.1 ∙ all)) ∙ sym (append-nil log));
-              began = begun_grows b to.beside d.0 (let longer = ap (λ (l : List (List Applied)). length l) same_before_is in omega (arith, longer)) (none_grown b to.beside same_log same_before_is) d.2;
-              entering = stands_since d.0 (ports k).control.entering (since k) stands;
-              found = found_final wish finds to.beside same_log same_before_is;
-            };
-            grown = λ q low ne. not_grown (ports q) b to.beside same_log same_before_is;
-            all_grown = none_grown b to.beside same_log same_before_is;
-            later = let longer = ap (λ (l : List (List Applied)). length l) same_before_is in omega (arith, longer);
-            reached = (where_is.0, log, ap (λ (t : List Applied). t ∷ to.beside.before) same_log ∙ ap (λ (t : List (List Applied)). b.log ∷ t) same_before_is ∙ where_is.1);
-            seen = seen_begins_then;
-            legal = subst (λ (l : List Noted). LegalNotes a.opening (seen_in p') k 0 (notes k ++ l)) is legal;
-            says = record {
-              n = d.0;
-              began = d.1;
-              log = log;
-              is = refl;
-              stamp = names;
-              within = let is_here = is_raw e words ports b k j w.epochs below stands inside standing in let low = arena_within e words ports b k j w.epochs below stands inside standing in omega (arith, is_here, low);
-              present = λ less. let come = (d.2).come in let here = young less in omega (arith, come, here);
-              time = λ fresh. begun_place b d.0 where_is.0 (ports k).before log d.2 where_is.1 (let epoch = (w.noted.reached k below).epoch in omega (arith, fresh, epoch));
-            };
-          }
+          moved_to i d.0 d.2 added to legal (found_by wish X log j) (found_final wish finds) (Sees first wish j X n) (record {
+            n = d.0;
+            began = d.1;
+            log = log;
+            begins = seen_rest;
+            is = ap (λ (l : List Noted). record { about = a; number = k; port = p'; notes = notes k ++ l; began = d.0; found = found_by wish X log j }) is;
+            stamp = names;
+            within = let is_here = is_raw e words ports b k j w.epochs below stands inside standing in let low = arena_within e words ports b k j w.epochs below stands inside standing in omega (arith, is_here, low);
+            public = public_is j inside;
+            present = λ less. let come = (d.2).come in let here = young less in omega (arith, come, here);
+            time = λ fresh. begun_place b d.0 where_is.0 (ports k).before log d.2 where_is.1 (let epoch = (w.noted.reached k below).epoch in omega (arith, fresh, epoch));
+          })
 
       -- what is noted is nothing or one call
       one_note : (wish : Wish) → (noted_by wish X log j ≡ []) ⊎ ((m : Noted) × (noted_by wish X log j ≡ m ∷ []))
@@ -308,4 +386,5 @@ module _ (a : About) (words : List ℕ) (ports : ℕ → Port) (notes : ℕ → 
           by false skip (inl none) = nothing (sym (ap (λ (c : Bool). cond c [] (noted_by wish X log j)) skip ∙ none))
           by false skip (inr one) =
               let is_true = (subst (AllByRecursion IsTrueHere) one.1 (notes_true j inside wish)).0 in
-              moved_by (one.0 ∷ []) (sees_note one.0 is_true) (legal_note one.0 is_true) (sym (ap (λ (c : Bool). cond c [] (noted_by wish X log j)) skip ∙ one.1))
+              moved_by (one.0 ∷ []) (sees_note (length log) (omega arith) shown_few one.0 is_true) (legal_note (length log) shown_few one.0 is_true)
+              (sym (ap (λ (c : Bool). cond c [] (noted_by wish X log j)) skip ∙ one.1))

@@ -32,7 +32,7 @@ distinct_front [] rest w = tt
 distinct_front (a ∷ h) rest w = (all_front (λ (f : Applied). a.stamp ≢ f.stamp) h rest w.0, distinct_front h rest w.1)
 
 -- a beginning of a history is a history
-begin_history : (o : Opening) (h rest : List Applied) → IsHistory o (h ++ rest) → IsHistory o h
+pub begin_history : (o : Opening) (h rest : List Applied) → IsHistory o (h ++ rest) → IsHistory o h
 begin_history o h rest w = record {
   components = all_front (λ (e : Applied). e.component < length o.values) h rest w.components;
   distinct = distinct_front h rest w.distinct;

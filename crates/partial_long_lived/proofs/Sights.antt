@@ -8,15 +8,15 @@ use Rattle.partial_epochs.specs.Ports.Entering.{Stands}
 use Rattle.partial_epochs.specs.Epochs.{Beside, place_now}
 use Rattle.partial_epochs.specs.Notes.{LawfulMemory}
 use Rattle.partial_epochs.specs.Time.{KeepsTime}
-use Rattle.partial_epochs.proofs.Laws.{seen_records_stay}
 use Rattle.partial_long_lived.specs.declared.rule.About.{About}
 use Rattle.partial_long_lived.specs.Rule.{IsKept, IsSeat, Seated, one_of, plan_of}
 use Rattle.partial_long_lived.specs.Ports.{seen_in}
 use Rattle.partial_long_lived.specs.Inner.Steps.{IsKnown, IsOne, tells}
 use Rattle.partial_long_lived.specs.Inner.Loads.{Recalls, Sees, Wish}
+use Rattle.partial_long_lived.specs.Inner.DoubleCollect.{MayNote, NotesScan, notes_scan}
 use Rattle.partial_long_lived.proofs.Control.{load_same}
 use Rattle.partial_long_lived.proofs.Kept.{Moved, allowed, none_grown, not_grown}
-use Rattle.partial_long_lived.proofs.Loads.{IsFinding, moved_see, seat_at, seat_is, standing, where_is}
+use Rattle.partial_long_lived.proofs.Loads.{IsFinding, moved_note, moved_see, recalled, seat_is, standing, where_is}
 
 -- nothing has changed
 pub nothing_moved : (a : About) (words words' : List ℕ) (ports : ℕ → Port) (notes : ℕ → List Noted) (b : Beside) (since : ℕ → ℕ) (w : LawfulMemory (plan_of a) words ports b notes) →
@@ -70,13 +70,13 @@ module _ {S : Type 0} (a : About) (slots id : ℕ) (me : Me S (List Seated)) (on
       let n : ℕ = get_or words i 0 in
       let same = seat_is a ports notes b since x s in
       let stands' = ap (λ (p : Port). p.control.entering) (sym s.port) ∙ stands in
-      let X : Seated = seat_at a ports notes k x.began x.found in
-      let there = standing a words ports notes b since w time k s.number x.began x.found stands' in
-      let records = λ (j : ℕ) (inside : j < a.sizes.m). seen_records_stay e words ports b k j w.epochs s.number stands' inside there in
-      let words_same = load_same words i in
-      let recalled : Recalls i X n X = record {
-        same = refl;
-        value = λ j m inside few is. ap (λ h. get_or words h 0) is ∙ ((records j inside).each m few).value;
-        carried = λ j inside is. ap (λ h. get_or words h 0) is ∙ (records j inside).carried;
-      } in
-      nothing_moved a words (set words i n) ports notes b since w time x s own known stands' (sym words_same) (Recalls i x n) (subst (λ (z : Seated). Recalls i z n z) (sym same) recalled))
+      nothing_moved a words (set words i n) ports notes b since w time x s own known stands' (sym (load_same words i)) (Recalls i x n)
+      (subst (λ (z : Seated). Recalls i z n z) (sym same) (recalled a words ports notes b since w time k s.number x.began x.found stands' i)))
+
+  -- so is one by which the port notes a scan by a double collect
+  pub may_note : (js : List ℕ) (m : ℕ) → MayNote js m x → (i : ℕ) → Allows (IsKept a) slots id me i (λ n. n) (notes_scan js m i me)
+  may_note js m may i = allowed a slots id me i (λ n. n) (NotesScan js m i) one own (λ words ports notes b since w time s small.
+      let same = seat_is a ports notes b since x s in
+      let P : Seated → Type 0 = λ z. Moved a (set words i (get_or words i 0)) ports notes b since z (NotesScan js m i z (get_or words i 0)) in
+      subst P (sym same) (moved_note a words ports notes b since w time x.number s.number x.began x.found (ap (λ (p : Port). p.control.entering) (sym s.port) ∙ stands)
+      (subst (IsSeat a ports notes b since) same s) (subst IsKnown same known) js m (subst (MayNote js m) same may) i))

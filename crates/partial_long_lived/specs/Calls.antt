@@ -1,11 +1,12 @@
 -- What each call of a memory leaves of its port.
-use Rattle.std.specs.Prelude.{ℕ, ◌≡◌, ◌+◌, ◌≤◌, List, [], ◌∷◌, ◌++◌, length, take, None, Some}
+use Rattle.std.specs.Prelude.{ℕ, ◌≡◌, ◌+◌, ◌<◌, ◌≤◌, ◌⊎◌, List, [], ◌∷◌, ◌++◌, length, take, None, Some, slice_index}
 use Rattle.partial_model.specs.declared.call.Call.{Call}
 use Rattle.partial_model.specs.declared.call.Call.TheVariants as call
 use Rattle.partial_model.specs.declared.call.Answer.{Answer}
 use Rattle.partial_model.specs.declared.call.Answer.TheVariants as answer
 use Rattle.partial_model.specs.declared.call.Note.{Note}
 use Rattle.partial_model.specs.declared.call.Note.TheVariants as note
+use Rattle.partial_model.specs.History.{stamp_of}
 use Rattle.partial_model.specs.Notes.{NamesComponents, Noted, place_of, shown_by}
 pub use Rattle.partial_lines.specs.declared.whole_scan.Scanned.{Scanned}
 use Rattle.partial_long_lived.specs.declared.answers.Updated.{Updated}
@@ -52,6 +53,29 @@ abbrev pub Scans : PortView → List ℕ → List ℕ → Scanned → PortView �
 Scans p [] values s q = (values ≡ []) × (s.collects ≡ 0) × (s.borrowed ≡ None) × (q ≡ p)
 Scans p (j ∷ js) values s q =
     (n : ℕ) × Answered p q (call.Scan (j ∷ js)) (answer.Scanned values s.collects s.borrowed) (note.Saw n)
+
+-- the component j has that stamp after the first n entries that the port has seen
+abbrev pub HasThen : PortView → ℕ → ℕ → ℕ → Type 0
+HasThen p n j s = stamp_of p.memory.about.opening (take n p.seen) j ≡ s
+
+-- Each of these components had this stamp at a place of the call. There is one place, behind all that the port had seen before the call, at
+-- which those stood together whose stamps the port had seen.
+pub record StillStand (p q : PortView) (js stamps : List ℕ) : Type 0 where
+  pub goes : Goes p q []
+  pub place : ℕ
+  pub behind : length p.seen ≤ place
+  pub within : place ≤ length q.seen
+  pub each : (k : ℕ) → k < length js → (n : ℕ) × (place ≤ n) × (n ≤ length q.seen) × HasThen q n (slice_index js k) (slice_index stamps k)
+  pub together : (k : ℕ) → k < length js → (n : ℕ) → n ≤ length p.seen → HasThen p n (slice_index js k) (slice_index stamps k) →
+      HasThen q place (slice_index js k) (slice_index stamps k)
+
+-- One of these components is missing, or had another stamp than this at a place of the call.
+pub record Differ (p q : PortView) (js stamps : List ℕ) : Type 0 where
+  pub goes : Goes p q []
+  pub position : ℕ
+  pub inside : position < length js
+  pub why : (p.memory.about.sizes.m ≤ slice_index js position)
+      ⊎ ((n : ℕ) × (length p.seen ≤ n) × (n ≤ length q.seen) × ¬ HasThen q n (slice_index js position) (slice_index stamps position))
 
 -- Why a call is refused, and what is left of its port. For a component that isn't there nothing has changed; otherwise nothing is noted,
 -- and the port may have seen more. A read has no other cause, and only updates are overtaken.

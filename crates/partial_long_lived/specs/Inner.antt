@@ -12,4 +12,6 @@ pub mod Calls
 pub mod Changing
 pub mod Conditional
 pub mod Scans
+pub mod DoubleCollect
+pub mod Unchanged
 pub mod Rests

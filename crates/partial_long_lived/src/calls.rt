@@ -1,9 +1,9 @@
 //! The calls of a port.
 
-ghost use Rattle.std.specs.Prelude.{◌≡◌, ◌≤◌, length, nat_lt, IfOk, IfErr};
+ghost use Rattle.std.specs.Prelude.{◌≡◌, ◌≤◌, true, false, length, nat_lt, IfOk, IfErr};
 ghost use Rattle.std.specs.List.{list_all};
 ghost use Rattle.partial_model.specs.declared.call.Call.TheVariants as call;
-ghost use Rattle.partial_long_lived.specs.Calls.{IsRefused, Reads, Scans, Updates, UpdatesIf};
+ghost use Rattle.partial_long_lived.specs.Calls.{Differ, IsRefused, Reads, Scans, StillStand, Updates, UpdatesIf};
 ghost use Rattle.partial_long_lived.specs.Ports.{IsOf};
 
 use crate::answers::{Updated, UpdatedIf};
@@ -12,6 +12,7 @@ use crate::long_lived::LongLived;
 use crate::port::Port;
 use crate::read::read;
 use crate::scan::{public_borrowed, scan_from};
+use crate::unchanged::unchanged;
 use crate::update::update;
 use crate::update_if::{Asked, update_if};
 use partial_core::Change;
@@ -119,8 +120,12 @@ impl LongLived {
     }
 
     /// Scans these components, in this order and with repeats: `into` has their values as they stood together at one
-    /// moment of the call. It makes at most as many collects as there are positions, and two more; a scan of no
-    /// position makes no step. A port that is spent in its epoch changes the epoch first.
+    /// moment of the call. A scan of no position makes no step.
+    ///
+    /// It first tries a double collect, which makes 2 collects at most and stores nothing. When these differ, or the port
+    /// stands in an epoch that has ended, the scan is announced; a port that is spent in its epoch changes the epoch
+    /// before it announces. An announced scan makes at most as many collects as there are positions, and two more.
+    /// `collects` counts the collects of the way that gave the values.
     ///
     /// # Errors
     /// [`Refused::Component`] exactly when an index isn't below the number of components: no step was made.
@@ -145,7 +150,9 @@ impl LongLived {
         }
         let words = &self.table.shared;
         let stand = me.seating.take();
-        let (stand, spent, scanned) = scan_from(words, stand, &mut me.core, me.spent, which, into);
+        let kept = me.collected.as_mut_slice();
+        let core = &mut me.core;
+        let (stand, spent, scanned) = scan_from(words, stand, core, me.spent, which, kept, into);
         let epoch = stand.epoch;
         me.spent = spent;
         me.seating.keep(stand);
@@ -156,6 +163,29 @@ impl LongLived {
             }),
             Err(cause) => Err(cause),
         }
+    }
+
+    /// Says whether each of these components still has this stamp, as [`read`](LongLived::read) gives it. It makes a look,
+    /// perhaps enters the current epoch, and makes one or two loads for each component. With `true` those whose stamps the port has observed stood together at one moment of the call, and so
+    /// did the values that it read with them. `false` says that a component isn't there, or had another stamp at a moment
+    /// of the call. The call notes nothing.
+    pub fn unchanged(&self, me: &mut Port, which: &[u32], stamps: &[u64]) -> bool
+        requires own { IsOf self.now me.old }
+        requires lengths { length stamps.now ≡ length which.now }
+        ensures same { IsOf self.now me.new }
+        ensures still { result ≡ true → StillStand me.old me.new which.now stamps.now }
+        ensures differ { result ≡ false → Differ me.old me.new which.now stamps.now }
+    {
+        let mut stand = me.seating.take();
+        let epoch = stand.epoch;
+        let answer = unchanged(&self.table.shared, &mut stand, which, stamps);
+        let entered = stand.epoch != epoch;
+        if entered {
+            me.core.clear_marks();
+            me.spent = false;
+        }
+        me.seating.keep(stand);
+        answer
     }
 }
 

@@ -10,6 +10,7 @@ mod change_plays;
 mod claim;
 mod clear;
 mod closed;
+mod double_collect;
 mod enter;
 mod error;
 mod fill;
@@ -30,6 +31,7 @@ mod seal;
 mod seating;
 mod shape;
 mod stand;
+mod unchanged;
 mod update;
 mod update_if;
 

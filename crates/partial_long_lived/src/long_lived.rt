@@ -114,6 +114,7 @@ impl LongLived {
         let base = shape.base(0);
         for number in 0..ports {
             let core = Core::new(alloc, shape.sizes, number)?;
+            let collected = vec![in alloc; 0; shape.sizes.m() as usize]?;
             let token = table.shared.split_seat::<Deals>(&mut seat);
             all.push_reserved(Port {
                 seating: Seating {
@@ -127,6 +128,7 @@ impl LongLived {
                 },
                 core,
                 spent: false,
+                collected,
                 apart: [0; 16],
             });
         }

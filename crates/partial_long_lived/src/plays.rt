@@ -115,6 +115,57 @@ impl<G: Wishes> Play<(), View> for SeeAgain<G> {
     ghost then = { λ s. sees false G.wish s.word };
 }
 
+/// The load of a component word that is the first step of a scan by a double collect.
+pub struct GlanceFirst;
+
+impl Play<(), View> for GlanceFirst {
+    ghost use Rattle.std.specs.Prelude.{true};
+    ghost use Rattle.partial_long_lived.specs.Inner.Loads.{sees};
+    ghost use Rattle.partial_long_lived.specs.Inner.Loads.Wish.{Glances};
+
+    ghost then = { λ s. sees true Glances s.word };
+}
+
+/// A further load of a component word by a double collect.
+pub struct Glance;
+
+impl Play<(), View> for Glance {
+    ghost use Rattle.std.specs.Prelude.{false};
+    ghost use Rattle.partial_long_lived.specs.Inner.Loads.{sees};
+    ghost use Rattle.partial_long_lived.specs.Inner.Loads.Wish.{Glances};
+
+    ghost then = { λ s. sees false Glances s.word };
+}
+
+/// What a double collect has found: its components, and how many entries of the port's epoch the port had seen between
+/// the two collects. Each scan picks its own.
+pub trait Together {
+    ghost use Rattle.std.specs.Prelude.{List, ℕ};
+
+    ghost which: { List ℕ };
+
+    ghost entries: { ℕ };
+}
+
+impl Together for Brand {
+    ghost use Rattle.std.specs.Prelude.{[]};
+
+    ghost which = { [] };
+
+    ghost entries = { 0 };
+}
+
+/// The load of the last value of the double collect `G`, by which the port notes the scan.
+pub struct NoteScan<G> {
+    together: PhantomData<G>,
+}
+
+impl<G: Together> Play<(), View> for NoteScan<G> {
+    ghost use Rattle.partial_long_lived.specs.Inner.DoubleCollect.{notes_scan};
+
+    ghost then = { λ s. notes_scan G.which G.entries s.word };
+}
+
 /// The load of a value that the port has seen, or of a carried stamp.
 pub struct Recall;
 

@@ -18,6 +18,8 @@ pub struct Port {
     pub(crate) core: Core,
     // Whether the port has claimed past the limit in its epoch, or its machine has met a seal there.
     pub(crate) spent: bool,
+    // Where a scan keeps the words of its first collect: room for one of each component.
+    pub(crate) collected: Vec<u64>,
     // Keeps ports that lie side by side on separate cache lines.
     pub(crate) apart: [u64; 16],
 }
@@ -25,13 +27,15 @@ pub struct Port {
 impl Model for Port {
     ghost use Rattle.partial_long_lived.specs.Rule.{one_in};
     ghost use Rattle.partial_long_lived.specs.Ports.{PortView, port_view};
+    ghost use Rattle.std.specs.Prelude.{◌≡◌};
+    ghost use Rattle.std.specs.Vec.{vec_len};
     ghost use Rattle.partial_long_lived.specs.Resting.{IsResting};
 
     ghost Value = { PortView };
 
     ghost view = { λ p. port_view p.seating.badge.table_id (one_in p.seating.badge.views) };
 
-    ghost invariant = { λ p. IsResting p.seating p.core p.spent };
+    ghost invariant = { λ p. IsResting p.seating p.core p.spent × (vec_len p.collected ≡ p.seating.shape.sizes.m) };
 }
 
 impl Port {
@@ -54,6 +58,7 @@ impl Port {
             seating,
             core: _,
             spent: _,
+            collected: _,
             apart: _,
         } = self;
         let Seating { badge, .. } = seating;

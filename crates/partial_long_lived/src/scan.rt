@@ -13,6 +13,7 @@ ghost use Rattle.partial_long_lived.specs.Inner.Under.{IsGoing, MayBegin};
 
 use crate::arena::STAMPS;
 use crate::change::change;
+use crate::double_collect::double_collect;
 use crate::enter::{enter, look_first};
 use crate::error::Refused;
 use crate::lines::ArenaLines;
@@ -42,12 +43,46 @@ fn settle_first(words: &Words, stand: &mut Stand, core: &mut Core)
     }
 }
 
-/// Makes a whole scan. A port that is spent in its epoch changes the epoch first. Returns whether the port is spent
-/// then, with how the scan was made.
+/// Makes a whole scan: by a double collect, or otherwise by one that is announced. Returns whether the port is spent in
+/// its epoch then, with how the scan was made. `kept` is where a double collect keeps words.
 ///
 /// # Errors
 /// As those of [`change`]: the port stands where it stood, spent, and `into` is unchanged.
 pub fn scan_from(
+    words: &Words,
+    mut stand: Stand,
+    core: &mut Core,
+    spent: bool,
+    which: &[u32],
+    kept: &mut [u64],
+    into: &mut [u64],
+) -> (Stand, bool, Result<Scanned, Refused>)
+    requires held { IsHeld words.now.table_id words.now.key stand }
+    requires rests { RestsAt stand core.old spent }
+    requires asked { AreComponents core.old.sizes which.now }
+    requires some { 0 < length which.now }
+    requires room { length which.now ≤ length kept.old }
+    requires lengths { length into.old ≡ length which.now }
+    ensures held { IsHeld words.now.table_id words.now.key result.0 }
+    ensures rests { RestsAt result.0 core.new result.1 }
+    ensures scanned { IfOk result.2 (λ q. HasScanned stand result.0 which.now into.new q.collects q.borrowed) }
+    ensures refused { IfErr result.2 (NotScanned stand result.0) }
+    ensures unchanged { IfErr result.2 (λ _. into.new ≡ into.old) }
+{
+    if double_collect(words, &mut stand, which, kept, into) {
+        let scanned = Scanned {
+            collects: 2,
+            borrowed: None,
+        };
+        return (stand, spent, Ok(scanned));
+    }
+    scan_announced(words, stand, core, spent, which, into)
+}
+
+// Makes a scan that is announced. A port that is spent in its epoch changes the epoch first, which may be refused: then
+// the port stands where it stood, spent, and `into` is unchanged. Returns whether the port is spent then, with how the
+// scan was made.
+fn scan_announced(
     words: &Words,
     mut stand: Stand,
     core: &mut Core,

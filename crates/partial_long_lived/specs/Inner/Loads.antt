@@ -14,7 +14,7 @@ use Rattle.partial_epochs.specs.Layout.{base, carried_word, seal, unsealed}
 use Rattle.partial_epochs.specs.History.{carried_behind, history_of, opening_behind}
 use Rattle.partial_epochs.specs.Notes.{having_seen, public_of}
 use Rattle.partial_long_lived.specs.Rule.{Began, Found, Seated, one_of, plan_of}
-use Rattle.partial_long_lived.specs.Inner.Steps.{tells}
+use Rattle.partial_long_lived.specs.Inner.Steps.{Begins, tells}
 use Rattle.partial_long_lived.specs.Inner.Moves.{BeganBy}
 
 -- what a port wants of a component word: its record, to answer a read, to compare its stamp with the one that a conditional update with this
@@ -60,6 +60,8 @@ pub record Sees (first : Bool) (wish : Wish) (j : ℕ) (x : Seated) (a : ℕ) (y
   pub n : Began
   pub began : BeganBy first x n
   pub log : List Applied
+  -- what the port had seen begins that history
+  pub begins : Begins x.port.part.seen log
   pub is : y ≡ record x {
     port = having_seen x.port log;
     began = n;
@@ -69,6 +71,8 @@ pub record Sees (first : Bool) (wish : Wish) (j : ℕ) (x : Seated) (a : ℕ) (y
   -- the word names the component's last record, which lies in the arena
   pub stamp : unsealed a ≡ stamp_of (opening_of x) log j
   pub within : value_word (unsealed a) < total x.about.sizes
+  -- in the one history the component has the public stamp of that record
+  pub public : stamp_of x.about.opening (history_of (log ∷ x.port.before)) j ≡ stamp_seen x log j
   -- a component that isn't sealed is one of the current epoch
   pub present : a < seal → n.epoch ≤ x.port.control.here.epoch
   -- what the port sees in an epoch that is no older than its call is no older either

@@ -1,6 +1,12 @@
-use Rattle.std.proofs.Common.{rules}
-use Rattle.partial_long_lived.proofs.Answering.{changed_scanned}
+use Rattle.partial_long_lived.proofs.DoubleCollect.{stayed_err, stayed_ok}
 use Rattle.partial_long_lived.proofs.scan.scan_from.Goals as goal
 
 pub returns-clause-scanned : goal.returns-clause-scanned
-returns-clause-scanned c = changed_scanned _ _ c.args.stand c.change.new.stand c.args.core.now c.args.spent c.requires.held c.requires.rests (search rules) _ _ _ _ _ c.make_scan-stand.ensures.scanned
+returns-clause-scanned c =
+    let d = c.double_collect.ensures in
+    stayed_ok _ _ _ d.stayed (d.notes c.if-double_collect.false) _ _ _ c.scan_announced.ensures.scanned
+
+pub returns-clause-refused : goal.returns-clause-refused
+returns-clause-refused c =
+    let d = c.double_collect.ensures in
+    stayed_err _ _ _ d.stayed (d.notes c.if-double_collect.false) _ c.scan_announced.ensures.refused

@@ -54,7 +54,7 @@ invariant_of-push_reserved c =
     let low = subst (λ (a : About). c.loop-number.number < a.ports) (sym key) c.loop-number-test.true in
     let first = c.base-base.ensures ∙ ap (λ e. base e 0) (sym shape') in
     let inv = c.loop-number.invariant in
-    rests_new _ _ _ c.loop-number-test.true _ inv.parts _ own low _ _ _ here shape' refl refl refl first refl c.in_ok-core.ensures (ap (λ (a : About). a.sizes) key)
+    (rests_new _ _ _ c.loop-number-test.true _ inv.parts _ own low _ _ _ here shape' refl refl refl first refl c.in_ok-core.ensures (ap (λ (a : About). a.sizes) key), search rules)
 
 pub loop-number-preserved : goal.loop-number-preserved
 loop-number-preserved c =

@@ -1,4 +1,6 @@
-use Rattle.std.proofs.Common.{rules, ◌<◌, sym, ◌∙◌, subst}
+use Rattle.std.proofs.Common.{rules, ◌≡◌, ◌<◌, sym, ap, ◌∙◌, subst}
+use Rattle.std.specs.Vec.{vec_len}
+use Rattle.partial_long_lived.specs.declared.shape.Shape.{Shape}
 use Rattle.partial_long_lived.specs.declared.port.Port.TheInside.{Inside}
 use Rattle.partial_long_lived.specs.Resting.{IsResting}
 use Rattle.partial_long_lived.proofs.Answering.{read_seen, rests_anew, rests_here, rests_number, rests_put, rests_taken}
@@ -17,11 +19,13 @@ invariant_of-me c =
     let t = c.take-stand.result in
     let u = c.read-answer.new.stand in
     let come = c.read-answer.ensures.read.come in
-    let rests = rests_taken _ t _ _ c.me.invariant c.take-stand.ensures in
-    let number = (rests_number _ t _ _ c.me.invariant c.take-stand.ensures) in
+    let rests = rests_taken _ t _ _ c.me.invariant.0 c.take-stand.ensures in
+    let number = (rests_number _ t _ _ c.me.invariant.0 c.take-stand.ensures) in
+    let same : c.keep.new.self.shape ≡ c.me.inside.seating.shape = c.keep.ensures.shape ∙ come.shape ∙ c.take-stand.ensures.shape in
+    let room : vec_len c.me.inside.collected ≡ c.keep.new.self.shape.sizes.m = c.me.invariant.1 ∙ ap (λ (z : Shape). z.sizes.m) (sym same) in
     elim c.if-stand-epoch.branch [
-      | then-stand-epoch w ↦ subst (λ (x : Inside). IsResting c.keep.new.self x.core x.spent) (sym w.me-inside-is)
-          (rests_put _ u c.keep.new.self _ _ c.read-answer.ensures.held c.keep.ensures (rests_anew t u _ _ number come rests w.if-stand-epoch.true _ w.clear_marks.ensures))
-      | else-stand-epoch w ↦ subst (λ (x : Inside). IsResting c.keep.new.self x.core x.spent) (sym w.me-inside-is)
-          (rests_put _ u c.keep.new.self _ _ c.read-answer.ensures.held c.keep.ensures (rests_here t u _ _ come rests w.if-stand-epoch.false))
+      | then-stand-epoch w ↦ subst (λ (x : Inside). IsResting c.keep.new.self x.core x.spent × (vec_len x.collected ≡ c.keep.new.self.shape.sizes.m)) (sym w.me-inside-is)
+          (rests_put _ u c.keep.new.self _ _ c.read-answer.ensures.held c.keep.ensures (rests_anew t u _ _ number come rests w.if-stand-epoch.true _ w.clear_marks.ensures), room)
+      | else-stand-epoch w ↦ subst (λ (x : Inside). IsResting c.keep.new.self x.core x.spent × (vec_len x.collected ≡ c.keep.new.self.shape.sizes.m)) (sym w.me-inside-is)
+          (rests_put _ u c.keep.new.self _ _ c.read-answer.ensures.held c.keep.ensures (rests_here t u _ _ come rests w.if-stand-epoch.false), room)
     ]

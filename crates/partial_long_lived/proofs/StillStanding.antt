@@ -1,0 +1,121 @@
+-- Components that still have the stamps that they had.
+use Rattle.std.proofs.Common.{ℕ, ◌≡◌, ◌+◌, ◌<◌, ◌≤◌, List, [], ◌∷◌, length, take, sym, ap, subst, ◌∙◌, inl, inr, arith, append-nil, length-append}
+use Rattle.std.specs.Prelude.{slice_index}
+use Rattle.std.proofs.lemmas.Bool.Decides.{eqb_tells}
+use Rattle.std.proofs.lemmas.List.{take-append-le}
+use Rattle.atomic_table.specs.Seated.{TableId}
+use Rattle.partial_model.specs.declared.history.Applied.{Applied}
+use Rattle.partial_model.specs.History.{stamp_of}
+use Rattle.partial_model.proofs.StampsStay.{stamps_never_return}
+use Rattle.partial_long_lived.specs.declared.rule.About.{About}
+use Rattle.partial_long_lived.specs.declared.stand.Stand.{Stand}
+use Rattle.partial_long_lived.specs.declared.seating.Seating.{Seating}
+use Rattle.partial_long_lived.specs.Rule.{Seated, one_in}
+use Rattle.partial_long_lived.specs.Ports.{IsOf, MemoryView, PortView, port_view, seen_in}
+use Rattle.partial_long_lived.specs.Calls.{Differ, HasThen, StillStand}
+use Rattle.partial_long_lived.specs.Seating.{IsStandOf, IsSeatingOf}
+use Rattle.partial_long_lived.specs.Inner.Steps.{Goes}
+use Rattle.partial_long_lived.specs.Inner.Held.{IsHeld, port_at}
+use Rattle.partial_long_lived.specs.Inner.Scans.{SettledFirst}
+use Rattle.partial_long_lived.specs.Inner.DoubleCollect.{HasGlanced}
+use Rattle.partial_long_lived.specs.Inner.Unchanged.{HadAnother, HadStamp, HadStamps, HasStamp, stamp_at}
+use Rattle.partial_long_lived.proofs.Answering.{callers_see, goes_seen}
+
+-- what the port has seen is no less behind further loads
+seen_more : (x y : Seated) → Goes x y → length (seen_in x.port) ≤ length (seen_in y.port)
+seen_more x y g =
+    let long = ap (λ (l : List Applied). length l) g.seen.1 in
+    let both = length-append (seen_in x.port) g.seen.0 in
+    omega (arith, long, both)
+
+taken_more : (x y : Seated) → Goes x y → (n : ℕ) → n ≤ length (seen_in x.port) → take n (seen_in y.port) ≡ take n (seen_in x.port)
+taken_more x y g n few = ap (λ (l : List Applied). take n l) g.seen.1 ∙ take-append-le n (seen_in x.port) g.seen.0 few
+
+-- a component that had a stamp had it
+had_on : (s t : Stand) → HasGlanced s t → (j v : ℕ) → HadStamp (port_at s) j v → HadStamp (port_at t) j v
+had_on s t g j v w =
+    let same = ap (λ (z : Seated). z.began.length) g.is in
+    let from = w.from in
+    let to = w.to in
+    let more = seen_more (port_at s) (port_at t) g.kept.goes in record {
+      inside = subst (λ (a : About). j < a.sizes.m) (sym g.kept.goes.about) w.inside;
+      moment = w.moment;
+      from = omega (arith, same, from);
+      to = omega (arith, to, more);
+      is = w.is ∙ ap (λ (a : About). stamp_of a.opening (take w.moment (seen_in (port_at s).port)) j) (sym g.kept.goes.about)
+          ∙ ap (λ (l : List Applied). stamp_of (port_at t).about.opening l j) (sym (taken_more (port_at s) (port_at t) g.kept.goes w.moment to));
+    }
+
+pub had_now : (x : Seated) (j v : ℕ) → j < x.about.sizes.m → HasStamp x j v → HadStamp x j v
+had_now x j v inside w = record { inside = inside; moment = length (seen_in x.port); from = w.time; to = omega arith; is = w.is }
+
+-- one component more
+pub had_more : (s t : Stand) → HasGlanced s t → (js ss : List ℕ) (n v : ℕ) → slice_index js n < (port_at t).about.sizes.m → HasStamp (port_at t) (slice_index js n) v → v ≡ slice_index ss n → HadStamps (port_at s) js ss n →
+    HadStamps (port_at t) js ss (n + 1)
+had_more s t g js ss n v inside now same all k less = elim (eqb_tells k n) [
+  | inl here ↦ subst (λ i. HadStamp (port_at t) (slice_index js i) (slice_index ss i)) (sym here.1) (subst (HadStamp (port_at t) (slice_index js n)) same (had_now (port_at t) (slice_index js n) v inside now))
+  | inr other ↦ let ne = other.1 in had_on s t g (slice_index js k) (slice_index ss k) (all k (omega (arith, less, ne)))
+]
+
+-- the same, as callers see it
+module _ (table : TableId) (s t : Stand) (settled : SettledFirst s t) where
+  abbrev x : Seated
+  x = port_at s
+
+  abbrev y : Seated
+  y = port_at t
+
+  goes : Goes x y
+  goes = settled.come.goes
+
+  -- A component that had this stamp in what the port had seen before the call, and has it at a moment of the call, has it between.
+  stood : (n j v : ℕ) → length (seen_in x.port) ≤ n → (h : HadStamp y j v) → n ≤ h.moment → (i : ℕ) → i ≤ length (seen_in x.port) → HasThen (port_view table x) i j v → HasThen (port_view table y) n j v
+  stood n j v behind h early i few was =
+      let values = goes.known.plan.values in
+      let inside = h.inside in
+      let before : stamp_at y i j ≡ v = ap (λ (l : List Applied). stamp_of y.about.opening l j) (taken_more x y goes i few) ∙ ap (λ (a : About). stamp_of a.opening (take i (seen_in x.port)) j) goes.about ∙ was in
+      let then = stamps_never_return y.about.opening (seen_in y.port) j i h.moment n goes.known.knows.history (omega (arith, values, inside)) (omega (arith, few, behind)) early (before ∙ h.is) in
+      then.0 ∙ before
+
+  still_at : (js ss : List ℕ) → HadStamps y js ss (length js) → (n : ℕ) → length (seen_in x.port) ≤ n → n ≤ length (seen_in y.port) → ((k v : ℕ) → k < length js → (h : HadStamp y (slice_index js k) v) → n ≤ h.moment) →
+      StillStand (port_view table x) (port_view table y) js ss
+  still_at js ss had n behind within early = record {
+    goes = goes_seen table x y [] goes (settled.notes ∙ sym (append-nil x.notes));
+    place = n;
+    behind = behind;
+    within = within;
+    each = λ k low. let h = had k low in (h.moment, early k (slice_index ss k) low h, h.to, sym h.is);
+    together = λ k low i few was. stood n (slice_index js k) (slice_index ss k) behind (had k low) (early k (slice_index ss k) low (had k low)) i few was;
+  }
+
+  pub still : (js ss : List ℕ) → HadStamps y js ss (length js) → StillStand (port_view table x) (port_view table y) js ss
+  still [] ss had = still_at [] ss had (length (seen_in x.port)) (omega arith) (seen_more x y goes) (λ k v low h. absurd (omega (arith, low)))
+  still (j ∷ js) ss had =
+      let first = had 0 (omega arith) in
+      let from = first.from in
+      let to = first.to in
+      still_at (j ∷ js) ss had y.began.length settled.first (omega (arith, from, to)) (λ k v low h. h.from)
+
+  pub differ : (js ss : List ℕ) → HadAnother y js ss → Differ (port_view table x) (port_view table y) js ss
+  differ js ss w = record {
+    goes = goes_seen table x y [] goes (settled.notes ∙ sym (append-nil x.notes));
+    position = w.position;
+    inside = w.inside;
+    why = elim w.why [
+      | inl missing ↦ inl (subst (λ (a : About). a.sizes.m ≤ slice_index js w.position) goes.about missing)
+      | inr other ↦
+          let h = other.1 in
+          let from = h.from in
+          let first = settled.first in
+          inr (h.moment, omega (arith, from, first), h.to, λ same. other.2 (h.is ∙ same))
+    ];
+  }
+
+-- from the seat that was taken out to the one that was put back
+module _ (m : MemoryView) (s : Seating) (t u : Stand) (s' : Seating) (p : PortView) (k : IsStandOf s t) (view : port_view s.badge.table_id (one_in s.badge.views) ≡ p) (own : IsOf m p)
+    (held : IsHeld m.table m.about u) (k' : IsSeatingOf u s') (settled : SettledFirst t u) (js ss : List ℕ) where
+  pub still_seen : HadStamps (port_at u) js ss (length js) → StillStand p (port_view s'.badge.table_id (one_in s'.badge.views)) js ss
+  still_seen had = callers_see m s t u s' p k view own held k' (λ (a b : PortView). StillStand a b js ss) (still m.table t u settled js ss had)
+
+  pub differ_seen : HadAnother (port_at u) js ss → Differ p (port_view s'.badge.table_id (one_in s'.badge.views)) js ss
+  differ_seen had = callers_see m s t u s' p k view own held k' (λ (a b : PortView). Differ a b js ss) (differ m.table t u settled js ss had)

@@ -1,0 +1,17 @@
+use Rattle.partial_long_lived.proofs.DoubleCollect.{begun_collect, fresh_looked, look_same, look_stayed}
+use Rattle.partial_long_lived.proofs.double_collect.begin.Goals as goal
+
+pub returns-then-look-clause-begun : goal.returns-then-look-clause-begun
+returns-then-look-clause-begun c =
+    let r = c.requires in
+    let g = c.glance_first-found.ensures in
+    let l = c.look.ensures in
+    begun_collect _ _ _ _ _ r.held r.idle g.kept _ _ g.sees l.kept (look_same _ _ _ _ _ r.held r.idle g.kept _ _ g.sees l.kept _ l.looked c.if-look.true)
+    (fresh_looked _ _ _ _ _ r.held r.idle g.kept _ _ g.sees l.kept _ l.looked c.if-look.true)
+
+pub returns-else-look-clause-stayed : goal.returns-else-look-clause-stayed
+returns-else-look-clause-stayed c =
+    let r = c.requires in
+    let g = c.glance_first-found.ensures in
+    let l = c.look.ensures in
+    look_stayed _ _ _ _ _ r.held r.idle g.kept _ _ g.sees l.kept _ l.looked c.if-look.false

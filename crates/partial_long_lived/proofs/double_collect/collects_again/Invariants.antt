@@ -1,0 +1,13 @@
+use Rattle.std.proofs.Common.{length}
+use Rattle.partial_long_lived.specs.Inner.Held.{IsHeld, port_at}
+use Rattle.partial_long_lived.specs.Inner.Calls.{IsIdle}
+use Rattle.partial_long_lived.specs.Inner.DoubleCollect.{AreCollected, HasGlanced}
+use Rattle.partial_long_lived.proofs.double_collect.collects_again.Given as goal
+
+abbrev pub invariant-loop-k : goal.invariant-loop-k
+invariant-loop-k l = record {
+  held : IsHeld l.words.table_id l.words.key l.stand;
+  glanced : HasGlanced l.fn.stand l.stand;
+  idle : IsIdle l.stand;
+  collected : AreCollected (port_at l.stand) (length (port_at l.fn.stand).port.part.seen) (length (port_at l.stand).port.part.seen) l.which l.kept l.k;
+}

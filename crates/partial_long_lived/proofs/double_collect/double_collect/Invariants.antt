@@ -1,0 +1,7 @@
+use Rattle.std.proofs.Common.{length}
+use Rattle.partial_long_lived.specs.Inner.Held.{port_at}
+use Rattle.partial_long_lived.proofs.double_collect.double_collect.Given as goal
+
+-- what the port notes: the components, behind all that it has seen as the second collect begins
+abbrev pub ghosts-confirm : goal.ghosts-confirm
+ghosts-confirm a = record { which = a.which.now; entries = length (port_at a.stand.now).port.part.seen }

@@ -1,0 +1,11 @@
+use Rattle.std.proofs.Common.{true, ◌<◌, arith}
+use Rattle.partial_long_lived.specs.Inner.Loads.Wish.{Glances}
+use Rattle.partial_long_lived.proofs.Standing.{component_there, see_asked}
+use Rattle.partial_long_lived.proofs.double_collect.glance_first.Goals as goal
+
+pub load-requires : goal.load-requires
+load-requires c =
+    let h = c.requires.held in
+    let is = c.from.ensures in
+    let inside : c.from.result < c.args.words.now.key.sizes.m = (let low = c.requires.inside in omega (arith, is, low)) in
+    (h.fits, component_there _ _ _ h _ inside, see_asked _ _ _ h c.requires.idle.stands true Glances _ inside (λ no. absurd no) _ _)

@@ -1,0 +1,11 @@
+use Rattle.std.proofs.Common.{arith}
+use Rattle.partial_long_lived.proofs.Sights.{may_note}
+use Rattle.partial_long_lived.proofs.Standing.{arena_there}
+use Rattle.partial_long_lived.proofs.double_collect.load_noting.Goals as goal
+
+pub load-requires : goal.load-requires
+load-requires g c =
+    let h = c.requires.held in
+    let within = c.requires.within in
+    let at = c.value_word.ensures in
+    (h.fits, arena_there _ _ _ h _ (omega (arith, within, at)), may_note _ _ _ _ h.one h.own h.known c.requires.stands _ _ c.requires.may _)

@@ -1,0 +1,14 @@
+use Rattle.std.proofs.Common.{◌≡◌, length}
+use Rattle.partial_long_lived.specs.Inner.Held.{IsHeld, port_at}
+use Rattle.partial_long_lived.specs.Inner.Calls.{Kept}
+use Rattle.partial_long_lived.specs.Inner.DoubleCollect.{HadValues}
+use Rattle.partial_long_lived.proofs.double_collect.load_values.Given as goal
+
+abbrev pub invariant-loop-k : goal.invariant-loop-k
+invariant-loop-k l = record {
+  held : IsHeld l.words.table_id l.words.key l.stand;
+  kept : Kept l.fn.stand l.stand;
+  same : port_at l.stand ≡ port_at l.fn.stand;
+  many : length l.into ≡ length l.fn.into;
+  values : HadValues (port_at l.fn.stand) l.which l.kept l.into l.k;
+}

@@ -1,0 +1,13 @@
+use Rattle.partial_long_lived.specs.Inner.Held.{IsHeld, port_at}
+use Rattle.partial_long_lived.specs.Inner.Calls.{IsIdle}
+use Rattle.partial_long_lived.specs.Inner.Scans.{SettledFirst}
+use Rattle.partial_long_lived.specs.Inner.Unchanged.{HadStamps}
+use Rattle.partial_long_lived.proofs.unchanged.unchanged.Given as goal
+
+abbrev pub invariant-loop-k : goal.invariant-loop-k
+invariant-loop-k l = record {
+  held : IsHeld l.words.table_id l.words.key l.stand;
+  idle : IsIdle l.stand;
+  settled : SettledFirst l.fn.stand l.stand;
+  had : HadStamps (port_at l.stand) l.which l.stamps l.k;
+}

@@ -1,0 +1,98 @@
+-- A scan by a double collect: two equal collects of its components, and no announcement.
+use Rattle.std.specs.Prelude.{ℕ, ◌≡◌, ◌+◌, ◌<◌, ◌≤◌, ◌++◌, List, [], ◌∷◌, length, map, take, None, Some, slice_index}
+use Rattle.std.specs.List.{AllByRecursion}
+use Rattle.atomic_table.specs.Table.{Me}
+use Rattle.partial_model.specs.declared.history.Applied.{Applied}
+use Rattle.partial_model.specs.declared.call.Call.TheVariants as call
+use Rattle.partial_model.specs.declared.call.Answer.TheVariants as answer
+use Rattle.partial_model.specs.declared.call.Note.TheVariants as note
+use Rattle.partial_model.specs.History.{IsHistory, stamp_of, value_of}
+use Rattle.partial_model.specs.Notes.{Noted, seen_by}
+use Rattle.partial_words.specs.Layout.{Layout, total}
+use Rattle.partial_words.specs.Record.{value_word}
+use Rattle.partial_epochs.specs.Layout.{unsealed}
+use Rattle.partial_epochs.specs.History.{history_of}
+use Rattle.partial_epochs.specs.Notes.{having_seen}
+use Rattle.partial_long_lived.specs.declared.stand.Stand.{Stand}
+use Rattle.partial_long_lived.specs.Rule.{Seated}
+use Rattle.partial_long_lived.specs.Ports.{seen_in}
+use Rattle.partial_long_lived.specs.Inner.Steps.{Begins, tells}
+use Rattle.partial_long_lived.specs.Inner.Held.{port_at}
+use Rattle.partial_long_lived.specs.Inner.Loads.{Recalls, opening_of}
+use Rattle.partial_long_lived.specs.Inner.Calls.{HasCome, Kept}
+use Rattle.partial_long_lived.specs.Inner.Scans.{SettledFirst}
+
+-- each of these positions is one of a component
+abbrev pub AreInside : Layout → List ℕ → Type 0
+AreInside z js = (k : ℕ) → k < length js → slice_index js k < z.m
+
+-- The word w, which the port has loaded as that of component j, names the record that the component had behind some number of entries of the
+-- epoch, from `low` to `high`. That record lies in the arena.
+pub record WasThere (x : Seated) (low high j w : ℕ) : Type 0 where
+  pub entries : ℕ
+  pub from : low ≤ entries
+  pub to : entries ≤ high
+  pub stamp : unsealed w ≡ stamp_of (opening_of x) (take entries x.port.part.seen) j
+  pub within : value_word (unsealed w) < total x.about.sizes
+
+-- so it is of the first n words of a collect of these components
+abbrev pub AreCollected : Seated → ℕ → ℕ → List ℕ → List ℕ → ℕ → Type 0
+AreCollected x low high js ws n = (k : ℕ) → k < n → WasThere x low high (slice_index js k) (slice_index ws k)
+
+-- v is the value that component j had whenever the word w named its record
+abbrev pub HadValue : Seated → ℕ → ℕ → ℕ → Type 0
+HadValue x j w v = (n : ℕ) → n ≤ length x.port.part.seen → unsealed w ≡ stamp_of (opening_of x) (take n x.port.part.seen) j →
+    v ≡ value_of (opening_of x) (take n x.port.part.seen) j
+
+-- so it is of the first n of these values
+abbrev pub HadValues : Seated → List ℕ → List ℕ → List ℕ → ℕ → Type 0
+HadValues x js ws vs n = (k : ℕ) → k < n → HadValue x (slice_index js k) (slice_index ws k) (slice_index vs k)
+
+-- The port may note that these components stood together behind the first b entries that it has seen of its epoch: its notes show no more.
+pub record MayNote (js : List ℕ) (b : ℕ) (x : Seated) : Type 0 where
+  pub some : 0 < length js
+  pub inside : AllByRecursion (λ j. j < x.about.sizes.m) js
+  pub seen : b ≤ length x.port.part.seen
+  pub behind : seen_by 0 x.notes ≤ length (history_of x.port.before) + b
+
+-- that note: the values behind those entries
+abbrev pub noted_together : List ℕ → ℕ → Seated → Noted
+noted_together js b x = record {
+  call = call.Scan js;
+  answer = answer.Scanned (map (λ j. value_of (opening_of x) (take b x.port.part.seen) j) js) 2 None;
+  note = Some (note.Saw (length (history_of x.port.before) + b));
+}
+
+-- A load of word i of the table by which the port notes that scan: it tells the same as a load of a word that is final for the port, and the
+-- port sees its epoch's whole history.
+pub record NotesScan (js : List ℕ) (b i : ℕ) (x : Seated) (a : ℕ) (y : Seated) : Type 0 where
+  pub recalls : Recalls i x a x
+  pub log : List Applied
+  pub begins : Begins x.port.part.seen log
+  pub is : y ≡ record x { port = having_seen x.port log; notes = x.notes ++ noted_together js b x ∷ [] }
+  pub history : IsHistory (opening_of x) log
+  pub values : length (opening_of x).values ≡ x.about.sizes.m
+
+-- such a load
+abbrev pub notes_scan : {S : Type 0} → List ℕ → ℕ → ℕ → Me S (List Seated) → ℕ → Me S (List Seated) → Type 0
+notes_scan js b i me = tells (NotesScan js b i) me
+
+-- The port has loaded component words where it stands: it has seen more of its epoch, and nothing else has become of it.
+pub record HasGlanced (s t : Stand) : Type 0 where
+  pub kept : Kept s t
+  pub log : List Applied
+  pub begins : Begins (port_at s).port.part.seen log
+  pub is : port_at t ≡ record (port_at s) { port = having_seen (port_at s).port log }
+
+-- the port stands where it stood, between two calls, with the same machine
+pub record HasStayed (s t : Stand) : Type 0 where
+  pub come : HasCome s t
+  pub epoch : t.epoch ≡ s.epoch
+
+-- The port has made the first step of a scan in an epoch that was the current one during the call: it has loaded the word w of component j,
+-- and has noted nothing.
+pub record HasBegunCollect (s t : Stand) (j w : ℕ) : Type 0 where
+  pub stayed : HasStayed s t
+  pub settled : SettledFirst s t
+  pub there : WasThere (port_at t) 0 (length (port_at t).port.part.seen) j w
+  pub time : (port_at t).began.length ≤ length (seen_in (port_at t).port)

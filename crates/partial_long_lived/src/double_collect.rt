@@ -1,0 +1,227 @@
+//! Scans by a double collect: two equal collects of the components, and no announcement.
+
+ghost use Rattle.std.specs.Prelude.{ℕ, ◌≡◌, ◌-◌, ◌<◌, ◌≤◌, true, false, length, slice_index, None, IfSome};
+ghost use Rattle.partial_words.specs.Layout.{total};
+ghost use Rattle.partial_words.specs.Record.{value_word};
+ghost use Rattle.partial_epochs.specs.Layout.{unsealed};
+ghost use Rattle.partial_epochs.specs.Ports.Entering.{Stands};
+ghost use Rattle.partial_long_lived.specs.Ports.{seen_in};
+ghost use Rattle.partial_long_lived.specs.Inner.Held.{IsHeld, port_at};
+ghost use Rattle.partial_long_lived.specs.Inner.Calls.{IsIdle, Kept};
+ghost use Rattle.partial_long_lived.specs.Inner.DoubleCollect.{AreCollected, AreInside, HadValue, HadValues, HasBegunCollect, HasGlanced, HasStayed, MayNote, NotesScan};
+ghost use Rattle.partial_long_lived.specs.Inner.Loads.{Sees};
+ghost use Rattle.partial_long_lived.specs.Inner.Loads.Wish.{Glances};
+ghost use Rattle.partial_long_lived.specs.Inner.Scans.{HasScanned, ScanMade};
+
+use crate::arena::{SEAL, recall};
+use crate::enter::look;
+use crate::plays::{Glance, GlanceFirst, NoteScan, Together};
+use crate::rule::Words;
+use crate::stand::Stand;
+use partial_words::value_word;
+use std::marker::Brand;
+
+/// Tries to scan these positions by a double collect, and says whether it has. `into` has their values then. `kept` is
+/// where the words of the first collect are kept.
+///
+/// There is no scan when the two collects differ, or when the first component is sealed and the port's epoch has ended.
+/// Then nothing is noted, and `into` is unchanged.
+pub fn double_collect(
+    words: &Words,
+    stand: &mut Stand,
+    which: &[u32],
+    kept: &mut [u64],
+    into: &mut [u64],
+) -> bool
+    requires held { IsHeld words.now.table_id words.now.key stand.old }
+    requires idle { IsIdle stand.old }
+    requires inside { AreInside words.now.key.sizes which.now }
+    requires some { 0 < length which.now }
+    requires room { length which.now ≤ length kept.old }
+    requires lengths { length into.old ≡ length which.now }
+    ensures held { IsHeld words.now.table_id words.now.key stand.new }
+    ensures stayed { HasStayed stand.old stand.new }
+    ensures scanned { result ≡ true → HasScanned stand.old stand.new which.now into.new 2 None }
+    ensures notes { result ≡ false → (port_at stand.new).notes ≡ (port_at stand.old).notes }
+    ensures unchanged { result ≡ false → into.new ≡ into.old }
+{
+    let Some(found) = begin(words, stand, which[0]) else {
+        return false;
+    };
+    kept[0] = found;
+    collect(words, stand, which, kept);
+    confirm::<Brand>(words, stand, which, kept, into)
+}
+
+// Makes the first step of the scan, the load of its first component word, and returns the word; or `None` when the
+// component is sealed and the port's epoch has ended. Otherwise the epoch was the current one during the call.
+fn begin(words: &Words, stand: &mut Stand, component: u32) -> Option<u64>
+    requires held { IsHeld words.now.table_id words.now.key stand.old }
+    requires idle { IsIdle stand.old }
+    requires inside { component < words.now.key.sizes.m }
+    ensures held { IsHeld words.now.table_id words.now.key stand.new }
+    ensures stayed { HasStayed stand.old stand.new }
+    ensures begun { IfSome result (λ found. HasBegunCollect stand.old stand.new component found) }
+    ensures notes { (port_at stand.new).notes ≡ (port_at stand.old).notes }
+{
+    let found = glance_first(words, stand, component);
+    if found < SEAL {
+        return Some(found);
+    }
+    if look(words, stand) {
+        Some(found)
+    } else {
+        None
+    }
+}
+
+// Loads the word of a component as the first step of the scan.
+fn glance_first(words: &Words, stand: &mut Stand, component: u32) -> u64
+    requires held { IsHeld words.now.table_id words.now.key stand.old }
+    requires idle { IsIdle stand.old }
+    requires inside { component < words.now.key.sizes.m }
+    ensures held { IsHeld words.now.table_id words.now.key stand.new }
+    ensures kept { Kept stand.old stand.new }
+    ensures sees { Sees true Glances component (port_at stand.old) result (port_at stand.new) }
+{
+    let word = stand.base + u64::from(component);
+    words.load::<GlanceFirst>(&mut stand.seat, word as usize)
+}
+
+/// Loads the word of a component.
+#[inline(always)]
+pub fn glance(words: &Words, stand: &mut Stand, component: u32) -> u64
+    requires held { IsHeld words.now.table_id words.now.key stand.old }
+    requires idle { IsIdle stand.old }
+    requires inside { component < words.now.key.sizes.m }
+    ensures held { IsHeld words.now.table_id words.now.key stand.new }
+    ensures kept { Kept stand.old stand.new }
+    ensures sees { Sees false Glances component (port_at stand.old) result (port_at stand.new) }
+{
+    let word = stand.base + u64::from(component);
+    words.load::<Glance>(&mut stand.seat, word as usize)
+}
+
+// Collects the words of all positions but the first one, which is kept already.
+fn collect(words: &Words, stand: &mut Stand, which: &[u32], kept: &mut [u64])
+    requires held { IsHeld words.now.table_id words.now.key stand.old }
+    requires idle { IsIdle stand.old }
+    requires inside { AreInside words.now.key.sizes which.now }
+    requires some { 0 < length which.now }
+    requires room { length which.now ≤ length kept.old }
+    requires first { AreCollected (port_at stand.old) 0 (length (port_at stand.old).port.part.seen)
+        which.now kept.old 1 }
+    ensures held { IsHeld words.now.table_id words.now.key stand.new }
+    ensures glanced { HasGlanced stand.old stand.new }
+    ensures collected { AreCollected (port_at stand.new) 0 (length (port_at stand.new).port.part.seen)
+        which.now kept.new (length which.now) }
+{
+    for k in 1..which.len() {
+        kept[k] = glance(words, stand, which[k]);
+    }
+}
+
+// Notes the scan when a second collect finds the words that are kept, and puts the values of their records into `into`.
+// `G` is what it notes: these components, behind all that the port has seen as the second collect begins.
+fn confirm<G: Together>(
+    words: &Words,
+    stand: &mut Stand,
+    which: &[u32],
+    kept: &[u64],
+    into: &mut [u64],
+) -> bool
+    requires held { IsHeld words.now.table_id words.now.key stand.old }
+    requires idle { IsIdle stand.old }
+    requires inside { AreInside words.now.key.sizes which.now }
+    requires some { 0 < length which.now }
+    requires room { length which.now ≤ length kept.now }
+    requires lengths { length into.old ≡ length which.now }
+    requires which { G.which ≡ which.now }
+    requires entries { G.entries ≡ length (port_at stand.old).port.part.seen }
+    requires collected { AreCollected (port_at stand.old) 0 (length (port_at stand.old).port.part.seen)
+        which.now kept.now (length which.now) }
+    requires time { (port_at stand.old).began.length ≤ length (seen_in (port_at stand.old).port) }
+    ensures held { IsHeld words.now.table_id words.now.key stand.new }
+    ensures stayed { HasStayed stand.old stand.new }
+    ensures scanned { result ≡ true → ScanMade stand.old stand.new which.now into.new 2 None }
+    ensures notes { result ≡ false → (port_at stand.new).notes ≡ (port_at stand.old).notes }
+    ensures unchanged { result ≡ false → into.new ≡ into.old }
+{
+    if !collects_again(words, stand, which, kept) {
+        return false;
+    }
+    let last = which.len() - 1;
+    load_values(words, stand, which, kept, into);
+    into[last] = load_noting::<G>(words, stand, kept[last]);
+    true
+}
+
+// Collects the words of the positions again, up to the first one that isn't the kept one, and says whether there is none.
+fn collects_again(words: &Words, stand: &mut Stand, which: &[u32], kept: &[u64]) -> bool
+    requires held { IsHeld words.now.table_id words.now.key stand.old }
+    requires idle { IsIdle stand.old }
+    requires inside { AreInside words.now.key.sizes which.now }
+    requires room { length which.now ≤ length kept.now }
+    ensures held { IsHeld words.now.table_id words.now.key stand.new }
+    ensures glanced { HasGlanced stand.old stand.new }
+    ensures collected { result ≡ true → AreCollected (port_at stand.new) (length (port_at stand.old).port.part.seen)
+        (length (port_at stand.new).port.part.seen) which.now kept.now (length which.now) }
+{
+    for k in 0..which.len() {
+        if glance(words, stand, which[k]) != kept[k] {
+            return false;
+        }
+    }
+    true
+}
+
+// Loads the values of the records that the kept words name, of all positions but the last one.
+fn load_values(words: &Words, stand: &mut Stand, which: &[u32], kept: &[u64], into: &mut [u64])
+    requires held { IsHeld words.now.table_id words.now.key stand.old }
+    requires stands { (port_at stand.old).port.control.entering ≡ Stands }
+    requires inside { AreInside words.now.key.sizes which.now }
+    requires some { 0 < length which.now }
+    requires room { length which.now ≤ length kept.now }
+    requires lengths { length into.old ≡ length which.now }
+    requires within { (k : ℕ) → k < length which.now →
+        value_word (unsealed (slice_index kept.now k)) < total words.now.key.sizes }
+    ensures held { IsHeld words.now.table_id words.now.key stand.new }
+    ensures kept { Kept stand.old stand.new }
+    ensures same { port_at stand.new ≡ port_at stand.old }
+    ensures values { HadValues (port_at stand.old) which.now kept.now into.new (length which.now - 1) }
+    ensures lengths { length into.new ≡ length into.old }
+{
+    for k in 0..which.len() - 1 {
+        into[k] = load_kept(words, stand, kept[k]);
+    }
+}
+
+// Loads the value of the record that this component word names.
+#[inline(always)]
+fn load_kept(words: &Words, stand: &mut Stand, word: u64) -> u64
+    requires held { IsHeld words.now.table_id words.now.key stand.old }
+    requires stands { (port_at stand.old).port.control.entering ≡ Stands }
+    requires within { value_word (unsealed word) < total words.now.key.sizes }
+    ensures held { IsHeld words.now.table_id words.now.key stand.new }
+    ensures kept { Kept stand.old stand.new }
+    ensures same { port_at stand.new ≡ port_at stand.old }
+    ensures value { (j : ℕ) → j < words.now.key.sizes.m → HadValue (port_at stand.old) j word result }
+{
+    let at = stand.base + value_word(word % SEAL);
+    recall(words, stand, at)
+}
+
+// The same, and by this load the port notes the scan `G`.
+fn load_noting<G: Together>(words: &Words, stand: &mut Stand, word: u64) -> u64
+    requires held { IsHeld words.now.table_id words.now.key stand.old }
+    requires stands { (port_at stand.old).port.control.entering ≡ Stands }
+    requires within { value_word (unsealed word) < total words.now.key.sizes }
+    requires may { MayNote G.which G.entries (port_at stand.old) }
+    ensures held { IsHeld words.now.table_id words.now.key stand.new }
+    ensures kept { Kept stand.old stand.new }
+    ensures value { (j : ℕ) → j < words.now.key.sizes.m → HadValue (port_at stand.old) j word result }
+    ensures noted { (i : ℕ) × NotesScan G.which G.entries i (port_at stand.old) result (port_at stand.new) }
+{
+    let at = stand.base + value_word(word % SEAL);
+    words.load::<NoteScan<G>>(&mut stand.seat, at as usize)
+}

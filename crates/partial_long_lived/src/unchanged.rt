@@ -1,0 +1,62 @@
+//! Whether components still have the stamps that they had.
+
+ghost use Rattle.std.specs.Prelude.{◌≡◌, ◌<◌, ◌≤◌, true, false, length};
+ghost use Rattle.partial_long_lived.specs.Inner.Held.{IsHeld, port_at};
+ghost use Rattle.partial_long_lived.specs.Inner.Calls.{IsIdle};
+ghost use Rattle.partial_long_lived.specs.Inner.DoubleCollect.{HasGlanced};
+ghost use Rattle.partial_long_lived.specs.Inner.Scans.{SettledFirst};
+ghost use Rattle.partial_long_lived.specs.Inner.Unchanged.{HadAnother, HadStamps, HasStamp};
+
+use crate::arena::{SEAL, public_stamp};
+use crate::double_collect::glance;
+use crate::enter::{enter, look_first};
+use crate::rule::Words;
+use crate::stand::Stand;
+
+/// Says whether each of these components has this public stamp. The port comes to the current epoch first.
+pub fn unchanged(words: &Words, stand: &mut Stand, which: &[u32], stamps: &[u64]) -> bool
+    requires held { IsHeld words.now.table_id words.now.key stand.old }
+    requires idle { IsIdle stand.old }
+    requires lengths { length stamps.now ≡ length which.now }
+    ensures held { IsHeld words.now.table_id words.now.key stand.new }
+    ensures settled { SettledFirst stand.old stand.new }
+    ensures had { result ≡ true → HadStamps (port_at stand.new) which.now stamps.now (length which.now) }
+    ensures another { result ≡ false → HadAnother (port_at stand.new) which.now stamps.now }
+{
+    settle_now(words, stand);
+    for k in 0..which.len() {
+        if which[k] >= stand.shape.sizes.m() {
+            return false;
+        }
+        if stamp_now(words, stand, which[k]) != stamps[k] {
+            return false;
+        }
+    }
+    true
+}
+
+// Enters the current epoch if the port's epoch has ended, as the first steps of a call.
+fn settle_now(words: &Words, stand: &mut Stand)
+    requires held { IsHeld words.now.table_id words.now.key stand.old }
+    requires idle { IsIdle stand.old }
+    ensures held { IsHeld words.now.table_id words.now.key stand.new }
+    ensures settled { SettledFirst stand.old stand.new }
+{
+    if !look_first(words, stand) {
+        enter(words, stand);
+    }
+}
+
+// Loads the public stamp of a component, in an epoch that was the current one during the call.
+fn stamp_now(words: &Words, stand: &mut Stand, component: u32) -> u64
+    requires held { IsHeld words.now.table_id words.now.key stand.old }
+    requires idle { IsIdle stand.old }
+    requires inside { component < words.now.key.sizes.m }
+    requires fresh { (port_at stand.old).began.epoch ≤ stand.old.epoch }
+    ensures held { IsHeld words.now.table_id words.now.key stand.new }
+    ensures glanced { HasGlanced stand.old stand.new }
+    ensures stamp { HasStamp (port_at stand.new) component result }
+{
+    let found = glance(words, stand, component);
+    public_stamp(words, stand, component, found % SEAL)
+}
