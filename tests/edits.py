@@ -11,9 +11,10 @@ which no function is turned twice. Each edit is judged by itself: of its functio
 prove a goal of meaning, which is one of what the function ensures, of its type's invariant or of a loop's, or the one
 that the edit names, or that a loop has no measure, since each call has to end. Nothing else refuses an edit: no open
 goal of an overflow, a bound, a cast or of what a called function requires, no proof that names what the edit took
-away, and no run out of steps. Where a written answer of a goal of meaning doesn't
-fit the turned function, that alone is no refusal either: the check is made again without the answers that are refused
-and those that name one, and a goal of meaning that is none of the latter has to stay open then. A check that ends without a verdict, or not in time, refuses nothing.
+away, and no run out of steps. Where a written answer of a goal of meaning doesn't fit the turned function, that alone
+is no refusal either: the check is made again without the answers that are refused and those that name one, and a goal
+of meaning that is none of the latter has to stay open then. A check that ends without a verdict, or not in time,
+refuses nothing.
 
 That a function calls one that isn't proved is said apart, and counts for nothing; where its goals weren't tried for
 that reason, its edit waits for a later round. No function may have an open goal that none of the round's edits turns.
@@ -22,7 +23,8 @@ those that they call: the first round has checked all others. The first round be
 here or in another copy of the repository on this machine; no edit is judged by that, since what it turns is checked.
 
 With words, it takes the crates with these names alone; with --jobs N, so many crates side by side. What isn't proved
-yet of the crates below is proved first. The last line is 'N passed, M failed', where each edit counts once.
+yet of the crates below is proved first. The last line is 'N passed, M failed', where each edit counts once, one that
+can't be read or doesn't fit as failed, and so does each fault that is not one of an edit.
 """
 import argparse
 import os
@@ -77,16 +79,29 @@ def read_edit(path):
             by = text
         elif word == 'file':
             file = text
-        elif word == 'old':
+        elif word == 'old' and old is None:
             old = text
         elif word == 'new' and file and old:
             changes.append((file, old, text))
             old = None
         else:
             raise BadEdit(f'its line is none of an edit: {line}')
-    if not refused or not changes:
-        raise BadEdit('it names no function, or changes nothing')
+    if not refused or not changes or old is not None:
+        raise BadEdit('it names no function, changes nothing, or ends behind an old text')
     return Edit(path.stem, refused, changes, by)
+
+
+def edits_of(crate):
+    """The edits of the crate in this folder, and for each file that is none its name and why."""
+    edits, bad = [], []
+    for path in sorted((crate / 'edits').glob('*')):
+        try:
+            edit = read_edit(path)
+            list(places_of(edit, crate))
+            edits.append(edit)
+        except BadEdit as why:
+            bad.append((path.stem, f'{crate.name}/{path.name}: bad edit: {why}'))
+    return edits, bad
 
 
 def places_of(edit, crate):
@@ -319,12 +334,12 @@ def with_more(told, name, members, again):
 
 
 def try_round(name, members, status, said, again):
-    """The members of a round that were tried, what is wrong with them, by what their check said, and how many
-    functions a second check refused, without answers that do not fit."""
+    """The members of a round that were tried, what is wrong by what their check said, each fault with the name of its
+    edit or None, and how many functions a second check refused, without answers that do not fit."""
     if status not in (0, 1):
         ended = f'with status {status}' if status is not None else f'not within {LIMIT} s'
         last = ''.join(f'\n    {line}' for line in said.splitlines()[-3:])
-        return members, [f'{name}/{it.name}.edit: the check ended {ended}{last}' for it in members], 0
+        return members, [(it.name, f'{name}/{it.name}.edit: the check ended {ended}{last}') for it in members], 0
     told, faults = told_by(name, said), []
     more = with_more(told, name, members, again)
     not_refused = {it.name: [function for function in it.refused
@@ -333,26 +348,25 @@ def try_round(name, members, status, said, again):
     for edit in tried:
         for function in not_refused[edit.name]:
             why = told.get(function, Told()).why_not()
-            faults.append('\n    '.join([f'{name}/{edit.name}.edit: {function} is not refused', *why[:6]]))
+            faults.append((edit.name, '\n    '.join([f'{name}/{edit.name}.edit: {function} is not refused', *why[:6]])))
     for other in sorted(set(told) - {function for it in members for function in it.refused}):
         turned = ', '.join(it.name for it in members)
-        faults.append(f'{name}: {other} has open goals, and none of these edits turns it: {turned}\n    '
-                      + '\n    '.join(told[other].why_not()[:3]))
+        faults.append((None, f'{name}: {other} has open goals, and none of these edits turns it: {turned}\n    '
+                       + '\n    '.join(told[other].why_not()[:3])))
     return tried, faults, more
 
 
+def counted(edits, faults):
+    """How many of these edits have no fault, and how many edits have one, with each fault of no edit."""
+    faulty = {name for name, _ in faults if name is not None}
+    return sum(it.name not in faulty for it in edits), len(faulty) + sum(name is None for name, _ in faults)
+
+
 def try_crate(name, crates, proved):
-    """Tries a crate's edits over the libraries in this folder: how many there are, how many functions were refused
-    without an answer that did not fit, and what is wrong."""
+    """Tries a crate's edits over the libraries in this folder: the edits, how many functions were refused without an
+    answer that did not fit, and what is wrong."""
     crate = TOP / 'crates' / name
-    edits, faults, more = [], [], 0
-    for path in sorted((crate / 'edits').glob('*')):
-        try:
-            edit = read_edit(path)
-            list(places_of(edit, crate))
-            edits.append(edit)
-        except BadEdit as bad:
-            faults.append(f'{name}/{path.name}: bad edit: {bad}')
+    (edits, faults), more = edits_of(crate), 0
     command, left = command_of(name, crates, proved), edits
     begin(name)
     with tempfile.TemporaryDirectory(prefix='edits-') as room:
@@ -369,7 +383,7 @@ def try_crate(name, crates, proved):
             faults += wrong
             more += others
             left = [it for it in left if it not in tried]
-    return len(edits), more, faults
+    return edits, more, faults
 
 
 def main():
@@ -391,10 +405,10 @@ def main():
         tried = {it: pool.submit(try_crate, it, crates, proved) for it in sorted(chosen, key=lambda it: -size[it])}
         for name in chosen:
             edits, more, faults = tried[name].result()
-            print(f'{name}: {edits} edits; {more} functions were refused without an answer that did not fit', *faults,
-                  sep='\n', flush=True)
-            passed += max(edits - len(faults), 0)
-            failed += len(faults)
+            print(f'{name}: {len(edits)} edits; {more} functions were refused without an answer that did not fit',
+                  *[text for _, text in faults], sep='\n', flush=True)
+            well, ill = counted(edits, faults)
+            passed, failed = passed + well, failed + ill
     print(f'{passed} passed, {failed} failed')
     return 1 if failed or not passed else 0
 

@@ -86,7 +86,7 @@ def edit(by=None):
 def faults(said, status=1, again=(1, ''), by=None):
     """What is wrong with the one edit of a round, by what its check says, and a second check."""
     _, wrong, _ = edits.try_round('low', [edit(by)], status, said, lambda without: again)
-    return wrong
+    return [text for _, text in wrong]
 
 
 # Answers of which one names `low`, another one that, and a last one a longer name.
@@ -135,7 +135,33 @@ def cases():
     left = edits.without_answer(ANSWERS, 'returns-clause-at')
     yield 'an answer that names another one is found, and one that names that', edits.citing(CITING, ['low']) == ['high', 'mid']
     yield 'an answer is taken away whole', 'first g' not in left and 'c.more' not in left and 'second c' in left
+    yield from of_counts()
     yield from of_runs()
+
+
+def of_counts():
+    """The cases of what is counted: each edit once, and each fault of no edit."""
+    both = edits.Edit('both', ['a::f', 'a::g'], [('src/lib.rt', 'old', 'new')])
+    said = f'{OPEN}\nfn low::a::h: {EXPECTED}`search` did not prove `returns`'
+    _, wrong, _ = edits.try_round('low', [edit()], 1, said, lambda without: (1, ''))
+    yield 'an edit passes beside an open goal that no edit turns, which fails', edits.counted([edit()], wrong) == (1, 1)
+    _, wrong, _ = edits.try_round('low', [both], 0, 'fn low::a::f: proved', lambda without: (0, ''))
+    yield 'an edit that two functions let through fails once', len(wrong) == 2 and edits.counted([both], wrong) == (0, 1)
+    with tempfile.TemporaryDirectory() as room:
+        crate = Path(room) / 'low'
+        for folder in ('src', 'edits'):
+            (crate / folder).mkdir(parents=True)
+        (crate / 'src/lib.rt').write_text('old twice twice\n', encoding='utf-8')
+        for name, text in (('fit', 'old: old\nnew: new'), ('double', 'old: twice\nnew: once'),
+                           ('gone', 'old: gone\nnew: there'), ('idle', 'old: old\nnew: old'), ('cut', 'old: old'),
+                           ('half', 'old: old\nnew: new\nold: twice')):
+            (crate / f'edits/{name}.edit').write_text(f'refused: a::f\nfile: src/lib.rt\n{text}\n', encoding='utf-8')
+        (crate / 'edits/unread.edit').write_text('nothing of an edit\n', encoding='utf-8')
+        read, bad = edits.edits_of(crate)
+        yield 'an edit that fits is read beside bad ones', [it.name for it in read] == ['fit']
+        yield 'each bad edit is named', [name for name, _ in bad] == ['cut', 'double', 'gone', 'half', 'idle', 'unread'] and all(
+            text.startswith(f'low/{name}.edit: bad edit: ') for name, text in bad)
+        yield 'bad edits fail, and take nothing from one that passes', edits.counted(read, bad) == (1, 6)
 
 
 def of_runs():

@@ -58,7 +58,8 @@ begun_apart s Scanning step b w e = absurd cc
 begun_apart s Leaving step b w e = absurd cc
 begun_apart s (Finished r) step b w e = absurd cc
 
-getting_apart : (y : Layout) (head : ℕ) (t : SetStage) (step : Step) → ((at k count word : ℕ) → t ≡ set.Write at k count word → list_base y ≤ at) → finding.step_at y head t ≡ Some step → IsApart y step
+getting_apart : (y : Layout) (head : ℕ) (t : SetStage) (step : Step) → ((at k count word : ℕ) → t ≡ set.Write at k count word → list_base y ≤ at) → finding.step_at y head t ≡ Some step →
+    IsApart y step
 getting_apart y head set.Head step own e = subst (IsApart y) (some_same e) tt
 getting_apart y head (set.ListLen at) step own e = subst (IsApart y) (some_same e) tt
 getting_apart y head (set.ListLow at left) step own e = subst (IsApart y) (some_same e) tt

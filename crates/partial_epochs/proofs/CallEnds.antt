@@ -233,7 +233,8 @@ module _ (e : Plan) where
     pub still_epoch : (a : Act) → IsStill a → (p : Port) (entries : List Applied) → ActLeads e words ports b notes k a p entries → p.control.here.epoch ≡ (ports k).control.here.epoch
     still_epoch a still p entries h = ap (λ (t : Place). t.epoch) (still_place a still p entries h)
 
-    pub arrive_place : (c : Place) (p : Port) (entries : List Applied) → ActLeads e words ports b notes k (Moves (every.Move.ExchangesMark c)) p entries → (ports k).control.here.epoch < p.control.here.epoch
+    pub arrive_place : (c : Place) (p : Port) (entries : List Applied) → ActLeads e words ports b notes k (Moves (every.Move.ExchangesMark c)) p entries →
+        (ports k).control.here.epoch < p.control.here.epoch
     arrive_place c p entries h = subst (λ (q : Port). (ports k).control.here.epoch < q.control.here.epoch) (sym h.1) h.0.place
 
     ran_applied : (c : Call) (n : ℕ) (fresh : Bool) (s : CoreState) (t : Option Reply) → is_applied t ≡ true → ran c n fresh s t ≡ Answered
@@ -242,7 +243,8 @@ module _ (e : Plan) where
     ran_applied c n fresh s (Some _) is = absurd cc
 
     -- a step that adds an entry is the last one
-    pub step_none : 0 < e.ports → (d : Doing) (a : Act) (d' : Doing) → Leads e words (ports k) d a d' → (p : Port) (entries : List Applied) → ActLeads e words ports b notes k a p entries → (d' ≡ Answered) ⊎ (entries ≡ [])
+    pub step_none : 0 < e.ports → (d : Doing) (a : Act) (d' : Doing) → Leads e words (ports k) d a d' → (p : Port) (entries : List Applied) → ActLeads e words ports b notes k a p entries →
+        (d' ≡ Answered) ⊎ (entries ≡ [])
     step_none some _ _ _ (calls.Leads.ReadsWord j n fresh free) p entries h = inr (plain_none Sees tt p entries h)
     step_none some _ _ _ (calls.Leads.ReadsSealed j n sealed) p entries h = inr (plain_none Sees tt p entries h)
     step_none some _ _ _ (calls.Leads.ReadsOn j n here) p entries h = inr (plain_none Sees tt p entries h)

@@ -83,7 +83,8 @@ module _ (e : Plan) where
   going_reaches c n _ a b going h = h
 
   module _ (words : List ℕ) (ports : ℕ → Port) (b : Beside) (notes : ℕ → List Noted) (k : ℕ) (some : 0 < e.ports) where
-    change_reaches : (c : Call) (n : ℕ) (g : Changing) (a : Act) (g' : Changing) → Ends e words (ports k) some g a g' → (p : Port) (entries : List Applied) → ActLeads e words ports b notes k a p entries →
+    change_reaches : (c : Call) (n : ℕ) (g : Changing) (a : Act) (g' : Changing) → Ends e words (ports k) some g a g' → (p : Port) (entries : List Applied) →
+        ActLeads e words ports b notes k a p entries →
         (m : ℕ) → Reaches (changed c n g') p.control.here.epoch m → IsUpdate c × ((ports k).control.here.epoch + n + 1 ≤ m)
     change_reaches c n g a g' (inl on) p entries h m r =
         let is = still_epoch e words ports b notes k a on.1 p entries h in
@@ -110,8 +111,10 @@ module _ (e : Plan) where
     step_reaches _ _ _ (calls.Leads.LooksAtOther j x v n sealed) p entries h m r = let is' = still_epoch e words ports b notes k Sees tt p entries h in let far = r.1 in (r.0, omega (arith, is', far))
     step_reaches _ _ _ (calls.Leads.FindsExpected j x v n fresh) p entries h m r = let is' = still_epoch e words ports b notes k Sees tt p entries h in let far = r.1 in (r.0, omega (arith, is', far))
     step_reaches _ _ _ (calls.Leads.LooksAndAnswers c n i note is here) p entries h m r = absurd r
-    step_reaches _ _ _ (calls.Leads.LooksAndEnters c n away) p entries h m r = let is' = still_epoch e words ports b notes k (Moves every.Move.Looks) tt p entries h in let far = r.1 in (r.0, omega (arith, is', far))
-    step_reaches _ _ _ (calls.Leads.StartsSealed c n fresh update sealed) p entries h m r = let is' = still_epoch e words ports b notes k Sees tt p entries h in let far = r.1 in (r.0, omega (arith, is', far))
+    step_reaches _ _ _ (calls.Leads.LooksAndEnters c n away) p entries h m r = let is' = still_epoch e words ports b notes k (Moves every.Move.Looks) tt p entries h in let far = r.1 in
+        (r.0, omega (arith, is', far))
+    step_reaches _ _ _ (calls.Leads.StartsSealed c n fresh update sealed) p entries h m r = let is' = still_epoch e words ports b notes k Sees tt p entries h in let far = r.1 in
+        (r.0, omega (arith, is', far))
     step_reaches _ _ _ (calls.Leads.MakesFirst c n fresh s step is free unmet) p entries h m r =
         let is' = still_epoch e words ports b notes k (Moves (every.Move.Makes s step)) tt p entries h in
         let t = ran_reaches c n fresh (after_step e words (ports k) s step) (reply_of (after_step e words (ports k) s step)) p.control.here.epoch m r in
@@ -122,7 +125,8 @@ module _ (e : Plan) where
         let t = ran_reaches c n fresh (after_step e words (ports k) s step) (reply_of (after_step e words (ports k) s step)) p.control.here.epoch m r in
         let far = t.1 in
         (t.0, omega (arith, is', far))
-    step_reaches _ _ _ (calls.Leads.MeetsTheSeal c n fresh s step update met) p entries h m r = let is' = still_epoch e words ports b notes k (Moves (every.Move.Makes s step)) tt p entries h in let far = r.1 in (r.0, omega (arith, is', far))
+    step_reaches _ _ _ (calls.Leads.MeetsTheSeal c n fresh s step update met) p entries h m r = let is' = still_epoch e words ports b notes k (Moves (every.Move.Makes s step)) tt p entries h in
+        let far = r.1 in (r.0, omega (arith, is', far))
     step_reaches _ _ _ (calls.Leads.ChangesOn c n g a g2 leads) p entries h m r = change_reaches c n g a g2 (change_ends e words (ports k) some g a g2 leads) p entries h m r
 
   run_reaches : (k n : ℕ) (p p' : Port) (d : Doing) → k < e.ports → Run e k n p d p' (Refused Overtaken) → Reaches d p.control.here.epoch p'.control.here.epoch
@@ -132,7 +136,8 @@ module _ (e : Plan) where
   run_reaches k (suc n) p p' d below r =
       let s : CallStep e k p d = r.0 in
       subst (λ (q : Port). Reaches d q.control.here.epoch p'.control.here.epoch) s.same
-      (step_reaches s.words s.ports s.beside s.notes k (omega (arith, below)) d s.act s.next (leads_here e k p d s) s.port s.entries s.ends p'.control.here.epoch (run_reaches k n s.port p' s.next below r.1))
+      (step_reaches s.words s.ports s.beside s.notes k (omega (arith, below)) d s.act s.next (leads_here e k p d s) s.port s.entries s.ends p'.control.here.epoch
+      (run_reaches k n s.port p' s.next below r.1))
 
   started_reaches : (n : ℕ) (over : Bool) (c : Call) (a b : ℕ) → Reaches (started n over c) a b → IsUpdate c × (a + n ≤ b)
   started_reaches n over (call.Scan []) a b h = absurd h
@@ -195,10 +200,12 @@ module _ (e : Plan) where
     refused_by _ _ _ (calls.Leads.LooksAndAnswers c n i note is here) cause ne is' = absurd cc
     refused_by _ _ _ (calls.Leads.LooksAndEnters c n away) cause ne is' = absurd cc
     refused_by _ _ _ (calls.Leads.StartsSealed c n fresh update sealed) cause ne is' = absurd cc
-    refused_by _ _ _ (calls.Leads.MakesFirst c n fresh s step is free unmet) cause ne is' = absurd (ran_refused c n fresh (after_step e words p s step) (reply_of (after_step e words p s step)) cause is')
+    refused_by _ _ _ (calls.Leads.MakesFirst c n fresh s step is free unmet) cause ne is' =
+        absurd (ran_refused c n fresh (after_step e words p s step) (reply_of (after_step e words p s step)) cause is')
     refused_by _ _ _ (calls.Leads.MakesNext c n fresh s step unmet) cause ne is' = absurd (ran_refused c n fresh (after_step e words p s step) (reply_of (after_step e words p s step)) cause is')
     refused_by _ _ _ (calls.Leads.MeetsTheSeal c n fresh s step update met) cause ne is' = absurd cc
-    refused_by _ _ _ (calls.Leads.ChangesOn c n g a g2 leads) cause ne is' = (c, n, g, refl, subst (Ends e words p some g a) (changed_refused c n g2 cause ne is') (change_ends e words p some g a g2 leads))
+    refused_by _ _ _ (calls.Leads.ChangesOn c n g a g2 leads) cause ne is' =
+        (c, n, g, refl, subst (Ends e words p some g a) (changed_refused c n g2 cause ne is') (change_ends e words p some g a g2 leads))
 
     -- where a cause holds
     causes_of : (d : Doing) (a : Act) (d' : Doing) → Leads e words p d a d' → IsHere words p → (c : Call) (n : ℕ) (g : Changing) → d ≡ Changes c n g →
@@ -291,7 +298,8 @@ started_there (suc n) over (call.UpdateIf j x v) is = absurd cc
 pub components_are_missing : ComponentsAreMissing
 components_are_missing e rounds over c = record {
   missing = λ is names. started_there rounds over c (sym (ap (λ (b : Bool). cond b (started rounds over c) (Refused Component)) (all_there e.sizes.m (indices_of c) names)) ∙ is);
-  refused = λ missing. ap (λ (b : Bool). cond b (started rounds over c) (Refused Component)) (not_true (list_all (λ j. nat_lt j e.sizes.m) (indices_of c)) (λ h. missing (there_all e.sizes.m (indices_of c) h)));
+  refused = λ missing. ap (λ (b : Bool). cond b (started rounds over c) (Refused Component))
+      (not_true (list_all (λ j. nat_lt j e.sizes.m) (indices_of c)) (λ h. missing (there_all e.sizes.m (indices_of c) h)));
   at_once = λ k p d below s is.
       let some : 0 < e.ports = omega (arith, below) in
       let t = refused_by e s.words p some d s.act s.next s.leads Component (λ same. absurd cc) is in

@@ -47,7 +47,8 @@ module _ (e : Plan) (words : List ℕ) (ports : ℕ → Port) (b : Beside) (k : 
   abbrev x : ℕ
   x = (ports k).control.here.arena
 
-  module _ (words' : List ℕ) (p' : Port) (r' : Epoch) (entries : List Applied) (h : Changes e words b k (ports k).control.here.arena (ports k) (w.standing k below stands).epoch words' p' r' entries) where
+  module _ (words' : List ℕ) (p' : Port) (r' : Epoch) (entries : List Applied)
+      (h : Changes e words b k (ports k).control.here.arena (ports k) (w.standing k below stands).epoch words' p' r' entries) where
     abbrev ports' : ℕ → Port
     ports' = put k p' ports
 

@@ -62,7 +62,8 @@ value_public : (epoch : ℕ) (t : Option Applied) (d : ℕ) → option_map_or (�
 value_public epoch None d = refl
 value_public epoch (Some e) d = refl
 
-stamp_public : (epoch : ℕ) (t : Option Applied) (d : ℕ) → option_map_or (λ (e : Applied). e.stamp) (option_map (public_entry epoch) t) d ≡ option_map_or (λ (e : Applied). public_stamp epoch e.stamp) t d
+stamp_public : (epoch : ℕ) (t : Option Applied) (d : ℕ) → option_map_or (λ (e : Applied). e.stamp) (option_map (public_entry epoch) t) d
+    ≡ option_map_or (λ (e : Applied). public_stamp epoch e.stamp) t d
 stamp_public epoch None d = refl
 stamp_public epoch (Some e) d = refl
 
@@ -83,7 +84,8 @@ values_behind o (h ∷ before) j low =
     ∙ ap (λ (t : Option Applied). option_map_or (λ (e : Applied). e.value) t (value_of o (history_of before) j)) (public_last (length before) j None h)
     ∙ value_public (length before) (last_entry j h) (value_of o (history_of before) j)
     ∙ ap (option_map_or (λ (e : Applied). e.value) (last_entry j h)) (values_behind o before j low)
-    ∙ sym (at_of (value_of (opening_behind o before) h) 0 (length (opening_behind o before).values) j (let long = many o before in omega (arith, long, low)) ∙ ap (value_of (opening_behind o before) h) (omega arith))
+    ∙ sym (at_of (value_of (opening_behind o before) h) 0 (length (opening_behind o before).values) j (let long = many o before in omega (arith, long, low))
+    ∙ ap (value_of (opening_behind o before) h) (omega arith))
 
 stamps_behind : (o : Opening) (before : List (List Applied)) (j : ℕ) → stamp_of o (history_of before) j ≡ carried_behind o before j
 unfolding last_from
@@ -147,7 +149,8 @@ module _ (e : Plan) (words : List ℕ) (ports : ℕ → Port) (b : Beside) (k : 
   pub carried_there : (j : ℕ) → j < e.sizes.m → get_or words (carried_word e (ports k).control.here.arena j) 0 ≡ carried_behind e.opening (ports k).before j
   carried_there j inside =
       let x : ℕ = (ports k).control.here.arena in
-      let at : get_or (carried_words e words x) j 0 ≡ get_or words (carried_word e x j) 0 = at_of (λ i. get_or words (carried_word e x i) 0) 0 e.sizes.m j inside ∙ ap (λ i. get_or words (carried_word e x i) 0) (omega arith) in
+      let at : get_or (carried_words e words x) j 0 ≡ get_or words (carried_word e x j) 0 = at_of (λ i. get_or words (carried_word e x i) 0) 0 e.sizes.m j inside
+      ∙ ap (λ i. get_or words (carried_word e x i) 0) (omega arith) in
       sym at ∙ (w.arenas (ports k).control.here.arena s.epoch s.is).stamps j inside ∙ ap (λ (l : List (List Applied)). carried_behind e.opening l j) s.before
 
 pub reads_tell_all_epochs : ReadsTellAllEpochs
@@ -180,7 +183,8 @@ reads_tell_all_epochs e words ports b k j n w below stands inside s few =
     initial : initial_stamp (opening_behind e.opening (ports k).before) j < first_free e.sizes
     initial =
         let first = lawful.memory.stamps in
-        let same : (opening_behind e.opening s.epoch.before).first ≡ (opening_behind e.opening (ports k).before).first = ap (λ (l : List (List Applied)). (opening_behind e.opening l).first) s.before in
+        let same : (opening_behind e.opening s.epoch.before).first ≡ (opening_behind e.opening (ports k).before).first =
+        ap (λ (l : List (List Applied)). (opening_behind e.opening l).first) s.before in
         omega (arith, first, same, inside)
 
     stamp_is : (t : Option Applied) → last_entry j (take n s.epoch.log) ≡ t → read_stamp e words (ports k) j (stamp_of (opening_behind e.opening (ports k).before) (take n s.epoch.log) j)
@@ -188,12 +192,14 @@ reads_tell_all_epochs e words ports b k j n w below stands inside s few =
     stamp_is None is =
         let o : Opening = opening_behind e.opening (ports k).before in
         ap (λ (t : Option Applied). read_stamp e words (ports k) j (option_map_or (λ (x : Applied). x.stamp) t (initial_stamp o j))) is
-        ∙ ap (λ (c : Bool). cond c (get_or words (carried_word e (ports k).control.here.arena j) 0) (public_stamp (ports k).control.here.epoch (initial_stamp o j))) (lt-ltb (initial_stamp o j) (first_free e.sizes) initial)
+        ∙ ap (λ (c : Bool). cond c (get_or words (carried_word e (ports k).control.here.arena j) 0) (public_stamp (ports k).control.here.epoch (initial_stamp o j)))
+        (lt-ltb (initial_stamp o j) (first_free e.sizes) initial)
         ∙ carried_there e words ports b k w s j inside
         ∙ sym (ap (λ (t : Option Applied). option_map_or (λ (x : Applied). public_stamp (length (ports k).before) x.stamp) t (carried_behind e.opening (ports k).before j)) is)
     stamp_is (Some x) is =
         let o : Opening = opening_behind e.opening (ports k).before in
         ap (λ (t : Option Applied). read_stamp e words (ports k) j (option_map_or (λ (x : Applied). x.stamp) t (initial_stamp o j))) is
-        ∙ ap (λ (c : Bool). cond c (get_or words (carried_word e (ports k).control.here.arena j) 0) (public_stamp (ports k).control.here.epoch x.stamp)) (not_below x.stamp (first_free e.sizes) (entry_above (Some x) is))
+        ∙ ap (λ (c : Bool). cond c (get_or words (carried_word e (ports k).control.here.arena j) 0) (public_stamp (ports k).control.here.epoch x.stamp))
+        (not_below x.stamp (first_free e.sizes) (entry_above (Some x) is))
         ∙ ap (λ r. public_stamp r x.stamp) (sym (epoch_behind e words ports b k w s below stands))
         ∙ sym (ap (λ (t : Option Applied). option_map_or (λ (x : Applied). public_stamp (length (ports k).before) x.stamp) t (carried_behind e.opening (ports k).before j)) is)

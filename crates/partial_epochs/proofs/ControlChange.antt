@@ -77,13 +77,15 @@ module _ (e : Plan) (words : List ℕ) (cs : ℕ → Control) (now : Place) (hol
       none = h.none;
     }
       where
-        by : {p : ℕ} → (((p == k) ≡ true) × (p ≡ k)) ⊎ (((p == k) ≡ false) × (p ≢ k)) → p < o.clean → p < e.ports → IsOut e words cs o.arena p → IsOwner e words cs now holds q o → IsOut e words' cs' o.arena p
+        by : {p : ℕ} → (((p == k) ≡ true) × (p ≡ k)) ⊎ (((p == k) ≡ false) × (p ≢ k)) → p < o.clean → p < e.ports → IsOut e words cs o.arena p → IsOwner e words cs now holds q o →
+            IsOut e words' cs' o.arena p
         by (inl same) low within h own =
             let looked = own.looked (own.order (omega (arith, low))) in
             subst (IsOut e words' cs' o.arena) (sym same.1) (g.out o.arena looked (subst (IsOut e words cs o.arena) same.1 h))
         by {p} (inr ne) low within h own = out_other o.arena p ne.1 h
 
-        held : (((o.clean == k) ≡ true) × (o.clean ≡ k)) ⊎ (((o.clean == k) ≡ false) × (o.clean ≢ k)) → (m : Option Place) → IfSome m (λ a. IsPlace e a × IsEarlier a (cs o.clean).here (cs o.clean).entering) →
+        held : (((o.clean == k) ≡ true) × (o.clean ≡ k)) ⊎ (((o.clean == k) ≡ false) × (o.clean ≢ k)) → (m : Option Place) →
+            IfSome m (λ a. IsPlace e a × IsEarlier a (cs o.clean).here (cs o.clean).entering) →
             IfSome m (λ a. IsPlace e a × IsEarlier a (cs' o.clean).here (cs' o.clean).entering)
         held t None h = tt
         held (inl same) (Some a) h =
@@ -99,7 +101,8 @@ module _ (e : Plan) (words : List ℕ) (cs : ℕ → Control) (now : Place) (hol
       earlier = w.earlier;
       within = w.within;
       places = λ q inside. put_all (λ i (d : Control). i < e.ports → IsPlace e d.here) k c cs q (λ _ _. g.place) (λ _ inside. w.places q inside) inside;
-      at = λ q inside. put_all (λ i (d : Control). i < e.ports → IsAt e words' i d.here d.entering) k c cs q (λ _ _. g.at) (λ ne inside. at_other q (cs q).here (cs q).entering ne (w.at q inside)) inside;
+      at = λ q inside. put_all (λ i (d : Control). i < e.ports → IsAt e words' i d.here d.entering) k c cs q (λ _ _. g.at)
+          (λ ne inside. at_other q (cs q).here (cs q).entering ne (w.at q inside)) inside;
       old = λ q inside. put_all (λ i (d : Control). i < e.ports → IsOld e now.epoch d.here d.entering) k c cs q (λ _ _. g.old) (λ _ inside. w.old q inside) inside;
       past = λ q inside. put_all (λ i (d : Control). i < e.ports → d.past ≡ true → d.here.epoch < now.epoch) k c cs q (λ _ _. g.past) (λ _ inside. w.past q inside) inside;
       stands = λ q d inside place at. stands (eqb_tells q k) d inside place at;
@@ -117,7 +120,8 @@ module _ (e : Plan) (words : List ℕ) (cs : ℕ → Control) (now : Place) (hol
         at_other q here (Loaded d) ne (inl h) = inl (other_at q ne ∙ h)
         at_other q here (Loaded d) ne (inr h) = inr (h.0, h.1, other_at q ne ∙ h.2, h.3)
 
-        stands : {q : ℕ} → (((q == k) ≡ true) × (q ≡ k)) ⊎ (((q == k) ≡ false) × (q ≢ k)) → (d : Place) → q < e.ports → IsPlace e d → get_or words' (at_word q) 0 ≡ packed d → holds d.arena ≡ Some d.epoch
+        stands : {q : ℕ} → (((q == k) ≡ true) × (q ≡ k)) ⊎ (((q == k) ≡ false) × (q ≢ k)) → (d : Place) → q < e.ports → IsPlace e d → get_or words' (at_word q) 0 ≡ packed d →
+            holds d.arena ≡ Some d.epoch
         stands (inl same) d inside place at = g.stands d place (sym own ∙ sym (ap (λ i. get_or words' (at_word i) 0) same.1) ∙ at)
         stands {q} (inr ne) d inside place at = w.stands q d inside place (sym (other_at q ne.1) ∙ at)
 

@@ -43,7 +43,8 @@ module _ (e : Plan) (words words' : List ℕ) (high : (i : ℕ) → control_size
     (settled : IfSome p'.control.owned (IsSetting e words' b p')) (control : LawfulControl e (control_words e words') (put k p'.control (controls ports)) (place_now b) (numbers b))
     (stand : p'.control.entering ≡ Stands → IsStanding b k p') (later : (ports k).control.here.epoch ≤ p'.control.here.epoch) (inside : k < e.ports) where
   same_controls : (q : ℕ) → put k p'.control (controls ports) q ≡ controls (put k p' ports) q
-  same_controls q = put_all (λ i (p : Port). put k p'.control (controls ports) i ≡ p.control) k p' ports q (λ is. put_same k p'.control (controls ports)) (λ ne. put_other k p'.control (controls ports) q ne)
+  same_controls q = put_all (λ i (p : Port). put k p'.control (controls ports) i ≡ p.control) k p' ports q (λ is. put_same k p'.control (controls ports))
+      (λ ne. put_other k p'.control (controls ports) q ne)
 
   pub control_lifted : LawfulEpochs e words' (put k p' ports) b
   control_lifted = record {
@@ -282,7 +283,8 @@ epoch_at b x g is = by (b.holds x) refl is
     by None e is = absurd cc
     by (Some r) e is = (r, e, some_same is)
 
-module _ (e : Plan) (words : List ℕ) (ports : ℕ → Port) (b : Beside) (k : ℕ) (w : LawfulEpochs e words ports b) (inside : k < e.ports) (c : Place) (entering : (ports k).control.entering ≡ Loaded c) where
+module _ (e : Plan) (words : List ℕ) (ports : ℕ → Port) (b : Beside) (k : ℕ) (w : LawfulEpochs e words ports b) (inside : k < e.ports) (c : Place)
+    (entering : (ports k).control.entering ≡ Loaded c) where
   abbrev mark : ℕ
   mark = marked (ports k).control.here
 
@@ -304,7 +306,8 @@ module _ (e : Plan) (words : List ℕ) (ports : ℕ → Port) (b : Beside) (k : 
         let held = epoch_at b p.arena p.epoch holds in
         let r : Epoch = held.0 in
         let c' : Control = record { here = p; entering = Stands; past = false; owned = None } in
-        let at : get_or (set (control_words e words) (at_word k) v) (at_word k) 0 ≡ v = own e (control_words e words) (controls ports) (place_now b) (numbers b) w.control k inside c' v free refl (cw_long e words) in
+        let at : get_or (set (control_words e words) (at_word k) v) (at_word k) 0 ≡ v =
+        own e (control_words e words) (controls ports) (place_now b) (numbers b) w.control k inside c' v free refl (cw_long e words) in
         let is_p : (d : Place) → IsPlace e d → v ≡ packed d → p ≡ d = λ d there is.
         let both = packed_arena e p d w.plan.arenas place.arena there.arena (sym v_is ∙ is) in same_place p d both.0 both.1 in
         let number = held.2 in (

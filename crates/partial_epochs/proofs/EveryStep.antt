@@ -180,7 +180,8 @@ module _ (e : Plan) (words : List ℕ) (ports : ℕ → Port) (b : Beside) (note
   every_step (ExchangesMark c) may =
       let a = arrivals_stay_lawful e words ports b k c w.epochs below may in
       goes (ExchangesMark c) (moved_words e words (ports k) k (ExchangesMark c)) (arrived e k a.place a.before) b
-      (subst (λ (d : Place). (ports k).control.here.epoch < d.epoch) (sym (ap (λ (q : Port). q.control.here) (put_same k (arrived e k a.place a.before) ports))) a.later) (sym (append-nil (one_history b)))
+      (subst (λ (d : Place). (ports k).control.here.epoch < d.epoch) (sym (ap (λ (q : Port). q.control.here) (put_same k (arrived e k a.place a.before) ports))) a.later)
+      (sym (append-nil (one_history b)))
       (λ since t. (arrivals_keep_time e words ports b k c since w.epochs below may t a).1) (arrivals_keep_notes e words ports b notes k c w below a)
   every_step (Takes x) may =
       let p : Port = owning (ports k) (just_taken x) in
@@ -205,7 +206,8 @@ module _ (e : Plan) (words : List ℕ) (ports : ℕ → Port) (b : Beside) (note
       (λ since t. puts_keep_time e words ports b k o a since w.epochs below may.0 may.2 may.4 may.5 may.6 t)
       (puts_stay_lawful e words ports b k o a w.epochs below may.0 may.1 may.2 may.3 may.4 may.5 may.6)
   every_step (Sets o v next) may =
-      aside (Sets o v next) (λ then is. is) (moved_words e words (ports k) k (Sets o v next)) (having_set (ports k) o next) (vacated b o.arena) (record { log = refl; epochs = refl; part = refl; before = refl; here = refl })
+      aside (Sets o v next) (λ then is. is) (moved_words e words (ports k) k (Sets o v next)) (having_set (ports k) o next) (vacated b o.arena)
+      (record { log = refl; epochs = refl; part = refl; before = refl; here = refl })
       (keeps (moved_words e words (ports k) k (Sets o v next)) (having_set (ports k) o next) (vacated b o.arena) (λ q low. (steps_keep_places e words q low).set o.arena o.set v) refl refl
       (λ j a may'. set_puts (ports k).control (having_set (ports k) o next).control o next j a may.0 refl may') (omega arith))
       (sets_stay_lawful e words ports b k o v next w.epochs below may.0 may.1 may.2 may.3 may.4 may.5)

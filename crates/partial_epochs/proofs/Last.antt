@@ -46,7 +46,8 @@ others : (e : Plan) (words : List ℕ) (x j : ℕ) (h : List Applied) → IsSeal
 others e words x j [] sealed all = tt
 others e words x j (a ∷ h) sealed all = (λ same. all.0 (subst (λ i. IsSealed (get_or (component_words e words x) i 0)) (sym same) sealed), others e words x j h sealed all.1)
 
-module _ (e : Plan) (words : List ℕ) (ports : ℕ → Port) (b : Beside) (k j : ℕ) (w : LawfulEpochs e words ports b) (below : k < e.ports) (stands : (ports k).control.entering ≡ Stands) (inside : j < e.sizes.m)
+module _ (e : Plan) (words : List ℕ) (ports : ℕ → Port) (b : Beside) (k j : ℕ) (w : LawfulEpochs e words ports b) (below : k < e.ports) (stands : (ports k).control.entering ≡ Stands)
+    (inside : j < e.sizes.m)
     (s : IsStanding b k (ports k)) where
   abbrev x : ℕ
   x = (ports k).control.here.arena

@@ -23,4 +23,5 @@ pub use Rattle.partial_epochs.proofs.SeenRecords.{seen_records_stay}
 pub use Rattle.partial_epochs.proofs.Sets.{sets_stay_lawful}
 pub use Rattle.partial_epochs.proofs.Sights.{arrivals_keep_notes, asides_stay_lawful, glances_stay_lawful, publishes_keep_notes, sights_stay_lawful}
 pub use Rattle.partial_epochs.proofs.Taking.{gives_stay_lawful, marks_are_loaded, others_are_elsewhere, owners_look_away, takes_stay_lawful}
-pub use Rattle.partial_epochs.proofs.Time.{arrivals_keep_time, asides_keep_time, entries_keep_time, loaded_marks_keep_time, looks_keep_time, marks_keep_time, openings_keep_time, publishes_keep_time, puts_keep_time, steps_keep_places}
+pub use Rattle.partial_epochs.proofs.Time.{arrivals_keep_time, asides_keep_time, entries_keep_time, loaded_marks_keep_time, looks_keep_time}
+pub use Rattle.partial_epochs.proofs.Time.{marks_keep_time, openings_keep_time, publishes_keep_time, puts_keep_time, steps_keep_places}

@@ -79,7 +79,8 @@ module _ (e : Plan) (words : List ℕ) (over : ℕ → Bool) (k : ℕ) (below : 
           elim (cases_lt e.limit (get_or words w 0 + n)) [
             | inl past ↦
                 let on : put k v over k ≡ true = put_same k v over ∙ v_is ∙ lt-ltb e.limit (get_or words w 0 + n) past in
-                let more : count (put k v over) 0 e.ports ≡ count over 0 e.ports + 1 = count_more over (put k v over) 0 e.ports k (omega arith) (omega (arith, below)) free on (λ i ne. put_other k v over i ne) in
+                let more : count (put k v over) 0 e.ports ≡ count over 0 e.ports + 1 =
+                count_more over (put k v over) 0 e.ports k (omega arith) (omega (arith, below)) free on (λ i ne. put_other k v over i ne) in
                 let times : greatest_record e.sizes * count (put k v over) 0 e.ports ≡ greatest_record e.sizes * (count over 0 e.ports + 1) = ap (λ q. greatest_record e.sizes * q) more in
                 omega (arith, found, less, reserve, at, few, times)
             | inr within ↦
@@ -144,7 +145,8 @@ module _ (e : Plan) (words : List ℕ) (ports : ℕ → Port) (b : Beside) (k : 
   -- what the step leaves of the counters of slots and of pool words, in a memory of these sizes
   abbrev Counts : Layout → Bool → Bool → Type 0
   Counts z before behind =
-      2 * (get_or (words_after bw step) (slot_counter z) 0 + one behind) + get_or bw (pool_counter z) 0 ≤ 2 * (get_or bw (slot_counter z) 0 + one before) + get_or (words_after bw step) (pool_counter z) 0
+      2 * (get_or (words_after bw step) (slot_counter z) 0 + one behind) + get_or bw (pool_counter z) 0
+      ≤ 2 * (get_or bw (slot_counter z) 0 + one before) + get_or (words_after bw step) (pool_counter z) 0
 
   counts : Counts e.sizes (awaits_slot (r.part k)) (awaits_slot leads.y)
   counts =
@@ -171,7 +173,8 @@ module _ (e : Plan) (words : List ℕ) (ports : ℕ → Port) (b : Beside) (k : 
       ≤ get_or (words_after bw step) (pool_counter e.sizes) 0
   slots_then =
       let was = arena.slots in
-      let changed = count_one (λ q. awaits_slot (r.part q)) (λ q. awaits_slot (put k leads.y r.part q)) 0 e.ports k (omega arith) (omega (arith, below)) (λ i ne. ap awaits_slot (put_other k leads.y r.part i ne)) in
+      let changed = count_one (λ q. awaits_slot (r.part q)) (λ q. awaits_slot (put k leads.y r.part q)) 0 e.ports k (omega arith) (omega (arith, below))
+      (λ i ne. ap awaits_slot (put_other k leads.y r.part i ne)) in
       let now : ◌≡◌ {A = ℕ} (one (awaits_slot (put k leads.y r.part k))) (one (awaits_slot leads.y)) = ap (λ (y : Part). one (awaits_slot y)) (put_same k leads.y r.part) in
       let step_counts = counts in
       omega (arith, was, changed, now, step_counts)
@@ -196,7 +199,8 @@ module _ (e : Plan) (words : List ℕ) (ports : ℕ → Port) (b : Beside) (k : 
     arena_then =
         let list : list_of (put k leads.y r.part) 0 e.ports ≡ around.before ++ leads.y ∷ around.after =
         around.then (put k leads.y r.part) (λ i ne. put_other k leads.y r.part i ne) ∙ ap (λ (y : Part). around.before ++ y ∷ around.after) (put_same k leads.y r.part) in
-        let there : pool_counter e.sizes < length bw = let count = lawful_here.memory.count in let pool = lawful_here.memory.sizes.pool.0 in let some = lawful_here.memory.sizes.slots.0 in let m = lawful_here.memory.sizes.components.0 in omega (arith, count, pool, some, m) in
+        let there : pool_counter e.sizes < length bw = let count = lawful_here.memory.count in let pool = lawful_here.memory.sizes.pool.0 in let some = lawful_here.memory.sizes.slots.0 in
+        let m = lawful_here.memory.sizes.components.0 in omega (arith, count, pool, some, m) in
         let claim : MayClaim e (r.over k) step = subst (λ (v : Bool). MayClaim e v step) (sym s.over) may in
         record {
           lawful = subst (λ (l : List ℕ). one.Lawful e.sizes o l (list_of (put k leads.y r.part) 0 e.ports) (r.log ++ entries)) (sym h.arena)
@@ -209,7 +213,8 @@ module _ (e : Plan) (words : List ℕ) (ports : ℕ → Port) (b : Beside) (k : 
           reserve = subst (λ (l : List ℕ). get_or l (pool_counter e.sizes) 0 ≤ e.limit + greatest_record e.sizes * count (put k over' r.over) 0 e.ports) (sym h.arena)
               (subst (λ (v : Bool). get_or (words_after bw step) (pool_counter e.sizes) 0 ≤ e.limit + greatest_record e.sizes * count (put k v r.over) 0 e.ports) (sym same_over)
               (reserved_by e bw r.over k below there arena.reserve step apart claim));
-          slots = subst (λ (l : List ℕ). first_free e.sizes + 2 * (get_or l (slot_counter e.sizes) 0 + count (λ q. awaits_slot (put k leads.y r.part q)) 0 e.ports) ≤ get_or l (pool_counter e.sizes) 0) (sym h.arena) slots_then;
+          slots = subst (λ (l : List ℕ). first_free e.sizes + 2 * (get_or l (slot_counter e.sizes) 0 + count (λ q. awaits_slot (put k leads.y r.part q)) 0 e.ports) ≤ get_or l (pool_counter e.sizes) 0)
+              (sym h.arena) slots_then;
         }
 
     changes : Changes e words b k x (ports k) r words' p' r' entries
@@ -277,7 +282,8 @@ module _ (e : Plan) (words : List ℕ) (ports : ℕ → Port) (b : Beside) (k : 
   pub makes_fewer : steps_left (advance c (answer_of (arena_words e words (ports k).control.here.arena) step)) < steps_left c
   makes_fewer = leads.tells.behind.fewer
 
-  pub machine_kept : (MeetsSeal e (component_words e words (ports k).control.here.arena) step × (words_after words (placed e (ports k).control.here.arena step) ≡ words)) ⊎ MachineLeads e words ports b k c step
+  pub machine_kept : (MeetsSeal e (component_words e words (ports k).control.here.arena) step × (words_after words (placed e (ports k).control.here.arena step) ≡ words))
+      ⊎ MachineLeads e words ports b k c step
   machine_kept = elim (worded e words x step (w.control.places k below).arena w.count low apart w.plan.sizes.slots.0) [
     | inl met ↦ inl met
     | inr h ↦ inr (machine_leads h.1 h.0)

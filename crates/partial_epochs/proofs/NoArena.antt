@@ -181,7 +181,8 @@ module _ (e : Plan) where
   from_change words p _ _ _ (calls.Leads.MakesFirst c n fresh s step is free unmet) c0 n0 u is' = absurd cc
   from_change words p _ _ _ (calls.Leads.MakesNext c n fresh s step unmet) c0 n0 u is' = absurd cc
   from_change words p _ _ _ (calls.Leads.MeetsTheSeal c n fresh s step update met) c0 n0 u is' = absurd cc
-  from_change words p _ _ _ (calls.Leads.ChangesOn c2 n2 g0 a g2 leads) c0 n0 u is' = (g2, subst (λ (u : Changing). ChangeLeads e words p u a g2) (ap change_in is') leads, ap (λ (u : Call). changed u n2 g2) (ap call_in is') ∙ ap (λ i. changed c0 i g2) (ap rounds_in is'))
+  from_change words p _ _ _ (calls.Leads.ChangesOn c2 n2 g0 a g2 leads) c0 n0 u is' =
+      (g2, subst (λ (u : Changing). ChangeLeads e words p u a g2) (ap change_in is') leads, ap (λ (u : Call). changed u n2 g2) (ap call_in is') ∙ ap (λ i. changed c0 i g2) (ap rounds_in is'))
 
   module _ (own n x : ℕ) (few : n < passes e) (inside : x < e.arenas) (other : x ≢ own) where
     -- arena x is still to be tried in that pass

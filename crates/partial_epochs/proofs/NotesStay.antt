@@ -110,7 +110,8 @@ shown_public off (note.Wrote k) = omega arith
 shown_public off (note.Lost k) = omega arith
 shown_public off (note.Saw k) = refl
 
-first_behind : (z : Layout) (o : Opening) (words : List ℕ) (hs : List Holding) (log : List Applied) (low : ℕ) (s : CoreState) (ks : List Kept) → AreKept z o words hs log low s ks → 0 < length ks → low ≤ first_at ks
+first_behind : (z : Layout) (o : Opening) (words : List ℕ) (hs : List Holding) (log : List Applied) (low : ℕ) (s : CoreState) (ks : List Kept) → AreKept z o words hs log low s ks → 0 < length ks →
+    low ≤ first_at ks
 first_behind z o words hs log low s [] w some = absurd (omega (arith, some))
 first_behind z o words hs log low s (k ∷ ks) w some = w.0.behind
 
@@ -186,7 +187,8 @@ module _ (e : Plan) (words : List ℕ) (ports : ℕ → Port) (b : Beside) (note
   own_places =
       let was : places_by k 0 lead.standing.epoch.log ≡ places_written (ports k).part.notes =
       subst (λ n. places_by n 0 lead.standing.epoch.log ≡ places_written (ports k).part.notes) port_was (fits e words ports b w.epochs k below (ports k) lead.standing).once in
-      let is : places_by k 0 lead.port.part.seen ≡ places_written lead.port.part.notes = subst (λ n. places_by n 0 lead.port.part.seen ≡ places_written lead.port.part.notes) port_is lead.tells.fits.once in
+      let is : places_by k 0 lead.port.part.seen ≡ places_written lead.port.part.notes =
+      subst (λ n. places_by n 0 lead.port.part.seen ≡ places_written lead.port.part.notes) port_is lead.tells.fits.once in
       let none : 0 + length lead.standing.epoch.log ≡ length lead.standing.epoch.log = omega arith in
       append_cancel_left (places_written (ports k).part.notes) (places_by k (length lead.standing.epoch.log) lead.entries) (places_written lead.tells.new)
       (ap (λ (l : List ℕ). l ++ places_by k (length lead.standing.epoch.log) lead.entries) (sym was)
@@ -261,7 +263,8 @@ module _ (e : Plan) (words : List ℕ) (ports : ℕ → Port) (b : Beside) (note
 
   -- the new note
   legal_grown : (q : ℕ) → q < e.ports → LegalNotes e.opening (one_history lead.beside) q 0 (notes q)
-  legal_grown q low = subst (λ (h : List Applied). LegalNotes e.opening h q 0 (notes q)) (sym history_is) (LegalNotes-grows e.opening (one_history b) (public_log (length b.before) lead.entries) q 0 (notes q) (w.noted.legal q low))
+  legal_grown q low = subst (λ (h : List Applied). LegalNotes e.opening h q 0 (notes q)) (sym history_is)
+      (LegalNotes-grows e.opening (one_history b) (public_log (length b.before) lead.entries) q 0 (notes q) (w.noted.legal q low))
 
   since_is : lead.port.part.since ≡ since_with c (ports k).part
   since_is = ap (λ (p : Part). p.since) lead.tells.part
@@ -304,12 +307,15 @@ module _ (e : Plan) (words : List ℕ) (ports : ℕ → Port) (b : Beside) (note
   legal_seen n m is noted seen behind expected =
       let l = legal_here m is in
       let fit = subst (λ (t : Option Note). Fits (length (opening_behind e.opening (ports k).before).values) m.call m.answer t) noted l.0 in
-      let true_here = (subst (λ (t : Option Note). IfSome t (λ (u : Note). IsTrueOf (opening_behind e.opening (ports k).before) lead.port.part.seen k m.call m.answer u × (seen_by 0 (ports k).part.notes ≤ place_of u))) noted l.1).0 in
+      let true_here = (subst (λ (t : Option Note). IfSome t (λ (u : Note). IsTrueOf (opening_behind e.opening (ports k).before) lead.port.part.seen k m.call m.answer u
+      × (seen_by 0 (ports k).part.notes ≤ place_of u))) noted l.1).0 in
       let then = public_true e w.epochs.plan (ports k).before lead.port.part.seen above_seen before_is k m.call m.answer n fit expected true_here in
       let low = since_low in
       let place = place_public (length (history_of (ports k).before)) n in
-      subst (λ (t : Option Note). Fits (length e.opening.values) (public_call e (ports k).before m.call) (public_answer e (ports k).before m.call m.answer) (option_map (public_note (length (history_of (ports k).before))) t)
-      × IfSome (option_map (public_note (length (history_of (ports k).before))) t) (λ (u : Note). IsTrueOf e.opening (history_of (lead.port.part.seen ∷ (ports k).before)) k (public_call e (ports k).before m.call)
+      subst (λ (t : Option Note). Fits (length e.opening.values) (public_call e (ports k).before m.call) (public_answer e (ports k).before m.call m.answer)
+      (option_map (public_note (length (history_of (ports k).before))) t)
+      × IfSome (option_map (public_note (length (history_of (ports k).before))) t)
+      (λ (u : Note). IsTrueOf e.opening (history_of (lead.port.part.seen ∷ (ports k).before)) k (public_call e (ports k).before m.call)
       (public_answer e (ports k).before m.call m.answer) u × (seen_by 0 (notes k) ≤ place_of u))) (sym noted)
       (public_fits e w.epochs.plan (ports k).before lead.port.part.seen above_seen before_is m.call m.answer n fit, (then, omega (arith, seen, behind, low, place)))
 
@@ -319,7 +325,8 @@ module _ (e : Plan) (words : List ℕ) (ports : ℕ → Port) (b : Beside) (note
       IsLegal e.opening (one_history lead.beside) k (seen_by 0 (notes k)) (public_noted e (ports k).before call_is)
   legal_public n m is noted seen behind expected =
       let g = seen_begins e words' ports' lead.beside lead.lawful k below lead.port s' in
-      let history : one_history lead.beside ≡ history_of (lead.port.part.seen ∷ (ports k).before) ++ g.0 = g.1 ∙ ap (λ (l : List (List Applied)). history_of (lead.port.part.seen ∷ l) ++ g.0) lead.before in
+      let history : one_history lead.beside ≡ history_of (lead.port.part.seen ∷ (ports k).before) ++ g.0 = g.1
+      ∙ ap (λ (l : List (List Applied)). history_of (lead.port.part.seen ∷ l) ++ g.0) lead.before in
       subst (λ (h : List Applied). IsLegal e.opening h k (seen_by 0 (notes k)) (public_noted e (ports k).before m)) (sym history)
       (legal_longer e.opening (history_of (lead.port.part.seen ∷ (ports k).before)) g.0 k (seen_by 0 (notes k)) (public_noted e (ports k).before m) (legal_seen n m is noted seen behind expected))
 
@@ -355,7 +362,8 @@ module _ (e : Plan) (words : List ℕ) (ports : ℕ → Port) (b : Beside) (note
       let within = m.within in
       let shown = shown_public (length (history_of (ports k).before)) m.note in
       let same = ap (λ (l : List (List Applied)). length (history_of l)) lead.before in
-      let pushed : seen_by 0 (notes k ++ public_noted e (ports k).before n ∷ []) ≡ shown_by (public_note (length (history_of (ports k).before)) m.note) = seen_by-push 0 (notes k) (public_noted e (ports k).before n) in
+      let pushed : seen_by 0 (notes k ++ public_noted e (ports k).before n ∷ []) ≡ shown_by (public_note (length (history_of (ports k).before)) m.note) =
+      seen_by-push 0 (notes k) (public_noted e (ports k).before n) in
       subst Noting (ap (map (public_noted e (ports k).before)) (sym is))
       (record {
         legal = LegalNotes-push e.opening (one_history lead.beside) k 0 (notes k) (public_noted e (ports k).before n) (legal_grown k below) (legal_public m.note n is refl seen m.behind one);
@@ -372,7 +380,8 @@ module _ (e : Plan) (words : List ℕ) (ports : ℕ → Port) (b : Beside) (note
   ]
 
   -- in what the port has seen its notes stay legal
-  pub legal_notes_seen : LegalNotes e.opening (history_of (lead.port.part.seen ∷ (ports k).before)) k 0 (notes k) → seen_by 0 (notes k) ≤ length (history_of (ports k).before) + since_with c (ports k).part →
+  pub legal_notes_seen : LegalNotes e.opening (history_of (lead.port.part.seen ∷ (ports k).before)) k 0 (notes k) →
+      seen_by 0 (notes k) ≤ length (history_of (ports k).before) + since_with c (ports k).part →
       AllByRecursion (λ (n : Noted). ExpectedOne (opening_behind e.opening (ports k).before) lead.port.part.seen n.call n.answer) lead.tells.new →
       LegalNotes e.opening (history_of (lead.port.part.seen ∷ (ports k).before)) k 0 (notes k ++ map (public_noted e (ports k).before) lead.tells.new)
   legal_notes_seen was seen expected = elim (one_or_none lead.port.part (reply_of (advance c (answer_of (arena_words e words (ports k).control.here.arena) step))) lead.tells.new lead.tells.noted) [
@@ -391,7 +400,8 @@ module _ (e : Plan) (words : List ℕ) (ports : ℕ → Port) (b : Beside) (note
   notes_then = record {
     finished = subst (AllByRecursion (IsEpochHistory e)) (sym lead.epochs) w.noted.finished;
     reached = λ q low. put_all (λ i (p : Port). i < e.ports → Reached lead.beside p) k lead.port ports q
-        (λ _ _. reached e words' ports' lead.beside lead.lawful k below lead.port s' (ap (λ (l : List (List Applied)). length l) lead.before ∙ (w.noted.reached k below).epoch ∙ sym (ap (λ (d : Control). d.here.epoch) lead.control)))
+        (λ _ _. reached e words' ports' lead.beside lead.lawful k below lead.port s'
+        (ap (λ (l : List (List Applied)). length l) lead.before ∙ (w.noted.reached k below).epoch ∙ sym (ap (λ (d : Control). d.here.epoch) lead.control)))
         (λ _ low. reached_grows b lead.beside (ports q) lead.entries lead.log lead.epochs (w.noted.reached q low)) low;
     legal = λ q low. put_all (λ i (ns : List Noted). i < e.ports → LegalNotes e.opening (one_history lead.beside) i 0 ns) k (notes k ++ added) notes q
         (λ _ _. noting_here.legal) (λ _ low. legal_grown q low) low;

@@ -50,12 +50,14 @@ below_all e (h ∷ hs) all =
 
 distinct_all : (e : Plan) (hs : List (List Applied)) → AllByRecursion (IsEpochHistory e) hs → HaveDistinctStamps (history_of hs)
 distinct_all e [] all = tt
-distinct_all e (h ∷ hs) all = distinct_both (length hs * stamp_limit) (history_of hs) (public_log (length hs) h) (distinct_all e hs all.1) (distinct_public (length hs) h all.0.distinct) (below_all e hs all.1)
+distinct_all e (h ∷ hs) all = distinct_both (length hs * stamp_limit) (history_of hs) (public_log (length hs) h) (distinct_all e hs all.1) (distinct_public (length hs) h all.0.distinct)
+    (below_all e hs all.1)
     (all_map (λ (x : Applied). length hs * stamp_limit ≤ x.stamp) (public_entry (length hs)) h
     (all_weaker (λ (x : Applied). x.stamp < stamp_limit) (λ (x : Applied). length hs * stamp_limit ≤ (public_entry (length hs) x).stamp) (λ x low. omega arith) h all.0.below))
 
 -- what holds of the entries of each epoch, whatever their stamps
-pub each_entry : (e : Plan) (P : Applied → Type 0) → ((g : ℕ) (x : Applied) → P x → P (public_entry g x)) → (hs : List (List Applied)) → AllByRecursion (AllByRecursion P) hs → AllByRecursion P (history_of hs)
+pub each_entry : (e : Plan) (P : Applied → Type 0) → ((g : ℕ) (x : Applied) → P x → P (public_entry g x)) → (hs : List (List Applied)) → AllByRecursion (AllByRecursion P) hs →
+    AllByRecursion P (history_of hs)
 each_entry e P f [] all = tt
 each_entry e P f (h ∷ hs) all = all_append P (history_of hs) (public_log (length hs) h) (each_entry e P f hs all.1)
     (all_map P (public_entry (length hs)) h (all_weaker P (λ x. P (public_entry (length hs) x)) (f (length hs)) h all.0))
@@ -68,7 +70,8 @@ pub all_epochs_are_history : (e : Plan) → IsPlan e → (hs : List (List Applie
 all_epochs_are_history e p hs all = record {
   components = each_entry e (λ (x : Applied). x.component < length e.opening.values) (λ g x h. h) hs
       (all_weaker (IsEpochHistory e) (AllByRecursion (λ (x : Applied). x.component < length e.opening.values))
-      (λ h w. all_weaker (λ (x : Applied). x.component < e.sizes.m) (λ (x : Applied). x.component < length e.opening.values) (λ x low. let v = p.values in omega (arith, low, v)) h w.components) hs all);
+      (λ h w. all_weaker (λ (x : Applied). x.component < e.sizes.m) (λ (x : Applied). x.component < length e.opening.values)
+      (λ x low. let v = p.values in omega (arith, low, v)) h w.components) hs all);
   distinct = distinct_all e hs all;
   not_initial = all_weaker (λ (x : Applied). first_free e.sizes ≤ x.stamp) (λ (x : Applied). (j : ℕ) → j < length e.opening.values → x.stamp ≢ initial_stamp e.opening j)
       (λ x high j low same. let v = p.values in let f = p.first in omega (arith, high, low, same, v, f)) (history_of hs) (above_all e hs all);
@@ -78,7 +81,8 @@ all_epochs_are_history e p hs all = record {
 contains_of : (part : ℕ → Part) (p n q : ℕ) → ((i : ℕ) → p ≤ i → i < p + n → port_of (part i) ≡ i) → Contains (map port_of (list_of part p n)) q → q < p + n
 contains_of part p n q numbers c = by part p n q q numbers c.0 c.1 c.2
   where
-    by : (part : ℕ → Part) (p n q d : ℕ) → ((i : ℕ) → p ≤ i → i < p + n → port_of (part i) ≡ i) → (i : ℕ) → i < length (map port_of (list_of part p n)) → get_or (map port_of (list_of part p n)) i d ≡ q → q < p + n
+    by : (part : ℕ → Part) (p n q d : ℕ) → ((i : ℕ) → p ≤ i → i < p + n → port_of (part i) ≡ i) → (i : ℕ) → i < length (map port_of (list_of part p n)) →
+        get_or (map port_of (list_of part p n)) i d ≡ q → q < p + n
     by part p zero q d numbers i low is = absurd (omega (arith, low))
     by part p (suc n) q d numbers zero low is = let here = numbers p (omega arith) (omega arith) in omega (arith, is, here)
     by part p (suc n) q d numbers (suc i) low is =

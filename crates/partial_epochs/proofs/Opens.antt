@@ -49,7 +49,8 @@ view_opens : (s : Layout) (o : Opening) (words : List ℕ) (j : ℕ) → OpensOv
 view_opens s o words j opens below =
     let pool : 3 * s.m ≤ s.pool = opens.sizes.pool.0 in
     let at : view_word (initial_record s j) ≡ pool_base s + (3 * j + 2) = omega arith in
-    ap (slice_index words) at ∙ opens.each (pool_base s + (3 * j + 2)) (omega (arith, pool, below)) (inr (omega arith)) ∙ opening_record s o.values (3 * j + 2) (omega (arith, below)) ∙ initial_view o.values j
+    ap (slice_index words) at ∙ opens.each (pool_base s + (3 * j + 2)) (omega (arith, pool, below)) (inr (omega arith)) ∙ opening_record s o.values (3 * j + 2) (omega (arith, below))
+    ∙ initial_view o.values j
 
 -- component j of an opening names its initial record, which holds its value and has none before it
 opening_agrees : (s : Layout) (o : Opening) (words : List ℕ) → OpensOver s o words → Agrees o words []
@@ -58,8 +59,10 @@ opening_agrees s o words opens j below =
     let in' : j < s.m = omega (arith, opens.values, below) in
     let pool : 3 * s.m ≤ s.pool = opens.sizes.pool.0 in
     let named : slice_index words j ≡ pool_base s + 3 * j = opens.each j (omega arith) (inl (omega (arith, in'))) ∙ opening_component s o.values j in' in
-    let prev : slice_index words (pool_base s + 3 * j) ≡ 0 = opens.each (pool_base s + 3 * j) (omega arith) (inr (omega arith)) ∙ opening_record s o.values (3 * j) (omega arith) ∙ initial_prev o.values j in
-    let value : slice_index words (pool_base s + (3 * j + 1)) ≡ slice_index o.values j = opens.each (pool_base s + (3 * j + 1)) (omega arith) (inr (omega arith)) ∙ opening_record s o.values (3 * j + 1)
+    let prev : slice_index words (pool_base s + 3 * j) ≡ 0 = opens.each (pool_base s + 3 * j) (omega arith) (inr (omega arith)) ∙ opening_record s o.values (3 * j) (omega arith)
+    ∙ initial_prev o.values j in
+    let value : slice_index words (pool_base s + (3 * j + 1)) ≡ slice_index o.values j = opens.each (pool_base s + (3 * j + 1)) (omega arith) (inr (omega arith))
+    ∙ opening_record s o.values (3 * j + 1)
     (omega arith) ∙ initial_value o.values j in
     let stamp : o.first + 3 * j ≡ pool_base s + 3 * j = ap (λ n. n + 3 * j) opens.stamps in
     let next : slice_index words j + 1 ≡ pool_base s + (3 * j + 1) = omega (arith, named) in

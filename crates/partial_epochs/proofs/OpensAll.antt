@@ -53,13 +53,16 @@ module _ (e : Plan) (words : List ℕ) (w : OpensAll e words) where
         let some_slots = w.plan.sizes.slots.0 in
         let some_components = w.plan.sizes.components.0 in
         let room = w.plan.opens in
-        let is : get_or (arena_words e words 0) (pool_counter e.sizes) 0 ≡ first_free e.sizes = opens.each (pool_counter e.sizes) (omega (arith, some_slots, some_components)) (inl (omega (arith, some_slots))) ∙ pool_opens e.sizes e.opening.values in
+        let is : get_or (arena_words e words 0) (pool_counter e.sizes) 0 ≡ first_free e.sizes =
+        opens.each (pool_counter e.sizes) (omega (arith, some_slots, some_components)) (inl (omega (arith, some_slots))) ∙ pool_opens e.sizes e.opening.values in
         omega (arith, is, room);
     slots =
         let some_slots = w.plan.sizes.slots.0 in
         let some_components = w.plan.sizes.components.0 in
-        let pool : get_or (arena_words e words 0) (pool_counter e.sizes) 0 ≡ first_free e.sizes = opens.each (pool_counter e.sizes) (omega (arith, some_slots, some_components)) (inl (omega (arith, some_slots))) ∙ pool_opens e.sizes e.opening.values in
-        let claimed : get_or (arena_words e words 0) (slot_counter e.sizes) 0 ≡ 0 = opens.each (slot_counter e.sizes) (omega (arith, some_slots, some_components)) (inl (omega (arith, some_slots))) ∙ slot_opens e.sizes e.opening.values some_slots in
+        let pool : get_or (arena_words e words 0) (pool_counter e.sizes) 0 ≡ first_free e.sizes =
+        opens.each (pool_counter e.sizes) (omega (arith, some_slots, some_components)) (inl (omega (arith, some_slots))) ∙ pool_opens e.sizes e.opening.values in
+        let claimed : get_or (arena_words e words 0) (slot_counter e.sizes) 0 ≡ 0 = opens.each (slot_counter e.sizes) (omega (arith, some_slots, some_components)) (inl (omega (arith, some_slots)))
+        ∙ slot_opens e.sizes e.opening.values some_slots in
         let none = count_none (λ q. awaits_slot (fresh_part e.sizes q)) 0 e.ports (λ q. refl) in
         omega (arith, pool, claimed, none);
   }

@@ -73,7 +73,8 @@ module _ (e : Plan) (words : List ℕ) (cs : ℕ → Control) (now : Place) (hol
   older_now : IfSome o.mark (λ a. a.epoch < (cs k).here.epoch)
   older_now = by o.mark refl own.held marks
     where
-      by : (m : Option Place) → o.mark ≡ m → IfSome m (λ a. IsPlace e a × IsEarlier a (cs o.clean).here (cs o.clean).entering) → (o.mark ≡ None) ⊎ (o.clean < e.ports) → IfSome o.mark (λ a. a.epoch < (cs k).here.epoch)
+      by : (m : Option Place) → o.mark ≡ m → IfSome m (λ a. IsPlace e a × IsEarlier a (cs o.clean).here (cs o.clean).entering) → (o.mark ≡ None) ⊎ (o.clean < e.ports) →
+          IfSome o.mark (λ a. a.epoch < (cs k).here.epoch)
       by None is h t = subst (λ (m : Option Place). IfSome m (λ a. a.epoch < (cs k).here.epoch)) (sym is) tt
       by (Some a) is h (inl none) = let bad : Some a ≡ None = sym is ∙ none in absurd cc
       by (Some a) is h (inr low) = subst (λ (m : Option Place). IfSome m (λ a. a.epoch < (cs k).here.epoch)) (sym is)

@@ -63,7 +63,8 @@ module _ (e : Plan) (plan : IsPlan e) (before : List (List Applied)) (h : List A
   last_above n j = last_all (λ (a : Applied). first_free e.sizes ≤ a.stamp) None j (take n h) tt (all_take (λ (a : Applied). first_free e.sizes ≤ a.stamp) n h above)
 
   -- the public stamp of a stamp that the component had
-  pub stamp_public : (n j : ℕ) → j < e.sizes.m → public_of e before j (stamp_of (opening_behind e.opening before) (take n h) j) ≡ stamp_of e.opening (take (length (history_of before) + n) (history_of (h ∷ before))) j
+  pub stamp_public : (n j : ℕ) → j < e.sizes.m → public_of e before j (stamp_of (opening_behind e.opening before) (take n h) j)
+      ≡ stamp_of e.opening (take (length (history_of before) + n) (history_of (h ∷ before))) j
   stamp_public n j low =
       let values = plan.values in
       by (last_entry j (take n h)) refl (last_above n j)
@@ -71,7 +72,8 @@ module _ (e : Plan) (plan : IsPlan e) (before : List (List Applied)) (h : List A
       ∙ ap (λ (l : List Applied). stamp_of e.opening l j) (sym (history_took h before n))
     where
       by : (t : Option Applied) → last_entry j (take n h) ≡ t → IfSome t (λ (a : Applied). first_free e.sizes ≤ a.stamp) →
-          public_of e before j (stamp_of (opening_behind e.opening before) (take n h) j) ≡ option_map_or (λ (a : Applied). public_stamp (length before) a.stamp) (last_entry j (take n h)) (carried_behind e.opening before j)
+          public_of e before j (stamp_of (opening_behind e.opening before) (take n h) j)
+          ≡ option_map_or (λ (a : Applied). public_stamp (length before) a.stamp) (last_entry j (take n h)) (carried_behind e.opening before j)
       by None is none =
           ap (λ (t : Option Applied). public_of e before j (option_map_or (λ (a : Applied). a.stamp) t (initial_stamp (opening_behind e.opening before) j))) is
           ∙ public_low j (initial_stamp (opening_behind e.opening before) j) (initial_low j low)
@@ -127,7 +129,8 @@ module _ (e : Plan) (plan : IsPlan e) (before : List (List Applied)) (h : List A
 
   carried_low : (hs : List (List Applied)) (j : ℕ) → AllByRecursion (IsEpochHistory e) hs → j < e.sizes.m → carried_behind e.opening hs j < length hs * stamp_limit + first_free e.sizes
   carried_low [] j all low = let f = plan.first in omega (arith, f, low)
-  carried_low (x ∷ hs) j all low = carried_step (carried_behind e.opening hs j) j (length hs) (last_entry j x) (carried_low hs j all.1 low) (last_all (λ (a : Applied). a.stamp < stamp_limit) None j x tt all.0.below)
+  carried_low (x ∷ hs) j all low = carried_step (carried_behind e.opening hs j) j (length hs) (last_entry j x) (carried_low hs j all.1 low)
+      (last_all (λ (a : Applied). a.stamp < stamp_limit) None j x tt all.0.below)
 
   abbrev IsStampOf : ℕ → ℕ → Type 0
   IsStampOf j s = (s ≡ initial_stamp (opening_behind e.opening before) j) ⊎ (first_free e.sizes ≤ s)
@@ -135,7 +138,8 @@ module _ (e : Plan) (plan : IsPlan e) (before : List (List Applied)) (h : List A
   had : (n j : ℕ) → IsStampOf j (stamp_of (opening_behind e.opening before) (take n h) j)
   had n j = by (last_entry j (take n h)) (last_above n j)
     where
-      by : (t : Option Applied) → IfSome t (λ (a : Applied). first_free e.sizes ≤ a.stamp) → IsStampOf j (option_map_or (λ (a : Applied). a.stamp) t (initial_stamp (opening_behind e.opening before) j))
+      by : (t : Option Applied) → IfSome t (λ (a : Applied). first_free e.sizes ≤ a.stamp) →
+          IsStampOf j (option_map_or (λ (a : Applied). a.stamp) t (initial_stamp (opening_behind e.opening before) j))
       by None none = inl refl
       by (Some a) from = inr from
 

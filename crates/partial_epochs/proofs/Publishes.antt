@@ -201,7 +201,8 @@ module _ (e : Plan) (words : List ℕ) (ports : ℕ → Port) (b : Beside) (k : 
         let w4 : LawfulControl e (set (control_words e words) current_word v) (put k c' cs1) next holds1 =
         subst (λ n. LawfulControl e (set (control_words e words) current_word n) (put k c' cs1) next holds1) packed_is w3 in
         let w5 : LawfulControl e (control_words e words') (put k c' cs1) next holds1 = subst (λ (l : List ℕ). LawfulControl e l (put k c' cs1) next holds1) (sym set_control) w4 in
-        let w6 : LawfulControl e (control_words e words') (controls (put k p' ports)) next holds1 = subst (λ (f : ℕ → Control). LawfulControl e (control_words e words') f next holds1) (λ i q. cs_is q i) w5 in
+        let w6 : LawfulControl e (control_words e words') (controls (put k p' ports)) next holds1 =
+        subst (λ (f : ℕ → Control). LawfulControl e (control_words e words') f next holds1) (λ i q. cs_is q i) w5 in
         let w7 : LawfulControl e (control_words e words') (controls (put k p' ports)) next (numbers b') =
         subst (λ (f : ℕ → Option ℕ). LawfulControl e (control_words e words') (controls (put k p' ports)) next f) (λ i y. holds_is y i) w6 in
         subst (λ (d : Place). LawfulControl e (control_words e words') (controls (put k p' ports)) d (numbers b')) (same_place next (place_now b') epoch_is refl) w7
@@ -221,7 +222,8 @@ module _ (e : Plan) (words : List ℕ) (ports : ℕ → Port) (b : Beside) (k : 
         let i : ℕ = first_free e.sizes + j in
         let off : i - first_free e.sizes ≡ j = omega arith in
         let test = not_below i (first_free e.sizes) (omega arith) in
-        sym (ap (λ (c : Bool). get_or words (cond c (base e o.arena + i) (base e o.arena + total e.sizes + (i - first_free e.sizes))) 0) test ∙ ap (λ n. get_or words (base e o.arena + total e.sizes + n) 0) off)
+        sym (ap (λ (c : Bool). get_or words (cond c (base e o.arena + i) (base e o.arena + total e.sizes + (i - first_free e.sizes))) 0) test
+        ∙ ap (λ n. get_or words (base e o.arena + total e.sizes + n) 0) off)
         ∙ setting.each at i (omega (arith, set, low)) (inr (omega arith))
         ∙ ap (λ (c : Bool). cond c (opening_word e.sizes (opening_behind e.opening (b.log ∷ b.before)).values i) (carried_behind e.opening (b.log ∷ b.before) (i - first_free e.sizes))) test
         ∙ ap (carried_behind e.opening (b.log ∷ b.before)) off
@@ -261,16 +263,19 @@ module _ (e : Plan) (words : List ℕ) (ports : ℕ → Port) (b : Beside) (k : 
           let some_slots = w.plan.sizes.slots.0 in
           let some_components = w.plan.sizes.components.0 in
           let room = w.plan.opens in
-          let is : get_or (arena_words e words o.arena) (pool_counter e.sizes) 0 ≡ first_free e.sizes = opens.each (pool_counter e.sizes) (omega (arith, some_slots, some_components)) (inl (omega (arith, some_slots)))
+          let is : get_or (arena_words e words o.arena) (pool_counter e.sizes) 0 ≡ first_free e.sizes =
+          opens.each (pool_counter e.sizes) (omega (arith, some_slots, some_components)) (inl (omega (arith, some_slots)))
           ∙ pool_opens e.sizes (opening_behind e.opening (b.log ∷ b.before)).values in
           omega (arith, is, room);
       slots =
           let pool = w.plan.sizes.pool.0 in
           let some_slots = w.plan.sizes.slots.0 in
           let some_components = w.plan.sizes.components.0 in
-          let free : get_or (arena_words e words o.arena) (pool_counter e.sizes) 0 ≡ first_free e.sizes = opens.each (pool_counter e.sizes) (omega (arith, some_slots, some_components)) (inl (omega (arith, some_slots)))
+          let free : get_or (arena_words e words o.arena) (pool_counter e.sizes) 0 ≡ first_free e.sizes =
+          opens.each (pool_counter e.sizes) (omega (arith, some_slots, some_components)) (inl (omega (arith, some_slots)))
           ∙ pool_opens e.sizes (opening_behind e.opening (b.log ∷ b.before)).values in
-          let claimed : get_or (arena_words e words o.arena) (slot_counter e.sizes) 0 ≡ 0 = opens.each (slot_counter e.sizes) (omega (arith, some_slots, some_components)) (inl (omega (arith, some_slots)))
+          let claimed : get_or (arena_words e words o.arena) (slot_counter e.sizes) 0 ≡ 0 =
+          opens.each (slot_counter e.sizes) (omega (arith, some_slots, some_components)) (inl (omega (arith, some_slots)))
           ∙ slot_opens e.sizes (opening_behind e.opening (b.log ∷ b.before)).values some_slots in
           let none = count_none (λ q. awaits_slot (fresh_part e.sizes q)) 0 e.ports (λ q. refl) in
           omega (arith, free, claimed, none);
@@ -297,7 +302,16 @@ module _ (e : Plan) (words : List ℕ) (ports : ℕ → Port) (b : Beside) (k : 
         (λ same. subst (λ z. IsArena e (arena_words e words' z) (component_words e words' z) (carried_words e words' z) (next_epoch e b) (z ≢ o.arena)) (sym same)
         (high_arenaed e words words' high o.arena (next_epoch e b) (o.arena ≢ o.arena) arena_new))
         (λ ne was. high_arenaed e words words' high y r (y ≢ o.arena) (let t = w.arenas y r was in
-        record { lawful = t.lawful; numbers = t.numbers; stamps = t.stamps; few = t.few; passed = t.passed; sealed = λ _ j low. all y r was t (eqb_tells y b.arena) j low; reserve = t.reserve; slots = t.slots }))
+        record {
+          lawful = t.lawful;
+          numbers = t.numbers;
+          stamps = t.stamps;
+          few = t.few;
+          passed = t.passed;
+          sealed = λ _ j low. all y r was t (eqb_tells y b.arena) j low;
+          reserve = t.reserve;
+          slots = t.slots;
+        }))
       where
         all : (y : ℕ) (r : Epoch) → b.holds y ≡ Some r → IsArena e (arena_words e words y) (component_words e words y) (carried_words e words y) r (y ≢ b.arena) →
             (((y == b.arena) ≡ true) × (y ≡ b.arena)) ⊎ (((y == b.arena) ≡ false) × (y ≢ b.arena)) → (j : ℕ) → j < e.sizes.m → IsSealed (get_or (component_words e words y) j 0)
@@ -321,7 +335,8 @@ module _ (e : Plan) (words : List ℕ) (ports : ℕ → Port) (b : Beside) (k : 
 
     standing_then : (q : ℕ) → q < e.ports → (put k p' ports q).control.entering ≡ Stands → IsStanding b' q (put k p' ports q)
     standing_then q low = put_all (λ i (p : Port). i < e.ports → p.control.entering ≡ Stands → IsStanding b' i p) k p' ports q
-        (λ _ _ _. let s = w.standing k below own.stands in stands_then k p' (not_stood k below own.stands) (record { epoch = s.epoch; is = s.is; before = s.before; part = s.part; passed = s.passed; over = s.over }))
+        (λ _ _ _. let s = w.standing k below own.stands in stands_then k p' (not_stood k below own.stands)
+        (record { epoch = s.epoch; is = s.is; before = s.before; part = s.part; passed = s.passed; over = s.over }))
         (λ ne low stands. stands_then q (ports q) (not_stood q low stands) (w.standing q low stands)) low
 
     new_then : (q y : ℕ) (r : Epoch) → q < e.ports → b'.holds y ≡ Some r → (put k p' ports q).control.here.epoch < length r.before → IsNew e q r
@@ -373,12 +388,14 @@ module _ (e : Plan) (words : List ℕ) (ports : ℕ → Port) (b : Beside) (k : 
     | inl same ↦ inl (
       same.1,
       is_present same.1,
-      subst (λ (t : Bool). LawfulEpochs e (set words current_word (cond t (packed (next_place (ports k).control.here o.arena)) (get_or words current_word 0))) (put k (having_published (ports k) o) ports) (next_beside e b o.arena))
+      subst (λ (t : Bool). LawfulEpochs e (set words current_word (cond t (packed (next_place (ports k).control.here o.arena)) (get_or words current_word 0)))
+          (put k (having_published (ports k) o) ports) (next_beside e b o.arena))
           (sym same.0) (won same.1),
     )
     | inr other ↦ inr (
       other.1,
-      subst (λ (t : Bool). LawfulEpochs e (set words current_word (cond t (packed (next_place (ports k).control.here o.arena)) (get_or words current_word 0))) (put k (having_published (ports k) o) ports) b)
+      subst (λ (t : Bool). LawfulEpochs e (set words current_word (cond t (packed (next_place (ports k).control.here o.arena)) (get_or words current_word 0)))
+          (put k (having_published (ports k) o) ports) b)
           (sym other.0) (subst (λ (l : List ℕ). LawfulEpochs e l (put k (having_published (ports k) o) ports) b) (sym (set-get_or words current_word 0)) (lost other.1)),
     )
   ]

@@ -12,7 +12,8 @@ use Rattle.partial_epochs.proofs.Places.{packed_arena}
 use Rattle.partial_epochs.proofs.Lists.{put_all, put_other, put_same}
 
 -- the next epoch is published in the arena x, of which all ports but k are out, and in which k isn't
-module _ (e : Plan) (words : List ℕ) (cs : ℕ → Control) (now : Place) (holds : ℕ → Option ℕ) (w : LawfulControl e words cs now holds) (k : ℕ) (below : k < e.ports) (x : ℕ) (inside : x < e.arenas) (few : e.arenas ≤ arena_limit)
+module _ (e : Plan) (words : List ℕ) (cs : ℕ → Control) (now : Place) (holds : ℕ → Option ℕ) (w : LawfulControl e words cs now holds) (k : ℕ) (below : k < e.ports) (x : ℕ) (inside : x < e.arenas)
+    (few : e.arenas ≤ arena_limit)
     (stands : (cs k).entering ≡ Stands) (here : (cs k).here ≡ now) (room : now.epoch + 1 < epoch_limit) (apart : now.arena ≢ x)
     (out : (q : ℕ) → q < e.ports → q ≢ k → IsOut e words cs x q) (long : length words ≡ control_size e)
     (owns : (q : ℕ) (o : Owned) → q < e.ports → (cs q).owned ≡ Some o → (o.arena ≢ x) ⊎ ((o.looked ≡ false) × (o.set ≡ 0))) where

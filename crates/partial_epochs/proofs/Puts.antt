@@ -99,9 +99,11 @@ module _ (e : Plan) (words : List ℕ) (cs : ℕ → Control) (now : Place) (hol
 
   at_q : (t : Entering) → (cs o.clean).entering ≡ t → IsAt e words o.clean (cs o.clean).here t → IsAt e words' o.clean (cs o.clean).here t
   at_q Stands is h = absurd (not_marked e (cs o.clean).here a few (w.places o.clean within) (sym h ∙ there))
-  at_q Marks is (inl h) = let same = marked_epoch e a (cs o.clean).here few held.0 (w.places o.clean within) (sym there ∙ h) in let less = older in inr ((cs k).here, place, set_at, omega (arith, same, less))
+  at_q Marks is (inl h) = let same = marked_epoch e a (cs o.clean).here few held.0 (w.places o.clean within) (sym there ∙ h) in let less = older in
+      inr ((cs k).here, place, set_at, omega (arith, same, less))
   at_q Marks is (inr h) = absurd (not_marked e h.0 a few h.1 (sym h.2 ∙ there))
-  at_q (Loaded d) is (inl h) = let same = marked_epoch e a (cs o.clean).here few held.0 (w.places o.clean within) (sym there ∙ h) in let less = older in inr ((cs k).here, place, set_at, omega (arith, same, less))
+  at_q (Loaded d) is (inl h) = let same = marked_epoch e a (cs o.clean).here few held.0 (w.places o.clean within) (sym there ∙ h) in let less = older in
+      inr ((cs k).here, place, set_at, omega (arith, same, less))
   at_q (Loaded d) is (inr h) = absurd (not_marked e h.0 a few h.1 (sym h.2 ∙ there))
 
   at_other : (r : ℕ) (d : Place) (t : Entering) → r ≢ o.clean → IsAt e words r d t → IsAt e words' r d t
@@ -189,7 +191,8 @@ module _ (e : Plan) (words : List ℕ) (ports : ℕ → Port) (b : Beside) (k : 
   set_control =
       let count = w.count in
       let zero_here : 0 + at_word o.clean ≡ at_word o.clean = omega arith in
-      set_of (λ i. get_or words i 0) (λ i. get_or words_put i 0) 0 (control_size e) (at_word o.clean) (omega (arith, within)) (λ j ne. get_or-set_other words (at_word o.clean) j put_to 0 (omega (arith, ne)))
+      set_of (λ i. get_or words i 0) (λ i. get_or words_put i 0) 0 (control_size e) (at_word o.clean) (omega (arith, within))
+      (λ j ne. get_or-set_other words (at_word o.clean) j put_to 0 (omega (arith, ne)))
       ∙ ap (λ i. set (control_words e words) (at_word o.clean) (get_or words_put i 0)) zero_here
       ∙ ap (λ u. set (control_words e words) (at_word o.clean) u) (get_or-set_same words (at_word o.clean) put_to 0 (omega (arith, count, within)))
 
@@ -197,7 +200,8 @@ module _ (e : Plan) (words : List ℕ) (ports : ℕ → Port) (b : Beside) (k : 
   put_kept =
       let p' : Port = having_put (ports k) o in
       let at = cw_at e words ports b k (ports k) 0 w below (at_word o.clean) (omega (arith, within)) in
-      let control = puts_on e (control_words e words) (controls ports) (place_now b) (numbers b) w.control k below o a w.plan.arenas (cw_long e words) owned within none looked mark again (at ∙ there) in
+      let control = puts_on e (control_words e words) (controls ports) (place_now b) (numbers b) w.control k below o a w.plan.arenas (cw_long e words) owned within none looked mark again
+      (at ∙ there) in
       let own : IsOwner e (control_words e words) (controls ports) (place_now b) (numbers b) k o =
       subst (λ (t : Option Owned). IfSome t (IsOwner e (control_words e words) (controls ports) (place_now b) (numbers b) k)) owned (w.control.owners k below) in
       control_lifted e words words_put (λ i from. get_or-set_other words (at_word o.clean) i put_to 0 (omega (arith, from, within))) ports b k p' w (length-set words (at_word o.clean) put_to)

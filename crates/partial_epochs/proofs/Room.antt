@@ -92,7 +92,8 @@ module _ (e : Plan) (words : List ℕ) (ports : ℕ → Port) (b : Beside) (k : 
   here = put_same k lead.port ports
 
   unmarked_then : (c'.pool_spent ≡ false) × (c'.slots_spent ≡ false)
-  unmarked_then = unmarked e words' (put k lead.port ports) lead.beside k lead.lawful below (subst (λ (p : Port). p.control.entering ≡ Stands) (sym here) (ap (λ (t : Control). t.entering) lead.control ∙ stands)) have c'
+  unmarked_then = unmarked e words' (put k lead.port ports) lead.beside k lead.lawful below
+      (subst (λ (p : Port). p.control.entering ≡ Stands) (sym here) (ap (λ (t : Control). t.entering) lead.control ∙ stands)) have c'
       (subst (λ (p : Port). IsMachineOf c' p.part) (sym here) (inr lead.tells.machine))
 
   pub unrefused : (cause : Refused) → reply_of c' ≢ Some (reply.Refused cause)

@@ -117,7 +117,8 @@ module _ (e : Plan) (words : List ℕ) (cs : ℕ → Control) (now : Place) (hol
     pub set_control : (next : ℕ) → LawfulControl e words (put k (c next) cs) now holds'
     set_control next = knows_more e words cs now holds' emptied k below (c next) refl refl (w.past k below) (same_put next) (own_more next)
 
-module _ (e : Plan) (words : List ℕ) (ports : ℕ → Port) (b : Beside) (k : ℕ) (o : Owned) (v next : ℕ) (w : LawfulEpochs e words ports b) (below : k < e.ports) (owned : (ports k).control.owned ≡ Some o)
+module _ (e : Plan) (words : List ℕ) (ports : ℕ → Port) (b : Beside) (k : ℕ) (o : Owned) (v next : ℕ) (w : LawfulEpochs e words ports b) (below : k < e.ports)
+    (owned : (ports k).control.owned ≡ Some o)
     (done : o.clean ≡ e.ports) (goes : o.set < next) (most : next ≤ first_free e.sizes + e.sizes.m) (passed : e.sizes.m ≤ (ports k).passed)
     (value : get_or words current_word 0 ≡ packed (ports k).control.here → (i : ℕ) → o.set ≤ i → i < next → IsAsked e.sizes i →
     get_or (set words (set_word e o.arena o.set) v) (set_word e o.arena i) 0 ≡ next_word e b i) where
@@ -193,7 +194,8 @@ module _ (e : Plan) (words : List ℕ) (ports : ℕ → Port) (b : Beside) (k : 
   not_here : (q : ℕ) → q < e.ports → (ports q).control.entering ≡ Stands → (ports q).control.here.arena ≢ o.arena
   not_here q low is = elim (eqb_tells q k) [
     | inl same ↦ let h = mine in λ same_arena. h.apart (ap (λ i. (ports i).control.here.arena) (sym same.1) ∙ same_arena)
-    | inr ne ↦ not_stood e (control_words e words) (controls ports) (place_now b) (numbers b) w.control k below o owned done q (ports q).control.here low (w.control.places q low) (placed_word q low is) ne.1
+    | inr ne ↦ not_stood e (control_words e words) (controls ports) (place_now b) (numbers b) w.control k below o owned done q (ports q).control.here low (w.control.places q low)
+        (placed_word q low is) ne.1
   ]
 
   control_then : LawfulControl e (control_words e after) (controls (put k q' ports)) (place_now b') (numbers b')
@@ -283,7 +285,8 @@ module _ (e : Plan) (words : List ℕ) (ports : ℕ → Port) (b : Beside) (k : 
         finished = λ y r is ne. w.finished y r (held y r is).1 ne;
         arenas = λ y r is. arena_kept y (held y r is).0 r (y ≢ b.arena) (w.arenas y r (held y r is).1);
         standing = λ q low. put_all (λ i (p : Port). i < e.ports → p.control.entering ≡ Stands → IsStanding b' i p) k q' ports q
-            (λ _ _ is. let s = w.standing k below is in stands_on k q' (not_here k below is) (record { epoch = s.epoch; is = s.is; before = s.before; part = s.part; passed = s.passed; over = s.over }))
+            (λ _ _ is. let s = w.standing k below is in stands_on k q' (not_here k below is)
+            (record { epoch = s.epoch; is = s.is; before = s.before; part = s.part; passed = s.passed; over = s.over }))
             (λ _ low is. stands_on q (ports q) (not_here q low is) (w.standing q low is)) low;
         new = λ q y r low is. put_all (λ i (p : Port). i < e.ports → p.control.here.epoch < length r.before → IsNew e i r) k q' ports q
             (λ _ low less. w.new k y r low (held y r is).1 less) (λ _ low less. w.new q y r low (held y r is).1 less) low;

@@ -33,7 +33,8 @@ use Rattle.partial_epochs.proofs.Seats.{among, reached, reached_grows, seen_few}
 
 -- one port comes to have seen more, and the one history is as before
 module _ (e : Plan) (ports : ℕ → Port) (b c : Beside) (notes : ℕ → List Noted) (k : ℕ) (p : Port) (w : LawfulNotes e ports b notes) (below : k < e.ports) (same : one_history c ≡ one_history b)
-    (finished : AllByRecursion (IsEpochHistory e) c.before) (others : (q : ℕ) → q < e.ports → Reached b (ports q) → Reached c (ports q)) (own : Reached c p) (more : seen_of (ports k) ≤ seen_of p) where
+    (finished : AllByRecursion (IsEpochHistory e) c.before) (others : (q : ℕ) → q < e.ports → Reached b (ports q) → Reached c (ports q)) (own : Reached c p)
+    (more : seen_of (ports k) ≤ seen_of p) where
   pub notes_kept : LawfulNotes e (put k p ports) c notes
   notes_kept = record {
     finished = finished;
@@ -228,7 +229,8 @@ module _ (e : Plan) (words : List ℕ) (ports : ℕ → Port) (b : Beside) (note
         let saw : Note = note.Saw (length (history_of (ports k).before) + i) in (
           h.fits,
           subst (λ (t : Option Note). IfSome t (λ (u : Note). IsTrueOf e.opening (one_history b) k n.call n.answer u × (seen_by 0 (notes k) ≤ place_of u))) (sym h.noted) (
-            subst (λ (l : List Applied). IsTrueOf e.opening l k n.call n.answer saw) (sym all) (IsTrueOf-grows e.opening (history_of (st.epoch.log ∷ (ports k).before)) g.0 k n.call n.answer saw h.is_true),
+            subst (λ (l : List Applied). IsTrueOf e.opening l k n.call n.answer saw) (sym all)
+                (IsTrueOf-grows e.opening (history_of (st.epoch.log ∷ (ports k).before)) g.0 k n.call n.answer saw h.is_true),
             h.behind,
           ),
         )
@@ -248,7 +250,8 @@ module _ (e : Plan) (words : List ℕ) (ports : ℕ → Port) (b : Beside) (note
       reached = λ q low. put_all (λ j (r : Port). j < e.ports → Reached c r) k (having_seen (ports k) st.epoch.log) ports q (λ _ _. own_reached)
           (λ _ low. reached_grows b c (ports q) [] log epochs (w.noted.reached q low)) low;
       legal = λ q low. put_all (λ j (ns : List Noted). j < e.ports → LegalNotes e.opening (one_history c) j 0 ns) k (notes k ++ n ∷ []) notes q
-          (λ _ _. subst (λ (l : List Applied). LegalNotes e.opening l k 0 (notes k ++ n ∷ [])) (sym same_history) (LegalNotes-push e.opening (one_history b) k 0 (notes k) n (w.noted.legal k below) one_legal))
+          (λ _ _. subst (λ (l : List Applied). LegalNotes e.opening l k 0 (notes k ++ n ∷ [])) (sym same_history)
+          (LegalNotes-push e.opening (one_history b) k 0 (notes k) n (w.noted.legal k below) one_legal))
           (λ _ low. subst (λ (l : List Applied). LegalNotes e.opening l q 0 (notes q)) (sym same_history) (w.noted.legal q low)) low;
       shown = λ q low. shown_then q low (eqb_tells q k);
       once = λ q low. put_all (λ j (ns : List Noted). j < e.ports → EachOnce (one_history c) j ns) k (notes k ++ n ∷ []) notes q
@@ -256,7 +259,8 @@ module _ (e : Plan) (words : List ℕ) (ports : ℕ → Port) (b : Beside) (note
           (λ _ low. ap (places_by q 0) same_history ∙ w.noted.once q low) low;
     }
       where
-        shown_then : (q : ℕ) → q < e.ports → (((q == k) ≡ true) × (q ≡ k)) ⊎ (((q == k) ≡ false) × (q ≢ k)) → seen_by 0 (noting k (n ∷ []) notes q) ≤ seen_of (put k (having_seen (ports k) st.epoch.log) ports q)
+        shown_then : (q : ℕ) → q < e.ports → (((q == k) ≡ true) × (q ≡ k)) ⊎ (((q == k) ≡ false) × (q ≢ k)) →
+            seen_by 0 (noting k (n ∷ []) notes q) ≤ seen_of (put k (having_seen (ports k) st.epoch.log) ports q)
         shown_then q low (inl same) =
             let ns : noting k (n ∷ []) notes q ≡ notes k ++ n ∷ [] = ap (noting k (n ∷ []) notes) same.1 ∙ put_same k (notes k ++ n ∷ []) notes in
             let there : put k (having_seen (ports k) st.epoch.log) ports q ≡ having_seen (ports k) st.epoch.log =

@@ -158,7 +158,8 @@ module _ (s : CoreState) (sizes : IsLayout s.sizes) (sound : IsSound s) (words :
   silent : (t : Stage) (step : Step) (b : Bool) → awaits (advance_at s t x) ≡ false → IsApart s.sizes step → IsQuiet s.sizes step → C b (awaits (advance_at s t x)) (words_after words step)
   silent t step b none apart h = subst (λ v. C b v (words_after words step)) (sym none) (quiet_none s.sizes sizes words slots_there pool_there slots_small pool_small step b apart h)
 
-  claims_pool : (t : Stage) (n : ℕ) → n ≤ greatest_record s.sizes → (one (awaits (advance_at s t x)) ≡ 0) ⊎ (2 ≤ n) → C false (awaits (advance_at s t x)) (words_after words (Add (pool_counter s.sizes) n))
+  claims_pool : (t : Stage) (n : ℕ) → n ≤ greatest_record s.sizes → (one (awaits (advance_at s t x)) ≡ 0) ⊎ (2 ≤ n) →
+      C false (awaits (advance_at s t x)) (words_after words (Add (pool_counter s.sizes) n))
   claims_pool t n few some = pool_claimed s.sizes sizes words slots_there pool_there slots_small pool_small n (awaits (advance_at s t x)) few some
 
   -- where the port awaits a slot before, a quiet step may leave what it will
@@ -206,7 +207,8 @@ module _ (s : CoreState) (sizes : IsLayout s.sizes) (sound : IsSound s) (words :
   counted_at (GettingSet c old) is here step due apart =
       let t : CoreState = with_getting s (finding.advance (getting s) x) in
       silent (GettingSet c old) step false
-      (goes_on (finding.step_of t.get_set) t (record t { embedded = viewing.fresh t.sizes true; stage = cond (length t.found.indices == 0) (ClaimingRecord c old) (Viewing c old) }) (ap (awaits_at t) is)
+      (goes_on (finding.step_of t.get_set) t (record t { embedded = viewing.fresh t.sizes true; stage = cond (length t.found.indices == 0) (ClaimingRecord c old) (Viewing c old) })
+      (ap (awaits_at t) is)
       (stage_none (length t.found.indices == 0) (record t { embedded = viewing.fresh t.sizes true }) (ClaimingRecord c old) (Viewing c old) refl refl)) apart
       (subst (λ (y : Layout). IsQuiet y step) here.2 (getting_quiet s.get_set.sizes s.get_set.head s.get_set.stage step due))
   counted_at (Viewing c old) is here step due apart =

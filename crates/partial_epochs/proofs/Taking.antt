@@ -236,7 +236,8 @@ module _ (e : Plan) (words : List ℕ) (cs : ℕ → Control) (now : Place) (hol
         })
 
 -- a control word is set, and port k comes to be p'
-module _ (e : Plan) (words : List ℕ) (ports : ℕ → Port) (b : Beside) (k i v : ℕ) (p' : Port) (w : LawfulEpochs e words ports b) (below : k < e.ports) (inside : i < control_size e) (later : 0 < i) where
+module _ (e : Plan) (words : List ℕ) (ports : ℕ → Port) (b : Beside) (k i v : ℕ) (p' : Port) (w : LawfulEpochs e words ports b) (below : k < e.ports) (inside : i < control_size e)
+    (later : 0 < i) where
   abbrev word_set : List ℕ
   word_set = set words i v
 
@@ -321,12 +322,14 @@ owners_look_away e words ports b k o w below owned other =
     let t = w.setting k below in
     let at : get_or (control_words e words) (at_word k) 0 ≡ packed (ports k).control.here = subst (IsAt e (control_words e words) k (ports k).control.here) own.stands (w.control.at k below) in
     let c : Control = record (ports k).control { past = true } in
-    let earlier : (ports k).control.here.epoch < length b.before = (elim (w.control.earlier (ports k).control.here.arena (ports k).control.here.epoch (w.control.stands k (ports k).control.here below (w.control.places k below) at)) [
+    let earlier : (ports k).control.here.epoch < length b.before = (elim (w.control.earlier (ports k).control.here.arena (ports k).control.here.epoch
+    (w.control.stands k (ports k).control.here below (w.control.places k below) at)) [
       | inl less ↦ less
       | inr same ↦ absurd (other (current_is e words ports b k w below ∙ ap packed (sym (same_place (ports k).control.here (place_now b) same.0 same.1))))
     ]) in
     known_lifted e words ports b k (having_passed (ports k)) w below
-    (knows_more e (control_words e words) (controls ports) (place_now b) (numbers b) w.control k below c refl refl (λ _. earlier) (λ j a may. record { owned = may.owned; is = may.is; port = may.port; mark = may.mark; again = may.again })
+    (knows_more e (control_words e words) (controls ports) (place_now b) (numbers b) w.control k below c refl refl (λ _. earlier)
+    (λ j a may. record { owned = may.owned; is = may.is; port = may.port; mark = may.mark; again = may.again })
     (w.control.owners k below))
     (passed (ports k).control.owned refl t) (λ _. record { epoch = s.epoch; is = s.is; before = s.before; part = s.part; passed = s.passed; over = s.over }) (omega arith)
   where

@@ -75,7 +75,8 @@ module _ (e : Plan) (words : List ℕ) (x : ℕ) where
 
   -- a word is set to what it is
   keeps_same : (after_it : List ℕ) (step : Step) → after_it ≡ words → words_after (arena_words e words x) step ≡ arena_words e words x →
-      plain e (word_of step) (answer_of words (placed e x step)) ≡ answer_of (arena_words e words x) step → ((p : ℕ) → added_by e.sizes p (arena_words e words x) step ≡ []) → Words e words x step after_it
+      plain e (word_of step) (answer_of words (placed e x step)) ≡ answer_of (arena_words e words x) step → ((p : ℕ) → added_by e.sizes p (arena_words e words x) step ≡ []) →
+      Words e words x step after_it
   keeps_same after_it step same after gives none = subst (Words e words x step) (sym same) (record {
     count = refl;
     outside = λ i out. refl;
@@ -129,7 +130,8 @@ module _ (e : Plan) (words : List ℕ) (x : ℕ) where
         keeps_same (words_after words (placed e x (Exchange w old new))) (Exchange w old new) (lost sealed)
         (ap (λ (b : Bool). set (arena_words e words x) w (cond b new (get_or (arena_words e words x) w 0))) plain_lost ∙ set-get_or (arena_words e words x) w 0)
         gives_here
-        (λ p. ap (λ (b : Bool). cond (nat_lt w e.sizes.m) (cond b (record { port = p; component = w; value = get_or (arena_words e words x) (new + 1) 0; stamp = new } ∷ []) []) []) plain_lost ∙ both (nat_lt w e.sizes.m))
+        (λ p. ap (λ (b : Bool). cond (nat_lt w e.sizes.m) (cond b (record { port = p; component = w; value = get_or (arena_words e words x) (new + 1) 0; stamp = new } ∷ []) []) []) plain_lost
+        ∙ both (nat_lt w e.sizes.m))
       where
         both : (b : Bool) → cond {A = List Applied} b [] [] ≡ []
         both true = refl
@@ -187,7 +189,8 @@ module _ (e : Plan) (words : List ℕ) (x : ℕ) where
 
   -- each step but one that meets a seal
   pub worded : (step : Step) → x < e.arenas → length words ≡ base e e.arenas → word_of step < total e.sizes → IsApart e.sizes step → 1 ≤ e.sizes.slots →
-      (MeetsSeal e (component_words e words x) step × (words_after words (placed e x step) ≡ words)) ⊎ ((¬ MeetsSeal e (component_words e words x) step) × Words e words x step (words_after words (placed e x step)))
+      (MeetsSeal e (component_words e words x) step × (words_after words (placed e x step) ≡ words))
+      ⊎ ((¬ MeetsSeal e (component_words e words x) step) × Words e words x step (words_after words (placed e x step)))
   worded (Load w) within count low apart some = inr (λ h. h, keeps_same words (Load w) refl refl (sym (plain_at w low)) (λ p. refl))
   worded (Store w v) within count low apart some =
       let there = below_whole e x w within (omega (arith, low)) in
@@ -211,7 +214,8 @@ module _ (e : Plan) (words : List ℕ) (x : ℕ) where
         λ h. let inside = h.0 in omega (arith, inside, from),
         keeps_other (Exchange w old new) (cond (raw == old) new raw) low (omega (arith, there, count)) from
             (ap (λ v. set (arena_words e words x) w (cond (v == old) new v)) found) (plain_other w raw from ∙ sym found)
-            (λ p. ap (λ (c : Bool). cond c (cond (get_or (arena_words e words x) w 0 == old) (record { port = p; component = w; value = get_or (arena_words e words x) (new + 1) 0; stamp = new } ∷ []) []) [])
+            (λ p. ap (λ (c : Bool). cond c (cond (get_or (arena_words e words x) w 0 == old)
+            (record { port = p; component = w; value = get_or (arena_words e words x) (new + 1) 0; stamp = new } ∷ []) []) [])
             (not_below w e.sizes.m from)),
       )
   worded (Exchange w old new) within count low (inl (inside, small, small')) some =

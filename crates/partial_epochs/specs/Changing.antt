@@ -138,7 +138,8 @@ pub data ChangeLeads (e : Plan) (words : List ℕ) (p : Port) : Changing → Act
   PassGivesUp : (n : ℕ) → (¬ IsHere words p) → ChangeLeads e words p (EndsPass n) (Moves every.Move.Looks) StoresMark
   -- the loads of what the components have, the stores of the next epoch's words, and the exchange of the current word
   LoadsOne : (i : ℕ) → ChangeLeads e words p (LoadsLast i) Sees (next_load i)
-  SetsOne : (i : ℕ) (o : Owned) (v next : ℕ) → o.set ≡ i → ChangeLeads e words p (SetsWord i) (Moves (every.Move.Sets o v next)) (next_set e next)
+  SetsOne : (i : ℕ) (o : Owned) (v next : ℕ) → o.set ≡ i →
+      ChangeLeads e words p (SetsWord i) (Moves (every.Move.Sets o v next)) (next_set e next)
   PublishesOnce : (o : Owned) → ChangeLeads e words p Publishes (Moves (every.Move.Publishes o)) GivesUp
   GivesLast : (o : Owned) → ChangeLeads e words p GivesUp (Moves (every.Move.Gives o)) StoresMark
   -- the three steps of entering

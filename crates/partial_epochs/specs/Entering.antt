@@ -57,6 +57,7 @@ pub record Arrives (e : Plan) (words : List ℕ) (ports : ℕ → Port) (b : Bes
   pub lawful : LawfulEpochs e (words_after words (Exchange (at_word k) (marked (ports k).control.here) (packed c)))
       (put k (arrived e k place before) ports) b
 
+-- with that step the state stays lawful
 abbrev pub ArrivalsStayLawful : Type 0
 ArrivalsStayLawful = (e : Plan) (words : List ℕ) (ports : ℕ → Port) (b : Beside) (k : ℕ) (c : Place) → LawfulEpochs e words ports b →
     k < e.ports → (ports k).control.entering ≡ Loaded c → Arrives e words ports b k c

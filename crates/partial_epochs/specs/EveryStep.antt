@@ -59,7 +59,8 @@ moved_words e words p k (Takes x) = words_after words (Exchange (own_word e x) 0
 moved_words e words p k (Gives o) = words_after words (Store (own_word e o.arena) 0)
 moved_words e words p k (Puts o a) = words_after words (Exchange (at_word o.clean) (marked a) (packed p.control.here))
 moved_words e words p k (Sets o v next) = words_after words (Store (set_word e o.arena o.set) v)
-moved_words e words p k (Publishes o) = words_after words (Exchange current_word (packed p.control.here) (packed (next_place p.control.here o.arena)))
+moved_words e words p k (Publishes o) = words_after words
+    (Exchange current_word (packed p.control.here) (packed (next_place p.control.here o.arena)))
 moved_words e words p k _ = words
 
 -- what has to hold where a port makes the move: of the words, and of what the port itself knows
@@ -73,14 +74,15 @@ MayMove e words ports b notes k PassesSealed = ((ports k).control.entering ≡ S
     × IsSealed (slice_index (component_words e words (ports k).control.here.arena) (ports k).passed)
 MayMove e words ports b notes k Looks = ((ports k).control.entering ≡ Stands) × ((ports k).control.owned ≡ None)
 MayMove e words ports b notes k (LooksAsOwner o) = ((ports k).control.owned ≡ Some o) × ((o.mark ≡ None) ⊎ (o.clean < e.ports))
-MayMove e words ports b notes k StoresMark = ((ports k).control.entering ≡ Stands) × ((ports k).control.past ≡ true) × ((ports k).control.owned ≡ None)
+MayMove e words ports b notes k StoresMark = ((ports k).control.entering ≡ Stands) × ((ports k).control.past ≡ true)
+    × ((ports k).control.owned ≡ None)
 MayMove e words ports b notes k LoadsCurrent = (ports k).control.entering ≡ Marks
 MayMove e words ports b notes k (ExchangesMark c) = (ports k).control.entering ≡ Loaded c
 MayMove e words ports b notes k (Takes x) = ((ports k).control.entering ≡ Stands) × ((ports k).control.owned ≡ None) × (x < e.arenas)
     × ((ports k).control.here.arena ≢ x) × (slice_index words (own_word e x) ≡ 0)
 MayMove e words ports b notes k (Gives o) = (ports k).control.owned ≡ Some o
-MayMove e words ports b notes k (FindsElsewhere o d) = ((ports k).control.owned ≡ Some o) × (o.looked ≡ true) × (o.set ≡ 0) × (o.clean < e.ports)
-    × IsPlace e d × (slice_index words (at_word o.clean) ≡ packed d) × (d.arena ≢ o.arena)
+MayMove e words ports b notes k (FindsElsewhere o d) = ((ports k).control.owned ≡ Some o) × (o.looked ≡ true) × (o.set ≡ 0)
+    × (o.clean < e.ports) × IsPlace e d × (slice_index words (at_word o.clean) ≡ packed d) × (d.arena ≢ o.arena)
 MayMove e words ports b notes k (LoadsMark o) =
     ((ports k).control.owned ≡ Some o) × (o.clean < e.ports) × (entering_mark ≤ slice_index words (at_word o.clean))
 MayMove e words ports b notes k (Puts o a) = ((ports k).control.owned ≡ Some o) × (o.looked ≡ true) × (o.clean < e.ports) × (o.set ≡ 0)

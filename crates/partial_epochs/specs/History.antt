@@ -18,6 +18,7 @@ public_stamp epoch at = epoch * stamp_limit + at
 abbrev pub public_entry : ℕ → Applied → Applied
 public_entry epoch e = record e { stamp = public_stamp epoch e.stamp }
 
+-- an epoch's history with public stamps
 abbrev pub public_log : ℕ → List Applied → List Applied
 public_log epoch h = map (public_entry epoch) h
 
@@ -49,5 +50,6 @@ pub record IsContinued (o : Opening) (h : List Applied) (before : List (List App
   pub value : value_of o (history_of (h ∷ before)) j ≡ value_of (opening_behind o before) h j
   pub stamp : stamp_of o (history_of (h ∷ before)) j ≡ carried_after (length before) (carried_behind o before) h j
 
+-- in the one history each component has the value and the stamp that the last epoch gives it
 abbrev pub EpochsContinue : Type 0
 EpochsContinue = (o : Opening) (h : List Applied) (before : List (List Applied)) (j : ℕ) → j < length o.values → IsContinued o h before j

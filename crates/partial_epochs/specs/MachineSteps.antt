@@ -30,11 +30,12 @@ MeetsSeal e components (Exchange w old new) =
     (w < e.sizes.m) × IsSealed (slice_index components w) × (unsealed (slice_index components w) ≡ old)
 MeetsSeal e components _ = ⊥
 
--- whether the step is a claim of the pool that ends past the limit, and that a port makes none once it has made such a claim
+-- whether the step is a claim of the pool that ends past the limit
 abbrev pub ends_over : Plan → List ℕ → Step → Bool
 ends_over e words (Add w n) = (w == pool_counter e.sizes) && nat_lt e.limit (slice_index words w + n)
 ends_over e words _ = false
 
+-- a port that has made such a claim makes no further claim of the pool
 abbrev pub MayClaim : Plan → Bool → Step → Type 0
 MayClaim e over (Add w n) = w ≡ pool_counter e.sizes → over ≡ false
 MayClaim e over _ = ⊤

@@ -130,10 +130,12 @@ noting k added notes = put k (notes k ++ added) notes
 
 -- each step of a machine keeps the memory lawful, with what its port notes then
 abbrev pub NotesStayLawful : Type 0
-NotesStayLawful = (e : Plan) (words : List ℕ) (ports : ℕ → Port) (b : Beside) (notes : ℕ → List Noted) (k : ℕ) (c : CoreState) (step : Step) →
-    LawfulMemory e words ports b notes → k < e.ports → (ports k).control.entering ≡ Stands → (lead : MachineLeads e words ports b k c step) → (added : List Noted) →
+NotesStayLawful = (e : Plan) (words : List ℕ) (ports : ℕ → Port) (b : Beside) (notes : ℕ → List Noted) (k : ℕ) (c : CoreState)
+    (step : Step) → LawfulMemory e words ports b notes → k < e.ports → (ports k).control.entering ≡ Stands →
+    (lead : MachineLeads e words ports b k c step) → (added : List Noted) →
     MayNote e (ports k) (notes k) (since_with c (ports k).part) lead.port.part.seen lead.tells.new added →
-    LawfulMemory e (words_after words (placed e (ports k).control.here.arena step)) (put k lead.port ports) lead.beside (noting k added notes)
+    LawfulMemory e (words_after words (placed e (ports k).control.here.arena step)) (put k lead.port ports) lead.beside
+    (noting k added notes)
 
 -- A step that changes neither histories nor what its port has seen, its place or its notes: a seal, a step of setting up the next epoch,
 -- and the first two steps of entering.
@@ -160,7 +162,8 @@ ArrivalsKeepNotes = (e : Plan) (words : List ℕ) (ports : ℕ → Port) (b : Be
 -- so does the exchange that opens the next epoch: in the one history nothing changes
 abbrev pub PublishesKeepNotes : Type 0
 PublishesKeepNotes = (e : Plan) (words words' : List ℕ) (ports : ℕ → Port) (b : Beside) (notes : ℕ → List Noted) (k : ℕ) (o : Owned) →
-    LawfulMemory e words ports b notes → k < e.ports → LawfulEpochs e words' (put k (having_published (ports k) o) ports) (next_beside e b o.arena) →
+    LawfulMemory e words ports b notes → k < e.ports →
+    LawfulEpochs e words' (put k (having_published (ports k) o) ports) (next_beside e b o.arena) →
     LawfulMemory e words' (put k (having_published (ports k) o) ports) (next_beside e b o.arena) notes
     × (one_history (next_beside e b o.arena) ≡ one_history b)
 
@@ -178,12 +181,13 @@ pub record IsSight (e : Plan) (k : ℕ) (p : Port) (log : List Applied) (notes :
   pub is_true : IsTrueOf e.opening (history_of (log ∷ p.before)) k n.call n.answer (note.Saw (length (history_of p.before) + i))
 
 -- A sight leads to a lawful memory: its port has seen the whole history of its epoch, and has noted the call.
-pub record SightLeads (e : Plan) (words : List ℕ) (ports : ℕ → Port) (b : Beside) (notes : ℕ → List Noted) (k : ℕ) (log : List Applied) (n : Noted) :
-    Type 0 where
+pub record SightLeads (e : Plan) (words : List ℕ) (ports : ℕ → Port) (b : Beside) (notes : ℕ → List Noted) (k : ℕ) (log : List Applied)
+    (n : Noted) : Type 0 where
   pub beside : Beside
   pub same : IsBesideAs b beside
   pub lawful : LawfulMemory e words (put k (having_seen (ports k) log) ports) beside (noting k (n ∷ []) notes)
 
+-- each sight of a port that stands in an epoch leads to a lawful memory, with its note
 abbrev pub SightsStayLawful : Type 0
 SightsStayLawful = (e : Plan) (words : List ℕ) (ports : ℕ → Port) (b : Beside) (notes : ℕ → List Noted) (k i : ℕ) (n : Noted) →
     LawfulMemory e words ports b notes → k < e.ports → (s : IsStanding b k (ports k)) →

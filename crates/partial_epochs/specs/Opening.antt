@@ -22,7 +22,8 @@ pub record OpensOver (s : Layout) (o : Opening) (words : List ℕ) : Type 0 wher
 
 -- such words are lawful, with nothing applied
 abbrev pub OpensOverLawful : Type 0
-OpensOverLawful = (z : Layout) (o : Opening) (words : List ℕ) (n : ℕ) → OpensOver z o words → n ≤ 64 → Lawful z o words (fresh_parts z 0 n) []
+OpensOverLawful = (z : Layout) (o : Opening) (words : List ℕ) (n : ℕ) → OpensOver z o words → n ≤ 64 →
+    Lawful z o words (fresh_parts z 0 n) []
 
 -- the words at opening: no arena is owned, each port stands in epoch 0, and arena 0 is set; the other arenas may hold anything
 pub record OpensAll (e : Plan) (words : List ℕ) : Type 0 where
@@ -30,21 +31,27 @@ pub record OpensAll (e : Plan) (words : List ℕ) : Type 0 where
   pub some : 0 < e.arenas
   pub count : length words ≡ whole e
   pub control : (i : ℕ) → i < control_size e → slice_index words i ≡ 0
-  pub each : (i : ℕ) → i < first_free e.sizes → IsAsked e.sizes i → slice_index words (base e 0 + i) ≡ opening_word e.sizes e.opening.values i
+  pub each : (i : ℕ) → i < first_free e.sizes → IsAsked e.sizes i →
+      slice_index words (base e 0 + i) ≡ opening_word e.sizes e.opening.values i
   pub carried : (j : ℕ) → j < e.sizes.m → slice_index words (carried_word e 0 j) ≡ initial_stamp e.opening j
 
+-- the place of the first epoch: arena 0
 abbrev pub first_place : Place
 first_place = record { epoch = 0; arena = 0 }
 
+-- the first epoch at opening: nothing is applied, and no port has made a step
 abbrev pub first_epoch : Plan → Epoch
 first_epoch e = record { log = []; before = []; part = fresh_part e.sizes; passed = λ _. 0; over = λ _. false }
 
+-- no arena holds an epoch
 abbrev pub nothing_held : ℕ → Option Epoch
 nothing_held x = None
 
+-- what stands beside the words at opening: arena 0 alone holds an epoch, the first one
 abbrev pub first_beside : Plan → Beside
 first_beside e = record { log = []; before = []; arena = 0; holds = put 0 (Some (first_epoch e)) nothing_held }
 
+-- each port at opening stands in the first epoch, with nothing before it
 abbrev pub first_ports : Plan → ℕ → Port
 first_ports e k = arrived e k first_place []
 

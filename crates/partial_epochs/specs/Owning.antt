@@ -24,15 +24,16 @@ OwnersLook = (e : Plan) (words : List ℕ) (ports : ℕ → Port) (b : Beside) (
 abbrev pub cleaner : Owned → Owned
 cleaner o = record o { clean = o.clean + 1; mark = None; again = false }
 
+-- the port once it is done with the port `clean`
 abbrev pub having_put : Port → Owned → Port
 having_put p o = record p { control = record p.control { owned = Some (cleaner o) } }
 
 -- A port that has loaded the mark of another, and has seen since that its own epoch is the current one, puts that port where it stands
 -- itself, and is done with it: where the exchange of the mark is won.
 abbrev pub PutsStayLawful : Type 0
-PutsStayLawful = (e : Plan) (words : List ℕ) (ports : ℕ → Port) (b : Beside) (k : ℕ) (o : Owned) (a : Place) → LawfulEpochs e words ports b →
-    k < e.ports → (ports k).control.owned ≡ Some o → o.looked ≡ true → o.clean < e.ports → o.set ≡ 0 → o.mark ≡ Some a → o.again ≡ true →
-    slice_index words (at_word o.clean) ≡ marked a →
+PutsStayLawful = (e : Plan) (words : List ℕ) (ports : ℕ → Port) (b : Beside) (k : ℕ) (o : Owned) (a : Place) →
+    LawfulEpochs e words ports b → k < e.ports → (ports k).control.owned ≡ Some o → o.looked ≡ true → o.clean < e.ports → o.set ≡ 0 →
+    o.mark ≡ Some a → o.again ≡ true → slice_index words (at_word o.clean) ≡ marked a →
     LawfulEpochs e (words_after words (Exchange (at_word o.clean) (marked a) (packed (ports k).control.here)))
     (put k (having_put (ports k) o) ports) b
 

@@ -20,9 +20,9 @@ vacated b x = record b { holds = put x None b.holds }
 -- A port that is done with all others, and has found all components of its epoch sealed, sets the next word of its arena. The words from it
 -- on that count as set behind the store are those of the next epoch, if its own epoch is the current one yet.
 abbrev pub SetsStayLawful : Type 0
-SetsStayLawful = (e : Plan) (words : List ℕ) (ports : ℕ → Port) (b : Beside) (k : ℕ) (o : Owned) (v next : ℕ) → LawfulEpochs e words ports b →
-    k < e.ports → (ports k).control.owned ≡ Some o → o.clean ≡ e.ports → o.set < next → next ≤ first_free e.sizes + e.sizes.m →
-    e.sizes.m ≤ (ports k).passed →
+SetsStayLawful = (e : Plan) (words : List ℕ) (ports : ℕ → Port) (b : Beside) (k : ℕ) (o : Owned) (v next : ℕ) →
+    LawfulEpochs e words ports b → k < e.ports → (ports k).control.owned ≡ Some o → o.clean ≡ e.ports → o.set < next →
+    next ≤ first_free e.sizes + e.sizes.m → e.sizes.m ≤ (ports k).passed →
     (slice_index words current_word ≡ packed (ports k).control.here → (i : ℕ) → o.set ≤ i → i < next → IsAsked e.sizes i →
     slice_index (words_after words (Store (set_word e o.arena o.set) v)) (set_word e o.arena i) ≡ next_word e b i) →
     LawfulEpochs e (words_after words (Store (set_word e o.arena o.set) v)) (put k (having_set (ports k) o next) ports) (vacated b o.arena)
@@ -58,8 +58,10 @@ abbrev pub PublishesStayLawful : Type 0
 PublishesStayLawful = (e : Plan) (words : List ℕ) (ports : ℕ → Port) (b : Beside) (k : ℕ) (o : Owned) → LawfulEpochs e words ports b →
     k < e.ports → IsWhole e (ports k) o →
     ((slice_index words current_word ≡ packed (ports k).control.here) × IsPresent b k (ports k)
-    × LawfulEpochs e (words_after words (Exchange current_word (packed (ports k).control.here) (packed (next_place (ports k).control.here o.arena))))
+    × LawfulEpochs e (words_after words (Exchange current_word (packed (ports k).control.here)
+    (packed (next_place (ports k).control.here o.arena))))
     (put k (having_published (ports k) o) ports) (next_beside e b o.arena))
     ⊎ ((slice_index words current_word ≢ packed (ports k).control.here)
-    × LawfulEpochs e (words_after words (Exchange current_word (packed (ports k).control.here) (packed (next_place (ports k).control.here o.arena))))
+    × LawfulEpochs e (words_after words (Exchange current_word (packed (ports k).control.here)
+    (packed (next_place (ports k).control.here o.arena))))
     (put k (having_published (ports k) o) ports) b)

@@ -38,7 +38,8 @@ pub record TellTheLast (e : Plan) (words : List ℕ) (p : Port) (log : List Appl
   pub stamp : unsealed (slice_index words (base e p.control.here.arena + j)) ≡ stamp_of (opening_behind e.opening p.before) log j
   pub value : slice_index words (base e p.control.here.arena + value_word (unsealed (slice_index words (base e p.control.here.arena + j))))
       ≡ value_of e.opening (history_of (log ∷ p.before)) j
-  pub public : read_stamp e words p j (unsealed (slice_index words (base e p.control.here.arena + j))) ≡ stamp_of e.opening (history_of (log ∷ p.before)) j
+  pub public : read_stamp e words p j (unsealed (slice_index words (base e p.control.here.arena + j)))
+      ≡ stamp_of e.opening (history_of (log ∷ p.before)) j
 
 -- No step of a machine applies anything to a component that is sealed, so what its words tell then stays.
 abbrev pub LastWordsAreFinal : Type 0

@@ -25,6 +25,7 @@ pub record PassLeads (e : Plan) (words words' : List ℕ) (ports : ℕ → Port)
   pub same : IsBesideAs b beside
   pub lawful : LawfulEpochs e words' (put k (passing (ports k)) ports) beside
 
+-- the seal of a port that stands in its epoch, and has a component left to seal, leads to such a state
 abbrev pub SealsStayLawful : Type 0
 SealsStayLawful = (e : Plan) (words : List ℕ) (ports : ℕ → Port) (b : Beside) (k : ℕ) → LawfulEpochs e words ports b → k < e.ports →
     (ports k).control.entering ≡ Stands → (ports k).passed < e.sizes.m →

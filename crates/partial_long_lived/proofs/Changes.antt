@@ -122,7 +122,8 @@ module _ (e : Plan) (words : List ℕ) (ports : ℕ → Port) (b : Beside) (w : 
       ]
 
 -- a quiet step after which others find the port as it was
-module _ (a : About) (words words' : List ℕ) (ports : ℕ → Port) (b c : Beside) (since : ℕ → ℕ) (time : KeepsTime (plan_of a) words ports (place_now b) since) (log : c.log ≡ b.log) (before : c.before ≡ b.before)
+module _ (a : About) (words words' : List ℕ) (ports : ℕ → Port) (b c : Beside) (since : ℕ → ℕ) (time : KeepsTime (plan_of a) words ports (place_now b) since) (log : c.log ≡ b.log)
+    (before : c.before ≡ b.before)
     (k : ℕ) (n : Began) (old : IsSince n (ports k).control.entering (since k)) (at : (q : ℕ) → q < a.ports → get_or words' (at_word q) 0 ≡ get_or words (at_word q) 0) where
   pub still : (p : Port) → p.control.here ≡ (ports k).control.here → p.control.entering ≡ (ports k).control.entering → ((j : ℕ) (m : Place) → MayPut p.control j m → MayPut (ports k).control j m) →
       LawfulEpochs (plan_of a) words' (put k p ports) c → Quietly a words' ports b since k n p
@@ -156,7 +157,8 @@ unmarked_puts c R o is none j m may =
 
 -- the arena as it was, or its next port
 elsewhere_puts : (p : Port) (o : Owned) (c : Bool) → p.control.owned ≡ Some o → (j : ℕ) (m : Place) → MayPut (owning p (cond c o (cleaner o))).control j m → MayPut p.control j m
-elsewhere_puts p o true is j m may = record { owned = o; is = is; port = ap (λ (t : Owned). t.clean) (some_same may.is) ∙ may.port; mark = ap (λ (t : Owned). t.mark) (some_same may.is) ∙ may.mark; again = ap (λ (t : Owned). t.again) (some_same may.is) ∙ may.again }
+elsewhere_puts p o true is j m may = record { owned = o; is = is; port = ap (λ (t : Owned). t.clean) (some_same may.is) ∙ may.port; mark = ap (λ (t : Owned). t.mark) (some_same may.is)
+    ∙ may.mark; again = ap (λ (t : Owned). t.again) (some_same may.is) ∙ may.again }
 elsewhere_puts p o false is j m may = unmarked_puts (owning p (cleaner o)).control (MayPut p.control j m) (cleaner o) refl refl j m may
 
 module _ {S : Type 0} (a : About) (slots id : ℕ) (me : Me S (List Seated)) (one : IsOne me) (own : (one_of me.0).about ≡ a) (known : IsKnown (one_of me.0)) where
@@ -204,7 +206,8 @@ module _ {S : Type 0} (a : About) (slots id : ℕ) (me : Me S (List Seated)) (on
       let to = seals_stay_lawful e words ports b k w.epochs below (ap (λ (p : Port). p.control.entering) (sym is) ∙ stands) (omega (arith, more, passed)) in
       still a words (set words i ((get_or words i 0 + seal) % 2 ^ 64)) ports b to.beside since time to.same.log to.same.before k x.began old
       (λ q low. store_at e words i ((get_or words i 0 + seal) % 2 ^ 64) q low (omega arith)) (passing (ports k)) refl refl (λ j m may. may)
-      (subst (λ (p : Port). LawfulEpochs e (set words (base e p.control.here.arena + p.passed) ((get_or words (base e p.control.here.arena + p.passed) 0 + seal) % 2 ^ 64)) (put k (passing (ports k)) ports) to.beside) (sym is) to.lawful))
+      (subst (λ (p : Port). LawfulEpochs e (set words (base e p.control.here.arena + p.passed) ((get_or words (base e p.control.here.arena + p.passed) 0 + seal) % 2 ^ 64))
+          (put k (passing (ports k)) ports) to.beside) (sym is) to.lawful))
       (λ words ports b w below is. refl)
 
   -- the exchange of the owner word of arena i
@@ -221,12 +224,14 @@ module _ {S : Type 0} (a : About) (slots id : ℕ) (me : Me S (List Seated)) (on
             let to = takes_stay_lawful e words ports b k i w.epochs below (ap (λ (p : Port). p.control.entering) (sym is) ∙ stands) (ap (λ (p : Port). p.control.owned) (sym is) ∙ none) inside
             (λ same. apart (ap (λ (p : Port). p.control.here.arena) is ∙ same)) free.1 in
             subst (λ (t : Bool). Quietly a (set words (own_word e i) v) ports b since k x.began (P t)) (sym free.0)
-            (still a words (set words (own_word e i) v) ports b b since time refl refl k x.began old (λ q low. store_at e words (own_word e i) v q low (omega arith)) (owning (ports k) (just_taken i)) refl refl
+            (still a words (set words (own_word e i) v) ports b b since time refl refl k x.began old (λ q low. store_at e words (own_word e i) v q low (omega arith))
+                (owning (ports k) (just_taken i)) refl refl
             (λ j m may. unmarked_puts (owning (ports k) (just_taken i)).control (MayPut (ports k).control j m) (just_taken i) refl refl j m may)
             (subst (λ v. LawfulEpochs e (set words (own_word e i) v) (put k (owning (ports k) (just_taken i)) ports) b) (either_cond (n == 0) (k + 1) n) to))
         | inr held ↦
             subst (λ (t : Bool). Quietly a (set words (own_word e i) v) ports b since k x.began (P t)) (sym held.0)
-            (still a words (set words (own_word e i) v) ports b b since time refl refl k x.began old (λ q low. store_at e words (own_word e i) v q low (omega arith)) (ports k) refl refl (λ j m may. may)
+            (still a words (set words (own_word e i) v) ports b b since time refl refl k x.began old (λ q low. store_at e words (own_word e i) v q low (omega arith)) (ports k) refl refl
+                (λ j m may. may)
             (subst (λ (t : Bool). LawfulEpochs e (set words (own_word e i) (either t (k + 1) n)) (put k (ports k) ports) b) (sym held.0)
             (subst (λ (l : List ℕ). LawfulEpochs e l (put k (ports k) ports) b) (load_same words (own_word e i)) (lawful_itself e words ports b k w.epochs))))
       ]))
@@ -238,7 +243,8 @@ module _ {S : Type 0} (a : About) (slots id : ℕ) (me : Me S (List Seated)) (on
       (λ n. record { part = λ p. refl; before = λ p. refl; here = λ p. refl; passed = λ p. omega arith })
       (λ words ports notes b since w time below is old come.
       let k : ℕ = x.number in
-      still a words (set words (own_word e o.arena) 0) ports b b since time refl refl k x.began old (λ q low. store_at e words (own_word e o.arena) 0 q low (omega arith)) (having_given (ports k)) refl refl
+      still a words (set words (own_word e o.arena) 0) ports b b since time refl refl k x.began old (λ q low. store_at e words (own_word e o.arena) 0 q low (omega arith))
+          (having_given (ports k)) refl refl
       (λ j m may. none_puts (having_given (ports k)).control (MayPut (ports k).control j m) refl j m may)
       (gives_stay_lawful e words ports b k o w.epochs below (ap (λ (p : Port). p.control.owned) (sym is) ∙ owned)))
       (λ words ports b w below is. refl)
@@ -283,7 +289,8 @@ module _ {S : Type 0} (a : About) (slots id : ℕ) (me : Me S (List Seated)) (on
   -- the exchange of its mark
   pub may_put : (o : Owned) (m : Place) → x.port.control.owned ≡ Some o → o.looked ≡ true → o.set ≡ 0 → o.clean < a.ports → o.mark ≡ Some m → o.again ≡ true →
       Allows (IsKept a) slots id me (at_word o.clean) (λ n. either (n == marked m) (packed x.port.control.here) n) (tells (PutsPort o m) me)
-  may_put o m owned looked none more mark again = quietly a slots id me one own known (at_word o.clean) (λ n. either (n == marked m) (packed x.port.control.here) n) (λ n p. owning p (port_put m n o)) (PutsPort o m)
+  may_put o m owned looked none more mark again = quietly a slots id me one own known (at_word o.clean) (λ n. either (n == marked m) (packed x.port.control.here) n) (λ n p. owning p (port_put m n o))
+      (PutsPort o m)
       (λ n. owned_quiet (λ p. port_put m n o))
       (λ words ports notes b since w time below is old come.
       let k : ℕ = x.number in

@@ -189,13 +189,15 @@ pool_claims c z sound sizes w n due pool = by c.stage refl sound.stage due
     by (Viewing d old) at ok is = scan_never c.embedded.sizes c.found.indices c.rows.last c.embedded.stage w n (Claims c) is
     by (ClaimingRecord d old) at ok is = record {
       now = ap before_claim at;
-      then = λ a. subst (λ (t : Stage). before_claim (advance_at c t a).stage ≡ false) (sym at) (two_of (fits_pool c.sizes (record_size c) a) (at_stage c (StoringRecord d old a 0)) (pool_refused c) refl refl);
+      then = λ a. subst (λ (t : Stage). before_claim (advance_at c t a).stage ≡ false) (sym at)
+          (two_of (fits_pool c.sizes (record_size c) a) (at_stage c (StoringRecord d old a 0)) (pool_refused c) refl refl);
     }
     by (StoringRecord d old at' k) at ok is = let bad : Store _ _ ≡ Add w n = some_same is in cc
     by (Exchanging d old at') at ok is = let bad : Exchange _ _ _ ≡ Add w n = some_same is in cc
     by ScanBegun at ok is = record {
       now = ap before_claim at;
-      then = λ a. subst (λ (t : Stage). before_claim (advance_at c t a).stage ≡ false) (sym at) (two_of (fits_pool c.sizes (announcement_size (length c.asked)) a) (at_stage c (StoringAnnouncement a 0)) (pool_refused c) refl refl);
+      then = λ a. subst (λ (t : Stage). before_claim (advance_at c t a).stage ≡ false) (sym at)
+          (two_of (fits_pool c.sizes (announcement_size (length c.asked)) a) (at_stage c (StoringAnnouncement a 0)) (pool_refused c) refl refl);
     }
     by (StoringAnnouncement at' k) at ok is = let bad : Store _ _ ≡ Add w n = some_same is in cc
     by Joining at ok is =

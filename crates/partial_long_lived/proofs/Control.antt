@@ -94,7 +94,8 @@ looked_lawful a words ports notes b k w below may = by (ports k).control.owned r
         (((at == packed (ports k).control.here) ≡ true) × (at ≡ packed (ports k).control.here)) ⊎ (((at == packed (ports k).control.here) ≡ false) × (at ≢ packed (ports k).control.here)) →
         LawfulEpochs (plan_of a) words (put k (looked_at (get_or words current_word 0) (ports k)) ports) b
     by None none tt (inl is) =
-        let same : looked_at at (ports k) ≡ ports k = ap (λ c. cond c (having_found (ports k)) (having_passed (ports k))) is.0 ∙ ap (λ (o : Option Owned). option_map_or (having_looked (ports k)) o (ports k)) none in
+        let same : looked_at at (ports k) ≡ ports k = ap (λ c. cond c (having_found (ports k)) (having_passed (ports k))) is.0
+            ∙ ap (λ (o : Option Owned). option_map_or (having_looked (ports k)) o (ports k)) none in
         subst (λ (p : Port). LawfulEpochs (plan_of a) words (put k p ports) b) (sym same) (lawful_itself (plan_of a) words ports b k w.epochs)
     by None none tt (inr ne) =
         let same : looked_at at (ports k) ≡ having_passed (ports k) = ap (λ c. cond c (having_found (ports k)) (having_passed (ports k))) ne.0 in
@@ -104,7 +105,8 @@ looked_lawful a words ports notes b k w below may = by (ports k).control.owned r
           | inr away ↦ away.1
         ])
     by (Some o) is marks (inl here) =
-        let same : looked_at at (ports k) ≡ having_looked (ports k) o = ap (λ c. cond c (having_found (ports k)) (having_passed (ports k))) here.0 ∙ ap (λ (o : Option Owned). option_map_or (having_looked (ports k)) o (ports k)) is in
+        let same : looked_at at (ports k) ≡ having_looked (ports k) o = ap (λ c. cond c (having_found (ports k)) (having_passed (ports k))) here.0
+            ∙ ap (λ (o : Option Owned). option_map_or (having_looked (ports k)) o (ports k)) is in
         subst (λ (p : Port). LawfulEpochs (plan_of a) words (put k p ports) b) (sym same) (owners_look (plan_of a) words ports b k o w.epochs below is marks here.1).1
     by (Some o) is marks (inr ne) =
         let same : looked_at at (ports k) ≡ having_passed (ports k) = ap (λ c. cond c (having_found (ports k)) (having_passed (ports k))) ne.0 in
@@ -123,8 +125,10 @@ pub stands_since : (g : Began) (t : Entering) (n : ℕ) → t ≡ Stands → IsS
 stands_since g t n is = subst (λ (t : Entering). IsSince g t n) (sym is) tt
 
 -- a port that is as it was in what other ports may see of it keeps time
-module _ (a : About) (words words' : List ℕ) (ports : ℕ → Port) (b c : Beside) (since : ℕ → ℕ) (time : KeepsTime (plan_of a) words ports (place_now b) since) (before : c.before ≡ b.before) (k : ℕ) (p : Port)
-    (at : (q : ℕ) → q < a.ports → get_or words' (at_word q) 0 ≡ get_or words (at_word q) 0) (here : p.control.here ≡ (ports k).control.here) (entering : p.control.entering ≡ (ports k).control.entering)
+module _ (a : About) (words words' : List ℕ) (ports : ℕ → Port) (b c : Beside) (since : ℕ → ℕ) (time : KeepsTime (plan_of a) words ports (place_now b) since) (before : c.before ≡ b.before) (k : ℕ)
+    (p : Port)
+    (at : (q : ℕ) → q < a.ports → get_or words' (at_word q) 0 ≡ get_or words (at_word q) 0) (here : p.control.here ≡ (ports k).control.here)
+        (entering : p.control.entering ≡ (ports k).control.entering)
     (puts : (j : ℕ) (m : Place) → MayPut p.control j m → MayPut (ports k).control j m) where
   pub time_aside : KeepsTime (plan_of a) words' (put k p ports) (place_now c) since
   time_aside = asides_keep_time (plan_of a) words words' ports (put k p ports) (place_now b) (place_now c) since (record {
@@ -175,13 +179,15 @@ module _ {S : Type 0} (a : About) (slots id : ℕ) (me : Me S (List Seated)) (on
   x = one_of me.0
 
   abbrev Leads : (List ℕ → List ℕ) → (List ℕ → Port → Port) → Type 0
-  Leads f g = (words : List ℕ) (ports : ℕ → Port) (notes : ℕ → List Noted) (b : Beside) (since : ℕ → ℕ) → LawfulMemory (plan_of a) words ports b notes → KeepsTime (plan_of a) words ports (place_now b) since →
+  Leads f g = (words : List ℕ) (ports : ℕ → Port) (notes : ℕ → List Noted) (b : Beside) (since : ℕ → ℕ) → LawfulMemory (plan_of a) words ports b notes →
+      KeepsTime (plan_of a) words ports (place_now b) since →
       x.number < a.ports → x.port ≡ ports x.number → IsSince x.began (ports x.number).control.entering (since x.number) → x.began.epoch ≤ length b.before →
       Quietly a (f words) ports b since x.number x.began (g words (ports x.number))
 
   pub quietly : (i : ℕ) (f : ℕ → ℕ) (g : ℕ → Port → Port) (R : Seated → ℕ → Seated → Type 0) → ((n : ℕ) → IsQuiet (g n)) →
       Leads (λ words. set words i (f (get_or words i 0))) (λ words. g (get_or words i 0)) →
-      ((words : List ℕ) (ports : ℕ → Port) (b : Beside) → LawfulEpochs (plan_of a) words ports b → x.number < a.ports → x.port ≡ ports x.number → R x (get_or words i 0) (becomes x x.began (g (get_or words i 0) x.port))) →
+      ((words : List ℕ) (ports : ℕ → Port) (b : Beside) → LawfulEpochs (plan_of a) words ports b → x.number < a.ports → x.port ≡ ports x.number →
+          R x (get_or words i 0) (becomes x x.began (g (get_or words i 0) x.port))) →
       Allows (IsKept a) slots id me i f (tells R me)
   quietly i f g R quiet leads says = allowed a slots id me i f R one own (λ words ports notes b since w time s small.
       let n : ℕ = get_or words i 0 in
@@ -194,7 +200,8 @@ module _ {S : Type 0} (a : About) (slots id : ℕ) (me : Me S (List Seated)) (on
   -- the first step of entering
   pub may_mark : x.port.control.entering ≡ Stands → x.port.control.past ≡ true → x.port.control.owned ≡ None →
       Allows (IsKept a) slots id me (at_word x.number) (λ n. marked x.port.control.here) (tells StoresMark me)
-  may_mark stands past none = quietly (at_word x.number) (λ n. marked x.port.control.here) (λ n. marks) StoresMark (λ n. record { part = λ p. refl; before = λ p. refl; here = λ p. refl; passed = λ p. omega arith })
+  may_mark stands past none = quietly (at_word x.number) (λ n. marked x.port.control.here) (λ n. marks) StoresMark
+      (λ n. record { part = λ p. refl; before = λ p. refl; here = λ p. refl; passed = λ p. omega arith })
       (λ words ports notes b since w time below is entering come.
       let e : Plan = plan_of a in
       let k : ℕ = x.number in

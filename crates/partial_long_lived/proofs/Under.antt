@@ -207,7 +207,8 @@ module _ (b : CoreState) (x : Seated) (begins : MayBegin b x) (first : Bool) (s 
         let early = m.time (let e = ap (λ (g : Began). g.epoch) n in let h = ap (λ (z : Seated). z.port.control.here.epoch) m.is in omega (arith, young, e, h)) in
         let len = ap (λ (g : Began). g.length) n in
         let before = ap (λ (z : Seated). length (history_of z.port.before)) m.is in
-        let kept : y.port.part.kept ≡ record { answer = a; at = length (m.log ++ m.entries) } ∷ [] = ap (λ (p : Part). p.kept) part_is ∙ ap (λ t. cond t [] x.port.part.kept ++ record { answer = a; at = length (m.log ++ m.entries) } ∷ []) begun_is in
+        let kept : y.port.part.kept ≡ record { answer = a; at = length (m.log ++ m.entries) } ∷ [] = ap (λ (p : Part). p.kept) part_is
+            ∙ ap (λ t. cond t [] x.port.part.kept ++ record { answer = a; at = length (m.log ++ m.entries) } ∷ []) begun_is in
         let at = ap first_at kept in
         omega (arith, early, len, before, at);
   }
@@ -284,14 +285,16 @@ module _ (b : CoreState) (x : Seated) (begins : MayBegin b x) (c : CoreState) (y
       before = ap (λ (t : Seated). t.port.before) m.is ∙ had.before;
       passed = ap (λ (t : Seated). t.port.passed) m.is ∙ had.passed;
       made = next_call;
-      spare = λ yet. ap (λ (t : Seated). t.port.over) m.is ∙ ap (λ t. t || over_by (plan_of y.about) s a) (had.spare (unclaimed_before c a yet)) ∙ spare_step y.about c s a had.made.sound sizes_same due yet;
+      spare = λ yet. ap (λ (t : Seated). t.port.over) m.is ∙ ap (λ t. t || over_by (plan_of y.about) s a) (had.spare (unclaimed_before c a yet))
+          ∙ spare_step y.about c s a had.made.sound sizes_same due yet;
       claimed = λ at is. subst (λ o. (o ≡ false) ⊎ (x.about.limit < at + greatest_record x.about.sizes)) (sym (ap (λ (t : Seated). t.port.over) m.is))
           (subst (λ (d : About). ((y.port.over || over_by (plan_of d) s a) ≡ false) ⊎ (x.about.limit < at + greatest_record x.about.sizes)) (sym about_same)
           (claim_step x.about c s a y.port.over had.made.sound had.made.sizes due had.spare had.claimed at is));
       unmarked = stays_unmarked c a m.told.behind m.unrefused had.unmarked;
       unrefused = m.unrefused;
       notes = ap (λ (t : Seated). t.notes) m.is ∙ ap (λ (l : List Noted). l ++ map (public_noted (plan_of y.about) y.port.before) m.told.new) notes_same
-          ∙ ap (λ (d : About). x.notes ++ map (public_noted (plan_of d) y.port.before) m.told.new) about_same ∙ ap (λ (l : List (List Applied)). x.notes ++ map (public_noted (plan_of x.about) l) m.told.new) had.before
+          ∙ ap (λ (d : About). x.notes ++ map (public_noted (plan_of d) y.port.before) m.told.new) about_same
+              ∙ ap (λ (l : List (List Applied)). x.notes ++ map (public_noted (plan_of x.about) l) m.told.new) had.before
           ∙ ap (λ (l : List Noted). x.notes ++ map (public_noted (plan_of x.about) x.port.before) l) new_same;
       shown =
           let shown = had.shown in

@@ -6,10 +6,11 @@ use Rattle.partial_long_lived.specs.declared.open_error.OpenError.TheVariants.{P
 use Rattle.partial_long_lived.specs.declared.options.Options.{Options}
 use Rattle.partial_long_lived.specs.declared.shape.Shape.{Shape}
 
--- the most list words, and the most pool words behind the initial records
+-- the most list words
 abbrev pub most_lists : ℕ
 most_lists = 65536
 
+-- the most pool words behind the initial records
 abbrev pub most_words : ℕ
 most_words = 131072
 
@@ -33,10 +34,11 @@ pub record IsShapeFor (count n : ℕ) (o : Options) (s : Shape) : Type 0 where
   pub arenas : s.arenas ≡ 2 * n
   pub limit : s.limit ≡ first_free s.sizes + o.pool
 
--- the number of ports is in its range; that of components; that of list words; that of pool words
+-- the number of ports is in its range
 abbrev pub ArePorts : ℕ → Type 0
 ArePorts ports = (1 ≤ ports) × (ports ≤ 64)
 
+-- the number of components is in its range
 abbrev pub AreComponents : ℕ → Type 0
 AreComponents count = (1 ≤ count) × (count ≤ 65536)
 

@@ -70,8 +70,8 @@ IsSeen b x = (later : List (List Applied)) (log : List Applied) → b.log ∷ b.
 -- the call began in an epoch that has come, and not before the one history was so long
 pub record HasBegun (b : Beside) (g : Began) : Type 0 where
   pub come : g.epoch ≤ length b.before
-  pub reached : (later before : List (List Applied)) (log : List Applied) → b.log ∷ b.before ≡ later ++ log ∷ before → length before ≡ g.epoch →
-      g.length ≤ length (history_of (log ∷ before))
+  pub reached : (later before : List (List Applied)) (log : List Applied) → b.log ∷ b.before ≡ later ++ log ∷ before →
+      length before ≡ g.epoch → g.length ≤ length (history_of (log ∷ before))
 
 -- a port that is entering stored its mark no earlier than its call began
 abbrev pub IsSince : Began → Entering → ℕ → Type 0
@@ -102,7 +102,14 @@ pub record IsKept {S : Type 0} (about : About) (s : State S (List Seated)) : Typ
 
 -- the seat of a port that has made no call
 abbrev pub newcomer : About → ℕ → Seated
-newcomer about k = record { about = about; number = k; port = arrived (plan_of about) k first_place []; notes = []; began = record { epoch = 0; length = 0 }; found = None }
+newcomer about k = record {
+  about = about;
+  number = k;
+  port = arrived (plan_of about) k first_place [];
+  notes = [];
+  began = record { epoch = 0; length = 0 };
+  found = None;
+}
 
 -- n such seats from that number on
 abbrev pub newcomers : About → ℕ → ℕ → List Seated
@@ -119,11 +126,12 @@ nobody = newcomer (record {
   limit = 0;
 }) 0
 
--- the first seat of a view, and of the first view
+-- the first seat of a view
 abbrev pub one_of : List Seated → Seated
 one_of [] = nobody
 one_of (x ∷ xs) = x
 
+-- the first seat of the first view
 abbrev pub one_in : List (List Seated) → Seated
 one_in [] = nobody
 one_in (v ∷ vs) = one_of v

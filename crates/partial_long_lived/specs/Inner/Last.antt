@@ -7,10 +7,11 @@ use Rattle.partial_epochs.specs.Layout.{Plan, arena_limit, base, current_word, u
 abbrev pub arena_now : List ℕ → ℕ
 arena_now words = slice_index words current_word % arena_limit
 
--- the word of component j there, and the word that holds the value of its record
+-- the word of component j there
 abbrev pub component_now : Plan → List ℕ → ℕ → ℕ
 component_now e words j = base e (arena_now words) + j
 
+-- the word that holds the value of that component: in its record, which the component word names
 abbrev pub value_now : Plan → List ℕ → ℕ → ℕ
 value_now e words j = base e (arena_now words) + value_word (unsealed (slice_index words (component_now e words j)))
 

@@ -38,18 +38,22 @@ abbrev pub Looks : Bool → Seated → ℕ → Seated → Type 0
 Looks first x a y = (n : Began) × BeganBy first x n × (y ≡ becomes x n (looked_at a x.port))
     × (a ≡ packed x.port.control.here → n.epoch ≤ x.port.control.here.epoch)
 
--- the first two steps of entering
+-- a port that has stored its mark, with which entering begins
 abbrev pub marks : Port → Port
 marks p = record p { control = record p.control { entering = Marks } }
 
+-- the first: the store of the mark
 abbrev pub StoresMark : Seated → ℕ → Seated → Type 0
 StoresMark x a y = y ≡ becomes x x.began (marks x.port)
 
+-- a port that has loaded the place c as the current one
 abbrev pub loads : Place → Port → Port
 loads c p = record p { control = record p.control { entering = Loaded c } }
 
+-- the second: the load of the current word, which names a place
 abbrev pub LoadsCurrent : Seated → ℕ → Seated → Type 0
-LoadsCurrent x a y = (a ≡ packed (unpacked a)) × IsPlace (plan_of x.about) (unpacked a) × (y ≡ becomes x x.began (loads (unpacked a) x.port))
+LoadsCurrent x a y = (a ≡ packed (unpacked a)) × IsPlace (plan_of x.about) (unpacked a)
+    × (y ≡ becomes x x.began (loads (unpacked a) x.port))
 
 -- the place to which the exchange of the mark brings a port that has loaded c, where it finds a
 abbrev pub place_found : Port → Place → ℕ → Place
@@ -61,10 +65,11 @@ Arrives c x a y = (before : List (List Applied)) × (x.port.control.here.epoch <
     × (x.began.epoch ≤ (place_found x.port c a).epoch)
     × (y ≡ record x { port = arrived (plan_of x.about) x.number (place_found x.port c a) before; found = None })
 
--- the load of a component word in a change of epoch: the port passes the component if it is sealed
+-- a port in a change of epoch that has loaded a component word, which is a: it passes the component if that is sealed
 abbrev pub passed_at : ℕ → Port → Port
 passed_at a p = if nat_lt a seal then p else passing p
 
+-- that load
 abbrev pub PassesSealed : Seated → ℕ → Seated → Type 0
 PassesSealed x a y = y ≡ becomes x x.began (passed_at a x.port)
 
@@ -72,10 +77,11 @@ PassesSealed x a y = y ≡ becomes x x.began (passed_at a x.port)
 abbrev pub Seals : Seated → ℕ → Seated → Type 0
 Seals x a y = y ≡ becomes x x.began (passing x.port)
 
--- the exchange of the owner word of arena i
+-- a port that has exchanged the owner word of arena i, and found a
 abbrev pub taken_at : ℕ → ℕ → Port → Port
 taken_at i a p = if a == 0 then owning p (just_taken i) else p
 
+-- that exchange
 abbrev pub Takes : ℕ → Seated → ℕ → Seated → Type 0
 Takes i x a y = y ≡ becomes x x.began (taken_at i a x.port)
 
@@ -87,17 +93,19 @@ Gives x a y = y ≡ becomes x x.began (having_given x.port)
 abbrev pub elsewhere : ℕ → Owned → Owned
 elsewhere a o = if (unpacked a).arena == o.arena then o else cleaner o
 
--- the load of that word
+-- the same where the word may be marked: the owner has loaded it
 abbrev pub port_loaded : ℕ → Owned → Owned
 port_loaded a o = if nat_lt a entering_mark then elsewhere a o else having_loaded o (unpacked (a - entering_mark))
 
+-- that load, by the owner o
 abbrev pub LoadsPort : Owned → Seated → ℕ → Seated → Type 0
 LoadsPort o x a y = y ≡ becomes x x.began (owning x.port (port_loaded a o))
 
--- the exchange of its mark m for the owner's place
+-- an owner that has exchanged the mark m of that port for its own place, and found a
 abbrev pub port_put : Place → ℕ → Owned → Owned
 port_put m a o = if a == marked m then cleaner o else (if nat_lt a entering_mark then elsewhere a o else o)
 
+-- that exchange, by the owner o
 abbrev pub PutsPort : Owned → Place → Seated → ℕ → Seated → Type 0
 PutsPort o m x a y = y ≡ becomes x x.began (owning x.port (port_put m a o))
 

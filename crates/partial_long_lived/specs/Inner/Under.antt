@@ -95,11 +95,22 @@ pub record Leads (s t : Stand) : Type 0 where
   pub began : (port_at t).began ≡ (port_at s).began
   pub call : (b : CoreState) (x : Seated) → MayBegin b x → CallMade b x (machine_at s) (port_at s) → CallMade b x (machine_at t) (port_at t)
   -- behind its claim a call makes no other
-  pub over : before_claim (machine_at s).stage ≡ false → (before_claim (machine_at t).stage ≡ false) × ((port_at t).port.over ≡ (port_at s).port.over)
+  pub over : before_claim (machine_at s).stage ≡ false → (before_claim (machine_at t).stage ≡ false)
+      × ((port_at t).port.over ≡ (port_at s).port.over)
 
 -- by no step a call stays where it is
 pub leads_itself : (s : Stand) → Leads s s
-leads_itself s = record { shape = refl; number = refl; epoch = refl; arena = refl; base = refl; passed = refl; began = refl; call = λ b x begins had. had; over = λ behind. (behind, refl) }
+leads_itself s = record {
+  shape = refl;
+  number = refl;
+  epoch = refl;
+  arena = refl;
+  base = refl;
+  passed = refl;
+  began = refl;
+  call = λ b x begins had. had;
+  over = λ behind. (behind, refl);
+}
 
 -- steps follow on steps
 pub leads_on : (s t u : Stand) → Leads s t → Leads t u → Leads s u
