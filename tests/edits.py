@@ -171,12 +171,25 @@ def command_of(name, crates, proved):
             '--incremental', 'kept']
 
 
-def begin(name):
-    """Takes what checks in another copy on this machine kept of the crate, when none was made here."""
-    crate = TOP / 'crates' / name
-    if not (crate / 'out' / 'incremental').is_dir():
-        subprocess.run(['rt', 'check', '--only', ''], cwd=crate, stdin=subprocess.DEVNULL, stdout=subprocess.DEVNULL,
-                       stderr=subprocess.DEVNULL, check=False)
+def copy_of(top, there):
+    """A copy of the repository's crates with their libraries, where a command may make these anew. In the repository it
+    may not, since other commands read them."""
+    there.mkdir()
+    shutil.copy2(top / 'crates.txt', there)
+    shutil.copytree(top / 'crates', there / 'crates', ignore=lambda folder, names: [
+        it for it in names if Path(folder).name == 'out' and it != 'rlib'])
+    return there
+
+
+def kept_of(name, there):
+    """The folder of what checks kept of the crate: here, or in another copy on this machine, from where it is taken into
+    this one."""
+    kept = TOP / 'crates' / name / 'out' / 'incremental'
+    if kept.is_dir():
+        return kept
+    subprocess.run(['rt', 'check', '--only', ''], cwd=there / 'crates' / name, stdin=subprocess.DEVNULL,
+                   stdout=subprocess.DEVNULL, stderr=subprocess.DEVNULL, check=False)
+    return there / 'crates' / name / 'out' / 'incremental'
 
 
 def asked_of(edit):
@@ -362,15 +375,14 @@ def counted(edits, faults):
     return sum(it.name not in faulty for it in edits), len(faulty) + sum(name is None for name, _ in faults)
 
 
-def try_crate(name, crates, proved):
-    """Tries a crate's edits over the libraries in this folder: the edits, how many functions were refused without an
-    answer that did not fit, and what is wrong."""
+def try_crate(name, crates, proved, there):
+    """Tries a crate's edits over the libraries in this folder, beside this copy of the repository: the edits, how many
+    functions were refused without an answer that did not fit, and what is wrong."""
     crate = TOP / 'crates' / name
     (edits, faults), more = edits_of(crate), 0
     command, left = command_of(name, crates, proved), edits
-    begin(name)
+    kept = kept_of(name, there)
     with tempfile.TemporaryDirectory(prefix='edits-') as room:
-        kept = crate / 'out' / 'incremental'
         shutil.copytree(kept, f'{room}/kept') if kept.is_dir() else os.mkdir(f'{room}/kept')
         while left:
             members, places = first_round(left, crate)
@@ -402,7 +414,8 @@ def main():
         # What is built beside this may make a library anew, and a library fits those alone that it was made with.
         for library in {it for name in chosen for it in below(name, crates)}:
             shutil.copytree(TOP / 'crates' / library / 'out' / 'rlib', Path(proved) / library)
-        tried = {it: pool.submit(try_crate, it, crates, proved) for it in sorted(chosen, key=lambda it: -size[it])}
+        there = copy_of(TOP, Path(proved) / 'there')
+        tried = {it: pool.submit(try_crate, it, crates, proved, there) for it in sorted(chosen, key=lambda it: -size[it])}
         for name in chosen:
             edits, more, faults = tried[name].result()
             print(f'{name}: {len(edits)} edits; {more} functions were refused without an answer that did not fit',
