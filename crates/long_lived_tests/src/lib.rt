@@ -4,6 +4,8 @@
 #[cfg(test)]
 mod calls;
 #[cfg(test)]
+mod conditional;
+#[cfg(test)]
 mod growths;
 #[cfg(test)]
 mod openings;
