@@ -1,5 +1,5 @@
 -- A port between the parts of a call: it stands where it stood, or has come to a later epoch.
-use Rattle.std.proofs.Common.{ℕ, ◌≡◌, ◌<◌, ◌≤◌, ◌&&◌, ◌++◌, not, Bool, true, false, cond, Some, List, [], ◌∷◌, length, refl, sym, ap, subst, ◌∙◌, inl, inr, arith, append-nil, append_assoc}
+use Rattle.std.proofs.Common.{ℕ, ◌≡◌, ◌<◌, ◌≤◌, ◌&&◌, ◌++◌, not, Bool, true, false, cond, Some, List, [], ◌∷◌, length, refl, sym, ap, subst, ◌∙◌, inl, inr, arith, append-nil, append_assoc, length-append}
 use Rattle.std.specs.Prelude.{nat_lt}
 use Rattle.atomic_table.specs.Seated.{TableId}
 use Rattle.partial_model.specs.declared.history.Applied.{Applied}
@@ -34,6 +34,13 @@ goes_on x y z a c = record {
   seen = begins_on (seen_in x.port) (seen_in y.port) (seen_in z.port) a.seen c.seen;
   known = c.known;
 }
+
+-- a port has seen no less than before
+pub seen_more : (x y : Seated) → Goes x y → length (seen_in x.port) ≤ length (seen_in y.port)
+seen_more x y goes =
+    let all = ap (λ (l : List Applied). length l) goes.seen.1 in
+    let both = length-append (seen_in x.port) goes.seen.0 in
+    omega (arith, all, both)
 
 -- by no step a port stays where it is
 pub come_itself : (table : TableId) (about : About) (s : Stand) → IsHeld table about s → IsIdle s → HasCome s s

@@ -32,7 +32,7 @@ use Rattle.partial_long_lived.specs.Inner.Loads.Wish.{Glances}
 use Rattle.partial_long_lived.specs.Inner.Scans.{HasScanned, ScanMade, SettledFirst, noted_scan}
 use Rattle.partial_long_lived.specs.Inner.Rests.{NotScanned}
 use Rattle.partial_long_lived.specs.Inner.DoubleCollect.{AreCollected, AreInside, HadValue, HadValues, HasBegunCollect, HasGlanced, HasStayed, MayNote, NotesScan, WasThere}
-use Rattle.partial_long_lived.proofs.Coming.{come_itself, come_on, come_same, come_seen, goes_on}
+use Rattle.partial_long_lived.proofs.Coming.{come_itself, come_on, come_same, come_seen, goes_on, seen_more}
 use Rattle.partial_long_lived.proofs.Looking.{looked_away}
 use Rattle.partial_long_lived.proofs.Seen.{begin_history}
 use Rattle.partial_long_lived.proofs.Collects.{glanced_come, glanced_idle, glanced_notes, glanced_seen, glanced_stayed, glanced_there, stayed_on, there_now}
@@ -278,12 +278,6 @@ module _ (table : TableId) (about : About) (s u v : Stand) (h : IsHeld table abo
 
 -- a scan that is announced behind a double collect which was not one
 module _ (s u t : Stand) (stayed : HasStayed s u) (notes : (port_at u).notes ≡ (port_at s).notes) where
-  seen_more : length (seen_in (port_at s).port) ≤ length (seen_in (port_at u).port)
-  seen_more =
-      let long = ap (λ (l : List Applied). length l) stayed.come.goes.seen.1 in
-      let both = length-append (seen_in (port_at s).port) stayed.come.goes.seen.0 in
-      omega (arith, long, both)
-
   stayed_scanned : (which values : List ℕ) (collects : ℕ) (borrowed : Option ℕ) → HasScanned u t which values collects borrowed → HasScanned s t which values collects borrowed
   stayed_scanned which values collects borrowed w = record {
     shape = w.shape ∙ stayed.come.shape;
@@ -293,7 +287,7 @@ module _ (s u t : Stand) (stayed : HasStayed s u) (notes : (port_at u).notes ≡
     idle = w.idle;
     place = w.place;
     notes = w.notes ∙ ap (λ (l : List Noted). l ++ noted_scan t.epoch which values collects borrowed w.place ∷ []) notes;
-    first = let few = w.first in let more = seen_more in omega (arith, few, more);
+    first = let few = w.first in let more = seen_more (port_at s) (port_at u) stayed.come.goes in omega (arith, few, more);
     behind = w.behind;
     within = w.within;
   }

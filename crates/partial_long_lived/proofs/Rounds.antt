@@ -1,9 +1,7 @@
 -- The rounds of an update: an attempt, and a change of epoch, and so on.
 use Rattle.std.proofs.Common.{ℕ, Option, None, Result, Ok, Err, IfOk, IfErr, ◌≡◌, ◌≤◌, ◌++◌, Bool, true, false, List, [], ◌∷◌, length, refl, sym, ap, subst, ◌∙◌, arith, append-nil}
 use Rattle.atomic_table.specs.Seated.{TableId}
-use Rattle.partial_model.specs.declared.history.Applied.{Applied}
 use Rattle.partial_model.specs.Notes.{Noted}
-use Rattle.std.proofs.lemmas.List.{length-append}
 use Rattle.partial_machine.specs.declared.stage.Change.{Change}
 use Rattle.partial_machine.specs.Machine.{CoreState}
 use Rattle.partial_lines.specs.declared.exchange.Exchanged.{Exchanged}
@@ -57,16 +55,9 @@ rounds_begin table about first s core h idle may = record {
   began = begins_so first s;
 }
 
--- a port has seen no less than before
-seen_grows : (x y : Seated) → Goes x y → length (seen_in x.port) ≤ length (seen_in y.port)
-seen_grows x y goes =
-    let all = ap (λ (l : List Applied). length l) goes.seen.1 in
-    let both = length-append (seen_in x.port) goes.seen.0 in
-    omega (arith, all, both)
-
 -- the call began when the next step says
 pub began_on : (first next : Bool) (s t : Stand) (n : Began) → BeganSo first next s t → Goes (port_at s) (port_at t) → BeganBy next (port_at t) n → BeganBy first (port_at s) n
-began_on first true s t n is goes began = subst (λ f. BeganBy f (port_at s) n) (sym is) (let more = seen_grows (port_at s) (port_at t) goes in omega (arith, began, more))
+began_on first true s t n is goes began = subst (λ f. BeganBy f (port_at s) n) (sym is) (let more = seen_more (port_at s) (port_at t) goes in omega (arith, began, more))
 began_on first false s t n is goes began = subst (BeganBy first (port_at s)) (sym began) is
 
 -- the machine of a port that may make a call is the port's

@@ -1,5 +1,5 @@
 -- Components that still have the stamps that they had.
-use Rattle.std.proofs.Common.{ℕ, ◌≡◌, ◌+◌, ◌<◌, ◌≤◌, List, [], ◌∷◌, length, take, sym, ap, subst, ◌∙◌, inl, inr, arith, append-nil, length-append}
+use Rattle.std.proofs.Common.{ℕ, ◌≡◌, ◌+◌, ◌<◌, ◌≤◌, List, [], ◌∷◌, length, take, sym, ap, subst, ◌∙◌, inl, inr, arith, append-nil}
 use Rattle.std.specs.Prelude.{slice_index}
 use Rattle.std.proofs.lemmas.Bool.Decides.{eqb_tells}
 use Rattle.std.proofs.lemmas.List.{take-append-le}
@@ -20,14 +20,9 @@ use Rattle.partial_long_lived.specs.Inner.Scans.{SettledFirst}
 use Rattle.partial_long_lived.specs.Inner.DoubleCollect.{HasGlanced}
 use Rattle.partial_long_lived.specs.Inner.Unchanged.{HadAnother, HadStamp, HadStamps, HasStamp, stamp_at}
 use Rattle.partial_long_lived.proofs.Answering.{callers_see, goes_seen}
+use Rattle.partial_long_lived.proofs.Coming.{seen_more}
 
--- what the port has seen is no less behind further loads
-seen_more : (x y : Seated) → Goes x y → length (seen_in x.port) ≤ length (seen_in y.port)
-seen_more x y g =
-    let long = ap (λ (l : List Applied). length l) g.seen.1 in
-    let both = length-append (seen_in x.port) g.seen.0 in
-    omega (arith, long, both)
-
+-- what the port had seen begins what it has seen then
 taken_more : (x y : Seated) → Goes x y → (n : ℕ) → n ≤ length (seen_in x.port) → take n (seen_in y.port) ≡ take n (seen_in x.port)
 taken_more x y g n few = ap (λ (l : List Applied). take n l) g.seen.1 ∙ take-append-le n (seen_in x.port) g.seen.0 few
 
@@ -50,10 +45,12 @@ pub had_now : (x : Seated) (j v : ℕ) → j < x.about.sizes.m → HasStamp x j 
 had_now x j v inside w = record { inside = inside; moment = length (seen_in x.port); from = w.time; to = omega arith; is = w.is }
 
 -- one component more
-pub had_more : (s t : Stand) → HasGlanced s t → (js ss : List ℕ) (n v : ℕ) → slice_index js n < (port_at t).about.sizes.m → HasStamp (port_at t) (slice_index js n) v → v ≡ slice_index ss n → HadStamps (port_at s) js ss n →
+pub had_more : (s t : Stand) → HasGlanced s t → (js ss : List ℕ) (n v : ℕ) → slice_index js n < (port_at t).about.sizes.m →
+    HasStamp (port_at t) (slice_index js n) v → v ≡ slice_index ss n → HadStamps (port_at s) js ss n →
     HadStamps (port_at t) js ss (n + 1)
 had_more s t g js ss n v inside now same all k less = elim (eqb_tells k n) [
-  | inl here ↦ subst (λ i. HadStamp (port_at t) (slice_index js i) (slice_index ss i)) (sym here.1) (subst (HadStamp (port_at t) (slice_index js n)) same (had_now (port_at t) (slice_index js n) v inside now))
+  | inl here ↦ subst (λ i. HadStamp (port_at t) (slice_index js i) (slice_index ss i)) (sym here.1)
+      (subst (HadStamp (port_at t) (slice_index js n)) same (had_now (port_at t) (slice_index js n) v inside now))
   | inr other ↦ let ne = other.1 in had_on s t g (slice_index js k) (slice_index ss k) (all k (omega (arith, less, ne)))
 ]
 
@@ -69,15 +66,18 @@ module _ (table : TableId) (s t : Stand) (settled : SettledFirst s t) where
   goes = settled.come.goes
 
   -- A component that had this stamp in what the port had seen before the call, and has it at a moment of the call, has it between.
-  stood : (n j v : ℕ) → length (seen_in x.port) ≤ n → (h : HadStamp y j v) → n ≤ h.moment → (i : ℕ) → i ≤ length (seen_in x.port) → HasThen (port_view table x) i j v → HasThen (port_view table y) n j v
+  stood : (n j v : ℕ) → length (seen_in x.port) ≤ n → (h : HadStamp y j v) → n ≤ h.moment → (i : ℕ) → i ≤ length (seen_in x.port) →
+      HasThen (port_view table x) i j v → HasThen (port_view table y) n j v
   stood n j v behind h early i few was =
       let values = goes.known.plan.values in
       let inside = h.inside in
-      let before : stamp_at y i j ≡ v = ap (λ (l : List Applied). stamp_of y.about.opening l j) (taken_more x y goes i few) ∙ ap (λ (a : About). stamp_of a.opening (take i (seen_in x.port)) j) goes.about ∙ was in
+      let before : stamp_at y i j ≡ v =
+      ap (λ (l : List Applied). stamp_of y.about.opening l j) (taken_more x y goes i few) ∙ ap (λ (a : About). stamp_of a.opening (take i (seen_in x.port)) j) goes.about ∙ was in
       let then = stamps_never_return y.about.opening (seen_in y.port) j i h.moment n goes.known.knows.history (omega (arith, values, inside)) (omega (arith, few, behind)) early (before ∙ h.is) in
       then.0 ∙ before
 
-  still_at : (js ss : List ℕ) → HadStamps y js ss (length js) → (n : ℕ) → length (seen_in x.port) ≤ n → n ≤ length (seen_in y.port) → ((k v : ℕ) → k < length js → (h : HadStamp y (slice_index js k) v) → n ≤ h.moment) →
+  still_at : (js ss : List ℕ) → HadStamps y js ss (length js) → (n : ℕ) → length (seen_in x.port) ≤ n → n ≤ length (seen_in y.port) →
+      ((k v : ℕ) → k < length js → (h : HadStamp y (slice_index js k) v) → n ≤ h.moment) →
       StillStand (port_view table x) (port_view table y) js ss
   still_at js ss had n behind within early = record {
     goes = goes_seen table x y [] goes (settled.notes ∙ sym (append-nil x.notes));

@@ -122,10 +122,10 @@ impl LongLived {
     /// Scans these components, in this order and with repeats: `into` has their values as they stood together at one
     /// moment of the call. A scan of no position makes no step.
     ///
-    /// It first tries a double collect, which makes 2 collects at most and stores nothing. When these differ, or the port
-    /// stands in an epoch that has ended, the scan is announced; a port that is spent in its epoch changes the epoch
-    /// before it announces. An announced scan makes at most as many collects as there are positions, and two more.
-    /// `collects` counts the collects of the way that gave the values.
+    /// It first tries a double collect, which stores nothing: two collects at most. When they differ, or the port stands
+    /// in an epoch that has ended, the scan is announced; a port that is spent in its epoch changes the epoch before. An
+    /// announced scan makes at most as many collects as there are positions, and two more. `collects` counts those of
+    /// the way that gave the values, so that all in all there are at most two more.
     ///
     /// # Errors
     /// [`Refused::Component`] exactly when an index isn't below the number of components: no step was made.
@@ -165,10 +165,10 @@ impl LongLived {
         }
     }
 
-    /// Says whether each of these components still has this stamp, as [`read`](LongLived::read) gives it. It makes a look,
-    /// perhaps enters the current epoch, and makes one or two loads for each component. With `true` those whose stamps the port has observed stood together at one moment of the call, and so
-    /// did the values that it read with them. `false` says that a component isn't there, or had another stamp at a moment
-    /// of the call. The call notes nothing.
+    /// Says whether each of these components still has this stamp, as [`read`](LongLived::read) gives it. With `true`
+    /// those whose stamps the port has observed stood together at one moment of the call, and so did the values that it
+    /// read with them. `false` says that a component isn't there, or had another stamp at a moment of the call. The call
+    /// notes nothing. It looks, perhaps enters the current epoch, and makes one or two loads for each component.
     pub fn unchanged(&self, me: &mut Port, which: &[u32], stamps: &[u64]) -> bool
         requires own { IsOf self.now me.old }
         requires lengths { length stamps.now ≡ length which.now }
