@@ -169,3 +169,32 @@ fn stamps_over_epochs(rt: HostRuntime) -> Result<(), Fail> {
     keeps_stamps(&rt, &memory, &mut first, &mut last);
     Ok(())
 }
+
+// Ports meet in one epoch, and then out of two.
+fn meets(rt: &impl Abort, memory: &LongLived, first: &mut Port, last: &mut Port)
+    requires first { IsOf memory.now first.old }
+    requires last { IsOf memory.now last.old }
+    requires both { 2 ≤ memory.now.about.sizes.m }
+{
+    sets_first(rt, memory, first, 11);
+    memory.meet(first, last);
+    shows(rt, memory, last, [11, 20]);
+    sets_first(rt, memory, first, 12);
+    sets_first(rt, memory, first, 13);
+    memory.meet(last, first);
+    shows(rt, memory, last, [13, 20]);
+    sets_first(rt, memory, last, 14);
+    memory.meet(last, first);
+    shows(rt, memory, first, [14, 20]);
+}
+
+// The pool has one word, so that the first port changes the epoch twice between the meetings.
+#[test]
+fn meetings(rt: HostRuntime) -> Result<(), Fail> {
+    let options = Options { lists: 2, pool: 1 };
+    let (memory, mut ports) = LongLived::open(rt.alloc(), &[10, 20], 2, options)?;
+    let mut last = ports.pop().ok_or("a last port")?;
+    let mut first = ports.pop().ok_or("a first port")?;
+    meets(&rt, &memory, &mut first, &mut last);
+    Ok(())
+}

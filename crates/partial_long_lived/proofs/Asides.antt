@@ -45,7 +45,7 @@ seen_quiet g p q = ap (λ (x : Part). history_of (x.seen ∷ (g p).before)) (q.p
 pub aside : (a : About) (words words' : List ℕ) (ports : ℕ → Port) (notes : ℕ → List Noted) (b c : Beside) (since since' : ℕ → ℕ) (x : Seated) → LawfulMemory (plan_of a) words ports b notes →
     IsSeat a ports notes b since x → IsKnown x → (g : Port → Port) → IsQuiet g → (n : Began) → IsSince n (g x.port).control.entering (since' x.number) → HasBegun c n →
     KeepsTime (plan_of a) words' (put x.number (g (ports x.number)) ports) (place_now c) since' → ((q : ℕ) → q ≢ x.number → since' q ≡ since q) → c.log ≡ b.log → c.before ≡ b.before →
-        LawfulEpochs (plan_of a) words' (put x.number (g (ports x.number)) ports) c → (P : Seated → Type 0) →
+    LawfulEpochs (plan_of a) words' (put x.number (g (ports x.number)) ports) c → (P : Seated → Type 0) →
     P (becomes x n (g x.port)) → Moved a words' ports notes b since x P
 aside a words words' ports notes b c since since' x w s known g q n marked began time since_others log before then P says =
     let k : ℕ = x.number in

@@ -210,7 +210,6 @@ module _ (table : TableId) (about : About) (s : Stand) (h : IsHeld table about s
       noted_same e k = ap (λ (a : About). noted_where (record x { about = a }) e d r k) (sym over.goes.about)
           ∙ ap (λ (l : List (List Applied)). noted_where (record x { about = y.about; port = record x.port { before = l } }) e d r k) (sym over.before)
           ∙ at_before e r
-
         where
           at_before : (e : Option ℕ) (r : Exchanged) → noted_where (record x { about = y.about; port = record x.port { before = y.port.before } }) e d r k ≡ noted_where y e d r k
           at_before None r = refl

@@ -157,8 +157,14 @@ unmarked_puts c R o is none j m may =
 
 -- the arena as it was, or its next port
 elsewhere_puts : (p : Port) (o : Owned) (c : Bool) → p.control.owned ≡ Some o → (j : ℕ) (m : Place) → MayPut (owning p (cond c o (cleaner o))).control j m → MayPut p.control j m
-elsewhere_puts p o true is j m may = record { owned = o; is = is; port = ap (λ (t : Owned). t.clean) (some_same may.is) ∙ may.port; mark = ap (λ (t : Owned). t.mark) (some_same may.is)
-    ∙ may.mark; again = ap (λ (t : Owned). t.again) (some_same may.is) ∙ may.again }
+elsewhere_puts p o true is j m may = record {
+  owned = o;
+  is = is;
+  port = ap (λ (t : Owned). t.clean) (some_same may.is) ∙ may.port;
+  mark = ap (λ (t : Owned). t.mark) (some_same may.is)
+      ∙ may.mark;
+  again = ap (λ (t : Owned). t.again) (some_same may.is) ∙ may.again;
+}
 elsewhere_puts p o false is j m may = unmarked_puts (owning p (cleaner o)).control (MayPut p.control j m) (cleaner o) refl refl j m may
 
 module _ {S : Type 0} (a : About) (slots id : ℕ) (me : Me S (List Seated)) (one : IsOne me) (own : (one_of me.0).about ≡ a) (known : IsKnown (one_of me.0)) where
@@ -207,7 +213,7 @@ module _ {S : Type 0} (a : About) (slots id : ℕ) (me : Me S (List Seated)) (on
       still a words (set words i ((get_or words i 0 + seal) % 2 ^ 64)) ports b to.beside since time to.same.log to.same.before k x.began old
       (λ q low. store_at e words i ((get_or words i 0 + seal) % 2 ^ 64) q low (omega arith)) (passing (ports k)) refl refl (λ j m may. may)
       (subst (λ (p : Port). LawfulEpochs e (set words (base e p.control.here.arena + p.passed) ((get_or words (base e p.control.here.arena + p.passed) 0 + seal) % 2 ^ 64))
-          (put k (passing (ports k)) ports) to.beside) (sym is) to.lawful))
+      (put k (passing (ports k)) ports) to.beside) (sym is) to.lawful))
       (λ words ports b w below is. refl)
 
   -- the exchange of the owner word of arena i
@@ -225,13 +231,13 @@ module _ {S : Type 0} (a : About) (slots id : ℕ) (me : Me S (List Seated)) (on
             (λ same. apart (ap (λ (p : Port). p.control.here.arena) is ∙ same)) free.1 in
             subst (λ (t : Bool). Quietly a (set words (own_word e i) v) ports b since k x.began (P t)) (sym free.0)
             (still a words (set words (own_word e i) v) ports b b since time refl refl k x.began old (λ q low. store_at e words (own_word e i) v q low (omega arith))
-                (owning (ports k) (just_taken i)) refl refl
+            (owning (ports k) (just_taken i)) refl refl
             (λ j m may. unmarked_puts (owning (ports k) (just_taken i)).control (MayPut (ports k).control j m) (just_taken i) refl refl j m may)
             (subst (λ v. LawfulEpochs e (set words (own_word e i) v) (put k (owning (ports k) (just_taken i)) ports) b) (either_cond (n == 0) (k + 1) n) to))
         | inr held ↦
             subst (λ (t : Bool). Quietly a (set words (own_word e i) v) ports b since k x.began (P t)) (sym held.0)
             (still a words (set words (own_word e i) v) ports b b since time refl refl k x.began old (λ q low. store_at e words (own_word e i) v q low (omega arith)) (ports k) refl refl
-                (λ j m may. may)
+            (λ j m may. may)
             (subst (λ (t : Bool). LawfulEpochs e (set words (own_word e i) (either t (k + 1) n)) (put k (ports k) ports) b) (sym held.0)
             (subst (λ (l : List ℕ). LawfulEpochs e l (put k (ports k) ports) b) (load_same words (own_word e i)) (lawful_itself e words ports b k w.epochs))))
       ]))
@@ -244,7 +250,7 @@ module _ {S : Type 0} (a : About) (slots id : ℕ) (me : Me S (List Seated)) (on
       (λ words ports notes b since w time below is old come.
       let k : ℕ = x.number in
       still a words (set words (own_word e o.arena) 0) ports b b since time refl refl k x.began old (λ q low. store_at e words (own_word e o.arena) 0 q low (omega arith))
-          (having_given (ports k)) refl refl
+      (having_given (ports k)) refl refl
       (λ j m may. none_puts (having_given (ports k)).control (MayPut (ports k).control j m) refl j m may)
       (gives_stay_lawful e words ports b k o w.epochs below (ap (λ (p : Port). p.control.owned) (sym is) ∙ owned)))
       (λ words ports b w below is. refl)

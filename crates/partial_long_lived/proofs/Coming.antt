@@ -128,8 +128,11 @@ module _ (table : TableId) (about : About) (s u v t : Stand) (h : IsHeld table a
   place_is_seen : place_seen (port_at u) w.log ≡ length (seen_in (port_at v).port)
   place_is_seen = ap (λ (x : Seated). length (seen_in x.port)) (sym w.is)
 
-  noted_then : (port_at v).notes ≡ (port_at u).notes ++ record { call = call.Read j; answer = answer.Read (value_seen (port_at u) w.log j) (stamp_seen (port_at u) w.log j);
-      note = Some (note.Saw (place_seen (port_at u) w.log)) } ∷ []
+  noted_then : (port_at v).notes ≡ (port_at u).notes ++ record {
+    call = call.Read j;
+    answer = answer.Read (value_seen (port_at u) w.log j) (stamp_seen (port_at u) w.log j);
+    note = Some (note.Saw (place_seen (port_at u) w.log));
+  } ∷ []
   noted_then = ap (λ (x : Seated). x.notes) w.is ∙ ap (λ (c : Bool). (port_at u).notes ++ cond c [] (noted_by Reads (port_at u) w.log j)) noted
 
   pub has_read : HasRead s t j value stamp
@@ -141,13 +144,16 @@ module _ (table : TableId) (about : About) (s u v t : Stand) (h : IsHeld table a
       record {
         come = come_same s v t (come_seen s u v first Reads j a come kept w) kept' same;
         notes = ap (λ (x : Seated). x.notes) same ∙ noted_then
-            ∙ ap (λ (l : List Noted). l ++ record { call = call.Read j; answer = answer.Read (value_seen (port_at u) w.log j) (stamp_seen (port_at u) w.log j);
-                note = Some (note.Saw (place_seen (port_at u) w.log)) } ∷ []) notes
+            ∙ ap (λ (l : List Noted). l ++ record {
+              call = call.Read j;
+              answer = answer.Read (value_seen (port_at u) w.log j) (stamp_seen (port_at u) w.log j);
+              note = Some (note.Saw (place_seen (port_at u) w.log));
+            } ∷ []) notes
             ∙ ap (λ n. (port_at s).notes ++ record { call = call.Read j; answer = answer.Read n (stamp_seen (port_at u) w.log j); note = Some (note.Saw (place_seen (port_at u) w.log)) } ∷ [])
-                (sym answer_value)
+            (sym answer_value)
             ∙ ap (λ n. (port_at s).notes ++ record { call = call.Read j; answer = answer.Read value n; note = Some (note.Saw (place_seen (port_at u) w.log)) } ∷ []) (sym answer_stamp)
             ∙ ap (λ n. (port_at s).notes ++ record { call = call.Read j; answer = answer.Read value stamp; note = Some (note.Saw n) } ∷ [])
-                (place ∙ ap (λ (x : Seated). length (seen_in x.port)) (sym same));
+            (place ∙ ap (λ (x : Seated). length (seen_in x.port)) (sym same));
         first = let same_began = ap (λ (x : Seated). x.began.length) same in omega (arith, began, same_began);
         behind =
             let same_began = ap (λ (x : Seated). x.began.length) same in
@@ -176,7 +182,7 @@ module _ (table : TableId) (about : About) (s u v : Stand) (h : IsHeld table abo
       let kept1' = subst (λ (z : Stand). Kept z t) is kept1 in
       let same1' = same1 ∙ ap port_at is in
       has_read table about s u v t' h come kept first j a w fresh_now noted notes began (kept_on v t t' kept1' kept2) (same2 ∙ same1') value stamp
-          (subst (λ (z : Stand). HasValue z j value) is is_value)
+      (subst (λ (z : Stand). HasValue z j value) is is_value)
       (is_stamp ∙ ap (λ (x : Seated). public_of (plan_of about) x.port.before j (unsealed found)) same1' ∙ ap (λ n. public_of (plan_of about) (port_at v).port.before j (unsealed n)) same)
 
 -- the first load of a read, which found its component sealed

@@ -95,7 +95,7 @@ looked_lawful a words ports notes b k w below may = by (ports k).control.owned r
         LawfulEpochs (plan_of a) words (put k (looked_at (get_or words current_word 0) (ports k)) ports) b
     by None none tt (inl is) =
         let same : looked_at at (ports k) ≡ ports k = ap (λ c. cond c (having_found (ports k)) (having_passed (ports k))) is.0
-            ∙ ap (λ (o : Option Owned). option_map_or (having_looked (ports k)) o (ports k)) none in
+        ∙ ap (λ (o : Option Owned). option_map_or (having_looked (ports k)) o (ports k)) none in
         subst (λ (p : Port). LawfulEpochs (plan_of a) words (put k p ports) b) (sym same) (lawful_itself (plan_of a) words ports b k w.epochs)
     by None none tt (inr ne) =
         let same : looked_at at (ports k) ≡ having_passed (ports k) = ap (λ c. cond c (having_found (ports k)) (having_passed (ports k))) ne.0 in
@@ -106,7 +106,7 @@ looked_lawful a words ports notes b k w below may = by (ports k).control.owned r
         ])
     by (Some o) is marks (inl here) =
         let same : looked_at at (ports k) ≡ having_looked (ports k) o = ap (λ c. cond c (having_found (ports k)) (having_passed (ports k))) here.0
-            ∙ ap (λ (o : Option Owned). option_map_or (having_looked (ports k)) o (ports k)) is in
+        ∙ ap (λ (o : Option Owned). option_map_or (having_looked (ports k)) o (ports k)) is in
         subst (λ (p : Port). LawfulEpochs (plan_of a) words (put k p ports) b) (sym same) (owners_look (plan_of a) words ports b k o w.epochs below is marks here.1).1
     by (Some o) is marks (inr ne) =
         let same : looked_at at (ports k) ≡ having_passed (ports k) = ap (λ c. cond c (having_found (ports k)) (having_passed (ports k))) ne.0 in
@@ -128,7 +128,7 @@ stands_since g t n is = subst (λ (t : Entering). IsSince g t n) (sym is) tt
 module _ (a : About) (words words' : List ℕ) (ports : ℕ → Port) (b c : Beside) (since : ℕ → ℕ) (time : KeepsTime (plan_of a) words ports (place_now b) since) (before : c.before ≡ b.before) (k : ℕ)
     (p : Port)
     (at : (q : ℕ) → q < a.ports → get_or words' (at_word q) 0 ≡ get_or words (at_word q) 0) (here : p.control.here ≡ (ports k).control.here)
-        (entering : p.control.entering ≡ (ports k).control.entering)
+    (entering : p.control.entering ≡ (ports k).control.entering)
     (puts : (j : ℕ) (m : Place) → MayPut p.control j m → MayPut (ports k).control j m) where
   pub time_aside : KeepsTime (plan_of a) words' (put k p ports) (place_now c) since
   time_aside = asides_keep_time (plan_of a) words words' ports (put k p ports) (place_now b) (place_now c) since (record {
@@ -187,7 +187,7 @@ module _ {S : Type 0} (a : About) (slots id : ℕ) (me : Me S (List Seated)) (on
   pub quietly : (i : ℕ) (f : ℕ → ℕ) (g : ℕ → Port → Port) (R : Seated → ℕ → Seated → Type 0) → ((n : ℕ) → IsQuiet (g n)) →
       Leads (λ words. set words i (f (get_or words i 0))) (λ words. g (get_or words i 0)) →
       ((words : List ℕ) (ports : ℕ → Port) (b : Beside) → LawfulEpochs (plan_of a) words ports b → x.number < a.ports → x.port ≡ ports x.number →
-          R x (get_or words i 0) (becomes x x.began (g (get_or words i 0) x.port))) →
+      R x (get_or words i 0) (becomes x x.began (g (get_or words i 0) x.port))) →
       Allows (IsKept a) slots id me i f (tells R me)
   quietly i f g R quiet leads says = allowed a slots id me i f R one own (λ words ports notes b since w time s small.
       let n : ℕ = get_or words i 0 in

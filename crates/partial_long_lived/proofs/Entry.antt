@@ -48,7 +48,7 @@ module _ (table : TableId) (about : About) (s : Stand) (h : IsHeld table about s
       arrive_asked slots id mark is =
           subst (λ i. Allows (IsKept about) slots id me' i (λ n. either (n == 9223372036854775808 + mark) current n) (tells (Arrives (unpacked current)) me')) (ap at_word number_is ∙ sym word_is)
           (subst (λ v. Allows (IsKept about) slots id me' (at_word (one_of me'.0).number) (λ n. either (n == v) current n) (tells (Arrives (unpacked current)) me'))
-              (ap marked here_is ∙ sym (mark_is mark is))
+          (ap marked here_is ∙ sym (mark_is mark is))
           (subst (λ v. Allows (IsKept about) slots id me' (at_word (one_of me'.0).number) (λ n. either (n == marked (one_of me'.0).port.control.here) v n) (tells (Arrives (unpacked current)) me'))
-              (sym told'.2.0)
+          (sym told'.2.0)
           (may_arrive about slots id me' told'.0 (told'.1.about ∙ told.1.about ∙ h.own) told'.1.known (unpacked current) (ap (λ (x : Seated). x.port.control.entering) told'.2.2))))

@@ -223,14 +223,14 @@ module _ {S : Type 0} (a : About) (me : Me S (List Seated)) (one : IsOne me) (wo
 -- a step is allowed where it leads on from each lawful memory
 pub allowed : {S : Type 0} (a : About) (slots id : ℕ) (me : Me S (List Seated)) (i : ℕ) (f : ℕ → ℕ) (R : Seated → ℕ → Seated → Type 0) → IsOne me → (one_of me.0).about ≡ a →
     ((words : List ℕ) (ports : ℕ → Port) (notes : ℕ → List Noted) (b : Beside) (since : ℕ → ℕ) → LawfulMemory (plan_of a) words ports b notes → KeepsTime (plan_of a) words ports (place_now b) since →
-        IsSeat a ports notes b since (one_of me.0) →
+    IsSeat a ports notes b since (one_of me.0) →
     get_or words i 0 < 18446744073709551616 → Moved a (set words i (f (get_or words i 0))) ports notes b since (one_of me.0) (R (one_of me.0) (get_or words i 0))) →
     Allows (IsKept a) slots id me i f (tells R me)
 allowed {S} a slots id me i f R one own leads table kept homes at small =
     let x : Seated = one_of me.0 in
     let r = around table.views id (x ∷ []) (subst (λ v. get_elem? table.views id ≡ some v) one.0 at) in
     let seats : AllByRecursion (IsSeat a kept.ports kept.notes kept.beside kept.since) (r.before ++ x ∷ r.behind) =
-        subst (AllByRecursion (IsSeat a kept.ports kept.notes kept.beside kept.since)) r.now kept.seats in
+    subst (AllByRecursion (IsSeat a kept.ports kept.notes kept.beside kept.since)) r.now kept.seats in
     let once : (k : ℕ) → seats_of k (r.before ++ x ∷ r.behind) ≤ 1 = λ k. subst (λ l. seats_of k l ≤ 1) r.now (kept.once k) in
     let here : IsSeat a kept.ports kept.notes kept.beside kept.since x = all_at (IsSeat a kept.ports kept.notes kept.beside kept.since) r.before x r.behind seats in
     let m = leads table.words kept.ports kept.notes kept.beside kept.since kept.lawful kept.time here small in

@@ -25,6 +25,8 @@ pub mod Loads
 pub mod Looking
 pub mod Machine
 pub mod Making
+pub mod Meeting
+pub mod Meetings
 pub mod Meets
 pub mod NewPorts
 pub mod Opens

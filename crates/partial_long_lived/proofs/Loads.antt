@@ -269,6 +269,12 @@ module _ (a : About) (words : List ℕ) (ports : ℕ → Port) (notes : ℕ → 
           says = says;
         }
 
+    -- a load of word i by which the port sees all of its epoch, in a call that began then
+    pub moved_glance : (i : ℕ) (n : Began) → HasBegun b n → (P : Seated → Type 0) → P (record { about = a; number = k; port = p'; notes = notes k ++ []; began = n; found = f }) →
+        Moved a (set words i (get_or words i 0)) ports notes b since X P
+    moved_glance i n has P says = moved_to i n has [] sees_nothing (subst (λ (l : List Noted). LegalNotes a.opening (seen_in p') k 0 l) (sym (append-nil (notes k))) legal_then) f
+        (λ c same before. final_grows a p' b c (not_grown p' b c same before) f (final_seen f s.found)) P says
+
     -- a load of word i by which the port notes a scan by a double collect
     module _ (js : List ℕ) (m : ℕ) (may : MayNote js m X) where
       abbrev scan : Noted

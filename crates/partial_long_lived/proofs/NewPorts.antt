@@ -63,8 +63,12 @@ newcomer_rests a words w i low s core views shape number epoch arena base_is pas
       sound = between.sound;
       sizes = ap (λ (c : CoreState). c.sizes) machine ∙ ap (λ (b : About). b.sizes) (sym own);
       port = ap (λ (c : CoreState). c.port) machine ∙ sym number;
-      between = λ fresh. (subst (λ (x : Seated). IsBetween x.port.part core) (sym is) between, ap (λ (x : Seated). x.port.over) is, ap (λ (c : CoreState). c.pool_spent) machine,
-          ap (λ (c : CoreState). c.slots_spent) machine);
+      between = λ fresh. (
+        subst (λ (x : Seated). IsBetween x.port.part core) (sym is) between,
+        ap (λ (x : Seated). x.port.over) is,
+        ap (λ (c : CoreState). c.pool_spent) machine,
+        ap (λ (c : CoreState). c.slots_spent) machine,
+      );
     }
 
 module _ (a : About) (i n : ℕ) (inside : i < n) (v : List Seated) (left : v ≡ newcomers a i (n - i)) where

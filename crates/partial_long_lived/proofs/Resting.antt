@@ -52,7 +52,7 @@ kept_is t s k = ap one_in k.views
 pub rests_kept : (table : TableId) (about : About) (t : Stand) (s : Seating) (core : CoreState) (spent : Bool) → IsHeld table about t → IsSeatingOf t s →
     (port_at t).port.control.entering ≡ Stands → (port_at t).port.control.owned ≡ None →
     core.stage ≡ Idle → IsSound core → core.sizes ≡ about.sizes → core.port ≡ t.number →
-        (spent ≡ false → IsBetween (port_at t).port.part core × ((port_at t).port.over ≡ false) × (core.pool_spent ≡ false) × (core.slots_spent ≡ false)) →
+    (spent ≡ false → IsBetween (port_at t).port.part core × ((port_at t).port.over ≡ false) × (core.pool_spent ≡ false) × (core.slots_spent ≡ false)) →
     IsResting s core spent
 rests_kept table about t s core spent h k stands free idle sound sizes port between =
     let is : one_in s.badge.views ≡ port_at t = kept_is t s k in

@@ -17,7 +17,7 @@ use Rattle.partial_long_lived.specs.Inner.Moves.{BeganBy}
 use Rattle.partial_long_lived.specs.Inner.Held.{IsHeld, port_at}
 use Rattle.partial_long_lived.specs.Inner.Calls.{IsIdle}
 use Rattle.partial_long_lived.specs.Inner.Updates.{Attempted, CameBy, IsEntryOf, IsLate, IsOwn, MayCall, NotesNothing, Updated, noted_update, noted_where}
-use Rattle.partial_long_lived.proofs.Coming.{goes_on}
+use Rattle.partial_long_lived.proofs.Coming.{goes_on, seen_more}
 
 -- whether the call began with its first step here, or as before, where the next step may still be its first one
 abbrev pub BeganSo : Bool → Bool → Stand → Stand → Type 0

@@ -128,7 +128,7 @@ module _ (table : TableId) (about : About) (s : Stand) (h : IsHeld table about s
       let at : component_at (port_at s) (s.base + j) ≡ j = ap (λ (a : About). s.base + j - base (plan_of a) (port_at s).port.control.here.arena) own ∙ omega (arith, is) in
       subst (λ i. Allows (IsKept about) slots id s.seat.me (s.base + j) (λ n. n) (tells (Sees first wish i) s.seat.me)) (sym at)
       (subst (λ i. Allows (IsKept about) slots id s.seat.me (i + j) (λ n. n) (tells (Sees first wish j) s.seat.me)) (sym is)
-          (may_see about slots id s.seat.me h.one h.own h.known stands first wish j inside finds))
+      (may_see about slots id s.seat.me h.one h.own h.known stands first wish j inside finds))
 
   -- a load as the seat sees it
   pub seen_at : (first : Bool) (wish : Wish) (j a : ℕ) (me : Me (Unit {0}) (List Seated)) → sees first wish (s.base + j) s.seat.me a me → Sees first wish j (port_at s) a (one_of me.0)

@@ -208,7 +208,7 @@ module _ (b : CoreState) (x : Seated) (begins : MayBegin b x) (first : Bool) (s 
         let len = ap (λ (g : Began). g.length) n in
         let before = ap (λ (z : Seated). length (history_of z.port.before)) m.is in
         let kept : y.port.part.kept ≡ record { answer = a; at = length (m.log ++ m.entries) } ∷ [] = ap (λ (p : Part). p.kept) part_is
-            ∙ ap (λ t. cond t [] x.port.part.kept ++ record { answer = a; at = length (m.log ++ m.entries) } ∷ []) begun_is in
+        ∙ ap (λ t. cond t [] x.port.part.kept ++ record { answer = a; at = length (m.log ++ m.entries) } ∷ []) begun_is in
         let at = ap first_at kept in
         omega (arith, early, len, before, at);
   }
@@ -294,7 +294,7 @@ module _ (b : CoreState) (x : Seated) (begins : MayBegin b x) (c : CoreState) (y
       unrefused = m.unrefused;
       notes = ap (λ (t : Seated). t.notes) m.is ∙ ap (λ (l : List Noted). l ++ map (public_noted (plan_of y.about) y.port.before) m.told.new) notes_same
           ∙ ap (λ (d : About). x.notes ++ map (public_noted (plan_of d) y.port.before) m.told.new) about_same
-              ∙ ap (λ (l : List (List Applied)). x.notes ++ map (public_noted (plan_of x.about) l) m.told.new) had.before
+          ∙ ap (λ (l : List (List Applied)). x.notes ++ map (public_noted (plan_of x.about) l) m.told.new) had.before
           ∙ ap (λ (l : List Noted). x.notes ++ map (public_noted (plan_of x.about) x.port.before) l) new_same;
       shown =
           let shown = had.shown in

@@ -77,6 +77,13 @@ pub record Differ (p q : PortView) (js stamps : List ℕ) : Type 0 where
   pub why : (p.memory.about.sizes.m ≤ slice_index js position)
       ⊎ ((n : ℕ) × (length p.seen ≤ n) × (n ≤ length q.seen) × ¬ HasThen q n (slice_index js position) (slice_index stamps position))
 
+-- Two ports that met: each has noted nothing, and has seen all that either had seen before.
+pub record Meets (a b c d : PortView) : Type 0 where
+  pub first : Goes a c []
+  pub second : Goes b d []
+  pub first_all : b.seen ≡ take (length b.seen) c.seen
+  pub second_all : a.seen ≡ take (length a.seen) d.seen
+
 -- Why a call is refused, and what is left of its port. For a component that isn't there nothing has changed; otherwise nothing is noted,
 -- and the port may have seen more. A read has no other cause, and only updates are overtaken.
 abbrev pub IsRefused : PortView → Call → Refused → PortView → Type 0

@@ -1,6 +1,7 @@
 -- What a step tells its port, for contracts of private functions.
 pub mod Steps
 pub mod Moves
+pub mod Meeting
 pub mod Loads
 pub mod Machine
 pub mod Under

@@ -3,12 +3,13 @@
 ghost use Rattle.std.specs.Prelude.{◌≡◌, ◌≤◌, true, false, length, nat_lt, IfOk, IfErr};
 ghost use Rattle.std.specs.List.{list_all};
 ghost use Rattle.partial_model.specs.declared.call.Call.TheVariants as call;
-ghost use Rattle.partial_long_lived.specs.Calls.{Differ, IsRefused, Reads, Scans, StillStand, Updates, UpdatesIf};
+ghost use Rattle.partial_long_lived.specs.Calls.{Differ, IsRefused, Meets, Reads, Scans, StillStand, Updates, UpdatesIf};
 ghost use Rattle.partial_long_lived.specs.Ports.{IsOf};
 
 use crate::answers::{Updated, UpdatedIf};
 use crate::error::Refused;
 use crate::long_lived::LongLived;
+use crate::meet::meet;
 use crate::port::Port;
 use crate::read::read;
 use crate::scan::{public_borrowed, scan_from};
@@ -186,6 +187,31 @@ impl LongLived {
         }
         me.seating.keep(stand);
         answer
+    }
+
+    /// Has two ports meet: afterwards each has observed all that either had observed before, so their later calls take
+    /// effect behind that. It makes at most 6 atomic steps, and notes nothing.
+    pub fn meet(&self, first: &mut Port, second: &mut Port)
+        requires { IsOf self.now first.old × IsOf self.now second.old }
+        ensures same { IsOf self.now first.new × IsOf self.now second.new }
+        ensures met { Meets first.old second.old first.new second.new }
+    {
+        let words = &self.table.shared;
+        let one = first.seating.take();
+        let other = second.seating.take();
+        let first_epoch = one.epoch;
+        let second_epoch = other.epoch;
+        let (one, other) = meet(words, one, other);
+        if one.epoch != first_epoch {
+            first.core.clear_marks();
+            first.spent = false;
+        }
+        if other.epoch != second_epoch {
+            second.core.clear_marks();
+            second.spent = false;
+        }
+        first.seating.keep(one);
+        second.seating.keep(other);
     }
 }
 

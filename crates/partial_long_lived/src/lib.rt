@@ -19,6 +19,7 @@ pub mod law;
 mod lines;
 mod long_lived;
 mod machine_plays;
+mod meet;
 mod open_error;
 mod options;
 mod places;

@@ -175,3 +175,12 @@ impl Play<(), View> for Recall {
 
     ghost then = { λ s. tells (Recalls s.word) };
 }
+
+/// The step of a seat of two ports by which the first one sees all of its epoch.
+pub struct Observe;
+
+impl Play<(), View> for Observe {
+    ghost use Rattle.partial_long_lived.specs.Inner.Meeting.{observes};
+
+    ghost then = { λ _ me. observes me };
+}

@@ -1,0 +1,109 @@
+-- How a meeting of two ports leaves each of them.
+use Rattle.std.proofs.Common.{◌≡◌, ◌<◌, ◌≤◌, List, [], length, take, inl, refl, sym, ap, subst, ◌∙◌, arith, append-nil}
+use Rattle.std.proofs.Math.Seq.{take-append_seam}
+use Rattle.atomic_table.specs.Seated.{TableId}
+use Rattle.partial_model.specs.declared.history.Applied.{Applied}
+use Rattle.partial_core.specs.Part.{core_of}
+use Rattle.partial_long_lived.specs.declared.rule.About.{About}
+use Rattle.partial_long_lived.specs.declared.stand.Stand.{Stand}
+use Rattle.partial_long_lived.specs.declared.seating.Seating.{Seating}
+use Rattle.partial_long_lived.specs.Rule.{Began, Seated, one_in}
+use Rattle.partial_long_lived.specs.Ports.{IsOf, MemoryView, PortView, port_view, seen_in}
+use Rattle.partial_long_lived.specs.Calls as calls
+use Rattle.partial_long_lived.specs.Seating.{IsSeatingOf, IsStandOf}
+use Rattle.partial_long_lived.specs.Inner.Calls.{HasCome, IsIdle, Kept, Settled}
+use Rattle.partial_long_lived.specs.Inner.Held.{IsHeld, port_at}
+use Rattle.partial_long_lived.specs.Inner.Meeting.{HasMet, Observes}
+use Rattle.partial_long_lived.specs.Inner.Steps.{Begins}
+use Rattle.partial_long_lived.proofs.Answering.{callers_see, goes_seen, view_kept, view_taken}
+use Rattle.partial_long_lived.proofs.Coming.{begins_on, come_on}
+
+-- a port that has seen all of its epoch stands where it stood
+observed_come : (s t : Stand) (y : Seated) → IsIdle s → Kept s t → Observes (port_at s) y (port_at t) → HasCome s t
+observed_come s t y idle kept w = record {
+  shape = kept.shape;
+  number = kept.number;
+  goes = kept.goes;
+  idle = record { stands = ap (λ (z : Seated). z.port.control.entering) w.is ∙ idle.stands; free = ap (λ (z : Seated). z.port.control.owned) w.is ∙ idle.free };
+  machine = inl (kept.epoch, ap (λ (z : Seated). core_of z.port.part) w.is, ap (λ (z : Seated). z.port.over) w.is);
+}
+
+-- and so does the other one
+beside_come : (s t : Stand) → IsIdle s → Kept s t → port_at t ≡ port_at s → HasCome s t
+beside_come s t idle kept is = record {
+  shape = kept.shape;
+  number = kept.number;
+  goes = kept.goes;
+  idle = record { stands = ap (λ (z : Seated). z.port.control.entering) is ∙ idle.stands; free = ap (λ (z : Seated). z.port.control.owned) is ∙ idle.free };
+  machine = inl (kept.epoch, ap (λ (z : Seated). core_of z.port.part) is, ap (λ (z : Seated). z.port.over) is);
+}
+
+-- the first look of a meeting, of the port at s beside the one at o
+module _ (table : TableId) (about : About) (s o u p : Stand) (h : IsHeld table about s) (g : IsHeld table about o) (idle : IsIdle s) (free : IsIdle o) (kept : Kept s u) (kept_other : Kept o p)
+    (same : port_at p ≡ port_at o) (w : Observes (port_at s) (port_at o) (port_at u)) where
+  come : HasCome s u
+  come = observed_come s u (port_at o) idle kept w
+
+  come_other : HasCome o p
+  come_other = beside_come o p free kept_other same
+
+  -- in one epoch the other port looks too
+  module _ (v q : Stand) (one : s.epoch ≡ o.epoch) (kept_last : Kept p v) (kept_first : Kept u q) (same_first : port_at q ≡ port_at u) (w' : Observes (port_at p) (port_at u) (port_at v)) where
+    epochs : (port_at s).port.control.here.epoch ≡ (port_at o).port.control.here.epoch
+    epochs = sym h.epoch ∙ one ∙ g.epoch
+
+    pub together_first : HasMet s o q
+    together_first = record {
+      come = come_on s u q come (beside_come u q come.idle kept_first same_first);
+      notes = ap (λ (z : Seated). z.notes) same_first ∙ ap (λ (z : Seated). z.notes) w.is;
+      all = subst (λ (z : Seated). Begins (seen_in (port_at o).port) (seen_in z.port)) (sym same_first) (w.all (let e = epochs in omega (arith, e)));
+    }
+
+    pub together_second : HasMet o s v
+    together_second = record {
+      come = come_on o p v come_other (observed_come p v (port_at u) come_other.idle kept_last w');
+      notes = ap (λ (z : Seated). z.notes) w'.is ∙ ap (λ (z : Seated). z.notes) same;
+      all = begins_on (seen_in (port_at s).port) (seen_in (port_at u).port) (seen_in (port_at v).port) kept.goes.seen
+          (w'.all (let e = epochs in let here = ap (λ (z : Seated). z.port.control.here.epoch) w.is in let there = ap (λ (z : Seated). z.port.control.here.epoch) same in omega (arith, e, here, there)));
+    }
+
+  -- out of an earlier epoch the port comes to the current one, and looks again
+  module _ (r t q : Stand) (early : s.epoch < o.epoch) (settled : Settled u r) (held : IsHeld table about r) (kept_last : Kept r t) (kept_beside : Kept p q) (same_beside : port_at q ≡ port_at p)
+      (w' : Observes (port_at r) (port_at p) (port_at t)) where
+    come_late : (port_at p).port.control.here.epoch ≤ (port_at r).port.control.here.epoch
+    come_late =
+        let late = w.late in
+        let there = ap (λ (z : Seated). z.port.control.here.epoch) same in
+        let began = ap (λ (z : Began). z.epoch) (settled.began ∙ ap (λ (z : Seated). z.began) w.is) in
+        let fresh_now = settled.fresh in
+        let epoch = held.epoch in
+        omega (arith, late, there, began, fresh_now, epoch)
+
+    pub apart_first : HasMet s o t
+    apart_first = record {
+      come = come_on s u t come (come_on u r t settled.come (observed_come r t (port_at p) settled.come.idle kept_last w'));
+      notes = ap (λ (z : Seated). z.notes) w'.is ∙ settled.notes ∙ ap (λ (z : Seated). z.notes) w.is;
+      all = subst (λ (z : Seated). Begins (seen_in z.port) (seen_in (port_at t).port)) same (w'.all come_late);
+    }
+
+    pub apart_second : HasMet o s q
+    apart_second = record {
+      come = come_on o p q come_other (beside_come p q come_other.idle kept_beside same_beside);
+      notes = ap (λ (z : Seated). z.notes) (same_beside ∙ same);
+      all = subst (λ (z : Seated). Begins (seen_in (port_at s).port) (seen_in z.port)) (sym (same_beside ∙ same))
+          (w.before (let here = h.epoch in let there = g.epoch in omega (arith, early, here, there)));
+    }
+
+-- what a port has seen that had seen no less than another one, as callers see both
+pub all_seen : (m : MemoryView) (s : Seating) (t : Stand) (p : PortView) → IsStandOf s t → port_view s.badge.table_id (one_in s.badge.views) ≡ p → IsOf m p → (u : Stand) (s' : Seating) →
+    IsHeld m.table m.about u → IsSeatingOf u s' → Begins (seen_in (port_at t).port) (seen_in (port_at u).port) → p.seen ≡ take (length p.seen) (port_view s'.badge.table_id (one_in s'.badge.views)).seen
+all_seen m s t p k view own u s' held k' all =
+    subst (λ (a : PortView). a.seen ≡ take (length a.seen) (port_view s'.badge.table_id (one_in s'.badge.views)).seen) (view_taken m s t p k view own)
+    (subst (λ (b : PortView). seen_in (port_at t).port ≡ take (length (seen_in (port_at t).port)) b.seen) (view_kept m u s' held k')
+    (sym (take-append_seam (seen_in (port_at t).port) all.0) ∙ ap (λ (l : List Applied). take (length (seen_in (port_at t).port)) l) (sym all.1)))
+
+-- a port that has met another one, as callers see it
+pub goes_met : (m : MemoryView) (s : Seating) (t o u : Stand) (s' : Seating) (p : PortView) → IsStandOf s t → port_view s.badge.table_id (one_in s.badge.views) ≡ p → IsOf m p → IsHeld m.table m.about u → IsSeatingOf u s' →
+    HasMet t o u → calls.Goes p (port_view s'.badge.table_id (one_in s'.badge.views)) []
+goes_met m s t o u s' p k view own held k' w =
+    callers_see m s t u s' p k view own held k' (λ (a b : PortView). calls.Goes a b []) (goes_seen m.table (port_at t) (port_at u) [] w.come.goes (w.notes ∙ sym (append-nil (port_at t).notes)))
