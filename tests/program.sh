@@ -452,6 +452,14 @@ blames "picture: an unknown option" "'--fast'" --fast
 helps "picture: the help" --window --words --text
 expect "$head" "" $'picture: refused 10: line 3: end\n'
 case_of "picture: the plan of standard input" 1 -
+# A refusal for a line says so when the text has a carriage return, and only then.
+expect "${head//$'\n'/$'\r\n'}" "" $'picture: refused 10: line 1: number (a carriage return ends no line)\n'
+case_of "picture: lines that end with CRLF" 1
+case_of "picture: lines that end with CRLF, in a window" 1 --window 0 1
+expect "$head$tail"$'\r' "" $'picture: refused 10: line 5: extra (a carriage return ends no line)\n'
+case_of "picture: a carriage return at the end" 1
+expect "${head/64/x}" "" $'picture: refused 10: line 1: number\n'
+case_of "picture: a word in place of a number" 1
 printf '%s' "$head$tail" >"$room/in"
 if [ -w /dev/full ]; then
     "$program" <"$room/in" >/dev/full 2>"$room/given-err"
