@@ -474,7 +474,7 @@ program=$partial
 # ./partial from another folder, in a copy of the sources: first with no proved program, then with one.
 copy=$room/copy
 mkdir -p "$copy/elsewhere" "$room/bin"
-tar -C "$top" --exclude=out -cf - crates crates.txt partial scripts | tar -C "$copy" -xf -
+tar -C "$top" --exclude=out -cf - crates crates.txt partial picture scripts | tar -C "$copy" -xf -
 cp "$top/plans/lost_exchange.plan" "$copy/lost.plan"
 built=$program
 program=$copy/partial
@@ -503,9 +503,40 @@ paths "unproved, built before" "$unproved"
 touch "$copy/crates/partial_cmd/src/lib.rt"
 expect "" "" "$unproved"$'built\n'
 case_of "unproved: a newer source is built" 2 replay ../lost.plan
-mkdir -p "$copy/crates/partial/out"
+mkdir -p "$copy/crates/partial/out" "$copy/crates/picture/out"
 cp "$built" "$copy/crates/partial/out/partial"
 paths proved ""
+
+# A replay that asks for more than the bound that its caller sets, or than the one that the launcher sets.
+expect "" "" $'partial: refused 6: out of memory\n'
+for verb in replay check; do
+    REPLAY_MEMORY=400 case_of "a bound of memory in $verb" 1 "$verb" "$room/walk.plan"
+done
+expect "" "" $'partial: REPLAY_MEMORY takes a number of MiB\n'
+for bound in 0 -1 many 1000000000; do
+    REPLAY_MEMORY=$bound case_of "a bound of $bound" 2 replay "$room/walk.plan"
+done
+
+# bounds NAME TEXT WORD..: a program in place of the proved one writes the bound that it has, which must be this.
+bounds() {
+    local name=$1 text=$2
+    shift 2
+    expect "" "$text"$'\n' ""
+    case_of "the bound of $name" 0 "$@"
+}
+printf '#!/bin/sh\nulimit -v\n' >"$copy/crates/partial/out/partial"
+cp "$copy/crates/partial/out/partial" "$copy/crates/picture/out/picture"
+bounds "a replay" 4194304 replay
+bounds "a check" 4194304 check
+bounds "a run" "$(ulimit -v)" run
+REPLAY_MEMORY=300 bounds "a replay in 300 MiB" 307200 replay
+if (failed=0 && ulimit -v 300000 && bounds "a caller" 300000 replay && [ "$failed" -eq 0 ]); then
+    passed=$((passed + 1))
+else
+    failed=$((failed + 1))
+fi
+program=$copy/picture
+bounds "a picture" 4194304
 
 echo "$passed passed, $failed failed"
 [ "$failed" -eq 0 ]
