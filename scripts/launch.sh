@@ -46,7 +46,27 @@ build_unproved() (
     fi
 )
 
+# bound_memory MIB: bounds what the program may take, unless the caller has set a lower bound. A replay keeps each step
+# that it makes, so a plan can ask for more memory than there is. At the bound the program refuses it (6), where the
+# system would end the program.
+bound_memory() {
+    local now
+    if ! [[ $1 =~ ^[1-9][0-9]{0,8}$ ]]; then
+        echo "$name: REPLAY_MEMORY takes a number of MiB" >&2
+        exit 2
+    fi
+    now=$(ulimit -v)
+    if [ "$now" = unlimited ] || [ "$now" -gt $(($1 * 1024)) ]; then
+        ulimit -v $(($1 * 1024))
+    fi
+}
+
 if is_fresh "$out/$name"; then
+    # Threads take room for addresses that they don't use, so what runs in threads isn't bounded.
+    case $name-${1:-} in
+        partial-run | pipeline-*) ;;
+        *) bound_memory "${REPLAY_MEMORY:-4096}" ;;
+    esac
     exec "$out/$name" "$@"
 fi
 echo "This run is of the sources, with no proof: no proved program is there." >&2

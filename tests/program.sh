@@ -452,6 +452,14 @@ blames "picture: an unknown option" "'--fast'" --fast
 helps "picture: the help" --window --words --text
 expect "$head" "" $'picture: refused 10: line 3: end\n'
 case_of "picture: the plan of standard input" 1 -
+# A refusal for a line says so when the text has a carriage return, and only then.
+expect "${head//$'\n'/$'\r\n'}" "" $'picture: refused 10: line 1: number (a carriage return ends no line)\n'
+case_of "picture: lines that end with CRLF" 1
+case_of "picture: lines that end with CRLF, in a window" 1 --window 0 1
+expect "$head$tail"$'\r' "" $'picture: refused 10: line 5: extra (a carriage return ends no line)\n'
+case_of "picture: a carriage return at the end" 1
+expect "${head/64/x}" "" $'picture: refused 10: line 1: number\n'
+case_of "picture: a word in place of a number" 1
 printf '%s' "$head$tail" >"$room/in"
 if [ -w /dev/full ]; then
     "$program" <"$room/in" >/dev/full 2>"$room/given-err"
@@ -466,7 +474,7 @@ program=$partial
 # ./partial from another folder, in a copy of the sources: first with no proved program, then with one.
 copy=$room/copy
 mkdir -p "$copy/elsewhere" "$room/bin"
-tar -C "$top" --exclude=out -cf - crates crates.txt partial scripts | tar -C "$copy" -xf -
+tar -C "$top" --exclude=out -cf - crates crates.txt partial picture scripts | tar -C "$copy" -xf -
 cp "$top/plans/lost_exchange.plan" "$copy/lost.plan"
 built=$program
 program=$copy/partial
@@ -495,9 +503,40 @@ paths "unproved, built before" "$unproved"
 touch "$copy/crates/partial_cmd/src/lib.rt"
 expect "" "" "$unproved"$'built\n'
 case_of "unproved: a newer source is built" 2 replay ../lost.plan
-mkdir -p "$copy/crates/partial/out"
+mkdir -p "$copy/crates/partial/out" "$copy/crates/picture/out"
 cp "$built" "$copy/crates/partial/out/partial"
 paths proved ""
+
+# A replay that asks for more than the bound that its caller sets, or than the one that the launcher sets.
+expect "" "" $'partial: refused 6: out of memory\n'
+for verb in replay check; do
+    REPLAY_MEMORY=400 case_of "a bound of memory in $verb" 1 "$verb" "$room/walk.plan"
+done
+expect "" "" $'partial: REPLAY_MEMORY takes a number of MiB\n'
+for bound in 0 -1 many 1000000000; do
+    REPLAY_MEMORY=$bound case_of "a bound of $bound" 2 replay "$room/walk.plan"
+done
+
+# bounds NAME TEXT WORD..: a program in place of the proved one writes the bound that it has, which must be this.
+bounds() {
+    local name=$1 text=$2
+    shift 2
+    expect "" "$text"$'\n' ""
+    case_of "the bound of $name" 0 "$@"
+}
+printf '#!/bin/sh\nulimit -v\n' >"$copy/crates/partial/out/partial"
+cp "$copy/crates/partial/out/partial" "$copy/crates/picture/out/picture"
+bounds "a replay" 4194304 replay
+bounds "a check" 4194304 check
+bounds "a run" "$(ulimit -v)" run
+REPLAY_MEMORY=300 bounds "a replay in 300 MiB" 307200 replay
+if (failed=0 && ulimit -v 300000 && bounds "a caller" 300000 replay && [ "$failed" -eq 0 ]); then
+    passed=$((passed + 1))
+else
+    failed=$((failed + 1))
+fi
+program=$copy/picture
+bounds "a picture" 4194304
 
 echo "$passed passed, $failed failed"
 [ "$failed" -eq 0 ]

@@ -3,6 +3,7 @@
 
 mod request;
 mod stop;
+mod watched;
 
 use partial_picture::{Fault, draw};
 use partial_replay::{Device, PlanError};
@@ -13,6 +14,7 @@ use std::process::ExitCode;
 use std::rt::Files;
 use std::{env, fs, io};
 use stop::Stop;
+use watched::Watched;
 
 fn main(rt: HostRuntime) -> ExitCode {
     match run(&rt) {
@@ -47,13 +49,16 @@ fn draw_on<R: Print + AllocGlobal, D: Read + Drop>(
     request: &Request<'_>,
     reader: D,
 ) -> Result<(), Stop> {
-    let mut plan = Device::new(reader);
+    let mut plan = Device::new(Watched::new(reader));
     let mut out = Device::new(io::writer(rt));
-    Ok(draw(
+    match draw(
         rt.alloc(),
         request.form,
         request.window,
         &mut plan,
         &mut out,
-    )?)
+    ) {
+        Ok(()) => Ok(()),
+        Err(fault) => Err(Stop::of_plan(fault, plan.into_inner().has_return())),
+    }
 }

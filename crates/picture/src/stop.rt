@@ -3,6 +3,7 @@
 use clap::Error;
 use clap::error::ErrorKind;
 use partial_picture::{Fault, PictureError};
+use partial_replay::PlanError;
 use std::alloc::AllocError;
 use std::{fmt, io};
 
@@ -17,6 +18,8 @@ pub enum Stop {
     NotText,
     /// The request was refused.
     Refused(Fault),
+    /// The request was refused for a line of the plan, whose text has a carriage return.
+    RefusedReturn(Fault),
 }
 
 impl Stop {
@@ -25,7 +28,15 @@ impl Stop {
         match self {
             Stop::Words(error) => error.exit_code() as u8,
             Stop::Window | Stop::NotText => 2,
-            Stop::Refused(_) => 1,
+            Stop::Refused(_) | Stop::RefusedReturn(_) => 1,
+        }
+    }
+
+    /// A refusal of a plan whose text has a carriage return or not. No plan has one, so a refusal for a line says that.
+    pub fn of_plan(fault: Fault, has_return: bool) -> Stop {
+        match fault {
+            Fault::Plan(PlanError::Line { .. }) if has_return => Stop::RefusedReturn(fault),
+            _ => Stop::Refused(fault),
         }
     }
 }
@@ -37,6 +48,11 @@ impl fmt::Display for Stop {
             Stop::Window => write!(f, "--window takes the numbers of two steps"),
             Stop::NotText => write!(f, "the words are not text"),
             Stop::Refused(fault) => write!(f, "refused {}: {fault}", fault.code()),
+            Stop::RefusedReturn(fault) => write!(
+                f,
+                "refused {}: {fault} (a carriage return ends no line)",
+                fault.code()
+            ),
         }
     }
 }
