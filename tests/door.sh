@@ -62,7 +62,7 @@ example() {
 }
 # Whether 64 threads soak a memory for a second without a fault, and their first calls are linearizable.
 soak() {
-    example soak 64 1 "$made/history" && python3 tests/judge_times.py <"$made/history"
+    example soak 64 1 512 "$made/history" && python3 tests/judge_times.py <"$made/history"
 }
 # Whether the program of these tests has a function of the library for scans, and none for reads.
 calls_no_read() {

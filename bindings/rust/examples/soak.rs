@@ -1,12 +1,12 @@
 //! A long run of many threads over a memory whose arenas are so small that its epoch changes all the time. Each thread
 //! sets two components of its own to 1, 2, 3 and so on, the first one before the second, and looks at those of others.
 //!
-//!     soak [THREADS [SECONDS [HISTORY]]]
+//!     soak [THREADS [SECONDS [POOL_WORDS [HISTORY]]]]
 //!
 //! It sees that each update of a component with one writer is applied, that a thread reads what it wrote, that no
 //! number that a thread sees of a component falls, that no scan shows a second component beside a first one of
 //! another moment, that the stamps of a component are distinct, and that the memory closes with the last numbers.
-//! With a third word it writes the calls of a first part, with the times at which they began and ended, to that file;
+//! With a fourth word it writes the calls of a first part, with the times at which they began and ended, to that file;
 //! `tests/judge_times.py` judges them. The last two lines are counts, and the status is 1 when there was a fault.
 
 use partial_door::{Memory, Port, Refused, Stamp, Updated};
@@ -18,9 +18,10 @@ use std::thread;
 use std::time::{Duration, Instant};
 
 // How many turns of each thread are written to the history.
-const RECORDED: u64 = 120;
-const POOL_WORDS: u32 = 64;
+const RECORDED: u64 = 400;
 const LIST_WORDS: u32 = 64;
+// Of how many threads a scan has the components.
+const SCANNED: usize = 4;
 
 /// What a thread has counted.
 #[derive(Default)]
@@ -157,11 +158,13 @@ impl Thread {
         }
     }
 
-    /// Scans the components of two threads, and sees that each pair is that of one moment.
-    fn scan(&mut self, threads: [u32; 2]) {
-        let [one, other] = threads;
-        let which = [2 * other + 1, 2 * one, 2 * other, 2 * one + 1];
-        let mut values = [0; 4];
+    /// Scans the components of some threads, and sees that each pair is that of one moment.
+    fn scan(&mut self, threads: [u32; SCANNED]) {
+        let mut which = [0; 2 * SCANNED];
+        for (pair, thread) in which.chunks_mut(2).zip(threads) {
+            pair.copy_from_slice(&[2 * thread + 1, 2 * thread]);
+        }
+        let mut values = [0; 2 * SCANNED];
         let answer = self.call(
             |port| port.scan(&which, &mut values).map(|scanned| (scanned, values)),
             |(_, values)| {
@@ -175,9 +178,10 @@ impl Thread {
         for (component, value) in which.into_iter().zip(values) {
             self.sees(component, value, None);
         }
-        for (first, second) in [(values[1], values[3]), (values[2], values[0])] {
+        for (pair, thread) in values.chunks(2).zip(threads) {
+            let [second, first] = [pair[0], pair[1]];
             if second > first || first > second + 1 {
-                self.fault(format!("{first} and {second} of threads {one} and {other} are of two moments"));
+                self.fault(format!("{first} and {second} of thread {thread} are of two moments"));
             }
         }
     }
@@ -191,8 +195,8 @@ impl Thread {
         if self.seen[own as usize] != value || self.seen[own as usize + 1] != value {
             self.fault(format!("it doesn't read its own {value}"));
         }
-        let pair = [self.below(self.threads), self.below(self.threads)];
-        self.scan(pair);
+        let scanned = [(); SCANNED].map(|()| self.below(self.threads));
+        self.scan(scanned);
         let other = self.below(2 * self.threads);
         self.read(other);
     }
@@ -247,19 +251,23 @@ fn run(memory: &Memory, threads: u32, time: Duration, recorded: bool) -> (Counts
 fn main() -> Result<(), Box<dyn Error + Send + Sync>> {
     let words: Vec<String> = std::env::args().skip(1).collect();
     let threads = words.first().map_or(Ok(64), |word| word.parse())?;
+    if !(SCANNED as u32..=64).contains(&threads) {
+        return Err("there are 4 to 64 threads".into());
+    }
     let seconds = words.get(1).map_or(Ok(5.0), |word| word.parse())?;
+    let pool_words = words.get(2).map_or(Ok(512), |word| word.parse())?;
     let memory = Memory::builder()
         .ports(threads)
         .list_words(LIST_WORDS)
-        .pool_words(POOL_WORDS)
+        .pool_words(pool_words)
         .open(&vec![0; 2 * threads as usize])?;
     let began = Instant::now();
-    let (mut counts, history, last) = run(&memory, threads, Duration::from_secs_f64(seconds), words.len() > 2);
+    let (mut counts, history, last) = run(&memory, threads, Duration::from_secs_f64(seconds), words.len() > 3);
     let took = began.elapsed().as_secs_f64();
     if memory.close()? != last {
         counts.faults.push("the memory closes with other numbers than the last ones".to_string());
     }
-    if let Some(path) = words.get(2) {
+    if let Some(path) = words.get(3) {
         std::fs::write(path, history)?;
     }
     for fault in &counts.faults {

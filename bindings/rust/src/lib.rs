@@ -53,8 +53,8 @@
 //! The static library is taken from where `rt lib` puts it, and the kit's `c/liblibc_c.a` from where `rt`
 //! says that the kit is. `PARTIAL_DOOR_LIB` and `PARTIAL_DOOR_HEAP` name them when they lie elsewhere. Linked
 //! so, each call of a port is a call of the library. Linked with the library that `bindings/bitcode.sh` builds,
-//! and with the flags that it prints in `RUSTFLAGS`, an optimised program has the code of a read inlined. The
-//! compiler and the linker then generate the library's code too. `docs/using/c-and-rust.md` says what that needs.
+//! and with the flags that it prints in `RUSTFLAGS`, an optimised program has the code of a read of an opening inlined.
+//! The compiler and the linker then generate the library's code too. `docs/using/c-and-rust.md` says what that needs.
 //! The library is built for x86-64 Linux.
 #![deny(missing_docs)]
 
