@@ -1,29 +1,15 @@
--- The ports of a long-lived memory that has opened, what is held then, and why it isn't closed.
-use Rattle.std.proofs.Common.{◌≡◌, ◌<◌, ◌++◌, ◌∙◌, ℕ, List, [], ◌∷◌, length, sym, ap, subst, inl, inr}
-use Rattle.std.specs.List.{AllByRecursion}
+-- What is held of a long-lived memory that has opened, and why it isn't closed.
+use Rattle.std.proofs.Common.{◌≡◌, ◌∙◌, ℕ, List, length, sym, ap, subst, inl, inr}
 use Rattle.std.specs.declared.option.Option.{Option}
 use Rattle.std.specs.declared.option.Option.TheVariants.{Some}
-use Rattle.partial_model.proofs.AllLemmas.{all_back, all_front}
 use Rattle.partial_long_lived.specs.declared.options.Options.{Options}
-use Rattle.partial_long_lived.specs.Ports.{IsOf, MemoryView, PortView}
+use Rattle.partial_long_lived.specs.Ports.{MemoryView, PortView}
 use Rattle.partial_door.specs.declared.held.Held.{Held}
 use Rattle.partial_door.specs.LongMemories.{IsNew, MayNotCloseLong}
 use Rattle.partial_door.specs.LongExports.{ClosesLongAt}
 use Rattle.partial_door.specs.Inner.Long.{IsUnclosedLong}
 
-pub more_long : (components : ℕ) (v : MemoryView) (p : PortView) (n : ℕ) → components ≡ v.about.sizes.m → IsOf v p → components < n → p.memory.about.sizes.m < n
-more_long components v p n size own less = subst (λ (w : MemoryView). w.about.sizes.m < n) (sym own) (subst (λ (k : ℕ). k < n) size less)
-
--- the last port of a memory's is of it, by another share of the same memory, and so are those before it
-pub last_long_of : (m v : MemoryView) (all front : List PortView) (p : PortView) → all ≡ front ++ p ∷ [] → AllByRecursion (IsOf m) all → v ≡ m → IsOf v p
-last_long_of m v all front p parts own same = subst (λ (w : MemoryView). IsOf w p) (sym same) (all_back (IsOf m) front (p ∷ []) (subst (λ (xs : List PortView). AllByRecursion (IsOf m) xs) parts own)).0
-
-pub front_long_of : (m v : MemoryView) (all front : List PortView) (p : PortView) → all ≡ front ++ p ∷ [] → AllByRecursion (IsOf m) all → v ≡ m
-    → AllByRecursion (IsOf v) front
-front_long_of m v all front p parts own same =
-    subst (λ (w : MemoryView). AllByRecursion (IsOf w) front) (sym same)
-    (all_front (IsOf m) front (p ∷ []) (subst (λ (xs : List PortView). AllByRecursion (IsOf m) xs) parts own))
-
+-- there are as many components as values, by the same memory alone
 pub count_of : (components : ℕ) (m v : MemoryView) → components ≡ length m.about.opening.values → v ≡ m → components ≡ length v.about.opening.values
 count_of components m v count same = subst (λ (w : MemoryView). components ≡ length w.about.opening.values) (sym same) count
 

@@ -1,5 +1,5 @@
 -- What the calls of a port of a long-lived memory leave of what its handle holds.
-use Rattle.std.specs.Prelude.{ℕ, ◌≡◌, ◌⊎◌, ◌<◌, List, length}
+use Rattle.std.specs.Prelude.{ℕ, ◌≡◌, ◌⊎◌, List}
 use Rattle.std.specs.Arc.{arc_value}
 use Rattle.partial_model.specs.declared.call.Call.TheVariants as call
 use Rattle.partial_long_lived.specs.declared.answers.Updated.{Updated}
@@ -14,7 +14,7 @@ use Rattle.partial_door.specs.declared.answers.ScanAnswer.{ScanAnswer}
 use Rattle.partial_door.specs.declared.held.LongPort.{LongPort}
 use Rattle.partial_door.specs.declared.held.Held.{Held}
 use Rattle.partial_door.specs.declared.held.Held.TheVariants as held
-use Rattle.partial_door.specs.Calls.{scan_answer}
+use Rattle.partial_door.specs.Calls.{IsMismatch, scan_answer}
 
 -- the port's reference of its memory stays
 pub record IsSameLong (p q : LongPort) : Type 0 where
@@ -50,16 +50,12 @@ LongReadEnds j before after p code q =
     ((code ≡ 0) × Reads p j after.value after.stamp q)
     ⊎ ((cause : Refused) × (code ≡ refused_code cause) × (after ≡ before) × IsRefused p (call.Read j) cause q)
 
--- the lengths of a scan don't fit
-abbrev pub IsLongMismatch : PortView → List ℕ → List ℕ → Type 0
-IsLongMismatch p which into = (length which ≡ length into → ⊥) ⊎ (p.memory.about.sizes.m < length which)
-
 -- a scan was answered, or refused for its lengths or for a cause, and then the answer and the values stay
 abbrev pub LongScanEnds : List ℕ → List ℕ → List ℕ → ScanAnswer → ScanAnswer → PortView → ℕ → PortView → Type 0
 LongScanEnds which before values old new p code q =
     ((s : Scanned) × (code ≡ 0) × (new ≡ scan_answer s) × Scans p which values s q)
     ⊎ ((values ≡ before) × (new ≡ old)
-    × (((code ≡ 19) × IsLongMismatch p which before × (q ≡ p))
+    × (((code ≡ 19) × IsMismatch p.memory.about.sizes.m which before × (q ≡ p))
     ⊎ ((cause : Refused) × (code ≡ refused_code cause) × IsRefused p (call.Scan which) cause q)))
 
 -- the number of a port was given, and the port is as it was

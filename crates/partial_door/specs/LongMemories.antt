@@ -43,7 +43,8 @@ pub record IsNew (initial : List ℕ) (ports : ℕ) (o : Options) (v : MemoryVie
 -- that is what is held, with all its ports
 abbrev pub HoldsNew : ℕ → List ℕ → ℕ → Options → Held → Type 0
 HoldsNew number initial ports o h =
-    (m : LongMemory) × (h ≡ held.LongMemory m) × (m.number ≡ number) × (m.count ≡ ports) × IsNew initial ports o (arc_value m.memory) m.ports.items
+    (m : LongMemory) × (h ≡ held.LongMemory m) × (m.number ≡ number) × (m.count ≡ ports)
+    × IsNew initial ports o (arc_value m.memory) m.ports.items
 
 -- why no new memory is held: the cause of its opening, or it has opened, and an allocation for its handle was refused
 abbrev pub MayNotBeNew : List ℕ → ℕ → Options → ℕ → Type 0

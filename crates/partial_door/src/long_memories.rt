@@ -252,7 +252,8 @@ impl Held {
     /// was. 6 when an allocation was refused: this is the memory with all its ports, and closes later.
     pub fn close_long(&mut self, alloc: Global, into: &mut [u64]) -> Result<(), u32>
         ensures ok { IfOk result (λ _. ClosesLong self.old into.new) }
-        ensures err { IfErr result (λ code. (into.new ≡ into.old) × IsUnclosedLong self.old self.new (length into.old) code) }
+        ensures unchanged { IfErr result (λ _. into.new ≡ into.old) }
+        ensures err { IfErr result (IsUnclosedLong self.old self.new (length into.old)) }
     {
         match ready(mem::replace(self, nothing(alloc)), into.len()) {
             Ok(closing) => match closing.close(alloc, into) {

@@ -12,7 +12,8 @@ use Rattle.partial_door.specs.LongMemories.{IsLongAway, KeepsLong, MayNotCloseLo
 -- what is held is this memory with these ports at home
 abbrev pub IsLongOpenOf : ℕ → ℕ → MemoryView → List PortView → Held → Type 0
 IsLongOpenOf number count v ports h =
-    (m : LongMemory) × (h ≡ held.LongMemory m) × (m.number ≡ number) × (m.count ≡ count) × (arc_value m.memory ≡ v) × (m.ports.items ≡ ports)
+    (m : LongMemory) × (h ≡ held.LongMemory m) × (m.number ≡ number) × (m.count ≡ count) × (arc_value m.memory ≡ v)
+    × (m.ports.items ≡ ports)
 
 -- a memory that isn't taken apart is as it was, and it is shared only with all its ports
 abbrev pub IsUnready : LongMemory → Unready → Type 0

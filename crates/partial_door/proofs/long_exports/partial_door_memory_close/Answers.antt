@@ -6,4 +6,4 @@ pub returns-in-Ok : goal.returns-in-Ok
 returns-in-Ok c = inr (inl (_, c.in-Some.ensures.lent, c.take.ensures.left, refl, c.in-Ok.ensures.ok))
 
 pub returns-in-Err : goal.returns-in-Err
-returns-in-Err c = unclosed _ _ _ _ _ _ _ c.in-Some.ensures.lent refl c.in-Err.ensures.err.0 c.in-Err.ensures.err.1
+returns-in-Err c = unclosed _ _ _ _ _ _ _ c.in-Some.ensures.lent refl c.in-Err.ensures.unchanged c.in-Err.ensures.err

@@ -13,9 +13,9 @@ pub returns-in-Err-close-clause-err : goal.returns-in-Err-close-clause-err
 returns-in-Err-close-clause-err c =
     let was : c.replace.result ≡ c.args.self.now = search rules in
     let ready = subst (λ (h : Held). IsReady h c.in-Ok.closing) was c.in-Ok.ensures.ok.0 in
-    (c.in-Err-close.ensures.err.1, inr (refl, (c.in-Ok.closing, c.in-Err-close.kept, ready, c.in-Err-close.ensures.err.0, refl)))
+    inr (refl, (c.in-Ok.closing, c.in-Err-close.kept, ready, c.in-Err-close.ensures.err.0, refl))
 
 pub returns-in-Err-clause-err : goal.returns-in-Err-clause-err
 returns-in-Err-clause-err c =
     let was : c.replace.result ≡ c.args.self.now = search rules in
-    (refl, as_was _ _ _ _ _ was c.in-Err.ensures.err.0 c.in-Err.ensures.err.1)
+    as_was _ _ _ _ _ was c.in-Err.ensures.err.0 c.in-Err.ensures.err.1
