@@ -58,12 +58,12 @@ for sanitizer in address thread; do
     with=$sanitizer
     [ "$sanitizer" = thread ] || with=$sanitizer,undefined
     item "the library is instrumented ($sanitizer)" instrument "$sanitizer" "$made/door.ll" "$made/door_$sanitizer.o"
-    for source in bindings/c/test.c bindings/c/growths.c bindings/c/examples/*.c; do
+    for source in bindings/c/test.c bindings/c/memory_test.c bindings/c/growths.c bindings/c/examples/*.c; do
         # The test of refused growths has one thread and a malloc of its own, under which that run-time doesn't start.
         [ "$sanitizer $source" = "thread bindings/c/growths.c" ] && continue
         program=$made/$(basename "$source" .c)_$sanitizer
         item "$source is compiled ($with)" compile "$with" "$source" "$made/door_$sanitizer.o" "$program"
-        item "$source ($with)" "$program"
+        item "$source ($with)" "$program" 100000
     done
 done
 sed 's/load atomic \(i64, .*\) seq_cst,/load \1,/; s/store atomic \(i64 .*\) seq_cst,/store \1,/' "$made/door.ll" \

@@ -54,13 +54,19 @@ compile() {
 build_bitcode() {
     bindings/bitcode.sh "$made/bitcode/libpartial_door.a" >"$made/flags"
 }
-# Whether this example of the crate for Rust runs to its end.
+# example NAME [WORD..]: whether this example of the crate for Rust runs to its end with these words.
 example() {
-    (cd bindings/rust && cargo run --offline --quiet --release --example "$1")
+    name=$1
+    shift
+    (cd bindings/rust && cargo run --offline --quiet --release --example "$name" -- "$@")
+}
+# Whether 64 threads soak a memory for a second without a fault, and their first calls are linearizable.
+soak() {
+    example soak 64 1 512 "$made/history" && python3 tests/judge_times.py <"$made/history"
 }
 # Whether the program of these tests has a function of the library for scans, and none for reads.
 calls_no_read() {
-    cat "$made"/bitcode/target/release/deps/threads-* >"$made/program" &&
+    cat "$made"/bitcode/target/release/deps/openings-* >"$made/program" &&
         grep -q partial_door_scan "$made/program" && ! grep -q partial_door_read "$made/program"
 }
 # Whether the crate is checked and documented without the library, and says in three lines what to run.
@@ -76,7 +82,7 @@ refuses() {
 # Whether a relative path is one of the folder in which cargo is called.
 relative_library() {
     (cd crates && PARTIAL_DOOR_LIB=partial_door/out/libpartial_door.a \
-        cargo test --offline --quiet --manifest-path ../bindings/rust/Cargo.toml --test threads)
+        cargo test --offline --quiet --manifest-path ../bindings/rust/Cargo.toml --test openings)
 }
 # Whether the C test is compiled and linked with what pkg-config says of the installed library, of this version.
 installed() {
@@ -95,13 +101,18 @@ if command -v pkg-config >/dev/null 2>&1; then
 else
     echo "door: skipped: the installed library: there is no pkg-config"
 fi
+item "the C test of memories is compiled" compile "$made/memory_test" bindings/c/memory_test.c
+counts "the C test of memories" "$made/memory_test"
 item "the header is one of C++ too" sh -c 'echo "#include \"partial.h\"" |
     "${CXX:-c++}" -std=c++17 -Wall -Wextra -Werror -I bindings/c -xc++ -fsyntax-only -'
 item "the C test is compiled with the address sanitizer" compile "$made/test_address" bindings/c/test.c \
     -fsanitize=address,undefined -g
 counts "the C test with the address sanitizer" "$made/test_address"
+item "the C test of memories is compiled with the address sanitizer" compile "$made/memory_address" \
+    bindings/c/memory_test.c -fsanitize=address,undefined -g
+counts "the C test of memories with the address sanitizer" "$made/memory_address"
 item "the example in C is compiled" compile "$made/producers" bindings/c/examples/producers.c
-item "the example in C" "$made/producers"
+item "the example in C" "$made/producers" 400000
 item "the test of refused growths is compiled" compile "$made/growths" bindings/c/growths.c
 counts "the test of refused growths" "$made/growths"
 if command -v cargo >/dev/null 2>&1; then
@@ -110,9 +121,10 @@ if command -v cargo >/dev/null 2>&1; then
     CARGO_TARGET_DIR=$made/target
     export CARGO_TARGET_DIR
     item "the tests and examples of the Rust binding" sh -c 'cd bindings/rust && cargo test --offline --quiet'
-    for example in bindings/rust/examples/*.rs; do
-        item "the example $example" example "$(basename "$example" .rs)"
-    done
+    item "the example flags.rs" example flags
+    item "the example monitor.rs" example monitor 400000
+    item "the example scheduler.rs" example scheduler 100000
+    item "the soak" soak
     item "the Rust binding without the library" without_library
     item "a library of another name is refused" refuses "$PWD/other.a" \
         "PARTIAL_DOOR_LIB has to name a file libpartial_door.a, and names $PWD/other.a"

@@ -1,5 +1,7 @@
-//! A number of updates by one port, of the proved memory or of the same algorithm in plain Rust, for a tool that counts
-//! instructions. Its words are `proved` or `plain`, and the number of updates, at most 1,000,000.
+//! A number of calls by one port, for a tool that counts instructions: updates of a single opening (`proved`) or of the
+//! same algorithm in plain Rust (`plain`); or updates, reads or scans of 4 components of the memory that never wears out
+//! (`update`, `read`, `scan`), or of a single opening (`opening_read`, `opening_scan`). Its words are one of these and the
+//! number of calls; an opening has room for 1,000,000 updates and 65,536 scans.
 
 #[allow(dead_code)]
 #[path = "../src/answers.rs"]
@@ -8,33 +10,56 @@ mod answers;
 #[path = "../src/raw.rs"]
 mod raw;
 
-use partial_door::Sizes;
+use partial_door::opening::{self, Sizes};
+use partial_door::Memory;
 use std::env::args;
 use std::error::Error;
 use std::hint::black_box;
 
 const INITIAL: [u64; 4] = [0; 4];
 
-/// Makes the updates, of one component after another.
-fn make<T, E>(updates: u64, mut update: impl FnMut(u32, u64) -> Result<T, E>) -> Result<(), E> {
-    for value in 0..updates {
-        black_box(update((value % INITIAL.len() as u64) as u32, value)?);
+const ALL: [u32; INITIAL.len()] = [0, 1, 2, 3];
+
+/// Makes the calls, at one component after another.
+fn make<T, E>(calls: u64, mut call: impl FnMut(u32, u64) -> Result<T, E>) -> Result<(), E> {
+    for value in 0..calls {
+        black_box(call((value % INITIAL.len() as u64) as u32, value)?);
     }
     Ok(())
 }
 
 fn main() -> Result<(), Box<dyn Error + Send + Sync>> {
-    let (memory, updates) = (args().nth(1).unwrap_or_default(), args().nth(2).unwrap_or_default().parse()?);
-    match memory.as_str() {
+    let (kind, calls) = (args().nth(1).unwrap_or_default(), args().nth(2).unwrap_or_default().parse()?);
+    match kind.as_str() {
         "proved" => {
-            let mut port = partial_door::open(&INITIAL, Sizes::default(), 1)?.1.remove(0);
-            make(updates, |component, value| port.update(component, value))?;
+            let mut port = opening::open(&INITIAL, Sizes::default(), 1)?.1.remove(0);
+            make(calls, |component, value| port.update(component, value))?;
+        }
+        "opening_read" => {
+            let mut port = opening::open(&INITIAL, Sizes::default(), 1)?.1.remove(0);
+            make(calls, |component, _| port.read(component))?;
+        }
+        "opening_scan" => {
+            let mut port = opening::open(&INITIAL, Sizes::default(), 1)?.1.remove(0);
+            make(calls, |_, _| port.scan_array(ALL))?;
+        }
+        "update" => {
+            let mut port = Memory::new(&INITIAL)?.port()?;
+            make(calls, |component, value| port.update(component, value))?;
+        }
+        "read" => {
+            let mut port = Memory::new(&INITIAL)?.port()?;
+            make(calls, |component, _| port.read(component))?;
+        }
+        "scan" => {
+            let mut port = Memory::new(&INITIAL)?.port()?;
+            make(calls, |_, _| port.scan_array(ALL))?;
         }
         "plain" => {
             let mut port = raw::open(&INITIAL, Sizes::default(), 1).remove(0);
-            make(updates, |component, value| port.update(component, value))?;
+            make(calls, |component, value| port.update(component, value))?;
         }
-        _ => return Err("the words are proved or plain, and a number".into()),
+        _ => return Err("the words are a kind of call and a number".into()),
     }
     Ok(())
 }

@@ -32,26 +32,26 @@ pub struct Scanned {
 mod doors {
     use super::*;
 
-    impl From<partial_door::Updated> for Updated {
-        fn from(answer: partial_door::Updated) -> Updated {
+    impl From<partial_door::opening::Updated> for Updated {
+        fn from(answer: partial_door::opening::Updated) -> Updated {
             match answer {
-                partial_door::Updated::Applied { stamp } => Updated::Applied { stamp: stamp.word() },
-                partial_door::Updated::Lost { by } => Updated::Lost { by: by.word() },
+                partial_door::opening::Updated::Applied { stamp } => Updated::Applied { stamp: stamp.word() },
+                partial_door::opening::Updated::Lost { by } => Updated::Lost { by: by.word() },
             }
         }
     }
 
-    impl From<partial_door::UpdatedIf> for UpdatedIf {
-        fn from(answer: partial_door::UpdatedIf) -> UpdatedIf {
+    impl From<partial_door::opening::UpdatedIf> for UpdatedIf {
+        fn from(answer: partial_door::opening::UpdatedIf) -> UpdatedIf {
             match answer {
-                partial_door::UpdatedIf::Applied { stamp } => UpdatedIf::Applied { stamp: stamp.word() },
-                partial_door::UpdatedIf::Changed { by } => UpdatedIf::Changed { by: by.word() },
+                partial_door::opening::UpdatedIf::Applied { stamp } => UpdatedIf::Applied { stamp: stamp.word() },
+                partial_door::opening::UpdatedIf::Changed { by } => UpdatedIf::Changed { by: by.word() },
             }
         }
     }
 
-    impl From<partial_door::Value> for Value {
-        fn from(answer: partial_door::Value) -> Value {
+    impl From<partial_door::opening::Value> for Value {
+        fn from(answer: partial_door::opening::Value) -> Value {
             Value {
                 value: answer.value,
                 stamp: answer.stamp.word(),
@@ -59,11 +59,11 @@ mod doors {
         }
     }
 
-    impl From<partial_door::Scanned> for Scanned {
-        fn from(answer: partial_door::Scanned) -> Scanned {
+    impl From<partial_door::opening::Scanned> for Scanned {
+        fn from(answer: partial_door::opening::Scanned) -> Scanned {
             Scanned {
                 collects: answer.collects,
-                borrowed: answer.borrowed.map(partial_door::Stamp::word),
+                borrowed: answer.borrowed.map(partial_door::opening::Stamp::word),
             }
         }
     }

@@ -5,7 +5,7 @@
 use crate::answers::{Scanned, Updated, UpdatedIf, Value};
 use crate::objects::Face;
 use crate::raw::Port;
-use partial_door::Refused;
+use partial_door::opening::Refused;
 
 /// A port of the plain algorithm, whose calls go through the functions below.
 pub struct Called(pub Port);
@@ -70,7 +70,7 @@ impl Face for Called {
 mod tests {
     use super::*;
     use crate::raw::open;
-    use partial_door::Sizes;
+    use partial_door::opening::Sizes;
 
     // Two components: the pool begins at word 10, behind 2 + 4 words and 4 slots, and the first free word is 16.
     #[test]

@@ -2,7 +2,7 @@
 
 use crate::called::Called;
 use crate::raw;
-use partial_door::{Memory, Port, Sizes};
+use partial_door::opening::{Memory, Port, Sizes};
 use std::sync::atomic::{AtomicU64, Ordering::SeqCst};
 use std::sync::{Arc, Mutex, RwLock};
 
@@ -253,7 +253,7 @@ pub fn faces(name: &str, m: usize, threads: usize) -> (Option<Memory>, Vec<Box<d
     let zeros = vec![0; m];
     match name {
         "door" => {
-            let (memory, ports) = partial_door::open(&zeros, SIZES, threads as u32).expect("it opens");
+            let (memory, ports) = partial_door::opening::open(&zeros, SIZES, threads as u32).expect("it opens");
             (Some(memory), ports.into_iter().map(boxed).collect())
         }
         "raw" => (None, raw::open(&zeros, SIZES, threads as u32).into_iter().map(boxed).collect()),

@@ -3,7 +3,7 @@
 //! are taken at opening. The slice is indexed with bounds checks, as safe Rust does it.
 
 use crate::answers::{Scanned, Updated, UpdatedIf, Value};
-use partial_door::{Refused, Sizes};
+use partial_door::opening::{Refused, Sizes};
 use std::iter::repeat_n;
 use std::ops::Range;
 use std::sync::atomic::{AtomicU64, Ordering::SeqCst};

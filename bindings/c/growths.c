@@ -160,6 +160,95 @@ static int reopen_without(long growth)
     return code == 0;
 }
 
+/* The same for memories that never wear out. */
+
+static const partial_arena arena = {8, 64};
+
+static int new_without(long growth)
+{
+    partial_memory memory = PARTIAL_EMPTY;
+    refuse(growth);
+    uint32_t code = partial_memory_new_with(1, initial, 2, 3, &arena, &memory);
+    refuse(0);
+    check(code == 0 || code == PARTIAL_MEMORY, "a memory is made or refused for memory", growth);
+    check((code == 0) == (memory.held != NULL), "a refused making leaves the handle empty", growth);
+    partial_memory_free(&memory);
+    return code == 0;
+}
+
+static int take_long_without(long growth)
+{
+    partial_memory memory = PARTIAL_EMPTY;
+    partial_port port = PARTIAL_EMPTY;
+    partial_read_answer answer = {0, 0};
+    partial_memory_new_with(1, initial, 2, 1, &arena, &memory);
+    refuse(growth);
+    uint32_t code = partial_memory_take_port(&memory, &port);
+    refuse(0);
+    check(code == 0 || code == PARTIAL_MEMORY, "a memory's port is taken or refused for memory", growth);
+    check((code == 0) == (port.held != NULL), "a refused taking leaves the handle of the port empty", growth);
+    if (code != 0) {
+        check(partial_memory_take_port(&memory, &port) == 0, "and the port in the memory", growth);
+    }
+    check(partial_port_read(&port, 1, &answer) == 0 && answer.value == 4, "the memory's port reads", growth);
+    partial_port_free(&port);
+    partial_memory_free(&memory);
+    return code == 0;
+}
+
+static int give_long_without(long growth)
+{
+    partial_memory memory = PARTIAL_EMPTY;
+    partial_port port = PARTIAL_EMPTY;
+    uint64_t values[2] = {0, 0};
+    partial_memory_new_with(1, initial, 2, 1, &arena, &memory);
+    partial_memory_take_port(&memory, &port);
+    refuse(growth);
+    uint32_t code = partial_memory_give_port(&memory, &port);
+    refuse(0);
+    check(code == 0 || code == PARTIAL_MEMORY, "a port is returned or refused for memory", growth);
+    if (code != 0) {
+        check(partial_memory_give_port(&memory, &port) == 0, "a refused port is returned then", growth);
+    }
+    check(partial_memory_close(&memory, values, 2) == 0 && values[1] == 4, "its memory closes", growth);
+    return code == 0;
+}
+
+static int close_long_without(long growth)
+{
+    partial_memory memory = PARTIAL_EMPTY;
+    partial_port port = PARTIAL_EMPTY;
+    uint64_t values[2] = {5, 5};
+    partial_memory_new_with(1, initial, 2, 2, &arena, &memory);
+    refuse(growth);
+    uint32_t code = partial_memory_close(&memory, values, 2);
+    refuse(0);
+    check(code == 0 || code == PARTIAL_MEMORY, "a memory is closed or refused for memory", growth);
+    check((code == 0) == (memory.held == NULL), "a refused close loses nothing", growth);
+    if (code != 0) {
+        check(values[0] == 5 && values[1] == 5, "and leaves the caller's values", growth);
+        check(partial_memory_take_port(&memory, &port) == PARTIAL_HOLDS_NONE, "the memory gives out no port then", growth);
+        check(partial_memory_close(&memory, values, 1) == PARTIAL_LENGTH, "and isn't closed into other room", growth);
+        check(partial_memory_close(&memory, values, 2) == 0, "but is closed later", growth);
+    }
+    check(values[0] == 3 && values[1] == 4, "its values are given", growth);
+    return code == 0;
+}
+
+/* Frees a memory whose close was refused. */
+static int free_long_without(long growth)
+{
+    partial_memory memory = PARTIAL_EMPTY;
+    uint64_t values[2] = {5, 5};
+    partial_memory_new_with(1, initial, 2, 2, &arena, &memory);
+    refuse(growth);
+    uint32_t code = partial_memory_close(&memory, values, 2);
+    refuse(0);
+    partial_memory_free(&memory);
+    check(memory.held == NULL, "a memory is freed after its close", growth);
+    return code == 0;
+}
+
 /* Refuses each growth of a call, until the call is answered. */
 static void each_growth(int (*made_without)(long), const char *name)
 {
@@ -180,6 +269,11 @@ int main(void)
     each_growth(reopen_without, "a reopening takes memory");
     /* The list of ports at home has room for a port that was taken out of it. */
     check(give_without(1), "a port comes home without a growth", 1);
+    each_growth(new_without, "making a memory takes memory");
+    each_growth(take_long_without, "taking a memory's port takes memory");
+    each_growth(close_long_without, "closing a memory takes memory");
+    each_growth(free_long_without, "a memory is freed whose close was refused");
+    check(give_long_without(1), "a memory's port is returned without a growth", 1);
     printf("%d passed, %d failed\n", passed, failed);
     return failed != 0;
 }

@@ -2,7 +2,10 @@
  * A wait-free, linearizable partial snapshot object for programs in C: components of
  * 64 bits that many threads share. Any port may update or read any component, and scan
  * any few of them as they stood together at one moment. Each call of a port finishes
- * within a fixed number of atomic steps, whatever other threads do. An opening wears out:
+ * within a fixed number of atomic steps, whatever other threads do.
+ *
+ * A `partial_memory` never wears out, and its ports are `partial_port`s. A single opening
+ * (`partial_handle`) has conditional updates and meetings too, and it wears out:
  * `docs/using/choosing.md` says what a program does then.
  *
  * What is proved, and what isn't
@@ -35,8 +38,9 @@
  * - One call at a time uses a handle. It may move to another thread when a lock, the
  *   start or the join of a thread, or a sequentially consistent atomic orders its
  *   calls. Calls on different handles may run side by side.
- * - The number `opening` of `partial_open` differs for each memory that exists at a
- *   time.
+ * - The number `number` of `partial_memory_new` differs for each `partial_memory` that
+ *   exists at a time, and so does `opening` of `partial_open` for each opening. One exists
+ *   until its own handle and the handles of all its ports are empty.
  * - No call is made in a signal handler, or in the child of a fork of a process
  *   with threads.
  *
@@ -63,7 +67,17 @@ typedef struct partial_handle {
     void *held; /* only the library reads and writes it */
 } partial_handle;
 
-/* An empty handle. */
+/* A handle of a memory that never wears out. */
+typedef struct partial_memory {
+    void *held; /* only the library reads and writes it */
+} partial_memory;
+
+/* A handle of a port of such a memory. */
+typedef struct partial_port {
+    void *held; /* only the library reads and writes it */
+} partial_port;
+
+/* An empty handle, of any of the three types. All three have one layout. */
 #define PARTIAL_EMPTY { 0 }
 
 enum {
@@ -85,10 +99,20 @@ enum {
     PARTIAL_NONE_HOME = 21,    /* the memory holds no port */
     PARTIAL_NOT_ALL_HOME = 22, /* not all ports were returned */
     PARTIAL_NULL = 23,         /* a pointer is null */
-    PARTIAL_SHARED = 24        /* all were, and a reference of the memory is in use */
+    PARTIAL_SHARED = 24,       /* all were, and a reference of the memory is in use */
+    PARTIAL_OVERTAKEN = 25,    /* the epoch was changed 16 times during the update */
+    PARTIAL_NO_ARENA = 26,     /* each arena is in use, so the epoch can't be changed */
+    PARTIAL_EPOCHS_SPENT = 27  /* the epoch is the last one that a word can name */
 };
 
-/* The sizes of a memory, apart from the number of its components. */
+/* The sizes of an arena of a `partial_memory`, which has two arenas for each port. */
+typedef struct partial_arena {
+    uint32_t list_words; /* for the lists of vacated slots: at most 65536 */
+    uint32_t pool_words; /* claimed before the epoch changes: at most 131072, less 4 for
+                            each port and 2 for each port and component */
+} partial_arena;
+
+/* The sizes of an opening, apart from the number of its components. */
 typedef struct partial_sizes {
     uint32_t slots;      /* how many scans may announce themselves, in an opening */
     uint32_t list_words; /* for the lists of vacated slots of an opening */
@@ -142,6 +166,204 @@ uint32_t partial_door_meet(partial_handle *first, partial_handle *second);
 uint32_t partial_door_close(partial_handle *memory);
 uint32_t partial_door_values(partial_handle *closed, uint64_t *into, size_t room);
 uint32_t partial_door_free(partial_handle *handle);
+uint32_t partial_door_memory_new(uint64_t number, const uint64_t *initial,
+                                 size_t components, uint32_t ports,
+                                 const partial_arena *arena, partial_memory *memory);
+uint32_t partial_door_memory_take_port(partial_memory *memory, partial_port *port);
+uint32_t partial_door_memory_give_port(partial_memory *memory, partial_port *port);
+uint32_t partial_door_memory_close(partial_memory *memory, uint64_t *into, size_t room);
+uint32_t partial_door_port_update(partial_port *port, uint32_t component,
+                                  uint64_t value, partial_update_answer *answer);
+uint32_t partial_door_port_read(partial_port *port, uint32_t component,
+                                partial_read_answer *answer);
+uint32_t partial_door_port_scan(partial_port *port, const uint32_t *which,
+                                size_t positions, uint64_t *into, size_t room,
+                                partial_scan_answer *answer);
+uint32_t partial_door_port_number(partial_port *port, uint32_t *answer);
+
+/*
+ * Makes a memory that never wears out, in the empty handle `memory`. It has a component
+ * for each value in `initial`, and holds `ports` ports, 1 to 64. `number` is a number
+ * that the caller picks to tell memories apart: no two that exist at a time have the
+ * same. `arena` says how large its arenas are.
+ *
+ * 23: a pointer is null. 18: the handle holds something. 5: there are not 1 to 64 ports.
+ * 1: there are not 1 to 65536 values. 3: there are more than 65536 list words. 4: the pool
+ * words, with 4 for each port and 2 for each port and component, are more than 131072. 6:
+ * an allocation was refused. The handle is as it was.
+ */
+static inline uint32_t partial_memory_new_with(uint64_t number, const uint64_t *initial,
+                                               size_t components, uint32_t ports,
+                                               const partial_arena *arena,
+                                               partial_memory *memory)
+{
+    const uint64_t none = 0;
+    if ((!initial && components) || !arena || !memory) {
+        return PARTIAL_NULL;
+    }
+    return partial_door_memory_new(number, initial ? initial : &none, components, ports,
+                                   arena, memory);
+}
+
+/* The same, with arenas of 1024 list words and 16384 pool words. */
+static inline uint32_t partial_memory_new(uint64_t number, const uint64_t *initial,
+                                          size_t components, uint32_t ports,
+                                          partial_memory *memory)
+{
+    const partial_arena arena = {1024, 16384};
+    return partial_memory_new_with(number, initial, components, ports, &arena, memory);
+}
+
+/*
+ * Takes the last port that a memory holds out of it, into an empty handle. A new memory
+ * holds its ports in the order of their numbers, which are counted from 0.
+ *
+ * 23: a pointer is null. 18: `port` holds something. 17: `memory` holds no open memory.
+ * 21: the memory holds no port. 6: an allocation was refused. Both handles are as they
+ * were.
+ */
+static inline uint32_t partial_memory_take_port(partial_memory *memory, partial_port *port)
+{
+    if (!memory || !port) {
+        return PARTIAL_NULL;
+    }
+    return partial_door_memory_take_port(memory, port);
+}
+
+/*
+ * Returns a port to its memory, from which it may be taken again. Its handle is empty
+ * afterwards.
+ *
+ * 23: a pointer is null. 17: `memory` holds no open memory, or `port` no port. 20: the
+ * port is of another memory. 6: an allocation was refused. Both handles are as they were.
+ */
+static inline uint32_t partial_memory_give_port(partial_memory *memory, partial_port *port)
+{
+    if (!memory || !port) {
+        return PARTIAL_NULL;
+    }
+    return partial_door_memory_give_port(memory, port);
+}
+
+/*
+ * Closes a memory to which all ports were returned, and puts its values into `into`, which
+ * has room for as many as it has components. They are those after one history, which
+ * begins with all that each port had observed. The handle is empty afterwards.
+ *
+ * 23: a pointer is null. 17: the handle holds no memory. 19: `room` isn't the number of
+ * components. 22: not all ports were returned. 24: all were, and a reference of the memory
+ * is in use; a port that is returned gives up its reference, so a caller who follows the
+ * rules above doesn't get it. After these the handle is as it was. 6: an allocation was
+ * refused; nothing is lost, the memory may be closed later, and until then it gives out no
+ * port. `into` is as it was.
+ */
+static inline uint32_t partial_memory_close(partial_memory *memory, uint64_t *into,
+                                            size_t room)
+{
+    uint64_t no_value = 0;
+    if (!memory || (!into && room)) {
+        return PARTIAL_NULL;
+    }
+    return partial_door_memory_close(memory, into ? into : &no_value, room);
+}
+
+/*
+ * Empties the handle of a memory, and frees what it held. The memory itself is freed when
+ * the handles of all its ports are empty too. Returns 0, or 23 when the pointer is null.
+ */
+static inline uint32_t partial_memory_free(partial_memory *memory)
+{
+    if (!memory) {
+        return PARTIAL_NULL;
+    }
+    return partial_door_free((partial_handle *)memory);
+}
+
+/*
+ * Sets component `component` to `value`.
+ *
+ * When it was applied, it is the last entry of the history that the port has observed
+ * afterwards, and no other update has its stamp. Otherwise another update, with the
+ * stamp in `answer`, took effect during the call and overwrote it.
+ *
+ * 23: a pointer is null. 17: the handle holds no port. 7: `component` isn't below the
+ * number of components. 25: the epoch was changed 16 times during the call. 26, 27: the
+ * epoch has to be changed, and each arena is in use, or the current epoch is the last one
+ * that a word can name. `answer` is as it was, and nothing was applied.
+ */
+static inline uint32_t partial_port_update(partial_port *port, uint32_t component,
+                                           uint64_t value, partial_update_answer *answer)
+{
+    if (!port || !answer) {
+        return PARTIAL_NULL;
+    }
+    return partial_door_port_update(port, component, value, answer);
+}
+
+/*
+ * Reads component `component`: its value and its stamp at a moment of the call.
+ *
+ * 23: a pointer is null. 17: the handle holds no port. 7: `component` isn't below the
+ * number of components. `answer` is as it was.
+ */
+static inline uint32_t partial_port_read(partial_port *port, uint32_t component,
+                                         partial_read_answer *answer)
+{
+    if (!port || !answer) {
+        return PARTIAL_NULL;
+    }
+    return partial_door_port_read(port, component, answer);
+}
+
+/*
+ * Scans the components in `which`, in this order and with repeats: `into` has their
+ * values as they stood together at one moment of the call.
+ *
+ * 23: a pointer is null. 17: the handle holds no port. 19: `positions` and `room`
+ * differ, or there are more positions than components. 7: an index in `which` isn't below
+ * the number of components. 26, 27: the epoch has to be changed and can't be. `into` and
+ * `answer` are as they were.
+ */
+static inline uint32_t partial_port_scan(partial_port *port,
+                                         const uint32_t *which, size_t positions,
+                                         uint64_t *into, size_t room,
+                                         partial_scan_answer *answer)
+{
+    const uint32_t no_component = 0;
+    uint64_t no_value = 0;
+    if (!port || (!which && positions) || (!into && room) || !answer) {
+        return PARTIAL_NULL;
+    }
+    return partial_door_port_scan(port, which ? which : &no_component, positions,
+                                  into ? into : &no_value, room, answer);
+}
+
+/*
+ * Reports the number of a port.
+ *
+ * 23: a pointer is null. 17: the handle holds no port. `answer` is as it was.
+ */
+static inline uint32_t partial_port_number(partial_port *port, uint32_t *answer)
+{
+    if (!port || !answer) {
+        return PARTIAL_NULL;
+    }
+    return partial_door_port_number(port, answer);
+}
+
+/*
+ * Empties the handle of a port, and frees the port. Its memory can't be closed then; a
+ * port that is to be used again is returned. Returns 0, or 23 when the pointer is null.
+ */
+static inline uint32_t partial_port_free(partial_port *port)
+{
+    if (!port) {
+        return PARTIAL_NULL;
+    }
+    return partial_door_free((partial_handle *)port);
+}
+
+/* ---- Single openings ---- */
 
 /*
  * Opens a memory into the handle `memory`. It has a component for each value in

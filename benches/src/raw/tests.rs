@@ -214,7 +214,7 @@ fn answers_are_those_of_the_door() {
             pool_words: (3 * m + random.below(600)) as u32,
         };
         let initial: Vec<u64> = (0..m as u64).collect();
-        let (_memory, mut doors) = partial_door::open(&initial, sizes, 3).expect("it opens");
+        let (_memory, mut doors) = partial_door::opening::open(&initial, sizes, 3).expect("it opens");
         let mut raws = open(&initial, sizes, 3);
         for _ in 0..200 {
             let port = random.below(3);
@@ -224,7 +224,7 @@ fn answers_are_those_of_the_door() {
 }
 
 // Makes one call at both ports. A component out of range comes up now and then.
-fn assert_alike(door: &mut partial_door::Port, raw: &mut Port, m: usize, random: &mut Random) {
+fn assert_alike(door: &mut partial_door::opening::Port, raw: &mut Port, m: usize, random: &mut Random) {
     let component = random.below(m + 1) as u32;
     let value = random.below(1_000) as u64;
     match random.below(4) {

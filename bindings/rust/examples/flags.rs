@@ -1,7 +1,7 @@
 //! A store of flags, 64 to a component, that threads flip by conditional updates. No flip is lost: at the end a flag
 //! is set exactly when it was flipped an odd number of times.
 
-use partial_door::{open, Port, Refused, Sizes};
+use partial_door::opening::{open, Port, Refused, Sizes};
 use std::error::Error;
 use std::thread;
 

@@ -1,65 +1,41 @@
-//! What calls are given and what they answer.
+//! What calls answer.
 
-use crate::raw;
-
-/// The sizes of a memory, apart from the number of its components. They say how long an opening lives.
-#[derive(Clone, Copy, Debug, PartialEq, Eq)]
-pub struct Sizes {
-    /// How many scans of some position may announce themselves: 1 to 65,536.
-    pub slots: u32,
-    /// How many list words there are, for lists of vacated slots: at most 65,536.
-    pub list_words: u32,
-    /// How many pool words there are, for records and announcements: at least 3 for each component, and at most
-    /// 4,194,304.
-    pub pool_words: u32,
-}
-
-impl Default for Sizes {
-    /// The greatest memory: 65,536 slots, 65,536 list words and 4,194,304 pool words, about 35 MB.
-    fn default() -> Sizes {
-        Sizes {
-            slots: 65_536,
-            list_words: 65_536,
-            pool_words: 4_194_304,
-        }
-    }
-}
-
-impl Sizes {
-    pub(crate) fn raw(self) -> raw::Sizes {
-        raw::Sizes {
-            slots: self.slots,
-            list_words: self.list_words,
-            pool_words: self.pool_words,
-        }
-    }
-}
-
-/// Which update wrote a value, or that none did since the opening. Two updates of one program never have the
-/// same stamp: it carries the number of its opening.
+/// Which update wrote a value, or that none did since the memory was made. Two updates of one program never have
+/// the same stamp: it carries the number of its memory.
 ///
 /// ```
-/// use partial_door::{open, Refused, Sizes};
+/// use partial_door::Memory;
 ///
-/// let sizes = Sizes { slots: 10, list_words: 0, pool_words: 100 };
-/// let (memory, mut ports) = open(&[5], sizes, 1)?;
-/// let before = ports[0].read(0)?.stamp;
-/// let mut closed = memory.close(ports)?;
-/// let (_memory, mut ports) = closed.reopen(1, sizes, 1)?;
-/// assert_eq!(ports[0].update_if(0, before, 6), Err(Refused::Stamp));
-/// assert_eq!(ports[0].read(0)?.value, 5);
+/// let memory = Memory::new(&[5])?;
+/// let mut port = memory.port()?;
+/// let before = port.read(0)?.stamp;
+/// port.update(0, 5)?;
+/// assert_ne!(port.read(0)?.stamp, before);
 /// # Ok::<(), Box<dyn std::error::Error + Send + Sync>>(())
 /// ```
 #[derive(Clone, Copy, Debug, PartialEq, Eq, Hash)]
 pub struct Stamp {
-    pub(crate) opening: u64,
+    pub(crate) memory: u64,
     pub(crate) word: u64,
 }
 
 impl Stamp {
-    /// The number of the word at which the update's record stands, which no other record of its opening has.
-    pub fn word(self) -> u64 {
-        self.word
+    /// The number of the epoch in which the update took effect. A memory begins in epoch 0.
+    ///
+    /// ```
+    /// use partial_door::Memory;
+    ///
+    /// let memory = Memory::builder().ports(1).pool_words(8).open(&[5])?;
+    /// let mut port = memory.port()?;
+    /// assert_eq!(port.read(0)?.stamp.epoch(), 0);
+    /// for value in 0..100 {
+    ///     port.update(0, value)?;
+    /// }
+    /// assert!(port.read(0)?.stamp.epoch() > 10);
+    /// # Ok::<(), Box<dyn std::error::Error + Send + Sync>>(())
+    /// ```
+    pub fn epoch(self) -> u64 {
+        self.word >> 23
     }
 }
 
@@ -74,21 +50,6 @@ pub enum Updated {
     /// Another update to the same component took effect during the call and overwrote it.
     Lost {
         /// The stamp of that other update.
-        by: Stamp,
-    },
-}
-
-/// How a conditional update ended.
-#[derive(Clone, Copy, Debug, PartialEq, Eq)]
-pub enum UpdatedIf {
-    /// It took effect: its entry is in the history.
-    Applied {
-        /// The stamp of the update.
-        stamp: Stamp,
-    },
-    /// It had no effect: the component had another stamp than the expected one.
-    Changed {
-        /// The stamp that it had.
         by: Stamp,
     },
 }

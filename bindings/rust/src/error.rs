@@ -1,24 +1,33 @@
-//! Why a call was refused. Each error has the number that the library returned.
+//! Why a call of a memory was refused. Each error has the number that the library returned.
 
+use crate::Memory;
 use std::error::Error;
 use std::fmt;
 
-/// Why a memory was not opened. Nothing is left of the attempt.
+/// Why a memory was not made. Nothing is left of the attempt.
 #[derive(Clone, Copy, Debug, PartialEq, Eq)]
 #[non_exhaustive]
 pub enum OpenError {
-    /// There are not 1 to 65,536 components.
-    Components,
-    /// There are not 1 to 65,536 slots.
-    Slots,
-    /// There are more than 65,536 list words.
-    ListWords,
-    /// There are fewer than three pool words for each component, or more than 4,194,304.
-    PoolWords,
     /// There are not 1 to 64 ports.
     Ports,
-    /// The closed memory has more components than the new one would have.
-    TooSmall,
+    /// There are not 1 to 65,536 components.
+    Components,
+    /// There are more than 65,536 list words.
+    ListWords,
+    /// The pool words of an arena, with the room for each port, are more than 131,072.
+    PoolWords,
+    /// An allocation was refused.
+    Memory,
+}
+
+/// Why a port was not given out.
+#[derive(Clone, Copy, Debug, PartialEq, Eq)]
+#[non_exhaustive]
+pub enum PortError {
+    /// All ports are in use.
+    NoneFree,
+    /// A clone of the memory was closed, or is about to be: its close was refused for want of memory.
+    Closed,
     /// An allocation was refused.
     Memory,
 }
@@ -29,95 +38,113 @@ pub enum OpenError {
 pub enum Refused {
     /// An index isn't below the number of components.
     Component,
-    /// The slots are used up for this port: its scans of some position are refused from now on.
-    SlotsSpent,
-    /// The pool is used up for this port: its updates and its scans of some position are refused
-    /// from now on.
-    PoolSpent,
     /// The two lengths differ, or there are more positions than components.
     Length,
-    /// The expected stamp is one of another opening.
-    Stamp,
+    /// The epoch was changed 16 times during the update.
+    Overtaken,
+    /// The epoch has to be changed, and each arena is in use.
+    NoArena,
+    /// The epoch has to be changed, and the current one is the last one that a word can name.
+    EpochsSpent,
 }
 
 /// Why a memory was not closed.
 #[derive(Debug)]
 #[non_exhaustive]
 pub enum CloseError {
-    /// The memory could not be closed with these ports. A port of it is in use elsewhere, one that was
-    /// given is of another memory, or an allocation was refused when one was returned. The memory and
-    /// the ports come back, by their numbers, and nothing of them has changed. When an allocation is
-    /// refused as a port is taken out again, the memory keeps that port: it isn't in the list, and the
-    /// next close has it.
-    NotAll(crate::Memory, Vec<crate::Port>),
-    /// An allocation was refused, and the contents are lost.
-    Memory,
+    /// A port is in use. The memory is as it was.
+    InUse(Memory),
+    /// A clone of the memory was closed.
+    Closed,
+    /// An allocation was refused. The contents are as they were, and the memory may be closed later. It may give out
+    /// no port anymore.
+    Memory(Memory),
 }
-
-/// The two ports are of two memories. Both are as they were.
-#[derive(Clone, Copy, Debug, PartialEq, Eq)]
-pub struct TwoMemories;
 
 impl OpenError {
     pub(crate) fn of(code: u32) -> OpenError {
         match code {
             1 => OpenError::Components,
-            2 => OpenError::Slots,
             3 => OpenError::ListWords,
             4 => OpenError::PoolWords,
             5 => OpenError::Ports,
-            13 => OpenError::TooSmall,
             _ => OpenError::Memory,
         }
     }
 
-    /// The number of the refusal: 1 to 4 for a size, in their order, 5 for `Ports`, 6 for `Memory`,
-    /// 13 for `TooSmall`.
+    /// The number of the refusal: 5 for `Ports`, 1 for `Components`, 3 for `ListWords`, 4 for `PoolWords`, 6 for
+    /// `Memory`.
     pub fn code(self) -> u32 {
         match self {
+            OpenError::Ports => 5,
             OpenError::Components => 1,
-            OpenError::Slots => 2,
             OpenError::ListWords => 3,
             OpenError::PoolWords => 4,
-            OpenError::Ports => 5,
-            OpenError::TooSmall => 13,
             OpenError::Memory => 6,
         }
     }
 }
 
+impl PortError {
+    pub(crate) fn of(code: u32) -> PortError {
+        match code {
+            17 => PortError::Closed,
+            21 => PortError::NoneFree,
+            _ => PortError::Memory,
+        }
+    }
+
+    /// The number of the refusal: 21 for `NoneFree`, 17 for `Closed`, 6 for `Memory`.
+    pub fn code(self) -> u32 {
+        match self {
+            PortError::NoneFree => 21,
+            PortError::Closed => 17,
+            PortError::Memory => 6,
+        }
+    }
+}
+
 impl Refused {
+    #[cold]
     pub(crate) fn of(code: u32) -> Refused {
         match code {
             7 => Refused::Component,
-            8 => Refused::SlotsSpent,
-            9 => Refused::PoolSpent,
             19 => Refused::Length,
+            25 => Refused::Overtaken,
+            26 => Refused::NoArena,
+            27 => Refused::EpochsSpent,
             _ => unreachable!("a port's handle holds a port"),
         }
     }
 
-    /// The number of the refusal: 7 for `Component`, 8 for `SlotsSpent`, 9 for `PoolSpent`, 19 for
-    /// `Length`, and 25 for `Stamp`, which this crate finds and not the library.
+    /// The number of the refusal: 7 for `Component`, 19 for `Length`, 25 for `Overtaken`, 26 for `NoArena`, 27 for
+    /// `EpochsSpent`.
     pub fn code(self) -> u32 {
         match self {
             Refused::Component => 7,
-            Refused::SlotsSpent => 8,
-            Refused::PoolSpent => 9,
             Refused::Length => 19,
-            Refused::Stamp => 25,
+            Refused::Overtaken => 25,
+            Refused::NoArena => 26,
+            Refused::EpochsSpent => 27,
         }
     }
 }
 
 impl CloseError {
-    /// The number of the refusal: 22 for `NotAll`, 6 for `Memory`. When the library returns 24, a
-    /// reference of the memory is in use, `close` reports `NotAll` too; one call after the other on
-    /// a memory never leads there.
+    pub(crate) fn of(code: u32, memory: Memory) -> CloseError {
+        match code {
+            17 => CloseError::Closed,
+            22 | 24 => CloseError::InUse(memory),
+            _ => CloseError::Memory(memory),
+        }
+    }
+
+    /// The number of the refusal: 22 for `InUse`, 17 for `Closed`, 6 for `Memory`.
     pub fn code(&self) -> u32 {
         match self {
-            CloseError::NotAll(..) => 22,
-            CloseError::Memory => 6,
+            CloseError::InUse(_) => 22,
+            CloseError::Closed => 17,
+            CloseError::Memory(_) => 6,
         }
     }
 }
@@ -125,13 +152,21 @@ impl CloseError {
 impl fmt::Display for OpenError {
     fn fmt(&self, f: &mut fmt::Formatter<'_>) -> fmt::Result {
         f.write_str(match self {
+            OpenError::Ports => "ports out of range",
             OpenError::Components => "components out of range",
-            OpenError::Slots => "slots out of range",
             OpenError::ListWords => "list words out of range",
             OpenError::PoolWords => "pool words out of range",
-            OpenError::Ports => "ports out of range",
-            OpenError::TooSmall => "fewer components than before",
             OpenError::Memory => "out of memory",
+        })
+    }
+}
+
+impl fmt::Display for PortError {
+    fn fmt(&self, f: &mut fmt::Formatter<'_>) -> fmt::Result {
+        f.write_str(match self {
+            PortError::NoneFree => "all ports are in use",
+            PortError::Closed => "the memory is closed",
+            PortError::Memory => "out of memory",
         })
     }
 }
@@ -140,10 +175,10 @@ impl fmt::Display for Refused {
     fn fmt(&self, f: &mut fmt::Formatter<'_>) -> fmt::Result {
         f.write_str(match self {
             Refused::Component => "an index isn't below the number of components",
-            Refused::SlotsSpent => "the slots are used up for this port",
-            Refused::PoolSpent => "the pool is used up for this port",
             Refused::Length => "two lengths differ, or one is too large",
-            Refused::Stamp => "the expected stamp is one of another opening",
+            Refused::Overtaken => "overtaken by changes of epoch",
+            Refused::NoArena => "no arena is free",
+            Refused::EpochsSpent => "epochs used up",
         })
     }
 }
@@ -151,19 +186,14 @@ impl fmt::Display for Refused {
 impl fmt::Display for CloseError {
     fn fmt(&self, f: &mut fmt::Formatter<'_>) -> fmt::Result {
         f.write_str(match self {
-            CloseError::NotAll(..) => "a port is in use elsewhere, or of another memory",
-            CloseError::Memory => "out of memory",
+            CloseError::InUse(_) => "a port is in use",
+            CloseError::Closed => "the memory is closed",
+            CloseError::Memory(_) => "out of memory",
         })
     }
 }
 
-impl fmt::Display for TwoMemories {
-    fn fmt(&self, f: &mut fmt::Formatter<'_>) -> fmt::Result {
-        f.write_str("the ports are of two memories")
-    }
-}
-
 impl Error for OpenError {}
+impl Error for PortError {}
 impl Error for Refused {}
 impl Error for CloseError {}
-impl Error for TwoMemories {}

@@ -1,26 +1,27 @@
 //! A wait-free, linearizable partial snapshot object: components of 64 bits that many threads share. Any
 //! port may update or read any component, and scan any few of them as they stood together at one moment.
-//! Each call finishes within a fixed number of atomic steps, whatever other threads do. An opening wears
-//! out: `docs/using/choosing.md` says what a program does then.
+//! Each call of a port finishes within a fixed number of atomic steps, whatever other threads do. A [`Memory`]
+//! never wears out.
 //!
 //! ```
-//! use partial_door::{open, Sizes};
+//! use partial_door::Memory;
 //!
-//! let sizes = Sizes { slots: 1000, list_words: 1000, pool_words: 100_000 };
-//! let (memory, mut ports) = open(&[10, 20, 30], sizes, 2)?;
-//! let mut second = ports.pop().expect("two ports");
-//! let mut first = ports.pop().expect("two ports");
+//! let memory = Memory::new(&[10, 20, 30])?;
+//! let mut first = memory.port()?;
 //! first.update(0, 11)?;
-//! second.update(2, 33)?;
+//! first.update(2, 33)?;
 //! assert_eq!(first.scan_array([2, 0])?, [33, 11]);
 //!
 //! std::thread::scope(|scope| {
-//!     scope.spawn(|| first.update(1, 21));
-//!     scope.spawn(|| second.update(2, 34));
+//!     scope.spawn(|| memory.port().expect("a port is free").update(1, 21));
+//!     scope.spawn(|| first.update(2, 34));
 //! });
-//! assert_eq!(memory.close(vec![first, second])?.values(), [11, 21, 34]);
+//! drop(first);
+//! assert_eq!(memory.close()?, [11, 21, 34]);
 //! # Ok::<(), Box<dyn std::error::Error + Send + Sync>>(())
 //! ```
+//!
+//! [`opening`] has memories of fixed sizes that wear out, with conditional updates and meetings.
 //!
 //! # Memory ordering
 //!
@@ -31,21 +32,20 @@
 //!
 //! # Memory in use
 //!
-//! An opening takes one table of `components + 4 + slots + list_words + pool_words` words of 8 bytes, and some
-//! buffers of the components' length for each port. [`open`], [`Memory::close`] and [`Closed::reopen`] take memory,
-//! and dropping a port may; no call of a port does.
+//! A memory has two arenas for each of its ports, and uses them again and again. [`Builder`] says how large they
+//! are. [`Memory::new`], [`Memory::port`] and [`Memory::close`] take memory; no call of a port does.
 //!
 //! # What is proved, and what isn't
 //!
 //! This crate is a safe interface to a static library that is written in Rattle. The library's contracts
-//! are proved over all orders of the threads' atomic steps: what an update, a read, a scan, a meeting and
-//! a close answer, that each call ends, and what each refusal leaves. Nothing in this crate is proved.
+//! are proved over all orders of the threads' atomic steps: what an update, a read, a scan and a close answer,
+//! that each call ends, and what each refusal leaves. Nothing in this crate is proved.
 //! To what is trusted it adds:
 //!
 //! - its `unsafe` blocks: each passes pointers that are borrowed for the call, and handles that no
 //!   other call uses, as the library's header asks;
 //! - its declarations, which have to agree with the functions of the library;
-//! - its list of dropped ports, and its comparison of a stamp's opening with the port's;
+//! - its lock of the ports that are free, and its numbers of memories;
 //! - the Rust compiler, the linker and the C library's `malloc`, `realloc` and `free`.
 //!
 //! # Linking
@@ -53,18 +53,21 @@
 //! The static library is taken from where `rt lib` puts it, and the kit's `c/liblibc_c.a` from where `rt`
 //! says that the kit is. `PARTIAL_DOOR_LIB` and `PARTIAL_DOOR_HEAP` name them when they lie elsewhere. Linked
 //! so, each call of a port is a call of the library. Linked with the library that `bindings/bitcode.sh` builds,
-//! and with the flags that it prints in `RUSTFLAGS`, an optimised program has the code of a read inlined. The
-//! compiler and the linker then generate the library's code too. `docs/using/c-and-rust.md` says what that needs.
+//! and with the flags that it prints in `RUSTFLAGS`, an optimised program has the code of a read of an opening inlined.
+//! The compiler and the linker then generate the library's code too. `docs/using/c-and-rust.md` says what that needs.
 //! The library is built for x86-64 Linux.
 #![deny(missing_docs)]
 
 mod answers;
+mod builder;
 mod error;
 mod memory;
+pub mod opening;
 mod port;
 mod raw;
 
-pub use answers::{Scanned, Sizes, Stamp, Updated, UpdatedIf, Value};
-pub use error::{CloseError, OpenError, Refused, TwoMemories};
-pub use memory::{open, Closed, Memory};
+pub use answers::{Scanned, Stamp, Updated, Value};
+pub use builder::Builder;
+pub use error::{CloseError, OpenError, PortError, Refused};
+pub use memory::Memory;
 pub use port::Port;

@@ -1,263 +1,177 @@
-//! Open memories and closed ones.
+//! Memories that never wear out.
 
 use crate::port::Port;
 use crate::raw::{self, Handle};
-use crate::{CloseError, OpenError, Sizes};
+use crate::{Builder, CloseError, OpenError, PortError};
 use std::fmt;
 use std::sync::atomic::{AtomicU64, Ordering};
 use std::sync::{Arc, Mutex, MutexGuard, PoisonError};
 
-// The number of the next opening. Each opening has a number of its own.
-static OPENINGS: AtomicU64 = AtomicU64::new(0);
+// The number of the next memory. Each memory has a number of its own.
+static MEMORIES: AtomicU64 = AtomicU64::new(0);
 
-/// The ports that were dropped while their memory was open.
-#[derive(Default)]
-pub(crate) struct Home {
-    dropped: Mutex<Vec<Port>>,
-}
-
-impl Home {
-    // Nobody panics while the list is locked, so a poisoned one is whole too.
-    fn ports(&self) -> MutexGuard<'_, Vec<Port>> {
-        self.dropped.lock().unwrap_or_else(PoisonError::into_inner)
-    }
-
-    /// Takes a dropped port in.
-    pub(crate) fn take_in(&self, port: Port) {
-        self.ports().push(port);
-    }
-}
-
-/// An open memory. It is needed to close it, and it gives dropped ports out again.
-///
-/// A memory is freed when its [`Memory`] and all its ports are dropped.
-pub struct Memory {
-    handle: Handle,
-    opening: u64,
+/// What a memory's clones and ports share.
+pub(crate) struct Shared {
+    // The library's memory, which holds the ports that are free. It is empty once the memory is closed.
+    home: Mutex<Handle>,
+    /// The number of the memory, which its stamps carry.
+    pub(crate) number: u64,
     components: u32,
-    ports: u32,
-    home: Arc<Home>,
 }
 
-/// The values of a closed memory.
-pub struct Closed {
-    handle: Handle,
-    values: Vec<u64>,
-}
-
-/// Opens a memory whose components hold these values. Returns it with its ports, which are numbered from 0 in
-/// their order.
-///
-/// ```
-/// use partial_door::{open, Sizes};
-///
-/// let (memory, ports) = open(&[10, 20], Sizes { slots: 10, list_words: 0, pool_words: 100 }, 3)?;
-/// assert_eq!((memory.len(), ports.len()), (2, 3));
-/// # Ok::<(), partial_door::OpenError>(())
-/// ```
-///
-/// # Errors
-/// The first that holds: [`OpenError::Components`], [`OpenError::Slots`], [`OpenError::ListWords`] or
-/// [`OpenError::PoolWords`] for a size out of its range; [`OpenError::Ports`] when there are not 1 to 64
-/// ports; [`OpenError::Memory`] when an allocation was refused. Nothing is left of the attempt.
-pub fn open(initial: &[u64], sizes: Sizes, ports: u32) -> Result<(Memory, Vec<Port>), OpenError> {
-    let mut memory = Memory::new(u32::try_from(initial.len()).map_err(|_| OpenError::Components)?, ports);
-    // SAFETY: the values, the sizes and the empty handle are borrowed for the call, and the number of
-    // the opening is new.
-    let code = unsafe {
-        raw::partial_door_open(
-            memory.opening,
-            initial.as_ptr(),
-            initial.len(),
-            &sizes.raw(),
-            ports,
-            &mut memory.handle,
-        )
-    };
-    match code {
-        0 => memory.with_ports(),
-        code => Err(OpenError::of(code)),
+impl Shared {
+    // Nobody panics while it is locked, so a poisoned lock guards a whole handle too.
+    fn home(&self) -> MutexGuard<'_, Handle> {
+        self.home.lock().unwrap_or_else(PoisonError::into_inner)
     }
+
+    /// Takes a port in. The library has room for it, so an allocation isn't refused; otherwise the port is freed.
+    pub(crate) fn take_in(&self, port: &mut Handle) {
+        // SAFETY: both handles are borrowed for the call, and the numbers of two memories differ.
+        unsafe { raw::partial_door_memory_give_port(&mut *self.home(), port) };
+    }
+}
+
+/// A memory of components that threads share, and that never wears out. A clone is the same memory.
+///
+/// A thread calls it by a [`Port`]. The memory is freed when its clones and all its ports are dropped.
+#[derive(Clone)]
+pub struct Memory {
+    shared: Arc<Shared>,
 }
 
 impl Memory {
-    // A memory that is to be opened.
-    fn new(components: u32, ports: u32) -> Memory {
-        Memory {
-            handle: Handle::empty(),
-            opening: OPENINGS.fetch_add(1, Ordering::SeqCst),
-            components,
-            ports,
-            home: Arc::default(),
-        }
+    /// Makes a memory whose components hold these values, with 64 ports and arenas of the usual size.
+    ///
+    /// ```
+    /// use partial_door::Memory;
+    ///
+    /// let memory = Memory::new(&[10, 20])?;
+    /// assert_eq!(memory.port()?.read(1)?.value, 20);
+    /// # Ok::<(), Box<dyn std::error::Error + Send + Sync>>(())
+    /// ```
+    ///
+    /// # Errors
+    /// As those of [`Builder::open`]. There is room for 894 components with 64 ports; a [`Builder`] with fewer ports
+    /// allows more.
+    pub fn new(initial: &[u64]) -> Result<Memory, OpenError> {
+        Builder::default().open(initial)
     }
 
-    // Takes all ports out of a memory that has just opened.
-    fn with_ports(mut self) -> Result<(Memory, Vec<Port>), OpenError> {
-        let mut ports = Vec::with_capacity(self.ports as usize);
-        for _ in 0..self.ports {
-            ports.push(self.take_port().map_err(OpenError::of)?);
-        }
-        ports.reverse();
-        Ok((self, ports))
+    /// What says how many ports a memory has and how large its arenas are, before it is made.
+    ///
+    /// ```
+    /// use partial_door::Memory;
+    ///
+    /// let memory = Memory::builder().ports(2).open(&[10, 20])?;
+    /// assert_eq!(memory.len(), 2);
+    /// # Ok::<(), partial_door::OpenError>(())
+    /// ```
+    pub fn builder() -> Builder {
+        Builder::default()
     }
 
-    // Takes the last port that the library holds for the memory. Returns the number of the refusal otherwise.
-    fn take_port(&mut self) -> Result<Port, u32> {
+    pub(crate) fn open(initial: &[u64], ports: u32, arena: &raw::Arena) -> Result<Memory, OpenError> {
+        let number = MEMORIES.fetch_add(1, Ordering::Relaxed);
         let mut handle = Handle::empty();
-        // SAFETY: both handles are borrowed for the call.
-        match unsafe { raw::partial_door_take_port(&mut self.handle, &mut handle) } {
-            0 => Ok(Port::new(handle, self.opening, self.components, &self.home)),
-            code => Err(code),
-        }
-    }
-
-    /// A port of the memory that was dropped, as by a thread that panicked, if there is one. It goes on where it
-    /// was left, with its number and its marks.
-    ///
-    /// ```
-    /// use partial_door::{open, Sizes};
-    ///
-    /// let (memory, ports) = open(&[1], Sizes { slots: 10, list_words: 0, pool_words: 100 }, 1)?;
-    /// assert!(memory.port().is_none());
-    /// let failed = std::thread::spawn(move || {
-    ///     let mut ports = ports;
-    ///     ports[0].update(0, 7).expect("there is room");
-    ///     panic!("the port is dropped");
-    /// });
-    /// assert!(failed.join().is_err());
-    /// let port = memory.port().expect("it has come back");
-    /// assert_eq!(memory.close(vec![port])?.values(), [7]);
-    /// # Ok::<(), Box<dyn std::error::Error + Send + Sync>>(())
-    /// ```
-    pub fn port(&self) -> Option<Port> {
-        let mut port = self.home.ports().pop()?;
-        port.lives_at(&self.home);
-        Some(port)
-    }
-
-    /// The number of components.
-    #[allow(clippy::len_without_is_empty)]
-    pub fn len(&self) -> usize {
-        self.components as usize
-    }
-
-    /// Closes the memory with all its ports, in any order. Ports that were dropped need not be given. The values
-    /// are those after one history, which begins with all that each port had observed.
-    ///
-    /// ```
-    /// use partial_door::{open, CloseError, Sizes};
-    ///
-    /// let sizes = Sizes { slots: 10, list_words: 0, pool_words: 100 };
-    /// let (memory, mut ports) = open(&[1, 2], sizes, 2)?;
-    /// ports[1].update(0, 7)?;
-    /// let other = ports.split_off(1);
-    /// let Err(CloseError::NotAll(memory, ports)) = memory.close(ports) else { panic!() };
-    /// drop(other);
-    /// assert_eq!(memory.close(ports)?.values(), [7, 2]);
-    /// # Ok::<(), Box<dyn std::error::Error + Send + Sync>>(())
-    /// ```
-    ///
-    /// # Errors
-    /// [`CloseError::NotAll`] when a port of the memory is in use elsewhere, or one of another memory was given: it
-    /// has the memory and the ports, by their numbers. [`CloseError::Memory`] when an allocation was refused: the
-    /// contents are lost.
-    pub fn close(mut self, mut ports: Vec<Port>) -> Result<Closed, CloseError> {
-        ports.append(&mut self.home.ports());
-        let mut left = Vec::new();
-        let mut returned = 0;
-        for mut port in ports {
-            // SAFETY: both handles are borrowed for the call.
-            match unsafe { raw::partial_door_give_port(&mut self.handle, port.handle()) } {
-                0 => returned += 1,
-                _ => left.push(port),
-            }
-        }
-        // SAFETY: the handle is borrowed for the call.
-        let code = match left.is_empty() {
-            true => unsafe { raw::partial_door_close(&mut self.handle) },
-            false => 22,
-        };
-        match code {
-            0 => Ok(Closed::new(std::mem::replace(&mut self.handle, Handle::empty()), self.len())),
-            22 | 24 => {
-                left.extend((0..returned).filter_map(|_| self.take_port().ok()));
-                for port in &mut left {
-                    port.lives_at_if(self.opening, &self.home);
-                }
-                left.sort_by_key(Port::number);
-                Err(CloseError::NotAll(self, left))
-            }
-            _ => Err(CloseError::Memory),
-        }
-    }
-}
-
-impl Closed {
-    fn new(mut handle: Handle, components: usize) -> Closed {
-        let mut values = vec![0; components];
-        // SAFETY: the handle and the values are borrowed for the call.
-        let code = unsafe { raw::partial_door_values(&mut handle, values.as_mut_ptr(), values.len()) };
-        assert_eq!(code, 0, "a closed memory has as many values as it was opened with");
-        Closed { handle, values }
-    }
-
-    /// Opens a memory of `components` components that goes on with these values. Returns it with its ports.
-    /// Components that the closed memory didn't have begin at 0. Stamps start anew: one of the closed memory
-    /// is refused in this one. The closed memory stays, and can be reopened again.
-    ///
-    /// ```
-    /// use partial_door::{open, Sizes};
-    ///
-    /// let sizes = Sizes { slots: 10, list_words: 0, pool_words: 100 };
-    /// let (memory, mut ports) = open(&[1, 2], sizes, 1)?;
-    /// ports[0].update(1, 7)?;
-    /// let mut closed = memory.close(ports)?;
-    /// let (memory, ports) = closed.reopen(3, sizes, 2)?;
-    /// assert_eq!(memory.close(ports)?.values(), [1, 7, 0]);
-    /// # Ok::<(), Box<dyn std::error::Error + Send + Sync>>(())
-    /// ```
-    ///
-    /// # Errors
-    /// The first that holds: as those of [`open`], and before [`OpenError::Memory`] [`OpenError::TooSmall`]
-    /// when the closed memory has more components. Nothing is left of the attempt.
-    pub fn reopen(&mut self, components: u32, sizes: Sizes, ports: u32) -> Result<(Memory, Vec<Port>), OpenError> {
-        let mut memory = Memory::new(components, ports);
-        // SAFETY: both handles and the sizes are borrowed for the call, and the number of the opening is new.
+        // SAFETY: the values, the sizes and the empty handle are borrowed for the call, and the number is new.
         let code = unsafe {
-            raw::partial_door_reopen(
-                memory.opening,
-                &mut self.handle,
-                components,
-                &sizes.raw(),
-                ports,
-                &mut memory.handle,
-            )
+            raw::partial_door_memory_new(number, initial.as_ptr(), initial.len(), ports, arena, &mut handle)
         };
         match code {
-            0 => memory.with_ports(),
+            0 => Ok(Memory {
+                shared: Arc::new(Shared {
+                    home: Mutex::new(handle),
+                    number,
+                    components: initial.len() as u32,
+                }),
+            }),
             code => Err(OpenError::of(code)),
         }
     }
 
-    /// The value of each component, by its index.
-    pub fn values(&self) -> &[u64] {
-        &self.values
+    /// A port of the memory that is free. It comes back when it is dropped, also by a thread that panics.
+    ///
+    /// It takes a lock for a short time, and so does dropping a port; the calls of a port take none.
+    ///
+    /// ```
+    /// use partial_door::Memory;
+    ///
+    /// let memory = Memory::builder().ports(1).open(&[1])?;
+    /// let mut port = memory.port()?;
+    /// let failed = std::thread::spawn(move || {
+    ///     port.update(0, 7).expect("component 0 is there");
+    ///     panic!("the port is dropped");
+    /// });
+    /// assert!(failed.join().is_err());
+    /// assert_eq!(memory.port()?.read(0)?.value, 7);
+    /// # Ok::<(), Box<dyn std::error::Error + Send + Sync>>(())
+    /// ```
+    ///
+    /// # Errors
+    /// [`PortError::NoneFree`] when all ports are in use, [`PortError::Closed`] when a clone of the memory was closed,
+    /// and [`PortError::Memory`] when an allocation was refused.
+    pub fn port(&self) -> Result<Port, PortError> {
+        let mut handle = Handle::empty();
+        // SAFETY: both handles are borrowed for the call.
+        match unsafe { raw::partial_door_memory_take_port(&mut *self.shared.home(), &mut handle) } {
+            0 => Ok(Port::new(handle, &self.shared)),
+            code => Err(PortError::of(code)),
+        }
+    }
+
+    /// The number of components.
+    ///
+    /// ```
+    /// assert_eq!(partial_door::Memory::new(&[10, 20])?.len(), 2);
+    /// # Ok::<(), partial_door::OpenError>(())
+    /// ```
+    #[allow(clippy::len_without_is_empty)]
+    pub fn len(&self) -> usize {
+        self.shared.components as usize
+    }
+
+    /// Closes the memory when all its ports are free, and returns the value of each component, by its index. They are
+    /// those after one history, which begins with all that each port has observed.
+    ///
+    /// ```
+    /// use partial_door::{CloseError, Memory};
+    ///
+    /// let memory = Memory::new(&[1, 2])?;
+    /// let mut port = memory.port()?;
+    /// port.update(0, 7)?;
+    /// let Err(CloseError::InUse(memory)) = memory.close() else { panic!("a port is in use") };
+    /// drop(port);
+    /// assert_eq!(memory.close()?, [7, 2]);
+    /// # Ok::<(), Box<dyn std::error::Error + Send + Sync>>(())
+    /// ```
+    ///
+    /// # Errors
+    /// [`CloseError::InUse`] when a port is in use, [`CloseError::Closed`] when a clone of the memory was closed, and
+    /// [`CloseError::Memory`] when an allocation was refused. The first and the last have the memory, whose contents
+    /// are as they were.
+    pub fn close(self) -> Result<Vec<u64>, CloseError> {
+        let mut values = Vec::new();
+        if values.try_reserve_exact(self.len()).is_err() {
+            return Err(CloseError::Memory(self));
+        }
+        values.resize(self.len(), 0);
+        // SAFETY: the handle and the values are borrowed for the call.
+        let code = unsafe {
+            raw::partial_door_memory_close(&mut *self.shared.home(), values.as_mut_ptr(), values.len())
+        };
+        match code {
+            0 => Ok(values),
+            code => Err(CloseError::of(code, self)),
+        }
     }
 }
 
 impl fmt::Debug for Memory {
     fn fmt(&self, f: &mut fmt::Formatter<'_>) -> fmt::Result {
         f.debug_struct("Memory")
-            .field("opening", &self.opening)
-            .field("components", &self.components)
-            .field("ports", &self.ports)
+            .field("number", &self.shared.number)
+            .field("components", &self.shared.components)
             .finish()
-    }
-}
-
-impl fmt::Debug for Closed {
-    fn fmt(&self, f: &mut fmt::Formatter<'_>) -> fmt::Result {
-        f.debug_struct("Closed").field("values", &self.values).finish()
     }
 }

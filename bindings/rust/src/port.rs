@@ -1,56 +1,34 @@
 //! Ports: the tokens by which threads call a memory.
 
-use crate::memory::Home;
+use crate::memory::Shared;
 use crate::raw::{self, Handle};
-use crate::{Refused, Scanned, Stamp, TwoMemories, Updated, UpdatedIf, Value};
+use crate::{Refused, Scanned, Stamp, Updated, Value};
 use std::fmt;
-use std::sync::{Arc, Weak};
+use std::sync::Arc;
 
-/// A port of an open memory: a caller's token. One thread at a time uses it; it may move to another thread.
+/// A port of a memory: a caller's token. One thread at a time uses it; it may move to another thread.
 ///
-/// A port that is dropped while its [`Memory`](crate::Memory) is open comes back to it
-/// ([`Memory::port`](crate::Memory::port)).
+/// A port that is dropped is free again: [`Memory::port`](crate::Memory::port) gives it out. One that is forgotten
+/// (`std::mem::forget`) stays in use, and its memory can't be closed.
 pub struct Port {
     handle: Handle,
-    opening: u64,
-    components: u32,
     number: u32,
-    pool_spent: bool,
-    slots_spent: bool,
-    home: Weak<Home>,
+    memory: u64,
+    shared: Arc<Shared>,
 }
 
 impl Port {
     /// The port of this handle, which the library has filled.
-    pub(crate) fn new(mut handle: Handle, opening: u64, components: u32, home: &Arc<Home>) -> Port {
-        let mut state = raw::PortState::default();
+    pub(crate) fn new(mut handle: Handle, shared: &Arc<Shared>) -> Port {
+        let mut number = 0;
         // SAFETY: the handle and the place for the answer are borrowed for the call.
-        let code = unsafe { raw::partial_door_state(&mut handle, &mut state) };
+        let code = unsafe { raw::partial_door_port_number(&mut handle, &mut number) };
         assert_eq!(code, 0, "a port's handle holds a port");
         Port {
             handle,
-            opening,
-            components,
-            number: state.number,
-            pool_spent: state.pool_spent == 1,
-            slots_spent: state.slots_spent == 1,
-            home: Arc::downgrade(home),
-        }
-    }
-
-    pub(crate) fn handle(&mut self) -> &mut Handle {
-        &mut self.handle
-    }
-
-    /// From now on the port comes back to this memory when it is dropped.
-    pub(crate) fn lives_at(&mut self, home: &Arc<Home>) {
-        self.home = Arc::downgrade(home);
-    }
-
-    /// The same, if this is the memory that the port is of.
-    pub(crate) fn lives_at_if(&mut self, opening: u64, home: &Arc<Home>) {
-        if self.opening == opening {
-            self.lives_at(home);
+            number,
+            memory: shared.number,
+            shared: Arc::clone(shared),
         }
     }
 
@@ -58,103 +36,35 @@ impl Port {
     /// port has observed afterwards. A lost one was overwritten, during the call, by the update that it names.
     ///
     /// ```
-    /// use partial_door::{open, Sizes, Updated};
+    /// use partial_door::{Memory, Updated};
     ///
-    /// let mut port = open(&[5], Sizes::default(), 1)?.1.remove(0);
+    /// let mut port = Memory::new(&[5])?.port()?;
     /// let Updated::Applied { stamp } = port.update(0, 6)? else { panic!("no other port updates it") };
     /// assert_eq!(port.read(0)?.stamp, stamp);
     /// # Ok::<(), Box<dyn std::error::Error + Send + Sync>>(())
     /// ```
     ///
     /// # Errors
-    /// [`Refused::Component`] when `component` isn't below the number of components.
-    /// [`Refused::PoolSpent`] when the port is marked for the pool, or when this call's claim went past the
-    /// end of the pool, which marks it. Nothing was applied.
+    /// [`Refused::Component`] when `component` isn't below the number of components. [`Refused::Overtaken`] when
+    /// the epoch was changed 16 times during the call; [`Refused::NoArena`] and [`Refused::EpochsSpent`] when the
+    /// epoch has to be changed and can't be. Nothing was applied.
     #[inline]
     pub fn update(&mut self, component: u32, value: u64) -> Result<Updated, Refused> {
         let mut answer = raw::UpdateAnswer::default();
         // SAFETY: the handle and the place for the answer are borrowed for the call.
-        match unsafe { raw::partial_door_update(&mut self.handle, component, value, &mut answer) } {
+        match unsafe { raw::partial_door_port_update(&mut self.handle, component, value, &mut answer) } {
             0 if answer.applied == 1 => Ok(Updated::Applied { stamp: self.stamp(answer.stamp) }),
             0 => Ok(Updated::Lost { by: self.stamp(answer.stamp) }),
-            code => Err(self.refused(code)),
-        }
-    }
-
-    /// Sets component `component` to `value` if it has the stamp `expected`. Otherwise the component had
-    /// another stamp, which the answer names, at a moment of the call.
-    ///
-    /// ```
-    /// use partial_door::{open, Sizes, UpdatedIf};
-    ///
-    /// let mut port = open(&[5], Sizes::default(), 1)?.1.remove(0);
-    /// let seen = port.read(0)?;
-    /// let UpdatedIf::Applied { stamp } = port.update_if(0, seen.stamp, 6)? else { panic!() };
-    /// assert_eq!(port.update_if(0, seen.stamp, 7)?, UpdatedIf::Changed { by: stamp });
-    /// assert_eq!(port.read(0)?.value, 6);
-    /// # Ok::<(), Box<dyn std::error::Error + Send + Sync>>(())
-    /// ```
-    ///
-    /// # Errors
-    /// [`Refused::Stamp`] when `expected` is a stamp of another opening, and no step was made. Otherwise as those
-    /// of [`Port::update`].
-    #[inline]
-    pub fn update_if(&mut self, component: u32, expected: Stamp, value: u64) -> Result<UpdatedIf, Refused> {
-        if expected.opening != self.opening {
-            return Err(Refused::Stamp);
-        }
-        let mut answer = raw::UpdateAnswer::default();
-        // SAFETY: the handle and the place for the answer are borrowed for the call.
-        let code = unsafe {
-            raw::partial_door_update_if(&mut self.handle, component, expected.word, value, &mut answer)
-        };
-        match code {
-            0 if answer.applied == 1 => Ok(UpdatedIf::Applied { stamp: self.stamp(answer.stamp) }),
-            0 => Ok(UpdatedIf::Changed { by: self.stamp(answer.stamp) }),
-            code => Err(self.refused(code)),
-        }
-    }
-
-    /// Sets component `component` to what the closure makes of its value, and tries again with the new value when
-    /// another update came between. `None` from the closure ends it: nothing is applied. Returns the stamp of the
-    /// update and the value that it set, or `None`.
-    ///
-    /// Each try is wait-free; how many there are depends on the other ports.
-    ///
-    /// ```
-    /// use partial_door::{open, Sizes};
-    ///
-    /// let mut port = open(&[5], Sizes::default(), 1)?.1.remove(0);
-    /// let set = port.modify(0, |value| value.checked_add(1))?.expect("it has room");
-    /// assert_eq!((set.value, port.read(0)?), (6, set));
-    /// assert_eq!(port.modify(0, |_| None)?, None);
-    /// # Ok::<(), Box<dyn std::error::Error + Send + Sync>>(())
-    /// ```
-    ///
-    /// # Errors
-    /// As those of [`Port::update`].
-    pub fn modify(
-        &mut self,
-        component: u32,
-        mut change: impl FnMut(u64) -> Option<u64>,
-    ) -> Result<Option<Value>, Refused> {
-        loop {
-            let seen = self.read(component)?;
-            let Some(value) = change(seen.value) else {
-                return Ok(None);
-            };
-            if let UpdatedIf::Applied { stamp } = self.update_if(component, seen.stamp, value)? {
-                return Ok(Some(Value { value, stamp }));
-            }
+            code => Err(Refused::of(code)),
         }
     }
 
     /// Reads component `component`: its value and its stamp at a moment of the call.
     ///
     /// ```
-    /// use partial_door::{open, Refused, Sizes};
+    /// use partial_door::{Memory, Refused};
     ///
-    /// let mut port = open(&[5, 8], Sizes::default(), 1)?.1.remove(0);
+    /// let mut port = Memory::new(&[5, 8])?.port()?;
     /// assert_eq!(port.read(1)?.value, 8);
     /// assert_eq!(port.read(2), Err(Refused::Component));
     /// # Ok::<(), Box<dyn std::error::Error + Send + Sync>>(())
@@ -166,12 +76,12 @@ impl Port {
     pub fn read(&mut self, component: u32) -> Result<Value, Refused> {
         let mut answer = raw::ReadAnswer::default();
         // SAFETY: the handle and the place for the answer are borrowed for the call.
-        match unsafe { raw::partial_door_read(&mut self.handle, component, &mut answer) } {
+        match unsafe { raw::partial_door_port_read(&mut self.handle, component, &mut answer) } {
             0 => Ok(Value {
                 value: answer.value,
                 stamp: self.stamp(answer.stamp),
             }),
-            code => Err(self.refused(code)),
+            code => Err(Refused::of(code)),
         }
     }
 
@@ -179,9 +89,9 @@ impl Port {
     /// together at one moment of the call.
     ///
     /// ```
-    /// use partial_door::{open, Sizes};
+    /// use partial_door::Memory;
     ///
-    /// let mut port = open(&[5, 8, 9], Sizes::default(), 1)?.1.remove(0);
+    /// let mut port = Memory::new(&[5, 8, 9])?.port()?;
     /// let mut values = [0; 2];
     /// port.scan(&[2, 0], &mut values)?;
     /// assert_eq!(values, [9, 5]);
@@ -190,15 +100,14 @@ impl Port {
     ///
     /// # Errors
     /// [`Refused::Length`] when the two lengths differ, or there are more positions than components.
-    /// [`Refused::Component`] when an index isn't below the number of components. [`Refused::PoolSpent`] or
-    /// [`Refused::SlotsSpent`] when the port is marked for the pool or the slots, or when a claim of this call
-    /// went past their end, which marks it. `into` is as it was.
+    /// [`Refused::Component`] when an index isn't below the number of components. [`Refused::NoArena`] and
+    /// [`Refused::EpochsSpent`] when the epoch has to be changed and can't be. `into` is as it was.
     #[inline]
     pub fn scan(&mut self, which: &[u32], into: &mut [u64]) -> Result<Scanned, Refused> {
         let mut answer = raw::ScanAnswer::default();
         // SAFETY: the handle, both slices and the place for the answer are borrowed for the call.
         let code = unsafe {
-            raw::partial_door_scan(
+            raw::partial_door_port_scan(
                 &mut self.handle,
                 which.as_ptr(),
                 which.len(),
@@ -212,17 +121,18 @@ impl Port {
                 collects: answer.collects,
                 borrowed: (answer.borrowed == 1).then(|| self.stamp(answer.stamp)),
             }),
-            code => Err(self.refused(code)),
+            code => Err(Refused::of(code)),
         }
     }
 
-    /// The same for a number of components that is known when the program is compiled.
+    /// Scans these components, in this order and with repeats. Returns their values as they stood together at one
+    /// moment of the call.
     ///
     /// ```
-    /// use partial_door::{open, Sizes};
+    /// use partial_door::Memory;
     ///
-    /// let mut port = open(&[5, 8, 9], Sizes::default(), 1)?.1.remove(0);
-    /// assert_eq!(port.scan_array([1, 1, 0])?, [8, 8, 5]);
+    /// let mut port = Memory::new(&[5, 8, 9])?.port()?;
+    /// assert_eq!(port.scan_array([2, 0, 2])?, [9, 5, 9]);
     /// # Ok::<(), Box<dyn std::error::Error + Send + Sync>>(())
     /// ```
     ///
@@ -230,103 +140,42 @@ impl Port {
     /// As those of [`Port::scan`].
     #[inline]
     pub fn scan_array<const N: usize>(&mut self, which: [u32; N]) -> Result<[u64; N], Refused> {
-        let mut values = [0; N];
-        self.scan(&which, &mut values)?;
-        Ok(values)
+        let mut into = [0; N];
+        self.scan(&which, &mut into)?;
+        Ok(into)
     }
 
-    /// The number of the port: ports are numbered from 0 in the order in which [`open`](crate::open) returns them.
+    /// The number of the port. No two ports of a memory have the same, and each is below the number of its ports.
+    ///
+    /// ```
+    /// use partial_door::Memory;
+    ///
+    /// let memory = Memory::builder().ports(2).open(&[5])?;
+    /// let (first, second) = (memory.port()?, memory.port()?);
+    /// assert_ne!(first.number(), second.number());
+    /// assert!(first.number() < 2 && second.number() < 2);
+    /// # Ok::<(), Box<dyn std::error::Error + Send + Sync>>(())
+    /// ```
     pub fn number(&self) -> u32 {
         self.number
     }
 
-    /// The number of components of the memory.
-    #[allow(clippy::len_without_is_empty)]
-    pub fn len(&self) -> usize {
-        self.components as usize
-    }
-
-    /// Whether the port is marked for the pool. If so, its updates and its scans of some position are refused.
-    ///
-    /// ```
-    /// use partial_door::{open, Refused, Sizes};
-    ///
-    /// let sizes = Sizes { slots: 10, list_words: 0, pool_words: 6 };
-    /// let mut port = open(&[5], sizes, 1)?.1.remove(0);
-    /// while port.update(0, 6).is_ok() {}
-    /// assert_eq!(port.update(0, 7), Err(Refused::PoolSpent));
-    /// assert!(port.pool_spent() && !port.slots_spent());
-    /// # Ok::<(), Box<dyn std::error::Error + Send + Sync>>(())
-    /// ```
-    pub fn pool_spent(&self) -> bool {
-        self.pool_spent
-    }
-
-    /// Whether the port is marked for the slots. If so, its scans of some position are refused.
-    pub fn slots_spent(&self) -> bool {
-        self.slots_spent
-    }
-
-    /// Merges what two ports have observed. When the two then read one component one after the other, the
-    /// second value isn't an earlier one than the first.
-    ///
-    /// ```
-    /// use partial_door::{open, Sizes};
-    ///
-    /// let (_memory, mut ports) = open(&[5], Sizes::default(), 2)?;
-    /// let (first, second) = ports.split_at_mut(1);
-    /// first[0].update(0, 6)?;
-    /// first[0].meet(&mut second[0])?;
-    /// assert_eq!(second[0].read(0)?.value, 6);
-    /// # Ok::<(), Box<dyn std::error::Error + Send + Sync>>(())
-    /// ```
-    ///
-    /// # Errors
-    /// [`TwoMemories`] when the ports are of two memories. Both are as they were.
-    pub fn meet(&mut self, other: &mut Port) -> Result<(), TwoMemories> {
-        // SAFETY: both handles are borrowed for the call, and Rust keeps them apart.
-        match unsafe { raw::partial_door_meet(&mut self.handle, &mut other.handle) } {
-            0 => Ok(()),
-            _ => Err(TwoMemories),
-        }
-    }
-
     fn stamp(&self, word: u64) -> Stamp {
         Stamp {
-            opening: self.opening,
+            memory: self.memory,
             word,
         }
-    }
-
-    // The cause of a refusal, which may have marked the port.
-    #[cold]
-    fn refused(&mut self, code: u32) -> Refused {
-        let refused = Refused::of(code);
-        self.pool_spent |= refused == Refused::PoolSpent;
-        self.slots_spent |= refused == Refused::SlotsSpent;
-        refused
     }
 }
 
 impl fmt::Debug for Port {
     fn fmt(&self, f: &mut fmt::Formatter<'_>) -> fmt::Result {
-        f.debug_struct("Port")
-            .field("opening", &self.opening)
-            .field("number", &self.number)
-            .field("pool_spent", &self.pool_spent)
-            .field("slots_spent", &self.slots_spent)
-            .finish()
+        f.debug_struct("Port").field("memory", &self.memory).field("number", &self.number).finish()
     }
 }
 
 impl Drop for Port {
     fn drop(&mut self) {
-        if let Some(home) = self.home.upgrade().filter(|_| !self.handle.is_empty()) {
-            home.take_in(Port {
-                handle: std::mem::replace(&mut self.handle, Handle::empty()),
-                home: Weak::new(),
-                ..*self
-            });
-        }
+        self.shared.take_in(&mut self.handle);
     }
 }

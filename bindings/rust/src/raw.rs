@@ -69,7 +69,42 @@ pub struct PortState {
     pub slots_spent: u32,
 }
 
+/// The sizes of an arena of a long-lived memory.
+#[repr(C)]
+#[derive(Clone, Copy, Debug, PartialEq, Eq)]
+pub struct Arena {
+    pub list_words: u32,
+    pub pool_words: u32,
+}
+
 unsafe extern "C" {
+    pub fn partial_door_memory_new(
+        number: u64,
+        initial: *const u64,
+        components: usize,
+        ports: u32,
+        arena: *const Arena,
+        memory: *mut Handle,
+    ) -> u32;
+    pub fn partial_door_memory_take_port(memory: *mut Handle, port: *mut Handle) -> u32;
+    pub fn partial_door_memory_give_port(memory: *mut Handle, port: *mut Handle) -> u32;
+    pub fn partial_door_memory_close(memory: *mut Handle, into: *mut u64, room: usize) -> u32;
+    pub fn partial_door_port_update(
+        port: *mut Handle,
+        component: u32,
+        value: u64,
+        answer: *mut UpdateAnswer,
+    ) -> u32;
+    pub fn partial_door_port_read(port: *mut Handle, component: u32, answer: *mut ReadAnswer) -> u32;
+    pub fn partial_door_port_scan(
+        port: *mut Handle,
+        which: *const u32,
+        positions: usize,
+        into: *mut u64,
+        room: usize,
+        answer: *mut ScanAnswer,
+    ) -> u32;
+    pub fn partial_door_port_number(port: *mut Handle, answer: *mut u32) -> u32;
     pub fn partial_door_open(
         opening: u64,
         initial: *const u64,

@@ -1,3 +1,4 @@
 pub mod AsBox
 pub mod HandleSteps
 pub mod Opened
+pub mod OpenedLong

@@ -2,7 +2,7 @@
 use Rattle.std.proofs.Common.{◌≡◌, ◌<◌, ◌++◌, ℕ, List, [], ◌∷◌, sym, subst}
 use Rattle.std.specs.List.{AllByRecursion}
 use Rattle.std.specs.Arc.{arc_value}
-use Rattle.partial_model.proofs.AllLemmas.{all_back}
+use Rattle.partial_model.proofs.AllLemmas.{all_back, all_front}
 use Rattle.partial_words.specs.Layout.{Layout, pool_base}
 use Rattle.partial_memory.specs.Rule.{newcomers}
 use Rattle.partial_memory.specs.Ports.{IsOf, MemoryView, PortView, new_ports}
@@ -29,9 +29,17 @@ opened_is x v opening ports z initial same named counted sized many values first
   home = subst (λ (w : MemoryView). x.ports.items ≡ new_ports w.table (newcomers w.about 0 ports)) (sym same) made;
 }
 
-pub more : (components : ℕ) (v : MemoryView) (p : PortView) (n : ℕ) → components ≡ v.about.sizes.m → IsOf v p → components < n → p.memory.about.sizes.m < n
-more components v p n size own less = subst (λ (w : MemoryView). w.about.sizes.m < n) (sym own) (subst (λ (k : ℕ). k < n) size less)
+-- what holds of a memory's view holds of the one that a port of it has
+pub more : {V : Type 0} (size_of : V → ℕ) (components : ℕ) (v w : V) (n : ℕ) → components ≡ size_of v → w ≡ v → components < n → size_of w < n
+more {V} size_of components v w n size own less = subst (λ (u : V). size_of u < n) (sym own) (subst (λ (k : ℕ). k < n) size less)
 
--- the last port of a memory's is of it, by another share of the same memory
-pub last_of : (m v : MemoryView) (all front : List PortView) (p : PortView) → all ≡ front ++ p ∷ [] → AllByRecursion (IsOf m) all → v ≡ m → IsOf v p
-last_of m v all front p parts own same = subst (λ (w : MemoryView). IsOf w p) (sym same) (all_back (IsOf m) front (p ∷ []) (subst (λ (xs : List PortView). AllByRecursion (IsOf m) xs) parts own)).0
+-- the last port of a memory's is of it, by another share of the same memory, and so are those before it
+module _ {V P : Type 0} (Of : V → P → Type 0) where
+  pub last_of : (m v : V) (all front : List P) (p : P) → all ≡ front ++ p ∷ [] → AllByRecursion (Of m) all → v ≡ m → Of v p
+  last_of m v all front p parts own same =
+      subst (λ (w : V). Of w p) (sym same) (all_back (Of m) front (p ∷ []) (subst (λ (xs : List P). AllByRecursion (Of m) xs) parts own)).0
+
+  pub front_of : (m v : V) (all front : List P) (p : P) → all ≡ front ++ p ∷ [] → AllByRecursion (Of m) all → v ≡ m → AllByRecursion (Of v) front
+  front_of m v all front p parts own same =
+      subst (λ (w : V). AllByRecursion (Of w) front) (sym same)
+      (all_front (Of m) front (p ∷ []) (subst (λ (xs : List P). AllByRecursion (Of m) xs) parts own))

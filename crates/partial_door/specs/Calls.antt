@@ -77,16 +77,16 @@ one_for_some (Some stamp) = 1
 abbrev pub scan_answer : Scanned → ScanAnswer
 scan_answer s = record { stamp = stamp_or_zero s.borrowed; collects = s.collects; borrowed = one_for_some s.borrowed }
 
--- the lengths of a scan don't fit
-abbrev pub IsMismatch : PortView → List ℕ → List ℕ → Type 0
-IsMismatch p which into = (length which ≡ length into → ⊥) ⊎ (p.memory.about.sizes.m < length which)
+-- the lengths of a scan don't fit, of a memory of m components
+abbrev pub IsMismatch : ℕ → List ℕ → List ℕ → Type 0
+IsMismatch m which into = (length which ≡ length into → ⊥) ⊎ (m < length which)
 
 -- a scan was answered, or refused for its lengths or for a cause, and then the answer and the values stay
 abbrev pub ScanEnds : List ℕ → List ℕ → List ℕ → ScanAnswer → ScanAnswer → PortView → ℕ → PortView → Type 0
 ScanEnds which before values old new p code q =
     ((s : Scanned) × (code ≡ 0) × (new ≡ scan_answer s) × Scans p which values s q)
     ⊎ ((values ≡ before) × (new ≡ old)
-    × (((code ≡ 19) × IsMismatch p which before × (q ≡ p))
+    × (((code ≡ 19) × IsMismatch p.memory.about.sizes.m which before × (q ≡ p))
     ⊎ ((cause : Refused) × (code ≡ refused_code cause) × IsRefused p (call.Scan which) cause q)))
 
 -- 1 for a mark that is set

@@ -4,6 +4,8 @@ use Rattle.std.specs.List.{AllByRecursion, AllByRecursion-prop}
 use denote.Struct.Props.{≡_prop}
 use Rattle.partial_memory.specs.Ports.{IsOf, MemoryView, PortView}
 use Rattle.partial_memory.specs.contracts.memory.Memory.{the_row}
+use Rattle.partial_long_lived.specs.Ports as long
+use Rattle.partial_long_lived.specs.contracts.long_lived.LongLived as long_lived
 
 -- the ports belong to the memory
 abbrev pub AreOf : MemoryView → List PortView → Type 0
@@ -12,3 +14,11 @@ AreOf m ports = AllByRecursion (IsOf m) ports
 -- it holds in one way at most
 pub AreOf-prop : (m : MemoryView) (ports : List PortView) → IsProp (AreOf m ports)
 AreOf-prop m = AllByRecursion-prop (IsOf m) (λ p. ≡_prop the_row.coded p.memory m)
+
+-- the ports belong to the long-lived memory
+abbrev pub AreLongOf : long.MemoryView → List long.PortView → Type 0
+AreLongOf m ports = AllByRecursion (long.IsOf m) ports
+
+-- this too holds in one way at most
+pub AreLongOf-prop : (m : long.MemoryView) (ports : List long.PortView) → IsProp (AreLongOf m ports)
+AreLongOf-prop m = AllByRecursion-prop (long.IsOf m) (λ p. ≡_prop long_lived.the_row.coded p.memory m)

@@ -1,2 +1,3 @@
--- What the contract of a private function cites.
+-- What the contracts of private functions cite.
 pub mod Kept
+pub mod Long

@@ -2,6 +2,9 @@ pub mod Home
 pub mod Owned
 pub mod Calls
 pub mod Exports
+pub mod LongCalls
+pub mod LongExports
+pub mod LongMemories
 pub mod Memories
 pub mod Inner
 pub mod Lending

@@ -2,7 +2,9 @@
 
 ghost use Rattle.std.specs.Prelude.{◌≡◌};
 ghost use Rattle.partial_door.specs.Calls.{port_state as state_of, scan_answer as answer_of};
+ghost use Rattle.partial_door.specs.LongCalls.{long_update_answer};
 
+use partial_long_lived::Updated;
 use partial_memory::{Port, Scanned};
 
 /// The answer of an update or a conditional update.
@@ -60,6 +62,30 @@ pub struct RoomSizes {
     pub lists: u32,
     /// How many pool words there are, for records and announcements: 3 for each component to 4,194,304.
     pub pool: u32,
+}
+
+/// The sizes of an arena of a long-lived memory.
+#[repr(C)]
+#[derive(Clone, Copy)]
+pub struct ArenaSizes {
+    /// How many list words there are, for lists of vacated slots: at most 65,536.
+    pub lists: u32,
+    /// How many pool words are claimed in an epoch before the memory goes on to the next one: at most 131,072, less 4
+    /// for each port and 2 for each port and component.
+    pub pool: u32,
+}
+
+/// Lays out how an update of a long-lived memory ended.
+pub fn update_answer(updated: Updated) -> UpdateAnswer
+    ensures { result ≡ long_update_answer updated }
+{
+    match updated {
+        Updated::Applied { stamp } => UpdateAnswer { stamp, applied: 1 },
+        Updated::Lost { by } => UpdateAnswer {
+            stamp: by,
+            applied: 0,
+        },
+    }
 }
 
 /// Lays out how a scan was made.

@@ -33,7 +33,7 @@ impl Held {
                 }
                 Err(cause) => u32::from(cause.code()),
             },
-            Held::Memory(_) | Held::Closed(_) => HOLDS_NONE,
+            _ => HOLDS_NONE,
         }
     }
 
@@ -70,7 +70,7 @@ impl Held {
                     Err(cause) => u32::from(cause.code()),
                 }
             }
-            Held::Memory(_) | Held::Closed(_) => HOLDS_NONE,
+            _ => HOLDS_NONE,
         }
     }
 
@@ -89,7 +89,7 @@ impl Held {
                 }
                 Err(cause) => u32::from(cause.code()),
             },
-            Held::Memory(_) | Held::Closed(_) => HOLDS_NONE,
+            _ => HOLDS_NONE,
         }
     }
 
@@ -118,7 +118,7 @@ impl Held {
                     Err(cause) => u32::from(cause.code()),
                 }
             }
-            Held::Memory(_) | Held::Closed(_) => HOLDS_NONE,
+            _ => HOLDS_NONE,
         }
     }
 
@@ -133,7 +133,7 @@ impl Held {
                 *answer = port_state(&own.port);
                 FINE
             }
-            Held::Memory(_) | Held::Closed(_) => HOLDS_NONE,
+            _ => HOLDS_NONE,
         }
     }
 }

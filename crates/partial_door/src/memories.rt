@@ -130,7 +130,7 @@ impl Held {
     {
         match self {
             Held::Closed(closed) => reopen_closed(alloc, opening, closed, components, room, ports),
-            Held::Memory(_) | Held::Port(_) => Err(HOLDS_NONE),
+            _ => Err(HOLDS_NONE),
         }
     }
 }

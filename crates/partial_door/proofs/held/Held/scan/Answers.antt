@@ -1,4 +1,5 @@
 use Rattle.std.proofs.Common.{rules, refl, inl, inr}
+use Rattle.partial_memory.specs.Ports.{MemoryView}
 use Rattle.partial_door.proofs.Opened.{more}
 use Rattle.partial_door.proofs.held.Held.scan.Goals as goal
 
@@ -14,5 +15,5 @@ returns-then-which-into c = inr (c.in-Port.own, c.in-Port.own, c.in-Port.is, sea
 pub returns-then-which-own : goal.returns-then-which-own
 returns-then-which-own c =
     let own = c.in-Port.own in
-    let many = more _ _ own.port _ own.size own.of c.if-which-own.true in
+    let many = more (λ (v : MemoryView). v.about.sizes.m) _ _ _ _ own.size own.of c.if-which-own.true in
     inr (own, own, c.in-Port.is, search rules, record { opening = refl; memory = refl }, inr (refl, refl, inl (refl, inr many, refl)))

@@ -1,6 +1,7 @@
-//! Ports in threads of their own, and what is refused.
+//! Single openings: ports in threads of their own, and what is refused.
 
-use partial_door::{open, CloseError, Closed, Memory, OpenError, Port, Refused, Sizes, Stamp, TwoMemories, Updated};
+use partial_door::opening::{open, CloseError, Closed, Memory, OpenError, Port, Refused, Sizes, Stamp};
+use partial_door::opening::{TwoMemories, Updated};
 use std::error::Error;
 
 const SIZES: Sizes = Sizes {

@@ -1,0 +1,333 @@
+/* Calls each function of partial.h for memories that never wear out: refusals, null
+ * pointers, and threads over many epochs. Writes a line for each test that failed, and
+ * then the counts. */
+#include "partial.h"
+
+#include <pthread.h>
+#include <stdio.h>
+#include <string.h>
+
+enum { WRITERS = 3, TURNS = 20000 };
+
+static int passed;
+static int failed;
+
+static void check(int holds, const char *name)
+{
+    if (holds) {
+        passed++;
+    } else {
+        failed++;
+        printf("failed: %s\n", name);
+    }
+}
+
+/* Arenas so small that the epoch changes every few calls. */
+static const partial_arena tiny = {4, 16};
+
+/* Makes a memory, and takes out as many ports as there are handles. */
+static int made(uint64_t number, const uint64_t *initial, size_t components,
+                const partial_arena *arena, partial_memory *memory, partial_port *ports,
+                uint32_t count)
+{
+    uint32_t code = partial_memory_new_with(number, initial, components, count, arena, memory);
+    for (uint32_t k = 0; k < count && code == 0; k++) {
+        code = partial_memory_take_port(memory, &ports[count - 1 - k]);
+    }
+    return code == 0;
+}
+
+/* The example of README.md. */
+static void test_example(void)
+{
+    const uint64_t initial[3] = {10, 20, 30};
+    partial_memory memory = PARTIAL_EMPTY;
+    partial_port port = PARTIAL_EMPTY;
+    partial_update_answer set;
+    partial_scan_answer scanned;
+    uint64_t into[2];
+    int fine = partial_memory_new(7, initial, 3, 64, &memory) == 0
+        && partial_memory_take_port(&memory, &port) == 0
+        && partial_port_update(&port, 0, 11, &set) == 0
+        && partial_port_scan(&port, (const uint32_t[]){2, 0}, 2, into, 2, &scanned) == 0;
+    check(fine, "the example is answered");
+    check(fine && into[0] == 30 && into[1] == 11, "the example's scan gives the values in its order");
+    partial_port_free(&port);
+    partial_memory_free(&memory);
+}
+
+static void test_one_port(void)
+{
+    const uint64_t initial[2] = {10, 20};
+    partial_memory memory = PARTIAL_EMPTY;
+    partial_port port = PARTIAL_EMPTY;
+    check(partial_memory_new(1, initial, 2, 1, &memory) == 0, "a memory is made");
+    check(partial_memory_take_port(&memory, &port) == 0, "it has a port");
+
+    partial_read_answer before = {0, 0};
+    check(partial_port_read(&port, 1, &before) == 0 && before.value == 20, "a read gives the initial value");
+    partial_update_answer set = {0, 0};
+    check(partial_port_update(&port, 1, 21, &set) == 0 && set.applied == 1, "an update alone is applied");
+    partial_read_answer after = {0, 0};
+    check(partial_port_read(&port, 1, &after) == 0 && after.value == 21, "a read gives the value set");
+    check(after.stamp == set.stamp && after.stamp != before.stamp, "and the update's stamp");
+
+    const uint32_t which[2] = {1, 0};
+    uint64_t into[3] = {0, 0, 0};
+    partial_scan_answer scanned = {9, 9, 9};
+    check(partial_port_scan(&port, which, 2, into, 2, &scanned) == 0, "a scan is answered");
+    check(into[0] == 21 && into[1] == 10 && into[2] == 0, "it gives the values in its order");
+    check(scanned.collects == 2 && scanned.borrowed == 0, "a scan alone makes two collects");
+    check(partial_port_free(&port) == 0 && port.held == NULL, "a freed handle is empty");
+    uint64_t values[2] = {5, 5};
+    check(partial_memory_close(&memory, values, 2) == PARTIAL_NOT_ALL_HOME, "a memory isn't closed without its port");
+    check(values[0] == 5, "and the caller's values are as they were");
+    check(partial_memory_free(&memory) == 0 && memory.held == NULL, "a freed memory's handle is empty");
+}
+
+static void test_refused_openings(void)
+{
+    static const uint64_t initial[65537];
+    partial_memory memory = PARTIAL_EMPTY;
+    const partial_arena many_lists = {65537, 16};
+    const partial_arena large_pool = {4, 131072};
+    check(partial_memory_new(1, initial, 1, 0, &memory) == PARTIAL_PORT_COUNT, "no port is refused");
+    check(partial_memory_new(1, initial, 0, 65, &memory) == PARTIAL_PORT_COUNT, "65 ports are refused first");
+    check(partial_memory_new(1, initial, 0, 1, &memory) == PARTIAL_COMPONENTS, "no component is refused");
+    check(partial_memory_new(1, initial, 65537, 1, &memory) == PARTIAL_COMPONENTS, "65537 are refused");
+    check(partial_memory_new_with(1, initial, 1, 1, &many_lists, &memory) == PARTIAL_LIST_WORDS, "65537 list words are refused");
+    check(partial_memory_new_with(1, initial, 1, 1, &large_pool, &memory) == PARTIAL_POOL_WORDS, "131072 pool words are refused");
+    check(memory.held == NULL, "a refused opening leaves the handle empty");
+    check(partial_memory_new(1, initial, 2, 1, &memory) == 0, "a memory is made after refusals");
+    void *held = memory.held;
+    check(partial_memory_new(2, initial, 2, 1, &memory) == PARTIAL_HOLDS_ONE, "a handle in use is refused");
+    check(memory.held == held, "and the handle is as it was");
+    partial_memory_free(&memory);
+}
+
+static void test_refused_calls(void)
+{
+    const uint64_t initial[2] = {1, 2};
+    const uint32_t which[3] = {0, 1, 2};
+    uint64_t into[3] = {77, 77, 77};
+    partial_memory nothing = PARTIAL_EMPTY;
+    partial_port none = PARTIAL_EMPTY;
+    partial_update_answer set = {5, 5};
+    partial_read_answer read = {5, 5};
+    partial_scan_answer scanned = {5, 5, 5};
+    uint32_t number = 5;
+    check(partial_port_update(&none, 0, 1, &set) == PARTIAL_HOLDS_NONE, "an update at no port is refused");
+    check(partial_port_read(&none, 0, &read) == PARTIAL_HOLDS_NONE, "a read at no port is refused");
+    check(partial_port_scan(&none, which, 1, into, 1, &scanned) == PARTIAL_HOLDS_NONE, "a scan at no port is refused");
+    check(partial_port_number(&none, &number) == PARTIAL_HOLDS_NONE && number == 5, "no port has no number");
+    check(partial_memory_take_port(&nothing, &none) == PARTIAL_HOLDS_NONE, "no memory has no port");
+    check(partial_memory_close(&nothing, into, 2) == PARTIAL_HOLDS_NONE, "an empty handle isn't closed");
+
+    partial_memory memory = PARTIAL_EMPTY;
+    partial_port port = PARTIAL_EMPTY;
+    check(made(1, initial, 2, &tiny, &memory, &port, 1), "a memory of two components is made");
+    check(partial_memory_take_port(&memory, &none) == PARTIAL_NONE_HOME, "there is no second port");
+    check(partial_memory_take_port(&memory, &port) == PARTIAL_HOLDS_ONE, "a handle in use takes no port");
+    check(partial_memory_give_port(&memory, &none) == PARTIAL_HOLDS_NONE, "an empty handle isn't returned");
+    check(partial_memory_give_port(&nothing, &port) == PARTIAL_HOLDS_NONE, "nor a port to no memory");
+    check(partial_port_scan(&port, which, 2, into, 1, &scanned) == PARTIAL_LENGTH, "less room than positions is refused");
+    check(partial_port_scan(&port, which, 1, into, 2, &scanned) == PARTIAL_LENGTH, "more room than positions is refused");
+    check(partial_port_scan(&port, which, 3, into, 3, &scanned) == PARTIAL_LENGTH, "more positions than components are refused");
+    check(partial_port_scan(&port, which + 1, 2, into, 2, &scanned) == PARTIAL_COMPONENT, "a scan past the end is refused");
+    check(into[0] == 77 && into[1] == 77 && scanned.collects == 5, "a refused scan leaves the caller's values");
+    check(partial_port_update(&port, 2, 1, &set) == PARTIAL_COMPONENT && set.stamp == 5, "an update past the end is refused");
+    check(partial_port_read(&port, 2, &read) == PARTIAL_COMPONENT && read.value == 5, "a read past the end is refused");
+    partial_port_free(&port);
+    partial_memory_free(&memory);
+}
+
+/* A handle of the one kind in a function for the other, which the types of C would refuse. */
+static void test_other_kind(void)
+{
+    const uint64_t initial[1] = {1};
+    const partial_sizes sizes = {8, 8, 200};
+    uint64_t into[1] = {77};
+    partial_handle opening = PARTIAL_EMPTY, own = PARTIAL_EMPTY, none = PARTIAL_EMPTY;
+    void *at_opening = &opening, *at_own = &own, *at_none = &none;
+    partial_memory memory = PARTIAL_EMPTY;
+    partial_port port = PARTIAL_EMPTY;
+    void *at_memory = &memory, *at_port = &port;
+    partial_read_answer read = {5, 5};
+    check(partial_open(1, initial, 1, &sizes, 2, &opening) == 0 && partial_take_port(&opening, &own) == 0, "an opening opens");
+    check(made(1, initial, 1, &tiny, &memory, &port, 1), "a memory is made beside it");
+    check(partial_read(at_port, 0, &read) == PARTIAL_HOLDS_NONE, "its port is none of an opening");
+    check(partial_port_read(at_own, 0, &read) == PARTIAL_HOLDS_NONE, "and an opening's port is none of a memory");
+    check(partial_take_port(at_memory, &none) == PARTIAL_HOLDS_NONE, "a memory is no opening");
+    check(partial_memory_take_port(at_opening, at_none) == PARTIAL_HOLDS_NONE, "and an opening no memory");
+    check(partial_give_port(&opening, at_port) == PARTIAL_HOLDS_NONE, "a memory's port isn't returned to an opening");
+    check(partial_memory_give_port(at_memory, at_own) == PARTIAL_HOLDS_NONE, "nor an opening's to a memory");
+    check(partial_close(at_memory) == PARTIAL_HOLDS_NONE, "a memory isn't closed as an opening");
+    check(partial_memory_close(at_opening, into, 1) == PARTIAL_HOLDS_NONE && into[0] == 77, "nor an opening as a memory");
+    partial_free(&own);
+    partial_free(&opening);
+    partial_port_free(&port);
+    partial_memory_free(&memory);
+}
+
+static void test_close(void)
+{
+    const uint64_t initial[2] = {1, 2};
+    partial_memory memory = PARTIAL_EMPTY, other_memory = PARTIAL_EMPTY;
+    partial_port ports[2] = {PARTIAL_EMPTY, PARTIAL_EMPTY};
+    partial_port other = PARTIAL_EMPTY;
+    partial_update_answer set = {0, 0};
+    partial_read_answer read = {0, 0};
+    uint64_t values[3] = {5, 5, 5};
+    uint32_t numbers[2] = {9, 9};
+    check(made(1, initial, 2, &tiny, &memory, ports, 2), "a memory of two ports is made");
+    check(made(2, initial, 2, &tiny, &other_memory, &other, 1), "another memory is made");
+    check(partial_port_number(&ports[0], &numbers[0]) == 0 && partial_port_number(&ports[1], &numbers[1]) == 0, "ports have numbers");
+    check(numbers[0] == 0 && numbers[1] == 1, "in the order of the memory");
+    check(partial_port_update(&ports[0], 0, 11, &set) == 0, "port 0 updates");
+    check(partial_port_update(&ports[1], 1, 22, &set) == 0, "port 1 updates");
+
+    check(partial_memory_give_port(&memory, &other) == PARTIAL_TWO_MEMORIES, "a port of another memory isn't taken in");
+    check(partial_port_read(&other, 0, &read) == 0 && read.value == 1, "and is as it was");
+    check(partial_memory_give_port(&memory, &ports[1]) == 0 && ports[1].held == NULL, "a port is returned");
+    check(partial_memory_close(&memory, values, 2) == PARTIAL_NOT_ALL_HOME, "one of two ports isn't enough");
+    check(partial_memory_take_port(&memory, &ports[1]) == 0, "a returned port is taken again");
+    check(partial_port_read(&ports[1], 0, &read) == 0 && read.value == 11, "and reads on");
+    check(partial_memory_give_port(&memory, &ports[0]) == 0 && partial_memory_give_port(&memory, &ports[1]) == 0, "both are returned");
+    check(partial_memory_close(&memory, values, 3) == PARTIAL_LENGTH && values[0] == 5, "room for three is refused");
+    check(partial_memory_close(&memory, values, 2) == 0, "the memory is closed");
+    check(values[0] == 11 && values[1] == 22 && values[2] == 5, "its values are those of the updates");
+    check(memory.held == NULL, "and its handle is empty");
+    partial_port_free(&other);
+    partial_memory_free(&other_memory);
+}
+
+static void test_null(void)
+{
+    const uint64_t initial[1] = {1};
+    const uint32_t which[1] = {0};
+    uint64_t into[1] = {7};
+    partial_memory memory = PARTIAL_EMPTY;
+    partial_port port = PARTIAL_EMPTY;
+    partial_port spare = PARTIAL_EMPTY;
+    partial_update_answer set = {0, 0};
+    partial_read_answer read = {0, 0};
+    partial_scan_answer scanned = {9, 9, 9};
+    uint32_t number = 9;
+    check(partial_memory_new(1, NULL, 1, 1, &memory) == PARTIAL_NULL, "null values are refused");
+    check(partial_memory_new_with(1, initial, 1, 1, NULL, &memory) == PARTIAL_NULL, "null sizes are refused");
+    check(partial_memory_new(1, initial, 1, 1, NULL) == PARTIAL_NULL, "nothing is made at null");
+    check(partial_memory_new(1, NULL, 0, 1, &memory) == PARTIAL_COMPONENTS, "no values may be at null");
+    check(made(1, initial, 1, &tiny, &memory, &port, 1), "a memory is made after null pointers");
+    check(partial_memory_take_port(NULL, &spare) == PARTIAL_NULL, "null has no port");
+    check(partial_memory_take_port(&memory, NULL) == PARTIAL_NULL, "null takes no port");
+    check(partial_memory_give_port(NULL, &port) == PARTIAL_NULL, "a port isn't returned to null");
+    check(partial_memory_give_port(&memory, NULL) == PARTIAL_NULL, "nor null to a memory");
+    check(partial_port_update(NULL, 0, 1, &set) == PARTIAL_NULL, "null isn't updated");
+    check(partial_port_update(&port, 0, 1, NULL) == PARTIAL_NULL, "an update answers not to null");
+    check(partial_port_read(NULL, 0, &read) == PARTIAL_NULL, "null isn't read");
+    check(partial_port_read(&port, 0, NULL) == PARTIAL_NULL, "a read answers not to null");
+    check(partial_port_scan(NULL, which, 1, into, 1, &scanned) == PARTIAL_NULL, "null isn't scanned");
+    check(partial_port_scan(&port, NULL, 1, into, 1, &scanned) == PARTIAL_NULL, "null has no positions");
+    check(partial_port_scan(&port, which, 1, NULL, 1, &scanned) == PARTIAL_NULL, "null has no room");
+    check(partial_port_scan(&port, which, 1, into, 1, NULL) == PARTIAL_NULL, "a scan answers not to null");
+    check(into[0] == 7 && scanned.collects == 9, "refused scans leave the caller's values");
+    check(partial_port_scan(&port, NULL, 0, NULL, 0, &scanned) == 0 && scanned.collects == 0, "no positions may be at null");
+    check(partial_port_scan(&port, NULL, 0, into, 1, &scanned) == PARTIAL_LENGTH, "but not beside room for one");
+    check(partial_port_number(NULL, &number) == PARTIAL_NULL, "null has no number");
+    check(partial_port_number(&port, NULL) == PARTIAL_NULL, "a number isn't given to null");
+    check(partial_memory_close(NULL, into, 1) == PARTIAL_NULL, "null isn't closed");
+    check(partial_memory_close(&memory, NULL, 1) == PARTIAL_NULL, "values aren't put to null");
+    check(partial_memory_close(&memory, NULL, 0) == PARTIAL_LENGTH, "where there is no room, null is none");
+    check(partial_memory_free(NULL) == PARTIAL_NULL, "null isn't freed");
+    check(partial_port_free(NULL) == PARTIAL_NULL, "nor as a port");
+    check(partial_port_read(&port, 0, &read) == 0 && read.value == 1, "and the memory is as it was");
+    partial_port_free(&port);
+    partial_memory_free(&memory);
+}
+
+/* Each writer sets its own component to 1, 2 and so on, and tries again when the epoch changed
+ * too often meanwhile; the scanner's values never fall. */
+typedef struct work {
+    partial_port port;
+    uint32_t component;
+    int refused;
+    int fell;
+    uint64_t stamp;
+} work;
+
+static void *write_turns(void *at)
+{
+    work *mine = at;
+    partial_update_answer set = {0, 0};
+    for (uint64_t value = 1; value <= TURNS; value++) {
+        uint32_t code;
+        do {
+            code = partial_port_update(&mine->port, mine->component, value, &set);
+        } while (code == PARTIAL_OVERTAKEN);
+        mine->refused += code != 0 || set.applied != 1;
+    }
+    mine->stamp = set.stamp;
+    return NULL;
+}
+
+static void *scan_turns(void *at)
+{
+    work *mine = at;
+    const uint32_t which[WRITERS] = {0, 1, 2};
+    uint64_t last[WRITERS] = {0, 0, 0};
+    uint64_t into[WRITERS] = {0, 0, 0};
+    partial_scan_answer scanned = {0, 0, 0};
+    for (int turn = 0; turn < TURNS / 2; turn++) {
+        mine->refused += partial_port_scan(&mine->port, which, WRITERS, into, WRITERS, &scanned) != 0;
+        for (int k = 0; k < WRITERS; k++) {
+            mine->fell += into[k] < last[k];
+            last[k] = into[k];
+        }
+    }
+    return NULL;
+}
+
+static void test_threads(void)
+{
+    const uint64_t initial[WRITERS] = {0, 0, 0};
+    pthread_t threads[WRITERS + 1];
+    work works[WRITERS + 1];
+    memset(works, 0, sizeof works);
+    partial_memory memory = PARTIAL_EMPTY;
+    check(partial_memory_new_with(1, initial, WRITERS, WRITERS + 1, &tiny, &memory) == 0, "a memory for four threads is made");
+    int started = 0;
+    for (uint32_t k = 0; k <= WRITERS; k++) {
+        works[k].component = k;
+        check(partial_memory_take_port(&memory, &works[k].port) == 0, "each has a port");
+        started += pthread_create(&threads[k], NULL, k < WRITERS ? write_turns : scan_turns, &works[k]) == 0;
+    }
+    check(started == WRITERS + 1, "four threads start");
+    int refused = 0;
+    int home = 0;
+    for (int k = 0; k <= WRITERS; k++) {
+        pthread_join(threads[k], NULL);
+        refused += works[k].refused;
+        home += partial_memory_give_port(&memory, &works[k].port) == 0;
+    }
+    check(refused == 0, "each update of its own component is applied, each scan answered");
+    check(works[WRITERS].fell == 0, "no value falls from scan to scan");
+    check(works[0].stamp >> 23 > 1000, "over more than a thousand epochs");
+    check(home == WRITERS + 1, "the ports are returned behind the threads");
+    uint64_t values[WRITERS] = {0, 0, 0};
+    check(partial_memory_close(&memory, values, WRITERS) == 0, "the memory closes");
+    check(values[0] == TURNS && values[1] == TURNS && values[2] == TURNS, "its values are the last ones set");
+}
+
+int main(void)
+{
+    test_example();
+    test_one_port();
+    test_refused_openings();
+    test_refused_calls();
+    test_other_kind();
+    test_close();
+    test_null();
+    test_threads();
+    printf("%d passed, %d failed\n", passed, failed);
+    return failed != 0;
+}

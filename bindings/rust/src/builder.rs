@@ -1,0 +1,89 @@
+//! How a memory is made.
+
+use crate::memory::Memory;
+use crate::raw;
+use crate::OpenError;
+
+/// How many ports a memory has, and how large its arenas are. There are two arenas for each port. An arena of `m`
+/// components and `p` ports has `5 m + 5 + list_words + 1.5 (pool_words + (4 + 2 m) p)` words of 8 bytes, rounded down.
+///
+/// ```
+/// use partial_door::Memory;
+///
+/// let memory = Memory::builder().ports(4).pool_words(4096).open(&[1, 2, 3])?;
+/// assert_eq!(memory.port()?.read(2)?.value, 3);
+/// # Ok::<(), Box<dyn std::error::Error + Send + Sync>>(())
+/// ```
+#[derive(Clone, Copy, Debug, PartialEq, Eq)]
+pub struct Builder {
+    ports: u32,
+    arena: raw::Arena,
+}
+
+impl Default for Builder {
+    /// 64 ports, 1,024 list words and 16,384 pool words.
+    fn default() -> Builder {
+        Builder {
+            ports: 64,
+            arena: raw::Arena {
+                list_words: 1024,
+                pool_words: 16_384,
+            },
+        }
+    }
+}
+
+impl Builder {
+    /// How many ports there are: 1 to 64. Fewer ports take less memory, and allow more components.
+    ///
+    /// ```
+    /// use partial_door::{Memory, PortError};
+    ///
+    /// let memory = Memory::builder().ports(1).open(&[1])?;
+    /// let _port = memory.port()?;
+    /// assert_eq!(memory.port().err(), Some(PortError::NoneFree));
+    /// # Ok::<(), Box<dyn std::error::Error + Send + Sync>>(())
+    /// ```
+    pub fn ports(mut self, ports: u32) -> Builder {
+        self.ports = ports;
+        self
+    }
+
+    /// How many list words an arena has: at most 65,536. Scans use them to list the slots that are no longer in use.
+    ///
+    /// ```
+    /// use partial_door::{Memory, OpenError};
+    ///
+    /// assert_eq!(Memory::builder().list_words(65_537).open(&[1]).err(), Some(OpenError::ListWords));
+    /// ```
+    pub fn list_words(mut self, words: u32) -> Builder {
+        self.arena.list_words = words;
+        self
+    }
+
+    /// How many pool words of an arena are claimed before the epoch changes. An update claims 3 of them, or 4 and 2
+    /// more for each component of a view that it stores; a scan claims 1, and 1 more for each position. The words
+    /// and the room of `4 + 2 m` words for each port, for `m` components, are at most 131,072 together.
+    ///
+    /// ```
+    /// use partial_door::{Memory, OpenError};
+    ///
+    /// assert_eq!(Memory::builder().pool_words(131_073).open(&[1]).err(), Some(OpenError::PoolWords));
+    /// assert_eq!(Memory::builder().open(&[0; 1000]).err(), Some(OpenError::PoolWords));
+    /// assert!(Memory::builder().ports(8).open(&[0; 1000]).is_ok());
+    /// ```
+    pub fn pool_words(mut self, words: u32) -> Builder {
+        self.arena.pool_words = words;
+        self
+    }
+
+    /// Makes a memory whose components hold these values.
+    ///
+    /// # Errors
+    /// The first that holds: [`OpenError::Ports`] when there are not 1 to 64 ports; [`OpenError::Components`] when
+    /// there are not 1 to 65,536 values; [`OpenError::ListWords`] or [`OpenError::PoolWords`] when an arena would
+    /// have too many of them; [`OpenError::Memory`] when an allocation was refused. Nothing is left of the attempt.
+    pub fn open(self, initial: &[u64]) -> Result<Memory, OpenError> {
+        Memory::open(initial, self.ports, &self.arena)
+    }
+}

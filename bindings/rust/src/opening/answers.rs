@@ -1,0 +1,112 @@
+//! What calls are given and what they answer.
+
+use crate::raw;
+
+/// The sizes of a memory, apart from the number of its components. They say how long an opening lives.
+#[derive(Clone, Copy, Debug, PartialEq, Eq)]
+pub struct Sizes {
+    /// How many scans of some position may announce themselves: 1 to 65,536.
+    pub slots: u32,
+    /// How many list words there are, for lists of vacated slots: at most 65,536.
+    pub list_words: u32,
+    /// How many pool words there are, for records and announcements: at least 3 for each component, and at most
+    /// 4,194,304.
+    pub pool_words: u32,
+}
+
+impl Default for Sizes {
+    /// The greatest memory: 65,536 slots, 65,536 list words and 4,194,304 pool words, about 35 MB.
+    fn default() -> Sizes {
+        Sizes {
+            slots: 65_536,
+            list_words: 65_536,
+            pool_words: 4_194_304,
+        }
+    }
+}
+
+impl Sizes {
+    pub(crate) fn raw(self) -> raw::Sizes {
+        raw::Sizes {
+            slots: self.slots,
+            list_words: self.list_words,
+            pool_words: self.pool_words,
+        }
+    }
+}
+
+/// Which update wrote a value, or that none did since the opening. Two updates of one program never have the
+/// same stamp: it carries the number of its opening.
+///
+/// ```
+/// use partial_door::opening::{open, Refused, Sizes};
+///
+/// let sizes = Sizes { slots: 10, list_words: 0, pool_words: 100 };
+/// let (memory, mut ports) = open(&[5], sizes, 1)?;
+/// let before = ports[0].read(0)?.stamp;
+/// let mut closed = memory.close(ports)?;
+/// let (_memory, mut ports) = closed.reopen(1, sizes, 1)?;
+/// assert_eq!(ports[0].update_if(0, before, 6), Err(Refused::Stamp));
+/// assert_eq!(ports[0].read(0)?.value, 5);
+/// # Ok::<(), Box<dyn std::error::Error + Send + Sync>>(())
+/// ```
+#[derive(Clone, Copy, Debug, PartialEq, Eq, Hash)]
+pub struct Stamp {
+    pub(crate) opening: u64,
+    pub(crate) word: u64,
+}
+
+impl Stamp {
+    /// The number of the word at which the update's record stands, which no other record of its opening has.
+    pub fn word(self) -> u64 {
+        self.word
+    }
+}
+
+/// How an update ended.
+#[derive(Clone, Copy, Debug, PartialEq, Eq)]
+pub enum Updated {
+    /// It took effect: its entry is in the history.
+    Applied {
+        /// The stamp of the update.
+        stamp: Stamp,
+    },
+    /// Another update to the same component took effect during the call and overwrote it.
+    Lost {
+        /// The stamp of that other update.
+        by: Stamp,
+    },
+}
+
+/// How a conditional update ended.
+#[derive(Clone, Copy, Debug, PartialEq, Eq)]
+pub enum UpdatedIf {
+    /// It took effect: its entry is in the history.
+    Applied {
+        /// The stamp of the update.
+        stamp: Stamp,
+    },
+    /// It had no effect: the component had another stamp than the expected one.
+    Changed {
+        /// The stamp that it had.
+        by: Stamp,
+    },
+}
+
+/// A value, and the stamp of the update that wrote it.
+#[derive(Clone, Copy, Debug, PartialEq, Eq)]
+pub struct Value {
+    /// The value of the component.
+    pub value: u64,
+    /// The stamp of the update that wrote it.
+    pub stamp: Stamp,
+}
+
+/// How a scan was made.
+#[derive(Clone, Copy, Debug, PartialEq, Eq)]
+pub struct Scanned {
+    /// How many collects it made: 0 for a scan of no position, otherwise 2 to r + 2 for r positions.
+    pub collects: u32,
+    /// The stamp of the update whose view the scan took, if it was helped.
+    pub borrowed: Option<Stamp>,
+}

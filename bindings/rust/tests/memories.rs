@@ -1,0 +1,165 @@
+//! Memories that never wear out: their ports in threads of their own, and what is refused.
+
+use partial_door::{CloseError, Memory, OpenError, Port, PortError, Refused, Stamp, Updated};
+use std::collections::HashSet;
+use std::error::Error;
+
+/// A memory whose epoch changes every few calls.
+fn tiny(initial: &[u64], ports: u32) -> Memory {
+    Memory::builder().ports(ports).list_words(4).pool_words(8).open(initial).expect("a memory is made")
+}
+
+/// Sets a component, and tries again when the epoch was changed too often meanwhile.
+fn set(port: &mut Port, component: u32, value: u64) -> Updated {
+    loop {
+        match port.update(component, value) {
+            Err(Refused::Overtaken) => {}
+            answer => return answer.expect("it isn't refused"),
+        }
+    }
+}
+
+#[test]
+fn each_writer_of_its_own_component_is_applied_over_many_epochs() {
+    let memory = tiny(&[0; 3], 3);
+    std::thread::scope(|scope| {
+        for component in 0..3 {
+            let mut port = memory.port().expect("a port is free");
+            scope.spawn(move || {
+                for value in 1..=3000 {
+                    assert!(matches!(set(&mut port, component, value), Updated::Applied { .. }));
+                }
+            });
+        }
+    });
+    let mut port = memory.port().expect("a port is free again");
+    assert!(port.read(0).expect("it is there").stamp.epoch() > 100);
+    drop(port);
+    assert_eq!(memory.close().expect("all ports are free"), [3000; 3]);
+}
+
+#[test]
+fn each_of_64_threads_has_a_port_and_no_more() {
+    let memory = Memory::new(&[0]).expect("a memory is made");
+    let ports: Vec<Port> = (0..64).map(|_| memory.port().expect("a port is free")).collect();
+    assert_eq!(memory.port().err(), Some(PortError::NoneFree));
+    let numbers: HashSet<u32> = ports.iter().map(Port::number).collect();
+    assert_eq!(numbers, (0..64).collect());
+    std::thread::scope(|scope| {
+        for mut port in ports {
+            scope.spawn(move || port.update(0, u64::from(port.number())).map(|_| ()));
+        }
+    });
+    assert!(memory.close().expect("all ports are free")[0] < 64);
+}
+
+#[test]
+fn a_memory_is_refused_with_the_first_cause() {
+    let opened = |ports, count| Memory::builder().ports(ports).list_words(65_537).open(&vec![0; count]).err();
+    assert_eq!(opened(0, 0), Some(OpenError::Ports));
+    assert_eq!(opened(65, 0), Some(OpenError::Ports));
+    assert_eq!(opened(1, 0), Some(OpenError::Components));
+    assert_eq!(opened(1, 65_537), Some(OpenError::Components));
+    assert_eq!(opened(1, 1), Some(OpenError::ListWords));
+    assert_eq!(Memory::new(&[0; 895]).err(), Some(OpenError::PoolWords));
+    assert!(Memory::new(&[0; 894]).is_ok());
+    assert!(Memory::builder().ports(1).open(&[0; 57_342]).is_ok());
+    assert_eq!(Memory::builder().ports(1).open(&[0; 57_343]).err(), Some(OpenError::PoolWords));
+}
+
+#[test]
+fn a_call_is_refused_with_its_cause() {
+    let memory = tiny(&[1, 2], 1);
+    let mut port = memory.port().expect("a port is free");
+    let mut into = [7];
+    assert_eq!(port.read(2), Err(Refused::Component));
+    assert_eq!(port.update(2, 0), Err(Refused::Component));
+    assert_eq!(port.scan(&[0, 1], &mut into), Err(Refused::Length));
+    assert_eq!(port.scan(&[2], &mut into), Err(Refused::Component));
+    assert_eq!(port.scan_array([0, 0, 0]), Err(Refused::Length));
+    assert_eq!(into, [7]);
+    assert_eq!(port.scan_array([]).expect("it makes no step"), []);
+    assert_eq!(port.scan_array([1, 0]).expect("they are there"), [2, 1]);
+}
+
+#[test]
+fn a_port_comes_back_from_a_thread_that_panics() {
+    let memory = tiny(&[1], 1);
+    let mut port = memory.port().expect("a port is free");
+    let failed = std::thread::spawn(move || {
+        port.update(0, 8).expect("it isn't refused");
+        panic!("its port is dropped");
+    });
+    assert!(failed.join().is_err());
+    let mut port = memory.port().expect("it has come back");
+    assert_eq!((port.number(), port.read(0).expect("it is there").value), (0, 8));
+}
+
+#[test]
+fn a_clone_is_the_same_memory() {
+    let memory = tiny(&[1, 2], 2);
+    let other = memory.clone();
+    let mut port = memory.port().expect("a port is free");
+    port.update(1, 5).expect("it isn't refused");
+    let mut second = other.port().expect("the other port is free");
+    assert_eq!(second.read(1).expect("it is there").value, 5);
+    let Err(CloseError::InUse(memory)) = memory.close() else { panic!("two ports are in use") };
+    drop(port);
+    let Err(CloseError::InUse(memory)) = memory.close() else { panic!("a port is in use") };
+    assert_eq!(second.read(1).expect("a refused close changes nothing").value, 5);
+    drop(second);
+    assert_eq!(memory.close().expect("both ports are free"), [1, 5]);
+    assert_eq!(other.port().err(), Some(PortError::Closed));
+    assert!(matches!(other.close(), Err(CloseError::Closed)));
+}
+
+#[test]
+fn a_port_outlives_its_memory() {
+    let mut port = tiny(&[1], 1).port().expect("a port is free");
+    port.update(0, 9).expect("it isn't refused");
+    assert_eq!(port.read(0).expect("it is there").value, 9);
+}
+
+#[test]
+fn stamps_are_those_of_one_memory() {
+    let (one, other) = (tiny(&[1, 1], 1), tiny(&[1, 1], 1));
+    let (mut first, mut second) = (one.port().expect("a port"), other.port().expect("a port"));
+    let mut stamps = HashSet::new();
+    for port in [&mut first, &mut second] {
+        for turn in 0..200 {
+            let Updated::Applied { stamp } = port.update(turn % 2, 5).expect("it isn't refused") else {
+                panic!("no other port updates it");
+            };
+            assert!(stamps.insert(stamp));
+            assert_eq!(port.read(turn % 2).expect("it is there").value, 5);
+        }
+    }
+    assert_eq!(stamps.len(), 400);
+}
+
+#[test]
+fn errors_and_tokens_may_go_to_other_threads() {
+    fn is_error<E: Error + Send + Sync + 'static>() {}
+    fn is_shared<T: Send + Sync + 'static>() {}
+    is_error::<OpenError>();
+    is_error::<PortError>();
+    is_error::<Refused>();
+    is_error::<CloseError>();
+    is_shared::<Port>();
+    is_shared::<Memory>();
+    is_shared::<Stamp>();
+}
+
+#[test]
+fn errors_have_the_numbers_of_the_library() {
+    let opened = [OpenError::Components, OpenError::ListWords, OpenError::PoolWords, OpenError::Ports, OpenError::Memory];
+    assert_eq!(opened.map(OpenError::code), [1, 3, 4, 5, 6]);
+    assert_eq!([PortError::Memory, PortError::Closed, PortError::NoneFree].map(PortError::code), [6, 17, 21]);
+    let refused =
+        [Refused::Component, Refused::Length, Refused::Overtaken, Refused::NoArena, Refused::EpochsSpent];
+    assert_eq!(refused.map(Refused::code), [7, 19, 25, 26, 27]);
+    let memory = tiny(&[1], 1);
+    let _port = memory.port().expect("a port is free");
+    let error = memory.close().expect_err("a port is in use");
+    assert_eq!((error.code(), error.to_string().as_str()), (22, "a port is in use"));
+}

@@ -1,0 +1,31 @@
+-- What is held of a long-lived memory that has opened, and why it isn't closed.
+use Rattle.std.proofs.Common.{◌≡◌, ◌∙◌, ℕ, List, length, sym, ap, subst, inl, inr}
+use Rattle.std.specs.declared.option.Option.{Option}
+use Rattle.std.specs.declared.option.Option.TheVariants.{Some}
+use Rattle.partial_long_lived.specs.declared.options.Options.{Options}
+use Rattle.partial_long_lived.specs.Ports.{MemoryView, PortView}
+use Rattle.partial_door.specs.declared.held.Held.{Held}
+use Rattle.partial_door.specs.LongMemories.{IsNew, MayNotCloseLong}
+use Rattle.partial_door.specs.LongExports.{ClosesLongAt}
+use Rattle.partial_door.specs.Inner.Long.{IsUnclosedLong}
+
+-- there are as many components as values, by the same memory alone
+pub count_of : (components : ℕ) (m v : MemoryView) → components ≡ length m.about.opening.values → v ≡ m → components ≡ length v.about.opening.values
+count_of components m v count same = subst (λ (w : MemoryView). components ≡ length w.about.opening.values) (sym same) count
+
+-- a memory that is held is as it opened
+pub still_new : (initial : List ℕ) (ports : ℕ) (o : Options) (v w : MemoryView) (all items : List PortView) → w ≡ v → all ≡ items
+    → IsNew initial ports o v items → IsNew initial ports o w all
+still_new initial ports o v w all items same still new =
+    subst (λ (u : MemoryView). IsNew initial ports o u all) (sym same) (subst (λ (xs : List PortView). IsNew initial ports o v xs) (sym still) new)
+
+-- what is held stays for the cause of what was taken out of it
+pub as_was : (g h k : Held) (room code : ℕ) → g ≡ h → k ≡ g → MayNotCloseLong g room code → IsUnclosedLong h k room code
+as_was g h k room code was same cause = inl (same ∙ was, subst (λ (x : Held). MayNotCloseLong x room code) was cause)
+
+-- what a handle holds after a refused close
+pub unclosed : (h k : Held) (room values : List ℕ) (code : ℕ) (before after : Option Held) → before ≡ Some h → after ≡ Some k → values ≡ room
+    → IsUnclosedLong h k (length room) code → ClosesLongAt before room code after values
+unclosed h k room values code before after lent put same (inl stays) =
+    inr (inr (inl (h, lent, put ∙ ap Some stays.0 ∙ sym lent, same, stays.1)))
+unclosed h k room values code before after lent put same (inr keeps) = inr (inr (inr (h, k, lent, put, same, keeps.0, keeps.1)))

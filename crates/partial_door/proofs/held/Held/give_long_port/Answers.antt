@@ -1,0 +1,27 @@
+use Rattle.std.proofs.Common.{rules, ◌++◌, ◌∷◌, [], ◌∙◌, List, ap, sym, refl, inl, inr}
+use Rattle.partial_long_lived.specs.Ports.{PortView}
+use Rattle.partial_door.proofs.held.Held.give_long_port.Goals as goal
+
+pub returns-then-is_err-clause-err : goal.returns-then-is_err-clause-err
+returns-then-is_err-clause-err c = (
+  refl,
+  inr (c.in-LongMemory.open, _, c.in-LongMemory.is, refl, record { number = refl; count = refl; memory = refl }, c.reserve.ensures.items),
+  inr (inr (inr (c.in-LongMemory.open, c.in-LongPort.own, c.in-LongMemory.is, search rules, search rules, refl))),
+)
+
+pub returns-clause-ok : goal.returns-clause-ok
+returns-clause-ok c = (
+  c.in-LongMemory.open,
+  _,
+  c.in-LongPort-into_inner.own,
+  c.in-LongMemory.is,
+  refl,
+  sym c.into_inner.ensures ∙ c.in-LongPort-into_inner.is,
+  search rules,
+  record { number = refl; count = refl; memory = refl },
+  c.push_reserved.ensures.items ∙ ap (λ (xs : List PortView). xs ++ c.in-LongPort-into_inner.own.port ∷ []) c.reserve.ensures.items,
+)
+
+pub returns-then-own-open-clause-err : goal.returns-then-own-open-clause-err
+returns-then-own-open-clause-err c =
+    (refl, inl (sym c.in-LongMemory.is), inr (inr (inl (c.in-LongMemory.open, c.in-LongPort.own, c.in-LongMemory.is, search rules, search rules, refl))))

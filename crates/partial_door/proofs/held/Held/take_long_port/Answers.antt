@@ -1,0 +1,30 @@
+use Rattle.std.proofs.Common.{rules, refl, sym, inl, inr}
+use Rattle.partial_long_lived.specs.Ports.{IsOf}
+use Rattle.partial_door.proofs.Opened.{last_of}
+use Rattle.partial_door.proofs.held.Held.take_long_port.Goals as goal
+
+pub invariant_of-own-clause-of : goal.invariant_of-own-clause-of
+invariant_of-own-clause-of c = last_of IsOf _ _ _ _ _ c.in-Some.ensures.items c.in-LongMemory.open.of c.in-Ok-try_clone.ensures
+
+pub returns-clause-ok : goal.returns-clause-ok
+returns-clause-ok c = (
+  c.in-LongMemory.open,
+  _,
+  _,
+  c.in-LongMemory.is,
+  refl,
+  c.replace.ensures.after,
+  record { number = refl; count = refl; memory = refl },
+  c.in-Some.ensures.items,
+  refl,
+  c.in-Ok-try_clone.ensures,
+)
+
+pub returns-then-is_empty-clause-err : goal.returns-then-is_empty-clause-err
+returns-then-is_empty-clause-err c = (sym c.in-LongMemory.is, inr (inl (c.in-LongMemory.open, c.in-LongMemory.is, search rules, refl)))
+
+pub returns-in_default-new-clause-err : goal.returns-in_default-new-clause-err
+returns-in_default-new-clause-err c = (sym c.in-LongMemory.is, inr (inr (c.in-LongMemory.open, c.in-LongMemory.is, search rules, refl)))
+
+pub returns-in_default-try_clone-clause-err : goal.returns-in_default-try_clone-clause-err
+returns-in_default-try_clone-clause-err c = (sym c.in-LongMemory.is, inr (inr (c.in-LongMemory.open, c.in-LongMemory.is, search rules, refl)))

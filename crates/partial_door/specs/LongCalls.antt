@@ -1,0 +1,63 @@
+-- What the calls of a port of a long-lived memory leave of what its handle holds.
+use Rattle.std.specs.Prelude.{ℕ, ◌≡◌, ◌⊎◌, List}
+use Rattle.std.specs.Arc.{arc_value}
+use Rattle.partial_model.specs.declared.call.Call.TheVariants as call
+use Rattle.partial_long_lived.specs.declared.answers.Updated.{Updated}
+use Rattle.partial_long_lived.specs.declared.answers.Updated.TheVariants.{Applied, Lost}
+use Rattle.partial_long_lived.specs.declared.error.Refused.{Refused}
+use Rattle.partial_long_lived.specs.Refusals.{refused_code}
+use Rattle.partial_long_lived.specs.Ports.{PortView}
+use Rattle.partial_long_lived.specs.Calls.{IsRefused, Reads, Scanned, Scans, Updates}
+use Rattle.partial_door.specs.declared.answers.UpdateAnswer.{UpdateAnswer}
+use Rattle.partial_door.specs.declared.answers.ReadAnswer.{ReadAnswer}
+use Rattle.partial_door.specs.declared.answers.ScanAnswer.{ScanAnswer}
+use Rattle.partial_door.specs.declared.held.LongPort.{LongPort}
+use Rattle.partial_door.specs.declared.held.Held.{Held}
+use Rattle.partial_door.specs.declared.held.Held.TheVariants as held
+use Rattle.partial_door.specs.Calls.{IsMismatch, scan_answer}
+
+-- the port's reference of its memory stays
+pub record IsSameLong (p q : LongPort) : Type 0 where
+  pub number : q.number ≡ p.number
+  pub memory : arc_value q.memory ≡ arc_value p.memory
+
+-- no port of a long-lived memory is held
+abbrev pub HoldsNoLongPort : Held → Type 0
+HoldsNoLongPort (held.LongPort p) = ⊥
+HoldsNoLongPort _ = Unit {0}
+
+-- A call of a port on what is held: when that is no port of a long-lived memory the number is 17, nothing changes, and the caller's answer
+-- stays; otherwise the port is of the same memory, and the call did to it what is said.
+abbrev pub AtLongPort : Type 0 → (PortView → ℕ → PortView → Type 0) → Held → ℕ → Held → Type 0
+AtLongPort stays done h code k =
+    (HoldsNoLongPort h × (code ≡ 17) × (k ≡ h) × stays)
+    ⊎ ((p : LongPort) × (q : LongPort) × (h ≡ held.LongPort p) × (k ≡ held.LongPort q) × IsSameLong p q × done p.port code q.port)
+
+-- what an update answers, as the caller sees it
+abbrev pub long_update_answer : Updated → UpdateAnswer
+long_update_answer (Applied stamp) = record { stamp = stamp; applied = 1 }
+long_update_answer (Lost by) = record { stamp = by; applied = 0 }
+
+-- an update was answered, or refused with its number, and then the answer stays
+abbrev pub LongUpdateEnds : ℕ → ℕ → UpdateAnswer → UpdateAnswer → PortView → ℕ → PortView → Type 0
+LongUpdateEnds j v before after p code q =
+    ((r : Updated) × (code ≡ 0) × (after ≡ long_update_answer r) × Updates p j v r q)
+    ⊎ ((cause : Refused) × (code ≡ refused_code cause) × (after ≡ before) × IsRefused p (call.Update j v) cause q)
+
+-- a read likewise
+abbrev pub LongReadEnds : ℕ → ReadAnswer → ReadAnswer → PortView → ℕ → PortView → Type 0
+LongReadEnds j before after p code q =
+    ((code ≡ 0) × Reads p j after.value after.stamp q)
+    ⊎ ((cause : Refused) × (code ≡ refused_code cause) × (after ≡ before) × IsRefused p (call.Read j) cause q)
+
+-- a scan was answered, or refused for its lengths or for a cause, and then the answer and the values stay
+abbrev pub LongScanEnds : List ℕ → List ℕ → List ℕ → ScanAnswer → ScanAnswer → PortView → ℕ → PortView → Type 0
+LongScanEnds which before values old new p code q =
+    ((s : Scanned) × (code ≡ 0) × (new ≡ scan_answer s) × Scans p which values s q)
+    ⊎ ((values ≡ before) × (new ≡ old)
+    × (((code ≡ 19) × IsMismatch p.memory.about.sizes.m which before × (q ≡ p))
+    ⊎ ((cause : Refused) × (code ≡ refused_code cause) × IsRefused p (call.Scan which) cause q)))
+
+-- the number of a port was given, and the port is as it was
+abbrev pub LongNumberEnds : ℕ → PortView → ℕ → PortView → Type 0
+LongNumberEnds after p code q = (code ≡ 0) × (after ≡ p.number) × (q ≡ p)

@@ -1,0 +1,54 @@
+-- What the calls of long-lived memories leave of a handle.
+use Rattle.std.specs.Prelude.{ℕ, ◌≡◌, ◌⊎◌, List, length}
+use Rattle.std.specs.declared.option.Option.{Option}
+use Rattle.std.specs.declared.option.Option.TheVariants.{None, Some}
+use Rattle.partial_long_lived.specs.declared.options.Options.{Options}
+use Rattle.partial_long_lived.specs.Ports.{PortView}
+use Rattle.partial_door.specs.declared.held.Held.{Held}
+use Rattle.partial_door.specs.LongCalls.{AtLongPort}
+use Rattle.partial_door.specs.LongMemories.{ClosesLong, GivesLongPort, HoldsNew, KeepsLong, MayNotBeNew, MayNotCloseLong, MayNotGiveLong, MayNotTakeLong, StaysLong, TakesLongPort}
+
+-- a call of a port on a handle: when it holds nothing the number is 17, and the caller's answer stays
+abbrev pub AtLongHandle : Type 0 → (PortView → ℕ → PortView → Type 0) → Option Held → ℕ → Option Held → Type 0
+AtLongHandle stays done before code after =
+    ((before ≡ None) × (after ≡ None) × (code ≡ 17) × stays)
+    ⊎ ((h : Held) × (k : Held) × (before ≡ Some h) × (after ≡ Some k) × AtLongPort stays done h code k)
+
+-- an opening into a handle: one that holds something is as it was, and so is one for which nothing opened
+abbrev pub OpensNewAt : ℕ → List ℕ → ℕ → Options → Option Held → ℕ → Option Held → Type 0
+OpensNewAt number initial ports o before code after =
+    ((h : Held) × (before ≡ Some h) × (after ≡ Some h) × (code ≡ 18))
+    ⊎ ((h : Held) × (before ≡ None) × (after ≡ Some h) × (code ≡ 0) × HoldsNew number initial ports o h)
+    ⊎ ((before ≡ None) × (after ≡ None) × MayNotBeNew initial ports o code)
+
+-- why a port isn't taken out of a memory into a handle: that holds something, or nothing is there to take it out of, or no port is
+abbrev pub MayNotTakeLongAt : Option Held → Option Held → ℕ → Type 0
+MayNotTakeLongAt memory port code =
+    ((p : Held) × (port ≡ Some p) × (code ≡ 18))
+    ⊎ ((port ≡ None) × (memory ≡ None) × (code ≡ 17))
+    ⊎ ((h : Held) × (port ≡ None) × (memory ≡ Some h) × MayNotTakeLong h code)
+
+-- a port is taken out of a memory into an empty handle, and otherwise both are as they were
+abbrev pub TakesLongAt : Option Held → Option Held → ℕ → Option Held → Option Held → Type 0
+TakesLongAt memory port code memory' port' =
+    ((h : Held) × (k : Held) × (p : Held) × (memory ≡ Some h) × (port ≡ None) × (memory' ≡ Some k) × (port' ≡ Some p) × (code ≡ 0)
+    × TakesLongPort h p k)
+    ⊎ ((memory' ≡ memory) × (port' ≡ port) × MayNotTakeLongAt memory port code)
+
+-- a port is returned and leaves its handle empty, or both are as they were
+abbrev pub GivesLongAt : Option Held → Option Held → ℕ → Option Held → Option Held → Type 0
+GivesLongAt memory port code memory' port' =
+    ((h : Held) × (k : Held) × (p : Held) × (memory ≡ Some h) × (port ≡ Some p) × (memory' ≡ Some k) × (port' ≡ None) × (code ≡ 0)
+    × GivesLongPort h p k)
+    ⊎ ((h : Held) × (k : Held) × (p : Held) × (memory ≡ Some h) × (port ≡ Some p) × (memory' ≡ Some k) × (port' ≡ port)
+    × StaysLong h k × MayNotGiveLong h p code)
+    ⊎ (((memory ≡ None) ⊎ (port ≡ None)) × (memory' ≡ memory) × (port' ≡ port) × (code ≡ 17))
+
+-- a memory is closed and leaves its handle empty, or both it and the caller's values are as they were, or an allocation was refused, and the
+-- handle holds the memory with all its ports for a later close
+abbrev pub ClosesLongAt : Option Held → List ℕ → ℕ → Option Held → List ℕ → Type 0
+ClosesLongAt before room code after values =
+    ((before ≡ None) × (after ≡ None) × (code ≡ 17) × (values ≡ room))
+    ⊎ ((h : Held) × (before ≡ Some h) × (after ≡ None) × (code ≡ 0) × ClosesLong h values)
+    ⊎ ((h : Held) × (before ≡ Some h) × (after ≡ before) × (values ≡ room) × MayNotCloseLong h (length room) code)
+    ⊎ ((h : Held) × (k : Held) × (before ≡ Some h) × (after ≡ Some k) × (values ≡ room) × (code ≡ 6) × KeepsLong h k)

@@ -1,0 +1,96 @@
+//! The calls of a port of a long-lived memory, made on what a handle holds. Each returns 0 when it was
+//! answered and otherwise the number of the refusal. A refused call leaves the caller's places as they were.
+
+ghost use Rattle.std.specs.Prelude.{◌≡◌};
+ghost use Rattle.partial_door.specs.LongCalls.{AtLongPort, LongNumberEnds, LongReadEnds, LongScanEnds, LongUpdateEnds};
+
+use crate::answers::{ReadAnswer, ScanAnswer, UpdateAnswer, scan_answer, update_answer};
+use crate::codes::{FINE, HOLDS_NONE, LENGTH};
+use crate::held::Held;
+
+impl Held {
+    /// Sets a component.
+    ///
+    /// Returns 17 when this isn't a port of a long-lived memory, 7 when `component` isn't below the number of
+    /// components, 25 when the port came to a later epoch 16 times during the call, and 26 or 27 when the
+    /// epoch has to be changed and can't be.
+    pub fn update_long(&mut self, component: u32, value: u64, answer: &mut UpdateAnswer) -> u32
+        ensures { AtLongPort (answer.new ≡ answer.old) (LongUpdateEnds component value answer.old answer.new)
+            self.old result self.new }
+    {
+        match self {
+            Held::LongPort(own) => match own.memory.update(&mut own.port, component, value) {
+                Ok(updated) => {
+                    *answer = update_answer(updated);
+                    FINE
+                }
+                Err(cause) => u32::from(cause.code()),
+            },
+            _ => HOLDS_NONE,
+        }
+    }
+
+    /// Reads a component.
+    ///
+    /// Returns 17 when this isn't a port of a long-lived memory, and 7 when `component` isn't below the number
+    /// of components.
+    pub fn read_long(&mut self, component: u32, answer: &mut ReadAnswer) -> u32
+        ensures { AtLongPort (answer.new ≡ answer.old) (LongReadEnds component answer.old answer.new)
+            self.old result self.new }
+    {
+        match self {
+            Held::LongPort(own) => match own.memory.read(&mut own.port, component) {
+                Ok((value, stamp)) => {
+                    *answer = ReadAnswer { value, stamp };
+                    FINE
+                }
+                Err(cause) => u32::from(cause.code()),
+            },
+            _ => HOLDS_NONE,
+        }
+    }
+
+    /// Scans the components `which` into `into`.
+    ///
+    /// Returns 17 when this isn't a port of a long-lived memory, 19 when the two lengths differ or exceed the
+    /// number of components, 7 when an index isn't below that number, and 26 or 27 when the epoch has to be
+    /// changed and can't be.
+    pub fn scan_long(&mut self, which: &[u32], into: &mut [u64], answer: &mut ScanAnswer) -> u32
+        ensures { AtLongPort ((into.new ≡ into.old) × (answer.new ≡ answer.old))
+            (LongScanEnds which.now into.old into.new answer.old answer.new) self.old result self.new }
+    {
+        match self {
+            Held::LongPort(own) => {
+                if which.len() != into.len() {
+                    return LENGTH;
+                }
+                if which.len() > own.components {
+                    return LENGTH;
+                }
+                match own.memory.scan(&mut own.port, which, into) {
+                    Ok(scanned) => {
+                        *answer = scan_answer(scanned);
+                        FINE
+                    }
+                    Err(cause) => u32::from(cause.code()),
+                }
+            }
+            _ => HOLDS_NONE,
+        }
+    }
+
+    /// Reports the number of a port.
+    ///
+    /// Returns 17 when this isn't a port of a long-lived memory.
+    pub fn number_long(&self, answer: &mut u32) -> u32
+        ensures { AtLongPort (answer.new ≡ answer.old) (LongNumberEnds answer.new) self.now result self.now }
+    {
+        match self {
+            Held::LongPort(own) => {
+                *answer = own.port.number();
+                FINE
+            }
+            _ => HOLDS_NONE,
+        }
+    }
+}

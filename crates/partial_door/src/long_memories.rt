@@ -1,0 +1,272 @@
+//! The calls on the handle of a long-lived memory. A refused call returns the number of the refusal.
+
+ghost use Rattle.std.specs.Prelude.{◌≡◌, ◌∷◌, length, IfOk, IfErr};
+ghost use Rattle.partial_long_lived.specs.Closing.{Closes};
+ghost use Rattle.partial_door.specs.Home.{AreLongOf};
+ghost use Rattle.partial_door.specs.declared.held.Held.TheVariants as held;
+ghost use Rattle.partial_door.specs.Inner.Long.{IsLongOpenOf, IsUnclosedLong, IsUnready};
+ghost use Rattle.partial_door.specs.LongMemories.{AreLongApart, ClosesLong, GivesLongPort, HoldsNew, IsReady, IsSameClosing};
+ghost use Rattle.partial_door.specs.LongMemories.{MayNotBeNew, MayNotCloseLong, MayNotGiveLong, MayNotTakeLong, StaysLong, TakesLongPort, options_of};
+
+use crate::answers::ArenaSizes;
+use crate::codes::{HOLDS_NONE, LENGTH, MEMORY, NONE_HOME, NOT_ALL_HOME, SHARED, TWO_MEMORIES};
+use crate::held::{Held, LongClosing, LongMemory, LongPort};
+use crate::memories::nothing;
+use partial_long_lived::{LongLived, Options, Port, Unclosed};
+use std::alloc::Global;
+use std::mem;
+use std::sync::Arc;
+
+// Boxes an opened memory with so many components and so many ports, all of which it holds.
+fn at_home(
+    alloc: Global,
+    number: u64,
+    components: usize,
+    count: u32,
+    opened: (LongLived, Vec<Port>),
+) -> Result<Box<Held>, u32>
+    requires size { components ≡ opened.0.about.sizes.m }
+    requires values { components ≡ length opened.0.about.opening.values }
+    requires of { AreLongOf opened.0 opened.1.items }
+    ensures ok { IfOk result (λ b. IsLongOpenOf number count opened.0 opened.1.items b.value) }
+    ensures err { IfErr result (λ code. code ≡ 6) }
+{
+    let (memory, ports) = opened;
+    let Ok(memory) = Arc::new(alloc, memory) else {
+        return Err(MEMORY);
+    };
+    let held = Held::LongMemory(LongMemory {
+        number,
+        components,
+        count,
+        memory,
+        ports,
+    });
+    match Box::new(alloc, held) {
+        Ok(held) => Ok(held),
+        Err(_) => Err(MEMORY),
+    }
+}
+
+/// Opens a long-lived memory that holds all its ports.
+///
+/// # Errors
+/// 5 when there are not 1 to 64 ports, 1 when there are not 1 to 65,536 values, 3 or 4 when a size of an arena
+/// is out of its range, and 6 when an allocation was refused. Nothing is left of the attempt.
+pub fn open_long(
+    alloc: Global,
+    number: u64,
+    initial: &[u64],
+    ports: u32,
+    arena: &ArenaSizes,
+) -> Result<Box<Held>, u32>
+    ensures ok { IfOk result (λ b. HoldsNew number initial.now ports (options_of arena.now) b.value) }
+    ensures err { IfErr result (λ code. MayNotBeNew initial.now ports (options_of arena.now) code) }
+{
+    let options = Options {
+        lists: arena.lists,
+        pool: arena.pool,
+    };
+    match LongLived::open(alloc, initial, ports, options) {
+        Ok(opened) => at_home(alloc, number, initial.len(), ports, opened),
+        Err(fault) => Err(u32::from(fault.code())),
+    }
+}
+
+impl Held {
+    /// Takes out the last port that the long-lived memory holds.
+    ///
+    /// # Errors
+    /// 17 when this isn't an open long-lived memory, 21 when it holds no port, and 6 when an allocation was
+    /// refused. The memory is as it was.
+    pub fn take_long_port(&mut self, alloc: Global) -> Result<Box<Held>, u32>
+        ensures ok { IfOk result (λ b. TakesLongPort self.old b.value self.new) }
+        ensures err { IfErr result (λ code. (self.new ≡ self.old) × MayNotTakeLong self.old code) }
+    {
+        let Held::LongMemory(open) = self else {
+            return Err(HOLDS_NONE);
+        };
+        if open.ports.is_empty() {
+            return Err(NONE_HOME);
+        }
+        let Ok(mut taken) = Box::new(alloc, nothing(alloc)) else {
+            return Err(MEMORY);
+        };
+        let Ok(memory) = Arc::try_clone(&open.memory) else {
+            return Err(MEMORY);
+        };
+        let Some(port) = open.ports.pop() else {
+            unreachable!()
+        };
+        let own = LongPort {
+            number: open.number,
+            components: open.components,
+            memory,
+            port,
+        };
+        drop(Box::replace(&mut taken, Held::LongPort(own)));
+        Ok(taken)
+    }
+
+    /// Returns a port to its long-lived memory.
+    ///
+    /// # Errors
+    /// 17 when this isn't an open long-lived memory or `given` isn't a port of one, 20 when the port is of
+    /// another memory, and 6 when an allocation was refused. The memory is as it was, and `given` comes back
+    /// with the number.
+    pub fn give_long_port(&mut self, given: Box<Held>) -> Result<(), (u32, Box<Held>)>
+        requires { AreLongApart self.old given.value }
+        ensures ok { IfOk result (λ _. GivesLongPort self.old given.value self.new) }
+        ensures err { IfErr result (λ e. (e.1.value ≡ given.value) × StaysLong self.old self.new ×
+            MayNotGiveLong self.old given.value e.0) }
+    {
+        let Held::LongMemory(open) = self else {
+            return Err((HOLDS_NONE, given));
+        };
+        let Held::LongPort(own) = &*given else {
+            return Err((HOLDS_NONE, given));
+        };
+        if own.number != open.number {
+            return Err((TWO_MEMORIES, given));
+        }
+        if open.ports.reserve(1).is_err() {
+            return Err((MEMORY, given));
+        }
+        let Held::LongPort(own) = Box::into_inner(given) else {
+            unreachable!()
+        };
+        open.ports.push_reserved(own.port);
+        Ok(())
+    }
+}
+
+// Why a memory wasn't taken apart, and the memory.
+#[derive(Drop)]
+enum Unready {
+    Away(LongMemory),
+    Shared(LongMemory),
+}
+
+impl LongMemory {
+    // Takes the memory apart when it holds all its ports and no other reference of it is in use.
+    fn alone(self) -> Result<LongClosing, Unready>
+        ensures ok { IfOk result (λ c. IsReady (held.LongMemory self) c × (c.components ≡ self.components)) }
+        ensures err { IfErr result (IsUnready self) }
+    {
+        let all = self.count as usize;
+        if self.ports.is_empty() || self.ports.len() != all {
+            return Err(Unready::Away(self));
+        }
+        let LongMemory {
+            number,
+            components,
+            count,
+            memory,
+            mut ports,
+        } = self;
+        let memory = match Arc::try_unwrap(memory) {
+            Ok(memory) => memory,
+            Err(memory) => {
+                return Err(Unready::Shared(LongMemory {
+                    number,
+                    components,
+                    count,
+                    memory,
+                    ports,
+                }));
+            }
+        };
+        let Some(port) = ports.pop() else {
+            unreachable!()
+        };
+        Ok(LongClosing {
+            components,
+            memory,
+            port,
+            rest: ports,
+        })
+    }
+}
+
+impl LongClosing {
+    // Closes the memory, and puts its values into `into`, which has room for just as many.
+    fn close(self, alloc: Global, into: &mut [u64]) -> Result<(), LongClosing>
+        requires { length into.old ≡ self.components }
+        ensures ok { IfOk result (λ _. Closes self.memory (self.port ∷ self.rest.items) into.new) }
+        ensures err { IfErr result (λ kept. IsSameClosing self kept × (into.new ≡ into.old)) }
+    {
+        let LongClosing {
+            components,
+            memory,
+            port,
+            rest,
+        } = self;
+        match memory.close(alloc, port, rest) {
+            Ok(values) => {
+                into.copy_from_slice(&values);
+                Ok(())
+            }
+            Err(Unclosed { memory, port, rest }) => Err(LongClosing {
+                components,
+                memory,
+                port,
+                rest,
+            }),
+        }
+    }
+}
+
+// Takes a long-lived memory apart that is to be closed into room for so many values.
+fn ready(held: Held, room: usize) -> Result<LongClosing, (u32, Held)>
+    ensures ok { IfOk result (λ c. IsReady held c × (c.components ≡ room)) }
+    ensures err { IfErr result (λ e. (e.1 ≡ held) × MayNotCloseLong held room e.0) }
+{
+    match held {
+        Held::LongMemory(open) => {
+            if open.components != room {
+                return Err((LENGTH, Held::LongMemory(open)));
+            }
+            match open.alone() {
+                Ok(closing) => Ok(closing),
+                Err(Unready::Away(open)) => Err((NOT_ALL_HOME, Held::LongMemory(open))),
+                Err(Unready::Shared(open)) => Err((SHARED, Held::LongMemory(open))),
+            }
+        }
+        Held::LongClosing(closing) => {
+            if closing.components != room {
+                return Err((LENGTH, Held::LongClosing(closing)));
+            }
+            Ok(closing)
+        }
+        other => Err((HOLDS_NONE, other)),
+    }
+}
+
+impl Held {
+    /// Closes a long-lived memory to which all ports were returned, and puts its values into `into`. What is
+    /// left then holds nothing.
+    ///
+    /// # Errors
+    /// 17 when this isn't a long-lived memory, 19 when `into` isn't as long as it has components, 22 when not
+    /// all ports were returned, and 24 when all were and a reference of the memory is in use: this is as it
+    /// was. 6 when an allocation was refused: this is the memory with all its ports, and closes later.
+    pub fn close_long(&mut self, alloc: Global, into: &mut [u64]) -> Result<(), u32>
+        ensures ok { IfOk result (λ _. ClosesLong self.old into.new) }
+        ensures unchanged { IfErr result (λ _. into.new ≡ into.old) }
+        ensures err { IfErr result (IsUnclosedLong self.old self.new (length into.old)) }
+    {
+        match ready(mem::replace(self, nothing(alloc)), into.len()) {
+            Ok(closing) => match closing.close(alloc, into) {
+                Ok(()) => Ok(()),
+                Err(kept) => {
+                    *self = Held::LongClosing(kept);
+                    Err(MEMORY)
+                }
+            },
+            Err((code, held)) => {
+                *self = held;
+                Err(code)
+            }
+        }
+    }
+}
