@@ -121,7 +121,7 @@ if command -v cargo >/dev/null 2>&1; then
     CARGO_TARGET_DIR=$made/target
     export CARGO_TARGET_DIR
     item "the tests and examples of the Rust binding" sh -c 'cd bindings/rust && cargo test --offline --quiet'
-    item "the example flags.rs" example flags
+    item "the example flags.rs" example flags 400000
     item "the example monitor.rs" example monitor 400000
     item "the example scheduler.rs" example scheduler 100000
     item "the soak" soak

@@ -72,11 +72,22 @@ static void test_one_port(void)
     check(partial_port_read(&port, 1, &after) == 0 && after.value == 21, "a read gives the value set");
     check(after.stamp == set.stamp && after.stamp != before.stamp, "and the update's stamp");
 
+    partial_update_answer again = {0, 0};
+    check(partial_port_update_if(&port, 1, set.stamp, 22, &again) == 0 && again.applied == 1, "the expected stamp is found");
+    check(partial_port_update_if(&port, 1, set.stamp, 23, &set) == 0 && set.applied == 0, "another one is not");
+    check(set.stamp == again.stamp, "and it is told");
+    uint32_t same = 9;
+    const uint64_t stamps[2] = {again.stamp, before.stamp};
+    check(partial_port_unchanged(&port, (const uint32_t[]){1}, 1, stamps, 1, &same) == 0 && same == 1, "it has its stamp still");
+    check(partial_port_unchanged(&port, (const uint32_t[]){1, 1}, 2, stamps, 2, &same) == 0 && same == 0, "and not an older one");
+    check(partial_port_unchanged(&port, (const uint32_t[]){2}, 1, stamps, 1, &same) == 0 && same == 0, "nor one past the end");
+    check(partial_port_unchanged(&port, NULL, 0, NULL, 0, &same) == 0 && same == 1, "of no component none has changed");
+
     const uint32_t which[2] = {1, 0};
     uint64_t into[3] = {0, 0, 0};
     partial_scan_answer scanned = {9, 9, 9};
     check(partial_port_scan(&port, which, 2, into, 2, &scanned) == 0, "a scan is answered");
-    check(into[0] == 21 && into[1] == 10 && into[2] == 0, "it gives the values in its order");
+    check(into[0] == 22 && into[1] == 10 && into[2] == 0, "it gives the values in its order");
     check(scanned.collects == 2 && scanned.borrowed == 0, "a scan alone makes two collects");
     check(partial_port_free(&port) == 0 && port.held == NULL, "a freed handle is empty");
     uint64_t values[2] = {5, 5};
@@ -117,6 +128,10 @@ static void test_refused_calls(void)
     partial_scan_answer scanned = {5, 5, 5};
     uint32_t number = 5;
     check(partial_port_update(&none, 0, 1, &set) == PARTIAL_HOLDS_NONE, "an update at no port is refused");
+    check(partial_port_update_if(&none, 0, 1, 1, &set) == PARTIAL_HOLDS_NONE, "nor is there a conditional one");
+    check(partial_port_unchanged(&none, which, 1, into, 1, &number) == PARTIAL_HOLDS_NONE && number == 5, "at no port nothing is unchanged");
+    partial_port nobody = PARTIAL_EMPTY;
+    check(partial_port_meet(&none, &nobody) == PARTIAL_HOLDS_NONE, "no port meets none");
     check(partial_port_read(&none, 0, &read) == PARTIAL_HOLDS_NONE, "a read at no port is refused");
     check(partial_port_scan(&none, which, 1, into, 1, &scanned) == PARTIAL_HOLDS_NONE, "a scan at no port is refused");
     check(partial_port_number(&none, &number) == PARTIAL_HOLDS_NONE && number == 5, "no port has no number");
@@ -134,8 +149,10 @@ static void test_refused_calls(void)
     check(partial_port_scan(&port, which, 1, into, 2, &scanned) == PARTIAL_LENGTH, "more room than positions is refused");
     check(partial_port_scan(&port, which, 3, into, 3, &scanned) == PARTIAL_LENGTH, "more positions than components are refused");
     check(partial_port_scan(&port, which + 1, 2, into, 2, &scanned) == PARTIAL_COMPONENT, "a scan past the end is refused");
+    check(partial_port_unchanged(&port, which, 2, into, 1, &number) == PARTIAL_LENGTH && number == 5, "fewer stamps than components are refused");
     check(into[0] == 77 && into[1] == 77 && scanned.collects == 5, "a refused scan leaves the caller's values");
     check(partial_port_update(&port, 2, 1, &set) == PARTIAL_COMPONENT && set.stamp == 5, "an update past the end is refused");
+    check(partial_port_update_if(&port, 2, 1, 1, &set) == PARTIAL_COMPONENT && set.stamp == 5, "and a conditional one");
     check(partial_port_read(&port, 2, &read) == PARTIAL_COMPONENT && read.value == 5, "a read past the end is refused");
     partial_port_free(&port);
     partial_memory_free(&memory);
@@ -224,6 +241,8 @@ static void test_null(void)
     check(partial_memory_give_port(&memory, NULL) == PARTIAL_NULL, "nor null to a memory");
     check(partial_port_update(NULL, 0, 1, &set) == PARTIAL_NULL, "null isn't updated");
     check(partial_port_update(&port, 0, 1, NULL) == PARTIAL_NULL, "an update answers not to null");
+    check(partial_port_update_if(NULL, 0, 1, 1, &set) == PARTIAL_NULL, "not on any condition");
+    check(partial_port_update_if(&port, 0, 1, 1, NULL) == PARTIAL_NULL, "nor does a conditional one");
     check(partial_port_read(NULL, 0, &read) == PARTIAL_NULL, "null isn't read");
     check(partial_port_read(&port, 0, NULL) == PARTIAL_NULL, "a read answers not to null");
     check(partial_port_scan(NULL, which, 1, into, 1, &scanned) == PARTIAL_NULL, "null isn't scanned");

@@ -5,7 +5,7 @@
  * within a fixed number of atomic steps, whatever other threads do.
  *
  * A `partial_memory` never wears out, and its ports are `partial_port`s. A single opening
- * (`partial_handle`) has conditional updates and meetings too, and it wears out:
+ * (`partial_handle`) wears out:
  * `docs/using/choosing.md` says what a program does then.
  *
  * What is proved, and what isn't
@@ -174,11 +174,18 @@ uint32_t partial_door_memory_give_port(partial_memory *memory, partial_port *por
 uint32_t partial_door_memory_close(partial_memory *memory, uint64_t *into, size_t room);
 uint32_t partial_door_port_update(partial_port *port, uint32_t component,
                                   uint64_t value, partial_update_answer *answer);
+uint32_t partial_door_port_update_if(partial_port *port, uint32_t component,
+                                     uint64_t expected, uint64_t value,
+                                     partial_update_answer *answer);
 uint32_t partial_door_port_read(partial_port *port, uint32_t component,
                                 partial_read_answer *answer);
 uint32_t partial_door_port_scan(partial_port *port, const uint32_t *which,
                                 size_t positions, uint64_t *into, size_t room,
                                 partial_scan_answer *answer);
+uint32_t partial_door_port_unchanged(partial_port *port, const uint32_t *which,
+                                     size_t positions, const uint64_t *stamps,
+                                     size_t count, uint32_t *answer);
+uint32_t partial_door_port_meet(partial_port *first, partial_port *second);
 uint32_t partial_door_port_number(partial_port *port, uint32_t *answer);
 
 /*
@@ -301,6 +308,23 @@ static inline uint32_t partial_port_update(partial_port *port, uint32_t componen
 }
 
 /*
+ * Sets component `component` to `value` if it has the stamp `expected`, which a read or an
+ * update of this memory has answered. Otherwise the component had another stamp, the one in
+ * `answer`, at a moment of the call. No stamp of a memory ever comes back.
+ *
+ * The numbers are those of `partial_port_update`.
+ */
+static inline uint32_t partial_port_update_if(partial_port *port, uint32_t component,
+                                              uint64_t expected, uint64_t value,
+                                              partial_update_answer *answer)
+{
+    if (!port || !answer) {
+        return PARTIAL_NULL;
+    }
+    return partial_door_port_update_if(port, component, expected, value, answer);
+}
+
+/*
  * Reads component `component`: its value and its stamp at a moment of the call.
  *
  * 23: a pointer is null. 17: the handle holds no port. 7: `component` isn't below the
@@ -336,6 +360,45 @@ static inline uint32_t partial_port_scan(partial_port *port,
     }
     return partial_door_port_scan(port, which ? which : &no_component, positions,
                                   into ? into : &no_value, room, answer);
+}
+
+/*
+ * Says whether each component in `which` still has the stamp beside it in `stamps`, as a
+ * read of this port has answered it: `answer` is 1 then, and they stood together at one
+ * moment of the call. It is 0 when a component isn't there, or had another stamp at a
+ * moment of the call. `count` is how many stamps there are.
+ *
+ * 23: a pointer is null. 17: the handle holds no port. 19: `positions` and `count` differ.
+ * `answer` is as it was.
+ */
+static inline uint32_t partial_port_unchanged(partial_port *port,
+                                              const uint32_t *which, size_t positions,
+                                              const uint64_t *stamps, size_t count,
+                                              uint32_t *answer)
+{
+    const uint32_t no_component = 0;
+    const uint64_t no_stamp = 0;
+    if (!port || (!which && positions) || (!stamps && count) || !answer) {
+        return PARTIAL_NULL;
+    }
+    return partial_door_port_unchanged(port, which ? which : &no_component, positions,
+                                       stamps ? stamps : &no_stamp, count, answer);
+}
+
+/*
+ * Has two ports of one memory meet: each has observed afterwards all that either had
+ * observed before. When the one has read a component before, and the other reads it
+ * afterwards, the second value isn't an earlier one than the first.
+ *
+ * 23: a pointer is null. 17: a handle holds no port. 20: the ports are of two memories.
+ * Both are as they were.
+ */
+static inline uint32_t partial_port_meet(partial_port *first, partial_port *second)
+{
+    if (!first || !second) {
+        return PARTIAL_NULL;
+    }
+    return partial_door_port_meet(first, second);
 }
 
 /*

@@ -54,6 +54,21 @@ pub enum Updated {
     },
 }
 
+/// How a conditional update ended.
+#[derive(Clone, Copy, Debug, PartialEq, Eq)]
+pub enum UpdatedIf {
+    /// It took effect: the component had the expected stamp.
+    Applied {
+        /// The stamp of the update.
+        stamp: Stamp,
+    },
+    /// It had no effect: the component had another stamp.
+    Changed {
+        /// The stamp that it had.
+        by: Stamp,
+    },
+}
+
 /// A value, and the stamp of the update that wrote it.
 #[derive(Clone, Copy, Debug, PartialEq, Eq)]
 pub struct Value {

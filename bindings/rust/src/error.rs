@@ -46,6 +46,8 @@ pub enum Refused {
     NoArena,
     /// The epoch has to be changed, and the current one is the last one that a word can name.
     EpochsSpent,
+    /// The expected stamp is one of another memory.
+    Stamp,
 }
 
 /// Why a memory was not closed.
@@ -118,7 +120,7 @@ impl Refused {
     }
 
     /// The number of the refusal: 7 for `Component`, 19 for `Length`, 25 for `Overtaken`, 26 for `NoArena`, 27 for
-    /// `EpochsSpent`.
+    /// `EpochsSpent`, and 28 for `Stamp`, which this crate finds and not the library.
     pub fn code(self) -> u32 {
         match self {
             Refused::Component => 7,
@@ -126,6 +128,7 @@ impl Refused {
             Refused::Overtaken => 25,
             Refused::NoArena => 26,
             Refused::EpochsSpent => 27,
+            Refused::Stamp => 28,
         }
     }
 }
@@ -179,6 +182,7 @@ impl fmt::Display for Refused {
             Refused::Overtaken => "overtaken by changes of epoch",
             Refused::NoArena => "no arena is free",
             Refused::EpochsSpent => "epochs used up",
+            Refused::Stamp => "the expected stamp is one of another memory",
         })
     }
 }

@@ -21,7 +21,7 @@
 //! # Ok::<(), Box<dyn std::error::Error + Send + Sync>>(())
 //! ```
 //!
-//! [`opening`] has memories of fixed sizes that wear out, with conditional updates and meetings.
+//! [`opening`] has memories of fixed sizes that wear out.
 //!
 //! # Memory ordering
 //!
@@ -66,8 +66,9 @@ pub mod opening;
 mod port;
 mod raw;
 
-pub use answers::{Scanned, Stamp, Updated, Value};
+pub use answers::{Scanned, Stamp, Updated, UpdatedIf, Value};
 pub use builder::Builder;
 pub use error::{CloseError, OpenError, PortError, Refused};
 pub use memory::Memory;
+pub use opening::TwoMemories;
 pub use port::Port;

@@ -2,7 +2,7 @@
 
 use crate::memory::Shared;
 use crate::raw::{self, Handle};
-use crate::{Refused, Scanned, Stamp, Updated, Value};
+use crate::{Refused, Scanned, Stamp, TwoMemories, Updated, UpdatedIf, Value};
 use std::fmt;
 use std::sync::Arc;
 
@@ -56,6 +56,74 @@ impl Port {
             0 if answer.applied == 1 => Ok(Updated::Applied { stamp: self.stamp(answer.stamp) }),
             0 => Ok(Updated::Lost { by: self.stamp(answer.stamp) }),
             code => Err(Refused::of(code)),
+        }
+    }
+
+    /// Sets component `component` to `value` if it has the stamp `expected`. Otherwise the component had another
+    /// stamp, which the answer names, at a moment of the call. No stamp of a memory ever comes back.
+    ///
+    /// ```
+    /// use partial_door::{Memory, UpdatedIf};
+    ///
+    /// let mut port = Memory::new(&[5])?.port()?;
+    /// let seen = port.read(0)?;
+    /// let UpdatedIf::Applied { stamp } = port.update_if(0, seen.stamp, 6)? else { panic!() };
+    /// assert_eq!(port.update_if(0, seen.stamp, 7)?, UpdatedIf::Changed { by: stamp });
+    /// assert_eq!(port.read(0)?.value, 6);
+    /// # Ok::<(), Box<dyn std::error::Error + Send + Sync>>(())
+    /// ```
+    ///
+    /// # Errors
+    /// [`Refused::Stamp`] when `expected` is a stamp of another memory, and no step was made. Otherwise as those of
+    /// [`Port::update`].
+    #[inline]
+    pub fn update_if(&mut self, component: u32, expected: Stamp, value: u64) -> Result<UpdatedIf, Refused> {
+        if expected.memory != self.memory {
+            return Err(Refused::Stamp);
+        }
+        let mut answer = raw::UpdateAnswer::default();
+        // SAFETY: the handle and the place for the answer are borrowed for the call.
+        let code = unsafe {
+            raw::partial_door_port_update_if(&mut self.handle, component, expected.word, value, &mut answer)
+        };
+        match code {
+            0 if answer.applied == 1 => Ok(UpdatedIf::Applied { stamp: self.stamp(answer.stamp) }),
+            0 => Ok(UpdatedIf::Changed { by: self.stamp(answer.stamp) }),
+            code => Err(Refused::of(code)),
+        }
+    }
+
+    /// Sets component `component` to what the closure makes of its value, and tries again with the new value when
+    /// another update came between. `None` from the closure ends it: nothing is applied. Returns the stamp of the
+    /// update and the value that it set, or `None`.
+    ///
+    /// Each try is wait-free; how many there are depends on the other ports.
+    ///
+    /// ```
+    /// use partial_door::Memory;
+    ///
+    /// let mut port = Memory::new(&[5])?.port()?;
+    /// let set = port.modify(0, |value| value.checked_add(1))?.expect("it has room");
+    /// assert_eq!((set.value, port.read(0)?), (6, set));
+    /// assert_eq!(port.modify(0, |_| None)?, None);
+    /// # Ok::<(), Box<dyn std::error::Error + Send + Sync>>(())
+    /// ```
+    ///
+    /// # Errors
+    /// As those of [`Port::update`].
+    pub fn modify(
+        &mut self,
+        component: u32,
+        mut change: impl FnMut(u64) -> Option<u64>,
+    ) -> Result<Option<Value>, Refused> {
+        loop {
+            let seen = self.read(component)?;
+            let Some(value) = change(seen.value) else {
+                return Ok(None);
+            };
+            if let UpdatedIf::Applied { stamp } = self.update_if(component, seen.stamp, value)? {
+                return Ok(Some(Value { value, stamp }));
+            }
         }
     }
 
@@ -143,6 +211,63 @@ impl Port {
         let mut into = [0; N];
         self.scan(&which, &mut into)?;
         Ok(into)
+    }
+
+    /// Says whether each of these components still has the value that this port has read, by its stamp. If so, all of
+    /// them had these values together at one moment of the call. `false` says that a component isn't there, or had
+    /// another stamp at a moment of the call. A stamp that this port hasn't read itself was the component's own at some
+    /// moment of the call, perhaps not together with the others.
+    ///
+    /// ```
+    /// use partial_door::Memory;
+    ///
+    /// let mut port = Memory::new(&[5, 8])?.port()?;
+    /// let seen = [(0, port.read(0)?.stamp), (1, port.read(1)?.stamp)];
+    /// assert!(port.unchanged(seen)?);
+    /// port.update(1, 8)?;
+    /// assert!(!port.unchanged(seen)?);
+    /// # Ok::<(), Box<dyn std::error::Error + Send + Sync>>(())
+    /// ```
+    ///
+    /// # Errors
+    /// [`Refused::Stamp`] when a stamp is one of another memory, and no step was made.
+    pub fn unchanged<const N: usize>(&mut self, seen: [(u32, Stamp); N]) -> Result<bool, Refused> {
+        if seen.iter().any(|(_, stamp)| stamp.memory != self.memory) {
+            return Err(Refused::Stamp);
+        }
+        let (which, stamps) = (seen.map(|(component, _)| component), seen.map(|(_, stamp)| stamp.word));
+        let mut answer = 0;
+        // SAFETY: the handle, both arrays and the place for the answer are borrowed for the call.
+        match unsafe {
+            raw::partial_door_port_unchanged(&mut self.handle, which.as_ptr(), N, stamps.as_ptr(), N, &mut answer)
+        } {
+            0 => Ok(answer == 1),
+            code => Err(Refused::of(code)),
+        }
+    }
+
+    /// Has two ports meet: each has observed afterwards all that either had observed before. When the one has read a
+    /// component before, and the other reads it afterwards, the second value isn't an earlier one than the first.
+    ///
+    /// ```
+    /// use partial_door::Memory;
+    ///
+    /// let memory = Memory::new(&[5])?;
+    /// let (mut first, mut second) = (memory.port()?, memory.port()?);
+    /// first.update(0, 6)?;
+    /// first.meet(&mut second)?;
+    /// assert_eq!(second.read(0)?.value, 6);
+    /// # Ok::<(), Box<dyn std::error::Error + Send + Sync>>(())
+    /// ```
+    ///
+    /// # Errors
+    /// [`TwoMemories`] when the ports are of two memories. Both are as they were.
+    pub fn meet(&mut self, other: &mut Port) -> Result<(), TwoMemories> {
+        // SAFETY: both handles are borrowed for the call, and Rust keeps them apart.
+        match unsafe { raw::partial_door_port_meet(&mut self.handle, &mut other.handle) } {
+            0 => Ok(()),
+            _ => Err(TwoMemories),
+        }
     }
 
     /// The number of the port. No two ports of a memory have the same, and each is below the number of its ports.

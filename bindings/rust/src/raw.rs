@@ -95,6 +95,13 @@ unsafe extern "C" {
         value: u64,
         answer: *mut UpdateAnswer,
     ) -> u32;
+    pub fn partial_door_port_update_if(
+        port: *mut Handle,
+        component: u32,
+        expected: u64,
+        value: u64,
+        answer: *mut UpdateAnswer,
+    ) -> u32;
     pub fn partial_door_port_read(port: *mut Handle, component: u32, answer: *mut ReadAnswer) -> u32;
     pub fn partial_door_port_scan(
         port: *mut Handle,
@@ -104,6 +111,15 @@ unsafe extern "C" {
         room: usize,
         answer: *mut ScanAnswer,
     ) -> u32;
+    pub fn partial_door_port_unchanged(
+        port: *mut Handle,
+        which: *const u32,
+        positions: usize,
+        stamps: *const u64,
+        count: usize,
+        answer: *mut u32,
+    ) -> u32;
+    pub fn partial_door_port_meet(first: *mut Handle, second: *mut Handle) -> u32;
     pub fn partial_door_port_number(port: *mut Handle, answer: *mut u32) -> u32;
     pub fn partial_door_open(
         opening: u64,

@@ -1,6 +1,6 @@
 //! Memories that never wear out: their ports in threads of their own, and what is refused.
 
-use partial_door::{CloseError, Memory, OpenError, Port, PortError, Refused, Stamp, Updated};
+use partial_door::{CloseError, Memory, OpenError, Port, PortError, Refused, Stamp, TwoMemories, Updated, UpdatedIf};
 use std::collections::HashSet;
 use std::error::Error;
 
@@ -138,6 +138,52 @@ fn stamps_are_those_of_one_memory() {
 }
 
 #[test]
+fn a_stamp_of_another_memory_is_refused() {
+    let (one, other) = (tiny(&[1], 1), tiny(&[1], 1));
+    let (mut first, mut second) = (one.port().expect("a port"), other.port().expect("a port"));
+    let stamp = first.read(0).expect("it is there").stamp;
+    assert_eq!(second.update_if(0, stamp, 3), Err(Refused::Stamp));
+    assert_eq!(first.update_if(1, stamp, 3), Err(Refused::Component));
+    assert!(matches!(first.update_if(0, stamp, 3), Ok(UpdatedIf::Applied { .. })));
+    assert_eq!(second.read(0).expect("it is there").value, 1);
+}
+
+#[test]
+fn ports_of_one_memory_meet_and_no_others() {
+    let (one, other) = (tiny(&[1, 2], 2), tiny(&[1, 2], 1));
+    let (mut first, mut second) = (one.port().expect("a port"), one.port().expect("a port"));
+    let mut stranger = other.port().expect("a port");
+    for value in 0..100 {
+        first.update(0, value).expect("it isn't refused");
+    }
+    assert_eq!(second.meet(&mut first), Ok(()));
+    let seen = second.read(0).expect("it is there");
+    assert!(seen.value == 99 && seen.stamp.epoch() > 10);
+    assert_eq!(first.unchanged([(0, seen.stamp)]), Ok(true));
+    assert_eq!(first.meet(&mut stranger), Err(TwoMemories));
+    assert_eq!(stranger.unchanged([(0, seen.stamp)]), Err(Refused::Stamp));
+}
+
+#[test]
+fn no_conditional_increment_is_lost_over_many_epochs() {
+    let memory = tiny(&[0; 2], 4);
+    std::thread::scope(|scope| {
+        for _ in 0..4 {
+            let mut port = memory.port().expect("a port is free");
+            scope.spawn(move || {
+                for turn in 0..2000 {
+                    while matches!(port.modify(turn % 2, |value| Some(value + 1)), Err(Refused::Overtaken)) {}
+                }
+            });
+        }
+    });
+    let mut port = memory.port().expect("a port is free again");
+    assert!(port.read(0).expect("it is there").stamp.epoch() > 100);
+    drop(port);
+    assert_eq!(memory.close().expect("all ports are free"), [4000; 2]);
+}
+
+#[test]
 fn errors_and_tokens_may_go_to_other_threads() {
     fn is_error<E: Error + Send + Sync + 'static>() {}
     fn is_shared<T: Send + Sync + 'static>() {}
@@ -156,8 +202,8 @@ fn errors_have_the_numbers_of_the_library() {
     assert_eq!(opened.map(OpenError::code), [1, 3, 4, 5, 6]);
     assert_eq!([PortError::Memory, PortError::Closed, PortError::NoneFree].map(PortError::code), [6, 17, 21]);
     let refused =
-        [Refused::Component, Refused::Length, Refused::Overtaken, Refused::NoArena, Refused::EpochsSpent];
-    assert_eq!(refused.map(Refused::code), [7, 19, 25, 26, 27]);
+        [Refused::Component, Refused::Length, Refused::Overtaken, Refused::NoArena, Refused::EpochsSpent, Refused::Stamp];
+    assert_eq!(refused.map(Refused::code), [7, 19, 25, 26, 27, 28]);
     let memory = tiny(&[1], 1);
     let _port = memory.port().expect("a port is free");
     let error = memory.close().expect_err("a port is in use");

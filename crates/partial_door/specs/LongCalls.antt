@@ -1,13 +1,15 @@
 -- What the calls of a port of a long-lived memory leave of what its handle holds.
-use Rattle.std.specs.Prelude.{ℕ, ◌≡◌, ◌⊎◌, List}
+use Rattle.std.specs.Prelude.{ℕ, ◌≡◌, ◌⊎◌, List, length}
 use Rattle.std.specs.Arc.{arc_value}
 use Rattle.partial_model.specs.declared.call.Call.TheVariants as call
 use Rattle.partial_long_lived.specs.declared.answers.Updated.{Updated}
 use Rattle.partial_long_lived.specs.declared.answers.Updated.TheVariants.{Applied, Lost}
+use Rattle.partial_long_lived.specs.declared.answers.UpdatedIf.{UpdatedIf}
+use Rattle.partial_long_lived.specs.declared.answers.UpdatedIf.TheVariants as conditional
 use Rattle.partial_long_lived.specs.declared.error.Refused.{Refused}
 use Rattle.partial_long_lived.specs.Refusals.{refused_code}
 use Rattle.partial_long_lived.specs.Ports.{PortView}
-use Rattle.partial_long_lived.specs.Calls.{IsRefused, Reads, Scanned, Scans, Updates}
+use Rattle.partial_long_lived.specs.Calls.{Differ, IsRefused, Reads, Scanned, Scans, StillStand, Updates, UpdatesIf}
 use Rattle.partial_door.specs.declared.answers.UpdateAnswer.{UpdateAnswer}
 use Rattle.partial_door.specs.declared.answers.ReadAnswer.{ReadAnswer}
 use Rattle.partial_door.specs.declared.answers.ScanAnswer.{ScanAnswer}
@@ -44,6 +46,17 @@ LongUpdateEnds j v before after p code q =
     ((r : Updated) × (code ≡ 0) × (after ≡ long_update_answer r) × Updates p j v r q)
     ⊎ ((cause : Refused) × (code ≡ refused_code cause) × (after ≡ before) × IsRefused p (call.Update j v) cause q)
 
+-- what a conditional update answers, as the caller sees it
+abbrev pub long_update_if_answer : UpdatedIf → UpdateAnswer
+long_update_if_answer (conditional.Applied stamp) = record { stamp = stamp; applied = 1 }
+long_update_if_answer (conditional.Changed by) = record { stamp = by; applied = 0 }
+
+-- a conditional update likewise
+abbrev pub LongUpdateIfEnds : ℕ → ℕ → ℕ → UpdateAnswer → UpdateAnswer → PortView → ℕ → PortView → Type 0
+LongUpdateIfEnds j expected v before after p code q =
+    ((r : UpdatedIf) × (code ≡ 0) × (after ≡ long_update_if_answer r) × UpdatesIf p j expected v r q)
+    ⊎ ((cause : Refused) × (code ≡ refused_code cause) × (after ≡ before) × IsRefused p (call.UpdateIf j expected v) cause q)
+
 -- a read likewise
 abbrev pub LongReadEnds : ℕ → ReadAnswer → ReadAnswer → PortView → ℕ → PortView → Type 0
 LongReadEnds j before after p code q =
@@ -57,6 +70,13 @@ LongScanEnds which before values old new p code q =
     ⊎ ((values ≡ before) × (new ≡ old)
     × (((code ≡ 19) × IsMismatch p.memory.about.sizes.m which before × (q ≡ p))
     ⊎ ((cause : Refused) × (code ≡ refused_code cause) × IsRefused p (call.Scan which) cause q)))
+
+-- an answer was given whether components still have stamps, or the two lengths differ, and then the answer and the port are as they were
+abbrev pub LongUnchangedEnds : List ℕ → List ℕ → ℕ → ℕ → PortView → ℕ → PortView → Type 0
+LongUnchangedEnds which stamps before after p code q =
+    ((code ≡ 0) × (after ≡ 1) × StillStand p q which stamps)
+    ⊎ ((code ≡ 0) × (after ≡ 0) × Differ p q which stamps)
+    ⊎ ((code ≡ 19) × (length stamps ≡ length which → ⊥) × (after ≡ before) × (q ≡ p))
 
 -- the number of a port was given, and the port is as it was
 abbrev pub LongNumberEnds : ℕ → PortView → ℕ → PortView → Type 0

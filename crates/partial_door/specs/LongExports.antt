@@ -6,7 +6,7 @@ use Rattle.partial_long_lived.specs.declared.options.Options.{Options}
 use Rattle.partial_long_lived.specs.Ports.{PortView}
 use Rattle.partial_door.specs.declared.held.Held.{Held}
 use Rattle.partial_door.specs.LongCalls.{AtLongPort}
-use Rattle.partial_door.specs.LongMemories.{ClosesLong, GivesLongPort, HoldsNew, KeepsLong, MayNotBeNew, MayNotCloseLong, MayNotGiveLong, MayNotTakeLong, StaysLong, TakesLongPort}
+use Rattle.partial_door.specs.LongMemories.{ClosesLong, GivesLongPort, HoldsNew, KeepsLong, MayNotBeNew, MayNotCloseLong, MayNotGiveLong, MayNotTakeLong, MeetsLong, StaysLong, TakesLongPort}
 
 -- a call of a port on a handle: when it holds nothing the number is 17, and the caller's answer stays
 abbrev pub AtLongHandle : Type 0 → (PortView → ℕ → PortView → Type 0) → Option Held → ℕ → Option Held → Type 0
@@ -52,3 +52,10 @@ ClosesLongAt before room code after values =
     ⊎ ((h : Held) × (before ≡ Some h) × (after ≡ None) × (code ≡ 0) × ClosesLong h values)
     ⊎ ((h : Held) × (before ≡ Some h) × (after ≡ before) × (values ≡ room) × MayNotCloseLong h (length room) code)
     ⊎ ((h : Held) × (k : Held) × (before ≡ Some h) × (after ≡ Some k) × (values ≡ room) × (code ≡ 6) × KeepsLong h k)
+
+-- two ports meet, and an empty handle lets none meet
+abbrev pub MeetsLongAt : Option Held → Option Held → ℕ → Option Held → Option Held → Type 0
+MeetsLongAt first second code first' second' =
+    ((g : Held) × (h : Held) × (k : Held) × (l : Held) × (first ≡ Some g) × (second ≡ Some h) × (first' ≡ Some k) × (second' ≡ Some l)
+    × MeetsLong g h code k l)
+    ⊎ (((first ≡ None) ⊎ (second ≡ None)) × (first' ≡ first) × (second' ≡ second) × (code ≡ 17))

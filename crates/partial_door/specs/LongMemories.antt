@@ -7,6 +7,7 @@ use Rattle.partial_long_lived.specs.declared.open_error.OpenError.{OpenError}
 use Rattle.partial_long_lived.specs.Rule.{newcomers}
 use Rattle.partial_long_lived.specs.Options.{MayNotOpen, layout_for, open_code}
 use Rattle.partial_long_lived.specs.Ports.{MemoryView, PortView, new_ports}
+use Rattle.partial_long_lived.specs.Calls.{Meets}
 use Rattle.partial_long_lived.specs.Closing.{Closes}
 use Rattle.partial_door.specs.declared.answers.ArenaSizes.{ArenaSizes}
 use Rattle.partial_door.specs.declared.held.LongMemory.{LongMemory}
@@ -14,7 +15,7 @@ use Rattle.partial_door.specs.declared.held.LongPort.{LongPort}
 use Rattle.partial_door.specs.declared.held.LongClosing.{LongClosing}
 use Rattle.partial_door.specs.declared.held.Held.{Held}
 use Rattle.partial_door.specs.declared.held.Held.TheVariants as held
-use Rattle.partial_door.specs.LongCalls.{HoldsNoLongPort}
+use Rattle.partial_door.specs.LongCalls.{HoldsNoLongPort, IsSameLong}
 
 -- no open long-lived memory is held
 abbrev pub HoldsNoLongMemory : Held → Type 0
@@ -137,3 +138,26 @@ MayNotCloseLong h room code =
     ⊎ (IsOtherRoom h room × (code ≡ 19))
     ⊎ ((m : LongMemory) × (h ≡ held.LongMemory m) × (code ≡ 22) × IsLongAway m)
     ⊎ ((m : LongMemory) × (h ≡ held.LongMemory m) × (code ≡ 24) × (length m.ports.items ≡ m.count))
+
+-- two ports with one number are of one memory
+abbrev pub ArePortsApart : Held → Held → Type 0
+ArePortsApart (held.LongPort p) (held.LongPort q) = q.number ≡ p.number → arc_value q.memory ≡ arc_value p.memory
+ArePortsApart _ _ = Unit {0}
+
+-- two ports of one memory meet
+abbrev pub MeetLongPorts : Held → Held → Held → Held → Type 0
+MeetLongPorts g h k l =
+    (a : LongPort) × (b : LongPort) × (c : LongPort) × (d : LongPort)
+    × (g ≡ held.LongPort a) × (h ≡ held.LongPort b) × (k ≡ held.LongPort c) × (l ≡ held.LongPort d)
+    × (b.number ≡ a.number) × IsSameLong a c × IsSameLong b d × Meets a.port b.port c.port d.port
+
+-- why two don't meet: one is no port, or they are of two memories
+abbrev pub MayNotMeetLong : Held → Held → ℕ → Type 0
+MayNotMeetLong g h code =
+    (HoldsNoLongPort g × (code ≡ 17))
+    ⊎ (HoldsNoLongPort h × (code ≡ 17))
+    ⊎ ((a : LongPort) × (b : LongPort) × (g ≡ held.LongPort a) × (h ≡ held.LongPort b) × (b.number ≡ a.number → ⊥) × (code ≡ 20))
+
+-- two ports meet, or both are as they were
+abbrev pub MeetsLong : Held → Held → ℕ → Held → Held → Type 0
+MeetsLong g h code k l = ((code ≡ 0) × MeetLongPorts g h k l) ⊎ (MayNotMeetLong g h code × (k ≡ g) × (l ≡ h))

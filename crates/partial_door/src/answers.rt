@@ -2,9 +2,9 @@
 
 ghost use Rattle.std.specs.Prelude.{◌≡◌};
 ghost use Rattle.partial_door.specs.Calls.{port_state as state_of, scan_answer as answer_of};
-ghost use Rattle.partial_door.specs.LongCalls.{long_update_answer};
+ghost use Rattle.partial_door.specs.LongCalls.{long_update_answer, long_update_if_answer};
 
-use partial_long_lived::Updated;
+use partial_long_lived::{Updated, UpdatedIf};
 use partial_memory::{Port, Scanned};
 
 /// The answer of an update or a conditional update.
@@ -82,6 +82,19 @@ pub fn update_answer(updated: Updated) -> UpdateAnswer
     match updated {
         Updated::Applied { stamp } => UpdateAnswer { stamp, applied: 1 },
         Updated::Lost { by } => UpdateAnswer {
+            stamp: by,
+            applied: 0,
+        },
+    }
+}
+
+/// Lays out how a conditional update of a long-lived memory ended.
+pub fn update_if_answer(updated: UpdatedIf) -> UpdateAnswer
+    ensures { result ≡ long_update_if_answer updated }
+{
+    match updated {
+        UpdatedIf::Applied { stamp } => UpdateAnswer { stamp, applied: 1 },
+        UpdatedIf::Changed { by } => UpdateAnswer {
             stamp: by,
             applied: 0,
         },

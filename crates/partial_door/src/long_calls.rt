@@ -2,10 +2,13 @@
 //! answered and otherwise the number of the refusal. A refused call leaves the caller's places as they were.
 
 ghost use Rattle.std.specs.Prelude.{◌≡◌};
-ghost use Rattle.partial_door.specs.LongCalls.{AtLongPort, LongNumberEnds, LongReadEnds, LongScanEnds, LongUpdateEnds};
+ghost use Rattle.partial_door.specs.LongCalls.{AtLongPort, LongNumberEnds, LongReadEnds, LongScanEnds, LongUnchangedEnds, LongUpdateEnds, LongUpdateIfEnds};
+ghost use Rattle.partial_door.specs.LongMemories.{ArePortsApart, MeetsLong};
 
-use crate::answers::{ReadAnswer, ScanAnswer, UpdateAnswer, scan_answer, update_answer};
-use crate::codes::{FINE, HOLDS_NONE, LENGTH};
+use crate::answers::{
+    ReadAnswer, ScanAnswer, UpdateAnswer, scan_answer, update_answer, update_if_answer,
+};
+use crate::codes::{FINE, HOLDS_NONE, LENGTH, TWO_MEMORIES};
 use crate::held::Held;
 
 impl Held {
@@ -26,6 +29,33 @@ impl Held {
                 }
                 Err(cause) => u32::from(cause.code()),
             },
+            _ => HOLDS_NONE,
+        }
+    }
+
+    /// Sets a component that has the expected stamp.
+    ///
+    /// Returns what [`Held::update_long`] returns.
+    pub fn update_if_long(
+        &mut self,
+        component: u32,
+        expected: u64,
+        value: u64,
+        answer: &mut UpdateAnswer,
+    ) -> u32
+        ensures { AtLongPort (answer.new ≡ answer.old)
+            (LongUpdateIfEnds component expected value answer.old answer.new) self.old result self.new }
+    {
+        match self {
+            Held::LongPort(own) => {
+                match own.memory.update_if(&mut own.port, component, expected, value) {
+                    Ok(updated) => {
+                        *answer = update_if_answer(updated);
+                        FINE
+                    }
+                    Err(cause) => u32::from(cause.code()),
+                }
+            }
             _ => HOLDS_NONE,
         }
     }
@@ -77,6 +107,50 @@ impl Held {
             }
             _ => HOLDS_NONE,
         }
+    }
+
+    /// Says whether each of these components still has this stamp: 1 or 0.
+    ///
+    /// Returns 17 when this isn't a port of a long-lived memory, and 19 when the two lengths differ.
+    pub fn unchanged_long(&mut self, which: &[u32], stamps: &[u64], answer: &mut u32) -> u32
+        ensures { AtLongPort (answer.new ≡ answer.old)
+            (LongUnchangedEnds which.now stamps.now answer.old answer.new) self.old result self.new }
+    {
+        match self {
+            Held::LongPort(own) => {
+                if stamps.len() != which.len() {
+                    return LENGTH;
+                }
+                if own.memory.unchanged(&mut own.port, which, stamps) {
+                    *answer = 1;
+                } else {
+                    *answer = 0;
+                }
+                FINE
+            }
+            _ => HOLDS_NONE,
+        }
+    }
+
+    /// Has two ports of a long-lived memory meet.
+    ///
+    /// Returns 17 when one of the two isn't a port of one, and 20 when they are of two memories. Both are as they
+    /// were then.
+    pub fn meet_long(&mut self, other: &mut Held) -> u32
+        requires { ArePortsApart self.old other.old }
+        ensures { MeetsLong self.old other.old result self.new other.new }
+    {
+        let Held::LongPort(first) = self else {
+            return HOLDS_NONE;
+        };
+        let Held::LongPort(second) = other else {
+            return HOLDS_NONE;
+        };
+        if second.number != first.number {
+            return TWO_MEMORIES;
+        }
+        first.memory.meet(&mut first.port, &mut second.port);
+        FINE
     }
 
     /// Reports the number of a port.

@@ -4,9 +4,9 @@
 
 ghost use Rattle.std.specs.Prelude.{◌≡◌, Some};
 ghost use Rattle.partial_door.specs.declared.held.Held.{Held as HeldType};
-ghost use Rattle.partial_door.specs.LongCalls.{LongNumberEnds, LongReadEnds, LongScanEnds, LongUpdateEnds};
-ghost use Rattle.partial_door.specs.LongMemories.{AreLongApart, options_of};
-ghost use Rattle.partial_door.specs.LongExports.{AtLongHandle, ClosesLongAt, GivesLongAt, OpensNewAt, TakesLongAt};
+ghost use Rattle.partial_door.specs.LongCalls.{LongNumberEnds, LongReadEnds, LongScanEnds, LongUnchangedEnds, LongUpdateEnds, LongUpdateIfEnds};
+ghost use Rattle.partial_door.specs.LongMemories.{AreLongApart, ArePortsApart, options_of};
+ghost use Rattle.partial_door.specs.LongExports.{AtLongHandle, ClosesLongAt, GivesLongAt, MeetsLongAt, OpensNewAt, TakesLongAt};
 
 use crate::answers::{ArenaSizes, ReadAnswer, ScanAnswer, UpdateAnswer};
 use crate::codes::{FINE, HOLDS_NONE, HOLDS_ONE};
@@ -33,6 +33,26 @@ pub extern "C" fn partial_door_port_update(
         return HOLDS_NONE;
     };
     held.update_long(component, value, answer)
+}
+
+/// Sets a component that has the expected stamp. Otherwise `answer` has the stamp that it had instead.
+///
+/// Returns what [`partial_door_port_update`] returns.
+#[unsafe(no_mangle)]
+pub extern "C" fn partial_door_port_update_if(
+    port: &mut Handle,
+    component: u32,
+    expected: u64,
+    value: u64,
+    answer: &mut UpdateAnswer,
+) -> u32
+    ensures { AtLongHandle (answer.new ≡ answer.old)
+        (LongUpdateIfEnds component expected value answer.old answer.new) port.old.held result port.new.held }
+{
+    let Some(held) = port.held() else {
+        return HOLDS_NONE;
+    };
+    held.update_if_long(component, expected, value, answer)
 }
 
 /// Reads a component: its value and its stamp.
@@ -73,6 +93,42 @@ pub extern "C" fn partial_door_port_scan(
         return HOLDS_NONE;
     };
     held.scan_long(which, into, answer)
+}
+
+/// Says whether each of the components `which` still has the stamp beside it in `stamps`: 1 or 0.
+///
+/// Returns 17 when the handle holds no port of a long-lived memory, and 19 when the two lengths differ.
+#[unsafe(no_mangle)]
+pub extern "C" fn partial_door_port_unchanged(
+    port: &mut Handle,
+    which: &[u32],
+    stamps: &[u64],
+    answer: &mut u32,
+) -> u32
+    ensures { AtLongHandle (answer.new ≡ answer.old)
+        (LongUnchangedEnds which.now stamps.now answer.old answer.new) port.old.held result port.new.held }
+{
+    let Some(held) = port.held() else {
+        return HOLDS_NONE;
+    };
+    held.unchanged_long(which, stamps, answer)
+}
+
+/// Has two ports of a long-lived memory meet: each has observed afterwards all that either had observed before.
+///
+/// Returns 17 when a handle holds no port of a long-lived memory, and 20 when the ports are of two memories.
+#[unsafe(no_mangle)]
+pub extern "C" fn partial_door_port_meet(first: &mut Handle, second: &mut Handle) -> u32
+    requires { (h k : HeldType) → first.old.held ≡ Some h → second.old.held ≡ Some k → ArePortsApart h k }
+    ensures { MeetsLongAt first.old.held second.old.held result first.new.held second.new.held }
+{
+    let Some(one) = first.held() else {
+        return HOLDS_NONE;
+    };
+    let Some(other) = second.held() else {
+        return HOLDS_NONE;
+    };
+    one.meet_long(other)
 }
 
 /// Reports the number of a port.
