@@ -48,7 +48,10 @@ impl Held {
     {
         match self {
             Held::LongPort(own) => {
-                match own.memory.update_if(&mut own.port, component, expected, value) {
+                match own
+                    .memory
+                    .update_if(&mut own.port, component, expected, value)
+                {
                     Ok(updated) => {
                         *answer = update_if_answer(updated);
                         FINE

@@ -4,3 +4,11 @@ use Rattle.partial_door.proofs.held.Held.unchanged_long.Goals as goal
 pub returns-then-stamps-which : goal.returns-then-stamps-which
 returns-then-stamps-which c =
     inr (c.in-LongPort.own, c.in-LongPort.own, c.in-LongPort.is, search rules, record { number = refl; memory = refl }, inr (inr (refl, c.if-stamps-which.true, refl, refl)))
+
+pub returns-then-unchanged : goal.returns-then-unchanged
+returns-then-unchanged c =
+    inr (c.in-LongPort.own, _, c.in-LongPort.is, refl, record { number = refl; memory = refl }, inl (refl, refl, c.unchanged.ensures.still c.if-unchanged.true))
+
+pub returns-else-unchanged : goal.returns-else-unchanged
+returns-else-unchanged c =
+    inr (c.in-LongPort.own, _, c.in-LongPort.is, refl, record { number = refl; memory = refl }, inr (inl (refl, refl, c.unchanged.ensures.differ c.if-unchanged.false)))
