@@ -5,14 +5,16 @@ import html
 import math
 import sys
 
-WIDTH, LEFT, RIGHT, BAR, GAP, STEP = 860, 300, 60, 9, 14, 78
+WIDTH, LEFT, RIGHT, BAR, GAP, STEP = 860, 300, 60, 9, 14, 80
 COLOURS = {
-    "door": "#ea580c",
+    "memory": "#dc2626",
+    "opening": "#ea580c",
     "raw": "#ca8a04",
     "called": "#be185d",
     "mutex": "#3b82f6",
     "rwlock": "#0891b2",
     "seqlock": "#65a30d",
+    "versions": "#0f766e",
     "collects": "#a855f7",
     "plain": "#6b7280",
 }

@@ -1,7 +1,8 @@
 //! What is measured.
 
-use crate::objects::{faces, Face};
+use crate::objects::{faces, Face, SIZES};
 use crate::parts::{Parts, Sample};
+use partial_door::{opening as openings, Memory, Updated};
 use std::hint::black_box;
 use std::sync::atomic::{AtomicBool, AtomicUsize, Ordering::SeqCst};
 
@@ -12,6 +13,8 @@ const CALLS: u32 = 1_000;
 // Parts of a repetition. The slots of a memory have room for those of scans.
 const PARTS: u32 = 200;
 const PARTS_OF_SCANS: u32 = 60;
+// The pool of a memory has room for the views that the updates store.
+const PARTS_OF_BOTH: u32 = 20;
 const OPENINGS: usize = 3;
 const MONITORS: usize = 3;
 const WRITERS: usize = 3;
@@ -22,7 +25,7 @@ const SCANS: u32 = 2_000;
 pub struct Bench {
     pub name: &'static str,
     pub endings: &'static [&'static str],
-    /// Whether the door is compared by its time and not by its speed.
+    /// Whether the opening is compared by its time and not by its speed.
     pub is_time: bool,
     pub run: fn(&str) -> Sample,
 }
@@ -31,16 +34,19 @@ const fn speed(name: &'static str, run: fn(&str) -> Sample) -> Bench {
     Bench { name, endings: &[""], is_time: false, run }
 }
 
-pub const BENCHES: [Bench; 11] = [
+pub const BENCHES: [Bench; 16] = [
     speed("read, 1 thread", |name| timed(name, 1, PARTS, rest, read)),
     speed("read, 4 threads", |name| timed(name, 4, PARTS, rest, read)),
     speed("update, 1 thread, nobody scans", |name| timed(name, 1, PARTS, rest, update)),
+    speed("update, 4 threads, nobody scans", |name| timed(name, 4, PARTS, rest, update)),
     speed("update, 1 thread, after scans", |name| timed(name, 1, PARTS, scan_often, update)),
     speed("add one, 1 thread, nobody scans", |name| timed(name, 1, PARTS, rest, add_one)),
     speed("scan of 4, 1 thread", |name| timed(name, 1, PARTS_OF_SCANS, rest, scan::<4>)),
     speed("scan of 16, 1 thread", |name| timed(name, 1, PARTS_OF_SCANS, rest, scan::<16>)),
     speed("9 reads to an update, 1 thread", |name| timed(name, 1, PARTS, rest, mostly_reads)),
     speed("9 reads to an update, 4 threads", |name| timed(name, 4, PARTS, rest, mostly_reads)),
+    speed("a scan of 8 to 9 updates, 4 threads", |name| timed(name, 4, PARTS_OF_BOTH, rest, some_scans)),
+    speed("update of 3 writers beside scans of 8", writers),
     Bench {
         name: "scan of 8 beside 3 writers",
         endings: &[": half take at most", ": 99 % take at most", ": 99.9 % take at most"],
@@ -48,10 +54,22 @@ pub const BENCHES: [Bench; 11] = [
         run: monitor,
     },
     Bench {
+        name: "an update that changes the epoch",
+        endings: &[""],
+        is_time: true,
+        run: changes,
+    },
+    Bench {
         name: "opening the greatest memory, in milliseconds",
         endings: &[""],
         is_time: true,
         run: opening,
+    },
+    Bench {
+        name: "closing and reopening it, in milliseconds",
+        endings: &[""],
+        is_time: true,
+        run: reopening,
     },
 ];
 
@@ -146,6 +164,14 @@ fn mostly_reads(face: &mut dyn Face, thread: u32, call: u32) {
     }
 }
 
+fn some_scans(face: &mut dyn Face, thread: u32, call: u32) {
+    if call % 10 == 0 {
+        scan::<8>(face, thread, call);
+    } else {
+        update(face, thread, call);
+    }
+}
+
 // The quantiles of a scan of 8 components in one thread, in nanoseconds, while three writers are at work. Each scan
 // is a part. They end early where the writers have used up the pool.
 fn monitor(name: &str) -> Sample {
@@ -159,6 +185,12 @@ fn monitor(name: &str) -> Sample {
         times.sort_by(f64::total_cmp);
         [0.5, 0.99, 0.999].map(|part| times[(part * times.len() as f64) as usize]).to_vec()
     })
+}
+
+// Nanoseconds of an update of the three writers, while a monitor scans.
+fn writers(name: &str) -> Sample {
+    let (scans, updates) = scan_beside_writers(name);
+    Sample::of(&updates, &[scans], |times| vec![times.iter().sum::<f64>() / times.len() as f64 / f64::from(CALLS)])
 }
 
 // The parts of a monitor in a new object, and those of the writers.
@@ -210,14 +242,48 @@ fn write(face: &mut dyn Face, thread: u32, writing: &Writing) -> Parts {
     parts
 }
 
+// Nanoseconds of an update that comes to another epoch, which is a part.
+fn changes(name: &str) -> Sample {
+    if name != "memory" {
+        return Sample::none();
+    }
+    let memory = Memory::new(&[0; M]).expect("it opens");
+    let mut port = memory.port().expect("a port is free");
+    let mut update = |call: u32| match port.update(call % M as u32, u64::from(call)).expect("it is made") {
+        Updated::Applied { stamp } | Updated::Lost { by: stamp } => stamp.epoch(),
+    };
+    let mut epoch = update(0);
+    let mut parts = Parts::new();
+    for call in 1..PARTS * CALLS {
+        parts.time(|| update(call), |&now| std::mem::replace(&mut epoch, now) != now);
+    }
+    Sample::of(&[parts.that_count()], &[], |times| vec![median(times)])
+}
+
 // Milliseconds of an opening, which is a part.
 fn opening(name: &str) -> Sample {
-    if !matches!(name, "door" | "raw") {
+    if !matches!(name, "opening" | "raw") {
         return Sample::none();
     }
     let mut parts = Parts::new();
     for _ in 0..OPENINGS {
         parts.time(|| faces(name, GREATEST_M, 1), |_| true);
+    }
+    Sample::of(&[parts], &[], |times| vec![median(times) / 1_000_000.0])
+}
+
+// Milliseconds of a close and of an opening with its values, which are a part.
+fn reopening(name: &str) -> Sample {
+    if name != "opening" {
+        return Sample::none();
+    }
+    let m = GREATEST_M as u32;
+    let mut opened = openings::open(&[0; GREATEST_M], SIZES, 1).expect("it opens");
+    let mut parts = Parts::new();
+    for _ in 0..OPENINGS {
+        let (memory, ports) = opened;
+        let reopen = || memory.close(ports).expect("it closes").reopen(m, SIZES, 1).expect("it reopens");
+        opened = parts.time(reopen, |_| true);
     }
     Sample::of(&[parts], &[], |times| vec![median(times) / 1_000_000.0])
 }

@@ -8,6 +8,7 @@ mod objects;
 mod parts;
 mod raw;
 mod tables;
+mod versions;
 
 use benches::BENCHES;
 use objects::NAMES;

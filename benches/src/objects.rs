@@ -1,8 +1,9 @@
 //! The objects that are compared. Each thread has a face of its own.
 
 use crate::called::Called;
-use crate::raw;
-use partial_door::opening::{Memory, Port, Sizes};
+use crate::{raw, versions};
+use partial_door::opening::{self, Sizes};
+use partial_door::{Memory, Port};
 use std::sync::atomic::{AtomicU64, Ordering::SeqCst};
 use std::sync::{Arc, Mutex, RwLock};
 
@@ -35,7 +36,7 @@ impl<F: Face> Face for Apart<F> {
     }
 }
 
-/// The proved memory.
+/// The proved memory that never wears out.
 impl Face for Port {
     fn update(&mut self, component: u32, value: u64) -> bool {
         Port::update(self, component, value).is_ok()
@@ -49,6 +50,23 @@ impl Face for Port {
     }
     fn scan(&mut self, which: &[u32], into: &mut [u64]) -> bool {
         Port::scan(self, which, into).is_ok()
+    }
+}
+
+/// A proved single opening.
+impl Face for opening::Port {
+    fn update(&mut self, component: u32, value: u64) -> bool {
+        opening::Port::update(self, component, value).is_ok()
+    }
+    fn add_one(&mut self, component: u32) -> bool {
+        let seen = opening::Port::read(self, component).expect("the component is there");
+        self.update_if(component, seen.stamp, seen.value + 1).is_ok()
+    }
+    fn read(&mut self, component: u32) -> u64 {
+        opening::Port::read(self, component).expect("the component is there").value
+    }
+    fn scan(&mut self, which: &[u32], into: &mut [u64]) -> bool {
+        opening::Port::scan(self, which, into).is_ok()
     }
 }
 
@@ -233,7 +251,8 @@ impl Face for Plain {
     }
 }
 
-pub const NAMES: [&str; 8] = ["door", "raw", "called", "mutex", "rwlock", "seqlock", "collects", "plain"];
+pub const NAMES: [&str; 10] =
+    ["memory", "opening", "raw", "called", "mutex", "rwlock", "seqlock", "versions", "collects", "plain"];
 
 /// The greatest sizes.
 pub const SIZES: Sizes = Sizes { slots: 65_536, list_words: 65_536, pool_words: 4_194_304 };
@@ -242,18 +261,22 @@ fn words(m: usize) -> Vec<AtomicU64> {
     (0..m).map(|_| AtomicU64::new(0)).collect()
 }
 
-/// The faces of a new object of m components, and what keeps a memory there.
-pub fn faces(name: &str, m: usize, threads: usize) -> (Option<Memory>, Vec<Box<dyn Face>>) {
+/// The faces of a new object of m components, and what keeps a single opening there.
+pub fn faces(name: &str, m: usize, threads: usize) -> (Option<opening::Memory>, Vec<Box<dyn Face>>) {
     fn boxed<F: Face + 'static>(face: F) -> Box<dyn Face> {
         Box::new(Apart(face))
     }
-    fn all<F: Face + Clone + 'static>(face: F, threads: usize) -> (Option<Memory>, Vec<Box<dyn Face>>) {
+    fn all<F: Face + Clone + 'static>(face: F, threads: usize) -> (Option<opening::Memory>, Vec<Box<dyn Face>>) {
         (None, (0..threads).map(|_| boxed(face.clone())).collect())
     }
     let zeros = vec![0; m];
     match name {
-        "door" => {
-            let (memory, ports) = partial_door::opening::open(&zeros, SIZES, threads as u32).expect("it opens");
+        "memory" => {
+            let memory = Memory::builder().ports(threads as u32).open(&zeros).expect("it opens");
+            (None, (0..threads).map(|_| boxed(memory.port().expect("a port is free"))).collect())
+        }
+        "opening" => {
+            let (memory, ports) = opening::open(&zeros, SIZES, threads as u32).expect("it opens");
             (Some(memory), ports.into_iter().map(boxed).collect())
         }
         "raw" => (None, raw::open(&zeros, SIZES, threads as u32).into_iter().map(boxed).collect()),
@@ -264,6 +287,7 @@ pub fn faces(name: &str, m: usize, threads: usize) -> (Option<Memory>, Vec<Box<d
         "mutex" => all(Locked(Arc::new(Mutex::new(zeros))), threads),
         "rwlock" => all(Shared(Arc::new(RwLock::new(zeros))), threads),
         "seqlock" => all(Seqlock(Arc::new((AtomicU64::new(0), words(m)))), threads),
+        "versions" => (None, versions::open(m, threads).into_iter().map(boxed).collect()),
         "collects" => all(Collects(Arc::new(words(m))), threads),
         _ => all(Plain(Arc::new(words(m))), threads),
     }

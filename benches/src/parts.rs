@@ -95,6 +95,12 @@ impl Parts {
         self.made.push(Part { from, to, waited, counts: counts(&answer) });
         answer
     }
+
+    /// Those that count alone, where the others were timed to find them.
+    pub fn that_count(mut self) -> Parts {
+        self.made.retain(|part| part.counts);
+        self
+    }
 }
 
 /// What a bench of one object came to in one repetition: its values, none where there is no part, and how many
@@ -154,6 +160,9 @@ mod tests {
         let made = parts(front, &[(0, 10, false, true), (20, 50, true, true), (60, 100, false, false)]);
         let sample = Sample::of(&[made], &[], |times| times);
         assert_eq!((sample.values, sample.kept, sample.left_out), (vec![10.0], 1, 2));
+        let made = parts(front, &[(0, 10, false, true), (60, 100, false, false)]).that_count();
+        let sample = Sample::of(&[made], &[], |times| times);
+        assert_eq!((sample.values, sample.kept, sample.left_out), (vec![10.0], 1, 0));
         let none = Sample::of(&[parts(front, &[(0, 10, true, true)])], &[], |times| vec![times[0]]);
         assert_eq!((none.values, none.kept, none.left_out), (Vec::new(), 0, 1));
     }

@@ -4,9 +4,9 @@ use crate::benches::{median, Bench, BENCHES};
 use crate::objects::NAMES;
 use crate::parts::Sample;
 
-const DOOR: usize = 0;
-const RAW: usize = 1;
-const CALLED: usize = 2;
+const OPENING: usize = 1;
+const RAW: usize = 2;
+const CALLED: usize = 3;
 
 /// The samples of each bench and object, one for each repetition.
 pub struct Results(Vec<Vec<Vec<Sample>>>);
@@ -42,14 +42,14 @@ impl Results {
     }
 
     fn print_ratios(&self) {
-        println!("| door | speed, of raw | of called | time, of raw | of called |");
+        println!("| opening | speed, of raw | of called | time, of raw | of called |");
         println!("|---|---|---|---|---|");
         for (bench, samples) in BENCHES.iter().zip(&self.0) {
-            let (door, raw, called) = (&samples[DOOR], &samples[RAW], &samples[CALLED]);
+            let (opening, raw, called) = (&samples[OPENING], &samples[RAW], &samples[CALLED]);
             for (at, title) in titles(bench) {
                 match bench.is_time {
-                    true => println!("| {title} | - | - | {} | {} |", ratio(door, raw, at), ratio(door, called, at)),
-                    false => println!("| {title} | {} | {} | - | - |", ratio(raw, door, at), ratio(called, door, at)),
+                    true => println!("| {title} | - | - | {} | {} |", ratio(opening, raw, at), ratio(opening, called, at)),
+                    false => println!("| {title} | {} | {} | - | - |", ratio(raw, opening, at), ratio(called, opening, at)),
                 }
             }
         }

@@ -1,8 +1,9 @@
 /*
  * A wait-free, linearizable partial snapshot object for programs in C: components of
  * 64 bits that many threads share. Any port may update or read any component, and scan
- * any few of them as they stood together at one moment. Each call of a port finishes
- * within a fixed number of atomic steps, whatever other threads do.
+ * any few of them as they stood together at one moment. Each call of a port ends,
+ * whatever other threads do; the calls of a single opening do within a fixed number of
+ * atomic steps.
  *
  * A `partial_memory` never wears out, and its ports are `partial_port`s. A single opening
  * (`partial_handle`) wears out:
@@ -12,9 +13,9 @@
  * ------------------------------
  * The functions below are those of the crate `partial_door`, written in Rattle.
  * Their contracts are proved over all orders of the threads' atomic steps: what
- * an update, a read, a scan, a meeting and a close answer, that each call ends,
- * that no index leaves its memory, that each refusal has its cause, and what it
- * leaves. `docs/using/c-and-rust.md` says them in words.
+ * each call of a port, a meeting and a close answer, that each call ends, that no
+ * index leaves its memory, that each refusal has its cause, and what it leaves.
+ * `docs/using/c-and-rust.md` says them in words.
  *
  * A program that uses this header also trusts:
  * - itself to follow the rules for pointers and handles below: the calls refuse

@@ -1,7 +1,6 @@
 //! A wait-free, linearizable partial snapshot object: components of 64 bits that many threads share. Any
 //! port may update or read any component, and scan any few of them as they stood together at one moment.
-//! Each call of a port finishes within a fixed number of atomic steps, whatever other threads do. A [`Memory`]
-//! never wears out.
+//! Each call of a port ends, whatever other threads do. A [`Memory`] never wears out.
 //!
 //! ```
 //! use partial_door::Memory;
@@ -38,8 +37,8 @@
 //! # What is proved, and what isn't
 //!
 //! This crate is a safe interface to a static library that is written in Rattle. The library's contracts
-//! are proved over all orders of the threads' atomic steps: what an update, a read, a scan and a close answer,
-//! that each call ends, and what each refusal leaves. Nothing in this crate is proved.
+//! are proved over all orders of the threads' atomic steps: what each call of a port and a close answer, that
+//! each call ends, and what each refusal leaves. Nothing in this crate is proved.
 //! To what is trusted it adds:
 //!
 //! - its `unsafe` blocks: each passes pointers that are borrowed for the call, and handles that no

@@ -1,8 +1,8 @@
 //! Single openings: memories of fixed sizes, which wear out. An opening takes as many updates and scans as its
 //! [`Sizes`] have room for; then its ports are marked, their calls are refused, and it is closed and reopened.
 //!
-//! A [`Memory`](crate::Memory) needs none of this. An opening has what that doesn't have yet: conditional updates
-//! ([`Port::update_if`], [`Port::modify`]) and meetings ([`Port::meet`]).
+//! A [`Memory`](crate::Memory) needs none of this. Each call of an opening makes at most a fixed number of atomic
+//! steps; of a [`Memory`](crate::Memory)'s calls it is proved that each ends.
 //!
 //! ```
 //! use partial_door::opening::{open, Sizes};
