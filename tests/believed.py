@@ -21,7 +21,6 @@ CALLS = [
     (MEMORY, ['open', 'reopen', 'update', 'update_if', 'read', 'scan', 'meet', 'close']),
     ('partial_memory/src/port.rt', ['number']),
     ('partial_workers/src/workers.rt', ['run_on']),
-    ('partial_rounds/src/rounds.rt', ['run']),
     ('partial_pipeline/src/run.rt', ['run_pipeline']),
     ('partial_replay/src/replaying.rt', ['replay']),
     ('partial_model/src/checker.rt', ['check_outcome', 'check']),
@@ -31,7 +30,7 @@ CALLS = [
 ]
 RUNNING = [*CALLS[:2], ('partial_memory/src/port.rt', ['pool_spent', 'slots_spent']), ('partial_memory/src/law.rt', None)]
 TOGETHER = RUNNING + [
-    CALLS[2], *CALLS[5:], ('partial_cmd/src/workers.rt', ['run_workers']),
+    CALLS[2], *CALLS[4:], ('partial_cmd/src/workers.rt', ['run_workers']),
     ('partial_text/src/writing.rt', ['write_outcome', 'write_report', 'write_reports']),
     ('partial_replay/src/law.rt', None), ('partial_text/src/law.rt', None), ('partial_cmd/src/law.rt', None),
 ]

@@ -1,18 +1,16 @@
 -- The calls of a plan, and the report of the workers that made them.
-use Rattle.std.proofs.Common.{ℕ, ◌≡◌, ◌<◌, ◌^◌, Result, Ok, Err, List, [], ◌∷◌, length, refl, sym, ap, subst, ◌∙◌}
+use Rattle.std.proofs.Common.{ℕ, ◌≡◌, ◌<◌, ◌^◌, Result, Ok, Err, List, [], ◌∷◌, length, sym, subst}
 use Rattle.std.specs.Prelude.{IfOk}
 use Rattle.std.specs.List.{AllByRecursion}
 use Rattle.partial_model.specs.declared.history.Opening.{Opening}
 use Rattle.partial_model.specs.declared.call.Call.{Call}
 use Rattle.partial_model.specs.declared.call.Call.TheVariants as call
-use Rattle.partial_words.specs.Layout.{Layout}
 use Rattle.partial_text.specs.PlanText.{IsCall, IsPlan, PlanView}
 use Rattle.partial_text.specs.declared.report.RunReport.{RunReport}
 use Rattle.partial_text.proofs.Laws.{plans_have_few_calls}
-use Rattle.partial_workers.specs.declared.end.Until.TheVariants.{Made}
 use Rattle.partial_workers.specs.declared.error.RunError.{RunError}
 use Rattle.partial_workers.specs.declared.workers.Ran.{Ran}
-use Rattle.partial_workers.specs.Answered.{AreMakable, AreRight, IsRun, IsWithin}
+use Rattle.partial_workers.specs.Answered.{AreMakable, AreRight, IsWithin}
 use Rattle.partial_cmd.specs.Reports.{IsReportFrom, IsReportOf, opening_of, report_of}
 
 -- a report over the opening's values is one over the same by another name
@@ -39,12 +37,8 @@ pub plan_makable : (m : ℕ) (p : PlanView) (plan : List (List Call)) → IsPlan
 plan_makable m p plan lawful sizes is =
     subst (λ k. AreMakable k plan) (sym sizes) (subst (AreMakable p.sizes.m) (sym is) (calls_makable p.sizes.m p.ports (plans_have_few_calls p lawful) lawful.calls))
 
--- workers that made all calls of the plan
-plan_right : (o : Opening) (p : PlanView) (plan : List (List Call)) (ran : Ran) → plan ≡ p.ports → IsRun Made o plan ran.answers.items ran.closed.values.items → IsReportFrom o p (report_of ran)
-plan_right o p plan ran is w =
-    subst (λ (l : List (List Call)). AreRight o l ran.answers.items ran.closed.values.items) (w.whole refl ∙ is) w.right
-
-pub plan_ran : (o : Opening) (p : PlanView) (plan : List (List Call)) (r : Result Ran RunError) → plan ≡ p.ports → IfOk r (λ ran. IsRun Made o plan ran.answers.items ran.closed.values.items) →
+-- workers that made the calls of the plan
+pub plan_ran : (o : Opening) (p : PlanView) (plan : List (List Call)) (r : Result Ran RunError) → plan ≡ p.ports → IfOk r (λ ran. AreRight o plan ran.answers.items ran.closed.values.items) →
     IfOk r (λ ran. IsReportFrom o p (report_of ran))
-plan_ran o p plan (Ok ran) is w = plan_right o p plan ran is w
+plan_ran o p plan (Ok ran) is w = subst (λ (l : List (List Call)). AreRight o l ran.answers.items ran.closed.values.items) is w
 plan_ran o p plan (Err e) is w = tt

@@ -1,5 +1,4 @@
 -- What a report of a run says: there is one history in which its answers are right.
-use Rattle.std.specs.Prelude.{List}
 use Rattle.partial_model.specs.declared.history.Opening.{Opening}
 use Rattle.partial_words.specs.Layout.{pool_base}
 use Rattle.partial_text.specs.PlanText.{PlanView}

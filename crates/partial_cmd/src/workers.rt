@@ -6,7 +6,7 @@ ghost use Rattle.partial_cmd.specs.Reports.{IsReportFrom, IsReportOf, report_of}
 
 use partial_memory::{Memory, Port};
 use partial_text::{Plan, RunReport};
-use partial_workers::{Gate, Ran, RunError, Until, calls_by_port, run_on};
+use partial_workers::{Gate, Ran, RunError, calls_by_port, run_on};
 use std::alloc::Global;
 use std::sync::Wait;
 use std::thread::Threads;
@@ -30,7 +30,7 @@ pub fn run_plan<R: Threads + Wait + Sync, G: Gate>(
     ensures { IfOk result (λ ran. IsReportFrom memory.about.opening plan.now (report_of ran)) }
 {
     let calls = calls_by_port(alloc, plan.ports())?;
-    run_on(rt, alloc, memory, ports, &calls, Until::Made, gate)
+    run_on(rt, alloc, memory, ports, &calls, gate)
 }
 
 /// Turns the result of the workers into a report.

@@ -12,7 +12,6 @@ use Rattle.partial_workers.specs.declared.worker.Worked.{Worked}
 use Rattle.partial_workers.specs.declared.worker.Worker.{Worker}
 use Rattle.partial_workers.specs.declared.workers.Results.{Results}
 use Rattle.partial_workers.specs.Answered.{AreEach, IsWithin}
-use Rattle.partial_workers.specs.declared.end.Until.{Until}
 use Rattle.std.specs.declared.thread.PromisedHandle.{PromisedHandle}
 use Rattle.partial_workers.specs.declared.workers.Works.{Works}
 use Rattle.partial_workers.specs.Work.{HasRoom, HaveCome, HaveRooms, IsDone, IsHired, IsNew, IsStarted, calls_of}
@@ -59,14 +58,14 @@ hire_more m n next plan before after calls w had within at new is now =
     subst (AreEach (IsHired m) 0 (take next plan)) (sym now) (each_push (IsHired m) 0 n next plan before calls w had within at (subst (λ i. IsHired m i calls w) zero_more new) is)
 
 -- one thread more has ended
-pub come_more : (m : MemoryView) (u : Until) (n next : ℕ) (plan : List (List Call)) (before after : Results) (calls : List Call) (w : Worked) → HaveCome m u (take n plan) before → n < length plan →
-    calls ≡ get_or plan n calls → IsDone m u n calls w → next ≡ n + 1 → after.ports.items ≡ before.ports.items ++ w.port ∷ [] → after.answers.items ≡ before.answers.items ++ w.answers ∷ [] →
-    HaveCome m u (take next plan) after
-come_more m u n next plan before after calls w had within at new is ports answers =
+pub come_more : (m : MemoryView) (n next : ℕ) (plan : List (List Call)) (before after : Results) (calls : List Call) (w : Worked) → HaveCome m (take n plan) before → n < length plan →
+    calls ≡ get_or plan n calls → IsDone m n calls w → next ≡ n + 1 → after.ports.items ≡ before.ports.items ++ w.port ∷ [] → after.answers.items ≡ before.answers.items ++ w.answers ∷ [] →
+    HaveCome m (take next plan) after
+come_more m n next plan before after calls w had within at new is ports answers =
     let zero_more : n ≡ 0 + n = omega arith in
     record {
       done = had.done ++ w ∷ [];
-      each = each_push (IsDone m u) 0 n next plan had.done calls w had.each within at (subst (λ i. IsDone m u i calls w) zero_more new) is;
+      each = each_push (IsDone m) 0 n next plan had.done calls w had.each within at (subst (λ i. IsDone m i calls w) zero_more new) is;
       ports = map-append (λ (v : Worked). v.port) had.done (w ∷ []) ∙ ap (λ (l : List PortView). l ++ w.port ∷ []) had.ports ∙ sym ports;
       answers = map-append (λ (v : Worked). v.answers) had.done (w ∷ []) ∙ ap (λ l. l ++ w.answers ∷ []) had.answers ∙ sym answers;
     }
@@ -75,17 +74,17 @@ pub as_many : (jobs : List Job) (calls : List Call) → calls_of jobs ≡ calls 
 as_many jobs calls is = sym (length-map jobs (λ (j : Job). j.call.now)) ∙ ap length is
 
 -- the same by other names
-pub done_alike : (m v : MemoryView) (u t : Until) (n k : ℕ) (calls given : List Call) (w : Worked) → IsDone m u n calls w → v ≡ m → t ≡ u → k ≡ n → given ≡ calls → IsDone v t k given w
-done_alike m v u t n k calls given w done memory until number same = subst (λ x. IsDone x t k given w) (sym memory)
-    (subst (λ y. IsDone m y k given w) (sym until) (subst (λ i. IsDone m u i given w) (sym number) (subst (λ l. IsDone m u n l w) (sym same) done)))
+pub done_alike : (m v : MemoryView) (n k : ℕ) (calls given : List Call) (w : Worked) → IsDone m n calls w → v ≡ m → k ≡ n → given ≡ calls → IsDone v k given w
+done_alike m v n k calls given w done memory number same = subst (λ x. IsDone x k given w) (sym memory)
+    (subst (λ i. IsDone m i given w) (sym number) (subst (λ l. IsDone m n l w) (sym same) done))
 
--- a thread that was started for a port's calls has made the first ones of them once it has kept its promise
-pub done_as_started : (m : MemoryView) (u : Until) (n : ℕ) (plan : List (List Call)) (all : List (PromisedHandle Worked Works)) (h : PromisedHandle Worked Works) (w : Worked) →
-    AreEach (IsStarted m u) 0 plan all → n < length all → h ≡ get_or all n h → IsDone h.promise.memory.value h.promise.until h.promise.port h.promise.calls.value.now w → (calls : List Call) ×
-    (calls ≡ get_or plan n calls) × IsDone m u n calls w
-done_as_started m u n plan all h w started within is kept =
+-- a thread that was started for a port's calls has made them once it has kept its promise
+pub done_as_started : (m : MemoryView) (n : ℕ) (plan : List (List Call)) (all : List (PromisedHandle Worked Works)) (h : PromisedHandle Worked Works) (w : Worked) →
+    AreEach (IsStarted m) 0 plan all → n < length all → h ≡ get_or all n h → IsDone h.promise.memory.value h.promise.port h.promise.calls.value.now w → (calls : List Call) ×
+    (calls ≡ get_or plan n calls) × IsDone m n calls w
+done_as_started m n plan all h w started within is kept =
     let calls : List Call = get_or plan n [] in
-    let at : calls ≡ get_or plan n calls = get_or_default plan n [] calls (omega (arith, within, each_length (IsStarted m u) 0 plan all started)) in
-    let s = each_at (IsStarted m u) 0 n plan all calls h started within at is in
+    let at : calls ≡ get_or plan n calls = get_or_default plan n [] calls (omega (arith, within, each_length (IsStarted m) 0 plan all started)) in
+    let s = each_at (IsStarted m) 0 n plan all calls h started within at is in
     let zero_more : 0 + n ≡ n = omega arith in
-    (calls, at, done_alike h.promise.memory.value m h.promise.until u h.promise.port n h.promise.calls.value.now calls w kept (sym s.memory) (sym s.until') (sym (s.number ∙ zero_more)) (sym s.calls))
+    (calls, at, done_alike h.promise.memory.value m h.promise.port n h.promise.calls.value.now calls w kept (sym s.memory) (sym (s.number ∙ zero_more)) (sym s.calls))

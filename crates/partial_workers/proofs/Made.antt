@@ -1,8 +1,5 @@
 -- The calls of a port, one after the other: what is known of those that it doesn't note.
-use Rattle.std.proofs.Common.{ℕ, suc, ◌≡◌, ◌+◌, ◌<◌, ◌++◌, ◌⊎◌, Bool, true, false, cond, Some, None, List, [], ◌∷◌, length, take, get_or, refl, sym, ap, subst, ◌∙◌, inl, inr, arith}
-use Rattle.std.specs.Prelude.{nat_lt}
-use Rattle.std.specs.List.{list_all}
-use Rattle.std.proofs.lemmas.Bool.{false≢true}
+use Rattle.std.proofs.Common.{ℕ, suc, ◌≡◌, ◌+◌, ◌<◌, ◌++◌, ◌⊎◌, Some, None, List, [], ◌∷◌, length, take, get_or, refl, sym, ap, subst, ◌∙◌, inl, inr, arith}
 use Rattle.std.proofs.Math.Seq.{take-suc}
 use Rattle.std.proofs.lemmas.List.{map-append, append-nil}
 use Rattle.partial_model.specs.declared.call.Call.{Call}
@@ -12,15 +9,11 @@ use Rattle.partial_model.specs.declared.call.Answer.TheVariants as answer
 use Rattle.partial_model.specs.declared.call.Note.{Note}
 use Rattle.partial_model.specs.declared.call.Note.TheVariants as note
 use Rattle.partial_model.specs.declared.call.Refused.{Refused}
-use Rattle.partial_model.specs.declared.call.Refused.TheVariants as refused
-use Rattle.partial_model.specs.Notes.{Noted, MayBeRefused, NamesComponents, indices_of, seen_after, seen_by}
+use Rattle.partial_model.specs.Notes.{Noted, seen_after, seen_by}
 use Rattle.partial_memory.specs.Ports.{IsOf, MemoryView, PortView, Answered, IsRefused}
 use Rattle.partial_memory.specs.Calls.{Scanned, Scans}
 use Rattle.partial_memory.proofs.Laws.{refusals_at_once_fit}
-use Rattle.partial_workers.specs.declared.end.Until.{Until}
-use Rattle.partial_workers.specs.declared.end.Until.TheVariants.{Made, Spent}
-use Rattle.partial_workers.specs.Answered.{AreUnspent, IsMarked, IsSpent}
-use Rattle.partial_workers.specs.Work.{AreMade, Fills, HasMade, IsMade, IsUnnoted}
+use Rattle.partial_workers.specs.Work.{AreMade, Fills, IsMade, IsUnnoted}
 
 -- a call that was refused may have been, and the port's notes are the same
 pub made_refused : (p q : PortView) (c : Call) (cause : Refused) → IsRefused p c cause q → IsMade p.memory.about.sizes.m p c (answer.Refused cause) q
@@ -38,14 +31,6 @@ made_refused p q c cause (inr late) =
       answer = refl;
       notes = inr (inl (cause, refl, refl, late.may), late.goes.notes ∙ append-nil p.notes);
     }
-
--- a port is marked behind a call that was refused for the pool or the slots
-pub refused_marks : (p q : PortView) (c : Call) (cause : Refused) → IsRefused p c cause q → IsSpent (answer.Refused cause) → IsMarked q
-refused_marks p q c refused.Component w spent = absurd spent
-refused_marks p q c refused.PoolSpent (inl now) spent = inl (ap (λ (v : PortView). v.pool_spent) now.1 ∙ (refusals_at_once_fit p c refused.PoolSpent now.0).1)
-refused_marks p q c refused.PoolSpent (inr late) spent = inl late.pool
-refused_marks p q c refused.SlotsSpent (inl now) spent = inr (ap (λ (v : PortView). v.slots_spent) now.1 ∙ (refusals_at_once_fit p c refused.SlotsSpent now.0).1)
-refused_marks p q c refused.SlotsSpent (inr late) spent = inr late.slots
 
 -- a call that was answered is noted
 pub made_answered : (m : ℕ) (p q : PortView) (c : Call) (a : Answer) (n : Note) → Answered p q c a n → IsMade m p c a q
@@ -112,15 +97,6 @@ made_more m cs given c a p q had new =
 pub made_same : (m : ℕ) (cs : List Call) (given : List Answer) (p q : PortView) → AreMade m cs given p → q.notes ≡ p.notes → AreMade m cs given q
 made_same m cs given p q had same =
     record { all = had.all; calls = had.calls; answers = had.answers; fills = subst (λ (l : List Noted). Fills m 0 l had.all) (sym same) had.fills }
-
--- a port that has made the first ones of its calls
-pub has_made : (m : ℕ) (u : Until) (calls : List Call) (given : List Answer) (p q : PortView) → AreMade m (take (length given) calls) given p → q.notes ≡ p.notes →
-    (u ≡ Made → length given ≡ length calls) → (u ≡ Spent → AreUnspent given) → (length given < length calls → IsMarked q) → HasMade m u calls given q
-has_made m u calls given p q had same whole unspent cut =
-    record { firsts = made_same m (take (length given) calls) given p q had same; whole = whole; unspent = unspent; cut = cut }
-
-pub not_both : (u : Until) (n k : ℕ) → u ≡ Spent → u ≡ Made → n ≡ k
-not_both u n k spent made = cc
 
 -- one more of the first calls
 pub made_next : (m n next : ℕ) (cs : List Call) (given : List Answer) (c : Call) (a : Answer) (p q : PortView) → AreMade m (take n cs) given p → n < length cs → c ≡ get_or cs n c → next ≡ n + 1 →

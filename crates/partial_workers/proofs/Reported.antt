@@ -1,8 +1,8 @@
 -- The answers of workers that have ended are right in the history of the memory that was closed with their ports.
-use Rattle.std.proofs.Common.{ℕ, suc, ◌≡◌, ◌+◌, ◌<◌, ◌≤◌, ◌++◌, Option, Some, None, List, [], ◌∷◌, length, map, take, refl, sym, ap, subst, ◌∙◌, inl, inr, arith}
+use Rattle.std.proofs.Common.{ℕ, ◌≡◌, ◌+◌, ◌<◌, ◌≤◌, ◌++◌, Option, Some, None, List, [], ◌∷◌, length, map, refl, sym, ap, subst, ◌∙◌, inl, inr, arith}
 use Rattle.std.specs.Prelude.{IfSome}
 use Rattle.std.specs.List.{AllByRecursion}
-use Rattle.std.proofs.lemmas.List.{length-map, take_all}
+use Rattle.std.proofs.lemmas.List.{length-map}
 use Rattle.std.specs.declared.alloc.Global.{Global}
 use Rattle.std.specs.declared.vec.Vec.{Vec}
 use Rattle.partial_model.specs.declared.history.Applied.{Applied}
@@ -20,14 +20,11 @@ use Rattle.partial_model.proofs.WalkLaws.{true_within}
 use Rattle.partial_memory.specs.Ports.{IsOf, MemoryView, PortView, new_ports}
 use Rattle.partial_memory.specs.Rule.{newcomers}
 use Rattle.partial_memory.specs.Closing.{Closes, IsPortOf}
-use Rattle.partial_memory.specs.Lawfulness.{ClosesLawfully}
 use Rattle.partial_memory.specs.declared.closed.Closed.{Closed}
 use Rattle.partial_workers.specs.declared.worker.Worked.{Worked}
 use Rattle.partial_workers.specs.declared.workers.Results.{Results}
-use Rattle.partial_workers.specs.declared.end.Until.{Until}
-use Rattle.partial_workers.specs.declared.end.Until.TheVariants.{Made, Spent}
-use Rattle.partial_workers.specs.Answered.{AreAnswered, AreEach, AreMakable, AreRight, AreUnspent, IsRun, IsWithin, first_calls}
-use Rattle.partial_workers.specs.Work.{AreMarked, Fills, HaveCome, IsCut, IsDone, IsNew, IsOpenedFor, IsUnnoted, WasEmpty, WasRefused}
+use Rattle.partial_workers.specs.Answered.{AreAnswered, AreEach, AreMakable, AreRight}
+use Rattle.partial_workers.specs.Work.{Fills, HaveCome, IsDone, IsNew, IsOpenedFor, IsUnnoted, WasEmpty, WasRefused}
 use Rattle.partial_workers.proofs.Made.{unnoted_seen}
 use Rattle.partial_workers.proofs.Pairs.{each_length}
 
@@ -76,114 +73,65 @@ fills_written m seen kept (n ∷ ns) (inr f) = ap (λ l. wrote n.note ++ l) (fil
 -- ---- the answers of all ports
 
 -- what the history tells of a port that has made its calls
-answered_in : (m : MemoryView) (u : Until) (o : Opening) (log : List Applied) (port : ℕ) (calls : List Call) (w : Worked) → m.about.opening ≡ o → m.about.sizes.m ≡ length o.values →
-    IsDone m u port calls w → IsPortOf log w.port → AreAnswered o log port (take (length w.answers.items) calls) w.answers
-answered_in m u o log port calls w opening sizes done told =
-    let firsts = done.made.firsts in
+answered_in : (m : MemoryView) (o : Opening) (log : List Applied) (port : ℕ) (calls : List Call) (w : Worked) → m.about.opening ≡ o → m.about.sizes.m ≡ length o.values →
+    IsDone m port calls w → IsPortOf log w.port → AreAnswered o log port calls w.answers
+answered_in m o log port calls w opening sizes done told =
+    let made = done.made in
     let from : w.port.memory.about.opening ≡ o = ap (λ (v : MemoryView). v.about.opening) done.own ∙ opening in
     let legal : LegalNotes o log port 0 w.port.notes = subst (λ k. LegalNotes o log k 0 w.port.notes) done.number
     (subst (λ (x : Opening). LegalNotes x log w.port.number 0 w.port.notes) from told.legal) in
-    let fills : Fills (length o.values) 0 w.port.notes firsts.all = subst (λ k. Fills k 0 w.port.notes firsts.all) sizes firsts.fills in
+    let fills : Fills (length o.values) 0 w.port.notes made.all = subst (λ k. Fills k 0 w.port.notes made.all) sizes made.fills in
     record {
-      notes = firsts.all;
-      calls = firsts.calls;
-      answers = firsts.answers;
-      legal = fills_legal o log port 0 w.port.notes firsts.all (omega arith) fills legal;
-      once = subst (λ k. EachOnce log k w.port.notes) done.number told.once ∙ sym (fills_written (length o.values) 0 w.port.notes firsts.all fills);
+      notes = made.all;
+      calls = made.calls;
+      answers = made.answers;
+      legal = fills_legal o log port 0 w.port.notes made.all (omega arith) fills legal;
+      once = subst (λ k. EachOnce log k w.port.notes) done.number told.once ∙ sym (fills_written (length o.values) 0 w.port.notes made.all fills);
     }
 
-each_answered : (m : MemoryView) (u : Until) (o : Opening) (log : List Applied) (port : ℕ) (plan : List (List Call)) (done : List Worked) → m.about.opening ≡ o → m.about.sizes.m ≡ length o.values →
-    AreEach (IsDone m u) port plan done → AllByRecursion (IsPortOf log) (map (λ (w : Worked). w.port) done) →
-    AreEach (AreAnswered o log) port (first_calls plan (map (λ (w : Worked). w.answers) done)) (map (λ (w : Worked). w.answers) done)
-each_answered m u o log port [] [] opening sizes each all = tt
-each_answered m u o log port [] (w ∷ done) opening sizes each all = absurd each
-each_answered m u o log port (calls ∷ plan) [] opening sizes each all = absurd each
-each_answered m u o log port (calls ∷ plan) (w ∷ done) opening sizes each all =
-    (answered_in m u o log port calls w opening sizes each.0 all.0, each_answered m u o log (port + 1) plan done opening sizes each.1 all.1)
+each_answered : (m : MemoryView) (o : Opening) (log : List Applied) (port : ℕ) (plan : List (List Call)) (done : List Worked) → m.about.opening ≡ o → m.about.sizes.m ≡ length o.values →
+    AreEach (IsDone m) port plan done → AllByRecursion (IsPortOf log) (map (λ (w : Worked). w.port) done) →
+    AreEach (AreAnswered o log) port plan (map (λ (w : Worked). w.answers) done)
+each_answered m o log port [] [] opening sizes each all = tt
+each_answered m o log port [] (w ∷ done) opening sizes each all = absurd each
+each_answered m o log port (calls ∷ plan) [] opening sizes each all = absurd each
+each_answered m o log port (calls ∷ plan) (w ∷ done) opening sizes each all =
+    (answered_in m o log port calls w opening sizes each.0 all.0, each_answered m o log (port + 1) plan done opening sizes each.1 all.1)
 
--- as many as calls where these were all to be made
-each_whole : (m : MemoryView) (port : ℕ) (plan : List (List Call)) (done : List Worked) → AreEach (IsDone m Made) port plan done → first_calls plan (map (λ (w : Worked). w.answers) done) ≡ plan
-each_whole m port [] [] each = refl
-each_whole m port [] (w ∷ done) each = absurd each
-each_whole m port (calls ∷ plan) [] each = absurd each
-each_whole m port (calls ∷ plan) (w ∷ done) each =
-    ap (λ (l : List (List Call)). take (length w.answers.items) calls ∷ l) (each_whole m (port + 1) plan done each.1) ∙ ap (λ (l : List Call). l ∷ plan)
-    (take_all (length w.answers.items) calls (omega (arith, each.0.made.whole refl)))
+each_own : (m : MemoryView) (port : ℕ) (plan : List (List Call)) (done : List Worked) → AreEach (IsDone m) port plan done → AllByRecursion (IsOf m) (map (λ (w : Worked). w.port) done)
+each_own m port [] [] each = tt
+each_own m port [] (w ∷ done) each = absurd each
+each_own m port (calls ∷ plan) [] each = absurd each
+each_own m port (calls ∷ plan) (w ∷ done) each = (each.0.own, each_own m (port + 1) plan done each.1)
 
-each_unspent : (m : MemoryView) (port : ℕ) (plan : List (List Call)) (done : List Worked) → AreEach (IsDone m Spent) port plan done → AllByRecursion (λ v. AreUnspent v.items)
-    (map (λ (w : Worked). w.answers) done)
-each_unspent m port [] [] each = tt
-each_unspent m port [] (w ∷ done) each = absurd each
-each_unspent m port (calls ∷ plan) [] each = absurd each
-each_unspent m port (calls ∷ plan) (w ∷ done) each = (each.0.made.unspent refl, each_unspent m (port + 1) plan done each.1)
+pub come_own : (m : MemoryView) (plan : List (List Call)) (r : Results) → HaveCome m plan r → AllByRecursion (IsOf m) r.ports.items
+come_own m plan r w = subst (AllByRecursion (IsOf m)) w.ports (each_own m 0 plan w.done w.each)
 
-each_own : (m : MemoryView) (u : Until) (port : ℕ) (plan : List (List Call)) (done : List Worked) → AreEach (IsDone m u) port plan done → AllByRecursion (IsOf m) (map (λ (w : Worked). w.port) done)
-each_own m u port [] [] each = tt
-each_own m u port [] (w ∷ done) each = absurd each
-each_own m u port (calls ∷ plan) [] each = absurd each
-each_own m u port (calls ∷ plan) (w ∷ done) each = (each.0.own, each_own m u (port + 1) plan done each.1)
+pub come_many : (m : MemoryView) (plan : List (List Call)) (r : Results) → HaveCome m plan r → length r.ports.items ≡ length plan
+come_many m plan r w = ap length (sym w.ports) ∙ length-map w.done (λ (v : Worked). v.port) ∙ sym (each_length (IsDone m) 0 plan w.done w.each)
 
-pub come_own : (m : MemoryView) (u : Until) (plan : List (List Call)) (r : Results) → HaveCome m u plan r → AllByRecursion (IsOf m) r.ports.items
-come_own m u plan r w = subst (AllByRecursion (IsOf m)) w.ports (each_own m u 0 plan w.done w.each)
-
-pub come_many : (m : MemoryView) (u : Until) (plan : List (List Call)) (r : Results) → HaveCome m u plan r → length r.ports.items ≡ length plan
-come_many m u plan r w = ap length (sym w.ports) ∙ length-map w.done (λ (v : Worked). v.port) ∙ sym (each_length (IsDone m u) 0 plan w.done w.each)
-
-pub last_own : (m : MemoryView) (u : Until) (plan : List (List Call)) (r : Results) (rest : List PortView) (last : PortView) → HaveCome m u plan r → r.ports.items ≡ rest ++ last ∷ [] →
+pub last_own : (m : MemoryView) (plan : List (List Call)) (r : Results) (rest : List PortView) (last : PortView) → HaveCome m plan r → r.ports.items ≡ rest ++ last ∷ [] →
     AllByRecursion (IsOf m) rest × IsOf m last
-last_own m u plan r rest last w is =
-    let all : AllByRecursion (IsOf m) (rest ++ last ∷ []) = subst (AllByRecursion (IsOf m)) is (come_own m u plan r w) in
+last_own m plan r rest last w is =
+    let all : AllByRecursion (IsOf m) (rest ++ last ∷ []) = subst (AllByRecursion (IsOf m)) is (come_own m plan r w) in
     let one = all_back (IsOf m) rest (last ∷ []) all in
     (all_front (IsOf m) rest (last ∷ []) all, one.0)
 
-firsts_many : (plan : List (List Call)) (given : List (Vec Answer Global)) → length given ≡ length plan → length (first_calls plan given) ≡ length plan
-firsts_many [] [] same = refl
-firsts_many [] (v ∷ given) same = refl
-firsts_many (cs ∷ plan) [] same = absurd (omega (arith, same))
-firsts_many (cs ∷ plan) (v ∷ given) same = ap suc (firsts_many plan given (omega (arith, same)))
-
 -- workers that have ended, and the memory that was closed with their ports
-pub ran : (m : MemoryView) (u : Until) (plan : List (List Call)) (fresh : List PortView) (r : Results) (rest : List PortView) (last : PortView) (closed : Closed) → IsOpenedFor m plan fresh →
-    HaveCome m u plan r → r.ports.items ≡ rest ++ last ∷ [] → Closes m (last ∷ rest) closed → IsRun u m.about.opening plan r.answers.items closed.values.items
-ran m u plan fresh r rest last closed opened come is w =
+pub ran : (m : MemoryView) (plan : List (List Call)) (fresh : List PortView) (r : Results) (rest : List PortView) (last : PortView) (closed : Closed) → IsOpenedFor m plan fresh →
+    HaveCome m plan r → r.ports.items ≡ rest ++ last ∷ [] → Closes m (last ∷ rest) closed → AreRight m.about.opening plan r.answers.items closed.values.items
+ran m plan fresh r rest last closed opened come is w =
     let o = m.about.opening in
-    let given : List (Vec Answer Global) = map (λ (v : Worked). v.answers) come.done in
     let all : AllByRecursion (IsPortOf w.log) (rest ++ last ∷ []) = all_append (IsPortOf w.log) rest (last ∷ []) w.each.1 (w.each.0, tt) in
     let told : AllByRecursion (IsPortOf w.log) (map (λ (v : Worked). v.port) come.done) = subst (AllByRecursion (IsPortOf w.log)) (sym (come.ports ∙ is)) all in
-    let long : length given ≡ length plan = length-map come.done (λ (v : Worked). v.answers) ∙ sym (each_length (IsDone m u) 0 plan come.done come.each) in
-    let run : IsRun u o plan given closed.values.items = record {
-      right = record {
-        log = w.log;
-        history = w.history;
-        ports = each_answered m u o w.log 0 plan come.done refl (sym opened.values) come.each told;
-        others = subst (λ n. AllByRecursion (λ (e : Applied). e.port < n) w.log) (opened.count ∙ sym (firsts_many plan given long)) w.others;
-        values = w.values;
-      };
-      many = long;
-      whole = λ made. each_whole m 0 plan come.done (subst (λ (t : Until). AreEach (IsDone m t) 0 plan come.done) made come.each);
-      unspent = λ spent. each_unspent m 0 plan come.done (subst (λ (t : Until). AreEach (IsDone m t) 0 plan come.done) spent come.each);
+    let right : AreRight o plan (map (λ (v : Worked). v.answers) come.done) closed.values.items = record {
+      log = w.log;
+      history = w.history;
+      ports = each_answered m o w.log 0 plan come.done refl (sym opened.values) come.each told;
+      others = subst (λ n. AllByRecursion (λ (e : Applied). e.port < n) w.log) opened.count w.others;
+      values = w.values;
     } in
-    subst (λ (l : List (Vec Answer Global)). IsRun u o plan l closed.values.items) come.answers run
-
--- a port that lacks an answer is marked
-each_cut : (m : MemoryView) (u : Until) (port : ℕ) (plan : List (List Call)) (done : List Worked) → AreEach (IsDone m u) port plan done → AreEach IsCut port plan done
-each_cut m u port [] [] each = tt
-each_cut m u port [] (w ∷ done) each = absurd each
-each_cut m u port (calls ∷ plan) [] each = absurd each
-each_cut m u port (calls ∷ plan) (w ∷ done) each = ((each.0.number, each.0.made.cut), each_cut m u (port + 1) plan done each.1)
-
-pub marked : (m : MemoryView) (u : Until) (plan : List (List Call)) (r : Results) (rest : List PortView) (last : PortView) (closed : Closed) → HaveCome m u plan r → r.ports.items ≡ rest ++ last ∷ [] →
-    ClosesLawfully m (last ∷ rest) closed → AreMarked m plan r.answers.items closed
-marked m u plan r rest last closed come is w =
-    record {
-      done = come.done;
-      given = come.answers;
-      front = rest;
-      last = last;
-      ports = come.ports ∙ is;
-      lawful = w;
-      each = each_cut m u 0 plan come.done come.each;
-    }
+    subst (λ (l : List (Vec Answer Global)). AreRight o plan l closed.values.items) come.answers right
 
 -- ---- the ports of a memory that was opened for calls
 

@@ -1,5 +1,5 @@
 -- What the answers of all ports say: there is one history in which they are right.
-use Rattle.std.specs.Prelude.{ℕ, ◌≡◌, ◌+◌, ◌<◌, ◌≤◌, ◌^◌, ◌⊎◌, ⊤, true, List, [], ◌∷◌, length, map, take}
+use Rattle.std.specs.Prelude.{ℕ, ◌≡◌, ◌+◌, ◌<◌, ◌≤◌, ◌^◌, ⊤, List, [], ◌∷◌, length, map}
 use Rattle.std.specs.List.{AllByRecursion}
 use Rattle.std.specs.declared.alloc.Global.{Global}
 use Rattle.std.specs.declared.vec.Vec.{Vec}
@@ -8,15 +8,10 @@ use Rattle.partial_model.specs.declared.history.Opening.{Opening}
 use Rattle.partial_model.specs.declared.call.Call.{Call}
 use Rattle.partial_model.specs.declared.call.Call.TheVariants as call
 use Rattle.partial_model.specs.declared.call.Answer.{Answer}
-use Rattle.partial_model.specs.declared.call.Answer.TheVariants as answer
-use Rattle.partial_model.specs.declared.call.Refused.TheVariants as refused
 use Rattle.partial_model.specs.History.{IsHistory}
 use Rattle.partial_model.specs.Notes.{Noted, LegalNotes}
 use Rattle.partial_model.specs.Outcome.{EachOnce}
 use Rattle.partial_memory.specs.Closing.{AreValues}
-use Rattle.partial_memory.specs.Ports.{PortView}
-use Rattle.partial_workers.specs.declared.end.Until.{Until}
-use Rattle.partial_workers.specs.declared.end.Until.TheVariants.{Made, Spent}
 
 -- each pair of the two lists, numbered from there on
 abbrev pub AreEach : {A B : Type 0} → (ℕ → A → B → Type 0) → ℕ → List A → List B → Type 0
@@ -32,20 +27,6 @@ IsWithin m _ = ⊤
 -- it can be asked for each of the calls of each port, and they can be numbered
 abbrev pub AreMakable : ℕ → List (List Call) → Type 0
 AreMakable m calls = AllByRecursion (λ cs. (length cs < 2 ^ 32) × AllByRecursion (IsWithin m) cs) calls
-
--- the call was refused for the pool or the slots
-abbrev pub IsSpent : Answer → Type 0
-IsSpent (answer.Refused refused.PoolSpent) = ⊤
-IsSpent (answer.Refused refused.SlotsSpent) = ⊤
-IsSpent _ = ⊥
-
--- the port is marked for the pool or the slots
-abbrev pub IsMarked : PortView → Type 0
-IsMarked p = (p.pool_spent ≡ true) ⊎ (p.slots_spent ≡ true)
-
--- none of the calls was
-abbrev pub AreUnspent : List Answer → Type 0
-AreUnspent given = AllByRecursion (λ a. ¬ IsSpent a) given
 
 -- These calls of a port had these answers: with some notes they are legal in the history, and the port's entries are those that the
 -- notes wrote, each once and in the order of the calls.
@@ -64,17 +45,3 @@ pub record AreRight (o : Opening) (calls : List (List Call)) (answers : List (Ve
   pub ports : AreEach (AreAnswered o log) 0 calls answers
   pub others : AllByRecursion (λ e. e.port < length calls) log
   pub values : AreValues o log (length o.values) after
-
--- of the calls of each port the first ones, as many as it has answers
-abbrev pub first_calls : List (List Call) → List (Vec Answer Global) → List (List Call)
-first_calls (cs ∷ more) (given ∷ others) = take (length given.items) cs ∷ first_calls more others
-first_calls _ _ = []
-
--- What workers came to that were given these calls: each port made the first ones of its calls, and their answers are right together.
--- It made all of them when they were to be made, and kept no refusal for the pool or the slots when it was to end with one.
-pub record IsRun (until : Until) (o : Opening) (calls : List (List Call)) (answers : List (Vec Answer Global))
-    (after : List ℕ) : Type 0 where
-  pub right : AreRight o (first_calls calls answers) answers after
-  pub many : length answers ≡ length calls
-  pub whole : until ≡ Made → first_calls calls answers ≡ calls
-  pub unspent : until ≡ Spent → AllByRecursion (λ v. AreUnspent v.items) answers

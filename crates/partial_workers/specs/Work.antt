@@ -1,9 +1,7 @@
 -- What is known of the calls of one port: those that it has noted, and those between them that were refused or asked for nothing.
-use Rattle.std.specs.Prelude.{ℕ, ◌≡◌, ◌++◌, ◌<◌, ◌≤◌, ◌^◌, ◌⊎◌, List, [], ◌∷◌, length, map, take, Some, None}
+use Rattle.std.specs.Prelude.{ℕ, ◌≡◌, ◌++◌, ◌<◌, ◌≤◌, ◌^◌, ◌⊎◌, List, [], ◌∷◌, length, map, Some, None}
 use Rattle.std.specs.List.{AllByRecursion}
 use Rattle.std.specs.Vec.{vec_capacity}
-use Rattle.std.specs.declared.alloc.Global.{Global}
-use Rattle.std.specs.declared.vec.Vec.{Vec}
 use Rattle.std.specs.declared.thread.PromisedHandle.{PromisedHandle}
 use Rattle.partial_model.specs.declared.call.Call.{Call}
 use Rattle.partial_model.specs.declared.call.Call.TheVariants as call
@@ -13,17 +11,13 @@ use Rattle.partial_model.specs.declared.call.Note.TheVariants as note
 use Rattle.partial_model.specs.declared.call.Refused.{Refused}
 use Rattle.partial_model.specs.Notes.{Noted, MayBeRefused, seen_after, seen_by}
 use Rattle.partial_memory.specs.Ports.{IsOf, MemoryView, PortView, new_ports}
-use Rattle.partial_memory.specs.Lawfulness.{ClosesLawfully}
 use Rattle.partial_memory.specs.Rule.{newcomers}
-use Rattle.partial_memory.specs.declared.closed.Closed.{Closed}
 use Rattle.partial_workers.specs.declared.worker.Job.{Job}
 use Rattle.partial_workers.specs.declared.worker.Worked.{Worked}
 use Rattle.partial_workers.specs.declared.worker.Worker.{Worker}
 use Rattle.partial_workers.specs.declared.workers.Works.{Works}
 use Rattle.partial_workers.specs.declared.workers.Results.{Results}
-use Rattle.partial_workers.specs.declared.end.Until.{Until}
-use Rattle.partial_workers.specs.declared.end.Until.TheVariants.{Made, Spent}
-use Rattle.partial_workers.specs.Answered.{AreEach, AreUnspent, IsMarked, IsWithin}
+use Rattle.partial_workers.specs.Answered.{AreEach, IsWithin}
 
 -- the call was refused for a cause for which it may be
 abbrev pub WasRefused : ℕ → Noted → Type 0
@@ -57,14 +51,6 @@ pub record AreMade (m : ℕ) (made : List Call) (given : List Answer) (q : PortV
   pub calls : map (λ n. n.call) all ≡ made
   pub answers : map (λ n. n.answer) all ≡ given
   pub fills : Fills m 0 q.notes all
-
--- A port has made the first ones of these calls, as many as there are answers: all of them when they were to be made, and none that was
--- refused for the pool or the slots when it was to end with one. When an answer is missing, the port is marked.
-pub record HasMade (m : ℕ) (until : Until) (calls : List Call) (given : List Answer) (q : PortView) : Type 0 where
-  pub firsts : AreMade m (take (length given) calls) given q
-  pub whole : until ≡ Made → length given ≡ length calls
-  pub unspent : until ≡ Spent → AreUnspent given
-  pub cut : length given < length calls → IsMarked q
 
 -- the values of a scan have room
 abbrev pub HasRoom : ℕ → Call → List ℕ → Type 0
@@ -103,39 +89,23 @@ pub record IsHired (m : MemoryView) (port : ℕ) (calls : List Call) (w : Worker
   pub jobs : calls_of w.jobs.items ≡ calls
 
 -- a thread was started for the calls of the port with this number
-pub record IsStarted (m : MemoryView) (until : Until) (port : ℕ) (called : List Call) (h : PromisedHandle Worked Works) : Type 0 where
+pub record IsStarted (m : MemoryView) (port : ℕ) (called : List Call) (h : PromisedHandle Worked Works) : Type 0 where
   pub memory : h.promise.memory.value ≡ m
   pub number : h.promise.port ≡ port
-  pub until' : h.promise.until ≡ until
   pub calls : h.promise.calls.value.now ≡ called
 
--- the port with this number has made the first ones of these calls
-pub record IsDone (m : MemoryView) (until : Until) (port : ℕ) (calls : List Call) (w : Worked) : Type 0 where
+-- the port with this number has made these calls
+pub record IsDone (m : MemoryView) (port : ℕ) (calls : List Call) (w : Worked) : Type 0 where
   pub own : IsOf m w.port
   pub number : w.port.number ≡ port
-  pub made : HasMade m.about.sizes.m until calls w.answers.items w.port
+  pub made : AreMade m.about.sizes.m calls w.answers.items w.port
 
 -- the ports, and the answers of their calls, of threads that have ended
-pub record HaveCome (m : MemoryView) (until : Until) (calls : List (List Call)) (r : Results) : Type 0 where
+pub record HaveCome (m : MemoryView) (calls : List (List Call)) (r : Results) : Type 0 where
   pub done : List Worked
-  pub each : AreEach (IsDone m until) 0 calls done
+  pub each : AreEach (IsDone m) 0 calls done
   pub ports : map (λ w. w.port) done ≡ r.ports.items
   pub answers : map (λ w. w.answers) done ≡ r.answers.items
-
--- the port with this number lacks an answer only when it is marked
-abbrev pub IsCut : ℕ → List Call → Worked → Type 0
-IsCut port calls w = (w.port.number ≡ port) × (length w.answers.items < length calls → IsMarked w.port)
-
--- The memory was closed lawfully with the ports that have these answers, one port for each list of calls. Each of them that lacks an
--- answer is marked.
-pub record AreMarked (m : MemoryView) (calls : List (List Call)) (answers : List (Vec Answer Global)) (closed : Closed) : Type 0 where
-  pub done : List Worked
-  pub given : map (λ w. w.answers) done ≡ answers
-  pub front : List PortView
-  pub last : PortView
-  pub ports : map (λ w. w.port) done ≡ front ++ last ∷ []
-  pub lawful : ClosesLawfully m (last ∷ front) closed
-  pub each : AreEach IsCut 0 calls done
 
 -- the memory was opened for these calls: with these ports, one for each list of calls, and with a value for each component
 pub record IsOpenedFor (m : MemoryView) (calls : List (List Call)) (fresh : List PortView) : Type 0 where

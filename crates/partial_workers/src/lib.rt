@@ -2,14 +2,12 @@
 //! the memory is closed.
 #![tactic(auto)]
 
-mod end;
 mod error;
 mod gate;
 mod makable;
 mod worker;
 mod workers;
 
-pub use end::Until;
 pub use error::RunError;
 pub use gate::{Gate, NoGate};
 pub use makable::are_makable;

@@ -4,10 +4,8 @@ ghost use Rattle.std.specs.Prelude.{◌≡◌, ◌<◌, ◌^◌, ◌≤◌, [], 
 ghost use Rattle.std.specs.List.{AllByRecursion};
 ghost use Rattle.std.specs.Vec.{vec_capacity};
 ghost use Rattle.partial_memory.specs.Ports.{IsOf};
-ghost use Rattle.partial_workers.specs.Answered.{IsMarked, IsSpent};
-ghost use Rattle.partial_workers.specs.Work.{HasMade, HasRoom, IsMade, IsReady, calls_of};
+ghost use Rattle.partial_workers.specs.Work.{AreMade, HasRoom, IsMade, IsReady, calls_of};
 
-use crate::end::Until;
 use crate::gate::Gate;
 use partial_memory::{Memory, Port, Scanned, Updated, UpdatedIf};
 use partial_model::{Answer, Call, Sequence};
@@ -27,7 +25,7 @@ pub struct Worker<'a> {
     pub answers: Vec<Answer>,
 }
 
-/// A port that has made the first ones of its calls, and their answers, in order.
+/// A port that has made its calls, and their answers, in order.
 #[derive(Drop)]
 pub struct Worked {
     pub port: Port,
@@ -35,13 +33,13 @@ pub struct Worked {
 }
 
 impl Worker<'_> {
-    /// Makes the calls in order until one of them ends the work, and passes the gate before and after each.
-    pub fn work<G: Gate>(self, memory: &Memory, gate: &G, until: Until) -> Worked
+    /// Makes the calls in order, and passes the gate before and after each.
+    pub fn work<G: Gate>(self, memory: &Memory, gate: &G) -> Worked
         requires own { IsOf memory.now self.port }
         requires ready { IsReady memory.now.about.sizes.m self }
         ensures own { IsOf memory.now result.port }
         ensures number { result.port.number ≡ self.entry.port.number }
-        ensures made { HasMade memory.now.about.sizes.m until
+        ensures made { AreMade memory.now.about.sizes.m
             (calls_of self.entry.jobs.items) result.answers.items result.port }
     {
         let Worker {
@@ -54,9 +52,6 @@ impl Worker<'_> {
             gate.before(port.number(), number);
             let answer = make(memory, &mut port, job.call, job.room);
             gate.after(port.number(), number);
-            if until.ends_with(&answer) {
-                break;
-            }
             answers.push_reserved(answer);
         }
         Worked { port, answers }
@@ -70,8 +65,6 @@ fn make(memory: &Memory, port: &mut Port, call: &Call, mut room: Vec<u64>) -> An
     ensures own { IsOf memory.now port.new }
     ensures number { port.new.number ≡ port.old.number }
     ensures made { IsMade memory.now.about.sizes.m port.old call.now result port.new }
-    ensures spent { IsSpent result → port.new.notes ≡ port.old.notes }
-    ensures marked { IsSpent result → IsMarked port.new }
 {
     match call {
         Call::Update { component, value } => match memory.update(port, *component, *value) {

@@ -4,11 +4,9 @@ ghost use Rattle.std.specs.Prelude.{◌≡◌, ◌≤◌, ℕ, List, [], length,
 ghost use Rattle.std.specs.Vec.{vec_capacity};
 ghost use Rattle.partial_model.specs.declared.call.Call.{Call as CallType};
 ghost use Rattle.partial_memory.specs.Ports.{IsOf, MemoryView};
-ghost use Rattle.partial_workers.specs.declared.end.Until.{Until as UntilType};
-ghost use Rattle.partial_workers.specs.Answered.{AreEach, AreMakable, IsRun, IsWithin};
-ghost use Rattle.partial_workers.specs.Work.{AreMarked, HasRoom, HaveCome, HaveRooms, IsDone, IsHired, IsNew, IsOpenedFor, IsReady, IsStarted, calls_of};
+ghost use Rattle.partial_workers.specs.Answered.{AreEach, AreMakable, AreRight, IsWithin};
+ghost use Rattle.partial_workers.specs.Work.{HasRoom, HaveCome, HaveRooms, IsDone, IsHired, IsNew, IsOpenedFor, IsReady, IsStarted, calls_of};
 
-use crate::end::Until;
 use crate::error::RunError;
 use crate::gate::Gate;
 use crate::worker::{Job, Worked, Worker};
@@ -25,14 +23,13 @@ use std::thread::{Promise, PromisedHandle, Scope, Threads};
 struct Works<'a> {
     memory: Snapshot<Memory>,
     port: u32,
-    until: Until,
     calls: Snapshot<&'a [Call]>,
 }
 
 impl Promise<Worked> for Works<'_> {
     ghost use Rattle.partial_workers.specs.Work.{IsDone};
 
-    ghost kept_by = { λ p w. IsDone p.memory.value p.until p.port p.calls.value.now w };
+    ghost kept_by = { λ p w. IsDone p.memory.value p.port p.calls.value.now w };
 }
 
 // Room for what the workers come to, made before they start.
@@ -99,11 +96,10 @@ fn start<'s, 'e, G: Gate>(
     memory: &'s Memory,
     calls: &'s [&'s [Call]],
     gate: &'s G,
-    until: Until,
     workers: Vec<Worker<'s>>,
 ) -> Result<Vec<PromisedHandle<Worked, Works<'s>>>, AllocError>
     requires { AreEach (IsHired memory.now) 0 (map (λ c. c.now) calls.now) workers.items }
-    ensures { IfOk result (λ handles. AreEach (IsStarted memory.now until) 0
+    ensures { IfOk result (λ handles. AreEach (IsStarted memory.now) 0
         (map (λ c. c.now) calls.now) handles.items) }
 {
     let mut started = Vec::with_capacity(alloc, calls.len())?;
@@ -112,14 +108,13 @@ fn start<'s, 'e, G: Gate>(
         let promise = Works {
             memory: Snapshot::of(memory),
             port,
-            until,
             calls: Snapshot::of(&calls[port as usize]),
         };
         let work = move || -> Worked
             requires { IsOf memory.now worker.port × IsReady memory.now.about.sizes.m worker }
-            ensures { IsDone memory.entry.now until worker.entry.port.number
+            ensures { IsDone memory.entry.now worker.entry.port.number
                 (calls_of worker.entry.jobs.items) result }
-        { worker.work(memory, gate, until) };
+        { worker.work(memory, gate) };
         started.push_reserved(scope.spawn_with(promise, work)?);
     }
     Ok(started)
@@ -134,8 +129,8 @@ fn join<R: Threads>(
     requires empty { (results.ports.items ≡ []) × (results.answers.items ≡ []) }
     requires room { (length started.items ≤ vec_capacity results.ports) ×
         (length started.items ≤ vec_capacity results.answers) }
-    ensures { (m : MemoryView) (u : UntilType) (calls : List (List CallType)) →
-        AreEach (IsStarted m u) 0 calls started.entry.items → HaveCome m u calls result }
+    ensures { (m : MemoryView) (calls : List (List CallType)) →
+        AreEach (IsStarted m) 0 calls started.entry.items → HaveCome m calls result }
 {
     for handle in started {
         let Worked { port, answers } = handle.join(rt);
@@ -159,7 +154,7 @@ pub fn calls_by_port(alloc: Global, ports: &[Sequence<Call>]) -> Result<Vec<&[Ca
 /// What workers came to, and the memory that they left.
 #[derive(Drop)]
 pub struct Ran {
-    /// The answers of each port, in the order of its calls, from the first one on.
+    /// The answers of each port, one for each of its calls, in order.
     pub answers: Vec<Vec<Answer>>,
     pub closed: Closed,
 }
@@ -168,9 +163,8 @@ pub struct Ran {
 /// with which the memory was opened, none of which has made a call. Each worker makes its calls in order, and
 /// passes the gate before and after each.
 ///
-/// With [`Until::Made`] each port has one answer for each of its calls. With [`Until::Spent`] it has those of the
-/// first ones, and none of them was refused for the pool or the slots. A port that lacks an answer was marked for
-/// the pool or the slots when the memory was closed.
+/// Each port has one answer for each of its calls, whatever the answers are. There is one history over the values of
+/// the opening in which all of them are right, and after which the closed memory has its values.
 ///
 /// All memory but that of closing is taken before the first worker starts.
 ///
@@ -184,14 +178,12 @@ pub fn run_on<'c, R: Threads + Wait + Sync, G: Gate>(
     memory: Memory,
     ports: Vec<Port>,
     calls: &'c [&'c [Call]],
-    until: Until,
     gate: &G,
 ) -> Result<Ran, RunError>
     requires opened { IsOpenedFor memory (map (λ c. c.now) calls.now) ports.items }
     requires makable { AreMakable memory.about.sizes.m (map (λ c. c.now) calls.now) }
-    ensures ran { IfOk result (λ ran. IsRun until memory.about.opening (map (λ c. c.now) calls.now) ran.answers.items
+    ensures { IfOk result (λ ran. AreRight memory.about.opening (map (λ c. c.now) calls.now) ran.answers.items
         ran.closed.values.items) }
-    ensures marked { IfOk result (λ ran. AreMarked memory (map (λ c. c.now) calls.now) ran.answers.items ran.closed) }
 {
     let count = calls.len();
     let workers = hire(alloc, &memory, calls, ports)?;
@@ -208,9 +200,9 @@ pub fn run_on<'c, R: Threads + Wait + Sync, G: Gate>(
             requires empty { (results.ports.items ≡ []) × (results.answers.items ≡ []) }
             requires ports { length calls.now ≤ vec_capacity results.ports }
             requires answers { length calls.now ≤ vec_capacity results.answers }
-            ensures { IfOk result (HaveCome lent.entry.now until (map (λ c. c.now) calls.entry.now)) }
+            ensures { IfOk result (HaveCome lent.entry.now (map (λ c. c.now) calls.entry.now)) }
         {
-            let started = start(scope, alloc, lent, calls, gate, until, workers)?;
+            let started = start(scope, alloc, lent, calls, gate, workers)?;
             Ok(join(rt, started, results))
         },
     )?;

@@ -1,7 +1,7 @@
 use Rattle.std.proofs.Common.{rules, ◌≡◌, ◌∙◌, length, inl}
 use Rattle.partial_model.specs.declared.call.Call.TheVariants as call
 use Rattle.partial_model.proofs.ListLemmas.{written_whole}
-use Rattle.partial_workers.proofs.Made.{refused_at, refused_marks, scanned_at}
+use Rattle.partial_workers.proofs.Made.{refused_at, scanned_at}
 use Rattle.partial_workers.proofs.worker.make.Goals as goal
 
 pub returns-in-Update-clause-made : goal.returns-in-Update-clause-made
@@ -23,6 +23,3 @@ returns-in-Read-clause-made c = refused_at _ _ _ _ _ _ c.requires.own c.in-Read.
 
 pub returns-clause-made : goal.returns-clause-made
 returns-clause-made c = refused_at _ _ _ _ _ _ c.requires.own c.in-UpdateIf.is c.in-Err-update_if.ensures.refused
-
-pub returns-in-Update-clause-marked : goal.returns-in-Update-clause-marked
-returns-in-Update-clause-marked c = refused_marks _ _ _ _ c.in-Err.ensures.refused

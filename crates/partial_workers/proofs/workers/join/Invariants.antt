@@ -2,7 +2,6 @@ use Rattle.std.proofs.Common.{◌≡◌, ◌≤◌, List, length, take}
 use Rattle.std.specs.Vec.{vec_capacity}
 use Rattle.partial_model.specs.declared.call.Call.{Call}
 use Rattle.partial_memory.specs.Ports.{MemoryView}
-use Rattle.partial_workers.specs.declared.end.Until.{Until}
 use Rattle.partial_workers.specs.Answered.{AreEach}
 use Rattle.partial_workers.specs.Work.{HaveCome, IsStarted}
 use Rattle.partial_workers.proofs.workers.join.Given as goal
@@ -10,7 +9,7 @@ use Rattle.partial_workers.proofs.workers.join.Given as goal
 -- the threads that have ended so far
 abbrev pub invariant-loop-handle : goal.invariant-loop-handle
 invariant-loop-handle g l = record {
-  come : (m : MemoryView) (u : Until) (plan : List (List Call)) → AreEach (IsStarted m u) 0 plan l.fn.started.items → HaveCome m u (take (length l.yielded) plan) l.results;
+  come : (m : MemoryView) (plan : List (List Call)) → AreEach (IsStarted m) 0 plan l.fn.started.items → HaveCome m (take (length l.yielded) plan) l.results;
   ports : length l.results.ports.items ≡ length l.yielded;
   answers : length l.results.answers.items ≡ length l.yielded;
   ports_room : length l.fn.started.items ≤ vec_capacity l.results.ports;

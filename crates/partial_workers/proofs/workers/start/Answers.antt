@@ -1,4 +1,4 @@
-use Rattle.std.proofs.Common.{rules, ◌≡◌, ◌+◌, ◌++◌, List, [], ◌∷◌, length, map, take, get_or, Bor, refl, sym, ap, subst, ◌∙◌, arith}
+use Rattle.std.proofs.Common.{rules, ◌≡◌, ◌+◌, ◌++◌, List, [], ◌∷◌, length, map, take, get_or, Bor, sym, ap, subst, ◌∙◌, arith}
 use Rattle.std.proofs.lemmas.Iterator.Adapters.{YieldsList-from_vec}
 use Rattle.std.proofs.lemmas.Iterator.Consumers.{YieldsList-turn, YieldsList-end}
 use Rattle.std.proofs.lemmas.List.{length-map, length_push, take_all}
@@ -52,8 +52,8 @@ spawn_with-requires-clause-keeps g c =
     let long = each_length (IsHired m) 0 plan all c.requires in
     let at : calls ≡ get_or plan n calls = map_at (λ (b : Bor (List Call)). b.now) n given own (omega (arith, turn.0, long, same)) (c.index-calls-port.is ∙ ap (λ i. get_or given i own) place) in
     let mine : IsHired m (0 + n) calls worker = each_at (IsHired m) 0 n plan all calls worker c.requires turn.0 at turn.1 in
-    λ κs lives r done. done_alike m c.of.result.value c.args.until c.args.until worker.port.number c.number-port.result (calls_of worker.jobs.items) c.of-in-loop-worker.result.value.now r
-    done c.of.ensures refl c.number-port.ensures.value (ap (λ (b : Bor (List Call)). b.now) c.of-in-loop-worker.ensures ∙ sym mine.jobs)
+    λ κs lives r done. done_alike m c.of.result.value worker.port.number c.number-port.result (calls_of worker.jobs.items) c.of-in-loop-worker.result.value.now r
+    done c.of.ensures c.number-port.ensures.value (ap (λ (b : Bor (List Call)). b.now) c.of-in-loop-worker.ensures ∙ sym mine.jobs)
 
 pub push_reserved-requires : goal.push_reserved-requires
 push_reserved-requires g c =
@@ -68,7 +68,6 @@ push_reserved-requires g c =
 pub loop-worker-preserved : goal.loop-worker-preserved
 loop-worker-preserved g c =
     let m = c.args.memory.now in
-    let u = c.args.until in
     let given = c.args.calls.now in
     let plan = map (λ (b : Bor (List Call)). b.now) given in
     let all = c.args.workers.items in
@@ -85,16 +84,15 @@ loop-worker-preserved g c =
     let at : calls ≡ get_or plan n calls = map_at (λ (b : Bor (List Call)). b.now) n given own (omega (arith, turn.0, long, same)) (c.index-calls-port.is ∙ ap (λ i. get_or given i own) place) in
     let h = c.in_ok-spawn_with.field-0 in
     let promised = c.in_ok-spawn_with.ensures.ok in
-    let started : IsStarted m u (0 + n) calls h = record {
+    let started : IsStarted m (0 + n) calls h = record {
       memory = ap (λ (p : Works). p.memory.value) promised ∙ c.of.ensures;
       number = ap (λ (p : Works). p.port) promised ∙ place ∙ omega arith;
-      until' = ap (λ (p : Works). p.until) promised;
       calls = ap (λ (p : Works). p.calls.value.now) promised ∙ ap (λ (b : Bor (List Call)). b.now) c.of-in-loop-worker.ensures;
     } in
     let more = length_push c.loop-worker.yielded worker in
     record {
-      each = subst (AreEach (IsStarted m u) 0 (take (length (c.loop-worker.yielded ++ worker ∷ [])) plan)) (sym c.push_reserved.ensures.items)
-          (each_push (IsStarted m u) 0 n (length (c.loop-worker.yielded ++ worker ∷ [])) plan c.loop-worker.started.items calls h c.loop-worker.invariant.each
+      each = subst (AreEach (IsStarted m) 0 (take (length (c.loop-worker.yielded ++ worker ∷ [])) plan)) (sym c.push_reserved.ensures.items)
+          (each_push (IsStarted m) 0 n (length (c.loop-worker.yielded ++ worker ∷ [])) plan c.loop-worker.started.items calls h c.loop-worker.invariant.each
           (omega (arith, turn.0, long)) at started more);
       count = ap length c.push_reserved.ensures.items ∙ length_push c.loop-worker.started.items h ∙ ap (λ k. k + 1) c.loop-worker.invariant.count ∙ sym more;
       room = search rules;
@@ -103,11 +101,10 @@ loop-worker-preserved g c =
 pub returns : goal.returns
 returns g c =
     let m = c.args.memory.now in
-    let u = c.args.until in
     let given = c.args.calls.now in
     let plan = map (λ (b : Bor (List Call)). b.now) given in
     let all = c.args.workers.items in
     let end = YieldsList-end (YieldsList-from_vec {s = c.into_iter-worker-iterator.result} all (search rules) (search rules)) c.loop-worker.yielded _ c.loop-worker.yielded_by _ c.next.new.self
     c.in-None.is c.next.ensures.steps in
     let long = each_length (IsHired m) 0 plan all c.requires in
-    subst (λ l. AreEach (IsStarted m u) 0 l c.loop-worker.started.items) (take_all (length c.loop-worker.yielded) plan (omega (arith, long, end.1))) c.loop-worker.invariant.each
+    subst (λ l. AreEach (IsStarted m) 0 l c.loop-worker.started.items) (take_all (length c.loop-worker.yielded) plan (omega (arith, long, end.1))) c.loop-worker.invariant.each

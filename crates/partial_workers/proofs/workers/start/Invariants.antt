@@ -7,7 +7,7 @@ use Rattle.partial_workers.proofs.workers.start.Given as goal
 -- the threads so far
 abbrev pub invariant-loop-worker : goal.invariant-loop-worker
 invariant-loop-worker g l = record {
-  each : AreEach (IsStarted l.memory l.until) 0 (take (length l.yielded) (map (λ c. c.now) l.calls)) l.started.items;
+  each : AreEach (IsStarted l.memory) 0 (take (length l.yielded) (map (λ c. c.now) l.calls)) l.started.items;
   count : length l.started.items ≡ length l.yielded;
   room : length l.calls ≤ vec_capacity l.started;
 }

@@ -1,20 +1,15 @@
 use Rattle.std.proofs.Common.{◌≡◌, ◌≤◌, length, take}
 use Rattle.std.specs.Vec.{vec_capacity}
 use Rattle.partial_memory.specs.Ports.{IsOf}
-use Rattle.partial_workers.specs.declared.end.Until.TheVariants.{Spent}
-use Rattle.partial_workers.specs.Answered.{AreUnspent}
 use Rattle.partial_workers.specs.Work.{AreMade, calls_of}
 use Rattle.partial_workers.proofs.worker.Worker.work.Given as goal
 
 -- the calls so far
 abbrev pub invariant-loop-job : goal.invariant-loop-job
 invariant-loop-job g l = record {
-  next : (goal.iterator-loop-job g).can_next l.job-iterator;
-  finite : (goal.iterator-loop-job g).is_finite l.job-iterator;
   own : IsOf l.memory l.port;
   number : l.port.number ≡ l.fn.self.port.number;
   made : AreMade l.memory.about.sizes.m (take (length l.answers.items) (calls_of l.fn.self.jobs.items)) l.answers.items l.port;
-  unspent : l.fn.until ≡ Spent → AreUnspent l.answers.items;
   count : length l.answers.items ≡ length l.yielded;
   room : length l.fn.self.jobs.items ≤ vec_capacity l.answers;
 }

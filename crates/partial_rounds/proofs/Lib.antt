@@ -1,3 +1,0 @@
-pub mod Continued
-pub mod Lists
-pub mod Passing
