@@ -1,6 +1,9 @@
 pub mod Arrows
 pub mod Bars
 pub mod Drawn
+pub mod Lengths
 pub mod Marks
 pub mod Pins
 pub mod Refusal
+pub mod Texts
+pub mod Words

@@ -4,7 +4,7 @@ ghost use Rattle.std.specs.Prelude.{◌<◌, ◌≤◌, IfOk, OnOk};
 ghost use Rattle.std.specs.String.{string_len};
 
 use crate::picture::{Bar, Mark, Picture, Pin};
-use partial_labels::{call_words, entry_words, finish_words, step_words};
+use crate::words::{call_words, entry_words, finish_words, step_words};
 use std::alloc::{AllocError, Global};
 
 /// The remarks beside the steps: which call begins or ends there, and which entry is added.

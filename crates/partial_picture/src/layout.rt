@@ -1,7 +1,8 @@
 //! The layout of a drawing: steps from left to right, lanes from top to bottom.
 
+use crate::entries::{Label, labels_of, raised_by};
 use crate::picture::{Bar, Picture, Pin};
-use partial_labels::{Label, Pixels, labels_of, raised_by};
+use crate::pixels::Pixels;
 use std::alloc::{AllocError, Global};
 
 /// Where the first step begins. The names of the lanes stand left of it.

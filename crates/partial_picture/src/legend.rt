@@ -1,8 +1,8 @@
 //! The colours of a drawing, and what its shapes mean.
 
 use crate::picture::Shape;
+use crate::pixels::Pixels;
 use crate::svg::{push_shape, push_words};
-use partial_labels::Pixels;
 use std::alloc::AllocError;
 
 /// The colours are those of Okabe and Ito, which colour-blind readers can tell apart. Each goes with a

@@ -3,13 +3,13 @@
 ghost use Rattle.std.specs.Prelude.{◌<◌, IfOk};
 ghost use Rattle.std.specs.String.{string_len};
 
+use crate::entries::Label;
 use crate::layout::{Layout, Sides};
 use crate::legend::{STYLE, push_legend};
 use crate::picture::{Arrow, ArrowKind, Bar, Mark, Picture, Pin, Shape};
-use partial_labels::{
-    Label, Pixels, call_words, entry_words, finish_words, fitted, push_escaped, step_words,
-    word_words,
-};
+use crate::pixels::Pixels;
+use crate::text::{fitted, push_escaped};
+use crate::words::{call_words, entry_words, finish_words, step_words, word_words};
 use std::alloc::{AllocError, Global};
 
 /// Writes words at a place.

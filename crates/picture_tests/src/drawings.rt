@@ -3,8 +3,7 @@
 use super::examples::{
     borrowed_view_plan, count, drawn, lost_exchange_plan, refused_plan, replayed,
 };
-use partial_labels::{Pixels, fitted, labels_of, push_escaped};
-use partial_picture::{Form, Window};
+use partial_picture::{Form, Pixels, Window, fitted, labels_of, push_escaped};
 use partial_replay::Event;
 use partial_words::Step;
 use std::test::Fail;

@@ -1,7 +1,7 @@
 //! The words of labels are those of the texts.
 
 use super::examples::{borrowed_view_plan, count, lost_exchange_plan, refused_plan, replayed};
-use partial_labels::{call_words, entry_words, finish_words, word_words};
+use partial_picture::{call_words, entry_words, finish_words, word_words};
 use partial_replay::{Device, write_outcome};
 use partial_words::Sizes;
 use std::test::Fail;

@@ -1,4 +1,4 @@
-//! Tests of pictures of replays and of their labels. They use what these crates offer, so that each is proved
+//! Tests of pictures of replays and of their labels. They use what `partial_picture` offers, so that it is proved
 //! without them.
 #![tactic(auto)]
 

@@ -10,7 +10,7 @@ pub struct Pixels(pub u64);
 
 impl Add<u64> for Pixels {
     ghost use Rattle.std.specs.Prelude.{◌≡◌};
-    ghost use Rattle.partial_labels.specs.Lengths.{sum_of};
+    ghost use Rattle.partial_picture.specs.Lengths.{sum_of};
 
     type Output = Pixels;
 
@@ -35,7 +35,7 @@ impl Sub<u64> for Pixels {
 
 impl Mul<usize> for Pixels {
     ghost use Rattle.std.specs.Prelude.{◌≡◌};
-    ghost use Rattle.partial_labels.specs.Lengths.{product_of};
+    ghost use Rattle.partial_picture.specs.Lengths.{product_of};
 
     type Output = Pixels;
 

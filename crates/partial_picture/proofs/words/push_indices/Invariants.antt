@@ -1,7 +1,7 @@
 use Rattle.std.proofs.Common.{◌≡◌, ◌++◌, take, string_bytes}
 use Rattle.std.specs.List.{flat_map}
-use Rattle.partial_labels.specs.Words.{spaced}
-use Rattle.partial_labels.proofs.words.push_indices.Given as goal
+use Rattle.partial_picture.specs.Words.{spaced}
+use Rattle.partial_picture.proofs.words.push_indices.Given as goal
 
 abbrev pub invariant-loop-index : goal.invariant-loop-index
 invariant-loop-index l = string_bytes l.words ≡ string_bytes l.initial.words ++ flat_map spaced (take l.index-index l.indices)

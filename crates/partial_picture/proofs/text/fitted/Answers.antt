@@ -1,6 +1,6 @@
 use Rattle.std.proofs.Common.{rules, ◌/◌, ◌-◌}
 use Rattle.std.proofs.lemmas.Iterator.{YieldsList-from_chars, YieldsList-from_take, text_from_collect}
-use Rattle.partial_labels.proofs.text.fitted.Goals as goal
+use Rattle.partial_picture.proofs.text.fitted.Goals as goal
 
 pub returns-clause-cut : goal.returns-clause-cut
 returns-clause-cut c =

@@ -2,7 +2,7 @@
 //! can be read whole.
 
 ghost use Rattle.std.specs.Prelude.{◌≡◌, ◌≤◌, All, length, IfOk};
-ghost use Rattle.partial_labels.specs.Lengths.{product_of};
+ghost use Rattle.partial_picture.specs.Lengths.{product_of};
 
 use crate::pixels::Pixels;
 use std::alloc::{AllocError, Global};

@@ -2,7 +2,7 @@
 
 ghost use Rattle.std.specs.Prelude.{◌≡◌, ◌++◌, IfOk, OnOk, string_bytes};
 ghost use Rattle.std.specs.List.{flat_map};
-ghost use Rattle.partial_labels.specs.Words.{spaced, end_words, call_words, finish_words, entry_words, step_words, word_name};
+ghost use Rattle.partial_picture.specs.Words.{spaced, end_words, call_words, finish_words, entry_words, step_words, word_name};
 
 use partial_model::{Answer, Applied, Call, Called, Note};
 use partial_words::{Event, Sizes, Step};

@@ -1,7 +1,7 @@
 //! Words as they stand in a drawing.
 
 ghost use Rattle.std.specs.Prelude.{◌≡◌, ◌≤◌, ◌<◌, ◌/◌, ◌++◌, [], length, IfOk, OnOk, string_bytes};
-ghost use Rattle.partial_labels.specs.Texts.{escaped, Escapes, cut_to};
+ghost use Rattle.partial_picture.specs.Texts.{escaped, Escapes, cut_to};
 
 use crate::pixels::Pixels;
 use std::alloc::{AllocError, Global};
