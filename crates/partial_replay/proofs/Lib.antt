@@ -1,6 +1,7 @@
 pub mod Places
 pub mod PortLaws
 pub mod RunLaws
+pub mod ScanPlaces
 pub mod Traces
 pub mod PortSteps
 pub mod RunSteps

@@ -34,7 +34,7 @@ use Rattle.partial_replay.specs.declared.port.UnderWay.{UnderWay}
 use Rattle.partial_replay.specs.Inner.PortState.{ends_of, notes_in, IsUnderWay, PortFits, AreWithin, HasValues, MayAnswer, one_step_more, ended_call, GoesOn, Ends}
 use Rattle.partial_replay.specs.Listed.{AreFew}
 use Rattle.partial_replay.specs.Place.{IsNoteFrom, IsLeastFrom}
-use Rattle.partial_places.proofs.ScanPlaces.{has_records, has_record}
+use Rattle.partial_replay.proofs.ScanPlaces.{has_records, has_record}
 use Rattle.partial_words.specs.Record.{view_word}
 use Rattle.partial_core.proofs.Laws.{lawful_records_are_within}
 use Rattle.partial_model.specs.History.{initial_stamp}

@@ -5,6 +5,7 @@ pub mod CallSteps
 pub mod Inner
 pub mod Listed
 pub mod Replayed
+pub mod ScanPlace
 pub mod Alone
 pub mod ScanSteps
 pub mod OneOutcome

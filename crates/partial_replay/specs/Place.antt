@@ -13,7 +13,7 @@ use Rattle.partial_model.specs.declared.call.Note.{Note}
 use Rattle.partial_model.specs.declared.call.Note.TheVariants as note
 use Rattle.std.specs.List.{AllByRecursion}
 use Rattle.partial_words.specs.Chain.{Agrees}
-use Rattle.partial_places.specs.ScanPlace.{ShowsValues, IsLeast}
+use Rattle.partial_replay.specs.ScanPlace.{ShowsValues, IsLeast}
 
 -- the entry at a place has that stamp
 abbrev pub HasStampAt : List Applied → ℕ → ℕ → Type 0

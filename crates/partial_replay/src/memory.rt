@@ -1,7 +1,7 @@
 //! The memory of a replay: its words, and what has happened to them.
 
+use crate::wanted::Wanted;
 use partial_model::Applied;
-use partial_places::Wanted;
 use partial_words::{Event, Sizes};
 
 /// The words that the ports of a replay share, and what has happened to them so far.

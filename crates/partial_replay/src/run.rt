@@ -8,9 +8,9 @@ ghost use Rattle.partial_replay.specs.Inner.RunState.{AreFreshPorts, AreListed, 
 
 use crate::memory::Memory;
 use crate::port::{Port, unfinished};
+use crate::wanted::Wanted;
 use partial_core::Core;
 use partial_model::{Call, Called, Opening, Sequence};
-use partial_places::Wanted;
 use partial_text::Outcome;
 use partial_words::Sizes;
 use std::alloc::{AllocError, Global};

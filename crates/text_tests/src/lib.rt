@@ -1,11 +1,9 @@
-//! Tests of the texts of plans, outcomes and reports, and of the place of a scan in an outcome. They
-//! use what these crates offer, so that each is proved without them.
+//! Tests of the texts of plans, outcomes and reports. They use what `partial_text` offers, so that it is proved
+//! without them.
 #![tactic(auto)]
 
 #[cfg(test)]
 mod growths;
-#[cfg(test)]
-mod places;
 #[cfg(test)]
 mod plans;
 #[cfg(test)]

@@ -26,7 +26,7 @@ use Rattle.partial_machine.specs.Bounds.{steps_left, most_steps}
 use Rattle.partial_core.specs.Part.{Part, port_of, IsMachineOf, IsBetween, first_at}
 use Rattle.partial_machine.specs.Calls.{is_begun, is_at_rest, call_of, answer_for, begun_of, refusal_of}
 use Rattle.partial_core.specs.Steps.{begun_with}
-use Rattle.partial_places.specs.ScanPlace.{HasRecord, HasRecords}
+use Rattle.partial_replay.specs.ScanPlace.{HasRecord, HasRecords}
 use Rattle.partial_replay.specs.Trace.{Moment}
 use Rattle.partial_replay.specs.CallSteps.{Makes, IsCallOf, AreStepsOf}
 use Rattle.partial_replay.specs.Turns.{BeginInTurns}

@@ -1,6 +1,6 @@
 use Rattle.std.proofs.Common.{◌≡◌, length}
-use Rattle.partial_places.specs.ScanPlace.{AreMarked, AreWanted, values_now}
-use Rattle.partial_places.proofs.wanted.want.Given as goal
+use Rattle.partial_replay.specs.ScanPlace.{AreMarked, AreWanted, values_now}
+use Rattle.partial_replay.proofs.wanted.want.Given as goal
 
 -- the components of the first k positions are wanted, and those that differ are marked
 abbrev pub invariant-loop-k : goal.invariant-loop-k

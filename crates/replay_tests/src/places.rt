@@ -4,7 +4,7 @@ ghost use Rattle.std.specs.Prelude.{◌≡◌, ◌<◌, length};
 ghost use Rattle.std.specs.List.{AllByRecursion};
 
 use partial_model::Applied;
-use partial_places::Wanted;
+use partial_replay::Wanted;
 use std::test::Fail;
 
 // The place of a scan in a history of four entries over two components: 7 for component 0, 30 for

@@ -17,7 +17,7 @@ use Rattle.partial_model.proofs.AllLemmas.{position_below}
 use Rattle.partial_words.specs.Chain.{Agrees}
 use Rattle.partial_words.specs.Record.{prev_of, value_of}
 use Rattle.partial_words.proofs.ChainLemmas.{value_behind_stamp, prev_before_entry}
-use Rattle.partial_places.specs.ScanPlace.{values_after, values_now, differs, marks_before, AreMarked, AllHave, AreWanted, AreComponents, AreMarksOf, HasRecord, HasRecords, IsLeft, IsEmpty, IsLeast, ShowsValues}
+use Rattle.partial_replay.specs.ScanPlace.{values_after, values_now, differs, marks_before, AreMarked, AllHave, AreWanted, AreComponents, AreMarksOf, HasRecord, HasRecords, IsLeft, IsEmpty, IsLeast, ShowsValues}
 
 -- the values in the words are those after the whole history
 pub now_is_after : (o : Opening) (words : List ℕ) (h : List Applied) (j : ℕ) → Agrees o words h → j < length o.values → values_now words j ≡ values_after o h (length h) j

@@ -1,6 +1,6 @@
 use Rattle.std.proofs.Common.{◌≡◌, length}
-use Rattle.partial_places.specs.ScanPlace.{AreMarksOf, IsLeft}
-use Rattle.partial_places.proofs.wanted.forget.Given as goal
+use Rattle.partial_replay.specs.ScanPlace.{AreMarksOf, IsLeft}
+use Rattle.partial_replay.proofs.wanted.forget.Given as goal
 
 -- what is still wanted stands at a position from the k-th on, and nothing else is marked
 abbrev pub invariant-loop-k : goal.invariant-loop-k

@@ -1,8 +1,8 @@
 use Rattle.std.proofs.Common.{◌<◌, length, get_or, refl, arith, rules}
-use Rattle.partial_places.specs.ScanPlace.{values_now}
+use Rattle.partial_replay.specs.ScanPlace.{values_now}
 use Rattle.partial_model.proofs.AllLemmas.{position_below}
-use Rattle.partial_places.proofs.ScanPlaces.{wanted_more, marked_more}
-use Rattle.partial_places.proofs.wanted.want.Goals as goal
+use Rattle.partial_replay.proofs.ScanPlaces.{wanted_more, marked_more}
+use Rattle.partial_replay.proofs.wanted.want.Goals as goal
 
 pub loop-k-preserved : goal.loop-k-preserved
 loop-k-preserved c =

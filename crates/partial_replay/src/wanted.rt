@@ -1,4 +1,6 @@
-//! The search for the place of a scan: the wanted values, and the components that differ from them.
+//! The place of a finished scan in the history: the least prefix, not shorter than the history at the
+//! scan's begin, that shows its values. The search goes backwards from the present length, does constant
+//! work for each entry, and uses scratch room that is made once.
 
 ghost use Rattle.std.specs.Prelude.{ℕ, ◌≡◌, ◌==◌, ◌+◌, ◌<◌, ◌≤◌, false, Some, None, IfOk, length, slice_index, slice_index_or, slice_set, slice_get, count_by};
 ghost use Rattle.std.specs.List.{AllByRecursion};
@@ -6,7 +8,7 @@ ghost use Rattle.partial_model.specs.declared.history.Applied.{Applied};
 ghost use Rattle.partial_model.specs.declared.history.Opening.{Opening};
 ghost use Rattle.partial_words.specs.Chain.{Agrees};
 ghost use Rattle.partial_words.specs.Record.{prev_of, value_of};
-ghost use Rattle.partial_places.specs.ScanPlace.{AllHave, AreComponents, AreMarked, AreMarksOf, AreWanted, HasRecord, HasRecords, IsEmpty, IsLeast, IsLeft, ShowsValues, marks_before, values_after, values_now};
+ghost use Rattle.partial_replay.specs.ScanPlace.{AllHave, AreComponents, AreMarked, AreMarksOf, AreWanted, HasRecord, HasRecords, IsEmpty, IsLeast, IsLeft, ShowsValues, marks_before, values_after, values_now};
 
 use partial_model::Applied;
 use partial_words::{prev_of, value_of};
@@ -156,7 +158,7 @@ pub struct Wanted {
 impl Model for Wanted {
     ghost use Rattle.std.specs.Prelude.{ℕ};
     ghost use Rattle.std.specs.Vec.{vec_len};
-    ghost use Rattle.partial_places.specs.ScanPlace.{IsEmpty};
+    ghost use Rattle.partial_replay.specs.ScanPlace.{IsEmpty};
 
     ghost Value = { ℕ };
 

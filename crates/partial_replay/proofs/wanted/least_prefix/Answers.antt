@@ -3,9 +3,9 @@ use Rattle.std.proofs.lemmas.Bool.{eqb-true, eq-eqb, false≢true}
 use Rattle.std.proofs.lemmas.Option.{slice_get-get_or}
 use Rattle.partial_model.specs.declared.history.Applied.{Applied}
 use Rattle.partial_words.specs.Record.{prev_of, value_of}
-use Rattle.partial_places.specs.ScanPlace.{AllHave, HasRecord, marks_before, values_after}
-use Rattle.partial_places.proofs.ScanPlaces.{IsFoundFrom, IsWalked, walked_at_end, walked_back, found_least}
-use Rattle.partial_places.proofs.wanted.least_prefix.Goals as goal
+use Rattle.partial_replay.specs.ScanPlace.{AllHave, HasRecord, marks_before, values_after}
+use Rattle.partial_replay.proofs.ScanPlaces.{IsFoundFrom, IsWalked, walked_at_end, walked_back, found_least}
+use Rattle.partial_replay.proofs.wanted.least_prefix.Goals as goal
 
 -- the entry before a place
 abbrev entry_before : List Applied → ℕ → Applied

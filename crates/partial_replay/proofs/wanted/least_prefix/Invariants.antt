@@ -1,5 +1,5 @@
-use Rattle.partial_places.proofs.ScanPlaces.{IsWalked}
-use Rattle.partial_places.proofs.wanted.least_prefix.Given as goal
+use Rattle.partial_replay.proofs.ScanPlaces.{IsWalked}
+use Rattle.partial_replay.proofs.wanted.least_prefix.Given as goal
 
 -- the entries from the place on have been taken back
 abbrev pub invariant-loop-place : goal.invariant-loop-place
