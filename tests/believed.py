@@ -178,7 +178,8 @@ def crate_table(known):
     running = reached(known, set().union(*(roots(*each) for each in RUNNING)))
     together = reached(known, set().union(*(roots(*each) for each in TOGETHER)))
     text, columns = '| Crate | All | Running memory | Together |\n|---|---|---|---|\n', (set(known), running, together)
-    crates = [line.partition(':')[0].split()[0] for line in (TOP / 'crates.txt').read_text().splitlines() if line]
+    named = (TOP / 'crates.txt').read_text(encoding='utf-8').splitlines()
+    crates = [line.partition(':')[0].split()[0] for line in named if line and not line.startswith('#')]
     for crate in crates:
         own = [[name for name in names if name.startswith(f'Rattle.{crate}.')] for names in columns]
         if own[0]:

@@ -25,7 +25,8 @@ def laws(source):
 def table():
     """The table of all laws, and what is wrong with any of them."""
     lines, faults, count, seen = [], [], 0, set()
-    crates = [line.partition(':')[0].split()[0] for line in (TOP / 'crates.txt').read_text().splitlines() if line]
+    named = (TOP / 'crates.txt').read_text(encoding='utf-8').splitlines()
+    crates = [line.partition(':')[0].split()[0] for line in named if line and not line.startswith('#')]
     for crate in crates:
         source = TOP / 'crates' / crate / 'src' / 'law.rt'
         if not source.is_file():
