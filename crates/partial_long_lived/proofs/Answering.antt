@@ -1,5 +1,5 @@
 -- A call of a port: how it begins at the seat that was taken out, and what it leaves once the seat is put back.
-use Rattle.std.proofs.Common.{ℕ, zero, suc, None, append-nil, ◌≡◌, ◌<◌, ◌≤◌, ◌++◌, ◌∷◌, [], Option, Some, IfSome, Bool, true, false, true≢false, List, length}
+use Rattle.std.proofs.Common.{ℕ, zero, suc, None, append-nil, ◌≡◌, ◌<◌, ◌≤◌, ◌++◌, ◌∷◌, [], Option, Some, IfSome, Bool, true, false, true≢false, List, length, ap, ◌+◌}
 use Rattle.std.proofs.Common.{take, refl, sym, ap, subst, ◌∙◌, inl, inr, arith}
 use Rattle.std.specs.Prelude.{Contains, nat_lt, slice_index}
 use Rattle.std.specs.List.{AllByRecursion, list_all}
@@ -31,7 +31,7 @@ use Rattle.partial_long_lived.specs.Calls as calls
 use Rattle.partial_long_lived.specs.Seating.{IsStandOf, IsSeatingOf}
 use Rattle.partial_long_lived.specs.Resting.{IsResting}
 use Rattle.partial_long_lived.specs.Inner.Steps.{Goes}
-use Rattle.partial_long_lived.specs.Inner.Held.{IsHeld, port_at}
+use Rattle.partial_long_lived.specs.Inner.Held.{IsHeld, epoch_at, port_at}
 use Rattle.partial_long_lived.specs.Inner.Calls.{HasCome, HasRead, IsIdle}
 use Rattle.partial_long_lived.specs.Inner.Changing.{Changed, NotChanged}
 use Rattle.partial_long_lived.specs.Inner.Scans.{HasScanned, RestsUnmarked, ScanMade, noted_scan}
@@ -309,12 +309,12 @@ has_scanned_seen table s t (j ∷ js) values collects borrowed public w is some 
     )
 
 -- a scan that was refused, as callers see it
-pub not_scanned_seen : (table : TableId) (s t : Stand) (which : List ℕ) (cause : Refused) → NotScanned s t cause → AllByRecursion (λ j. j < (port_at s).about.sizes.m) which →
+pub not_scanned_seen : (table : TableId) (s t : Stand) (which : List ℕ) (cause : Refused) → (epoch_at t ≡ t.epoch) → NotScanned s t cause → AllByRecursion (λ j. j < (port_at s).about.sizes.m) which →
     calls.IsRefused (port_view table (port_at s)) (call.Scan which) cause (port_view table (port_at t))
-not_scanned_seen table s t which Component w inside = absurd w.why
-not_scanned_seen table s t which Overtaken w inside = absurd w.why
-not_scanned_seen table s t which NoArena w inside = (inside, goes_seen table (port_at s) (port_at t) [] w.goes (w.notes ∙ sym (append-nil (port_at s).notes)))
-not_scanned_seen table s t which EpochsSpent w inside = (inside, goes_seen table (port_at s) (port_at t) [] w.goes (w.notes ∙ sym (append-nil (port_at s).notes)))
+not_scanned_seen table s t which Component is w inside = absurd w.why
+not_scanned_seen table s t which Overtaken is w inside = absurd w.why
+not_scanned_seen table s t which NoArena is w inside = (inside, goes_seen table (port_at s) (port_at t) [] w.goes (w.notes ∙ sym (append-nil (port_at s).notes)), w.why.1)
+not_scanned_seen table s t which EpochsSpent is w inside = (inside, goes_seen table (port_at s) (port_at t) [] w.goes (w.notes ∙ sym (append-nil (port_at s).notes)), ap (λ (n : ℕ). n + 1) is ∙ w.why)
 
 -- the same, from the seat that was taken out to the one that was put back
 module _ (m : MemoryView) (s : Seating) (t u : Stand) (s' : Seating) (p : PortView) (k : IsStandOf s t) (view : port_view s.badge.table_id (one_in s.badge.views) ≡ p) (own : IsOf m p)
@@ -332,4 +332,4 @@ module _ (m : MemoryView) (s : Seating) (t u : Stand) (s' : Seating) (p : PortVi
   pub scan_refused : (cause : Refused) → NotScanned t u cause → calls.IsRefused p (call.Scan which) cause (port_view s'.badge.table_id (one_in s'.badge.views))
   scan_refused cause w =
       callers_see m s t u s' p k view own held k' (λ (a b : PortView). calls.IsRefused a (call.Scan which) cause b)
-      (not_scanned_seen m.table t u which cause w (below_there w.goes.about))
+      (not_scanned_seen m.table t u which cause (sym held.epoch) w (below_there w.goes.about))

@@ -1,5 +1,5 @@
 -- The rounds of an update: an attempt, and a change of epoch, and so on.
-use Rattle.std.proofs.Common.{ℕ, Option, None, Result, Ok, Err, IfOk, IfErr, ◌≡◌, ◌≤◌, ◌++◌, Bool, true, false, List, [], ◌∷◌, length, refl, sym, ap, subst, ◌∙◌, arith, append-nil}
+use Rattle.std.proofs.Common.{ℕ, Option, None, Result, Ok, Err, IfOk, IfErr, ◌≡◌, ◌+◌, ◌<◌, ◌≤◌, ◌++◌, Bool, true, false, List, [], ◌∷◌, length, refl, sym, ap, subst, ◌∙◌, arith, append-nil}
 use Rattle.atomic_table.specs.Seated.{TableId}
 use Rattle.partial_model.specs.Notes.{Noted}
 use Rattle.partial_machine.specs.declared.stage.Change.{Change}
@@ -14,7 +14,7 @@ use Rattle.partial_long_lived.specs.Rule.{Began, Seated}
 use Rattle.partial_long_lived.specs.Ports.{seen_in}
 use Rattle.partial_long_lived.specs.Inner.Steps.{Goes}
 use Rattle.partial_long_lived.specs.Inner.Moves.{BeganBy}
-use Rattle.partial_long_lived.specs.Inner.Held.{IsHeld, port_at}
+use Rattle.partial_long_lived.specs.Inner.Held.{IsHeld, epoch_at, port_at}
 use Rattle.partial_long_lived.specs.Inner.Calls.{IsIdle}
 use Rattle.partial_long_lived.specs.Inner.Updates.{Attempted, CameBy, IsEntryOf, IsLate, IsOwn, MayCall, NotesNothing, Updated, noted_update, noted_where}
 use Rattle.partial_long_lived.proofs.Coming.{goes_on, seen_more}
@@ -140,12 +140,27 @@ updated_behind c r s t v came ended = record {
   within = ended.within;
 }
 
--- a change of epoch is refused behind some steps
-pub late_of : (s : Stand) (cause : Refused) → IsCause s cause → IsLate cause
-late_of s Component is = absurd is
-late_of s Overtaken is = tt
-late_of s NoArena is = tt
-late_of s EpochsSpent is = tt
+-- an update is refused where a change of epoch is
+pub late_of : (times : ℕ) (s t : Stand) (cause : Refused) → IsCause t cause → IsLate times s cause t
+late_of times s t Component is = absurd is
+late_of times s t Overtaken is = absurd is
+late_of times s t NoArena is = is
+late_of times s t EpochsSpent is = is
+
+-- one that began with a change of epoch has come to one more
+pub late_behind : (times : ℕ) (s t v : Stand) (cause : Refused) → epoch_at s < epoch_at t → IsLate times t cause v → IsLate (times + 1) s cause v
+late_behind times s t v Component later is = absurd is
+late_behind times s t v Overtaken later is = omega (arith, later, is)
+late_behind times s t v NoArena later is = is
+late_behind times s t v EpochsSpent later is = is
+
+-- behind so many later epochs, a round that met a seal and a change of epoch lead to one more
+pub one_later : (table : TableId) (about : About) (s u t v : Stand) (n : ℕ) → IsHeld table about u → IsHeld table about t → t.epoch ≡ u.epoch → epoch_at s + n ≤ epoch_at u →
+    epoch_at t < epoch_at v → epoch_at s + (n + 1) ≤ epoch_at v
+one_later table about s u t v n h k same so later =
+    let before = h.epoch in
+    let behind = k.epoch in
+    omega (arith, before, behind, same, so, later)
 
 -- what holds of an answer may be told in another way
 pub ok_as : (A E : Type 0) (r : Result A E) (P Q : A → Type 0) → ((a : A) → P a → Q a) → IfOk r P → IfOk r Q

@@ -1,5 +1,5 @@
 -- An update of a port, as callers see it.
-use Rattle.std.proofs.Common.{ℕ, ◌≡◌, ◌<◌, Bool, true, false, [], sym, subst, ◌∙◌, arith, append-nil}
+use Rattle.std.proofs.Common.{ℕ, ◌≡◌, ◌<◌, Bool, true, false, [], sym, subst, ◌∙◌, arith, append-nil, ap, ◌+◌}
 use Rattle.atomic_table.specs.Seated.{TableId}
 use Rattle.partial_model.specs.declared.history.Applied.{Applied}
 use Rattle.partial_model.specs.declared.call.Call.TheVariants as call
@@ -21,7 +21,7 @@ use Rattle.partial_long_lived.specs.Rule.{one_in}
 use Rattle.partial_long_lived.specs.Ports.{IsOf, MemoryView, PortView, port_view, seen_in}
 use Rattle.partial_long_lived.specs.Calls as calls
 use Rattle.partial_long_lived.specs.Seating.{IsStandOf, IsSeatingOf}
-use Rattle.partial_long_lived.specs.Inner.Held.{IsHeld, port_at}
+use Rattle.partial_long_lived.specs.Inner.Held.{IsHeld, epoch_at, port_at}
 use Rattle.partial_long_lived.specs.Inner.Calls.{IsIdle}
 use Rattle.partial_long_lived.specs.Inner.Conditional.{HasUpdatedIf}
 use Rattle.partial_long_lived.specs.Inner.Rests.{RestsAt}
@@ -91,12 +91,12 @@ has_updated_seen table s t c (IsOvertaken by) w inside =
     )
 
 -- an update that was refused, as callers see it
-not_updated_seen : (table : TableId) (s t : Stand) (j v : ℕ) (cause : Refused) → IsLate cause → CameBy true s t → j < (port_at s).about.sizes.m →
+not_updated_seen : (table : TableId) (s t : Stand) (j v : ℕ) (cause : Refused) → (epoch_at t ≡ t.epoch) → IsLate 16 s cause t → CameBy true s t → j < (port_at s).about.sizes.m →
     calls.IsRefused (port_view table (port_at s)) (call.Update j v) cause (port_view table (port_at t))
-not_updated_seen table s t j v Component late w inside = absurd late
-not_updated_seen table s t j v Overtaken late w inside = ((inside, tt), goes_seen table (port_at s) (port_at t) [] w.goes (w.notes ∙ sym (append-nil (port_at s).notes)))
-not_updated_seen table s t j v NoArena late w inside = ((inside, tt), goes_seen table (port_at s) (port_at t) [] w.goes (w.notes ∙ sym (append-nil (port_at s).notes)))
-not_updated_seen table s t j v EpochsSpent late w inside = ((inside, tt), goes_seen table (port_at s) (port_at t) [] w.goes (w.notes ∙ sym (append-nil (port_at s).notes)))
+not_updated_seen table s t j v Component is late w inside = absurd late
+not_updated_seen table s t j v Overtaken is late w inside = ((inside, tt), goes_seen table (port_at s) (port_at t) [] w.goes (w.notes ∙ sym (append-nil (port_at s).notes)), late)
+not_updated_seen table s t j v NoArena is late w inside = ((inside, tt), goes_seen table (port_at s) (port_at t) [] w.goes (w.notes ∙ sym (append-nil (port_at s).notes)), late.1)
+not_updated_seen table s t j v EpochsSpent is late w inside = ((inside, tt), goes_seen table (port_at s) (port_at t) [] w.goes (w.notes ∙ sym (append-nil (port_at s).notes)), ap (λ (n : ℕ). n + 1) is ∙ late)
 
 -- a conditional update that ended, as callers see it
 has_updated_if_seen : (table : TableId) (s t : Stand) (a : Asked) (r : UpdatedIf) → HasUpdatedIf a r s t → a.component < (port_at s).about.sizes.m →
@@ -127,12 +127,12 @@ has_updated_if_seen table s t a (conditional.Changed by) w inside =
     )
 
 -- one that was refused, as callers see it
-not_updated_if_seen : (table : TableId) (s t : Stand) (j e v : ℕ) (cause : Refused) → IsLate cause → CameBy true s t → j < (port_at s).about.sizes.m →
+not_updated_if_seen : (table : TableId) (s t : Stand) (j e v : ℕ) (cause : Refused) → (epoch_at t ≡ t.epoch) → IsLate 16 s cause t → CameBy true s t → j < (port_at s).about.sizes.m →
     calls.IsRefused (port_view table (port_at s)) (call.UpdateIf j e v) cause (port_view table (port_at t))
-not_updated_if_seen table s t j e v Component late w inside = absurd late
-not_updated_if_seen table s t j e v Overtaken late w inside = ((inside, tt), goes_seen table (port_at s) (port_at t) [] w.goes (w.notes ∙ sym (append-nil (port_at s).notes)))
-not_updated_if_seen table s t j e v NoArena late w inside = ((inside, tt), goes_seen table (port_at s) (port_at t) [] w.goes (w.notes ∙ sym (append-nil (port_at s).notes)))
-not_updated_if_seen table s t j e v EpochsSpent late w inside = ((inside, tt), goes_seen table (port_at s) (port_at t) [] w.goes (w.notes ∙ sym (append-nil (port_at s).notes)))
+not_updated_if_seen table s t j e v Component is late w inside = absurd late
+not_updated_if_seen table s t j e v Overtaken is late w inside = ((inside, tt), goes_seen table (port_at s) (port_at t) [] w.goes (w.notes ∙ sym (append-nil (port_at s).notes)), late)
+not_updated_if_seen table s t j e v NoArena is late w inside = ((inside, tt), goes_seen table (port_at s) (port_at t) [] w.goes (w.notes ∙ sym (append-nil (port_at s).notes)), late.1)
+not_updated_if_seen table s t j e v EpochsSpent is late w inside = ((inside, tt), goes_seen table (port_at s) (port_at t) [] w.goes (w.notes ∙ sym (append-nil (port_at s).notes)), ap (λ (n : ℕ). n + 1) is ∙ late)
 
 -- the same, from the seat that was taken out to the one that was put back
 module _ (m : MemoryView) (s : Seating) (t u : Stand) (s' : Seating) (p : PortView) (k : IsStandOf s t) (view : port_view s.badge.table_id (one_in s.badge.views) ≡ p) (own : IsOf m p)
@@ -143,11 +143,11 @@ module _ (m : MemoryView) (s : Seating) (t u : Stand) (s' : Seating) (p : PortVi
       callers_see m s t u s' p k view own held k' (λ (a b : PortView). calls.Updates a c.component c.value (public_update u.epoch r) b)
       (has_updated_seen m.table t u c r w (subst (λ (a : About). c.component < a.sizes.m) (sym (sym w.goes.about ∙ held.own)) inside))
 
-  pub update_refused : (j v : ℕ) (cause : Refused) → IsLate cause → CameBy true t u → j < m.about.sizes.m →
+  pub update_refused : (j v : ℕ) (cause : Refused) → IsLate 16 t cause u → CameBy true t u → j < m.about.sizes.m →
       calls.IsRefused p (call.Update j v) cause (port_view s'.badge.table_id (one_in s'.badge.views))
   update_refused j v cause late w inside =
       callers_see m s t u s' p k view own held k' (λ (a b : PortView). calls.IsRefused a (call.Update j v) cause b)
-      (not_updated_seen m.table t u j v cause late w (subst (λ (a : About). j < a.sizes.m) (sym (sym w.goes.about ∙ held.own)) inside))
+      (not_updated_seen m.table t u j v cause (sym held.epoch) late w (subst (λ (a : About). j < a.sizes.m) (sym (sym w.goes.about ∙ held.own)) inside))
 
   pub update_if_answered : (a : Asked) (r : UpdatedIf) → HasUpdatedIf a r t u → a.component < m.about.sizes.m →
       calls.UpdatesIf p a.component a.expected a.value r (port_view s'.badge.table_id (one_in s'.badge.views))
@@ -155,8 +155,8 @@ module _ (m : MemoryView) (s : Seating) (t u : Stand) (s' : Seating) (p : PortVi
       callers_see m s t u s' p k view own held k' (λ (x y : PortView). calls.UpdatesIf x a.component a.expected a.value r y)
       (has_updated_if_seen m.table t u a r w (subst (λ (b : About). a.component < b.sizes.m) (sym (sym w.goes.about ∙ held.own)) inside))
 
-  pub update_if_refused : (j e v : ℕ) (cause : Refused) → IsLate cause → CameBy true t u → j < m.about.sizes.m →
+  pub update_if_refused : (j e v : ℕ) (cause : Refused) → IsLate 16 t cause u → CameBy true t u → j < m.about.sizes.m →
       calls.IsRefused p (call.UpdateIf j e v) cause (port_view s'.badge.table_id (one_in s'.badge.views))
   update_if_refused j e v cause late w inside =
       callers_see m s t u s' p k view own held k' (λ (a b : PortView). calls.IsRefused a (call.UpdateIf j e v) cause b)
-      (not_updated_if_seen m.table t u j e v cause late w (subst (λ (a : About). j < a.sizes.m) (sym (sym w.goes.about ∙ held.own)) inside))
+      (not_updated_if_seen m.table t u j e v cause (sym held.epoch) late w (subst (λ (a : About). j < a.sizes.m) (sym (sym w.goes.about ∙ held.own)) inside))

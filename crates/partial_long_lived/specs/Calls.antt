@@ -9,12 +9,13 @@ use Rattle.partial_model.specs.declared.call.Note.TheVariants as note
 use Rattle.partial_model.specs.History.{stamp_of}
 use Rattle.partial_model.specs.Notes.{NamesComponents, Noted, place_of, shown_by}
 pub use Rattle.partial_lines.specs.declared.whole_scan.Scanned.{Scanned}
+use Rattle.partial_epochs.specs.Layout.{epoch_limit}
 use Rattle.partial_long_lived.specs.declared.answers.Updated.{Updated}
 use Rattle.partial_long_lived.specs.declared.answers.Updated.TheVariants.{Applied as IsApplied, Lost}
 use Rattle.partial_long_lived.specs.declared.answers.UpdatedIf.{UpdatedIf}
 use Rattle.partial_long_lived.specs.declared.answers.UpdatedIf.TheVariants as conditional
 use Rattle.partial_long_lived.specs.declared.error.Refused.{Refused}
-use Rattle.partial_long_lived.specs.declared.error.Refused.TheVariants.{Component, Overtaken}
+use Rattle.partial_long_lived.specs.declared.error.Refused.TheVariants.{Component, EpochsSpent, NoArena, Overtaken}
 use Rattle.partial_long_lived.specs.Ports.{Knows, PortView}
 
 -- what every call does to its port: the history that it has observed grows, and it has noted these calls more
@@ -84,10 +85,18 @@ pub record Meets (a b c d : PortView) : Type 0 where
   pub first_all : b.seen ≡ take (length b.seen) c.seen
   pub second_all : a.seen ≡ take (length a.seen) d.seen
 
+-- Why a call that changes the epoch can't end: its port has come to 16 later epochs, it has sealed all components of its epoch and found no
+-- arena free, or its epoch is the last one that a word can name.
+abbrev pub CantEnd : PortView → Refused → PortView → Type 0
+CantEnd p Component q = ⊥
+CantEnd p Overtaken q = p.epoch + 16 ≤ q.epoch
+CantEnd p NoArena q = q.memory.about.sizes.m ≤ q.sealed
+CantEnd p EpochsSpent q = q.epoch + 1 ≡ epoch_limit
+
 -- Why a call is refused, and what is left of its port. For a component that isn't there nothing has changed; otherwise nothing is noted,
 -- and the port may have seen more. A read has no other cause, and only updates are overtaken.
 abbrev pub IsRefused : PortView → Call → Refused → PortView → Type 0
 IsRefused p c Component q = (¬ NamesComponents p.memory.about.sizes.m c) × (q ≡ p)
 IsRefused p (call.Read j) cause q = ⊥
 IsRefused p (call.Scan js) Overtaken q = ⊥
-IsRefused p c cause q = NamesComponents p.memory.about.sizes.m c × Goes p q []
+IsRefused p c cause q = NamesComponents p.memory.about.sizes.m c × Goes p q [] × CantEnd p cause q

@@ -16,11 +16,13 @@ pub record MemoryView : Type 0 where
   pub table : TableId
   pub about : About
 
--- A port as a contract sees it: its memory, its number, the beginning of the one history over all epochs that it has seen, and the notes of
--- its calls.
+-- A port as a contract sees it: its memory, its number, the epoch where it stands and how many components of it the port has sealed, the
+-- beginning of the one history over all epochs that it has seen, and the notes of its calls.
 pub record PortView : Type 0 where
   pub memory : MemoryView
   pub number : ℕ
+  pub epoch : ℕ
+  pub sealed : ℕ
   pub seen : List Applied
   pub notes : List Noted
 
@@ -30,7 +32,14 @@ seen_in p = history_of (p.part.seen ∷ p.before)
 
 -- a port as a contract sees it, by the table and what its seat knows
 abbrev pub port_view : TableId → Seated → PortView
-port_view table x = record { memory = record { table = table; about = x.about }; number = x.number; seen = seen_in x.port; notes = x.notes }
+port_view table x = record {
+  memory = record { table = table; about = x.about };
+  number = x.number;
+  epoch = x.port.control.here.epoch;
+  sealed = x.port.passed;
+  seen = seen_in x.port;
+  notes = x.notes;
+}
 
 -- the ports of a new memory
 abbrev pub new_ports : TableId → List Seated → List PortView

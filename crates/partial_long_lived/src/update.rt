@@ -4,8 +4,9 @@ ghost use Rattle.std.specs.Prelude.{◌≡◌, ◌<◌, ◌≤◌, IfSome, IfNon
 ghost use Rattle.partial_machine.specs.declared.stage.Stage.TheVariants.{Idle, UpdateBegun, Exchanging};
 ghost use Rattle.partial_machine.specs.Machine.{at_stage};
 ghost use Rattle.partial_machine.specs.Sound.{IsSound};
-ghost use Rattle.partial_long_lived.specs.Inner.Held.{IsHeld, port_at};
+ghost use Rattle.partial_long_lived.specs.Inner.Held.{IsHeld, epoch_at, port_at};
 ghost use Rattle.partial_long_lived.specs.Inner.Calls.{IsIdle, Kept};
+ghost use Rattle.partial_long_lived.specs.Inner.Changing.{IsCause};
 ghost use Rattle.partial_long_lived.specs.Inner.Machine.{Begins};
 ghost use Rattle.partial_long_lived.specs.Inner.Rests.{RestsAt};
 ghost use Rattle.partial_long_lived.specs.Inner.Under.{IsGoing, MayBegin, machine_at};
@@ -32,6 +33,7 @@ pub const MOST_CHANGES: u32 = 16;
 /// # Errors
 /// [`Refused::Overtaken`] when the port has come to a later epoch 16 times; [`Refused::NoArena`] and
 /// [`Refused::EpochsSpent`] when the epoch has to be changed and can't be. Nothing was applied.
+#[inline(always)]
 pub fn update(
     words: &Words,
     mut stand: Stand,
@@ -46,7 +48,7 @@ pub fn update(
     ensures held { IsHeld words.now.table_id words.now.key result.0 }
     ensures rests { RestsAt result.0 core.new result.1 }
     ensures updated { IfOk result.2 (λ r. Updated true change r stand result.0) }
-    ensures refused { IfErr result.2 (λ cause. IsLate cause × CameBy true stand result.0) }
+    ensures refused { IfErr result.2 (λ cause. IsLate 16 stand cause result.0 × CameBy true stand result.0) }
 {
     if !spent {
         return rounds(words, stand, core, change, true, MOST_CHANGES);
@@ -59,6 +61,7 @@ pub fn update(
 
 // Makes an update of a port that is not spent, and changes the epoch behind each attempt that met a seal, so many times.
 // `first` says that the first step of the update is the first one of its call.
+#[inline(always)]
 fn rounds(
     words: &Words,
     mut stand: Stand,
@@ -78,7 +81,7 @@ fn rounds(
     ensures rests { IsOwn (port_at result.0) core.new }
     ensures spare { result.1 ≡ false → MayCall (port_at result.0) core.new }
     ensures updated { IfOk result.2 (λ r. Updated first change r stand result.0) }
-    ensures refused { IfErr result.2 (λ cause. IsLate cause × CameBy first stand result.0) }
+    ensures refused { IfErr result.2 (λ cause. IsLate times stand cause result.0 × CameBy first stand result.0) }
 {
     let mut first_step = first;
     for _ in 0..times {
@@ -108,8 +111,9 @@ pub fn renew(words: &Words, stand: &mut Stand, core: &mut Core, first: bool) -> 
     ensures rests { IsOwn (port_at stand.new) core.new }
     ensures spare { IfOk result (λ _. MayCall (port_at stand.new) core.new) }
     ensures came { CameBy first stand.old stand.new }
+    ensures later { IfOk result (λ _. epoch_at stand.old < epoch_at stand.new) }
     ensures fresh { IfOk result (λ _. (port_at stand.new).began.epoch ≤ stand.new.epoch) }
-    ensures late { IfErr result IsLate }
+    ensures cause { IfErr result (IsCause stand.new) }
 {
     change(words, stand, first)?;
     core.clear_marks();
@@ -119,6 +123,7 @@ pub fn renew(words: &Words, stand: &mut Stand, core: &mut Core, first: bool) -> 
 /// Makes an update of a port that is not spent, in the port's epoch. Returns how it ended, with stamps of the epoch's own,
 /// and whether the port is spent then; or `None` when the component is sealed. Then nothing was applied, and the port is
 /// spent. `first` says that the first step of the update is the first one of its call.
+#[inline(always)]
 pub fn attempt(
     words: &Words,
     mut stand: Stand,

@@ -58,7 +58,7 @@ pub fn update_if(
     ensures held { IsHeld words.now.table_id words.now.key result.0 }
     ensures rests { RestsAt result.0 core.new result.1 }
     ensures updated { IfOk result.2 (λ r. HasUpdatedIf asked r stand result.0) }
-    ensures refused { IfErr result.2 (λ cause. IsLate cause × CameBy true stand result.0) }
+    ensures refused { IfErr result.2 (λ cause. IsLate 16 stand cause result.0 × CameBy true stand result.0) }
 {
     let mut first = true;
     let mut used = spent;

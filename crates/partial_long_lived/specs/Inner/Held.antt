@@ -1,5 +1,5 @@
 -- The seat of a port in a call, with where the port stands.
-use Rattle.std.specs.Prelude.{◌≡◌}
+use Rattle.std.specs.Prelude.{ℕ, ◌≡◌}
 use Rattle.atomic_table.specs.Seated.{TableId}
 use Rattle.partial_epochs.specs.Layout.{base, whole}
 use Rattle.partial_long_lived.specs.declared.rule.About.{About}
@@ -11,6 +11,10 @@ use Rattle.partial_long_lived.specs.Inner.Steps.{IsKnown, IsOne}
 -- what is known of the seat's port
 abbrev pub port_at : Stand → Seated
 port_at s = one_of s.seat.me.0
+
+-- the epoch where the seat's port stands
+abbrev pub epoch_at : Stand → ℕ
+epoch_at s = (port_at s).port.control.here.epoch
 
 -- The seat is one of the table, and of one port of that memory, which stands or enters from there.
 pub record IsHeld (table : TableId) (about : About) (s : Stand) : Type 0 where

@@ -1,5 +1,5 @@
 -- Parts of an update.
-use Rattle.std.specs.Prelude.{⊤, ℕ, ◌≡◌, ◌+◌, ◌<◌, ◌≤◌, ◌++◌, Bool, false, [], ◌∷◌, length, take, Option, None, Some, IfSome}
+use Rattle.std.specs.Prelude.{ℕ, ◌≡◌, ◌+◌, ◌<◌, ◌≤◌, ◌++◌, Bool, false, [], ◌∷◌, length, take, Option, None, Some, IfSome}
 use Rattle.partial_model.specs.declared.call.Call.TheVariants as call
 use Rattle.partial_model.specs.declared.call.Answer.TheVariants as answer
 use Rattle.partial_model.specs.declared.call.Note.TheVariants as note
@@ -17,13 +17,14 @@ use Rattle.partial_epochs.specs.Notes.{public_of}
 use Rattle.partial_long_lived.specs.declared.answers.Updated as answers
 use Rattle.partial_long_lived.specs.declared.answers.Updated.TheVariants as ended
 use Rattle.partial_long_lived.specs.declared.error.Refused.{Refused}
-use Rattle.partial_long_lived.specs.declared.error.Refused.TheVariants.{Component}
+use Rattle.partial_long_lived.specs.declared.error.Refused.TheVariants.{Overtaken as IsOvertaken}
 use Rattle.partial_long_lived.specs.declared.stand.Stand.{Stand}
 use Rattle.partial_long_lived.specs.Rule.{Seated, plan_of}
 use Rattle.partial_long_lived.specs.Ports.{seen_in}
 use Rattle.partial_long_lived.specs.Inner.Moves.{BeganBy}
 use Rattle.partial_long_lived.specs.Inner.Calls.{IsIdle, Kept}
-use Rattle.partial_long_lived.specs.Inner.Held.{port_at}
+use Rattle.partial_long_lived.specs.Inner.Changing.{IsCause}
+use Rattle.partial_long_lived.specs.Inner.Held.{epoch_at, port_at}
 use Rattle.partial_long_lived.specs.Inner.Steps.{Goes}
 use Rattle.partial_long_lived.specs.Inner.Loads.{opening_of}
 use Rattle.partial_long_lived.specs.Inner.Machine.{Exchanges}
@@ -114,10 +115,10 @@ pub record MayCall (x : Seated) (core : CoreState) : Type 0 where
   pub rests : RestsUnmarked x core
   pub over : x.port.over ≡ false
 
--- a cause for which a call is refused behind some steps
-abbrev pub IsLate : Refused → Type 0
-IsLate Component = ⊥
-IsLate cause = ⊤
+-- Why an update is refused behind some steps: its port has come to so many later epochs, or the epoch can't be changed.
+abbrev pub IsLate : ℕ → Stand → Refused → Stand → Type 0
+IsLate times s IsOvertaken t = epoch_at s + times ≤ epoch_at t
+IsLate times s cause t = IsCause t cause
 
 -- A part of a call has led the port from the one stand to the other, and the port has noted nothing.
 pub record CameBy (first : Bool) (s t : Stand) : Type 0 where
