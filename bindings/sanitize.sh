@@ -34,9 +34,10 @@ instrument() {
     objcopy --redefine-sym __tsan_memcpy=memcpy --redefine-sym __tsan_memmove=memmove \
         --redefine-sym __tsan_memset=memset "$3"
 }
-# compile SANITIZERS SOURCE LIBRARY OUT: compiles this program in C over an instrumented library.
+# compile SANITIZERS SOURCE LIBRARY OUT: compiles this program in C over an instrumented library, and with it the second
+# file of the test of memories, which others don't call.
 compile() {
-    clang -std=c11 -O1 -g "-fsanitize=$1" -fno-sanitize-recover=undefined -I bindings/c "$2" "$3" \
+    clang -std=c11 -O1 -g "-fsanitize=$1" -fno-sanitize-recover=undefined -I bindings/c "$2" bindings/c/elsewhere.c "$3" \
         "$kit/c/liblibc_c.a" -pthread -o "$4"
 }
 # Whether the thread sanitizer reports a race of this program.

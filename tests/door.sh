@@ -101,7 +101,7 @@ if command -v pkg-config >/dev/null 2>&1; then
 else
     echo "door: skipped: the installed library: there is no pkg-config"
 fi
-item "the C test of memories is compiled" compile "$made/memory_test" bindings/c/memory_test.c
+item "the C test of memories is compiled" compile "$made/memory_test" bindings/c/memory_test.c bindings/c/elsewhere.c
 counts "the C test of memories" "$made/memory_test"
 item "the header is one of C++ too" sh -c 'echo "#include \"partial.h\"" |
     "${CXX:-c++}" -std=c++17 -Wall -Wextra -Werror -I bindings/c -xc++ -fsyntax-only -'
@@ -109,7 +109,7 @@ item "the C test is compiled with the address sanitizer" compile "$made/test_add
     -fsanitize=address,undefined -g
 counts "the C test with the address sanitizer" "$made/test_address"
 item "the C test of memories is compiled with the address sanitizer" compile "$made/memory_address" \
-    bindings/c/memory_test.c -fsanitize=address,undefined -g
+    bindings/c/memory_test.c bindings/c/elsewhere.c -fsanitize=address,undefined -g
 counts "the C test of memories with the address sanitizer" "$made/memory_address"
 item "the example in C is compiled" compile "$made/producers" bindings/c/examples/producers.c
 item "the example in C" "$made/producers" 400000

@@ -168,7 +168,7 @@ static int new_without(long growth)
 {
     partial_memory memory = PARTIAL_EMPTY;
     refuse(growth);
-    uint32_t code = partial_memory_new_with(1, initial, 2, 3, &arena, &memory);
+    uint32_t code = partial_memory_new_with(initial, 2, 3, &arena, &memory);
     refuse(0);
     check(code == 0 || code == PARTIAL_MEMORY, "a memory is made or refused for memory", growth);
     check((code == 0) == (memory.held != NULL), "a refused making leaves the handle empty", growth);
@@ -181,7 +181,7 @@ static int take_long_without(long growth)
     partial_memory memory = PARTIAL_EMPTY;
     partial_port port = PARTIAL_EMPTY;
     partial_read_answer answer = {0, 0};
-    partial_memory_new_with(1, initial, 2, 1, &arena, &memory);
+    partial_memory_new_with(initial, 2, 1, &arena, &memory);
     refuse(growth);
     uint32_t code = partial_memory_take_port(&memory, &port);
     refuse(0);
@@ -201,7 +201,7 @@ static int give_long_without(long growth)
     partial_memory memory = PARTIAL_EMPTY;
     partial_port port = PARTIAL_EMPTY;
     uint64_t values[2] = {0, 0};
-    partial_memory_new_with(1, initial, 2, 1, &arena, &memory);
+    partial_memory_new_with(initial, 2, 1, &arena, &memory);
     partial_memory_take_port(&memory, &port);
     refuse(growth);
     uint32_t code = partial_memory_give_port(&memory, &port);
@@ -219,7 +219,7 @@ static int close_long_without(long growth)
     partial_memory memory = PARTIAL_EMPTY;
     partial_port port = PARTIAL_EMPTY;
     uint64_t values[2] = {5, 5};
-    partial_memory_new_with(1, initial, 2, 2, &arena, &memory);
+    partial_memory_new_with(initial, 2, 2, &arena, &memory);
     refuse(growth);
     uint32_t code = partial_memory_close(&memory, values, 2);
     refuse(0);
@@ -240,7 +240,7 @@ static int free_long_without(long growth)
 {
     partial_memory memory = PARTIAL_EMPTY;
     uint64_t values[2] = {5, 5};
-    partial_memory_new_with(1, initial, 2, 2, &arena, &memory);
+    partial_memory_new_with(initial, 2, 2, &arena, &memory);
     refuse(growth);
     uint32_t code = partial_memory_close(&memory, values, 2);
     refuse(0);

@@ -22,15 +22,17 @@ static void check(int holds, const char *name)
     }
 }
 
+/* In elsewhere.c. */
+uint32_t make_elsewhere(const uint64_t *initial, size_t components, partial_memory *memory);
+
 /* Arenas so small that the epoch changes every few calls. */
 static const partial_arena tiny = {4, 16};
 
 /* Makes a memory, and takes out as many ports as there are handles. */
-static int made(uint64_t number, const uint64_t *initial, size_t components,
-                const partial_arena *arena, partial_memory *memory, partial_port *ports,
-                uint32_t count)
+static int made(const uint64_t *initial, size_t components, const partial_arena *arena,
+                partial_memory *memory, partial_port *ports, uint32_t count)
 {
-    uint32_t code = partial_memory_new_with(number, initial, components, count, arena, memory);
+    uint32_t code = partial_memory_new_with(initial, components, count, arena, memory);
     for (uint32_t k = 0; k < count && code == 0; k++) {
         code = partial_memory_take_port(memory, &ports[count - 1 - k]);
     }
@@ -46,7 +48,7 @@ static void test_example(void)
     partial_update_answer set;
     partial_scan_answer scanned;
     uint64_t into[2];
-    int fine = partial_memory_new(7, initial, 3, 64, &memory) == 0
+    int fine = partial_memory_new(initial, 3, 64, &memory) == 0
         && partial_memory_take_port(&memory, &port) == 0
         && partial_port_update(&port, 0, 11, &set) == 0
         && partial_port_scan(&port, (const uint32_t[]){2, 0}, 2, into, 2, &scanned) == 0;
@@ -61,7 +63,7 @@ static void test_one_port(void)
     const uint64_t initial[2] = {10, 20};
     partial_memory memory = PARTIAL_EMPTY;
     partial_port port = PARTIAL_EMPTY;
-    check(partial_memory_new(1, initial, 2, 1, &memory) == 0, "a memory is made");
+    check(partial_memory_new(initial, 2, 1, &memory) == 0, "a memory is made");
     check(partial_memory_take_port(&memory, &port) == 0, "it has a port");
 
     partial_read_answer before = {0, 0};
@@ -102,16 +104,16 @@ static void test_refused_openings(void)
     partial_memory memory = PARTIAL_EMPTY;
     const partial_arena many_lists = {65537, 16};
     const partial_arena large_pool = {4, 131072};
-    check(partial_memory_new(1, initial, 1, 0, &memory) == PARTIAL_PORT_COUNT, "no port is refused");
-    check(partial_memory_new(1, initial, 0, 65, &memory) == PARTIAL_PORT_COUNT, "65 ports are refused first");
-    check(partial_memory_new(1, initial, 0, 1, &memory) == PARTIAL_COMPONENTS, "no component is refused");
-    check(partial_memory_new(1, initial, 65537, 1, &memory) == PARTIAL_COMPONENTS, "65537 are refused");
-    check(partial_memory_new_with(1, initial, 1, 1, &many_lists, &memory) == PARTIAL_LIST_WORDS, "65537 list words are refused");
-    check(partial_memory_new_with(1, initial, 1, 1, &large_pool, &memory) == PARTIAL_POOL_WORDS, "131072 pool words are refused");
+    check(partial_memory_new(initial, 1, 0, &memory) == PARTIAL_PORT_COUNT, "no port is refused");
+    check(partial_memory_new(initial, 0, 65, &memory) == PARTIAL_PORT_COUNT, "65 ports are refused first");
+    check(partial_memory_new(initial, 0, 1, &memory) == PARTIAL_COMPONENTS, "no component is refused");
+    check(partial_memory_new(initial, 65537, 1, &memory) == PARTIAL_COMPONENTS, "65537 are refused");
+    check(partial_memory_new_with(initial, 1, 1, &many_lists, &memory) == PARTIAL_LIST_WORDS, "65537 list words are refused");
+    check(partial_memory_new_with(initial, 1, 1, &large_pool, &memory) == PARTIAL_POOL_WORDS, "131072 pool words are refused");
     check(memory.held == NULL, "a refused opening leaves the handle empty");
-    check(partial_memory_new(1, initial, 2, 1, &memory) == 0, "a memory is made after refusals");
+    check(partial_memory_new(initial, 2, 1, &memory) == 0, "a memory is made after refusals");
     void *held = memory.held;
-    check(partial_memory_new(2, initial, 2, 1, &memory) == PARTIAL_HOLDS_ONE, "a handle in use is refused");
+    check(partial_memory_new(initial, 2, 1, &memory) == PARTIAL_HOLDS_ONE, "a handle in use is refused");
     check(memory.held == held, "and the handle is as it was");
     partial_memory_free(&memory);
 }
@@ -140,7 +142,7 @@ static void test_refused_calls(void)
 
     partial_memory memory = PARTIAL_EMPTY;
     partial_port port = PARTIAL_EMPTY;
-    check(made(1, initial, 2, &tiny, &memory, &port, 1), "a memory of two components is made");
+    check(made(initial, 2, &tiny, &memory, &port, 1), "a memory of two components is made");
     check(partial_memory_take_port(&memory, &none) == PARTIAL_NONE_HOME, "there is no second port");
     check(partial_memory_take_port(&memory, &port) == PARTIAL_HOLDS_ONE, "a handle in use takes no port");
     check(partial_memory_give_port(&memory, &none) == PARTIAL_HOLDS_NONE, "an empty handle isn't returned");
@@ -171,7 +173,7 @@ static void test_other_kind(void)
     void *at_memory = &memory, *at_port = &port;
     partial_read_answer read = {5, 5};
     check(partial_open(1, initial, 1, &sizes, 2, &opening) == 0 && partial_take_port(&opening, &own) == 0, "an opening opens");
-    check(made(1, initial, 1, &tiny, &memory, &port, 1), "a memory is made beside it");
+    check(made(initial, 1, &tiny, &memory, &port, 1), "a memory is made beside it");
     check(partial_read(at_port, 0, &read) == PARTIAL_HOLDS_NONE, "its port is none of an opening");
     check(partial_port_read(at_own, 0, &read) == PARTIAL_HOLDS_NONE, "and an opening's port is none of a memory");
     check(partial_take_port(at_memory, &none) == PARTIAL_HOLDS_NONE, "a memory is no opening");
@@ -196,8 +198,9 @@ static void test_close(void)
     partial_read_answer read = {0, 0};
     uint64_t values[3] = {5, 5, 5};
     uint32_t numbers[2] = {9, 9};
-    check(made(1, initial, 2, &tiny, &memory, ports, 2), "a memory of two ports is made");
-    check(made(2, initial, 2, &tiny, &other_memory, &other, 1), "another memory is made");
+    check(made(initial, 2, &tiny, &memory, ports, 2), "a memory of two ports is made");
+    check(make_elsewhere(initial, 2, &other_memory) == 0, "another memory is made in another file");
+    check(partial_memory_take_port(&other_memory, &other) == 0, "its port is taken");
     check(partial_port_number(&ports[0], &numbers[0]) == 0 && partial_port_number(&ports[1], &numbers[1]) == 0, "ports have numbers");
     check(numbers[0] == 0 && numbers[1] == 1, "in the order of the memory");
     check(partial_port_update(&ports[0], 0, 11, &set) == 0, "port 0 updates");
@@ -230,11 +233,11 @@ static void test_null(void)
     partial_read_answer read = {0, 0};
     partial_scan_answer scanned = {9, 9, 9};
     uint32_t number = 9;
-    check(partial_memory_new(1, NULL, 1, 1, &memory) == PARTIAL_NULL, "null values are refused");
-    check(partial_memory_new_with(1, initial, 1, 1, NULL, &memory) == PARTIAL_NULL, "null sizes are refused");
-    check(partial_memory_new(1, initial, 1, 1, NULL) == PARTIAL_NULL, "nothing is made at null");
-    check(partial_memory_new(1, NULL, 0, 1, &memory) == PARTIAL_COMPONENTS, "no values may be at null");
-    check(made(1, initial, 1, &tiny, &memory, &port, 1), "a memory is made after null pointers");
+    check(partial_memory_new(NULL, 1, 1, &memory) == PARTIAL_NULL, "null values are refused");
+    check(partial_memory_new_with(initial, 1, 1, NULL, &memory) == PARTIAL_NULL, "null sizes are refused");
+    check(partial_memory_new(initial, 1, 1, NULL) == PARTIAL_NULL, "nothing is made at null");
+    check(partial_memory_new(NULL, 0, 1, &memory) == PARTIAL_COMPONENTS, "no values may be at null");
+    check(made(initial, 1, &tiny, &memory, &port, 1), "a memory is made after null pointers");
     check(partial_memory_take_port(NULL, &spare) == PARTIAL_NULL, "null has no port");
     check(partial_memory_take_port(&memory, NULL) == PARTIAL_NULL, "null takes no port");
     check(partial_memory_give_port(NULL, &port) == PARTIAL_NULL, "a port isn't returned to null");
@@ -313,7 +316,7 @@ static void test_threads(void)
     work works[WRITERS + 1];
     memset(works, 0, sizeof works);
     partial_memory memory = PARTIAL_EMPTY;
-    check(partial_memory_new_with(1, initial, WRITERS, WRITERS + 1, &tiny, &memory) == 0, "a memory for four threads is made");
+    check(partial_memory_new_with(initial, WRITERS, WRITERS + 1, &tiny, &memory) == 0, "a memory for four threads is made");
     int started = 0;
     for (uint32_t k = 0; k <= WRITERS; k++) {
         works[k].component = k;

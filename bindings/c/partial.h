@@ -24,6 +24,9 @@
  * - the functions of this header, which refuse null pointers and call the proved
  *   ones, named `partial_door_`, and the declarations of these here, with their
  *   parameters and the layout of the structs;
+ * - the number that this header gives each `partial_memory`, by a counter that all files
+ *   of a program share. A shared object that hides its symbols has a counter of its own:
+ *   there, ports are used with memories that were made there;
  * - the C compiler, the linker, and `malloc`, `realloc` and `free`.
  *
  * Rules for pointers and handles
@@ -39,9 +42,9 @@
  * - One call at a time uses a handle. It may move to another thread when a lock, the
  *   start or the join of a thread, or a sequentially consistent atomic orders its
  *   calls. Calls on different handles may run side by side.
- * - The number `number` of `partial_memory_new` differs for each `partial_memory` that
- *   exists at a time, and so does `opening` of `partial_open` for each opening. One exists
- *   until its own handle and the handles of all its ports are empty.
+ * - The number `opening` of `partial_open` differs for each opening that exists at a
+ *   time. One exists until its own handle and the handles of all its ports are empty. A
+ *   `partial_memory` gets its number from this header.
  * - No call is made in a signal handler, or in the child of a fork of a process
  *   with threads.
  *
@@ -189,37 +192,38 @@ uint32_t partial_door_port_unchanged(partial_port *port, const uint32_t *which,
 uint32_t partial_door_port_meet(partial_port *first, partial_port *second);
 uint32_t partial_door_port_number(partial_port *port, uint32_t *answer);
 
+/* How many memories were made in this program: the number of the last one. */
+__attribute__((weak)) uint64_t partial_memories_made = 0;
+
 /*
  * Makes a memory that never wears out, in the empty handle `memory`. It has a component
- * for each value in `initial`, and holds `ports` ports, 1 to 64. `number` is a number
- * that the caller picks to tell memories apart: no two that exist at a time have the
- * same. `arena` says how large its arenas are.
+ * for each value in `initial`, and holds `ports` ports, 1 to 64. `arena` says how large
+ * its arenas are.
  *
  * 23: a pointer is null. 18: the handle holds something. 5: there are not 1 to 64 ports.
  * 1: there are not 1 to 65536 values. 3: there are more than 65536 list words. 4: the pool
  * words, with 4 for each port and 2 for each port and component, are more than 131072. 6:
  * an allocation was refused. The handle is as it was.
  */
-static inline uint32_t partial_memory_new_with(uint64_t number, const uint64_t *initial,
-                                               size_t components, uint32_t ports,
-                                               const partial_arena *arena,
+static inline uint32_t partial_memory_new_with(const uint64_t *initial, size_t components,
+                                               uint32_t ports, const partial_arena *arena,
                                                partial_memory *memory)
 {
     const uint64_t none = 0;
     if ((!initial && components) || !arena || !memory) {
         return PARTIAL_NULL;
     }
+    const uint64_t number = __atomic_add_fetch(&partial_memories_made, 1, __ATOMIC_SEQ_CST);
     return partial_door_memory_new(number, initial ? initial : &none, components, ports,
                                    arena, memory);
 }
 
 /* The same, with arenas of 1024 list words and 16384 pool words. */
-static inline uint32_t partial_memory_new(uint64_t number, const uint64_t *initial,
-                                          size_t components, uint32_t ports,
-                                          partial_memory *memory)
+static inline uint32_t partial_memory_new(const uint64_t *initial, size_t components,
+                                          uint32_t ports, partial_memory *memory)
 {
     const partial_arena arena = {1024, 16384};
-    return partial_memory_new_with(number, initial, components, ports, &arena, memory);
+    return partial_memory_new_with(initial, components, ports, &arena, memory);
 }
 
 /*

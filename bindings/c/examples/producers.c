@@ -93,7 +93,7 @@ int main(int count, char **words)
     partial_memory memory = PARTIAL_EMPTY;
     work works[PRODUCERS + 1];
     uint64_t lengths[PRODUCERS] = {0};
-    uint32_t refusal = partial_memory_new(1, initial, PRODUCERS, PRODUCERS + 1, &memory);
+    uint32_t refusal = partial_memory_new(initial, PRODUCERS, PRODUCERS + 1, &memory);
     refusal = refusal != 0 ? refusal : run(&memory, works, turns);
     refusal = refusal != 0 ? refusal : partial_memory_close(&memory, lengths, PRODUCERS);
     partial_memory_free(&memory);
