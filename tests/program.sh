@@ -325,25 +325,24 @@ blames "pipeline: an unknown word" "'more'" more
 helps "pipeline: the help" --stages --items --looks
 
 # lines STAGES ITEMS: in the given lines no count is greater than the one before it, none falls, each lag is the
-# difference of two neighbours, and the last line has that count for each stage, or a lower one where it is no
-# number.
+# difference of two neighbours, and the last line has that count for each stage.
 lines() {
     awk -v stages="$1" -v items="$2" '
         NF != 2 * stages + 1 || ended || ($1 != "counts" && $1 != "last") || $(stages + 2) != "lag" { bad = 1 }
         { for (k = 2; k <= stages + 1; k++) { if ((k > 2 && $k > $(k - 1)) || $k < was[k]) bad = 1; was[k] = $k } }
         { for (k = 3; k <= stages + 1; k++) if ($(k + stages) != $(k - 1) - $k) bad = 1 }
-        $1 == "last" { ended = 1; if (items != "-") for (k = 2; k <= stages + 1; k++) if ($k != items) bad = 1 }
+        $1 == "last" { ended = 1; for (k = 2; k <= stages + 1; k++) if ($k != items) bad = 1 }
         END { exit bad || !ended }
     ' "$room/given-out"
 }
 
-# shows NAME STATUS STAGES ITEMS TEXT WORD..: the lines of such a pipeline, with this text on standard error.
+# shows NAME STAGES ITEMS WORD..: the lines of such a pipeline, which ends with all items.
 shows() {
-    local name=$1 status=$2 stages=$3 items=$4 text=$5 given
-    shift 5
-    "$program" --stages "$stages" "$@" >"$room/given-out" 2>"$room/given-err"
+    local name=$1 stages=$2 items=$3 given
+    shift 3
+    "$program" --stages "$stages" --items "$items" "$@" >"$room/given-out" 2>"$room/given-err"
     given=$?
-    if [ "$given" -eq "$status" ] && lines "$stages" "$items" && [ "$(cat "$room/given-err")" = "$text" ]; then
+    if [ "$given" -eq 0 ] && lines "$stages" "$items" && [ ! -s "$room/given-err" ]; then
         passed=$((passed + 1))
     else
         failed=$((failed + 1))
@@ -351,10 +350,10 @@ shows() {
         head -n 40 "$room/given-out" "$room/given-err"
     fi
 }
-shows "pipeline: two stages" 0 2 3000 "" --items 3000 --looks 300
-shows "pipeline: eight stages" 0 8 2000 "" --items 2000
-shows "pipeline: 63 stages" 0 63 50 "" --items 50 --looks 100
-shows "pipeline: a spent pool" 1 2 - "pipeline: pool spent" --items 18446744073709551615 --looks 50
+shows "pipeline: two stages" 2 3000 --looks 300
+shows "pipeline: eight stages" 8 2000
+shows "pipeline: 63 stages" 63 50 --looks 100
+shows "pipeline: many epochs" 2 100000 --looks 50
 program=$partial
 
 # The program `picture`: PICTURE may name a built one.

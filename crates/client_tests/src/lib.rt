@@ -1,4 +1,4 @@
-//! Tests of the clients of the running memory. They use what these crates offer, so that each is proved without
+//! Tests of the pipeline, a client of the long-lived memory. They use what it offers, so that it is proved without
 //! them.
 #![tactic(auto)]
 

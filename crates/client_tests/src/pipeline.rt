@@ -4,8 +4,18 @@ mod examples;
 mod growths;
 mod pipelines;
 
-use partial_pipeline::PipelineReport;
+use partial_pipeline::{Options, Pipeline, PipelineReport};
 use std::process::Abort;
+
+/// A pipeline over arenas of the default size.
+fn sized(stages: u32, items: u64, looks: usize) -> Pipeline {
+    Pipeline {
+        stages,
+        items,
+        looks,
+        options: Options::default(),
+    }
+}
 
 /// Whether no count is greater than the one before it.
 fn is_ordered(counts: &[u64]) -> bool {

@@ -21,12 +21,10 @@ use Rattle.partial_model.proofs.Entries.{noted_at}
 use Rattle.partial_model.proofs.NotesLemmas.{AllByRecursion-get, LegalNotes-last}
 use Rattle.partial_model.proofs.Values.{element_at}
 use Rattle.partial_model.proofs.AllLemmas.{all_where}
-use Rattle.partial_memory.specs.Closing.{Closes, IsPortOf}
-use Rattle.partial_memory.specs.Noting.{NotesMore}
-use Rattle.partial_memory.specs.Ports.{IsOf, MemoryView, PortView}
-use Rattle.partial_memory.specs.declared.closed.Closed.{Closed}
+use Rattle.partial_long_lived.specs.Closing.{Closes, IsPortOf}
+use Rattle.partial_long_lived.specs.Ports.{IsOf, MemoryView, PortView}
 use Rattle.partial_pipeline.specs.Pipeline.{AreFrom, AreOrdered, HaveEnded, HaveRisen, IsOrderly, IsPipeline, IsStageIn, NeverFall, last_of}
-use Rattle.partial_pipeline.specs.Stages.{EndEach, HasMet, IsEachStage, Opens, Sees, Watched}
+use Rattle.partial_pipeline.specs.Stages.{EndEach, HasMet, IsEachStage, NotesMore, Opens, Sees, Watched}
 use Rattle.partial_pipeline.specs.declared.stage.StageEnd.{StageEnd}
 use Rattle.partial_pipeline.specs.declared.stage.StageEnd.TheVariants.{Finished}
 use Rattle.partial_pipeline.proofs.Pipes.{counts_never_fall, counts_stay_ordered, stage_value}
@@ -184,9 +182,9 @@ stages_within m log seen k (p ∷ ports) i e w told s from below = elim (cases_l
 ]
 
 -- what is known of a closed pipeline
-module _ (m : MemoryView) (p q : PortView) (ports : List PortView) (stages : List ℕ) (scans : Vec (Vec ℕ Global) Global) (last : Option (Vec ℕ Global)) (closed : Closed) (opens : Opens m)
+module _ (m : MemoryView) (p q : PortView) (ports : List PortView) (stages : List ℕ) (scans : Vec (Vec ℕ Global) Global) (last : Option (Vec ℕ Global)) (closed : Vec ℕ Global) (opens : Opens m)
     (met : AreFrom (HasMet m (length p.seen)) 0 ports) (count : length ports ≡ m.about.sizes.m) (own : IsOf m q) (number : q.number ≡ m.about.sizes.m) (all : IsEachStage m.about.sizes.m stages)
-    (watched : Watched stages p.notes (map (λ (v : Vec ℕ Global). v.items) scans.items)) (sees : LastSees p stages q last) (closes : Closes m (q ∷ ports) closed) where
+    (watched : Watched stages p.notes (map (λ (v : Vec ℕ Global). v.items) scans.items)) (sees : LastSees p stages q last) (closes : Closes m (q ∷ ports) closed.items) where
   abbrev o : Opening
   o = m.about.opening
 
@@ -237,24 +235,24 @@ module _ (m : MemoryView) (p q : PortView) (ports : List PortView) (stages : Lis
         absurd (omega arith)
   ]
 
-  closed_counts : AreCounts o log m.about.sizes.m (length log) closed.values.items
+  closed_counts : AreCounts o log m.about.sizes.m (length log) closed.items
   closed_counts =
       record {
-        many = closes.values.count ∙ opens.values;
-        each = λ k below. closes.values.each k (omega (arith, opens.values)) ∙ ap (λ (l : List Applied). value_of o l k) (sym (take_all (length log) log (omega arith)));
+        many = closes.last.count ∙ opens.values;
+        each = λ k below. closes.last.each k (omega (arith, opens.values)) ∙ ap (λ (l : List Applied). value_of o l k) (sym (take_all (length log) log (omega arith)));
       }
 
-  sees_closed : (counts : Vec ℕ Global) → Sees p stages counts.items q → counts.items ≡ closed.values.items
+  sees_closed : (counts : Vec ℕ Global) → Sees p stages counts.items q → counts.items ≡ closed.items
   sees_closed counts s =
       let n : Noted = record { call = call.Scan stages; answer = answer.Scanned counts.items s.collects s.borrowed; note = Some (note.Saw s.place) } in
       let one : IsLegal o log m.about.sizes.m (seen_by 0 p.notes) n = LegalNotes-last o log m.about.sizes.m 0 p.notes n (subst (LegalNotes o log m.about.sizes.m 0) s.goes.notes legal) in
       let got = scan_saw o log m.about.sizes.m m.about.sizes.m (seen_by 0 p.notes) stages counts.items s.collects s.borrowed (Some (note.Saw s.place)) all one in
       let place : s.place ≡ got.0 = got.4 in
       let end : got.0 ≡ length log = omega (arith, got.2, ends_within got.0 (omega (arith, place, s.behind))) in
-      same_counts o log m.about.sizes.m (length log) counts.items closed.values.items (subst (λ i. AreCounts o log m.about.sizes.m i counts.items) end got.3) closed_counts
+      same_counts o log m.about.sizes.m (length log) counts.items closed.items (subst (λ i. AreCounts o log m.about.sizes.m i counts.items) end got.3) closed_counts
 
-  saw : Saw o log m.about.sizes.m 0 ((ss ++ last_of last) ++ closed.values.items ∷ [])
-  saw = saw_push o log m.about.sizes.m 0 (ss ++ last_of last) closed.values.items (omega arith)
+  saw : Saw o log m.about.sizes.m 0 ((ss ++ last_of last) ++ closed.items ∷ [])
+  saw = saw_push o log m.about.sizes.m 0 (ss ++ last_of last) closed.items (omega arith)
       (watched_saw o log m.about.sizes.m m.about.sizes.m 0 stages q.notes (ss ++ last_of last) all all_watched legal) closed_counts
 
 last_is : (p q : PortView) (stages counts : List ℕ) (last : Option (Vec ℕ Global)) → ((v : Vec ℕ Global) → Sees p stages v.items q → v.items ≡ counts) → LastSees p stages q last →
@@ -262,25 +260,25 @@ last_is : (p q : PortView) (stages counts : List ℕ) (last : Option (Vec ℕ Gl
 last_is p q stages counts None f w = tt
 last_is p q stages counts (Some v) f w = f v w
 
-pub orderly : (m : MemoryView) (p q : PortView) (ports : List PortView) (stages : List ℕ) (scans : Vec (Vec ℕ Global) Global) (last : Option (Vec ℕ Global)) (closed : Closed)
+pub orderly : (m : MemoryView) (p q : PortView) (ports : List PortView) (stages : List ℕ) (scans : Vec (Vec ℕ Global) Global) (last : Option (Vec ℕ Global)) (closed : Vec ℕ Global)
     (ends : Vec StageEnd Global) → Opens m → AreFrom (HasMet m (length p.seen)) 0 ports → length ports ≡ m.about.sizes.m → IsOf m q → q.number ≡ m.about.sizes.m → IsEachStage m.about.sizes.m stages →
-    Watched stages p.notes (map (λ (v : Vec ℕ Global). v.items) scans.items) → LastSees p stages q last → Closes m (q ∷ ports) closed →
-    IsOrderly m.about.sizes.m (record { scans = scans; last = last; counts = closed.values; ends = ends })
+    Watched stages p.notes (map (λ (v : Vec ℕ Global). v.items) scans.items) → LastSees p stages q last → Closes m (q ∷ ports) closed.items →
+    IsOrderly m.about.sizes.m (record { scans = scans; last = last; counts = closed; ends = ends })
 orderly m p q ports stages scans last closed ends opens met count own number all watched sees closes =
     let o = m.about.opening in
     let log = closes.log in
-    let seen : Saw o log m.about.sizes.m 0 ((map (λ (v : Vec ℕ Global). v.items) scans.items ++ last_of last) ++ closed.values.items ∷ []) =
+    let seen : Saw o log m.about.sizes.m 0 ((map (λ (v : Vec ℕ Global). v.items) scans.items ++ last_of last) ++ closed.items ∷ []) =
     saw m p q ports stages scans last closed opens met count own number all watched sees closes in
     let line = pipeline m p q ports stages scans last closed opens met count own number all watched sees closes in
     let notes : List (List Noted) = map (λ (x : PortView). x.notes) ports in
     let many : m.about.sizes.m ≡ length notes = sym (length-map ports (λ (x : PortView). x.notes) ∙ count) in
-    let here : Saw o log (length notes) 0 ((map (λ (v : Vec ℕ Global). v.items) scans.items ++ last_of last) ++ closed.values.items ∷ []) =
-    subst (λ n. Saw o log n 0 ((map (λ (v : Vec ℕ Global). v.items) scans.items ++ last_of last) ++ closed.values.items ∷ [])) many seen in
+    let here : Saw o log (length notes) 0 ((map (λ (v : Vec ℕ Global). v.items) scans.items ++ last_of last) ++ closed.items ∷ []) =
+    subst (λ n. Saw o log n 0 ((map (λ (v : Vec ℕ Global). v.items) scans.items ++ last_of last) ++ closed.items ∷ [])) many seen in
     record {
-      each = saw_many o log m.about.sizes.m 0 ((map (λ (v : Vec ℕ Global). v.items) scans.items ++ last_of last) ++ closed.values.items ∷ []) seen;
-      ordered = saw_ordered o log notes line 0 ((map (λ (v : Vec ℕ Global). v.items) scans.items ++ last_of last) ++ closed.values.items ∷ []) here;
-      rising = saw_rising o log notes line 0 ((map (λ (v : Vec ℕ Global). v.items) scans.items ++ last_of last) ++ closed.values.items ∷ []) here;
-      last = last_is p q stages closed.values.items last (sees_closed m p q ports stages scans last closed opens met count own number all watched sees closes) sees;
+      each = saw_many o log m.about.sizes.m 0 ((map (λ (v : Vec ℕ Global). v.items) scans.items ++ last_of last) ++ closed.items ∷ []) seen;
+      ordered = saw_ordered o log notes line 0 ((map (λ (v : Vec ℕ Global). v.items) scans.items ++ last_of last) ++ closed.items ∷ []) here;
+      rising = saw_rising o log notes line 0 ((map (λ (v : Vec ℕ Global). v.items) scans.items ++ last_of last) ++ closed.items ∷ []) here;
+      last = last_is p q stages closed.items last (sees_closed m p q ports stages scans last closed opens met count own number all watched sees closes) sees;
     }
 
 -- ---- the ends
@@ -300,26 +298,26 @@ ends_told o h stages w items k (p ∷ ps) (x ∷ xs) s e (suc i) below =
     let rest = ends_told o h stages w items (k + 1) ps xs s.1 e.1 i (omega arith) in
     subst (λ n. (value_of o h n ≤ items) × (slice_get xs i ≡ Some Finished → value_of o h n ≡ items)) same rest
 
-pub ended : (m : MemoryView) (p q : PortView) (ports : List PortView) (stages : List ℕ) (scans : Vec (Vec ℕ Global) Global) (last : Option (Vec ℕ Global)) (closed : Closed)
+pub ended : (m : MemoryView) (p q : PortView) (ports : List PortView) (stages : List ℕ) (scans : Vec (Vec ℕ Global) Global) (last : Option (Vec ℕ Global)) (closed : Vec ℕ Global)
     (ends : Vec StageEnd Global) (items : ℕ) → Opens m → AreFrom (HasMet m (length p.seen)) 0 ports → length ports ≡ m.about.sizes.m → IsOf m q → q.number ≡ m.about.sizes.m →
-    IsEachStage m.about.sizes.m stages → Watched stages p.notes (map (λ (v : Vec ℕ Global). v.items) scans.items) → LastSees p stages q last → Closes m (q ∷ ports) closed →
-    EndEach items 0 ports ends.items → HaveEnded m.about.sizes.m items (record { scans = scans; last = last; counts = closed.values; ends = ends })
+    IsEachStage m.about.sizes.m stages → Watched stages p.notes (map (λ (v : Vec ℕ Global). v.items) scans.items) → LastSees p stages q last → Closes m (q ∷ ports) closed.items →
+    EndEach items 0 ports ends.items → HaveEnded m.about.sizes.m items (record { scans = scans; last = last; counts = closed; ends = ends })
 ended m p q ports stages scans last closed ends items opens met count own number all watched sees closes each =
     let o = m.about.opening in
     let log = closes.log in
     let line = pipeline m p q ports stages scans last closed opens met count own number all watched sees closes in
     let notes : List (List Noted) = map (λ (x : PortView). x.notes) ports in
     let told = ends_told o log notes line items 0 ports ends.items (stages_in m log (length p.seen) 0 ports met closes.each.1) each in
-    let value : (k : ℕ) → k < m.about.sizes.m → slice_index closed.values.items k ≡ value_of o log k = λ k below. closes.values.each k (omega (arith, opens.values)) in
+    let value : (k : ℕ) → k < m.about.sizes.m → slice_index closed.items k ≡ value_of o log k = λ k below. closes.last.each k (omega (arith, opens.values)) in
     record {
       many = ends_many items 0 ports ends.items each ∙ count;
       most = λ k below.
           let same : k ≡ 0 + k = omega arith in
-          let is : slice_index closed.values.items k ≡ value_of o log (0 + k) = subst (λ n. slice_index closed.values.items k ≡ value_of o log n) same (value k below) in
+          let is : slice_index closed.items k ≡ value_of o log (0 + k) = subst (λ n. slice_index closed.items k ≡ value_of o log n) same (value k below) in
           let most = (told k (omega (arith, count))).0 in
           omega (arith, is, most);
       finished = λ k below f.
           let same : k ≡ 0 + k = omega arith in
-          let is : slice_index closed.values.items k ≡ value_of o log (0 + k) = subst (λ n. slice_index closed.values.items k ≡ value_of o log n) same (value k below) in
+          let is : slice_index closed.items k ≡ value_of o log (0 + k) = subst (λ n. slice_index closed.items k ≡ value_of o log n) same (value k below) in
           is ∙ (told k (omega (arith, count))).1 f;
     }

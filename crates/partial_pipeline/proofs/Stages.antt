@@ -1,5 +1,5 @@
 -- One call more of a stage, of the monitor, and a meeting.
-use Rattle.std.proofs.Common.{ℕ, zero, suc, ◌≡◌, ◌+◌, ◌<◌, ◌≤◌, ◌++◌, List, [], ◌∷◌, length, map, take, get_or, refl, sym, ◌∙◌, ap, subst, inl, inr, Option, Some, append-nil, append_assoc, arith}
+use Rattle.std.proofs.Common.{ℕ, zero, suc, ◌≡◌, ◌+◌, ◌<◌, ◌≤◌, ◌++◌, List, [], ◌∷◌, length, map, take, get_or, slice_index, refl, sym, ◌∙◌, ap, subst, inl, inr, Option, Some, append-nil, append_assoc, length-take, arith}
 use Rattle.std.specs.List.{AllByRecursion}
 use Rattle.partial_model.specs.declared.history.Applied.{Applied}
 use Rattle.partial_model.specs.declared.history.Opening.{Opening}
@@ -9,25 +9,69 @@ use Rattle.partial_model.specs.declared.call.Answer.{Answer}
 use Rattle.partial_model.specs.declared.call.Answer.TheVariants as answer
 use Rattle.partial_model.specs.declared.call.Note.{Note}
 use Rattle.partial_model.specs.declared.call.Note.TheVariants as note
-use Rattle.partial_model.specs.declared.call.Refused.{Refused}
-use Rattle.partial_model.specs.Notes.{Noted, LegalNotes, seen_after}
+use Rattle.partial_model.specs.Notes.{NamesComponents, Noted, LegalNotes, seen_after}
 use Rattle.partial_model.specs.Entries.{applied_by, entry_of}
 use Rattle.partial_model.specs.Outcome.{places_written, wrote}
 use Rattle.partial_model.proofs.AllLemmas.{all_append, all_weaker}
 use Rattle.partial_model.proofs.WalkLaws.{true_within}
-use Rattle.partial_memory.specs.declared.answers.Updated.{Updated}
-use Rattle.partial_memory.specs.declared.answers.Updated.TheVariants.{Applied as IsApplied, Lost}
-use Rattle.partial_memory.specs.Calls.{Scanned, Updates, Reads, Scans, Meets}
-use Rattle.partial_memory.specs.Noting.{NotesMore}
-use Rattle.partial_memory.specs.Ports.{IsOf, IsRefused, MemoryView, PortView}
-use Rattle.partial_memory.proofs.Laws.{calls_note_once}
+use Rattle.partial_long_lived.specs.declared.answers.Updated.{Updated}
+use Rattle.partial_long_lived.specs.declared.answers.Updated.TheVariants.{Applied as IsApplied, Lost}
+use Rattle.partial_long_lived.specs.declared.error.Refused.{Refused}
+use Rattle.partial_long_lived.specs.declared.error.Refused.TheVariants as refused
+use Rattle.partial_long_lived.specs.Calls.{Goes, IsRefused, Meets, Reads, Scanned, Scans, Updates}
+use Rattle.partial_long_lived.specs.Ports.{IsOf, Knows, MemoryView, PortView}
 use Rattle.partial_pipeline.specs.Pipeline.{AreFrom, HasWorked, Works}
 use Rattle.partial_pipeline.proofs.Pipes.{read_makes_none}
-use Rattle.partial_pipeline.specs.Stages.{EndEach, EndsAt, HasMet, IsDone, IsWorking, Sees, Watched, last_value, published}
+use Rattle.partial_pipeline.specs.Stages.{EndEach, EndsAt, HasMet, IsDone, IsEachStage, IsWorking, NotesMore, Sees, Watched, last_value, published}
 use Rattle.partial_pipeline.specs.declared.stage.Stage.{Stage}
 use Rattle.partial_pipeline.specs.declared.stage.StageEnd.{StageEnd}
 use Rattle.partial_pipeline.specs.declared.stage.StageEnd.TheVariants.{Finished}
 use Rattle.partial_pipeline.specs.declared.stage.Worked.{Worked}
+
+-- ---- what a call leaves of its port
+
+begins_within : {A : Type 0} (xs ys : List A) → xs ≡ take (length xs) ys → length xs ≤ length ys
+begins_within xs ys is =
+    let short = ap length is ∙ length-take (length xs) ys in
+    omega (arith, short)
+
+pub goes_more : (p q : PortView) (new : List Noted) → Goes p q new → NotesMore p q new
+goes_more p q new w = record { memory = w.memory; number = w.number; seen = begins_within p.seen q.seen w.seen; notes = w.notes }
+
+-- a call that left the port as it was
+pub stays : (p q : PortView) → q ≡ p → NotesMore p q []
+stays p q is = subst (λ (x : PortView). NotesMore p x []) (sym is) (record { memory = refl; number = refl; seen = omega arith; notes = sym (append-nil p.notes) })
+
+-- calls behind some that noted nothing
+pub then_more : (p x q : PortView) (new : List Noted) → NotesMore p x [] → NotesMore x q new → NotesMore p q new
+then_more p x q new w v =
+    record {
+      memory = v.memory ∙ w.memory;
+      number = v.number ∙ w.number;
+      seen = omega (arith, w.seen, v.seen);
+      notes = v.notes ∙ ap (λ (l : List Noted). l ++ new) (w.notes ∙ append-nil p.notes);
+    }
+
+-- an update that was refused
+pub update_refused : (p q : PortView) (j v : ℕ) (cause : Refused) → IsRefused p (call.Update j v) cause q → NotesMore p q []
+update_refused p q j v refused.Component w = stays p q w.1
+update_refused p q j v refused.Overtaken w = goes_more p q [] w.1
+update_refused p q j v refused.NoArena w = goes_more p q [] w.1
+update_refused p q j v refused.EpochsSpent w = goes_more p q [] w.1
+
+-- a read that was refused
+pub read_refused : (p q : PortView) (j : ℕ) (cause : Refused) → IsRefused p (call.Read j) cause q → NotesMore p q []
+read_refused p q j refused.Component w = stays p q w.1
+read_refused p q j refused.Overtaken w = absurd w
+read_refused p q j refused.NoArena w = absurd w
+read_refused p q j refused.EpochsSpent w = absurd w
+
+-- a scan that was refused
+pub scan_refused : (p q : PortView) (js : List ℕ) (cause : Refused) → IsRefused p (call.Scan js) cause q → NotesMore p q []
+scan_refused p q js refused.Component w = stays p q w.1
+scan_refused p q js refused.Overtaken w = absurd w
+scan_refused p q js refused.NoArena w = goes_more p q [] w.1
+scan_refused p q js refused.EpochsSpent w = goes_more p q [] w.1
 
 -- ---- the notes of a stage
 
@@ -75,6 +119,7 @@ works_on m x q w own n =
     let number : x.port.number ≡ q.number = sym n.number in
     record {
       own = own;
+      inside = subst (λ i. i < m.about.sizes.m) number w.inside;
       from = w.from;
       none = λ some. w.none (subst (λ i. 0 < i) n.number some);
       tried = w.tried;
@@ -85,28 +130,26 @@ works_on m x q w own n =
       all = λ zero. w.all (number ∙ zero);
     }
 
-pub works_refused : (m : MemoryView) (x : Stage) (q : PortView) (c : Call) (cause : Refused) → IsWorking m x → IsOf m q → IsRefused x.port c cause q →
-    IsWorking m (record { port = q; items = x.items; seen = x.seen; count = x.count })
-works_refused m x q c cause w own refused = works_on m x q w own (calls_note_once.refused x.port q c cause refused)
-
 -- a stage that has read the count of the stage before
 pub works_look : (m : MemoryView) (x : Stage) (q : PortView) (j v s : ℕ) → IsWorking m x → IsOf m q → x.port.number ≡ j + 1 → Reads x.port j v s q →
     IsWorking m (record { port = q; items = x.items; seen = v; count = x.count })
 works_look m x q j v s w own is reads =
-    let n = calls_note_once.read x.port q j v s reads in
-    let number : x.port.number ≡ q.number = sym n.1.number in
-    let noted : Noted = record { call = call.Read j; answer = answer.Read v s; note = Some n.0 } in
+    let goes = reads.1.goes in
+    let place : Note = note.Saw reads.0 in
+    let number : x.port.number ≡ q.number = sym goes.number in
+    let noted : Noted = record { call = call.Read j; answer = answer.Read v s; note = Some place } in
     let before : Works q.number w.from 0 x.port.notes x.seen w.tried = subst (λ i. Works i w.from 0 x.port.notes x.seen w.tried) number w.works in
     let none : published x.port.number (x.port.notes ++ noted ∷ []) ≡ published x.port.number x.port.notes =
-    published_push x.port.number x.port.notes noted ∙ ap (last_value (published x.port.number x.port.notes)) (read_makes_none x.port.number j (Some n.0) (answer.Read v s)) in
-    let held : published x.port.number q.notes ≡ x.count = ap (published x.port.number) n.1.notes ∙ none ∙ w.held in
+    published_push x.port.number x.port.notes noted ∙ ap (last_value (published x.port.number x.port.notes)) (read_makes_none x.port.number j (Some place) (answer.Read v s)) in
+    let held : published x.port.number q.notes ≡ x.count = ap (published x.port.number) goes.notes ∙ none ∙ w.held in
     record {
       own = own;
+      inside = subst (λ i. i < m.about.sizes.m) number w.inside;
       from = w.from;
-      none = λ some. w.none (subst (λ i. 0 < i) n.1.number some);
+      none = λ some. w.none (subst (λ i. 0 < i) goes.number some);
       tried = w.tried;
-      works = subst (λ ns. Works q.number w.from 0 ns v w.tried) (sym n.1.notes)
-          (works_read q.number w.from 0 x.port.notes x.seen w.tried j v s noted before (n.1.number ∙ is) refl refl);
+      works = subst (λ ns. Works q.number w.from 0 ns v w.tried) (sym goes.notes)
+          (works_read q.number w.from 0 x.port.notes x.seen w.tried j v s noted before (goes.number ∙ is) refl refl);
       next = w.next;
       held = subst (λ i. published i q.notes ≡ x.count) number held;
       most = w.most;
@@ -125,6 +168,7 @@ works_tried m x q v count n w own number notes set next most all near gives =
     ∙ ap (λ d. last_value d (entry_of x.port.number n.note n.call n.answer)) w.held ∙ gives in
     record {
       own = own;
+      inside = subst (λ i. i < m.about.sizes.m) before w.inside;
       from = w.from;
       none = λ some. w.none (subst (λ i. 0 < i) number some);
       tried = v;
@@ -150,22 +194,24 @@ works_lost m x q v by w own next most updates =
     works_tried m x q v x.count noted w own updates.1.goes.number updates.1.goes.notes refl next most w.most (omega (arith, next)) refl
 
 pub number_read : (p q : PortView) (j v s : ℕ) → Reads p j v s q → q.number ≡ p.number
-number_read p q j v s w = (calls_note_once.read p q j v s w).1.number
+number_read p q j v s w = w.1.goes.number
 
 pub number_update : (p q : PortView) (j v : ℕ) (u : Updated) → Updates p j v u q → q.number ≡ p.number
-number_update p q j v u w = (calls_note_once.update p q j v u w).1.number
-
-pub number_refused : (p q : PortView) (c : Call) (cause : Refused) → IsRefused p c cause q → q.number ≡ p.number
-number_refused p q c cause w = (calls_note_once.refused p q c cause w).number
+number_update p q j v (IsApplied s) w = w.1.goes.number
+number_update p q j v (Lost by) w = w.1.goes.number
 
 -- a stage that has ended
-pub is_done : (m : MemoryView) (x : Stage) (k : ℕ) (w : Worked) → IsWorking m x → x.port.number ≡ k → w.port ≡ x.port → (w.end ≡ Finished → x.count ≡ x.items) → IsDone m x.items k w
-is_done m x k w working number same finished =
-    let worked : HasWorked k x.port.notes = subst (λ i. HasWorked i x.port.notes) number (record { from = working.from; read = x.seen; count = working.tried; none = working.none; works = working.works }) in
+pub is_done : (m : MemoryView) (x : Stage) (k : ℕ) (w : Worked) → IsWorking m x → Knows x.port.memory.about x.port.number x.port.seen x.port.notes → x.port.number ≡ k → w.port ≡ x.port →
+    (w.end ≡ Finished → x.count ≡ x.items) → IsDone m x.items k w
+is_done m x k w working knows number same finished =
+    let all : HasWorked x.port.number x.port.notes =
+    record { from = working.from; read = x.seen; count = working.tried; none = working.none; works = working.works } in
+    let worked : HasWorked k x.port.notes = subst (λ i. HasWorked i x.port.notes) number all in
     let held : published k x.port.notes ≡ x.count = subst (λ i. published i x.port.notes ≡ x.count) number working.held in
     let ended : EndsAt x.items k x.port.notes w.end = record { most = omega (arith, held, working.most); finished = λ is. held ∙ finished is } in
     record {
       own = subst (IsOf m) (sym same) working.own;
+      knows = subst (λ (p : PortView). Knows p.memory.about p.number p.seen p.notes) (sym same) knows;
       number = ap (λ (p : PortView). p.number) same ∙ number;
       worked = subst (λ (p : PortView). HasWorked k p.notes) (sym same) worked;
       ended = subst (λ (p : PortView). EndsAt x.items k p.notes w.end) (sym same) ended;
@@ -194,16 +240,43 @@ watched_sees p q stages counts ss w s =
 pub sees_scan : (p q : PortView) (stages counts : List ℕ) (s : Scanned) → 0 < length stages → length counts ≡ length stages → Scans p stages counts s q → Sees p stages counts q
 sees_scan p q [] counts s some each w = absurd (omega arith)
 sees_scan p q (j ∷ js) counts s some each w =
-    let first = w.1.counts.first in
-    let behind = w.1.behind in
     record {
       place = w.0;
       collects = s.collects;
       borrowed = s.borrowed;
-      goes = record { memory = w.1.goes.memory; number = w.1.goes.number; notes = w.1.goes.notes };
-      behind = omega (arith, first, behind);
+      goes = goes_more p q _ w.1.goes;
+      behind = w.1.behind;
       each = each;
     }
+
+-- a scan behind some that were refused
+pub sees_then : (p x q : PortView) (stages counts : List ℕ) → NotesMore p x [] → Sees x stages counts q → Sees p stages counts q
+sees_then p x q stages counts w s =
+    record {
+      place = s.place;
+      collects = s.collects;
+      borrowed = s.borrowed;
+      goes = then_more p x q _ w s.goes;
+      behind = omega (arith, w.seen, s.behind);
+      each = s.each;
+    }
+
+-- no scan of all stages names a component that isn't there, and none is overtaken
+pub scan_is_inside : (m : MemoryView) (p q : PortView) (js : List ℕ) → IsOf m p → IsEachStage m.about.sizes.m js → IsRefused p (call.Scan js) refused.Component q → ⊥
+scan_is_inside m p q js own all w =
+    let named : NamesComponents m.about.sizes.m (call.Scan js) = all_index m.about.sizes.m js (λ i below.
+    let here : i < m.about.sizes.m = omega (arith, all.count) in
+    let is = all.each i here in
+    omega arith) in
+    w.0 (subst (λ (v : MemoryView). NamesComponents v.about.sizes.m (call.Scan js)) (sym own) named)
+  where
+    all_index : (n : ℕ) (xs : List ℕ) → ((i : ℕ) → i < length xs → slice_index xs i < n) → AllByRecursion (λ j. j < n) xs
+    all_index n [] f = tt
+    all_index n (x ∷ xs) f = (f 0 (omega arith), all_index n xs (λ i below. f (suc i) (omega arith)))
+
+-- no update of a stage names a component that isn't there
+pub update_is_inside : (m : MemoryView) (p q : PortView) (j v : ℕ) → IsOf m p → j < m.about.sizes.m → IsRefused p (call.Update j v) refused.Component q → ⊥
+update_is_inside m p q j v own below w = w.0 (subst (λ (x : MemoryView). j < x.about.sizes.m) (sym own) below, tt)
 
 -- ---- meetings
 
@@ -220,29 +293,22 @@ written_within o h p seen [] w = tt
 written_within o h p seen (n ∷ ns) w =
     all_append (λ i. i < length h) (wrote n.note) (places_written ns) (note_within o h p n.call n.answer n.note seen (w.0, tt)) (written_within o h p (seen_after seen n.note) ns w.1)
 
-take_within : {A : Type 0} (n : ℕ) (xs : List A) → length (take n xs) ≤ length xs
-take_within zero xs = omega arith
-take_within (suc n) [] = omega arith
-take_within (suc n) (x ∷ xs) = let rest = take_within n xs in omega arith
-
 pub seen_grows : (a b c d : PortView) → Meets a b c d → length a.seen ≤ length c.seen
-seen_grows a b c d w =
-    let seen : length c.seen ≡ length w.log = ap (λ (p : PortView). length p.seen) w.first in
-    let short = take_within (length a.seen) w.log in
-    omega (arith, ap length w.first_seen)
-
-both_seen : (a b c d : PortView) → Meets a b c d → length d.seen ≡ length c.seen
-both_seen a b c d w = ap (λ (p : PortView). length p.seen) w.second ∙ sym (ap (λ (p : PortView). length p.seen) w.first)
+seen_grows a b c d w = begins_within a.seen c.seen w.first.seen
 
 -- a stage that has ended meets the monitor
-pub has_met : (m : MemoryView) (k : ℕ) (a b c d : PortView) → IsOf m d → b.number ≡ k → HasWorked k b.notes → Meets a b c d → HasMet m (length c.seen) k d
-has_met m k a b c d own number worked w =
-    let n = (calls_note_once.meet a b c d w).1 in
+pub has_met : (m : MemoryView) (k : ℕ) (a b c d : PortView) → IsOf m d → Knows b.memory.about b.number b.seen b.notes → b.number ≡ k → HasWorked k b.notes →
+    Meets a b c d → HasMet m (length c.seen) k d
+has_met m k a b c d own knows number worked w =
+    let n = goes_more b d [] w.second in
+    let more = begins_within b.seen c.seen w.first_all in
+    let before = written_within b.memory.about.opening b.seen b.number 0 b.notes knows.legal in
+    let within = all_weaker (λ i. i < length b.seen) (λ i. i < length c.seen) (λ i below. omega arith) (places_written b.notes) before in
     record {
       own = own;
       number = n.number ∙ number;
       worked = none_more (HasWorked k) b d n worked;
-      within = subst (λ l. AllByRecursion (λ i. i < l) (places_written d.notes)) (both_seen a b c d w) (written_within d.memory.about.opening d.seen d.number 0 d.notes w.second_knows.legal);
+      within = none_more (λ ns. AllByRecursion (λ i. i < length c.seen) (places_written ns)) b d n within;
     }
 
 met_still : (m : MemoryView) (s t k : ℕ) (p : PortView) → s ≤ t → HasMet m s k p → HasMet m t k p

@@ -1,5 +1,5 @@
 -- The monitor: one scan more, and a meeting. And the threads of the stages.
-use Rattle.std.proofs.Common.{ℕ, zero, suc, ◌≡◌, ◌+◌, ◌<◌, ◌≤◌, ◌++◌, List, [], ◌∷◌, length, map, get_or, refl, sym, ◌∙◌, ap, subst, arith}
+use Rattle.std.proofs.Common.{ℕ, zero, suc, ◌≡◌, ◌+◌, ◌<◌, ◌≤◌, ◌++◌, List, [], ◌∷◌, length, map, get_or, refl, sym, ◌∙◌, ap, subst, append-nil, arith}
 use Rattle.std.specs.List.{AllByRecursion}
 use Rattle.std.specs.Vec.{vec_capacity}
 use Rattle.std.specs.declared.alloc.Global.{Global}
@@ -7,18 +7,16 @@ use Rattle.std.specs.declared.vec.Vec.{Vec}
 use Rattle.std.specs.declared.thread.PromisedHandle.{PromisedHandle}
 use Rattle.std.proofs.lemmas.List.{length_push, map-append}
 use Rattle.partial_model.proofs.AllLemmas.{all_append, all_front}
-use Rattle.partial_memory.specs.Calls.{Meets}
-use Rattle.partial_memory.specs.Noting.{NotesMore}
-use Rattle.partial_memory.specs.Ports.{IsOf, MemoryView, PortView, new_ports}
-use Rattle.partial_memory.specs.Rule.{newcomers}
-use Rattle.partial_memory.proofs.Laws.{calls_note_once}
+use Rattle.partial_long_lived.specs.Calls.{Meets}
+use Rattle.partial_long_lived.specs.Ports.{IsOf, Knows, MemoryView, PortView, new_ports}
+use Rattle.partial_long_lived.specs.Rule.{newcomers}
 use Rattle.partial_pipeline.specs.Pipeline.{AreFrom, HasWorked}
-use Rattle.partial_pipeline.specs.Stages.{EndEach, EndsAt, HasMet, IsDone, IsNew, IsOpened, IsStarted, IsWatching, Sees, Watched}
+use Rattle.partial_pipeline.specs.Stages.{EndEach, EndsAt, HasMet, IsDone, IsNew, IsOpened, IsStarted, IsWatching, NotesMore, Sees, Watched}
 use Rattle.partial_pipeline.specs.declared.monitor.Monitor.{Monitor}
 use Rattle.partial_pipeline.specs.declared.run.Works.{Works as Promised}
 use Rattle.partial_pipeline.specs.declared.stage.StageEnd.{StageEnd}
 use Rattle.partial_pipeline.specs.declared.stage.Worked.{Worked}
-use Rattle.partial_pipeline.proofs.Stages.{done_alike, ends_more, from_front, from_get, has_met, met_more, none_more, seen_grows, watched_sees}
+use Rattle.partial_pipeline.proofs.Stages.{done_alike, ends_more, from_front, from_get, goes_more, has_met, met_more, none_more, seen_grows, watched_sees}
 
 -- ---- the monitor
 
@@ -65,7 +63,7 @@ watching_refused m x q rooms room w popped own n =
 pub watching_met : (m : MemoryView) (x : Monitor) (b c d : PortView) → IsWatching m x → IsOf m c → Meets x.port b c d →
     IsWatching m (record { port = c; stages = x.stages; rooms = x.rooms; scans = x.scans; room = x.room })
 watching_met m x b c d w own meets =
-    let n = (calls_note_once.meet x.port b c d meets).0 in
+    let n = goes_more x.port c [] meets.first in
     record {
       own = own;
       number = n.number ∙ w.number;
@@ -93,14 +91,15 @@ pub joined_more : (m : MemoryView) (x : Monitor) (ports after : List PortView) (
 joined_more m x ports after b c d items n w had many done same own meets is =
     let number : b.number ≡ length ports = ap (λ (p : PortView). p.number) same ∙ done.number ∙ sym many in
     let worked = subst (λ (p : PortView). HasWorked n p.notes) (sym same) done.worked in
-    let new = has_met m (length ports) x.port b c d own number (subst (λ i. HasWorked i b.notes) (sym many) worked) meets in
+    let knows = subst (λ (p : PortView). Knows p.memory.about p.number p.seen p.notes) (sym same) done.knows in
+    let new = has_met m (length ports) x.port b c d own knows number (subst (λ i. HasWorked i b.notes) (sym many) worked) meets in
     subst (AreFrom (HasMet m (length c.seen)) 0) (sym is) (met_more m (length x.port.seen) (length c.seen) ports d (seen_grows x.port b c d meets) had new)
 
 -- and the end of that stage stands behind those of the others
 pub ended_more : (m : MemoryView) (x : Monitor) (ports after : List PortView) (ends ended : List StageEnd) (b c d : PortView) (items n : ℕ) (w : Worked) → EndEach items 0 ports ends →
     length ports ≡ n → IsDone m items n w → b ≡ w.port → Meets x.port b c d → after ≡ ports ++ d ∷ [] → ended ≡ ends ++ w.end ∷ [] → EndEach items 0 after ended
 ended_more m x ports after ends ended b c d items n w had many done same meets is ends_is =
-    let notes : d.notes ≡ w.port.notes = ap (λ (p : PortView). p.notes) meets.second ∙ ap (λ (p : PortView). p.notes) same in
+    let notes : d.notes ≡ w.port.notes = meets.second.notes ∙ append-nil b.notes ∙ ap (λ (p : PortView). p.notes) same in
     let number : n ≡ 0 + length ports = omega (arith, many) in
     let at : EndsAt items (0 + length ports) d.notes w.end = subst (λ i. EndsAt items i d.notes w.end) number (subst (λ ns. EndsAt items n ns w.end) (sym notes) done.ended) in
     subst (λ l. EndEach items 0 l ended) (sym is) (subst (EndEach items 0 (ports ++ d ∷ [])) (sym ends_is) (ends_more items 0 ports ends d w.end had at))

@@ -10,8 +10,12 @@ use Rattle.partial_model.specs.declared.call.Answer.TheVariants as answer
 use Rattle.partial_model.specs.History.{value_of}
 use Rattle.partial_model.specs.Notes.{Noted, LegalNotes}
 use Rattle.partial_model.specs.Outcome.{EachOnce}
+use Rattle.partial_long_lived.specs.declared.open_error.OpenError.{OpenError}
+use Rattle.partial_long_lived.specs.declared.open_error.OpenError.TheVariants as open
+use Rattle.partial_long_lived.specs.declared.options.Options.{Options}
+use Rattle.partial_long_lived.specs.Options.{most_lists, most_words, words_behind}
 use Rattle.partial_pipeline.specs.declared.error.PipelineError.{PipelineError}
-use Rattle.partial_pipeline.specs.declared.error.PipelineError.TheVariants.{Ports, Memory}
+use Rattle.partial_pipeline.specs.declared.error.PipelineError.TheVariants.{Stages, Lists, Pool, Memory}
 use Rattle.partial_pipeline.specs.declared.report.PipelineReport.{PipelineReport}
 use Rattle.partial_pipeline.specs.declared.stage.StageEnd.TheVariants.{Finished}
 
@@ -52,14 +56,30 @@ pub record HaveEnded (stages items : ℕ) (r : PipelineReport) : Type 0 where
   pub most : (k : ℕ) → k < stages → slice_index r.counts.items k ≤ items
   pub finished : (k : ℕ) → k < stages → slice_get r.ends.items k ≡ Some Finished → slice_index r.counts.items k ≡ items
 
--- why a pipeline of that many stages may not run: Ports when there are more than 63, and Memory only when there aren't
-abbrev pub MayNotRun : ℕ → PipelineError → Type 0
-MayNotRun stages Ports = 63 < stages
-MayNotRun stages Memory = stages ≤ 63
+-- the number of stages is in its range
+abbrev pub AreStages : ℕ → Type 0
+AreStages stages = (1 ≤ stages) × (stages ≤ 63)
+
+-- why a pipeline of that many stages and these options may not run: the first of them that is out of its range, or memory when none is
+abbrev pub MayNotRun : ℕ → Options → PipelineError → Type 0
+MayNotRun stages o Stages = (stages ≡ 0) ⊎ (63 < stages)
+MayNotRun stages o Lists = AreStages stages × (most_lists < o.lists)
+MayNotRun stages o Pool = AreStages stages × (o.lists ≤ most_lists) × (most_words < words_behind stages (stages + 1) o)
+MayNotRun stages o Memory = AreStages stages × (o.lists ≤ most_lists) × (words_behind stages (stages + 1) o ≤ most_words)
+
+-- what the refusal of a memory is to its pipeline
+abbrev pub error_of : OpenError → PipelineError
+error_of open.Ports = Stages
+error_of open.Components = Stages
+error_of open.Lists = Lists
+error_of open.Pool = Pool
+error_of open.Memory = Memory
 
 -- the numbers of the refusals
 abbrev pub error_code : PipelineError → ℕ
-error_code Ports = 5
+error_code Stages = 5
+error_code Lists = 3
+error_code Pool = 4
 error_code Memory = 6
 
 -- What is said of its number holds of each in the list; the first has number k.

@@ -1,5 +1,5 @@
 -- What is known of the stages and the monitor as they work, and of their ports when they have ended.
-use Rattle.std.specs.Prelude.{ℕ, ◌≡◌, ◌+◌, ◌<◌, ◌≤◌, ⊤, List, [], ◌∷◌, length, map, slice_index, Option, Some}
+use Rattle.std.specs.Prelude.{ℕ, ◌≡◌, ◌+◌, ◌<◌, ◌≤◌, ⊤, List, [], ◌∷◌, ◌++◌, length, map, slice_index, Option, Some}
 use Rattle.std.specs.List.{AllByRecursion}
 use Rattle.std.specs.Vec.{vec_capacity}
 use Rattle.std.specs.declared.alloc.Global.{Global}
@@ -12,9 +12,8 @@ use Rattle.partial_model.specs.declared.history.Applied.{Applied}
 use Rattle.partial_model.specs.Entries.{applied_by}
 use Rattle.partial_model.specs.Notes.{Noted}
 use Rattle.partial_model.specs.Outcome.{places_written}
-use Rattle.partial_memory.specs.Noting.{NotesMore}
-use Rattle.partial_memory.specs.Ports.{IsOf, MemoryView, PortView, new_ports}
-use Rattle.partial_memory.specs.Rule.{newcomers}
+use Rattle.partial_long_lived.specs.Ports.{IsOf, Knows, MemoryView, PortView, new_ports}
+use Rattle.partial_long_lived.specs.Rule.{newcomers}
 use Rattle.partial_pipeline.specs.Pipeline.{AreFrom, HasWorked, Works}
 use Rattle.partial_pipeline.specs.declared.monitor.Monitor.{Monitor}
 use Rattle.partial_pipeline.specs.declared.run.Joined.{Joined}
@@ -23,6 +22,13 @@ use Rattle.partial_pipeline.specs.declared.stage.Stage.{Stage}
 use Rattle.partial_pipeline.specs.declared.stage.StageEnd.{StageEnd}
 use Rattle.partial_pipeline.specs.declared.stage.StageEnd.TheVariants.{Finished}
 use Rattle.partial_pipeline.specs.declared.stage.Worked.{Worked}
+
+-- the port goes on as one of its memory and number, has seen no less than it had, and has noted these calls more
+pub record NotesMore (p q : PortView) (new : List Noted) : Type 0 where
+  pub memory : q.memory ≡ p.memory
+  pub number : q.number ≡ p.number
+  pub seen : length p.seen ≤ length q.seen
+  pub notes : q.notes ≡ p.notes ++ new
 
 -- the port of number k, which has made no call
 pub record IsNew (m : MemoryView) (k : ℕ) (p : PortView) : Type 0 where
@@ -55,6 +61,7 @@ published k ns = last_value 0 (applied_by k ns)
 -- A stage at work: its count is what it published last, and what it has tried to publish is at most one more.
 pub record IsWorking (m : MemoryView) (s : Stage) : Type 0 where
   pub own : IsOf m s.port
+  pub inside : s.port.number < m.about.sizes.m
   pub from : ℕ
   pub none : 0 < s.port.number → from ≡ 0
   pub tried : ℕ
@@ -72,6 +79,7 @@ pub record EndsAt (items k : ℕ) (ns : List Noted) (end : StageEnd) : Type 0 wh
 -- stage k has ended
 pub record IsDone (m : MemoryView) (items k : ℕ) (w : Worked) : Type 0 where
   pub own : IsOf m w.port
+  pub knows : Knows w.port.memory.about w.port.number w.port.seen w.port.notes
   pub number : w.port.number ≡ k
   pub worked : HasWorked k w.port.notes
   pub ended : EndsAt items k w.port.notes w.end

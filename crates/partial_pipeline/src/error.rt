@@ -2,7 +2,7 @@
 
 ghost use Rattle.std.specs.Prelude.{◌≡◌};
 
-use partial_memory::OpenError;
+use partial_long_lived::OpenError;
 use std::alloc::AllocError;
 use thiserror::Error;
 
@@ -10,9 +10,16 @@ use thiserror::Error;
 /// threads goes on.
 #[derive(Clone, Copy, Debug, PartialEq, Eq, Error)]
 pub enum PipelineError {
-    /// There are more than 63 stages: each has a port, and so has the monitor. Nothing was made.
+    /// There are not 1 to 63 stages: each has a port, and so has the monitor. Nothing was made.
     #[error("stages out of range")]
-    Ports,
+    Stages,
+    /// The options ask for more than 65,536 list words. Nothing was made.
+    #[error("list words out of range")]
+    Lists,
+    /// An arena of the memory would have more than 131,072 pool words behind the initial records: those of the
+    /// options, and room for the greatest record of each port. Nothing was made.
+    #[error("pool words out of range")]
+    Pool,
     /// An allocation was refused, or a thread couldn't be started.
     #[error("out of memory")]
     Memory,
@@ -21,12 +28,14 @@ pub enum PipelineError {
 impl PipelineError {
     ghost use Rattle.partial_pipeline.specs.Pipeline.{error_code};
 
-    /// The number of the refusal: 5 for `Ports`, 6 for `Memory`.
+    /// The number of the refusal: 5 for `Stages`, 3 for `Lists`, 4 for `Pool`, 6 for `Memory`.
     pub fn code(&self) -> u8
         ensures { result ≡ error_code self.now }
     {
         match self {
-            PipelineError::Ports => 5,
+            PipelineError::Stages => 5,
+            PipelineError::Lists => 3,
+            PipelineError::Pool => 4,
             PipelineError::Memory => 6,
         }
     }
@@ -42,13 +51,18 @@ impl From<AllocError> for PipelineError {
     }
 }
 
-// A pipeline of 1 to 63 stages has 2 to 64 ports, so only an allocation of its memory can be refused.
+// A pipeline of so many stages has one port more than components, so either is out of range only where the stages are.
 impl From<OpenError> for PipelineError {
-    ghost use Rattle.partial_pipeline.specs.declared.error.PipelineError.TheVariants.{Memory};
+    ghost use Rattle.partial_pipeline.specs.Pipeline.{error_of};
 
-    ghost from_gives = { λ _ e. e ≡ Memory };
+    ghost from_gives = { λ refused e. e ≡ error_of refused };
 
-    fn from(_error: OpenError) -> PipelineError {
-        PipelineError::Memory
+    fn from(error: OpenError) -> PipelineError {
+        match error {
+            OpenError::Ports | OpenError::Components => PipelineError::Stages,
+            OpenError::Lists => PipelineError::Lists,
+            OpenError::Pool => PipelineError::Pool,
+            OpenError::Memory => PipelineError::Memory,
+        }
     }
 }

@@ -2,14 +2,14 @@
 
 ghost use Rattle.std.specs.Prelude.{◌≡◌, ◌+◌, ◌<◌, ◌≤◌, [], length, None, IfOk, IfSome};
 ghost use Rattle.std.specs.Vec.{vec_capacity};
-ghost use Rattle.partial_memory.specs.Noting.{NotesMore};
-ghost use Rattle.partial_memory.specs.Ports.{IsOf};
-ghost use Rattle.partial_pipeline.specs.Stages.{AreRooms, IsEachStage, IsNew, IsWatching, Sees};
+ghost use Rattle.partial_long_lived.specs.Ports.{IsOf};
+ghost use Rattle.partial_pipeline.specs.Stages.{AreRooms, IsEachStage, IsNew, IsWatching, NotesMore, Sees};
 
 use crate::work::Watch;
-use partial_memory::{Memory, Port};
+use partial_long_lived::{LongLived, Port, Refused};
 use std::alloc::{AllocError, Global};
 use std::sync::atomic::{AtomicBool, Ordering};
+use std::thread;
 
 /// The monitor, with room for all its scans: it takes no memory while it scans.
 #[derive(Drop)]
@@ -49,9 +49,10 @@ fn rooms_for(alloc: Global, stages: u32, scans: usize) -> Result<Vec<Vec<u64>>, 
     Ok(rooms)
 }
 
-/// Scans the counts of these stages into `room`, and returns it. Returns `None` when the scan is refused.
+/// Scans the counts of these stages into `room`, and returns it. A scan that finds no free arena is tried again. Returns
+/// `None` when the scan is refused since the memory's epochs are used up.
 pub fn scan_into(
-    memory: &Memory,
+    memory: &LongLived,
     port: &mut Port,
     stages: &[u32],
     mut room: Vec<u64>,
@@ -64,10 +65,15 @@ pub fn scan_into(
     ensures some { IfSome result (λ counts. Sees port.old stages.now counts.items port.new) }
     ensures none { result ≡ None → NotesMore port.old port.new [] }
 {
-    match memory.scan(port, stages, room.as_mut_slice()) {
-        Ok(_scanned) => Some(room),
-        Err(_cause) => None,
+    for _turn in 0..u64::MAX {
+        match memory.scan(port, stages, room.as_mut_slice()) {
+            Ok(_scanned) => return Some(room),
+            Err(Refused::NoArena) => thread::yield_now(),
+            Err(Refused::EpochsSpent) => break,
+            Err(Refused::Component | Refused::Overtaken) => unreachable!(),
+        }
     }
+    None
 }
 
 impl Monitor {
@@ -77,7 +83,7 @@ impl Monitor {
     /// [`AllocError`] when an allocation was refused. The port is gone.
     pub fn new(
         alloc: Global,
-        memory: &Memory,
+        memory: &LongLived,
         port: Port,
         stages: u32,
         looks: usize,
@@ -96,11 +102,11 @@ impl Monitor {
         })
     }
 
-    /// Scans again and again, and passes each scan to the watch. It ends when no room is left, when a scan
-    /// is refused, or with a scan that began when all stages had ended.
+    /// Scans again and again, and passes each scan to the watch. It ends when no room is left, when a scan is refused
+    /// since the memory's epochs are used up, or with a scan that began when all stages had ended.
     pub fn watch<V: Watch>(
         mut self,
-        memory: &Memory,
+        memory: &LongLived,
         ended: &[AtomicBool],
         watch: &mut V,
     ) -> Monitor

@@ -8,8 +8,8 @@ use crate::stage::StageEnd;
 pub struct PipelineReport {
     /// The scans that the monitor made while the stages worked, in order.
     pub scans: Vec<Vec<u64>>,
-    /// The scan that the monitor made when all stages had ended. `None` when it was refused since the pool
-    /// or the slots were spent.
+    /// The scan that the monitor made when all stages had ended. `None` when it was refused since the memory's
+    /// epochs are used up.
     pub last: Option<Vec<u64>>,
     /// The counts that the memory held when it was closed.
     pub counts: Vec<u64>,

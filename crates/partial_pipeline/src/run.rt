@@ -2,7 +2,7 @@
 
 ghost use Rattle.std.specs.Prelude.{◌≡◌, ◌<◌, ◌≤◌, ◌+◌, [], length, IfOk, IfErr};
 ghost use Rattle.std.specs.Vec.{vec_capacity};
-ghost use Rattle.partial_pipeline.specs.Pipeline.{AreFrom, HaveEnded, IsOrderly, MayNotRun};
+ghost use Rattle.partial_pipeline.specs.Pipeline.{AreFrom, AreStages, HaveEnded, IsOrderly, MayNotRun};
 ghost use Rattle.partial_pipeline.specs.Stages.{HaveMet, IsDone, IsNew, IsOpened, IsStarted, IsWatching, IsWorking, Opens};
 
 use crate::error::PipelineError;
@@ -10,8 +10,7 @@ use crate::monitor::{Monitor, scan_into};
 use crate::report::PipelineReport;
 use crate::stage::{Stage, StageEnd, Worked};
 use crate::work::{Watch, Work};
-use partial_memory::{Memory, Port};
-use partial_words::Sizes;
+use partial_long_lived::{LongLived, Options, Port};
 use std::alloc::{AllocError, Global};
 use std::snapshot::Snapshot;
 use std::sync::Wait;
@@ -19,10 +18,24 @@ use std::sync::atomic::AtomicBool;
 use std::thread;
 use std::thread::{Promise, PromisedHandle, Scope, Threads};
 
+/// A pipeline that is to run.
+#[derive(Clone, Copy, Debug, PartialEq, Eq)]
+pub struct Pipeline {
+    /// How many stages it has: 1 to 63.
+    pub stages: u32,
+    /// How many items there are.
+    pub items: u64,
+    /// How many scans the monitor makes at most while the stages work.
+    pub looks: usize,
+    /// How much an arena of its memory holds. A pool for more updates makes changes of epoch rarer, and takes more
+    /// memory.
+    pub options: Options,
+}
+
 // What a stage's thread promises about the port that it returns.
 #[derive(Drop)]
 struct Works {
-    memory: Snapshot<Memory>,
+    memory: Snapshot<LongLived>,
     items: u64,
     stage: u32,
 }
@@ -53,7 +66,7 @@ fn flags(alloc: Global, stages: usize) -> Result<Vec<AtomicBool>, AllocError> {
 // Starts the stages of these ports, each in a thread of its own.
 fn start<'s, 'e, W: Work>(
     scope: &'s Scope<'s, &'e ()>,
-    memory: &'s Memory,
+    memory: &'s LongLived,
     items: u64,
     ended: &'s [AtomicBool],
     work: &'s W,
@@ -61,6 +74,7 @@ fn start<'s, 'e, W: Work>(
     mut started: Vec<PromisedHandle<Worked, Works>>,
 ) -> Result<Vec<PromisedHandle<Worked, Works>>, AllocError>
     requires new { AreFrom (IsNew memory.now) 0 ports.items }
+    requires inside { length ports.items ≤ memory.now.about.sizes.m }
     requires room { (started.items ≡ []) × (length ports.items ≤ vec_capacity started) }
     ensures started { IfOk result (λ handles. AreFrom (IsStarted memory.now items) 0 handles.items) }
     ensures count { IfOk result (λ handles. length handles.items ≡ length ports.items) }
@@ -84,7 +98,7 @@ fn start<'s, 'e, W: Work>(
 // Waits for the stages to end, in order. The port of each stage meets the monitor's.
 fn join<R: Threads>(
     rt: &R,
-    memory: &Memory,
+    memory: &LongLived,
     items: u64,
     started: Vec<PromisedHandle<Worked, Works>>,
     mut joined: Joined,
@@ -109,7 +123,7 @@ fn join<R: Threads>(
 // Scans once more, and closes the memory with all ports.
 fn close(
     alloc: Global,
-    memory: Memory,
+    memory: LongLived,
     items: u64,
     joined: Joined,
 ) -> Result<PipelineReport, AllocError>
@@ -132,13 +146,13 @@ fn close(
         room,
     } = monitor;
     let last = scan_into(&memory, &mut port, &stages, room);
-    let Ok(closed) = memory.close(alloc, port, ports) else {
+    let Ok(counts) = memory.close(alloc, port, ports) else {
         return Err(AllocError);
     };
     Ok(PipelineReport {
         scans,
         last,
-        counts: closed.values,
+        counts,
         ends,
     })
 }
@@ -147,7 +161,7 @@ fn close(
 fn run_on<R: Threads + Wait + Sync, W: Work, V: Watch>(
     rt: &R,
     alloc: Global,
-    memory: Memory,
+    memory: LongLived,
     mut ports: Vec<Port>,
     items: u64,
     looks: usize,
@@ -193,47 +207,52 @@ fn run_on<R: Threads + Wait + Sync, W: Work, V: Watch>(
     close(alloc, memory, items, joined)
 }
 
-/// Runs a pipeline over a memory of these sizes, with a stage for each component and a thread for each
-/// stage. Component k holds the count of stage k: how many items it has worked on. The first stage works on
-/// the items 1 to `items`, and each further stage on those that the stage before it has worked on. A stage
-/// publishes its count after each item. Meanwhile a monitor, in the caller's thread, makes up to `looks`
-/// scans of all counts and passes each to the watch. It ends early when all stages have ended.
+/// Runs a pipeline over a long-lived memory, with a component and a thread for each stage. Component k holds the
+/// count of stage k: how many items it has worked on. The first stage works on the items 1 to `items`, and each
+/// further stage on those that the stage before it has worked on. A stage publishes its count after each item.
+/// Meanwhile a monitor, in the caller's thread, makes up to `looks` scans of all counts and passes each to the
+/// watch. It ends early when all stages have ended.
 ///
-/// In each scan the count of each stage is at most that of the stage before it. From one scan to the next
-/// no count falls. When all stages have ended, their ports meet the monitor's, which scans once more, and
-/// the memory is closed with all ports. That last scan, unless it is refused, has the very counts with
-/// which the memory is closed.
+/// In each scan the count of each stage is at most that of the stage before it. From one scan to the next no count
+/// falls, whatever epochs lie between them. When all stages have ended, their ports meet the monitor's, which scans
+/// once more, and the memory is closed with all ports. That last scan, unless it is refused, has the very counts
+/// with which the memory is closed.
 ///
-/// There is one end for each stage. No count passes `items`, and the count of a stage that has finished is
-/// `items`.
+/// There is one end for each stage. No count passes `items`, and the count of a stage that has finished is `items`.
 ///
-/// A stage whose update is refused, since the pool is spent, ends. The stages behind it end when they have
-/// worked on what was left. All memory, apart from that of closing, is taken before the first thread
-/// starts.
+/// The memory never wears out. An update that is overtaken by changes of epoch, or finds no free arena, is tried
+/// again, and so is a scan that finds no free arena. Only when the memory's 2^41 epochs are used up a stage's update
+/// is refused, and the stage ends; the stages behind it end when they have worked on what was left. All memory, apart
+/// from that of closing, is taken before the first thread starts.
 ///
 /// # Errors
 ///
-/// [`PipelineError::Ports`] exactly when there are more than 63 stages, and otherwise
-/// [`PipelineError::Memory`] when an allocation was refused or a thread couldn't be started. It returns
-/// when all threads that were started have ended, and nothing is left of the pipeline.
+/// [`PipelineError::Stages`] exactly when there are not 1 to 63 stages; otherwise [`PipelineError::Lists`] or
+/// [`PipelineError::Pool`] when the options ask for too many list words or pool words; otherwise
+/// [`PipelineError::Memory`] when an allocation was refused or a thread couldn't be started. It returns when all
+/// threads that were started have ended, and nothing is left of the pipeline.
 pub fn run_pipeline<R: Threads + Wait + Sync, W: Work, V: Watch>(
     rt: &R,
     alloc: Global,
-    sizes: Sizes,
-    items: u64,
-    looks: usize,
+    pipeline: Pipeline,
     work: &W,
     watch: &mut V,
 ) -> Result<PipelineReport, PipelineError>
-    ensures ok { IfOk result (IsOrderly sizes.m) }
-    ensures ended { IfOk result (HaveEnded sizes.m items) }
-    ensures many { IfOk result (λ _. sizes.m ≤ 63) }
-    ensures err { IfErr result (MayNotRun sizes.m) }
+    ensures ok { IfOk result (IsOrderly pipeline.stages) }
+    ensures ended { IfOk result (HaveEnded pipeline.stages pipeline.items) }
+    ensures many { IfOk result (λ _. AreStages pipeline.stages) }
+    ensures err { IfErr result (MayNotRun pipeline.stages pipeline.options) }
 {
-    if sizes.m() > 63 {
-        return Err(PipelineError::Ports);
+    let Pipeline {
+        stages,
+        items,
+        looks,
+        options,
+    } = pipeline;
+    if stages < 1 || stages > 63 {
+        return Err(PipelineError::Stages);
     }
-    let zeros = vec![in alloc; 0; sizes.m() as usize]?;
-    let (memory, ports) = Memory::open(alloc, sizes, &zeros, sizes.m() + 1)?;
+    let zeros = vec![in alloc; 0; stages as usize]?;
+    let (memory, ports) = LongLived::open(alloc, &zeros, stages + 1, options)?;
     Ok(run_on(rt, alloc, memory, ports, items, looks, work, watch)?)
 }

@@ -1,13 +1,11 @@
 //! A stage at work, in a thread of its own.
 
-ghost use Rattle.std.specs.Prelude.{◌≡◌, ◌+◌, ◌<◌, Some};
-ghost use Rattle.partial_memory.specs.Ports.{IsOf};
+ghost use Rattle.std.specs.Prelude.{◌≡◌, ◌+◌, ◌<◌, IfSome, Some};
 ghost use Rattle.partial_pipeline.specs.Stages.{IsDone, IsNew, IsWorking};
-ghost use Rattle.partial_pipeline.specs.declared.stage.StageEnd.TheVariants.{Finished};
+ghost use Rattle.partial_pipeline.specs.declared.stage.StageEnd.TheVariants.{EpochsSpent, Finished};
 
 use crate::work::Work;
-use partial_memory::{Memory, Port, Updated};
-use partial_model::Refused;
+use partial_long_lived::{LongLived, Port, Refused, Updated};
 use std::sync::atomic::{AtomicBool, Ordering};
 use std::thread;
 
@@ -18,8 +16,8 @@ pub enum StageEnd {
     Finished,
     /// The stage before it has ended, and it has worked on all items that came from there.
     Stopped,
-    /// Its update was refused, since the pool is spent.
-    Refused,
+    /// Its update was refused, since the memory's epochs are used up: the current one is the last that a word can name.
+    EpochsSpent,
 }
 
 /// A stage that has ended.
@@ -47,8 +45,9 @@ pub struct Stage {
 
 impl Stage {
     /// Makes a stage that has worked on nothing. The first stage finds all items ready.
-    pub fn new(memory: &Memory, port: Port, items: u64) -> Stage
-        requires { IsNew memory.now port.number port }
+    pub fn new(memory: &LongLived, port: Port, items: u64) -> Stage
+        requires new { IsNew memory.now port.number port }
+        requires inside { port.number < memory.now.about.sizes.m }
         ensures working { IsWorking memory.now result }
         ensures number { result.port.number ≡ port.number }
         ensures items { result.items ≡ items }
@@ -64,7 +63,7 @@ impl Stage {
     }
 
     /// Works on all items that come from the stage before, and sets the flag that it has ended.
-    pub fn run<W: Work>(mut self, memory: &Memory, ended: &[AtomicBool], work: &W) -> Worked
+    pub fn run<W: Work>(mut self, memory: &LongLived, ended: &[AtomicBool], work: &W) -> Worked
         requires { IsWorking memory.now self }
         ensures { IsDone memory.now self.items self.port.number result }
     {
@@ -86,7 +85,7 @@ impl Stage {
 
     // Takes one turn: works on the next item or, when none is ready, reads the count of the stage before.
     // Returns why the stage ends, if it does.
-    fn turn<W: Work>(&mut self, memory: &Memory, ended: &[AtomicBool], work: &W) -> Option<StageEnd>
+    fn turn<W: Work>(&mut self, memory: &LongLived, ended: &[AtomicBool], work: &W) -> Option<StageEnd>
         requires { IsWorking memory.now self.old }
         ensures working { IsWorking memory.now self.new }
         ensures number { self.new.port.number ≡ self.old.port.number }
@@ -97,10 +96,7 @@ impl Stage {
             return Some(StageEnd::Finished);
         }
         if self.count < self.seen {
-            return match self.advance(memory, work) {
-                Ok(()) => None,
-                Err(_cause) => Some(StageEnd::Refused),
-            };
+            return self.advance(memory, work);
         }
         let Some(before) = self.port.number().checked_sub(1) else {
             return Some(StageEnd::Finished);
@@ -117,28 +113,51 @@ impl Stage {
         None
     }
 
-    // Works on the next item, and publishes the count. When another port has overwritten the count, the
-    // stage keeps the old one, and the next turn tries again: so `count` is always what the component
-    // holds.
-    fn advance<W: Work>(&mut self, memory: &Memory, work: &W) -> Result<(), Refused>
+    // Works on the next item, and publishes the count. Returns why the stage ends, if it does.
+    fn advance<W: Work>(&mut self, memory: &LongLived, work: &W) -> Option<StageEnd>
         requires working { IsWorking memory.now self.old }
         requires next { self.old.count < self.old.seen }
         requires more { self.old.count < self.old.items }
         ensures working { IsWorking memory.now self.new }
         ensures number { self.new.port.number ≡ self.old.port.number }
         ensures items { self.new.items ≡ self.old.items }
+        ensures end { IfSome result (λ end. end ≡ EpochsSpent) }
+    {
+        let next = self.count + 1;
+        work.work(self.port.number(), next);
+        self.publish(memory, next)
+    }
+
+    // Publishes the next count. An update that is overtaken by changes of epoch, or finds no free arena, leaves the count as
+    // it was, and is tried again: so `count` is always what the component holds. Returns why the stage ends, if it does.
+    fn publish(&mut self, memory: &LongLived, next: u64) -> Option<StageEnd>
+        requires working { IsWorking memory.now self.old }
+        requires next { next ≡ self.old.count + 1 }
+        requires read { self.old.count < self.old.seen }
+        requires more { self.old.count < self.old.items }
+        ensures working { IsWorking memory.now self.new }
+        ensures number { self.new.port.number ≡ self.old.port.number }
+        ensures items { self.new.items ≡ self.old.items }
+        ensures end { IfSome result (λ end. end ≡ EpochsSpent) }
     {
         let stage = self.port.number();
-        let next = self.count + 1;
-        work.work(stage, next);
-        if let Updated::Applied { .. } = memory.update(&mut self.port, stage, next)? {
-            self.count = next;
+        for _turn in 0..u64::MAX {
+            match memory.update(&mut self.port, stage, next) {
+                Ok(Updated::Applied { .. }) => {
+                    self.count = next;
+                    return None;
+                }
+                Ok(Updated::Lost { .. }) => {}
+                Err(Refused::Overtaken | Refused::NoArena) => thread::yield_now(),
+                Err(Refused::EpochsSpent) => return Some(StageEnd::EpochsSpent),
+                Err(Refused::Component) => unreachable!(),
+            }
         }
-        Ok(())
+        None
     }
 
     // Reads the count of the stage before.
-    fn look(&mut self, memory: &Memory, before: u32)
+    fn look(&mut self, memory: &LongLived, before: u32)
         requires working { IsWorking memory.now self.old }
         requires before { self.old.port.number ≡ before + 1 }
         ensures working { IsWorking memory.now self.new }

@@ -6,7 +6,7 @@ mod screen;
 mod stop;
 
 use partial_pipeline::{NoWork, PipelineReport, StageEnd, run_pipeline};
-use request::{Request, request_of};
+use request::request_of;
 use screen::Screen;
 use std::env;
 use std::env::Env;
@@ -37,22 +37,18 @@ fn run<R: Env + Clock + Print + AllocGlobal + Threads + Wait + Sync>(
     has_bars: bool,
 ) -> Result<(), Stop> {
     let words: Vec<String> = env::args(rt)?.collect(rt.alloc())?;
-    let Request {
-        sizes,
-        items,
-        looks,
-    } = request_of(rt.alloc(), &words)?;
-    let mut screen = Screen::new(rt, has_bars, items);
-    let report = run_pipeline(rt, rt.alloc(), sizes, items, looks, &NoWork, &mut screen)?;
+    let pipeline = request_of(rt.alloc(), &words)?;
+    let mut screen = Screen::new(rt, has_bars, pipeline.items);
+    let report = run_pipeline(rt, rt.alloc(), pipeline, &NoWork, &mut screen)?;
     screen.end(&report.counts)?;
     judge(&report)
 }
 
-/// Judges the end. A stage that didn't reach the last item was ended by a spent pool, its own or that of a
-/// stage before it.
+/// Judges the end. A stage that didn't reach the last item ended since the memory's epochs were used up, or behind one
+/// that did.
 fn judge(report: &PipelineReport) -> Result<(), Stop> {
     match report.ends.iter().all(|end| *end == StageEnd::Finished) {
         true => Ok(()),
-        false => Err(Stop::PoolSpent),
+        false => Err(Stop::EpochsSpent),
     }
 }

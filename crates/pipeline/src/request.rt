@@ -1,39 +1,9 @@
 //! The arguments of the program.
 
-ghost use Rattle.std.specs.Prelude.{◌≤◌};
-
 use crate::stop::Stop;
 use clap::{Arg, ArgAction, ArgMatches, Command, Error};
-use partial_words::Sizes;
+use partial_pipeline::{Options, Pipeline};
 use std::alloc::Global;
-
-/// The greatest pool of a memory, in words.
-const POOL: u32 = 4_194_304;
-
-/// The greatest number of slots of a memory, and of list words. Each scan claims a slot.
-const SLOTS: u32 = 65_536;
-
-/// The pool words for all updates and scans of a pipeline of so many stages, or the greatest pool. An
-/// update claims at most 4 words and 2 for each stage, a scan 1 word and 1 for each stage.
-fn pool_for(stages: u64, items: u64, scans: u64) -> u32
-    requires { (stages ≤ 63) × (scans ≤ 65536) }
-{
-    let initial = 3 * u128::from(stages);
-    let updates = u128::from(stages) * u128::from(items) * (4 + 2 * u128::from(stages));
-    let words = initial + updates + u128::from(scans) * (1 + u128::from(stages));
-    words.min(u128::from(POOL)) as u32
-}
-
-/// The pipeline that is asked for.
-#[derive(Clone, Copy, Debug)]
-pub struct Request {
-    /// The sizes of the memory. It has a component for each stage.
-    pub sizes: Sizes,
-    /// How many items the stages work on.
-    pub items: u64,
-    /// How many scans the monitor may make before the last one.
-    pub looks: usize,
-}
 
 /// An option with a number.
 fn option<'a>(alloc: Global, name: &'a str, help: &'a str) -> Arg<'a> {
@@ -94,28 +64,27 @@ fn number_of(matches: &ArgMatches<'_>, name: &str, without: u64) -> Option<u64> 
 }
 
 /// Reads the arguments. The first of them is the program's name. Without options they ask for a pipeline of
-/// 4 stages with 20,000 items and at most 1,000 scans.
+/// 4 stages with 20,000 items and at most 1,000 scans. Its memory has arenas of the default size.
 ///
 /// # Errors
 ///
 /// `Words` when the program doesn't take these arguments, or when they ask for help. `Value` when there are not 1
 /// to 63 stages and at most 65,535 scans, or a value is no number.
-pub fn request_of(alloc: Global, words: &[String]) -> Result<Request, Stop> {
+pub fn request_of(alloc: Global, words: &[String]) -> Result<Pipeline, Stop> {
     let matches = command(alloc)?.try_get_matches_from(words)?;
     let stages = number_of(&matches, "stages", 4).ok_or(STAGES)?;
     let items = number_of(&matches, "items", 20_000).ok_or(ITEMS)?;
     let looks = number_of(&matches, "looks", 1_000).ok_or(LOOKS)?;
-    if stages > 63 {
+    if stages < 1 || stages > 63 {
         return Err(STAGES);
     }
-    if looks >= u64::from(SLOTS) {
+    if looks > 65_535 {
         return Err(LOOKS);
     }
-    let pool = pool_for(stages, items, looks + 1);
-    let sizes = Sizes::new(stages as u32, looks as u32 + 1, SLOTS, pool).map_err(|_| STAGES)?;
-    Ok(Request {
-        sizes,
+    Ok(Pipeline {
+        stages: stages as u32,
         items,
         looks: looks as usize,
+        options: Options::default(),
     })
 }

@@ -22,8 +22,8 @@ pub enum Stop {
     NotText,
     /// The pipeline didn't run.
     Refused(PipelineError),
-    /// The pool was spent before all items were counted. The last line was written.
-    PoolSpent,
+    /// The memory's epochs were used up before all items were counted. The last line was written.
+    EpochsSpent,
     /// A line couldn't be written.
     Write,
 }
@@ -34,7 +34,7 @@ impl Stop {
         match self {
             Stop::Words(error) => error.exit_code() as u8,
             Stop::Value { .. } | Stop::NotText => 2,
-            Stop::Refused(_) | Stop::PoolSpent | Stop::Write => 1,
+            Stop::Refused(_) | Stop::EpochsSpent | Stop::Write => 1,
         }
     }
 }
@@ -46,7 +46,7 @@ impl fmt::Display for Stop {
             Stop::Value { option, takes } => write!(f, "--{option} takes {takes}"),
             Stop::NotText => write!(f, "the words are not text"),
             Stop::Refused(error) => write!(f, "refused {}: {error}", error.code()),
-            Stop::PoolSpent => write!(f, "pool spent"),
+            Stop::EpochsSpent => write!(f, "epochs used up"),
             Stop::Write => write!(f, "not written"),
         }
     }

@@ -1,14 +1,18 @@
 //! The examples of the document on the pipeline.
 
-use partial_pipeline::{NoWatch, NoWork, Watch, Work, run_pipeline};
-use partial_words::Sizes;
+use partial_pipeline::{NoWatch, NoWork, Options, Pipeline, Watch, Work, run_pipeline};
 use std::sync::atomic::{AtomicU64, Ordering};
 use std::test::Fail;
 
 #[test]
 fn four_stages(rt: HostRuntime) -> Result<(), Fail> {
-    let sizes = Sizes::new(4, 1_024, 1_024, 1_000_000)?;
-    let report = run_pipeline(&rt, rt.alloc(), sizes, 5_000, 1_000, &NoWork, &mut NoWatch)?;
+    let pipeline = Pipeline {
+        stages: 4,
+        items: 5_000,
+        looks: 1_000,
+        options: Options::default(),
+    };
+    let report = run_pipeline(&rt, rt.alloc(), pipeline, &NoWork, &mut NoWatch)?;
     for scan in report.scans.iter().chain(report.last.iter()) {
         assert!(rt; scan.len() == 4);
         assert!(rt;
@@ -60,8 +64,13 @@ fn work_and_watch(rt: HostRuntime) -> Result<(), Fail> {
         sum: AtomicU64::new(0),
     };
     let mut lag = Lag { most: 0 };
-    let sizes = Sizes::new(3, 1_024, 1_024, 100_000)?;
-    run_pipeline(&rt, rt.alloc(), sizes, 100, 1_000, &total, &mut lag)?;
+    let pipeline = Pipeline {
+        stages: 3,
+        items: 100,
+        looks: 1_000,
+        options: Options::default(),
+    };
+    run_pipeline(&rt, rt.alloc(), pipeline, &total, &mut lag)?;
     assert_eq!(rt; total.sum.load(Ordering::SeqCst), 5_050);
     assert!(rt; lag.most <= 100);
     Ok(())

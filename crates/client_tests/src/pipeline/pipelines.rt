@@ -1,10 +1,10 @@
 //! Pipelines of one stage up to as many as there may be.
 
-use super::judge;
+use super::{judge, sized};
 use partial_pipeline::{
-    NoWatch, NoWork, PipelineError, PipelineReport, StageEnd, Watch, Work, run_pipeline,
+    NoWatch, NoWork, Options, Pipeline, PipelineError, PipelineReport, StageEnd, Watch, Work,
+    run_pipeline,
 };
-use partial_words::{SizeError, Sizes};
 use std::alloc::Global;
 use std::sync::Wait;
 use std::sync::atomic::{AtomicU64, Ordering};
@@ -43,17 +43,15 @@ impl Watch for Seen {
 fn ran<R: Threads + Wait + Sync>(
     rt: &R,
     alloc: Global,
-    sizes: Sizes,
-    items: u64,
+    pipeline: Pipeline,
 ) -> Result<PipelineReport, PipelineError> {
-    run_pipeline(rt, alloc, sizes, items, 50, &NoWork, &mut NoWatch)
+    run_pipeline(rt, alloc, pipeline, &NoWork, &mut NoWatch)
 }
 
 #[test]
 fn stages_reach_all_items(rt: HostRuntime) -> Result<(), Fail> {
     for (stages, items) in [(1, 3_000u64), (2, 3_000), (8, 2_000), (63, 100)] {
-        let sizes = Sizes::new(stages, 64, 64, 4_194_304)?;
-        let report = ran(&rt, rt.alloc(), sizes, items)?;
+        let report = ran(&rt, rt.alloc(), sized(stages, items, 50))?;
         judge(&rt, &report, stages as usize, items);
         assert!(rt; report.last.is_some());
         assert!(rt; report.counts.iter().all(|count| *count == items));
@@ -64,7 +62,7 @@ fn stages_reach_all_items(rt: HostRuntime) -> Result<(), Fail> {
 
 #[test]
 fn no_items_are_no_work(rt: HostRuntime) -> Result<(), Fail> {
-    let report = ran(&rt, rt.alloc(), Sizes::new(2, 64, 64, 512)?, 0)?;
+    let report = ran(&rt, rt.alloc(), sized(2, 0, 50))?;
     judge(&rt, &report, 2, 0);
     assert_eq!(rt; report.counts.as_slice(), [0, 0].as_slice());
     Ok(())
@@ -77,8 +75,7 @@ fn each_stage_works_on_each_item(rt: HostRuntime) -> Result<(), Fail> {
         items: AtomicU64::new(0),
     };
     let mut seen = Seen { scans: 0 };
-    let sizes = Sizes::new(5, 128, 64, 1_000_000)?;
-    let report = run_pipeline(&rt, rt.alloc(), sizes, 1_000, 100, &work, &mut seen)?;
+    let report = run_pipeline(&rt, rt.alloc(), sized(5, 1_000, 100), &work, &mut seen)?;
     judge(&rt, &report, 5, 1_000);
     assert_eq!(rt; seen.scans, report.scans.len());
     assert_eq!(rt; work.calls.load(Ordering::SeqCst), 5 * 1_000);
@@ -86,34 +83,34 @@ fn each_stage_works_on_each_item(rt: HostRuntime) -> Result<(), Fail> {
     Ok(())
 }
 
+// Over the smallest arenas a port is spent in its epoch as soon as it has made a claim, so no port updates twice in one
+// epoch.
 #[test]
-fn a_spent_pool_ends_all_stages(rt: HostRuntime) -> Result<(), Fail> {
-    let report = ran(&rt, rt.alloc(), Sizes::new(4, 16, 16, 1_000)?, 100_000)?;
-    judge(&rt, &report, 4, 100_000);
-    let first = report.counts.first().ok_or("a count")?;
-    assert!(rt; 0 < *first && *first < 100_000);
-    assert!(rt; report.ends.first() == Some(&StageEnd::Refused));
-    assert!(rt; report.ends.iter().all(|end| *end != StageEnd::Finished));
-    assert!(rt; report.last.is_none());
-    Ok(())
-}
-
-// With as many slots as there are scans before the last one, that one is refused, and nothing else.
-#[test]
-fn spent_slots_end_the_monitor_alone(rt: HostRuntime) -> Result<(), Fail> {
-    let sizes = Sizes::new(2, 1, 16, 1_000_000)?;
-    let report = run_pipeline(&rt, rt.alloc(), sizes, 500, 5, &NoWork, &mut NoWatch)?;
-    judge(&rt, &report, 2, 500);
-    assert_eq!(rt; report.scans.len(), 1);
-    assert!(rt; report.last.is_none());
-    assert_eq!(rt; report.counts.as_slice(), [500, 500].as_slice());
+fn stages_reach_all_items_over_many_epochs(rt: HostRuntime) -> Result<(), Fail> {
+    let work = Counted {
+        calls: AtomicU64::new(0),
+        items: AtomicU64::new(0),
+    };
+    for (stages, items) in [(1, 5_000u64), (3, 3_000), (8, 500)] {
+        let smallest = Pipeline {
+            stages,
+            items,
+            looks: 200,
+            options: Options { lists: 0, pool: 0 },
+        };
+        let report = run_pipeline(&rt, rt.alloc(), smallest, &work, &mut NoWatch)?;
+        judge(&rt, &report, stages as usize, items);
+        assert!(rt; report.last.is_some());
+        assert!(rt; report.counts.iter().all(|count| *count == items));
+        assert!(rt; report.ends.iter().all(|end| *end == StageEnd::Finished));
+    }
+    assert_eq!(rt; work.calls.load(Ordering::SeqCst), 5_000 + 3 * 3_000 + 8 * 500);
     Ok(())
 }
 
 #[test]
 fn without_looks_the_last_scan_is_made(rt: HostRuntime) -> Result<(), Fail> {
-    let sizes = Sizes::new(3, 4, 16, 100_000)?;
-    let report = run_pipeline(&rt, rt.alloc(), sizes, 200, 0, &NoWork, &mut NoWatch)?;
+    let report = ran(&rt, rt.alloc(), sized(3, 200, 0))?;
     judge(&rt, &report, 3, 200);
     assert!(rt; report.scans.is_empty());
     let last = report.last.ok_or("a last scan")?;
@@ -123,12 +120,27 @@ fn without_looks_the_last_scan_is_made(rt: HostRuntime) -> Result<(), Fail> {
 
 #[test]
 fn stages_are_refused(rt: HostRuntime) -> Result<(), Fail> {
-    assert!(rt; matches!(Sizes::new(0, 64, 64, 1_000), Err(SizeError::Components)));
-    for stages in [64, 65, 300] {
-        let refused = ran(&rt, rt.alloc(), Sizes::new(stages, 64, 64, 10_000)?, 10);
-        assert!(rt; matches!(refused, Err(PipelineError::Ports)));
+    for stages in [0, 64, 65, u32::MAX] {
+        let refused = ran(&rt, rt.alloc(), sized(stages, 10, 50));
+        assert!(rt; matches!(refused, Err(PipelineError::Stages)));
     }
-    assert_eq!(rt; PipelineError::Ports.code(), 5);
+    assert_eq!(rt; PipelineError::Stages.code(), 5);
+    assert_eq!(rt; PipelineError::Lists.code(), 3);
+    assert_eq!(rt; PipelineError::Pool.code(), 4);
     assert_eq!(rt; PipelineError::Memory.code(), 6);
+    Ok(())
+}
+
+#[test]
+fn options_are_refused(rt: HostRuntime) -> Result<(), Fail> {
+    let mut pipeline = sized(2, 10, 50);
+    pipeline.options.lists = 65_537;
+    assert!(rt; matches!(ran(&rt, rt.alloc(), pipeline), Err(PipelineError::Lists)));
+    // With 2 stages and 3 ports the pool has 24 words more than the options ask for.
+    pipeline.options = Options {
+        lists: 0,
+        pool: 131_049,
+    };
+    assert!(rt; matches!(ran(&rt, rt.alloc(), pipeline), Err(PipelineError::Pool)));
     Ok(())
 }

@@ -1,5 +1,5 @@
 use Rattle.std.proofs.Common.{◌≡◌, ◌∙◌, ℕ, List, length, subst}
-use Rattle.partial_memory.specs.Ports.{IsOf}
+use Rattle.partial_long_lived.specs.Ports.{IsOf}
 use Rattle.partial_pipeline.specs.Stages.{HasMet}
 use Rattle.partial_pipeline.proofs.Stages.{from_all}
 use Rattle.partial_pipeline.proofs.Reports.{LastSees, ended, last_number, last_sees, orderly}
@@ -28,6 +28,6 @@ returns c =
     let own = c.scan_into-last.ensures.own in
     let closes = c.in-Ok.ensures.closed in
     record {
-      orderly = orderly m x.port q ports x.stages.items x.scans last c.in-Ok.closed ends c.requires.opens met.each met.count own number watching.each watching.watched sees closes;
-      ended = ended m x.port q ports x.stages.items x.scans last c.in-Ok.closed ends c.args.items c.requires.opens met.each met.count own number watching.each watching.watched sees closes met.ended;
+      orderly = orderly m x.port q ports x.stages.items x.scans last c.in-Ok.counts ends c.requires.opens met.each met.count own number watching.each watching.watched sees closes;
+      ended = ended m x.port q ports x.stages.items x.scans last c.in-Ok.counts ends c.args.items c.requires.opens met.each met.count own number watching.each watching.watched sees closes met.ended;
     }

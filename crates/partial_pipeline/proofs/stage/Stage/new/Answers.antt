@@ -14,13 +14,14 @@ returns-clause-working c =
       | else-number-eq0 w ↦ (λ some. w.seen-is, λ zero. absurd (omega (arith, c.number.ensures.value, w.if-number-eq0.false, zero)))
     ] in
     record {
-      own = c.requires.own;
+      own = c.requires.new.own;
+      inside = c.requires.inside;
       from = seen;
       none = begins.0;
       tried = 0;
-      works = subst (λ ns. Works p.number seen 0 ns seen 0) (sym c.requires.fresh) (refl, refl);
+      works = subst (λ ns. Works p.number seen 0 ns seen 0) (sym c.requires.new.fresh) (refl, refl);
       next = omega arith;
-      held = ap (published p.number) c.requires.fresh;
+      held = ap (published p.number) c.requires.new.fresh;
       most = omega arith;
       all = begins.1;
     }

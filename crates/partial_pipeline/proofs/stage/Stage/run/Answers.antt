@@ -1,5 +1,5 @@
 use Rattle.std.proofs.Common.{ℕ, ◌≡◌, ◌∙◌, refl, sym, ap, subst, Some}
-use Rattle.partial_memory.specs.Ports.{MemoryView}
+use Rattle.partial_long_lived.specs.Ports.{MemoryView}
 use Rattle.partial_pipeline.specs.Stages.{IsDone, IsWorking}
 use Rattle.partial_pipeline.specs.declared.stage.Stage.{Stage}
 use Rattle.partial_pipeline.specs.declared.stage.StageEnd.{StageEnd}
@@ -31,4 +31,4 @@ returns g c =
           (subst (λ (y : Stage). Ends m k items y w.in-Some.reason) (sym w.self-is)
           (w.turn.ensures.working, w.turn.ensures.number ∙ at.number, w.turn.ensures.items ∙ at.items, λ is. w.turn.ensures.finished (w.in-Some.is ∙ ap Some is)))
     ] in
-    subst (λ i. IsDone m i k (record { port = x.port; end = end })) ends.2 (is_done m x k (record { port = x.port; end = end }) ends.0 ends.1 refl ends.3)
+    subst (λ i. IsDone m i k (record { port = x.port; end = end })) ends.2 (is_done m x k (record { port = x.port; end = end }) ends.0 c.number.ensures.knows ends.1 refl ends.3)

@@ -1,0 +1,12 @@
+use Rattle.std.proofs.Common.{◌≡◌, [], length}
+use Rattle.partial_long_lived.specs.Ports.{IsOf}
+use Rattle.partial_pipeline.specs.Stages.{NotesMore}
+use Rattle.partial_pipeline.proofs.monitor.scan_into.Given as goal
+
+-- the scans so far were refused
+abbrev pub invariant-loop-turn : goal.invariant-loop-turn
+invariant-loop-turn l = record {
+  own : IsOf l.memory l.port;
+  goes : NotesMore l.fn.port l.port [];
+  room : length l.room.items ≡ l.memory.about.sizes.m;
+}
