@@ -4,6 +4,7 @@ ghost use Rattle.std.specs.Prelude.{◌≡◌, length, IfOk, IfErr};
 ghost use Rattle.partial_words.specs.Layout.{IsLayout};
 ghost use Rattle.partial_words.specs.declared.sizes.SizeError.{SizeError as SizeErrorType};
 ghost use Rattle.partial_words.specs.SizeFault.{IsFirstFault, code_of};
+ghost use Rattle.partial_door.specs.declared.held.Held.TheVariants as held;
 ghost use Rattle.partial_door.specs.Inner.Kept.{IsKept, IsOpenOf, IsUnclosed};
 ghost use Rattle.partial_door.specs.Home.{AreOf};
 ghost use Rattle.partial_door.specs.Memories.{AreApart, ClosesAt, CopiesValues, GivesPort, GoesOnWith, HoldsOpened, HoldsReopened, IsClosedHome};
@@ -266,6 +267,22 @@ pub enum Unclosed {
     Lost,
 }
 
+// Closes what is held when it is a memory with all its ports, and otherwise gives it back with the cause.
+fn closed(found: Held, alloc: Global) -> Result<Closed, (Unclosed, Held)>
+    ensures ok { IfOk result (λ c. ClosesAt found (held.Closed c)) }
+    ensures err { IfErr result (λ e. IsUnclosed found e.1 e.0) }
+{
+    match found {
+        Held::Memory(open) => match open.close(alloc) {
+            Ok(closed) => Ok(closed),
+            Err(Kept::Away(open)) => Err((Unclosed::Kept(NOT_ALL_HOME), Held::Memory(open))),
+            Err(Kept::Shared(open)) => Err((Unclosed::Kept(SHARED), Held::Memory(open))),
+            Err(Kept::Lost) => Err((Unclosed::Lost, nothing(alloc))),
+        },
+        other => Err((Unclosed::Kept(HOLDS_NONE), other)),
+    }
+}
+
 impl Held {
     /// Closes a memory to which all ports were returned.
     ///
@@ -277,25 +294,14 @@ impl Held {
         ensures ok { IfOk result (λ _. ClosesAt self.old self.new) }
         ensures err { IfErr result (IsUnclosed self.old self.new) }
     {
-        match mem::replace(self, nothing(alloc)) {
-            Held::Memory(open) => match open.close(alloc) {
-                Ok(closed) => {
-                    *self = Held::Closed(closed);
-                    Ok(())
-                }
-                Err(Kept::Away(open)) => {
-                    *self = Held::Memory(open);
-                    Err(Unclosed::Kept(NOT_ALL_HOME))
-                }
-                Err(Kept::Shared(open)) => {
-                    *self = Held::Memory(open);
-                    Err(Unclosed::Kept(SHARED))
-                }
-                Err(Kept::Lost) => Err(Unclosed::Lost),
-            },
-            other => {
-                *self = other;
-                Err(Unclosed::Kept(HOLDS_NONE))
+        match closed(mem::replace(self, nothing(alloc)), alloc) {
+            Ok(closed) => {
+                *self = Held::Closed(closed);
+                Ok(())
+            }
+            Err((cause, held)) => {
+                *self = held;
+                Err(cause)
             }
         }
     }
