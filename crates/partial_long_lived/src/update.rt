@@ -33,7 +33,6 @@ pub const MOST_CHANGES: u32 = 16;
 /// # Errors
 /// [`Refused::Overtaken`] when the port has come to a later epoch 16 times; [`Refused::NoArena`] and
 /// [`Refused::EpochsSpent`] when the epoch has to be changed and can't be. Nothing was applied.
-#[inline(always)]
 pub fn update(
     words: &Words,
     mut stand: Stand,
@@ -61,7 +60,6 @@ pub fn update(
 
 // Makes an update of a port that is not spent, and changes the epoch behind each attempt that met a seal, so many times.
 // `first` says that the first step of the update is the first one of its call.
-#[inline(always)]
 fn rounds(
     words: &Words,
     mut stand: Stand,
@@ -123,7 +121,6 @@ pub fn renew(words: &Words, stand: &mut Stand, core: &mut Core, first: bool) -> 
 /// Makes an update of a port that is not spent, in the port's epoch. Returns how it ended, with stamps of the epoch's own,
 /// and whether the port is spent then; or `None` when the component is sealed. Then nothing was applied, and the port is
 /// spent. `first` says that the first step of the update is the first one of its call.
-#[inline(always)]
 pub fn attempt(
     words: &Words,
     mut stand: Stand,
