@@ -1,5 +1,5 @@
 -- One call more of a stage, of the monitor, and a meeting.
-use Rattle.std.proofs.Common.{ℕ, zero, suc, ◌≡◌, ◌+◌, ◌<◌, ◌≤◌, ◌++◌, List, [], ◌∷◌, length, map, take, get_or, slice_index, refl, sym, ◌∙◌, ap, subst, inl, inr, Option, Some, append-nil, append_assoc, length-take, arith}
+use Rattle.std.proofs.Common.{ℕ, zero, suc, ◌≡◌, ◌+◌, ◌<◌, ◌≤◌, ◌++◌, List, [], ◌∷◌, length, map, take, get_or, refl, sym, ◌∙◌, ap, subst, inl, inr, Option, Some, append-nil, append_assoc, length-take, arith}
 use Rattle.std.specs.List.{AllByRecursion}
 use Rattle.partial_model.specs.declared.history.Applied.{Applied}
 use Rattle.partial_model.specs.declared.history.Opening.{Opening}
@@ -9,7 +9,7 @@ use Rattle.partial_model.specs.declared.call.Answer.{Answer}
 use Rattle.partial_model.specs.declared.call.Answer.TheVariants as answer
 use Rattle.partial_model.specs.declared.call.Note.{Note}
 use Rattle.partial_model.specs.declared.call.Note.TheVariants as note
-use Rattle.partial_model.specs.Notes.{NamesComponents, Noted, LegalNotes, seen_after}
+use Rattle.partial_model.specs.Notes.{Noted, LegalNotes, seen_after}
 use Rattle.partial_model.specs.Entries.{applied_by, entry_of}
 use Rattle.partial_model.specs.Outcome.{places_written, wrote}
 use Rattle.partial_model.proofs.AllLemmas.{all_append, all_weaker}
@@ -22,7 +22,7 @@ use Rattle.partial_long_lived.specs.Calls.{Goes, IsRefused, Meets, Reads, Scanne
 use Rattle.partial_long_lived.specs.Ports.{IsOf, Knows, MemoryView, PortView}
 use Rattle.partial_pipeline.specs.Pipeline.{AreFrom, HasWorked, Works}
 use Rattle.partial_pipeline.proofs.Pipes.{read_makes_none}
-use Rattle.partial_pipeline.specs.Stages.{EndEach, EndsAt, HasMet, IsDone, IsEachStage, IsWorking, NotesMore, Sees, Watched, last_value, published}
+use Rattle.partial_pipeline.specs.Stages.{EndEach, EndsAt, HasMet, IsDone, IsWorking, NotesMore, Sees, Watched, last_value, published}
 use Rattle.partial_pipeline.specs.declared.stage.Stage.{Stage}
 use Rattle.partial_pipeline.specs.declared.stage.StageEnd.{StageEnd}
 use Rattle.partial_pipeline.specs.declared.stage.StageEnd.TheVariants.{Finished}
@@ -39,11 +39,11 @@ pub goes_more : (p q : PortView) (new : List Noted) → Goes p q new → NotesMo
 goes_more p q new w = record { memory = w.memory; number = w.number; seen = begins_within p.seen q.seen w.seen; notes = w.notes }
 
 -- a call that left the port as it was
-pub stays : (p q : PortView) → q ≡ p → NotesMore p q []
+stays : (p q : PortView) → q ≡ p → NotesMore p q []
 stays p q is = subst (λ (x : PortView). NotesMore p x []) (sym is) (record { memory = refl; number = refl; seen = omega arith; notes = sym (append-nil p.notes) })
 
 -- calls behind some that noted nothing
-pub then_more : (p x q : PortView) (new : List Noted) → NotesMore p x [] → NotesMore x q new → NotesMore p q new
+then_more : (p x q : PortView) (new : List Noted) → NotesMore p x [] → NotesMore x q new → NotesMore p q new
 then_more p x q new w v =
     record {
       memory = v.memory ∙ w.memory;
@@ -58,20 +58,6 @@ update_refused p q j v refused.Component w = stays p q w.1
 update_refused p q j v refused.Overtaken w = goes_more p q [] w.1
 update_refused p q j v refused.NoArena w = goes_more p q [] w.1
 update_refused p q j v refused.EpochsSpent w = goes_more p q [] w.1
-
--- a read that was refused
-pub read_refused : (p q : PortView) (j : ℕ) (cause : Refused) → IsRefused p (call.Read j) cause q → NotesMore p q []
-read_refused p q j refused.Component w = stays p q w.1
-read_refused p q j refused.Overtaken w = absurd w
-read_refused p q j refused.NoArena w = absurd w
-read_refused p q j refused.EpochsSpent w = absurd w
-
--- a scan that was refused
-pub scan_refused : (p q : PortView) (js : List ℕ) (cause : Refused) → IsRefused p (call.Scan js) cause q → NotesMore p q []
-scan_refused p q js refused.Component w = stays p q w.1
-scan_refused p q js refused.Overtaken w = absurd w
-scan_refused p q js refused.NoArena w = goes_more p q [] w.1
-scan_refused p q js refused.EpochsSpent w = goes_more p q [] w.1
 
 -- ---- the notes of a stage
 
@@ -193,9 +179,6 @@ works_lost m x q v by w own next most updates =
     let noted : Noted = record { call = call.Update x.port.number v; answer = answer.Lost by; note = Some (note.Lost updates.0) } in
     works_tried m x q v x.count noted w own updates.1.goes.number updates.1.goes.notes refl next most w.most (omega (arith, next)) refl
 
-pub number_read : (p q : PortView) (j v s : ℕ) → Reads p j v s q → q.number ≡ p.number
-number_read p q j v s w = w.1.goes.number
-
 pub number_update : (p q : PortView) (j v : ℕ) (u : Updated) → Updates p j v u q → q.number ≡ p.number
 number_update p q j v (IsApplied s) w = w.1.goes.number
 number_update p q j v (Lost by) w = w.1.goes.number
@@ -260,23 +243,6 @@ sees_then p x q stages counts w s =
       behind = omega (arith, w.seen, s.behind);
       each = s.each;
     }
-
--- no scan of all stages names a component that isn't there, and none is overtaken
-pub scan_is_inside : (m : MemoryView) (p q : PortView) (js : List ℕ) → IsOf m p → IsEachStage m.about.sizes.m js → IsRefused p (call.Scan js) refused.Component q → ⊥
-scan_is_inside m p q js own all w =
-    let named : NamesComponents m.about.sizes.m (call.Scan js) = all_index m.about.sizes.m js (λ i below.
-    let here : i < m.about.sizes.m = omega (arith, all.count) in
-    let is = all.each i here in
-    omega arith) in
-    w.0 (subst (λ (v : MemoryView). NamesComponents v.about.sizes.m (call.Scan js)) (sym own) named)
-  where
-    all_index : (n : ℕ) (xs : List ℕ) → ((i : ℕ) → i < length xs → slice_index xs i < n) → AllByRecursion (λ j. j < n) xs
-    all_index n [] f = tt
-    all_index n (x ∷ xs) f = (f 0 (omega arith), all_index n xs (λ i below. f (suc i) (omega arith)))
-
--- no update of a stage names a component that isn't there
-pub update_is_inside : (m : MemoryView) (p q : PortView) (j v : ℕ) → IsOf m p → j < m.about.sizes.m → IsRefused p (call.Update j v) refused.Component q → ⊥
-update_is_inside m p q j v own below w = w.0 (subst (λ (x : MemoryView). j < x.about.sizes.m) (sym own) below, tt)
 
 -- ---- meetings
 

@@ -11,7 +11,7 @@ use Rattle.partial_model.specs.History.{value_of}
 use Rattle.partial_model.specs.Notes.{Noted, LegalNotes}
 use Rattle.partial_model.specs.Outcome.{EachOnce}
 use Rattle.partial_long_lived.specs.declared.open_error.OpenError.{OpenError}
-use Rattle.partial_long_lived.specs.declared.open_error.OpenError.TheVariants as open
+use Rattle.partial_long_lived.specs.declared.open_error.OpenError.TheVariants as opening
 use Rattle.partial_long_lived.specs.declared.options.Options.{Options}
 use Rattle.partial_long_lived.specs.Options.{most_lists, most_words, words_behind}
 use Rattle.partial_pipeline.specs.declared.error.PipelineError.{PipelineError}
@@ -60,20 +60,20 @@ pub record HaveEnded (stages items : ℕ) (r : PipelineReport) : Type 0 where
 abbrev pub AreStages : ℕ → Type 0
 AreStages stages = (1 ≤ stages) × (stages ≤ 63)
 
--- why a pipeline of that many stages and these options may not run: the first of them that is out of its range, or memory when none is
+-- why a pipeline of that many stages and these options may not run: what is out of its range, or memory when the stages are not
 abbrev pub MayNotRun : ℕ → Options → PipelineError → Type 0
 MayNotRun stages o Stages = (stages ≡ 0) ⊎ (63 < stages)
 MayNotRun stages o Lists = AreStages stages × (most_lists < o.lists)
 MayNotRun stages o Pool = AreStages stages × (o.lists ≤ most_lists) × (most_words < words_behind stages (stages + 1) o)
-MayNotRun stages o Memory = AreStages stages × (o.lists ≤ most_lists) × (words_behind stages (stages + 1) o ≤ most_words)
+MayNotRun stages o Memory = AreStages stages
 
 -- what the refusal of a memory is to its pipeline
 abbrev pub error_of : OpenError → PipelineError
-error_of open.Ports = Stages
-error_of open.Components = Stages
-error_of open.Lists = Lists
-error_of open.Pool = Pool
-error_of open.Memory = Memory
+error_of opening.Ports = Stages
+error_of opening.Components = Stages
+error_of opening.Lists = Lists
+error_of opening.Pool = Pool
+error_of opening.Memory = Memory
 
 -- the numbers of the refusals
 abbrev pub error_code : PipelineError → ℕ

@@ -70,7 +70,8 @@ pub fn scan_into(
             Ok(_scanned) => return Some(room),
             Err(Refused::NoArena) => thread::yield_now(),
             Err(Refused::EpochsSpent) => break,
-            Err(Refused::Component | Refused::Overtaken) => unreachable!(),
+            Err(Refused::Component) => unreachable!(),
+            Err(Refused::Overtaken) => unreachable!(),
         }
     }
     None

@@ -85,7 +85,12 @@ impl Stage {
 
     // Takes one turn: works on the next item or, when none is ready, reads the count of the stage before.
     // Returns why the stage ends, if it does.
-    fn turn<W: Work>(&mut self, memory: &LongLived, ended: &[AtomicBool], work: &W) -> Option<StageEnd>
+    fn turn<W: Work>(
+        &mut self,
+        memory: &LongLived,
+        ended: &[AtomicBool],
+        work: &W,
+    ) -> Option<StageEnd>
         requires { IsWorking memory.now self.old }
         ensures working { IsWorking memory.now self.new }
         ensures number { self.new.port.number ≡ self.old.port.number }

@@ -104,7 +104,10 @@ fn stages_reach_all_items_over_many_epochs(rt: HostRuntime) -> Result<(), Fail> 
         assert!(rt; report.counts.iter().all(|count| *count == items));
         assert!(rt; report.ends.iter().all(|end| *end == StageEnd::Finished));
     }
-    assert_eq!(rt; work.calls.load(Ordering::SeqCst), 5_000 + 3 * 3_000 + 8 * 500);
+    assert_eq!(rt;
+        work.calls.load(Ordering::SeqCst),
+        5_000 + 3 * 3_000 + 8 * 500
+    );
     Ok(())
 }
 

@@ -16,7 +16,8 @@ new-stage-requires g c =
     let n = length c.loop-port.yielded in
     let turn = YieldsList-turn (YieldsList-from_vec {s = c.into_iter-port-iterator.result} all (search rules) (search rules)) c.loop-port.yielded _ c.loop-port.yielded_by _ c.next.new.self
     c.in-Some.port c.in-Some.is c.next.ensures.steps in
-    new_self m n c.in-Some.port (new_at m n all c.in-Some.port c.requires.new turn.0 turn.1)
+    let new = new_at m n all c.in-Some.port c.requires.new turn.0 turn.1 in
+    record { new = new_self m n c.in-Some.port new; inside = omega (arith, new.number, turn.0, c.requires.inside) }
 
 pub loop-port-preserved : goal.loop-port-preserved
 loop-port-preserved g c =

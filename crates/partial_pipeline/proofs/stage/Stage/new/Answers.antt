@@ -1,4 +1,4 @@
-use Rattle.std.proofs.Common.{ℕ, ◌≡◌, ◌<◌, refl, sym, ap, subst, arith}
+use Rattle.std.proofs.Common.{◌≡◌, ◌<◌, refl, sym, ap, subst, arith}
 use Rattle.partial_pipeline.specs.Pipeline.{Works}
 use Rattle.partial_pipeline.specs.Stages.{published}
 use Rattle.partial_pipeline.proofs.stage.Stage.new.Goals as goal
