@@ -77,7 +77,8 @@ impl LongLived {
         requires { IsOf self.now me.old }
         ensures same { IsOf self.now me.new }
         ensures answered { IfOk result (λ r. UpdatesIf me.old component expected value r me.new) }
-        ensures refused { IfErr result (λ cause. IsRefused me.old (call.UpdateIf component expected value) cause me.new) }
+        ensures refused { IfErr result (λ cause.
+            IsRefused me.old (call.UpdateIf component expected value) cause me.new) }
     {
         if component >= self.shape.sizes.m() {
             return Err(Refused::Component);

@@ -156,7 +156,8 @@ fn see<G: Wishes>(words: &Words, stand: &mut Stand, asked: Asked, first: bool) -
     requires wish { G.wish ≡ Expects asked.expected asked.value }
     ensures held { IsHeld words.now.table_id words.now.key stand.new }
     ensures kept { Kept stand.old stand.new }
-    ensures sees { Sees first (Expects asked.expected asked.value) asked.component (port_at stand.old) result (port_at stand.new) }
+    ensures sees { Sees first (Expects asked.expected asked.value) asked.component
+        (port_at stand.old) result (port_at stand.new) }
 {
     let word = stand.base + u64::from(asked.component);
     if first {

@@ -71,8 +71,10 @@ pub record HasCome (s t : Stand) : Type 0 where
   pub number : t.number ≡ s.number
   pub goes : Goes (port_at s) (port_at t)
   pub idle : IsIdle t
-  pub machine : ((t.epoch ≡ s.epoch) × (core_of (port_at t).port.part ≡ core_of (port_at s).port.part) × ((port_at t).port.over ≡ (port_at s).port.over))
-      ⊎ ((s.epoch < t.epoch) × (core_of (port_at t).port.part ≡ fresh (port_at s).about.sizes (port_at s).number) × ((port_at t).port.over ≡ false))
+  pub machine : ((t.epoch ≡ s.epoch) × (core_of (port_at t).port.part ≡ core_of (port_at s).port.part)
+      × ((port_at t).port.over ≡ (port_at s).port.over))
+      ⊎ ((s.epoch < t.epoch) × (core_of (port_at t).port.part ≡ fresh (port_at s).about.sizes (port_at s).number)
+      × ((port_at t).port.over ≡ false))
 
 -- The port has come to an epoch that was the current one during its call, and has noted nothing.
 pub record Settled (s t : Stand) : Type 0 where

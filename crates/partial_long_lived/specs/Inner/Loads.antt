@@ -29,10 +29,11 @@ pub data Wish : Type 0 where
 abbrev pub opening_of : Seated → Opening
 opening_of x = opening_behind x.about.opening x.port.before
 
--- the value and the public stamp of component j behind that history of the port's epoch
+-- the value of component j behind that history of the port's epoch
 abbrev pub value_seen : Seated → List Applied → ℕ → ℕ
 value_seen x log j = value_of (opening_of x) log j
 
+-- and its public stamp
 abbrev pub stamp_seen : Seated → List Applied → ℕ → ℕ
 stamp_seen x log j = public_of (plan_of x.about) x.port.before j (stamp_of (opening_of x) log j)
 
@@ -43,10 +44,18 @@ place_seen x log = length (history_of (log ∷ x.port.before))
 -- what the port notes where its wish is answered
 abbrev pub noted_by : Wish → Seated → List Applied → ℕ → List Noted
 noted_by Reads x log j =
-    record { call = call.Read j; answer = answer.Read (value_seen x log j) (stamp_seen x log j); note = Some (note.Saw (place_seen x log)) } ∷ []
+    record {
+      call = call.Read j;
+      answer = answer.Read (value_seen x log j) (stamp_seen x log j);
+      note = Some (note.Saw (place_seen x log));
+    } ∷ []
 noted_by (Expects expected v) x log j =
     if stamp_seen x log j == expected then []
-    else record { call = call.UpdateIf j expected v; answer = answer.Changed (stamp_seen x log j); note = Some (note.Saw (place_seen x log)) } ∷ []
+    else record {
+      call = call.UpdateIf j expected v;
+      answer = answer.Changed (stamp_seen x log j);
+      note = Some (note.Saw (place_seen x log));
+    } ∷ []
 noted_by _ x log j = []
 
 -- what the port has found then

@@ -33,6 +33,7 @@ change_of (Store w v) n = v
 change_of (Exchange w old new) n = if n == old then new else n
 change_of (Add w k) n = (n + k) % 2 ^ 64
 
+-- what such a step answers: a store answers nothing
 abbrev pub told_of : Step → ℕ → ℕ
 told_of (Store w v) n = 0
 told_of _ n = n
@@ -124,5 +125,6 @@ abbrev pub Begins : Bool → CoreState → ℕ → Seated → ℕ → Seated →
 Begins first c j x a y = (IsSealed a × Sees first Glances j x a y)
     ⊎ ((a < seal) × Makes first c (Load j) x a y × (y.began.epoch ≤ x.port.control.here.epoch))
 
+-- the same of what a seat knows
 abbrev pub begins : {S : Type 0} → Bool → CoreState → ℕ → Me S (List Seated) → ℕ → Me S (List Seated) → Type 0
 begins first c i me = tells (Begins first c (component_at (one_of me.0) i)) me

@@ -80,7 +80,8 @@ word_from (Overtaken by) = by
 
 -- a conditional update expects a record that its component has had in the epoch, as far as the port has seen
 abbrev pub ExpectsOne : Seated → Change → Type 0
-ExpectsOne x c = IfSome c.expected (λ at. (n : ℕ) × (n ≤ length x.port.part.seen) × (at ≡ stamp_of (opening_of x) (take n x.port.part.seen) c.component))
+ExpectsOne x c = IfSome c.expected (λ at.
+    (n : ℕ) × (n ≤ length x.port.part.seen) × (at ≡ stamp_of (opening_of x) (take n x.port.part.seen) c.component))
 
 -- The port stands where it stood, in a call that began as before or with its first step here, and owns no arena.
 pub record Stayed (first : Bool) (s t : Stand) : Type 0 where

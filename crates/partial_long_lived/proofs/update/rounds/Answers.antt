@@ -22,14 +22,19 @@ returns-in-Some-clause-updated c =
 
 pub returns-in-Err-clause-refused : goal.returns-in-Err-clause-refused
 returns-in-Err-clause-refused c =
-    let met : NotesNothing c.loop.first_step c.loop.stand c.attempt-behind.result.0 = search rules in
-    (late_of c.args.times c.args.stand c.renew.new.stand c.in-Err.cause (rw c.in-Err.is at c.renew.ensures.cause), came_on c.args.first c.args.stand c.attempt-behind.result.0 _ (round_met _ _ c.args.first c.loop.first_step c.args.stand c.loop.stand _ c.loop.invariant.0 _ met) c.renew.ensures.came)
+    let met : NotesNothing c.loop.first_step c.loop.stand c.attempt-behind.result.0 = search rules in (
+      late_of c.args.times c.args.stand c.renew.new.stand c.in-Err.cause (rw c.in-Err.is at c.renew.ensures.cause),
+      came_on c.args.first c.args.stand c.attempt-behind.result.0 _ (round_met _ _ c.args.first c.loop.first_step c.args.stand c.loop.stand _ c.loop.invariant.0 _ met) c.renew.ensures.came,
+    )
 
 pub loop-preserved : goal.loop-preserved
 loop-preserved c =
     let met : NotesNothing c.loop.first_step c.loop.stand c.attempt-behind.result.0 = search rules in
-    let came = came_on c.args.first c.args.stand c.attempt-behind.result.0 _ (round_met _ _ c.args.first c.loop.first_step c.args.stand c.loop.stand _ c.loop.invariant.0 _ met) c.renew.ensures.came in
-    (came_rounds _ _ c.args.first c.args.stand _ _ c.renew.ensures.held c.renew.ensures.idle (search rules) came, λ some. refl, one_later _ _ c.args.stand c.loop.stand c.attempt-behind.result.0 c.renew.new.stand _ c.loop.invariant.0.held c.attempt-behind.ensures.held met.stayed.kept.epoch c.loop.invariant.2 (search rules))
+    let came = came_on c.args.first c.args.stand c.attempt-behind.result.0 _ (round_met _ _ c.args.first c.loop.first_step c.args.stand c.loop.stand _ c.loop.invariant.0 _ met) c.renew.ensures.came in (
+      came_rounds _ _ c.args.first c.args.stand _ _ c.renew.ensures.held c.renew.ensures.idle (search rules) came,
+      λ some. refl,
+      one_later _ _ c.args.stand c.loop.stand c.attempt-behind.result.0 c.renew.new.stand _ c.loop.invariant.0.held c.attempt-behind.ensures.held met.stayed.kept.epoch c.loop.invariant.2 (search rules),
+    )
 
 pub returns-clause-held : goal.returns-clause-held
 returns-clause-held c = c.loop.invariant.0.held
