@@ -247,7 +247,7 @@ fn changes(name: &str) -> Sample {
     if name != "memory" {
         return Sample::none();
     }
-    let memory = Memory::new(&[0; M]).expect("it opens");
+    let memory = Memory::builder().ports(1).open(&[0; M]).expect("it opens");
     let mut port = memory.port().expect("a port is free");
     let mut update = |call: u32| match port.update(call % M as u32, u64::from(call)).expect("it is made") {
         Updated::Applied { stamp } | Updated::Lost { by: stamp } => stamp.epoch(),
