@@ -26,4 +26,4 @@ pub use pixels::Pixels;
 pub use svg::drawing;
 pub use text::{fitted, push_escaped};
 pub use window::{MOST_STEPS, Span, Window};
-pub use words::{call_words, entry_words, finish_words, word_words};
+pub use words::word_words;

@@ -1,8 +1,10 @@
 //! The words of labels: those of plans and outcomes.
 
-ghost use Rattle.std.specs.Prelude.{◌≡◌, ◌++◌, IfOk, OnOk, string_bytes};
+ghost use Rattle.std.specs.Prelude.{◌≡◌, ◌++◌, ◌∷◌, [], IfOk, OnOk, string_bytes, codes};
 ghost use Rattle.std.specs.List.{flat_map};
-ghost use Rattle.partial_picture.specs.Words.{spaced, end_words, call_words, finish_words, entry_words, step_words, word_name};
+ghost use Rattle.partial_text.specs.PlanText.{call_text, number_field};
+ghost use Rattle.partial_text.specs.OutcomeText.{entry_line, finish_text, optional_field, told_place};
+ghost use Rattle.partial_picture.specs.Words.{step_words, word_name};
 
 use partial_model::{Answer, Applied, Call, Called, Note};
 use partial_words::{Event, Sizes, Step};
@@ -10,7 +12,7 @@ use std::alloc::{AllocError, Global};
 
 /// Writes each index with a space before it.
 fn push_indices(words: &mut String, indices: &[u32]) -> Result<(), AllocError>
-    ensures { OnOk result (string_bytes words.new ≡ string_bytes words.old ++ flat_map spaced indices.now) }
+    ensures { OnOk result (string_bytes words.new ≡ string_bytes words.old ++ flat_map number_field indices.now) }
 {
     for index in indices {
         write!(words, " {index}")?;
@@ -20,7 +22,7 @@ fn push_indices(words: &mut String, indices: &[u32]) -> Result<(), AllocError>
 
 /// Writes each value with a space before it.
 fn push_values(words: &mut String, values: &[u64]) -> Result<(), AllocError>
-    ensures { OnOk result (string_bytes words.new ≡ string_bytes words.old ++ flat_map spaced values.now) }
+    ensures { OnOk result (string_bytes words.new ≡ string_bytes words.old ++ flat_map number_field values.now) }
 {
     for value in values {
         write!(words, " {value}")?;
@@ -34,7 +36,7 @@ fn push_values(words: &mut String, values: &[u64]) -> Result<(), AllocError>
 ///
 /// [`AllocError`] when an allocation was refused.
 pub fn call_words(alloc: Global, call: &Call) -> Result<String, AllocError>
-    ensures { IfOk result (λ words. string_bytes words ≡ call_words call.now) }
+    ensures { IfOk result (λ words. string_bytes words ≡ call_text call.now) }
 {
     match call {
         Call::Update { component, value } => format!(in alloc; "update {component} {value}"),
@@ -52,21 +54,29 @@ pub fn call_words(alloc: Global, call: &Call) -> Result<String, AllocError>
     }
 }
 
+/// The place or the prefix of a note, and 0 when there is no note.
+fn place_of(note: Option<Note>) -> usize
+    ensures { result ≡ told_place note }
+{
+    match note {
+        None => 0,
+        Some(Note::Wrote(place) | Note::Lost(place) | Note::Saw(place)) => place,
+    }
+}
+
 /// The words of a call's end, as in an outcome, up to its number of steps.
 ///
 /// # Errors
 ///
 /// [`AllocError`] when an allocation was refused.
 pub fn finish_words(alloc: Global, called: &Called) -> Result<String, AllocError>
-    ensures { IfOk result (λ words. string_bytes words ≡ finish_words called.now.finish) }
+    // In the text it stands behind a space.
+    ensures { IfOk result (λ words. 32 ∷ string_bytes words ≡ finish_text called.now.finish) }
 {
     let Some(finish) = &called.finish else {
         return String::from_str(alloc, "unfinished");
     };
-    let place = match finish.note {
-        None => 0,
-        Some(Note::Wrote(place) | Note::Lost(place) | Note::Saw(place)) => place,
-    };
+    let place = place_of(finish.note);
     match &finish.answer {
         Answer::Applied { stamp } => format!(in alloc; "applied {stamp} place {place}"),
         Answer::Lost { by } => format!(in alloc; "lost {by} place {place}"),
@@ -95,7 +105,8 @@ fn push_end(
     collects: u32,
     borrowed: Option<u64>,
 ) -> Result<(), AllocError>
-    ensures { OnOk result (string_bytes words.new ≡ string_bytes words.old ++ end_words prefix collects borrowed) }
+    ensures { OnOk result (string_bytes words.new ≡ string_bytes words.old ++ codes " prefix" ++ number_field prefix
+        ++ codes " collects" ++ number_field collects ++ codes " borrowed" ++ optional_field borrowed) }
 {
     match borrowed {
         Some(stamp) => write!(
@@ -112,7 +123,8 @@ fn push_end(
 ///
 /// [`AllocError`] when an allocation was refused.
 pub fn entry_words(alloc: Global, place: usize, entry: &Applied) -> Result<String, AllocError>
-    ensures { IfOk result (λ words. string_bytes words ≡ entry_words place entry.now) }
+    // In the text a newline ends it.
+    ensures { IfOk result (λ words. string_bytes words ++ 10 ∷ [] ≡ entry_line place entry.now) }
 {
     let Applied {
         port,

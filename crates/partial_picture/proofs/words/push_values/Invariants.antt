@@ -1,7 +1,7 @@
 use Rattle.std.proofs.Common.{◌≡◌, ◌++◌, take, string_bytes}
 use Rattle.std.specs.List.{flat_map}
-use Rattle.partial_picture.specs.Words.{spaced}
+use Rattle.partial_text.specs.PlanText.{number_field}
 use Rattle.partial_picture.proofs.words.push_values.Given as goal
 
 abbrev pub invariant-loop-value : goal.invariant-loop-value
-invariant-loop-value l = string_bytes l.words ≡ string_bytes l.initial.words ++ flat_map spaced (take l.value-index l.values)
+invariant-loop-value l = string_bytes l.words ≡ string_bytes l.initial.words ++ flat_map number_field (take l.value-index l.values)
