@@ -28,6 +28,10 @@ CALLS = [
     ('partial_cmd/src/command.rt', ['execute']),
     ('partial_cmd/src/next.rt', ['execute_next']),
 ]
+LONG_LIVED = [
+    ('partial_long_lived/src/long_lived.rt', ['open', 'close']),
+    ('partial_long_lived/src/calls.rt', ['update', 'update_if', 'read', 'scan', 'unchanged', 'meet']),
+]
 RUNNING = [*CALLS[:2], ('partial_memory/src/port.rt', ['pool_spent', 'slots_spent']), ('partial_memory/src/law.rt', None)]
 TOGETHER = RUNNING + [
     CALLS[2], *CALLS[4:], ('partial_cmd/src/workers.rt', ['run_workers']),
@@ -160,7 +164,7 @@ def lines(known, names):
 
 def call_rows(known):
     """A row for each call: its name, and what its clauses reach, with those of LED and without."""
-    for file, functions in CALLS:
+    for file, functions in [*LONG_LIVED, *CALLS]:
         for function in functions:
             answers = reached(known, roots(file, [function], LED))
             whole = reached(known, roots(file, [function]))
