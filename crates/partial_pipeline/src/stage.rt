@@ -1,6 +1,6 @@
 //! A stage at work, in a thread of its own.
 
-ghost use Rattle.std.specs.Prelude.{◌≡◌, ◌+◌, ◌<◌, IfSome, Some};
+ghost use Rattle.std.specs.Prelude.{◌≡◌, ◌≢◌, ◌+◌, ◌<◌, IfSome, Some};
 ghost use Rattle.partial_pipeline.specs.Stages.{IsDone, IsNew, IsWorking};
 ghost use Rattle.partial_pipeline.specs.declared.stage.StageEnd.TheVariants.{EpochsSpent, Finished};
 
@@ -133,8 +133,7 @@ impl Stage {
         self.publish(memory, next)
     }
 
-    // Publishes the next count. An update that is overtaken by changes of epoch, or finds no free arena, leaves the count as
-    // it was, and is tried again: so `count` is always what the component holds. Returns why the stage ends, if it does.
+    // Publishes the next count, in as many tries as it takes. Returns why the stage ends, if it does.
     fn publish(&mut self, memory: &LongLived, next: u64) -> Option<StageEnd>
         requires working { IsWorking memory.now self.old }
         requires next { next ≡ self.old.count + 1 }
@@ -145,20 +144,43 @@ impl Stage {
         ensures items { self.new.items ≡ self.old.items }
         ensures end { IfSome result (λ end. end ≡ EpochsSpent) }
     {
-        let stage = self.port.number();
         for _turn in 0..u64::MAX {
-            match memory.update(&mut self.port, stage, next) {
-                Ok(Updated::Applied { .. }) => {
-                    self.count = next;
-                    return None;
-                }
-                Ok(Updated::Lost { .. }) => {}
-                Err(Refused::Overtaken | Refused::NoArena) => thread::yield_now(),
-                Err(Refused::EpochsSpent) => return Some(StageEnd::EpochsSpent),
-                Err(Refused::Component) => unreachable!(),
+            if self.set(memory, next) {
+                return Some(StageEnd::EpochsSpent);
             }
+            if self.count == next {
+                return None;
+            }
+            thread::yield_now();
         }
         None
+    }
+
+    // Tries to publish the next count, once. An update that is lost, is overtaken by changes of epoch, or finds no free arena
+    // leaves the count as it was: so `count` is always what the component holds. Returns whether the memory's epochs are
+    // used up.
+    fn set(&mut self, memory: &LongLived, next: u64) -> bool
+        requires working { IsWorking memory.now self.old }
+        requires next { next ≡ self.old.count + 1 }
+        requires read { self.old.count < self.old.seen }
+        requires more { self.old.count < self.old.items }
+        ensures working { IsWorking memory.now self.new }
+        ensures number { self.new.port.number ≡ self.old.port.number }
+        ensures items { self.new.items ≡ self.old.items }
+        ensures seen { self.new.seen ≡ self.old.seen }
+        ensures count { self.new.count ≢ next → self.new.count ≡ self.old.count }
+    {
+        let stage = self.port.number();
+        match memory.update(&mut self.port, stage, next) {
+            Ok(Updated::Applied { .. }) => {
+                self.count = next;
+                false
+            }
+            Ok(Updated::Lost { .. }) => false,
+            Err(Refused::Overtaken | Refused::NoArena) => false,
+            Err(Refused::EpochsSpent) => true,
+            Err(Refused::Component) => unreachable!(),
+        }
     }
 
     // Reads the count of the stage before.

@@ -1,4 +1,4 @@
-use Rattle.std.proofs.Common.{◌≡◌}
+use Rattle.std.proofs.Common.{◌≡◌, ◌+◌, ◌≤◌}
 use Rattle.partial_pipeline.specs.Stages.{IsWorking}
 use Rattle.partial_pipeline.proofs.stage.Stage.publish.Given as goal
 
@@ -8,6 +8,6 @@ invariant-loop-turn l = record {
   working : IsWorking l.memory l.self;
   number : l.self.port.number ≡ l.fn.self.port.number;
   items : l.self.items ≡ l.fn.self.items;
-  seen : l.self.seen ≡ l.fn.self.seen;
-  count : l.self.count ≡ l.fn.self.count;
+  read : l.next ≤ l.self.seen;
+  count : l.next ≡ l.self.count + 1;
 }
