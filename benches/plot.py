@@ -1,6 +1,6 @@
 #!/usr/bin/env python3
-"""Draws the first table of docs/benches.md, read from standard input, in SVG: a bar for each cell in nanoseconds,
-on a logarithmic scale."""
+"""Draws the first table of nanoseconds of docs/benches.md, read from standard input, in SVG: a bar for each cell, on a
+logarithmic scale."""
 import html
 import math
 import sys
@@ -28,7 +28,7 @@ def first_table(lines):
     """The names of the objects, and of each row in nanoseconds its title and its cells."""
     table = []
     for line in lines:
-        if line.startswith("|"):
+        if line.startswith("|") and (table or cells(line)[0] == "ns a call"):
             table.append(cells(line))
         elif table:
             break
