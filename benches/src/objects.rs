@@ -36,56 +36,31 @@ impl<F: Face> Face for Apart<F> {
     }
 }
 
-/// The proved memory that never wears out.
-impl Face for Port {
-    fn update(&mut self, component: u32, value: u64) -> bool {
-        Port::update(self, component, value).is_ok()
-    }
-    fn add_one(&mut self, component: u32) -> bool {
-        let seen = Port::read(self, component).expect("the component is there");
-        self.update_if(component, seen.stamp, seen.value + 1).is_ok()
-    }
-    fn read(&mut self, component: u32) -> u64 {
-        Port::read(self, component).expect("the component is there").value
-    }
-    fn scan(&mut self, which: &[u32], into: &mut [u64]) -> bool {
-        Port::scan(self, which, into).is_ok()
-    }
+/// The face of a kind of ports, whose calls have these names and may be refused.
+macro_rules! face_of {
+    ($port:ty) => {
+        impl Face for $port {
+            fn update(&mut self, component: u32, value: u64) -> bool {
+                <$port>::update(self, component, value).is_ok()
+            }
+            fn add_one(&mut self, component: u32) -> bool {
+                let seen = <$port>::read(self, component).expect("the component is there");
+                self.update_if(component, seen.stamp, seen.value + 1).is_ok()
+            }
+            fn read(&mut self, component: u32) -> u64 {
+                <$port>::read(self, component).expect("the component is there").value
+            }
+            fn scan(&mut self, which: &[u32], into: &mut [u64]) -> bool {
+                <$port>::scan(self, which, into).is_ok()
+            }
+        }
+    };
 }
 
-/// A proved single opening.
-impl Face for opening::Port {
-    fn update(&mut self, component: u32, value: u64) -> bool {
-        opening::Port::update(self, component, value).is_ok()
-    }
-    fn add_one(&mut self, component: u32) -> bool {
-        let seen = opening::Port::read(self, component).expect("the component is there");
-        self.update_if(component, seen.stamp, seen.value + 1).is_ok()
-    }
-    fn read(&mut self, component: u32) -> u64 {
-        opening::Port::read(self, component).expect("the component is there").value
-    }
-    fn scan(&mut self, which: &[u32], into: &mut [u64]) -> bool {
-        opening::Port::scan(self, which, into).is_ok()
-    }
-}
-
-/// The same algorithm, with nothing proved.
-impl Face for raw::Port {
-    fn update(&mut self, component: u32, value: u64) -> bool {
-        raw::Port::update(self, component, value).is_ok()
-    }
-    fn add_one(&mut self, component: u32) -> bool {
-        let seen = raw::Port::read(self, component).expect("the component is there");
-        self.update_if(component, seen.stamp, seen.value + 1).is_ok()
-    }
-    fn read(&mut self, component: u32) -> u64 {
-        raw::Port::read(self, component).expect("the component is there").value
-    }
-    fn scan(&mut self, which: &[u32], into: &mut [u64]) -> bool {
-        raw::Port::scan(self, which, into).is_ok()
-    }
-}
+// The proved memory that never wears out, a proved single opening, and its algorithm with nothing proved.
+face_of!(Port);
+face_of!(opening::Port);
+face_of!(raw::Port);
 
 #[derive(Clone)]
 pub struct Locked(Arc<Mutex<Vec<u64>>>);
