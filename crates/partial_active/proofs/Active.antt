@@ -1,18 +1,5 @@
 -- A getSet that is answered from orderly words: its answers are possible, it makes few steps, and it misses no announcement.
-use Rattle.std.proofs.Common.{ℕ, ◌≡◌, ◌+◌, ◌*◌, ◌<◌, ◌≤◌, ◌⊎◌, Bool, Some, is_some, List, [], ◌∷◌, ◌++◌, length, slice_index, inl, inr, refl, sym, ap, subst, ◌∙◌, arith}
-use Rattle.partial_words.specs.declared.step.Step.{Step}
-use Rattle.partial_words.specs.declared.step.Step.TheVariants.{Load, Add}
-use Rattle.partial_words.specs.Layout.{Layout, IsLayout, slot_counter, list_head, list_counter, slot_word}
-use Rattle.partial_words.specs.Step.{answer_of}
-use Rattle.partial_active.specs.declared.get_set.Stage.{Stage}
-use Rattle.partial_active.specs.declared.get_set.Stage.TheVariants.{Head, ListLen, ListLow, ListHigh, Counter, Slot, Len, Index, Claim, Write, Publish, Done}
-use Rattle.partial_active.specs.Found.{Buffers, IsFor}
-use Rattle.partial_active.specs.GetSet.{Pair, fresh, step_at, step_of, advance, left_of}
-use Rattle.partial_active.specs.GetSetAnswers.{goes_at, IsPossible, GoTogether}
-use Rattle.partial_active.specs.Knowledge.{Facts, knows_by}
-use Rattle.partial_active.specs.Orderly.{Orderly}
-use Rattle.partial_active.specs.Moments.{OnEach, AtSome, words_behind, own_moments}
-use Rattle.partial_active.specs.ActiveSet.{GetSetsMakeFewSteps, OrderlyAnswersArePossible}
+use Rattle.partial_active.proofs.Common.{ℕ, ◌≡◌, ◌+◌, ◌*◌, ◌<◌, ◌≤◌, ◌⊎◌, Bool, Some, is_some, List, [], ◌∷◌, ◌++◌, length, slice_index, inl, inr, refl, sym, ap, subst, ◌∙◌, arith, Step, Load, Add, Layout, IsLayout, slot_counter, list_head, list_counter, slot_word, answer_of, Stage, Head, ListLen, ListLow, ListHigh, Counter, Slot, Len, Index, Claim, Write, Publish, Done, Buffers, IsFor, Pair, fresh, step_at, step_of, advance, left_of, goes_at, IsPossible, GoTogether, Facts, knows_by, Orderly, OnEach, AtSome, words_behind, own_moments, GetSetsMakeFewSteps, OrderlyAnswersArePossible}
 use Rattle.partial_active.proofs.Answered.{keeps_at}
 use Rattle.partial_active.proofs.Sizes.{sizes_at}
 use Rattle.partial_active.proofs.Orders.{Past, ComesFrom, IsPairwiseOrderly, LeadsTo, comes_at_once, own_leads, moments_of, moments_to_end}

@@ -1,17 +1,6 @@
 -- What an answer keeps: the machine and its buffers go together, and the steps left fall.
-use Rattle.std.proofs.Common.{ℕ, ◌≡◌, ◌+◌, ◌-◌, ◌<◌, ◌≤◌, min, true, false, eqb, ltb, [], ◌∷◌, ◌++◌, length, cond, IsSome, slice_index, inl, inr, refl, sym, ap, subst, arith}
+use Rattle.partial_active.proofs.Common.{ℕ, ◌≡◌, ◌+◌, ◌-◌, ◌<◌, ◌≤◌, min, true, false, eqb, ltb, [], ◌∷◌, ◌++◌, length, cond, IsSome, slice_index, inl, inr, refl, sym, ap, subst, arith, false≢true, cond_both, ltb-false, eqb-true, eqb-false, length_push, IsNormal, Layout, IsLayout, list_end, list_base, pool_base, pool_end, list_block, IsFor, IsBehind, with_index, Stage, Head, ListLen, ListLow, ListHigh, Counter, Slot, Len, Index, Claim, Write, Publish, Done, Pair, step_at, step_of, advance_at, come_to, note_slot, in_stage, left_at, left_of, walk_left, EndsBelow, IsListHead, IsListLen, IsNextLow, IsSlotWord, IsAnnouncedLen, IsListClaim, is_possible_at, IsPossible, HasRead, IsWalking, IsAtSlot, goes_at, GoTogether}
 use Rattle.std.proofs.Math.Nat.{mul-le-mul_right}
-use Rattle.std.proofs.lemmas.Bool.{false≢true, cond_both, ltb-false, eqb-true, eqb-false}
-use Rattle.std.proofs.lemmas.List.{length_push}
-use Rattle.partial_intervals.specs.Intervals.{IsNormal}
-use Rattle.partial_words.specs.Layout.{Layout, IsLayout, list_end, list_base, pool_base, pool_end}
-use Rattle.partial_words.specs.VacatedList.{list_block}
-use Rattle.partial_active.specs.Found.{IsFor, IsBehind}
-use Rattle.partial_active.specs.IndexSet.{with_index}
-use Rattle.partial_active.specs.declared.get_set.Stage.{Stage}
-use Rattle.partial_active.specs.declared.get_set.Stage.TheVariants.{Head, ListLen, ListLow, ListHigh, Counter, Slot, Len, Index, Claim, Write, Publish, Done}
-use Rattle.partial_active.specs.GetSet.{Pair, step_at, step_of, advance_at, come_to, note_slot, in_stage, left_at, left_of, walk_left}
-use Rattle.partial_active.specs.GetSetAnswers.{EndsBelow, IsListHead, IsListLen, IsNextLow, IsSlotWord, IsAnnouncedLen, IsListClaim, is_possible_at, IsPossible, HasRead, IsWalking, IsAtSlot, goes_at, GoTogether}
 use Rattle.partial_active.proofs.Extended.{normal-extended, below-extended, normal_push, below_push}
 use Rattle.partial_active.proofs.Walk.{come_to_goes, come_to_left}
 

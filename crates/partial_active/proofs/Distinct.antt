@@ -1,20 +1,11 @@
 -- What a getSet has found stays without repeats and below the number of components, so it is no more
 -- than there are components.
-use Rattle.std.proofs.Common.{ℕ, suc, ◌≡◌, ◌+◌, ◌-◌, ◌<◌, ◌≤◌, min, Bool, true, false, cond, eqb, ltb, List, [], ◌∷◌, ◌++◌, length, get_or, refl, sym, ◌∙◌, ap, subst, arith, inl, inr}
-use Rattle.std.specs.List.{IsDistinct, list_any}
-use Rattle.std.proofs.lemmas.Bool.{cond_both, cases_lt, or_cases, eqb-true, false≢true}
-use Rattle.std.proofs.lemmas.List.{get_or_append_left, length_push}
+use Rattle.partial_active.proofs.Common.{ℕ, suc, ◌≡◌, ◌+◌, ◌-◌, ◌<◌, ◌≤◌, min, Bool, true, false, cond, eqb, ltb, List, [], ◌∷◌, ◌++◌, length, get_or, refl, sym, ◌∙◌, ap, subst, arith, inl, inr, list_any, cond_both, cases_lt, or_cases, eqb-true, false≢true, get_or_append_left, length_push, list_end, begins_at, AreIndices, has_index, with_index, Stage, Head, ListLen, ListLow, ListHigh, Counter, Slot, Len, Index, Claim, Write, Publish, Done, Pair, after_walk, at_slot, come_to, pass_interval, note_slot, in_stage, advance_at, is_possible_at}
+use Rattle.std.specs.List.{IsDistinct}
 use Rattle.std.proofs.Math.Seq.{get_or-append_seam}
 use Rattle.std.proofs.lemmas.Cmp.{nat_eq_equiv}
 use Rattle.std.proofs.lemmas.Map.Keys.{IsDistinct-push}
 use Rattle.std.proofs.lemmas.Map.Steps.{length-le_from_distinct_below}
-use Rattle.partial_words.specs.Layout.{list_end}
-use Rattle.partial_active.specs.Found.{begins_at}
-use Rattle.partial_active.specs.IndexSet.{AreIndices, has_index, with_index}
-use Rattle.partial_active.specs.declared.get_set.Stage.{Stage}
-use Rattle.partial_active.specs.declared.get_set.Stage.TheVariants.{Head, ListLen, ListLow, ListHigh, Counter, Slot, Len, Index, Claim, Write, Publish, Done}
-use Rattle.partial_active.specs.GetSet.{Pair, after_walk, at_slot, come_to, pass_interval, note_slot, in_stage, advance_at}
-use Rattle.partial_active.specs.GetSetAnswers.{is_possible_at}
 use Rattle.partial_active.proofs.Named.{same_test}
 
 pub no_index : (n : ℕ) → AreIndices n []

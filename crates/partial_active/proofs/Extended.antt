@@ -1,11 +1,6 @@
 -- The list that a walk makes: it stays a normal form, and gains the numbers that were put behind it.
-use Rattle.std.proofs.Common.{ℕ, zero, suc, ◌≡◌, ◌+◌, ◌-◌, ◌*◌, ◌<◌, ◌≤◌, ◌⊎◌, true, false, eqb, ltb, [], ◌∷◌, ◌++◌, length, set, inl, inr, refl, sym, ap, arith}
-use Rattle.std.proofs.lemmas.Bool.{cases_eq, cases_lt, cond_both, and_parts, and_cases, ltb-true, ltb-false, eqb-true, eqb-false}
-use Rattle.std.proofs.lemmas.List.{length_push, get_or_append_left, get_or_push, length-set}
-use Rattle.partial_intervals.specs.Intervals.{Ranges, lowest, highest, Holds, IsNormal, GoesOn}
+use Rattle.partial_active.proofs.Common.{ℕ, zero, suc, ◌≡◌, ◌+◌, ◌-◌, ◌*◌, ◌<◌, ◌≤◌, ◌⊎◌, true, false, eqb, ltb, [], ◌∷◌, ◌++◌, length, set, inl, inr, refl, sym, ap, arith, cases_eq, cases_lt, cond_both, and_parts, and_cases, ltb-true, ltb-false, eqb-true, eqb-false, length_push, get_or_append_left, get_or_push, length-set, Ranges, lowest, highest, Holds, IsNormal, GoesOn, extended, touches, last_place, IsBehind, EndsBelow}
 use Rattle.partial_intervals.proofs.Edits.{normal_set, highest_here, highest_other, lowest_here, lowest_other}
-use Rattle.partial_active.specs.Found.{extended, touches, last_place, IsBehind}
-use Rattle.partial_active.specs.GetSetAnswers.{EndsBelow}
 
 -- intervals that lie apart take two numbers each, but for the last
 starts_late : (list : Ranges) → IsNormal list → (k : ℕ) → k < length list → 2 * k ≤ lowest list k

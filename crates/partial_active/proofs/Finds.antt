@@ -1,18 +1,6 @@
 -- A finished getSet finds the active set: it misses no announcement that stood all the while, and names no index but those of
 -- the announcements that it found.
-use Rattle.std.proofs.Common.{ℕ, ◌≡◌, ◌≤◌, ◌⊎◌, true, ◌||◌, eqb, Some, None, List, [], ◌∷◌, Bool, inl, inr, refl, sym, ap, ◌∙◌, arith}
-use Rattle.std.specs.List.{flat_map, list_any}
-use Rattle.std.proofs.lemmas.Bool.{false≢true, or_left, or_right, eqb-true, eq-eqb}
-use Rattle.std.proofs.lemmas.List.{get_or_default}
-use Rattle.std.proofs.lemmas.List.Folds.{list_any-append, Any-from_list_any}
-use Rattle.partial_words.specs.declared.step.Step.TheVariants.{Load}
-use Rattle.partial_words.specs.Layout.{Layout, IsLayout, list_head}
-use Rattle.partial_active.specs.Found.{Buffers, IsFor}
-use Rattle.partial_active.specs.IndexSet.{has_index, with_index}
-use Rattle.partial_active.specs.GetSet.{Pair, fresh, step_of}
-use Rattle.partial_active.specs.Orderly.{slot_at}
-use Rattle.partial_active.specs.Moments.{AtSome, AtSomeStep, answered_from, own_moments}
-use Rattle.partial_active.specs.ActiveSet.{Announcement, FindsAnnouncement, Names, FindsActiveSet, GetSetsFind, with_all}
+use Rattle.partial_active.proofs.Common.{ℕ, ◌≡◌, ◌≤◌, ◌⊎◌, true, ◌||◌, eqb, Some, None, List, [], ◌∷◌, Bool, inl, inr, refl, sym, ap, ◌∙◌, arith, flat_map, list_any, false≢true, or_left, or_right, eqb-true, eq-eqb, get_or_default, list_any-append, Any-from_list_any, Load, Layout, IsLayout, list_head, Buffers, IsFor, has_index, with_index, Pair, fresh, step_of, slot_at, AtSome, AtSomeStep, answered_from, own_moments, Announcement, FindsAnnouncement, Names, FindsActiveSet, GetSetsFind, with_all}
 use Rattle.partial_active.proofs.Orders.{Past, IsPairwiseOrderly, LeadsTo, own_leads, moments_of}
 use Rattle.partial_active.proofs.Indices.{with_index_has}
 use Rattle.partial_active.proofs.Knowledge.{finished}

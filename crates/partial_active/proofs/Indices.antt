@@ -1,12 +1,5 @@
 -- What a list of indices has once an index was put into it, and announcements at one word.
-use Rattle.std.proofs.Common.{ℕ, ◌≡◌, ◌+◌, ◌<◌, ◌⊎◌, true, false, ◌||◌, eqb, List, [], ◌∷◌, ◌++◌, length, slice_index, inl, inr, refl, sym, ap, ◌∙◌, arith}
-use Rattle.std.proofs.lemmas.Bool.{false≢true, cases_eq, cond_both, or_cases, eqb-true, eq-eqb}
-use Rattle.std.proofs.lemmas.List.Folds.{list_any-append}
-use Rattle.partial_words.specs.Record.{StandsAt}
-use Rattle.partial_words.specs.Announcement.{announcement_block}
-use Rattle.partial_words.proofs.BlockLemmas.{announcement_reads_back}
-use Rattle.partial_active.specs.IndexSet.{has_index, with_index}
-use Rattle.partial_active.specs.Knowledge.{HasFirst}
+use Rattle.partial_active.proofs.Common.{ℕ, ◌≡◌, ◌+◌, ◌<◌, ◌⊎◌, true, false, ◌||◌, eqb, List, [], ◌∷◌, ◌++◌, length, slice_index, inl, inr, refl, sym, ap, ◌∙◌, arith, false≢true, cases_eq, cond_both, or_cases, eqb-true, eq-eqb, list_any-append, StandsAt, announcement_block, announcement_reads_back, has_index, with_index, HasFirst}
 
 -- what the list has once an index was put into it
 pub with_index_has : (xs : List ℕ) (x j : ℕ) → has_index (with_index xs x) j ≡ true → (has_index xs j ≡ true) ⊎ (x ≡ j)

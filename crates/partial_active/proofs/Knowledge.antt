@@ -1,19 +1,5 @@
 -- What a getSet knows by facts leads on, from stage to stage.
-use Rattle.std.proofs.Common.{ℕ, ◌≡◌, ◌+◌, ◌-◌, ◌<◌, ◌≤◌, ◌⊎◌, min, Bool, true, false, ◌&&◌, not, eqb, ltb, None, List, [], ◌∷◌, ◌++◌, length, take, get_or, slice_index, cond, inl, inr, refl, sym, ap, subst, ◌∙◌, arith}
-use Rattle.std.proofs.lemmas.Bool.{false≢true, and_parts, cases_eq, cases_lt, cond_both, ltb-false, eqb-true, eqb-false}
-use Rattle.std.proofs.lemmas.List.{take_more, take_all, get_or-take, length_push}
-use Rattle.partial_intervals.specs.Intervals.{Ranges, lowest, highest, Holds, IsNormal}
-use Rattle.partial_words.specs.Layout.{Layout, IsLayout, list_end}
-use Rattle.partial_words.specs.VacatedList.{list_block}
-use Rattle.partial_words.proofs.BlockLemmas.{announcement_reads_back, list_reads_back}
-use Rattle.partial_active.specs.declared.get_set.Stage.{Stage}
-use Rattle.partial_active.specs.declared.get_set.Stage.TheVariants.{Head, ListLen, ListLow, ListHigh, Counter, Slot, Len, Index, Claim, Write, Publish, Done}
-use Rattle.partial_active.specs.IndexSet.{with_index}
-use Rattle.partial_active.specs.Found.{begins_at}
-use Rattle.partial_active.specs.GetSet.{Pair, step_at, advance_at, after_walk, at_slot, come_to, pass_interval, note_slot, in_stage, next_words}
-use Rattle.partial_active.specs.GetSetAnswers.{EndsBelow, IsListClaim, is_possible_at, IsWalking, goes_at}
-use Rattle.partial_active.specs.Knowledge.{Facts, AreVacated, HasEach, walks, has_found, knows_by, KnowsBy}
-use Rattle.partial_active.specs.Orderly.{slot_at, IsAnnouncement, IsVacatedList}
+use Rattle.partial_active.proofs.Common.{ℕ, ◌≡◌, ◌+◌, ◌-◌, ◌<◌, ◌≤◌, ◌⊎◌, min, Bool, true, false, ◌&&◌, not, eqb, ltb, None, List, [], ◌∷◌, ◌++◌, length, take, get_or, slice_index, cond, inl, inr, refl, sym, ap, subst, ◌∙◌, arith, false≢true, and_parts, cases_eq, cases_lt, cond_both, ltb-false, eqb-true, eqb-false, take_more, take_all, get_or-take, length_push, Ranges, lowest, highest, Holds, IsNormal, Layout, IsLayout, list_end, list_block, announcement_reads_back, list_reads_back, Stage, Head, ListLen, ListLow, ListHigh, Counter, Slot, Len, Index, Claim, Write, Publish, Done, with_index, begins_at, Pair, step_at, advance_at, after_walk, at_slot, come_to, pass_interval, note_slot, in_stage, next_words, EndsBelow, IsListClaim, is_possible_at, IsWalking, goes_at, Facts, AreVacated, HasEach, walks, has_found, knows_by, KnowsBy, slot_at, IsAnnouncement, IsVacatedList}
 use Rattle.partial_active.proofs.Extended.{length_normal, held_extended}
 use Rattle.partial_active.proofs.Walk.{begun}
 use Rattle.partial_active.proofs.Answered.{walk_begins, walk_next, walk_noted, at_with}

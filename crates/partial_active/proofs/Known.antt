@@ -1,17 +1,5 @@
 -- What the moments behind a getSet that is answered from orderly words tell it.
-use Rattle.std.proofs.Common.{ℕ, ◌≡◌, ◌<◌, ◌≤◌, true, List, [], ◌∷◌, slice_index, inl, inr, sym, subst, ◌∙◌, arith}
-use Rattle.partial_intervals.specs.Intervals.{Ranges}
-use Rattle.partial_words.specs.Layout.{Layout}
-use Rattle.partial_words.specs.Record.{StandsAt}
-use Rattle.partial_words.specs.Announcement.{announcement_block}
-use Rattle.partial_words.specs.VacatedList.{list_block}
-use Rattle.partial_active.specs.IndexSet.{has_index}
-use Rattle.partial_active.specs.GetSet.{Pair}
-use Rattle.partial_active.specs.Knowledge.{Facts, HasEach, HasReadSo, walks, has_found, knows_by, KnowsBy}
-use Rattle.partial_active.specs.declared.get_set.Stage.{Stage}
-use Rattle.partial_active.specs.declared.get_set.Stage.TheVariants.{Head, ListLen, ListLow, ListHigh, Counter, Slot, Len, Index, Claim, Write, Publish, Done}
-use Rattle.partial_active.specs.Orderly.{slot_at, head_at, IsAnnouncement, IsVacatedList}
-use Rattle.partial_active.specs.Moments.{OnEach, AtSome}
+use Rattle.partial_active.proofs.Common.{ℕ, ◌≡◌, ◌<◌, ◌≤◌, true, List, [], ◌∷◌, slice_index, inl, inr, sym, subst, ◌∙◌, arith, Ranges, Layout, StandsAt, announcement_block, list_block, has_index, Pair, Facts, HasEach, HasReadSo, walks, has_found, knows_by, KnowsBy, Stage, Head, ListLen, ListLow, ListHigh, Counter, Slot, Len, Index, Claim, Write, Publish, Done, slot_at, head_at, IsAnnouncement, IsVacatedList, OnEach, AtSome}
 use Rattle.partial_active.proofs.Orders.{Past, ComesFrom}
 use Rattle.partial_active.proofs.Indices.{with_index_keeps, same_named}
 use Rattle.partial_active.proofs.Knowledge.{AreFacts}

@@ -1,3 +1,4 @@
+mod Common
 mod Marks
 pub mod Extended
 pub mod Walk

@@ -1,25 +1,6 @@
 -- What a getSet that is answered from orderly words knows of the list that it reads and of the one that it makes.
-use Rattle.std.proofs.Common.{ℕ, ◌≡◌, ◌+◌, ◌-◌, ◌<◌, ◌≤◌, ◌⊎◌, ◌↔◌, min, Bool, true, false, ◌&&◌, not, eqb, ltb, cond, Some, None, List, [], ◌∷◌, ◌++◌, length, take, get_or, slice_index, inl, inr, refl, sym, ap, subst, ◌∙◌, arith}
-use Rattle.std.proofs.lemmas.Bool.{false≢true, cases_eq, cases_lt, cond_both, ltb-false, eqb-true, eqb-false}
-use Rattle.std.proofs.lemmas.List.{take_more, take_all, length_push}
-use Rattle.partial_intervals.specs.Intervals.{Ranges, lowest, highest, Holds, IsNormal}
-use Rattle.partial_words.specs.declared.step.Step.{Step}
-use Rattle.partial_words.specs.declared.step.Step.TheVariants.{Load, Store, Exchange, Add}
-use Rattle.partial_words.specs.Layout.{Layout, IsLayout, list_head, list_counter, slot_word, list_end}
-use Rattle.partial_words.specs.Record.{StandsAt}
-use Rattle.partial_words.specs.VacatedList.{list_block, low_word, high_word}
-use Rattle.partial_words.specs.Step.{answer_of}
+use Rattle.partial_active.proofs.Common.{ℕ, ◌≡◌, ◌+◌, ◌-◌, ◌<◌, ◌≤◌, ◌⊎◌, ◌↔◌, min, Bool, true, false, ◌&&◌, not, eqb, ltb, cond, Some, None, List, [], ◌∷◌, ◌++◌, length, take, get_or, slice_index, inl, inr, refl, sym, ap, subst, ◌∙◌, arith, false≢true, cases_eq, cases_lt, cond_both, ltb-false, eqb-true, eqb-false, take_more, take_all, length_push, Ranges, lowest, highest, Holds, IsNormal, Step, Load, Store, Exchange, Add, Layout, IsLayout, list_head, list_counter, slot_word, list_end, StandsAt, list_block, low_word, high_word, answer_of, list_reads_back, Stage, Head, ListLen, ListLow, ListHigh, Counter, Slot, Len, Index, Claim, Write, Publish, Done, with_index, Buffers, IsFor, begins_at, Pair, fresh, step_at, step_of, advance, advance_at, after_walk, at_slot, come_to, pass_interval, note_slot, in_stage, next_words, EndsBelow, is_possible_at, IsPossible, IsWalking, IsAtSlot, goes_at, GoTogether, AreVacated, knows_by, slot_at, head_at, IsVacatedList, Orderly, AtSome, AtSomeStep, own_moments}
 use Rattle.partial_words.proofs.RecordLemmas.{length-pairs}
-use Rattle.partial_words.proofs.BlockLemmas.{list_reads_back}
-use Rattle.partial_active.specs.declared.get_set.Stage.{Stage}
-use Rattle.partial_active.specs.declared.get_set.Stage.TheVariants.{Head, ListLen, ListLow, ListHigh, Counter, Slot, Len, Index, Claim, Write, Publish, Done}
-use Rattle.partial_active.specs.IndexSet.{with_index}
-use Rattle.partial_active.specs.Found.{Buffers, IsFor, begins_at}
-use Rattle.partial_active.specs.GetSet.{Pair, fresh, step_at, step_of, advance, advance_at, after_walk, at_slot, come_to, pass_interval, note_slot, in_stage, next_words}
-use Rattle.partial_active.specs.GetSetAnswers.{EndsBelow, is_possible_at, IsPossible, IsWalking, IsAtSlot, goes_at, GoTogether}
-use Rattle.partial_active.specs.Knowledge.{AreVacated, knows_by}
-use Rattle.partial_active.specs.Orderly.{slot_at, head_at, IsVacatedList, Orderly}
-use Rattle.partial_active.specs.Moments.{AtSome, AtSomeStep, own_moments}
 use Rattle.partial_active.specs.VacatedLists.{GetSetsKeepLists, WasVacated, IsListOf, FindsVacated, ClaimsWords, StoresWord, IsStored, KeepsLists, is_reading}
 use Rattle.partial_active.proofs.Extended.{held_extended, holds_extended}
 use Rattle.partial_active.proofs.Walk.{interval_behind, walking_on}

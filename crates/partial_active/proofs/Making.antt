@@ -1,9 +1,5 @@
 -- What a step of a getSet leaves, where its answer comes from elsewhere.
-use Rattle.std.proofs.Common.{ℕ, ◌≡◌, sym, ap, subst, ◌∙◌}
-use Rattle.partial_active.specs.IndexSet.{AreIndices}
-use Rattle.partial_active.specs.GetSet.{Pair, advance}
-use Rattle.partial_active.specs.GetSetAnswers.{GoTogether, IsPossible}
-use Rattle.partial_active.specs.Making.{IsAt}
+use Rattle.partial_active.proofs.Common.{ℕ, ◌≡◌, sym, ap, subst, ◌∙◌, AreIndices, Pair, advance, GoTogether, IsPossible, IsAt}
 use Rattle.partial_active.proofs.Sizes.{sizes_at}
 use Rattle.partial_active.proofs.Distinct.{found_kept}
 

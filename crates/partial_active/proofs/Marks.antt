@@ -1,10 +1,6 @@
 -- The marks of a list of indices: how many there are, and what is left of them while it is emptied.
-use Rattle.std.proofs.Common.{ℕ, zero, suc, ◌≡◌, ◌+◌, ◌<◌, ◌≤◌, eqb, Bool, true, false, cond, ◌||◌, inl, inr, List, [], ◌∷◌, ◌++◌, length, get_or, set, count_by, refl, sym, ◌∙◌, arith}
-use Rattle.std.proofs.lemmas.Bool.{false≢true, cases_eq, cases_Bool, or_cases, eqb-true}
-use Rattle.std.proofs.lemmas.List.{length-set, get_or-set_same, get_or-set_other, length_push, get_or_append_left}
-use Rattle.std.proofs.lemmas.List.Folds.{list_any-append}
+use Rattle.partial_active.proofs.Common.{ℕ, zero, suc, ◌≡◌, ◌+◌, ◌<◌, ◌≤◌, eqb, Bool, true, false, cond, ◌||◌, inl, inr, List, [], ◌∷◌, ◌++◌, length, get_or, set, count_by, refl, sym, ◌∙◌, arith, false≢true, cases_eq, cases_Bool, or_cases, eqb-true, length-set, get_or-set_same, get_or-set_other, length_push, get_or_append_left, list_any-append, has_index, IsMarked}
 use Rattle.std.proofs.lemmas.List.Sums.{count_by-le-length, sum_by-cons}
-use Rattle.partial_active.specs.IndexSet.{has_index, IsMarked}
 
 marked_first : (marks : List Bool) → count_by (λ b. b) (true ∷ marks) ≡ 1 + count_by (λ b. b) marks
 marked_first marks = sum_by-cons (λ b. cond b 1 0) true marks

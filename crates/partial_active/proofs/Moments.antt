@@ -1,15 +1,6 @@
 -- What holds at some of a getSet's steps, and an induction over the steps behind the first.
-use Rattle.std.proofs.Common.{ℕ, ◌≡◌, ◌++◌, ◌⊎◌, Bool, Option, Some, List, [], ◌∷◌, inl, inr, refl, sym, ◌∙◌, ap, subst, append_assoc, append-nil}
+use Rattle.partial_active.proofs.Common.{ℕ, ◌≡◌, ◌++◌, ◌⊎◌, Bool, Option, Some, List, [], ◌∷◌, inl, inr, refl, sym, ◌∙◌, ap, subst, append_assoc, append-nil, Step, Load, Layout, IsLayout, list_head, answer_of, Buffers, IsFor, Pair, fresh, step_of, advance, GoTogether, IsPossible, Orderly, head_at, OnEach, AtSomeStep, answered_from}
 use Rattle.std.specs.Option.{option_map_or}
-use Rattle.partial_words.specs.declared.step.Step.{Step}
-use Rattle.partial_words.specs.declared.step.Step.TheVariants.{Load}
-use Rattle.partial_words.specs.Layout.{Layout, IsLayout, list_head}
-use Rattle.partial_words.specs.Step.{answer_of}
-use Rattle.partial_active.specs.Found.{Buffers, IsFor}
-use Rattle.partial_active.specs.GetSet.{Pair, fresh, step_of, advance}
-use Rattle.partial_active.specs.GetSetAnswers.{GoTogether, IsPossible}
-use Rattle.partial_active.specs.Orderly.{Orderly, head_at}
-use Rattle.partial_active.specs.Moments.{OnEach, AtSomeStep, answered_from}
 use Rattle.partial_active.proofs.Orders.{Past, ComesFrom, IsPairwiseOrderly, LeadsTo, run_front}
 use Rattle.partial_active.proofs.Active.{onto, run_split, step_from, reached_from}
 

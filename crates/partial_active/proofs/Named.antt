@@ -1,33 +1,12 @@
 -- What a getSet that is answered from orderly words knows of the announcements that it has found, and in which order it
 -- names their indices.
-use Rattle.std.proofs.Common.{ℕ, ◌≡◌, ◌+◌, ◌-◌, ◌<◌, ◌≤◌, ◌⊎◌, ◌↔◌, min, Bool, true, ◌||◌, ◌&&◌, not, eqb, ltb, cond, Some, None, List, [], ◌∷◌, ◌++◌, length, map, take}
-use Rattle.std.proofs.Common.{get_or, slice_index, inl, inr, refl, sym, ap, subst, ◌∙◌, arith, append-nil}
+use Rattle.partial_active.proofs.Common.{ℕ, ◌≡◌, ◌+◌, ◌-◌, ◌<◌, ◌≤◌, ◌⊎◌, ◌↔◌, min, Bool, true, ◌||◌, ◌&&◌, not, eqb, ltb, cond, Some, None, List, [], ◌∷◌, ◌++◌, length, map, take, get_or, slice_index, inl, inr, refl, sym, ap, subst, ◌∙◌, arith, append-nil, flat_map, list_any, cases_lt, cond_both, eqb-true, eqb-false, take_more, take_all, length_push, ext_get_or, get_or_append_left, get_or_push, map-append, length-map, get_or-map, highest, Step, Load, Layout, IsLayout, list_head, slot_word, list_end, StandsAt, announcement_block, announced_word, list_block, answer_of, announcement_reads_back, Stage, Head, ListLen, ListLow, ListHigh, Counter, Slot, Len, Index, Claim, Write, Publish, Done, has_index, with_index, Buffers, IsFor, begins_at, Pair, fresh, step_at, step_of, advance, advance_at, after_walk, at_slot, come_to, pass_interval, note_slot, in_stage, next_words, EndsBelow, is_possible_at, IsPossible, IsWalking, IsAtSlot, goes_at, slot_at, head_at, IsAnnouncement, AtSome, AtSomeStep, own_moments, Announcement, FindsAnnouncement, with_all, each_once, AreRising, AreInOrder, GetSetsFindInOrder}
 use Rattle.std.specs.Prelude.{nat_eq, Contains}
-use Rattle.std.specs.List.{IsDistinct, flat_map, list_any}
-use Rattle.std.proofs.lemmas.Bool.{cases_lt, cond_both, eqb-true, eqb-false}
+use Rattle.std.specs.List.{IsDistinct}
 use Rattle.std.proofs.lemmas.Cmp.{nat_eq_equiv}
 use Rattle.std.proofs.lemmas.Grind.{flat_map-append}
-use Rattle.std.proofs.lemmas.List.{take_more, take_all, length_push, ext_get_or, get_or_append_left, get_or_push, map-append, length-map, get_or-map}
 use Rattle.std.proofs.lemmas.List.Elements.{Contains-append_left, Contains-push, Contains-push_cases, Contains-get_or}
 use Rattle.std.proofs.lemmas.Map.Keys.{IsDistinct-push}
-use Rattle.partial_intervals.specs.Intervals.{highest}
-use Rattle.partial_words.specs.declared.step.Step.{Step}
-use Rattle.partial_words.specs.declared.step.Step.TheVariants.{Load}
-use Rattle.partial_words.specs.Layout.{Layout, IsLayout, list_head, slot_word, list_end}
-use Rattle.partial_words.specs.Record.{StandsAt}
-use Rattle.partial_words.specs.Announcement.{announcement_block, announced_word}
-use Rattle.partial_words.specs.VacatedList.{list_block}
-use Rattle.partial_words.specs.Step.{answer_of}
-use Rattle.partial_words.proofs.BlockLemmas.{announcement_reads_back}
-use Rattle.partial_active.specs.declared.get_set.Stage.{Stage}
-use Rattle.partial_active.specs.declared.get_set.Stage.TheVariants.{Head, ListLen, ListLow, ListHigh, Counter, Slot, Len, Index, Claim, Write, Publish, Done}
-use Rattle.partial_active.specs.IndexSet.{has_index, with_index}
-use Rattle.partial_active.specs.Found.{Buffers, IsFor, begins_at}
-use Rattle.partial_active.specs.GetSet.{Pair, fresh, step_at, step_of, advance, advance_at, after_walk, at_slot, come_to, pass_interval, note_slot, in_stage, next_words}
-use Rattle.partial_active.specs.GetSetAnswers.{EndsBelow, is_possible_at, IsPossible, IsWalking, IsAtSlot, goes_at}
-use Rattle.partial_active.specs.Orderly.{slot_at, head_at, IsAnnouncement}
-use Rattle.partial_active.specs.Moments.{AtSome, AtSomeStep, own_moments}
-use Rattle.partial_active.specs.ActiveSet.{Announcement, FindsAnnouncement, with_all, each_once, AreRising, AreInOrder, GetSetsFindInOrder}
 use Rattle.partial_active.proofs.Walk.{begun}
 use Rattle.partial_active.proofs.Answered.{walk_begins, walk_next, walk_noted, at_with}
 use Rattle.partial_active.proofs.Orders.{Past, IsPairwiseOrderly, LeadsTo, own_leads, moments_of}

@@ -1,16 +1,6 @@
 -- The words of each two moments of an orderly run: the later ones come from the earlier ones.
-use Rattle.std.proofs.Common.{ℕ, ◌≡◌, ◌<◌, ◌⊎◌, ◌++◌, eqb, Bool, true, false, cond, Some, MatchBool, List, [], ◌∷◌, inl, inr, refl, sym, ◌∙◌, arith}
-use Rattle.partial_intervals.specs.Intervals.{Ranges}
-use Rattle.partial_words.specs.declared.step.Step.{Step}
+use Rattle.partial_active.proofs.Common.{ℕ, ◌≡◌, ◌<◌, ◌⊎◌, ◌++◌, eqb, Bool, true, false, cond, Some, MatchBool, List, [], ◌∷◌, inl, inr, refl, sym, ◌∙◌, arith, Ranges, Step, Layout, StandsAt, answer_of, words_after, announcement_block, list_block, Pair, step_of, advance, slot_at, head_at, IsAnnouncement, IsVacatedList, Orderly, Publishes, OnEach, AtSome, IsOrderlyEvent, AreOrderly, IsOrderlyRun, words_behind, own_moments, MakesOwn}
 use Rattle.partial_words.specs.declared.step.Event.{Event}
-use Rattle.partial_words.specs.Layout.{Layout}
-use Rattle.partial_words.specs.Record.{StandsAt}
-use Rattle.partial_words.specs.Step.{answer_of, words_after}
-use Rattle.partial_words.specs.Announcement.{announcement_block}
-use Rattle.partial_words.specs.VacatedList.{list_block}
-use Rattle.partial_active.specs.GetSet.{Pair, step_of, advance}
-use Rattle.partial_active.specs.Orderly.{slot_at, head_at, IsAnnouncement, IsVacatedList, Orderly, Publishes}
-use Rattle.partial_active.specs.Moments.{OnEach, AtSome, IsOrderlyEvent, AreOrderly, IsOrderlyRun, words_behind, own_moments, MakesOwn}
 
 -- the moments behind, the latest first
 abbrev pub Past : Type 0

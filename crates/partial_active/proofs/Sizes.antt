@@ -1,13 +1,5 @@
 -- No answer changes the sizes.
-use Rattle.std.proofs.Common.{ℕ, ◌≡◌, ◌+◌, ◌-◌, min, true, cond, eqb, ltb, length, refl, ap, ◌∙◌}
-use Rattle.std.proofs.lemmas.Bool.{cond_both}
-use Rattle.partial_intervals.specs.Intervals.{highest}
-use Rattle.partial_words.specs.Layout.{list_end}
-use Rattle.partial_active.specs.IndexSet.{with_index}
-use Rattle.partial_active.specs.Found.{begins_at}
-use Rattle.partial_active.specs.declared.get_set.Stage.{Stage}
-use Rattle.partial_active.specs.declared.get_set.Stage.TheVariants.{Head, ListLen, ListLow, ListHigh, Counter, Slot, Len, Index, Claim, Write, Publish, Done}
-use Rattle.partial_active.specs.GetSet.{Pair, after_walk, at_slot, come_to, pass_interval, note_slot, in_stage, advance_at}
+use Rattle.partial_active.proofs.Common.{ℕ, ◌≡◌, ◌+◌, ◌-◌, min, true, cond, eqb, ltb, length, refl, ap, ◌∙◌, cond_both, highest, list_end, with_index, begins_at, Stage, Head, ListLen, ListLow, ListHigh, Counter, Slot, Len, Index, Claim, Write, Publish, Done, Pair, after_walk, at_slot, come_to, pass_interval, note_slot, in_stage, advance_at}
 
 sizes_at_slot : (p : Pair) (slot : ℕ) → (at_slot p slot).0.sizes ≡ p.0.sizes
 sizes_at_slot p slot = cond_both (ltb slot p.0.end) (record p.0 { stage = Slot slot }, p.1) (after_walk p) (λ (q : Pair). q.0.sizes ≡ p.0.sizes) (λ e. refl) (λ e. refl)

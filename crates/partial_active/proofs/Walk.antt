@@ -1,13 +1,6 @@
 -- The walk along the slots: the machine and its buffers go on together, and the steps left fall.
-use Rattle.std.proofs.Common.{ℕ, ◌≡◌, ◌+◌, ◌-◌, ◌<◌, ◌≤◌, true, false, ◌&&◌, not, eqb, ltb, length, inl, inr, refl, arith}
+use Rattle.partial_active.proofs.Common.{ℕ, ◌≡◌, ◌+◌, ◌-◌, ◌<◌, ◌≤◌, true, false, ◌&&◌, not, eqb, ltb, length, inl, inr, refl, arith, cases_eq, cond_both, and_parts, and_cases, ltb-true, ltb-false, eqb-true, eqb-false, lowest, highest, Layout, IsFor, begins_at, IsBehind, Slot, Claim, Done, Pair, after_walk, at_slot, come_to, pass_interval, next_words, left_of, walk_left, publish_left, EndsBelow, GoTogether, IsWalking}
 use Rattle.std.proofs.Math.Nat.{mul-le-mul_right}
-use Rattle.std.proofs.lemmas.Bool.{cases_eq, cond_both, and_parts, and_cases, ltb-true, ltb-false, eqb-true, eqb-false}
-use Rattle.partial_intervals.specs.Intervals.{lowest, highest}
-use Rattle.partial_words.specs.Layout.{Layout}
-use Rattle.partial_active.specs.Found.{IsFor, begins_at, IsBehind}
-use Rattle.partial_active.specs.declared.get_set.Stage.TheVariants.{Slot, Claim, Done}
-use Rattle.partial_active.specs.GetSet.{Pair, after_walk, at_slot, come_to, pass_interval, next_words, left_of, walk_left, publish_left}
-use Rattle.partial_active.specs.GetSetAnswers.{EndsBelow, GoTogether, IsWalking}
 use Rattle.partial_active.proofs.Extended.{length_normal, normal-extended, below-extended}
 
 -- fewer slots, fewer steps

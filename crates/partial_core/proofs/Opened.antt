@@ -1,27 +1,15 @@
 -- A memory as it opens is lawful.
-use Rattle.std.proofs.Common.{ℕ, zero, suc, ◌≡◌, ◌+◌, ◌≤◌, ◌==◌, ◌++◌, Bool, true, false, cond, None, List, [], ◌∷◌, refl, sym, ◌∙◌, ap, subst, arith}
-use Rattle.std.specs.List.{AllByRecursion}
-use Rattle.partial_model.specs.declared.history.Opening.{Opening}
-use Rattle.partial_model.specs.Notes.{Noted}
-use Rattle.partial_model.specs.Outcome.{places_written}
-use Rattle.partial_words.specs.Layout.{Layout}
+use Rattle.partial_core.proofs.Common.{ℕ, zero, suc, ◌≡◌, ◌+◌, ◌≤◌, ◌==◌, ◌++◌, Bool, true, false, cond, None, List, [], ◌∷◌, refl, sym, ◌∙◌, ap, subst, arith, AllByRecursion, Opening, Noted, places_written, Layout, Holding, LawfulWords, idle_holdings, IsKnown, notes_by, holdings, fresh_parts, OpensLawful}
 use Rattle.partial_machine.proofs.Laws.{rests_are_sound}
-use Rattle.partial_state.specs.Holdings.{Holding}
-use Rattle.partial_state.specs.LawfulWords.{LawfulWords}
-use Rattle.partial_state.specs.Effects.{idle_holdings}
 use Rattle.partial_state.proofs.OpeningLaw.{opening_is_lawful}
-use Rattle.partial_core.specs.Known.{IsKnown, notes_by}
-use Rattle.partial_core.specs.Held.{holdings}
-use Rattle.partial_core.specs.Part.{fresh_parts}
-use Rattle.partial_core.specs.Lawful.{OpensLawful}
 
 -- a port that has made no call holds nothing
-hold_nothing : (z : Layout) (p n : ℕ) → holdings (fresh_parts z p n) ≡ idle_holdings p n
+pub hold_nothing : (z : Layout) (p n : ℕ) → holdings (fresh_parts z p n) ≡ idle_holdings p n
 hold_nothing z p zero = refl
 hold_nothing z p (suc n) = ap (λ (hs : List Holding). record { port = p; claimed = None; own = None; due = None; pool_spent = false; slots_spent = false; lists_spent = false } ∷ hs)
     (hold_nothing z (p + 1) n)
 
-fresh_known : (z : Layout) (o : Opening) (words : List ℕ) (hs : List Holding) (p n : ℕ) → p + n ≤ 64 → AllByRecursion (IsKnown z o words hs []) (fresh_parts z p n)
+pub fresh_known : (z : Layout) (o : Opening) (words : List ℕ) (hs : List Holding) (p n : ℕ) → p + n ≤ 64 → AllByRecursion (IsKnown z o words hs []) (fresh_parts z p n)
 fresh_known z o words hs p zero few = tt
 fresh_known z o words hs p (suc n) few = (
   record {
@@ -42,7 +30,7 @@ fresh_known z o words hs p (suc n) few = (
   fresh_known z o words hs (p + 1) n (omega (arith, few)),
 )
 
-fresh_notes : (z : Layout) (q p n : ℕ) → notes_by q (fresh_parts z p n) ≡ []
+pub fresh_notes : (z : Layout) (q p n : ℕ) → notes_by q (fresh_parts z p n) ≡ []
 fresh_notes z q p zero = refl
 fresh_notes z q p (suc n) = nothing (p == q) (notes_by q (fresh_parts z (p + 1) n)) ∙ fresh_notes z q (p + 1) n
   where

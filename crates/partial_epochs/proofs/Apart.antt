@@ -1,13 +1,5 @@
 -- No due step stores or adds to a component word, and an exchange of one is of two references; the pool's counter grows by claims alone.
-use Rattle.std.proofs.Common.{ℕ, ◌≡◌, ◌+◌, ◌<◌, ◌≤◌, ◌⊎◌, ◌++◌, Bool, true, false, cond, Some, None, IfSome, List, [], ◌∷◌, length, refl, sym, ap, subst, ◌∙◌, inl, inr, arith}
-use Rattle.std.specs.Prelude.{⊤, is_some}
-use Rattle.partial_model.specs.declared.history.Applied.{Applied}
-use Rattle.partial_model.specs.declared.history.Opening.{Opening}
-use Rattle.partial_model.proofs.AllLemmas.{all_at}
-use Rattle.partial_model.proofs.ListLemmas.{some_same}
-use Rattle.partial_words.specs.declared.step.Step.{Step}
-use Rattle.partial_words.specs.declared.step.Step.TheVariants.{Load, Store, Exchange, Add}
-use Rattle.partial_words.specs.Layout.{Layout, IsLayout, slot_counter, slot_word, list_base, list_head, list_counter, pool_counter, greatest_record}
+use Rattle.partial_epochs.proofs.Common.{ℕ, ◌≡◌, ◌+◌, ◌<◌, ◌≤◌, ◌⊎◌, ◌++◌, Bool, true, false, cond, Some, None, IfSome, List, [], ◌∷◌, length, refl, sym, ap, subst, ◌∙◌, inl, inr, arith, ⊤, is_some, Applied, Opening, all_at, some_same, Step, Load, Store, Exchange, Add, Layout, IsLayout, slot_counter, slot_word, list_base, list_head, list_counter, pool_counter, greatest_record, CoreState, record_size, step_at, step_of, is_begun, IsSound, is_sound_at, Holding, IsOwn, IsTied, Part, IsMachineOf, core_of, holdings, joined_since, own_list, lawful_machines_are_ready, seal}
 use Rattle.partial_words.specs.Announcement.{announcement_size}
 use Rattle.partial_active.specs.Join.{join_step}
 use Rattle.partial_active.specs.declared.join.JoinStage.{JoinStage}
@@ -20,19 +12,10 @@ use Rattle.partial_embedded.specs.Embedded as viewing
 use Rattle.partial_machine.specs.declared.stage.Change.{Change}
 use Rattle.partial_machine.specs.declared.stage.Stage.{Stage}
 use Rattle.partial_machine.specs.declared.stage.Stage.TheVariants.{Idle, ReadBegun, LoadingValue, UpdateBegun, GettingSet, Viewing, ClaimingRecord, StoringRecord, Exchanging, ScanBegun, StoringAnnouncement, Joining, Scanning, Leaving, Finished}
-use Rattle.partial_machine.specs.Machine.{CoreState, record_size, step_at, step_of}
-use Rattle.partial_machine.specs.Calls.{is_begun}
-use Rattle.partial_machine.specs.Sound.{IsSound, is_sound_at}
 use Rattle.partial_machine.proofs.Sound.{size_few}
-use Rattle.partial_state.specs.Holdings.{Holding}
-use Rattle.partial_state.specs.LawfulWords.{IsOwn, IsTied}
-use Rattle.partial_core.specs.Part.{Part, IsMachineOf, core_of}
-use Rattle.partial_core.specs.Held.{holdings, joined_since, own_list}
 use Rattle.partial_core.specs.Lawful.{Lawful}
-use Rattle.partial_core.proofs.Laws.{lawful_machines_are_ready}
 use Rattle.partial_core.proofs.MidCalls.{view_loads}
 use Rattle.partial_core.proofs.Steps.{holding_in, memory_at, sizes_here, sound_at, sound_here}
-use Rattle.partial_epochs.specs.Layout.{seal}
 
 abbrev pub IsApart : Layout → Step → Type 0
 IsApart z (Load w) = ⊤

@@ -1,28 +1,9 @@
 -- Each step of a call leaves fewer steps, so a call makes few.
-use Rattle.std.proofs.Common.{ℕ, zero, suc, ◌≡◌, ◌+◌, ◌*◌, ◌-◌, ◌<◌, ◌≤◌, ◌==◌, Bool, true, false, cond, Option, Some, None, List, [], ◌∷◌, length, refl, sym, ap, subst, arith, inl, inr, ◌∙◌}
-use Rattle.std.specs.Prelude.{nat_lt}
-use Rattle.std.specs.List.{list_all}
-use Rattle.partial_model.specs.declared.call.Call.{Call}
+use Rattle.partial_epochs.proofs.Common.{ℕ, zero, suc, ◌≡◌, ◌+◌, ◌*◌, ◌-◌, ◌<◌, ◌≤◌, ◌==◌, Bool, true, false, cond, Option, Some, None, List, [], ◌∷◌, length, refl, sym, ap, subst, arith, inl, inr, ◌∙◌, nat_lt, list_all, Call, Noted, indices_of, IsLayout, Layout, first_free, Step, most_steps, steps_left, CoreState, reply_of, call_of, IsSound, Reply, Plan, Port, Beside, MayMove, Makes, LawfulMemory, Act, ChangeLeads, Changing, next_arena, next_component, next_load, next_pass, next_port, next_set, passes, CallStep, Doing, IsCallOf, IsUpdate, Leads, MayAct, Run, after_step, answered, begun, changed, ran, round, started}
 use Rattle.partial_model.specs.declared.call.Call.TheVariants as call
-use Rattle.partial_model.specs.Notes.{Noted, indices_of}
-use Rattle.partial_words.specs.Layout.{IsLayout, Layout, first_free}
-use Rattle.partial_words.specs.declared.step.Step.{Step}
-use Rattle.partial_machine.specs.Bounds.{most_steps, steps_left}
-use Rattle.partial_machine.specs.Machine.{CoreState, reply_of}
-use Rattle.partial_machine.specs.Calls.{call_of}
-use Rattle.partial_machine.specs.Sound.{IsSound}
 use Rattle.partial_machine.proofs.Laws.{makes_few_steps}
-use Rattle.partial_machine.specs.declared.stage.Reply.{Reply}
 use Rattle.partial_machine.specs.declared.stage.Reply.TheVariants as reply
-use Rattle.partial_epochs.specs.Layout.{Plan}
-use Rattle.partial_epochs.specs.Ports.{Port}
-use Rattle.partial_epochs.specs.Epochs.{Beside}
-use Rattle.partial_epochs.specs.EveryStep.{MayMove}
-use Rattle.partial_epochs.specs.EveryStep.Move.{Makes}
-use Rattle.partial_epochs.specs.Notes.{LawfulMemory}
-use Rattle.partial_epochs.specs.Changing.{Act, ChangeLeads, Changing, next_arena, next_component, next_load, next_pass, next_port, next_set, passes}
 use Rattle.partial_epochs.specs.Changing as changing
-use Rattle.partial_epochs.specs.Calls.{CallStep, Doing, IsCallOf, IsUpdate, Leads, MayAct, Run, after_step, answered, begun, changed, ran, round, started}
 use Rattle.partial_epochs.specs.Calls as calls
 use Rattle.partial_epochs.specs.Bounds.{ChangesAreBounded, ConditionalUpdatesAreBounded, ReadsMakeEight, ScansAreBounded, UpdatesAreBounded, most_of_change, opening_steps, pass_steps}
 use Rattle.partial_epochs.proofs.Left.{arenas_left, behind, change_left, fresh_left, left}

@@ -1,25 +1,9 @@
 -- How a step of a call ends a change of epoch, and what it adds and where its port is then.
-use Rattle.std.proofs.Common.{ℕ, zero, suc, ◌≡◌, ◌≢◌, ◌+◌, ◌*◌, ◌<◌, ◌≤◌, ◌==◌, ◌⊎◌, Bool, true, false, cond, Option, Some, None, List, [], refl, sym, ap, subst, ◌∙◌, inl, inr, arith}
-use Rattle.std.specs.Prelude.{⊤, nat_lt}
-use Rattle.partial_model.specs.declared.history.Applied.{Applied}
-use Rattle.partial_model.specs.declared.call.Call.{Call}
-use Rattle.partial_model.specs.Notes.{Noted}
-use Rattle.partial_machine.specs.Machine.{CoreState, reply_of}
-use Rattle.partial_machine.specs.declared.stage.Reply.{Reply}
+use Rattle.partial_epochs.proofs.Common.{ℕ, zero, suc, ◌≡◌, ◌≢◌, ◌+◌, ◌*◌, ◌<◌, ◌≤◌, ◌==◌, ◌⊎◌, Bool, true, false, cond, Option, Some, None, List, [], refl, sym, ap, subst, ◌∙◌, inl, inr, arith, ⊤, nat_lt, Applied, Call, Noted, CoreState, reply_of, Reply, first_free, Place, Plan, epoch_limit, Port, Beside, MayAdd, Move, is_applied, Act, ChangeLeads, Changing, IsHere, Refusal, next_arena, next_component, next_load, next_pass, next_port, next_set, passes, CallsStayLawful, ActLeads, CallStep, Doing, IsUpdate, Leads, Run, after_step, answered, begun, changed, ran, round, started, Moves, Sees, Answered, Changes, Judges, LoadsWord, Looks, Refused, Runs, Starts, Tells, Arrived, EndsPass, LoadsComponent, LoadsLast, LoadsPort, LooksFirst, Publishes, Refuses, SetsWord, TakesArena}
 use Rattle.partial_machine.specs.declared.stage.Reply.TheVariants as reply
-use Rattle.partial_words.specs.Layout.{first_free}
-use Rattle.partial_epochs.specs.Layout.{Place, Plan, epoch_limit}
-use Rattle.partial_epochs.specs.Ports.{Port}
-use Rattle.partial_epochs.specs.Epochs.{Beside}
-use Rattle.partial_epochs.specs.EveryStep.{MayAdd, Move, is_applied}
 use Rattle.partial_epochs.specs.EveryStep as every
-use Rattle.partial_epochs.specs.Changing.{Act, ChangeLeads, Changing, IsHere, Refusal, next_arena, next_component, next_load, next_pass, next_port, next_set, passes}
 use Rattle.partial_epochs.specs.Changing as changing
-use Rattle.partial_epochs.specs.Calls.{CallsStayLawful, ActLeads, CallStep, Doing, IsUpdate, Leads, Run, after_step, answered, begun, changed, ran, round, started}
-use Rattle.partial_epochs.specs.Changing.Act.{Moves, Sees}
 use Rattle.partial_epochs.specs.Changing.Refusal.{Component, EpochsSpent, NoArena, Overtaken}
-use Rattle.partial_epochs.specs.Calls.Doing.{Answered, Changes, Judges, LoadsWord, Looks, Refused, Runs, Starts, Tells}
-use Rattle.partial_epochs.specs.Changing.Changing.{Arrived, EndsPass, LoadsComponent, LoadsLast, LoadsPort, LooksFirst, Publishes, Refuses, SetsWord, TakesArena}
 use Rattle.partial_epochs.specs.Calls as calls
 use Rattle.partial_epochs.proofs.EveryStep.{every_step_stays_lawful}
 

@@ -1,30 +1,12 @@
 -- Why calls are refused, and that a refused call has applied nothing.
-use Rattle.std.proofs.Common.{ℕ, zero, suc, ◌≡◌, ◌≢◌, ◌+◌, ◌<◌, ◌≤◌, Bool, true, false, cond, Option, Some, None, List, [], ◌∷◌, refl, sym, ap, subst, ◌∙◌, inl, inr, arith}
-use Rattle.std.specs.Prelude.{◌&&◌, nat_lt}
-use Rattle.std.specs.List.{AllByRecursion, list_all}
-use Rattle.std.proofs.lemmas.Bool.{cases_lt, lt-ltb}
-use Rattle.partial_model.specs.declared.history.Applied.{Applied}
-use Rattle.partial_model.specs.declared.call.Call.{Call}
+use Rattle.partial_epochs.proofs.Common.{ℕ, zero, suc, ◌≡◌, ◌≢◌, ◌+◌, ◌<◌, ◌≤◌, Bool, true, false, cond, Option, Some, None, List, [], ◌∷◌, refl, sym, ap, subst, ◌∙◌, inl, inr, arith, ◌&&◌, nat_lt, AllByRecursion, list_all, cases_lt, lt-ltb, Applied, Call, Noted, indices_of, CoreState, reply_of, Reply, Plan, epoch_limit, Port, Beside, MayAdd, Move, is_applied, Act, Changing, IsHere, Refusal, ActLeads, CallStep, Doing, IsUpdate, Leads, Run, after_step, answered, begun, changed, ran, round, started, Moves, Sees, Answered, Changes, Judges, LoadsWord, Looks, Refused, Runs, Starts, Tells, Arrived, EndsPass, LooksFirst, Refuses, not_below}
 use Rattle.partial_model.specs.declared.call.Call.TheVariants as call
-use Rattle.partial_model.specs.Notes.{Noted, indices_of}
-use Rattle.partial_machine.specs.Machine.{CoreState, reply_of}
-use Rattle.partial_machine.specs.declared.stage.Reply.{Reply}
 use Rattle.partial_machine.specs.declared.stage.Reply.TheVariants as reply
-use Rattle.partial_epochs.specs.Layout.{Plan, epoch_limit}
-use Rattle.partial_epochs.specs.Ports.{Port}
-use Rattle.partial_epochs.specs.Epochs.{Beside}
-use Rattle.partial_epochs.specs.EveryStep.{MayAdd, Move, is_applied}
 use Rattle.partial_epochs.specs.EveryStep as every
-use Rattle.partial_epochs.specs.Changing.{Act, Changing, IsHere, Refusal}
-use Rattle.partial_epochs.specs.Calls.{ActLeads, CallStep, Doing, IsUpdate, Leads, Run, after_step, answered, begun, changed, ran, round, started}
-use Rattle.partial_epochs.specs.Changing.Act.{Moves, Sees}
 use Rattle.partial_epochs.specs.Changing.Refusal.{Component, EpochsSpent, NoArena, Overtaken}
-use Rattle.partial_epochs.specs.Calls.Doing.{Answered, Changes, Judges, LoadsWord, Looks, Refused, Runs, Starts, Tells}
-use Rattle.partial_epochs.specs.Changing.Changing.{Arrived, EndsPass, LooksFirst, Refuses}
 use Rattle.partial_epochs.specs.Calls as calls
 use Rattle.partial_epochs.specs.Refusals.{AppliesNothing, ChangesAreRefused, ComponentsAreMissing, OvertakenCallsMovedOn, RefusedCallsApplyNothing}
 use Rattle.partial_epochs.proofs.CallBounds.{steps_leave_fewer}
-use Rattle.partial_epochs.proofs.Places.{not_below}
 use Rattle.partial_epochs.proofs.CallEnds.{Ends, IsGoing, arrive_place, change_causes, change_ends, leads_here, step_none, still_epoch}
 use Rattle.partial_epochs.proofs.Room.{not_true}
 

@@ -1,18 +1,5 @@
 -- What a step in the arena of an epoch leaves of all the others.
-use Rattle.std.proofs.Common.{ℕ, ◌≡◌, ◌≢◌, ◌+◌, ◌<◌, ◌≤◌, ◌==◌, ◌⊎◌, ◌++◌, true, false, Option, Some, None, IfSome, List, [], ◌∷◌, length, refl, sym, ap, subst, ◌∙◌, inl, inr, arith}
-use Rattle.std.specs.Prelude.{slice_index}
-use Rattle.std.specs.Option.{option_map}
-use Rattle.std.proofs.lemmas.List.{append-nil}
-use Rattle.std.proofs.lemmas.Bool.Decides.{eqb_tells}
-use Rattle.partial_model.specs.declared.history.Applied.{Applied}
-use Rattle.partial_model.proofs.ListLemmas.{some_same}
-use Rattle.partial_words.specs.Layout.{total}
-use Rattle.partial_epochs.specs.Lists.{put}
-use Rattle.partial_epochs.specs.Layout.{IsAsked, Plan, IsSealed, packed, current_word, base, control_words, arena_words, component_words, carried_words, set_word}
-use Rattle.partial_epochs.specs.Ports.{Control, Owned, Port, Epoch}
-use Rattle.partial_epochs.specs.Control.{LawfulControl, IsOwner}
-use Rattle.partial_epochs.specs.Epochs.{Beside, IsArena, IsFinished, IsNew, IsSetting, IsStanding, LawfulEpochs, controls, next_word, numbers, place_now}
-use Rattle.partial_epochs.specs.Ports.Entering.{Stands}
+use Rattle.partial_epochs.proofs.Common.{ℕ, ◌≡◌, ◌≢◌, ◌+◌, ◌<◌, ◌≤◌, ◌==◌, ◌⊎◌, ◌++◌, true, false, Option, Some, None, IfSome, List, [], ◌∷◌, length, refl, sym, ap, subst, ◌∙◌, inl, inr, arith, slice_index, option_map, append-nil, eqb_tells, Applied, some_same, total, put, IsAsked, Plan, IsSealed, packed, current_word, base, control_words, arena_words, component_words, carried_words, set_word, Control, Owned, Port, Epoch, LawfulControl, IsOwner, Beside, IsArena, IsFinished, IsNew, IsSetting, IsStanding, LawfulEpochs, controls, next_word, numbers, place_now, Stands}
 use Rattle.partial_epochs.proofs.Lists.{at_of, put_all, put_other, put_same}
 use Rattle.partial_epochs.proofs.Places.{arena_same, carried_same, components_same, control_same, other_arena, packed_arena, set_place}
 use Rattle.partial_epochs.proofs.Present.{standing, numbered}

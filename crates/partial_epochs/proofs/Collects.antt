@@ -1,9 +1,5 @@
 -- Equal collects of an epoch.
-use Rattle.std.proofs.Common.{ℕ, ◌≡◌, List, [], ◌∷◌, length, map, take, refl, ap, subst, ◌∙◌}
-use Rattle.partial_model.specs.declared.history.Applied.{Applied}
-use Rattle.partial_model.specs.History.{IsHistory, stamp_of, value_of}
-use Rattle.partial_model.proofs.StampsStay.{stamps_never_return}
-use Rattle.partial_epochs.specs.History.{opening_behind}
+use Rattle.partial_epochs.proofs.Common.{ℕ, ◌≡◌, List, [], ◌∷◌, length, map, take, refl, ap, subst, ◌∙◌, Applied, IsHistory, stamp_of, value_of, stamps_never_return, opening_behind}
 use Rattle.partial_epochs.specs.Collects.{CollectsStandTogether, EpochsAreHistories, collected_stamps}
 
 -- lists with equal heads and tails

@@ -1,50 +1,8 @@
 -- The history of all epochs goes on where an epoch ends.
-use Rattle.std.proofs.Common.{ℕ, zero, suc, ◌≡◌, ◌+◌, ◌<◌, ◌≤◌, ◌==◌, ◌++◌, Bool, true, false, cond, Option, Some, None, IfSome, List, [], ◌∷◌, length, take, map, get_or, refl, sym, ap, subst, ◌∙◌, arith}
-use Rattle.std.specs.Option.{option_map, option_map_or}
-use Rattle.std.specs.List.{AllByRecursion}
-use Rattle.std.proofs.lemmas.Bool.{lt-ltb}
-use Rattle.std.proofs.lemmas.List.{length-map}
-use Rattle.partial_model.specs.declared.history.Applied.{Applied}
-use Rattle.partial_model.specs.declared.history.Opening.{Opening}
-use Rattle.partial_model.specs.History.{last_entry, last_from, initial_stamp, stamp_of, value_of}
-use Rattle.partial_model.proofs.ListLemmas.{some_same}
-use Rattle.partial_model.proofs.AllLemmas.{all_weaker}
-use Rattle.partial_words.specs.Layout.{first_free}
+use Rattle.partial_epochs.proofs.Common.{ℕ, zero, suc, ◌≡◌, ◌+◌, ◌<◌, ◌≤◌, ◌==◌, ◌++◌, Bool, true, false, cond, Option, Some, None, IfSome, List, [], ◌∷◌, length, take, map, get_or, refl, sym, ap, subst, ◌∙◌, arith, option_map, option_map_or, AllByRecursion, lt-ltb, length-map, Applied, Opening, last_entry, initial_stamp, stamp_of, value_of, behind_both, some_same, all_weaker, first_free, list_of, Plan, arena_words, carried_word, carried_words, carried_after, carried_behind, history_of, opening_behind, public_entry, public_log, public_stamp, EpochsContinue, Port, Epoch, Stands, IsAt, Beside, IsStanding, LawfulEpochs, ReadsTellAllEpochs, read_stamp, IsEntry, not_below}
+use Rattle.partial_model.specs.History.{last_from}
 use Rattle.partial_core.specs.Lawful as one
-use Rattle.partial_epochs.specs.Lists.{list_of}
-use Rattle.partial_epochs.specs.Layout.{Plan, arena_words, carried_word, carried_words}
-use Rattle.partial_epochs.specs.History.{carried_after, carried_behind, history_of, opening_behind, public_entry, public_log, public_stamp, EpochsContinue}
-use Rattle.partial_epochs.specs.Ports.{Port, Epoch}
-use Rattle.partial_epochs.specs.Ports.Entering.{Stands}
-use Rattle.partial_epochs.specs.Control.{IsAt}
-use Rattle.partial_epochs.specs.Epochs.{Beside, IsStanding, LawfulEpochs}
-use Rattle.partial_epochs.specs.Reads.{ReadsTellAllEpochs, read_stamp}
-use Rattle.partial_state.specs.LawfulWords.{IsEntry}
 use Rattle.partial_epochs.proofs.Lists.{at_of}
-use Rattle.partial_epochs.proofs.Places.{not_below}
-
--- the last entry of two histories
-both : (found : Option Applied) (j : ℕ) (a b : List Applied) → last_from found j (a ++ b) ≡ last_from (last_from found j a) j b
-unfolding last_from
-both found j [] b = refl
-both found j (e ∷ a) b = both (cond (e.component == j) (Some e) found) j a b
-
-module _ (f : Applied → ℕ) where
-  abbrev In : Option Applied → ℕ → ℕ
-  In t d = option_map_or f t d
-
-  pick : (c : Bool) (e : Applied) (found : Option Applied) (d : ℕ) → In (cond c (Some e) found) d ≡ In (cond c (Some e) None) (In found d)
-  pick true e found d = refl
-  pick false e found d = refl
-
-  over : (found : Option Applied) (j : ℕ) (h : List Applied) (d : ℕ) → In (last_from found j h) d ≡ In (last_from None j h) (In found d)
-  unfolding last_from
-  over found j [] d = refl
-  over found j (e ∷ h) d = over (cond (e.component == j) (Some e) found) j h d ∙ ap (In (last_from None j h)) (pick (e.component == j) e found d)
-      ∙ sym (over (cond (e.component == j) (Some e) None) j h (In found d))
-
-  pub behind_both : (a b : List Applied) (j d : ℕ) → In (last_from None j (a ++ b)) d ≡ In (last_from None j b) (In (last_from None j a) d)
-  behind_both a b j d = ap (λ (t : Option Applied). In t d) (both None j a b) ∙ over (last_from None j a) j b d
 
 -- with public stamps
 cond_map : (g : Applied → Applied) (c : Bool) (e : Applied) (found : Option Applied) → cond c (Some (g e)) (option_map g found) ≡ option_map g (cond c (Some e) found)

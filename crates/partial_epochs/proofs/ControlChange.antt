@@ -1,12 +1,5 @@
 -- A step on the control words alone.
-use Rattle.std.proofs.Common.{ℕ, ◌≡◌, ◌≢◌, ◌+◌, ◌<◌, ◌==◌, ◌⊎◌, true, false, Option, Some, None, IfSome, List, length, get_or, set, sym, ap, subst, ◌∙◌, inl, inr, arith}
-use Rattle.std.proofs.lemmas.Bool.Decides.{eqb_tells}
-use Rattle.std.proofs.lemmas.List.{get_or-set_same, get_or-set_other}
-use Rattle.partial_epochs.specs.Lists.{put}
-use Rattle.partial_epochs.specs.Layout.{Plan, Place, IsPlace, at_word, control_size, current_word, marked, packed}
-use Rattle.partial_epochs.specs.Ports.{Control, Entering, Owned}
-use Rattle.partial_epochs.specs.Control.{IsAt, IsEarlier, IsMarked, IsOld, IsOut, IsOwner, LawfulControl, MayPut, NotInto}
-use Rattle.partial_epochs.specs.Ports.Entering.{Stands, Marks, Loaded}
+use Rattle.partial_epochs.proofs.Common.{ℕ, ◌≡◌, ◌≢◌, ◌+◌, ◌<◌, ◌==◌, ◌⊎◌, true, false, Option, Some, None, IfSome, List, length, get_or, set, sym, ap, subst, ◌∙◌, inl, inr, arith, eqb_tells, get_or-set_same, get_or-set_other, put, Plan, Place, IsPlace, at_word, control_size, current_word, marked, packed, Control, Entering, Owned, IsAt, IsEarlier, IsMarked, IsOld, IsOut, IsOwner, LawfulControl, MayPut, NotInto, Stands, Marks, Loaded}
 use Rattle.partial_epochs.proofs.Lists.{put_all, put_other, put_same}
 
 -- port k, which owns no arena, changes what it does, and its word

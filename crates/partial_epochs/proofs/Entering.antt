@@ -1,18 +1,5 @@
 -- The steps by which a port comes to the present epoch.
-use Rattle.std.proofs.Common.{ℕ, ◌≡◌, ◌≢◌, ◌+◌, ◌<◌, ◌≤◌, ◌==◌, ◌⊎◌, Bool, true, false, cond, Option, Some, None, IfSome, List, length, get_or, set, refl, sym, ap, subst, ◌∙◌, inl, inr, arith}
-use Rattle.std.specs.Option.{option_map}
-use Rattle.std.proofs.lemmas.Bool.Decides.{eqb_tells}
-use Rattle.std.proofs.lemmas.List.{get_or-set_same, get_or-set_other, length-set, set-get_or}
-use Rattle.partial_model.specs.declared.history.Applied.{Applied}
-use Rattle.partial_model.proofs.ListLemmas.{some_same}
-use Rattle.partial_words.specs.Layout.{total}
-use Rattle.partial_epochs.specs.Lists.{put}
-use Rattle.partial_epochs.specs.Layout.{Plan, Place, IsPlace, at_word, arena_words, base, carried_word, carried_words, component_words, control_size, control_words, current_word, marked, packed, plain, set_word, arena_limit}
-use Rattle.partial_epochs.specs.Ports.{Control, Owned, Port, Epoch}
-use Rattle.partial_epochs.specs.Control.{IsAt, IsEarlier, IsOld, IsOut, IsOwner, LawfulControl, MayPut, NotInto}
-use Rattle.partial_epochs.specs.Epochs.{Beside, IsArena, IsNew, IsSetting, IsStanding, LawfulEpochs, controls, numbers, place_now, IsPresent}
-use Rattle.partial_epochs.specs.Entering.{Arrives, ArrivalsStayLawful, EntriesLoad, LooksAreTrue, MarksStayLawful, arrived}
-use Rattle.partial_epochs.specs.Ports.Entering.{Stands, Marks, Loaded}
+use Rattle.partial_epochs.proofs.Common.{ℕ, ◌≡◌, ◌≢◌, ◌+◌, ◌<◌, ◌≤◌, ◌==◌, ◌⊎◌, Bool, true, false, cond, Option, Some, None, IfSome, List, length, get_or, set, refl, sym, ap, subst, ◌∙◌, inl, inr, arith, option_map, eqb_tells, get_or-set_same, get_or-set_other, length-set, set-get_or, Applied, some_same, total, put, Plan, Place, IsPlace, at_word, arena_words, base, carried_word, carried_words, component_words, control_size, control_words, current_word, marked, packed, plain, set_word, arena_limit, Control, Owned, Port, Epoch, IsAt, IsEarlier, IsOld, IsOut, IsOwner, LawfulControl, MayPut, NotInto, Beside, IsArena, IsNew, IsSetting, IsStanding, LawfulEpochs, controls, numbers, place_now, IsPresent, Arrives, ArrivalsStayLawful, EntriesLoad, LooksAreTrue, MarksStayLawful, arrived, Stands, Marks, Loaded}
 use Rattle.partial_epochs.proofs.ControlChange.{Goes, control_goes, own, putter}
 use Rattle.partial_epochs.proofs.Lists.{at_of, length_of, put_all, put_other, put_same, same_of, set_of}
 use Rattle.partial_epochs.proofs.Places.{packed_arena, set_place}

@@ -1,28 +1,8 @@
 -- Every step of every port keeps the memory lawful.
-use Rattle.std.proofs.Common.{ℕ, ◌≡◌, ◌+◌, ◌<◌, ◌≤◌, ◌⊎◌, ◌++◌, List, [], ◌∷◌, length, get_or, refl, sym, ap, subst, ◌∙◌, inl, inr, arith}
-use Rattle.std.proofs.lemmas.List.{append-nil}
-use Rattle.partial_model.specs.declared.history.Applied.{Applied}
-use Rattle.std.proofs.lemmas.Bool.Decides.{eqb_tells}
-use Rattle.partial_model.specs.Notes.{Noted}
-use Rattle.partial_words.specs.declared.step.Step.{Step}
-use Rattle.partial_words.specs.declared.step.Step.TheVariants.{Add}
-use Rattle.partial_machine.specs.Machine.{CoreState}
-use Rattle.partial_epochs.specs.Lists.{put}
-use Rattle.partial_epochs.specs.Layout.{Place, Plan, at_word, current_word, packed, seal}
-use Rattle.partial_epochs.specs.Ports.{Control, Port}
-use Rattle.partial_epochs.specs.History.{history_of, public_log}
-use Rattle.partial_epochs.specs.Ports.Entering.{Marks, Loaded}
-use Rattle.partial_epochs.specs.Epochs.{Beside, LawfulEpochs, place_now}
+use Rattle.partial_epochs.proofs.Common.{ℕ, ◌≡◌, ◌+◌, ◌<◌, ◌≤◌, ◌⊎◌, ◌++◌, List, [], ◌∷◌, length, get_or, refl, sym, ap, subst, ◌∙◌, inl, inr, arith, append-nil, Applied, eqb_tells, Noted, Step, Add, CoreState, put, Place, Plan, at_word, current_word, packed, seal, Control, Port, history_of, public_log, Marks, Loaded, Beside, LawfulEpochs, place_now, arrived, having_passed, MayPut, cleaner, having_given, having_loaded, having_looked, having_put, just_taken, owning, having_published, having_set, next_beside, vacated, EveryStepStaysLawful, IsPlacedBy, MayAdd, MayMove, MemoriesOpenLawful, Move, MoveLeads, moved_words, since_behind, Makes, Seals, PassesSealed, LooksAsOwner, StoresMark, LoadsCurrent, ExchangesMark, Takes, Gives, FindsElsewhere, LoadsMark, Puts, Sets, Notes, MachineLeads, IsAside, LawfulMemory, having_seen, noting, one_history}
 use Rattle.partial_epochs.specs.Sealing.{passing}
-use Rattle.partial_epochs.specs.Entering.{arrived, having_passed}
-use Rattle.partial_epochs.specs.Control.{MayPut}
-use Rattle.partial_epochs.specs.Owning.{cleaner, having_given, having_loaded, having_looked, having_put, just_taken, owning}
-use Rattle.partial_epochs.specs.Publishing.{having_published, having_set, next_beside, vacated}
-use Rattle.partial_epochs.specs.EveryStep.{EveryStepStaysLawful, IsPlacedBy, MayAdd, MayMove, MemoriesOpenLawful, Move, MoveLeads, moved_words, since_behind}
-use Rattle.partial_epochs.specs.EveryStep.Move.{Makes, Seals, PassesSealed, Looks, LooksAsOwner, StoresMark, LoadsCurrent, ExchangesMark, Takes, Gives, FindsElsewhere, LoadsMark, Puts, Sets, Publishes, Notes}
+use Rattle.partial_epochs.specs.EveryStep.Move.{Looks, Publishes}
 use Rattle.partial_epochs.specs.Time.{KeepsTime}
-use Rattle.partial_epochs.specs.MachineSteps.{MachineLeads}
-use Rattle.partial_epochs.specs.Notes.{IsAside, LawfulMemory, having_seen, noting, one_history}
 use Rattle.partial_epochs.proofs.Entering.{arrivals_stay_lawful, entries_load, looks_are_true, marks_stay_lawful}
 use Rattle.partial_epochs.proofs.Lists.{put_other, put_same}
 use Rattle.partial_epochs.proofs.MachineSteps.{machine_steps_stay_lawful}

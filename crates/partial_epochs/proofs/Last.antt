@@ -1,26 +1,10 @@
 -- What the words of an epoch tell last, and that it stays.
-use Rattle.std.proofs.Common.{ℕ, ◌≡◌, ◌≢◌, ◌+◌, ◌<◌, ◌≤◌, ◌==◌, ◌⊎◌, ◌++◌, Bool, true, false, cond, Option, Some, None, List, [], ◌∷◌, length, take, get_or, refl, sym, ap, subst, ◌∙◌, inl, inr, arith}
-use Rattle.std.specs.List.{AllByRecursion}
-use Rattle.std.specs.Option.{option_map_or}
-use Rattle.std.proofs.lemmas.Bool.Decides.{eqb_tells}
-use Rattle.std.proofs.lemmas.List.{take_all}
-use Rattle.partial_model.specs.declared.history.Applied.{Applied}
-use Rattle.partial_model.specs.declared.history.Opening.{Opening}
-use Rattle.partial_model.specs.History.{last_from, initial_stamp, stamp_of, value_of}
-use Rattle.partial_model.proofs.HistoryLemmas.{stamp_all}
-use Rattle.partial_words.specs.Layout.{total}
+use Rattle.partial_epochs.proofs.Common.{ℕ, ◌≡◌, ◌≢◌, ◌+◌, ◌<◌, ◌≤◌, ◌==◌, ◌⊎◌, ◌++◌, Bool, true, false, cond, Option, Some, None, List, [], ◌∷◌, length, take, get_or, refl, sym, ap, subst, ◌∙◌, inl, inr, arith, AllByRecursion, option_map_or, eqb_tells, take_all, Applied, Opening, initial_stamp, stamp_of, value_of, stamp_all, total, lawful_records_are_within, list_of, Plan, IsSealed, arena_words, base, component_words, plain, unsealed, history_of, opening_behind, Port, Stands, Beside, IsStanding, LawfulEpochs, ComponentsNameRecords, LastWordsAreFinal, TellTheLast, read_stamp, behind_both}
+use Rattle.partial_model.specs.History.{last_from}
 use Rattle.partial_words.specs.Record.{value_word}
 use Rattle.partial_words.proofs.ChainLemmas.{records_within, value_behind_stamp}
 use Rattle.partial_core.specs.Lawful as one
-use Rattle.partial_core.proofs.Laws.{lawful_records_are_within}
-use Rattle.partial_epochs.specs.Lists.{list_of}
-use Rattle.partial_epochs.specs.Layout.{Plan, IsSealed, arena_words, base, component_words, plain, unsealed}
-use Rattle.partial_epochs.specs.History.{history_of, opening_behind}
-use Rattle.partial_epochs.specs.Ports.{Port}
-use Rattle.partial_epochs.specs.Ports.Entering.{Stands}
-use Rattle.partial_epochs.specs.Epochs.{Beside, IsStanding, LawfulEpochs}
-use Rattle.partial_epochs.specs.Reads.{ComponentsNameRecords, LastWordsAreFinal, TellTheLast, read_stamp}
-use Rattle.partial_epochs.proofs.Continue.{behind_both, epochs_continue, history_took, reads_tell_all_epochs}
+use Rattle.partial_epochs.proofs.Continue.{epochs_continue, history_took, reads_tell_all_epochs}
 use Rattle.partial_epochs.proofs.Places.{below_whole}
 use Rattle.partial_epochs.proofs.Worded.{plain_at, plain_component, plain_other}
 

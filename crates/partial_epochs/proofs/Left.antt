@@ -1,13 +1,8 @@
 -- How many steps of a call are left at most: a number that each step lowers.
-use Rattle.std.specs.Prelude.{ℕ, zero, suc, ◌+◌, ◌*◌, ◌-◌, Bool, true, false, if◌then◌else◌}
-use Rattle.partial_model.specs.declared.call.Call.{Call}
+use Rattle.partial_epochs.proofs.Common.{if◌then◌else◌, Call, first_free, most_steps, steps_left, Plan, Changing, passes, Doing}
+use Rattle.std.specs.Prelude.{ℕ, zero, suc, ◌+◌, ◌*◌, ◌-◌, Bool, true, false}
 use Rattle.partial_model.specs.declared.call.Call.TheVariants as call
-use Rattle.partial_words.specs.Layout.{first_free}
-use Rattle.partial_machine.specs.Bounds.{most_steps, steps_left}
-use Rattle.partial_epochs.specs.Layout.{Plan}
-use Rattle.partial_epochs.specs.Changing.{Changing, passes}
 use Rattle.partial_epochs.specs.Changing as changing
-use Rattle.partial_epochs.specs.Calls.{Doing}
 use Rattle.partial_epochs.specs.Calls as calls
 use Rattle.partial_epochs.specs.Bounds.{arena_steps, most_of_change, opening_steps, pass_steps}
 

@@ -1,7 +1,5 @@
 -- Lists of a function's values, functions with one value changed, and counts.
-use Rattle.std.proofs.Common.{ℕ, zero, suc, ◌≡◌, ◌≢◌, ◌+◌, ◌<◌, ◌≤◌, ◌++◌, Bool, true, false, cond, List, [], ◌∷◌, length, get_or, set, refl, sym, ap, subst, ◌∙◌, inl, inr, arith}
-use Rattle.std.proofs.lemmas.Bool.Decides.{eqb_tells}
-use Rattle.partial_epochs.specs.Lists.{list_of, put, count}
+use Rattle.partial_epochs.proofs.Common.{ℕ, zero, suc, ◌≡◌, ◌≢◌, ◌+◌, ◌<◌, ◌≤◌, ◌++◌, Bool, true, false, cond, List, [], ◌∷◌, length, get_or, set, refl, sym, ap, subst, ◌∙◌, inl, inr, arith, eqb_tells, list_of, put, count}
 
 pub length_of : {A : Type 0} (f : ℕ → A) (p n : ℕ) → length (list_of f p n) ≡ n
 length_of f p zero = refl

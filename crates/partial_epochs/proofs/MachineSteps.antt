@@ -1,34 +1,11 @@
 -- Each due step of a machine in the arena where its port stands keeps the lawful state of all epochs.
-use Rattle.std.proofs.Common.{ℕ, ◌≡◌, ◌≢◌, ◌+◌, ◌*◌, ◌%◌, ◌^◌, ◌<◌, ◌≤◌, ◌==◌, ◌⊎◌, ◌++◌, Bool, true, false, cond, Some, List, [], ◌∷◌, length, get_or, set, refl, sym, ap, subst, ◌∙◌, inl, inr, arith}
-use Rattle.std.specs.Prelude.{◌&&◌, ◌||◌, nat_lt}
-use Rattle.std.specs.List.{AllByRecursion}
-use Rattle.std.proofs.lemmas.Bool.{cases_lt, lt-ltb}
-use Rattle.std.proofs.lemmas.Bool.Decides.{eqb_tells}
-use Rattle.std.proofs.lemmas.List.{get_or-set_same, get_or-set_other}
-use Rattle.partial_model.specs.declared.history.Applied.{Applied}
-use Rattle.partial_model.specs.declared.history.Opening.{Opening}
-use Rattle.partial_words.specs.declared.step.Step.{Step}
-use Rattle.partial_words.specs.declared.step.Step.TheVariants.{Load, Store, Exchange, Add}
-use Rattle.partial_words.specs.Layout.{IsLayout, Layout, first_free, total, pool_counter, slot_counter, greatest_record}
-use Rattle.partial_words.specs.Step.{answer_of, word_of, words_after}
-use Rattle.partial_machine.specs.Bounds.{steps_left}
-use Rattle.partial_machine.specs.Machine.{CoreState, advance, step_of}
-use Rattle.partial_core.specs.Part.{Part, IsMachineOf, port_of}
-use Rattle.partial_core.specs.Ports.{IsReady}
+use Rattle.partial_epochs.proofs.Common.{ℕ, ◌≡◌, ◌≢◌, ◌+◌, ◌*◌, ◌%◌, ◌^◌, ◌<◌, ◌≤◌, ◌==◌, ◌⊎◌, ◌++◌, Bool, true, false, cond, Some, List, [], ◌∷◌, length, get_or, set, refl, sym, ap, subst, ◌∙◌, inl, inr, arith, ◌&&◌, ◌||◌, nat_lt, AllByRecursion, cases_lt, lt-ltb, eqb_tells, get_or-set_same, get_or-set_other, Applied, Opening, Step, Load, Store, Exchange, Add, IsLayout, Layout, first_free, total, pool_counter, slot_counter, greatest_record, answer_of, word_of, words_after, steps_left, CoreState, advance, step_of, Part, IsMachineOf, port_of, IsReady, LeadsOn, added_by, lawful_machines_are_ready, steps_stay_lawful, count, list_of, put, Plan, arena_words, carried_words, component_words, placed, opening_behind, Port, Epoch, Beside, IsArena, IsStanding, LawfulEpochs, IsPresent, awaits_slot, MachineLeads, MachineStepsStayLawful, MayClaim, MeetsSeal, ends_over, Stands, not_below}
 use Rattle.partial_core.specs.Lawful as one
-use Rattle.partial_core.specs.Steps.{LeadsOn, Tells, added_by}
-use Rattle.partial_core.proofs.Laws.{lawful_machines_are_ready, steps_stay_lawful}
-use Rattle.partial_epochs.specs.Lists.{count, list_of, put}
-use Rattle.partial_epochs.specs.Layout.{Plan, arena_words, carried_words, component_words, placed}
-use Rattle.partial_epochs.specs.History.{opening_behind}
-use Rattle.partial_epochs.specs.Ports.{Port, Epoch}
-use Rattle.partial_epochs.specs.Epochs.{Beside, IsArena, IsStanding, LawfulEpochs, IsPresent, awaits_slot}
-use Rattle.partial_epochs.specs.MachineSteps.{MachineLeads, MachineStepsStayLawful, MayClaim, MeetsSeal, ends_over}
-use Rattle.partial_epochs.specs.Ports.Entering.{Stands}
+use Rattle.partial_core.specs.Steps.{Tells}
 use Rattle.partial_epochs.proofs.Apart.{IsApart, due_apart}
 use Rattle.partial_epochs.proofs.Change.{Changes, beside_then, change_kept}
 use Rattle.partial_epochs.proofs.Lists.{Around, around_of, count_more, count_one, count_same, length_of, put_all, put_other, put_same}
-use Rattle.partial_epochs.proofs.Places.{below_whole, not_below}
+use Rattle.partial_epochs.proofs.Places.{below_whole}
 use Rattle.partial_epochs.proofs.Present.{by_seal, standing}
 use Rattle.partial_epochs.proofs.Slots.{awaits, awaits_same, counted, one, pool_small}
 use Rattle.partial_epochs.proofs.Worded.{Words, worded}

@@ -1,22 +1,9 @@
 -- A change of epoch that finds no arena has found each one taken in each of its passes.
-use Rattle.std.proofs.Common.{ℕ, zero, suc, ◌≡◌, ◌≢◌, ◌+◌, ◌*◌, ◌<◌, ◌≤◌, ◌==◌, ◌⊎◌, Bool, true, false, cond, Option, Some, None, List, refl, sym, ap, subst, ◌∙◌, inl, inr, arith}
-use Rattle.std.specs.Prelude.{⊤, nat_lt}
-use Rattle.std.proofs.lemmas.Bool.{cases_lt}
-use Rattle.std.proofs.lemmas.Bool.Decides.{eqb_tells}
-use Rattle.partial_model.specs.declared.call.Call.{Call}
+use Rattle.partial_epochs.proofs.Common.{ℕ, zero, suc, ◌≡◌, ◌≢◌, ◌+◌, ◌*◌, ◌<◌, ◌≤◌, ◌==◌, ◌⊎◌, Bool, true, false, cond, Option, Some, None, List, refl, sym, ap, subst, ◌∙◌, inl, inr, arith, ⊤, nat_lt, cases_lt, eqb_tells, Call, CoreState, reply_of, Reply, first_free, Place, Plan, Port, Act, ChangeLeads, Changing, next_arena, next_component, next_load, next_pass, next_port, next_set, passes, Sees, Arrived, EndsPass, GivesBack, GivesUp, LoadsComponent, LoadsLast, LoadsPort, LooksAgain, LooksFirst, Publishes, PutsPort, Refuses, SealsComponent, SetsWord, TakesArena, CallStep, Doing, Leads, Run, after_step, answered, changed, ran, round, Answered, Changes, Judges, LoadsWord, Looks, Refused, Runs, Starts, Tells}
 use Rattle.partial_model.specs.declared.call.Call.TheVariants as call
-use Rattle.partial_machine.specs.Machine.{CoreState, reply_of}
-use Rattle.partial_machine.specs.declared.stage.Reply.{Reply}
 use Rattle.partial_machine.specs.declared.stage.Reply.TheVariants as reply
-use Rattle.partial_words.specs.Layout.{first_free}
-use Rattle.partial_epochs.specs.Layout.{Place, Plan}
-use Rattle.partial_epochs.specs.Ports.{Port}
-use Rattle.partial_epochs.specs.Changing.{Act, ChangeLeads, Changing, next_arena, next_component, next_load, next_pass, next_port, next_set, passes}
-use Rattle.partial_epochs.specs.Changing.Act.{Sees}
-use Rattle.partial_epochs.specs.Changing.Changing.{Arrived, EndsPass, ExchangesMark, GivesBack, GivesUp, LoadsComponent, LoadsCurrent, LoadsLast, LoadsPort, LooksAgain, LooksAsOwner, LooksFirst, Publishes, PutsPort, Refuses, SealsComponent, SetsWord, StoresMark, TakesArena}
+use Rattle.partial_epochs.specs.Changing.Changing.{ExchangesMark, LoadsCurrent, LooksAsOwner, StoresMark}
 use Rattle.partial_epochs.specs.Changing as changing
-use Rattle.partial_epochs.specs.Calls.{CallStep, Doing, Leads, Run, after_step, answered, changed, ran, round}
-use Rattle.partial_epochs.specs.Calls.Doing.{Answered, Changes, Judges, LoadsWord, Looks, Refused, Runs, Starts, Tells}
 use Rattle.partial_epochs.specs.Calls as calls
 use Rattle.partial_epochs.specs.Refusals.{FindsTaken, NoArenaIsFree, SomeFindsTaken}
 use Rattle.partial_epochs.proofs.CallEnds.{change_ends, still_place}

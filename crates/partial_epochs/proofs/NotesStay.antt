@@ -1,42 +1,10 @@
 -- Each step of a machine keeps the notes lawful, over all epochs.
-use Rattle.std.proofs.Common.{ℕ, suc, ◌≡◌, ◌≢◌, ◌+◌, ◌<◌, ◌≤◌, ◌==◌, ◌⊎◌, ◌++◌, Bool, true, false, cond, Option, Some, None, IfSome, List, [], ◌∷◌, length, map, refl, sym, ap, subst, ◌∙◌, inl, inr, arith, length-append}
-use Rattle.std.specs.List.{AllByRecursion}
-use Rattle.std.specs.Option.{option_map}
-use Rattle.std.proofs.lemmas.Bool.Decides.{eqb_tells}
-use Rattle.std.proofs.lemmas.List.{append-nil, append_cancel_left, map-append}
-use Rattle.partial_model.specs.declared.history.Applied.{Applied}
-use Rattle.partial_model.specs.declared.history.Opening.{Opening}
-use Rattle.partial_model.specs.declared.call.Note.{Note}
+use Rattle.partial_epochs.proofs.Common.{ℕ, suc, ◌≡◌, ◌≢◌, ◌+◌, ◌<◌, ◌≤◌, ◌==◌, ◌⊎◌, ◌++◌, Bool, true, false, cond, Option, Some, None, IfSome, List, [], ◌∷◌, length, map, refl, sym, ap, subst, ◌∙◌, inl, inr, arith, length-append, AllByRecursion, option_map, eqb_tells, append-nil, append_cancel_left, map-append, Applied, Opening, Note, Fits, IsLegal, IsTrueOf, LegalNotes, Noted, place_of, seen_by, shown_by, EachOnce, places_by, places_written, wrote, all_take, some_same, Step, Layout, first_free, answer_of, words_after, Reply, CoreState, advance, reply_of, answer_for, Holding, Part, core_of, first_at, port_of, holdings, AreKept, AreNotesOf, IsNoteOf, kept_with, since_with, list_of, put, Plan, arena_words, placed, history_of, opening_behind, public_log, Control, Epoch, Port, Stands, Beside, IsPresent, IsStanding, MachineLeads, MayAdd, is_applied, Makes, ExpectedOne, IsEpochHistory, LawfulMemory, LawfulNotes, MayNote, NotesStayLawful, Reached, noting, one_history, public_answer, public_call, public_note, public_noted, seen_of}
 use Rattle.partial_model.specs.declared.call.Note.TheVariants as note
-use Rattle.partial_model.specs.Notes.{Fits, IsLegal, IsTrueOf, LegalNotes, Noted, place_of, seen_by, shown_by}
-use Rattle.partial_model.specs.Outcome.{EachOnce, places_by, places_written, wrote}
-use Rattle.partial_model.proofs.AllLemmas.{all_take}
-use Rattle.partial_model.proofs.ListLemmas.{some_same}
 use Rattle.partial_model.proofs.NotesLemmas.{LegalNotes-grows, LegalNotes-last, LegalNotes-push, IsTrueOf-grows, places_written-append, seen_by-push}
-use Rattle.partial_words.specs.declared.step.Step.{Step}
-use Rattle.partial_words.specs.Layout.{Layout, first_free}
-use Rattle.partial_words.specs.Step.{answer_of, words_after}
-use Rattle.partial_machine.specs.declared.stage.Reply.{Reply}
 use Rattle.partial_machine.specs.declared.stage.Reply.TheVariants as reply
-use Rattle.partial_machine.specs.Machine.{CoreState, advance, reply_of}
-use Rattle.partial_machine.specs.Calls.{answer_for}
-use Rattle.partial_state.specs.Holdings.{Holding}
 use Rattle.partial_state.specs.Loads.{Kept}
-use Rattle.partial_core.specs.Part.{Part, core_of, first_at, port_of}
-use Rattle.partial_core.specs.Held.{holdings}
-use Rattle.partial_core.specs.Known.{AreKept}
-use Rattle.partial_core.specs.Steps.{AreNotesOf, IsNoteOf, kept_with, since_with}
 use Rattle.partial_core.proofs.Parts.{seen_within as no_longer}
-use Rattle.partial_epochs.specs.Lists.{list_of, put}
-use Rattle.partial_epochs.specs.Layout.{Plan, arena_words, placed}
-use Rattle.partial_epochs.specs.History.{history_of, opening_behind, public_log}
-use Rattle.partial_epochs.specs.Ports.{Control, Epoch, Port}
-use Rattle.partial_epochs.specs.Ports.Entering.{Stands}
-use Rattle.partial_epochs.specs.Epochs.{Beside, IsPresent, IsStanding}
-use Rattle.partial_epochs.specs.MachineSteps.{MachineLeads}
-use Rattle.partial_epochs.specs.EveryStep.{MayAdd, is_applied}
-use Rattle.partial_epochs.specs.EveryStep.Move.{Makes}
-use Rattle.partial_epochs.specs.Notes.{ExpectedOne, IsEpochHistory, LawfulMemory, LawfulNotes, MayNote, NotesStayLawful, Reached, noting, one_history, public_answer, public_call, public_note, public_noted, seen_of}
 use Rattle.partial_epochs.proofs.Lists.{put_all, put_other, put_same}
 use Rattle.partial_epochs.proofs.OneHistory.{held_history}
 use Rattle.partial_epochs.proofs.Public.{public_fits, public_true}

@@ -1,24 +1,5 @@
 -- The histories of all epochs, one behind the other, are one history.
-use Rattle.std.proofs.Common.{ℕ, zero, suc, ◌≡◌, ◌≢◌, ◌+◌, ◌*◌, ◌<◌, ◌≤◌, ◌++◌, Some, List, [], ◌∷◌, length, map, slice_get, Contains, get_or, refl, sym, ap, subst, ◌∙◌, inl, inr, arith, length-append, append_assoc}
-use Rattle.std.specs.List.{AllByRecursion}
-use Rattle.std.proofs.Math.Nat.{mul-le-mul_right}
-use Rattle.std.proofs.lemmas.Bool.{cases_lt}
-use Rattle.std.proofs.lemmas.Bool.Decides.{eqb_tells}
-use Rattle.std.proofs.lemmas.List.{length-map}
-use Rattle.partial_model.specs.declared.history.Applied.{Applied}
-use Rattle.partial_model.specs.History.{HaveDistinctStamps, IsHistory, initial_stamp}
-use Rattle.partial_model.proofs.AllLemmas.{all_append, all_map, all_weaker}
-use Rattle.partial_model.proofs.StampsStay.{distinct_at}
-use Rattle.partial_words.specs.Layout.{first_free, total}
-use Rattle.partial_state.specs.LawfulWords.{IsEntry}
-use Rattle.partial_core.specs.Part.{Part, port_of}
-use Rattle.partial_core.proofs.Laws.{lawful_ports_fit}
-use Rattle.partial_epochs.specs.Lists.{list_of}
-use Rattle.partial_epochs.specs.Layout.{Plan, arena_words, epoch_limit}
-use Rattle.partial_epochs.specs.History.{history_of, opening_behind, public_entry, public_log, stamp_limit}
-use Rattle.partial_epochs.specs.Ports.{Epoch, Port}
-use Rattle.partial_epochs.specs.Epochs.{Beside, IsPlan, LawfulEpochs}
-use Rattle.partial_epochs.specs.Notes.{EpochsFitOneHistory, IsEpochHistory, PublicStampsAreUnique, Reached, one_history, seen_of}
+use Rattle.partial_epochs.proofs.Common.{ℕ, zero, suc, ◌≡◌, ◌≢◌, ◌+◌, ◌*◌, ◌<◌, ◌≤◌, ◌++◌, Some, List, [], ◌∷◌, length, map, slice_get, Contains, get_or, refl, sym, ap, subst, ◌∙◌, inl, inr, arith, length-append, append_assoc, AllByRecursion, mul-le-mul_right, cases_lt, eqb_tells, length-map, Applied, HaveDistinctStamps, IsHistory, initial_stamp, all_append, all_map, all_weaker, distinct_at, first_free, total, IsEntry, Part, port_of, lawful_ports_fit, list_of, Plan, arena_words, epoch_limit, history_of, opening_behind, public_entry, public_log, stamp_limit, Epoch, Port, Beside, IsPlan, LawfulEpochs, EpochsFitOneHistory, IsEpochHistory, PublicStampsAreUnique, Reached, one_history, seen_of}
 
 -- two histories whose stamps lie apart
 distinct_both : (n : ℕ) (a b : List Applied) → HaveDistinctStamps a → HaveDistinctStamps b → AllByRecursion (λ (x : Applied). x.stamp < n) a → AllByRecursion (λ (x : Applied). n ≤ x.stamp) b →

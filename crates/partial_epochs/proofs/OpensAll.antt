@@ -1,19 +1,10 @@
 -- A memory opens lawful.
-use Rattle.std.proofs.Common.{ℕ, ◌≡◌, ◌≢◌, ◌+◌, ◌<◌, ◌≤◌, ◌⊎◌, Some, None, List, [], length, get_or, refl, sym, ap, subst, ◌∙◌, inl, inr, arith}
-use Rattle.std.specs.Option.{option_map}
-use Rattle.std.proofs.lemmas.Bool.{cases_lt}
-use Rattle.std.proofs.lemmas.Bool.Decides.{eqb_tells}
-use Rattle.partial_model.proofs.ListLemmas.{some_same}
-use Rattle.partial_words.specs.Layout.{first_free, pool_counter, slot_counter, total}
-use Rattle.partial_core.specs.Part.{Part, fresh_part}
+use Rattle.partial_epochs.proofs.Common.{ℕ, ◌≡◌, ◌≢◌, ◌+◌, ◌<◌, ◌≤◌, ◌⊎◌, Some, None, List, [], length, get_or, refl, sym, ap, subst, ◌∙◌, inl, inr, arith, option_map, cases_lt, eqb_tells, some_same, first_free, pool_counter, slot_counter, total, Part, fresh_part, Plan, arena_words, base, carried_word, carried_words, component_words, control_size, control_words, plain, seal, Epoch, LawfulControl, Beside, IsArena, LawfulEpochs, awaits_slot, controls, numbers, place_now, EpochsOpenLawful, OpensAll, first_beside, first_place, first_ports, first_epoch, nothing_held, OpensOver}
 use Rattle.partial_core.specs.Lawful as one
-use Rattle.partial_epochs.specs.Layout.{Plan, arena_words, base, carried_word, carried_words, component_words, control_size, control_words, plain, seal}
-use Rattle.partial_epochs.specs.Ports.{Epoch}
-use Rattle.partial_epochs.specs.Control.{LawfulControl}
-use Rattle.partial_epochs.specs.Epochs.{Beside, IsArena, LawfulEpochs, awaits_slot, controls, numbers, place_now}
-use Rattle.partial_epochs.specs.Opening.{EpochsOpenLawful, OpensAll, first_beside, first_place, first_ports, first_epoch, nothing_held, OpensOver}
 use Rattle.partial_epochs.proofs.Lists.{at_of, count_none, length_of, put_other, put_same}
-use Rattle.partial_epochs.proofs.Opens.{opening_component, opens_over, pool_opens, slot_opens}
+use Rattle.partial_words.proofs.LayoutLemmas.{opening_component}
+use Rattle.partial_state.proofs.OpeningLaw.{pool_opens, slot_opens}
+use Rattle.partial_epochs.proofs.Opens.{opens_over}
 use Rattle.partial_epochs.proofs.Places.{packed_arena}
 use Rattle.partial_epochs.proofs.Publishes.{fresh_list}
 use Rattle.partial_epochs.proofs.Worded.{component_at, plain_at, plain_component, plain_other}

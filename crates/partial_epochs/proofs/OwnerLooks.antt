@@ -1,16 +1,5 @@
 -- A port that owns an arena looks; and the claims of a port that is within the limit have room.
-use Rattle.std.proofs.Common.{ℕ, zero, suc, ◌≡◌, ◌≢◌, ◌+◌, ◌*◌, ◌<◌, ◌≤◌, ◌==◌, ◌⊎◌, Bool, true, false, cond, Option, Some, None, IfSome, List, get_or, refl, sym, ap, subst, ◌∙◌, inl, inr, arith}
-use Rattle.std.proofs.lemmas.Bool.Decides.{eqb_tells}
-use Rattle.std.proofs.Math.Nat.{mul-le-mul_left}
-use Rattle.partial_words.specs.Layout.{greatest_record}
-use Rattle.partial_epochs.specs.Lists.{count, put}
-use Rattle.partial_epochs.specs.Layout.{Plan, Place, IsPlace, at_word, control_words, marked}
-use Rattle.partial_epochs.specs.Ports.{Control, Entering, Owned}
-use Rattle.partial_epochs.specs.Control.{IsAt, IsEarlier, IsOld, IsOut, IsOwner, LawfulControl, MayPut, NotInto}
-use Rattle.partial_epochs.specs.Epochs.{IsSetting, controls, numbers, place_now}
-use Rattle.partial_epochs.specs.MachineSteps.{ClaimsHaveRoom}
-use Rattle.partial_epochs.specs.Owning.{OwnersLook, having_looked}
-use Rattle.partial_epochs.specs.Ports.Entering.{Stands, Marks, Loaded}
+use Rattle.partial_epochs.proofs.Common.{ℕ, zero, suc, ◌≡◌, ◌≢◌, ◌+◌, ◌*◌, ◌<◌, ◌≤◌, ◌==◌, ◌⊎◌, Bool, true, false, cond, Option, Some, None, IfSome, List, get_or, refl, sym, ap, subst, ◌∙◌, inl, inr, arith, eqb_tells, mul-le-mul_left, greatest_record, count, put, Plan, Place, IsPlace, at_word, control_words, marked, Control, Entering, Owned, IsAt, IsEarlier, IsOld, IsOut, IsOwner, LawfulControl, MayPut, NotInto, IsSetting, controls, numbers, place_now, ClaimsHaveRoom, OwnersLook, having_looked, Stands, Marks, Loaded}
 use Rattle.partial_epochs.proofs.Entering.{control_lifted, current_is}
 use Rattle.partial_epochs.proofs.Lists.{put_all, put_other}
 use Rattle.partial_epochs.proofs.Places.{packed_arena}

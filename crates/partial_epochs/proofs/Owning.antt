@@ -1,9 +1,5 @@
 -- A port changes what it knows, and stays where it is.
-use Rattle.std.proofs.Common.{ℕ, ◌≡◌, ◌≢◌, ◌<◌, true, Option, Some, None, IfSome, List, refl, sym, ap, subst, ◌∙◌}
-use Rattle.partial_epochs.specs.Lists.{put}
-use Rattle.partial_epochs.specs.Layout.{Plan, Place, IsPlace, marked}
-use Rattle.partial_epochs.specs.Ports.{Control, Entering, Owned}
-use Rattle.partial_epochs.specs.Control.{IsAt, IsEarlier, IsOld, IsOut, IsOwner, LawfulControl, MayPut, NotInto}
+use Rattle.partial_epochs.proofs.Common.{ℕ, ◌≡◌, ◌≢◌, ◌<◌, true, Option, Some, None, IfSome, List, refl, sym, ap, subst, ◌∙◌, put, Plan, Place, IsPlace, marked, Control, Entering, Owned, IsAt, IsEarlier, IsOld, IsOut, IsOwner, LawfulControl, MayPut, NotInto}
 use Rattle.partial_epochs.proofs.Lists.{put_all}
 
 -- port k changes what it knows, and stays where it is

@@ -1,10 +1,5 @@
 -- Where the words of control and of arenas stand.
-use Rattle.std.proofs.Common.{ℕ, ◌≡◌, ◌≢◌, ◌+◌, ◌-◌, ◌*◌, ◌<◌, ◌≤◌, ◌⊎◌, Bool, false, cond, List, ap, ◌∙◌, inl, inr, arith}
-use Rattle.std.specs.Prelude.{nat_lt, slice_index}
-use Rattle.std.proofs.Math.Nat.{mul-le-mul_right}
-use Rattle.std.proofs.lemmas.Bool.{cases_lt, lt-ltb}
-use Rattle.partial_words.specs.Layout.{total, first_free}
-use Rattle.partial_epochs.specs.Layout.{Plan, Place, packed, base, span, whole, control_words, control_size, arena_words, component_words, carried_words, carried_word, plain, set_word, arena_limit}
+use Rattle.partial_epochs.proofs.Common.{ℕ, ◌≡◌, ◌≢◌, ◌+◌, ◌-◌, ◌*◌, ◌<◌, ◌≤◌, ◌⊎◌, Bool, false, cond, List, ap, ◌∙◌, inl, inr, arith, nat_lt, slice_index, mul-le-mul_right, cases_lt, lt-ltb, total, first_free, not_below, Plan, Place, packed, base, span, whole, control_words, control_size, arena_words, component_words, carried_words, carried_word, plain, set_word, arena_limit}
 use Rattle.partial_epochs.proofs.Lists.{same_of}
 
 -- arenas lie one behind the other
@@ -13,9 +8,6 @@ bases_up e x y below =
     let le : x + 1 ≤ y = omega (arith, below) in
     let more : (x + 1) * span e ≤ y * span e = mul-le-mul_right (span e) le in
     omega (arith, more)
-
-pub not_below : (a b : ℕ) → b ≤ a → nat_lt a b ≡ false
-not_below a b h = search (arith, h)
 
 -- a word of another arena isn't one of the inner memory of arena x
 pub other_arena : (e : Plan) (x y i : ℕ) → y ≢ x → i < span e → (base e y + i < base e x) ⊎ (base e x + total e.sizes ≤ base e y + i)

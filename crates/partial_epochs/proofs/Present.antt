@@ -1,15 +1,5 @@
 -- An unsealed word is one of the present epoch.
-use Rattle.std.proofs.Common.{ℕ, ◌≡◌, ◌<◌, List, length, sym, ap, subst, ◌∙◌, inl, inr}
-use Rattle.std.specs.Prelude.{slice_index}
-use Rattle.std.specs.Option.{option_map}
-use Rattle.std.proofs.lemmas.Bool.Decides.{eqb_tells}
-use Rattle.partial_model.proofs.ListLemmas.{some_same}
-use Rattle.partial_epochs.specs.Layout.{Plan, Place, IsSealed, component_words}
-use Rattle.partial_epochs.specs.Ports.{Port, Epoch}
-use Rattle.partial_epochs.specs.Control.{IsAt}
-use Rattle.partial_epochs.specs.Epochs.{Beside, place_now, IsStanding, LawfulEpochs, IsPresent}
-use Rattle.partial_epochs.specs.MachineSteps.{UnsealedIsPresent}
-use Rattle.partial_epochs.specs.Ports.Entering.{Stands}
+use Rattle.partial_epochs.proofs.Common.{ℕ, ◌≡◌, ◌<◌, List, length, sym, ap, subst, ◌∙◌, inl, inr, slice_index, option_map, eqb_tells, some_same, Plan, Place, IsSealed, component_words, Port, Epoch, IsAt, Beside, place_now, IsStanding, LawfulEpochs, IsPresent, UnsealedIsPresent, Stands}
 
 pub same_place : (p q : Place) → p.epoch ≡ q.epoch → p.arena ≡ q.arena → p ≡ q
 same_place p q r s = ap (λ (n : ℕ). record p { epoch = n }) r ∙ ap (λ (n : ℕ). record q { arena = n }) s

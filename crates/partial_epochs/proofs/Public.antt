@@ -1,27 +1,10 @@
 -- What is true of an epoch's history is true of the one history, with public stamps.
-use Rattle.std.proofs.Common.{ℕ, zero, suc, ◌≡◌, ◌≢◌, ◌+◌, ◌*◌, ◌<◌, ◌≤◌, ◌⊎◌, ◌++◌, Bool, cond, Option, Some, None, IfSome, IsSome, List, [], ◌∷◌, length, map, take, slice_get, Contains, refl, sym, ap, subst, ◌∙◌, inl, inr, arith, length-append}
-use Rattle.std.specs.List.{AllByRecursion}
-use Rattle.std.specs.Option.{option_map, option_map_or}
-use Rattle.std.proofs.lemmas.Bool.{lt-ltb}
-use Rattle.std.proofs.lemmas.List.{length-map}
-use Rattle.partial_model.specs.declared.history.Applied.{Applied}
-use Rattle.partial_model.specs.declared.history.Opening.{Opening}
-use Rattle.partial_model.specs.declared.call.Call.{Call}
+use Rattle.partial_epochs.proofs.Common.{ℕ, zero, suc, ◌≡◌, ◌≢◌, ◌+◌, ◌*◌, ◌<◌, ◌≤◌, ◌⊎◌, ◌++◌, Bool, cond, Option, Some, None, IfSome, IsSome, List, [], ◌∷◌, length, map, take, slice_get, Contains, refl, sym, ap, subst, ◌∙◌, inl, inr, arith, length-append, AllByRecursion, option_map, option_map_or, lt-ltb, length-map, Applied, Opening, Call, Note, initial_stamp, last_entry, stamp_of, value_of, AreCollects, Fits, IsEntryFor, IsTrueOf, all_take, first_free, Plan, carried_behind, history_of, opening_behind, public_entry, public_log, public_stamp, stamp_limit, IsPlan, ExpectedOne, IsEpochHistory, public_answer, public_call, public_note, public_of, not_below}
 use Rattle.partial_model.specs.declared.call.Call.TheVariants as call
 use Rattle.partial_model.specs.declared.call.Answer.{Answer}
 use Rattle.partial_model.specs.declared.call.Answer.TheVariants as answer
-use Rattle.partial_model.specs.declared.call.Note.{Note}
 use Rattle.partial_model.specs.declared.call.Note.TheVariants as note
-use Rattle.partial_model.specs.History.{initial_stamp, last_entry, stamp_of, value_of}
-use Rattle.partial_model.specs.Notes.{AreCollects, Fits, IsEntryFor, IsTrueOf}
-use Rattle.partial_model.proofs.AllLemmas.{all_take}
-use Rattle.partial_words.specs.Layout.{first_free}
-use Rattle.partial_epochs.specs.Layout.{Plan}
-use Rattle.partial_epochs.specs.History.{carried_behind, history_of, opening_behind, public_entry, public_log, public_stamp, stamp_limit}
-use Rattle.partial_epochs.specs.Epochs.{IsPlan}
-use Rattle.partial_epochs.specs.Notes.{ExpectedOne, IsEpochHistory, public_answer, public_call, public_note, public_of}
 use Rattle.partial_epochs.proofs.Continue.{epochs_continue, history_took, last_all, many}
-use Rattle.partial_epochs.proofs.Places.{not_below}
 
 -- the entry at a place behind others
 pub get_past : {A : Type 0} (a b : List A) (k : ℕ) → slice_get (a ++ b) (length a + k) ≡ slice_get b k

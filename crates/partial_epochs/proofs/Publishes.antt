@@ -1,31 +1,14 @@
 -- The exchange of the current word opens the next epoch.
-use Rattle.std.proofs.Common.{ℕ, zero, suc, ◌≡◌, ◌≢◌, ◌+◌, ◌-◌, ◌<◌, ◌≤◌, ◌==◌, ◌⊎◌, Bool, true, false, cond, Option, Some, None, IfSome, List, [], ◌∷◌, length, get_or, set, refl, sym, ap, subst, ◌∙◌, inl, inr, arith}
-use Rattle.std.specs.Option.{option_map}
-use Rattle.std.proofs.lemmas.Bool.{cases_lt, lt-ltb}
-use Rattle.std.proofs.lemmas.Bool.Decides.{eqb_tells}
-use Rattle.std.proofs.lemmas.List.{get_or-set_same, get_or-set_other, length-set, set-get_or}
-use Rattle.partial_model.specs.declared.history.Applied.{Applied}
-use Rattle.partial_model.specs.declared.history.Opening.{Opening}
-use Rattle.partial_model.specs.History.{value_of}
-use Rattle.partial_model.proofs.ListLemmas.{some_same}
-use Rattle.partial_words.specs.Layout.{Layout, total, first_free, pool_counter, slot_counter}
+use Rattle.partial_epochs.proofs.Common.{ℕ, zero, suc, ◌≡◌, ◌≢◌, ◌+◌, ◌-◌, ◌<◌, ◌≤◌, ◌==◌, ◌⊎◌, Bool, true, false, cond, Option, Some, None, IfSome, List, [], ◌∷◌, length, get_or, set, refl, sym, ap, subst, ◌∙◌, inl, inr, arith, option_map, cases_lt, lt-ltb, eqb_tells, get_or-set_same, get_or-set_other, length-set, set-get_or, Applied, Opening, value_of, some_same, Layout, total, first_free, pool_counter, slot_counter, Part, fresh_part, fresh_parts, list_of, put, IsAsked, Plan, Place, IsSealed, at_word, arena_words, base, carried_word, carried_words, component_words, control_size, control_words, current_word, packed, plain, seal, carried_behind, opening_behind, Control, Owned, Port, Epoch, IsAt, IsOut, IsOwner, LawfulControl, MayPut, Beside, IsArena, IsFinished, IsNew, IsSetting, IsStanding, LawfulEpochs, awaits_slot, controls, numbers, place_now, IsPresent, IsWhole, PublishesStayLawful, having_published, next_beside, next_place, next_epoch, resting, OpensOver, Stands, not_below}
 use Rattle.partial_words.specs.Chain.{opening_word}
-use Rattle.partial_core.specs.Part.{Part, fresh_part, fresh_parts}
 use Rattle.partial_core.specs.Lawful as one
-use Rattle.partial_epochs.specs.Lists.{list_of, put}
-use Rattle.partial_epochs.specs.Layout.{IsAsked, Plan, Place, IsSealed, at_word, arena_words, base, carried_word, carried_words, component_words, control_size, control_words, current_word, packed, plain, seal}
-use Rattle.partial_epochs.specs.History.{carried_behind, opening_behind}
-use Rattle.partial_epochs.specs.Ports.{Control, Owned, Port, Epoch}
-use Rattle.partial_epochs.specs.Control.{IsAt, IsOut, IsOwner, LawfulControl, MayPut}
-use Rattle.partial_epochs.specs.Epochs.{Beside, IsArena, IsFinished, IsNew, IsSetting, IsStanding, LawfulEpochs, awaits_slot, controls, numbers, place_now, IsPresent}
-use Rattle.partial_epochs.specs.Publishing.{IsWhole, PublishesStayLawful, having_published, next_beside, next_place, next_epoch, resting}
-use Rattle.partial_epochs.specs.Opening.{OpensOver}
-use Rattle.partial_epochs.specs.Ports.Entering.{Stands}
 use Rattle.partial_epochs.proofs.Entering.{control_lifted, current_is, cw_long, high_arenaed}
 use Rattle.partial_epochs.proofs.Lists.{at_of, count_none, length_of, put_all, put_other, put_same, set_of}
-use Rattle.partial_epochs.proofs.Opens.{opening_component, opens_over, pool_opens, slot_opens}
+use Rattle.partial_words.proofs.LayoutLemmas.{opening_component}
+use Rattle.partial_state.proofs.OpeningLaw.{pool_opens, slot_opens}
+use Rattle.partial_epochs.proofs.Opens.{opens_over}
 use Rattle.partial_epochs.proofs.Owning.{knows_more, out_then}
-use Rattle.partial_epochs.proofs.Places.{not_below, packed_arena}
+use Rattle.partial_epochs.proofs.Places.{packed_arena}
 use Rattle.partial_epochs.proofs.Present.{present, same_place}
 use Rattle.partial_epochs.proofs.Publishing.{published}
 use Rattle.partial_epochs.proofs.Worded.{component_at, plain_at, plain_component, plain_other}

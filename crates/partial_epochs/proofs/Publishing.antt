@@ -1,13 +1,5 @@
 -- The control words as the next epoch is published.
-use Rattle.std.proofs.Common.{ℕ, ◌≡◌, ◌≢◌, ◌+◌, ◌<◌, ◌≤◌, ◌⊎◌, true, false, Option, Some, None, IfSome, List, length, get_or, set, refl, sym, ap, subst, ◌∙◌, inl, inr, arith}
-use Rattle.std.proofs.lemmas.Bool.Decides.{eqb_tells}
-use Rattle.std.proofs.lemmas.List.{get_or-set_same, get_or-set_other}
-use Rattle.partial_model.proofs.ListLemmas.{some_same}
-use Rattle.partial_epochs.specs.Lists.{put}
-use Rattle.partial_epochs.specs.Layout.{Plan, Place, IsPlace, at_word, control_size, current_word, packed, arena_limit, epoch_limit}
-use Rattle.partial_epochs.specs.Ports.{Control, Entering, Owned}
-use Rattle.partial_epochs.specs.Control.{IsAt, IsMarked, IsOld, IsOut, IsOwner, LawfulControl, NotInto}
-use Rattle.partial_epochs.specs.Ports.Entering.{Stands, Marks, Loaded}
+use Rattle.partial_epochs.proofs.Common.{ℕ, ◌≡◌, ◌≢◌, ◌+◌, ◌<◌, ◌≤◌, ◌⊎◌, true, false, Option, Some, None, IfSome, List, length, get_or, set, refl, sym, ap, subst, ◌∙◌, inl, inr, arith, eqb_tells, get_or-set_same, get_or-set_other, some_same, put, Plan, Place, IsPlace, at_word, control_size, current_word, packed, arena_limit, epoch_limit, Control, Entering, Owned, IsAt, IsMarked, IsOld, IsOut, IsOwner, LawfulControl, NotInto, Stands, Marks, Loaded}
 use Rattle.partial_epochs.proofs.Places.{packed_arena}
 use Rattle.partial_epochs.proofs.Lists.{put_all, put_other, put_same}
 

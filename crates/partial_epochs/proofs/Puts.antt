@@ -1,14 +1,5 @@
 -- A port puts another one where it stands itself.
-use Rattle.std.proofs.Common.{ℕ, ◌≡◌, ◌≢◌, ◌+◌, ◌<◌, ◌≤◌, ◌==◌, ◌⊎◌, Bool, true, false, cond, Option, Some, None, IfSome, List, length, get_or, set, refl, sym, ap, subst, ◌∙◌, inl, inr, arith}
-use Rattle.std.proofs.lemmas.Bool.Decides.{eqb_tells}
-use Rattle.std.proofs.lemmas.List.{get_or-set_same, get_or-set_other, length-set}
-use Rattle.partial_epochs.specs.Lists.{put}
-use Rattle.partial_epochs.specs.Layout.{Plan, Place, IsPlace, at_word, control_size, control_words, current_word, marked, packed, arena_limit}
-use Rattle.partial_epochs.specs.Ports.{Control, Entering, Owned, Port}
-use Rattle.partial_epochs.specs.Control.{IsAt, IsEarlier, IsMarked, IsOut, IsOwner, LawfulControl, MayPut}
-use Rattle.partial_epochs.specs.Epochs.{Beside, LawfulEpochs, controls, numbers, place_now}
-use Rattle.partial_epochs.specs.Owning.{PutsStayLawful, cleaner, having_put}
-use Rattle.partial_epochs.specs.Ports.Entering.{Stands, Marks, Loaded}
+use Rattle.partial_epochs.proofs.Common.{ℕ, ◌≡◌, ◌≢◌, ◌+◌, ◌<◌, ◌≤◌, ◌==◌, ◌⊎◌, Bool, true, false, cond, Option, Some, None, IfSome, List, length, get_or, set, refl, sym, ap, subst, ◌∙◌, inl, inr, arith, eqb_tells, get_or-set_same, get_or-set_other, length-set, put, Plan, Place, IsPlace, at_word, control_size, control_words, current_word, marked, packed, arena_limit, Control, Entering, Owned, Port, IsAt, IsEarlier, IsMarked, IsOut, IsOwner, LawfulControl, MayPut, Beside, LawfulEpochs, controls, numbers, place_now, PutsStayLawful, cleaner, having_put, Stands, Marks, Loaded}
 use Rattle.partial_epochs.proofs.Entering.{control_lifted, cw_at, cw_long, marked_epoch, not_marked}
 use Rattle.partial_epochs.proofs.Lists.{set_of}
 use Rattle.partial_epochs.proofs.Owning.{knows_more}

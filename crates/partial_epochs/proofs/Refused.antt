@@ -1,9 +1,5 @@
 -- What a broken variant of the steps leads to is no lawful state.
-use Rattle.std.proofs.Common.{◌≡◌, Some, None, length, sym, ap, ◌∙◌, arith}
-use Rattle.std.specs.Option.{option_map}
-use Rattle.partial_epochs.specs.Layout.{at_word}
-use Rattle.partial_epochs.specs.Ports.{Epoch}
-use Rattle.partial_epochs.specs.Publishing.{next_epoch}
+use Rattle.partial_epochs.proofs.Common.{◌≡◌, Some, None, length, sym, ap, ◌∙◌, arith, option_map, at_word, Epoch, next_epoch}
 use Rattle.partial_epochs.specs.Variants.{PublishingUnsealedIsUnlawful, PuttingIntoResetIsUnlawful, ResettingCurrentIsUnlawful, ResettingPinnedIsUnlawful, UnsealingIsUnlawful}
 use Rattle.partial_epochs.proofs.Entering.{cw_at}
 use Rattle.partial_epochs.proofs.Lists.{put_other, put_same}

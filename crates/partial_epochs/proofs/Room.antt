@@ -1,28 +1,11 @@
 -- No machine is marked for the pool nor for the slots, and none is refused.
-use Rattle.std.proofs.Common.{Option, ℕ, ◌≡◌, ◌≢◌, ◌<◌, ◌++◌, Bool, true, false, Some, List, ◌∷◌, refl, sym, ap, subst, ◌∙◌, inl, inr, arith}
-use Rattle.std.specs.Prelude.{◌||◌}
-use Rattle.partial_model.specs.declared.history.Opening.{Opening}
+use Rattle.partial_epochs.proofs.Common.{Option, ℕ, ◌≡◌, ◌≢◌, ◌<◌, ◌++◌, Bool, true, false, Some, List, ◌∷◌, refl, sym, ap, subst, ◌∙◌, inl, inr, arith, ◌||◌, Opening, all_at, Step, answer_of, words_after, Reply, CoreState, advance, reply_of, IsTied, IsMachineOf, Part, core_of, holdings, joined_since, put, Plan, arena_words, carried_words, component_words, placed, opening_behind, Control, Epoch, Port, Stands, Beside, IsArena, IsStanding, LawfulEpochs, HaveSlots, MachineLeads, MachinesAreNeverRefused, MarksNeverCome}
 use Rattle.partial_model.specs.declared.call.Refused.{Refused}
 use Rattle.partial_model.specs.declared.call.Refused.TheVariants as refused
-use Rattle.partial_model.proofs.AllLemmas.{all_at}
-use Rattle.partial_words.specs.declared.step.Step.{Step}
-use Rattle.partial_words.specs.Step.{answer_of, words_after}
-use Rattle.partial_machine.specs.declared.stage.Reply.{Reply}
 use Rattle.partial_machine.specs.declared.stage.Reply.TheVariants as reply
 use Rattle.partial_machine.specs.Behind.{refuses_pool, refuses_slots}
-use Rattle.partial_machine.specs.Machine.{CoreState, advance, reply_of}
-use Rattle.partial_state.specs.LawfulWords.{IsTied}
-use Rattle.partial_core.specs.Part.{IsMachineOf, Part, core_of}
-use Rattle.partial_core.specs.Held.{holdings, joined_since}
 use Rattle.partial_core.specs.Lawful as one
 use Rattle.partial_core.proofs.Steps.{holding_in, memory_at}
-use Rattle.partial_epochs.specs.Lists.{put}
-use Rattle.partial_epochs.specs.Layout.{Plan, arena_words, carried_words, component_words, placed}
-use Rattle.partial_epochs.specs.History.{opening_behind}
-use Rattle.partial_epochs.specs.Ports.{Control, Epoch, Port}
-use Rattle.partial_epochs.specs.Ports.Entering.{Stands}
-use Rattle.partial_epochs.specs.Epochs.{Beside, IsArena, IsStanding, LawfulEpochs}
-use Rattle.partial_epochs.specs.MachineSteps.{HaveSlots, MachineLeads, MachinesAreNeverRefused, MarksNeverCome}
 use Rattle.partial_epochs.proofs.Lists.{Around, around_of, put_same}
 use Rattle.partial_epochs.proofs.Slots.{pool_within}
 

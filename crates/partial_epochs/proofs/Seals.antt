@@ -1,21 +1,9 @@
 -- A seal, and the load of a component that is sealed already.
-use Rattle.std.proofs.Common.{ℕ, ◌≡◌, ◌≢◌, ◌+◌, ◌/◌, ◌%◌, ◌^◌, ◌<◌, ◌≤◌, ◌⊎◌, true, List, [], length, get_or, set, refl, sym, ap, subst, ◌∙◌, inl, inr, arith}
-use Rattle.std.specs.Prelude.{nat_lt}
-use Rattle.std.proofs.lemmas.Bool.{cases_lt, lt-ltb}
-use Rattle.std.proofs.lemmas.Bool.Decides.{eqb_tells}
-use Rattle.std.proofs.lemmas.List.{append-nil, get_or-set_same, get_or-set_other, length-set, set-get_or}
-use Rattle.partial_words.specs.declared.step.Step.TheVariants.{Add}
-use Rattle.partial_words.specs.Layout.{total}
-use Rattle.partial_words.specs.Step.{words_after}
-use Rattle.partial_epochs.specs.Lists.{count, put}
-use Rattle.partial_epochs.specs.Layout.{Plan, IsSealed, arena_words, base, carried_words, component_words, plain, seal, seals}
-use Rattle.partial_epochs.specs.Ports.{Port, Epoch}
-use Rattle.partial_epochs.specs.Epochs.{Beside, IsArena, IsStanding, LawfulEpochs}
+use Rattle.partial_epochs.proofs.Common.{ℕ, ◌≡◌, ◌≢◌, ◌+◌, ◌/◌, ◌%◌, ◌^◌, ◌<◌, ◌≤◌, ◌⊎◌, true, List, [], length, get_or, set, refl, sym, ap, subst, ◌∙◌, inl, inr, arith, nat_lt, cases_lt, lt-ltb, eqb_tells, append-nil, get_or-set_same, get_or-set_other, length-set, set-get_or, Add, total, words_after, count, put, Plan, IsSealed, arena_words, base, carried_words, component_words, plain, seal, seals, Port, Epoch, Beside, IsArena, IsStanding, LawfulEpochs, Stands, not_below}
 use Rattle.partial_epochs.specs.Sealing.{PassLeads, SealsStayLawful, SealedPassesStayLawful, passing}
-use Rattle.partial_epochs.specs.Ports.Entering.{Stands}
 use Rattle.partial_epochs.proofs.Change.{Changes, beside_then, change_kept}
 use Rattle.partial_epochs.proofs.Lists.{count_few, count_more, count_same, put_all, put_other, put_same}
-use Rattle.partial_epochs.proofs.Places.{below_whole, not_below}
+use Rattle.partial_epochs.proofs.Places.{below_whole}
 use Rattle.partial_epochs.proofs.Present.{standing}
 use Rattle.partial_epochs.proofs.Worded.{component_at, plain_at, plain_component, set_arena, set_outside}
 

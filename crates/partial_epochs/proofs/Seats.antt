@@ -1,23 +1,7 @@
 -- What is known of a port that stands in an epoch, and what a port has seen of the one history.
-use Rattle.std.proofs.Common.{ℕ, ◌≡◌, ◌≢◌, ◌<◌, ◌≤◌, ◌++◌, List, [], ◌∷◌, length, drop, sym, ap, subst, ◌∙◌, inl, inr, arith, length-append, append_assoc}
-use Rattle.std.specs.List.{AllByRecursion}
-use Rattle.std.proofs.lemmas.Bool.Decides.{eqb_tells}
-use Rattle.std.proofs.lemmas.List.{map-append, take-append-drop}
-use Rattle.partial_model.specs.declared.history.Applied.{Applied}
-use Rattle.partial_model.proofs.AllLemmas.{all_at, all_back}
-use Rattle.partial_model.proofs.ListLemmas.{some_same}
-use Rattle.partial_core.specs.Part.{Part, port_of}
-use Rattle.partial_core.specs.Held.{holdings}
-use Rattle.partial_core.specs.Known.{IsKnown}
+use Rattle.partial_epochs.proofs.Common.{ℕ, ◌≡◌, ◌≢◌, ◌<◌, ◌≤◌, ◌++◌, List, [], ◌∷◌, length, drop, sym, ap, subst, ◌∙◌, inl, inr, arith, length-append, append_assoc, AllByRecursion, eqb_tells, map-append, take-append-drop, Applied, all_at, all_back, some_same, Part, port_of, holdings, IsKnown, lawful_ports_fit, list_of, Plan, arena_words, carried_words, component_words, history_of, opening_behind, public_entry, public_log, Epoch, Port, Beside, IsArena, IsStanding, LawfulEpochs, IsEpochHistory, Reached, one_history}
 use Rattle.partial_core.specs.Steps.{Fits}
-use Rattle.partial_core.proofs.Laws.{lawful_ports_fit}
 use Rattle.partial_core.proofs.Parts.{seen_within as no_longer}
-use Rattle.partial_epochs.specs.Lists.{list_of}
-use Rattle.partial_epochs.specs.Layout.{Plan, arena_words, carried_words, component_words}
-use Rattle.partial_epochs.specs.History.{history_of, opening_behind, public_entry, public_log}
-use Rattle.partial_epochs.specs.Ports.{Epoch, Port}
-use Rattle.partial_epochs.specs.Epochs.{Beside, IsArena, IsStanding, LawfulEpochs}
-use Rattle.partial_epochs.specs.Notes.{IsEpochHistory, Reached, one_history}
 use Rattle.partial_epochs.proofs.Lists.{Around, around_of}
 use Rattle.partial_epochs.proofs.OneHistory.{history_grows, present_history}
 

@@ -1,21 +1,7 @@
 -- What a port has seen of its epoch it finds in the words of its arena.
-use Rattle.std.proofs.Common.{ℕ, ◌≡◌, ◌+◌, ◌<◌, ◌≤◌, List, length, take, get_or, sym, ap, subst, ◌∙◌, arith}
-use Rattle.partial_model.specs.declared.history.Applied.{Applied}
-use Rattle.partial_model.specs.declared.history.Opening.{Opening}
-use Rattle.partial_model.specs.History.{stamp_of, value_of}
-use Rattle.partial_model.proofs.HistoryLemmas.{stamp_all}
-use Rattle.partial_model.proofs.StampsStay.{take_within}
-use Rattle.partial_words.specs.Layout.{total}
+use Rattle.partial_epochs.proofs.Common.{ℕ, ◌≡◌, ◌+◌, ◌<◌, ◌≤◌, List, length, take, get_or, sym, ap, subst, ◌∙◌, arith, Applied, Opening, stamp_of, value_of, stamp_all, take_within, total, RecordsAreWithin, lawful_records_are_within, list_of, Plan, arena_words, base, opening_behind, Port, Beside, IsStanding, LawfulEpochs, IsSeenRecord, SeenRecordsStay}
 use Rattle.partial_words.proofs.ChainLemmas.{value_behind_stamp}
 use Rattle.partial_core.specs.Lawful as one
-use Rattle.partial_core.specs.Ports.{RecordsAreWithin}
-use Rattle.partial_core.proofs.Laws.{lawful_records_are_within}
-use Rattle.partial_epochs.specs.Lists.{list_of}
-use Rattle.partial_epochs.specs.Layout.{Plan, arena_words, base}
-use Rattle.partial_epochs.specs.History.{opening_behind}
-use Rattle.partial_epochs.specs.Ports.{Port}
-use Rattle.partial_epochs.specs.Epochs.{Beside, IsStanding, LawfulEpochs}
-use Rattle.partial_epochs.specs.Reads.{IsSeenRecord, SeenRecordsStay}
 use Rattle.partial_epochs.proofs.Continue.{all_taken, carried_there, epoch_behind}
 use Rattle.partial_epochs.proofs.Places.{below_whole}
 use Rattle.partial_epochs.proofs.Seats.{known, seen_few}

@@ -1,20 +1,8 @@
 -- A word of an owned arena is set.
-use Rattle.std.proofs.Common.{ℕ, ◌≡◌, ◌≢◌, ◌+◌, ◌-◌, ◌<◌, ◌≤◌, Bool, cond, Option, Some, None, IfSome, List, length, get_or, set, refl, sym, ap, subst, ◌∙◌, inl, inr, arith}
-use Rattle.std.specs.Option.{option_map}
-use Rattle.std.proofs.lemmas.Bool.{cases_lt, lt-ltb}
-use Rattle.std.proofs.lemmas.Bool.Decides.{eqb_tells}
-use Rattle.std.proofs.lemmas.List.{get_or-set_same, get_or-set_other, length-set}
-use Rattle.partial_words.specs.Layout.{first_free, total}
-use Rattle.partial_epochs.specs.Lists.{put}
-use Rattle.partial_epochs.specs.Layout.{IsAsked, Plan, Place, IsPlace, at_word, arena_words, base, carried_word, carried_words, component_words, control_size, control_words, current_word, packed, plain, span, set_word}
-use Rattle.partial_epochs.specs.Ports.{Control, Owned, Port, Epoch}
-use Rattle.partial_epochs.specs.Control.{IsAt, IsMarked, IsOwner, LawfulControl, MayPut, NotInto}
-use Rattle.partial_epochs.specs.Epochs.{Beside, IsArena, IsNew, IsSetting, IsStanding, LawfulEpochs, controls, next_word, numbers, place_now}
-use Rattle.partial_epochs.specs.Publishing.{SetsStayLawful, having_set, vacated}
-use Rattle.partial_epochs.specs.Ports.Entering.{Stands, Loaded}
+use Rattle.partial_epochs.proofs.Common.{ℕ, ◌≡◌, ◌≢◌, ◌+◌, ◌-◌, ◌<◌, ◌≤◌, Bool, cond, Option, Some, None, IfSome, List, length, get_or, set, refl, sym, ap, subst, ◌∙◌, inl, inr, arith, option_map, cases_lt, lt-ltb, eqb_tells, get_or-set_same, get_or-set_other, length-set, first_free, total, put, IsAsked, Plan, Place, IsPlace, at_word, arena_words, base, carried_word, carried_words, component_words, control_size, control_words, current_word, packed, plain, span, set_word, Control, Owned, Port, Epoch, IsAt, IsMarked, IsOwner, LawfulControl, MayPut, NotInto, Beside, IsArena, IsNew, IsSetting, IsStanding, LawfulEpochs, controls, next_word, numbers, place_now, SetsStayLawful, having_set, vacated, Stands, Loaded, not_below}
 use Rattle.partial_epochs.proofs.Lists.{put_all, put_other, put_same, same_of}
 use Rattle.partial_epochs.proofs.Owning.{knows_more}
-use Rattle.partial_epochs.proofs.Places.{bases_up, below_whole, not_below, packed_arena, set_place}
+use Rattle.partial_epochs.proofs.Places.{bases_up, below_whole, packed_arena, set_place}
 
 -- an arena that port k owns, of which all ports are out, holds no epoch
 module _ (e : Plan) (words : List ℕ) (cs : ℕ → Control) (now : Place) (holds : ℕ → Option ℕ) (w : LawfulControl e words cs now holds) (k : ℕ) (below : k < e.ports) (o : Owned)

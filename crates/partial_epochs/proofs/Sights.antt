@@ -1,30 +1,9 @@
 -- The steps that aren't a machine's keep the notes lawful, and a port notes what it has seen by a look.
-use Rattle.std.proofs.Common.{ℕ, ◌≡◌, ◌≢◌, ◌+◌, ◌<◌, ◌≤◌, ◌==◌, ◌⊎◌, ◌++◌, true, false, Option, IfSome, List, [], ◌∷◌, length, refl, sym, ap, subst, ◌∙◌, inl, inr, arith, length-append}
-use Rattle.std.specs.List.{AllByRecursion}
-use Rattle.std.proofs.lemmas.Bool.Decides.{eqb_tells}
-use Rattle.std.proofs.lemmas.List.{append-nil, length-map}
-use Rattle.partial_model.specs.declared.history.Applied.{Applied}
-use Rattle.partial_model.specs.declared.call.Note.{Note}
+use Rattle.partial_epochs.proofs.Common.{ℕ, ◌≡◌, ◌≢◌, ◌+◌, ◌<◌, ◌≤◌, ◌==◌, ◌⊎◌, ◌++◌, true, false, Option, IfSome, List, [], ◌∷◌, length, refl, sym, ap, subst, ◌∙◌, inl, inr, arith, length-append, AllByRecursion, eqb_tells, append-nil, length-map, Applied, Note, IsLegal, IsTrueOf, LegalNotes, Noted, place_of, seen_after, seen_by, EachOnce, places_by, places_written, wrote, some_same, words_after, Exchange, Part, port_of, with_seen, looks_stay_lawful, count, list_of, put, Place, Plan, arena_words, at_word, carried_words, component_words, marked, packed, history_of, opening_behind, public_entry, public_log, Epoch, Port, Stands, Beside, IsArena, IsStanding, LawfulEpochs, awaits_slot, arrived, having_published, next_beside, ArrivalsKeepNotes, AsidesStayLawful, GlanceLeads, GlancesStayLawful, IsEpochHistory, IsSight, LawfulMemory, LawfulNotes, PublishesKeepNotes, Reached, SightLeads, SightsStayLawful, having_seen, noting, one_history, seen_of}
 use Rattle.partial_model.specs.declared.call.Note.TheVariants as note
-use Rattle.partial_model.specs.Notes.{IsLegal, IsTrueOf, LegalNotes, Noted, place_of, seen_after, seen_by}
-use Rattle.partial_model.specs.Outcome.{EachOnce, places_by, places_written, wrote}
-use Rattle.partial_model.proofs.ListLemmas.{some_same}
 use Rattle.partial_model.proofs.NotesLemmas.{IsTrueOf-grows, LegalNotes-push, places_written-append, seen_by-push}
-use Rattle.partial_words.specs.Step.{words_after}
-use Rattle.partial_words.specs.declared.step.Step.TheVariants.{Exchange}
-use Rattle.partial_core.specs.Part.{Part, port_of, with_seen}
 use Rattle.partial_core.specs.Lawful as one
 use Rattle.partial_core.specs.Ports.{Looks}
-use Rattle.partial_core.proofs.Laws.{looks_stay_lawful}
-use Rattle.partial_epochs.specs.Lists.{count, list_of, put}
-use Rattle.partial_epochs.specs.Layout.{Place, Plan, arena_words, at_word, carried_words, component_words, marked, packed}
-use Rattle.partial_epochs.specs.History.{history_of, opening_behind, public_entry, public_log}
-use Rattle.partial_epochs.specs.Ports.{Epoch, Port}
-use Rattle.partial_epochs.specs.Ports.Entering.{Stands}
-use Rattle.partial_epochs.specs.Epochs.{Beside, IsArena, IsStanding, LawfulEpochs, awaits_slot}
-use Rattle.partial_epochs.specs.Entering.{arrived}
-use Rattle.partial_epochs.specs.Publishing.{having_published, next_beside}
-use Rattle.partial_epochs.specs.Notes.{ArrivalsKeepNotes, AsidesStayLawful, GlanceLeads, GlancesStayLawful, IsEpochHistory, IsSight, LawfulMemory, LawfulNotes, PublishesKeepNotes, Reached, SightLeads, SightsStayLawful, having_seen, noting, one_history, seen_of}
 use Rattle.partial_epochs.proofs.Change.{Changes, beside_then, change_kept}
 use Rattle.partial_epochs.proofs.Lists.{Around, around_of, count_same, put_all, put_other, put_same}
 use Rattle.partial_epochs.proofs.OneHistory.{history_grows, present_history}

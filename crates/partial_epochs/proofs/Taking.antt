@@ -1,15 +1,5 @@
 -- A port takes an arena and gives it back, finds the others elsewhere, and loads their marks.
-use Rattle.std.proofs.Common.{ℕ, ◌≡◌, ◌≢◌, ◌+◌, ◌<◌, ◌≤◌, ◌==◌, ◌⊎◌, Bool, true, false, cond, Option, Some, None, IfSome, List, length, get_or, set, refl, sym, ap, subst, ◌∙◌, inl, inr, arith}
-use Rattle.std.proofs.lemmas.Bool.Decides.{eqb_tells}
-use Rattle.std.proofs.lemmas.List.{get_or-set_same, get_or-set_other, length-set}
-use Rattle.partial_epochs.specs.Lists.{put}
-use Rattle.partial_epochs.specs.Layout.{Plan, Place, IsPlace, at_word, control_size, control_words, current_word, entering_mark, marked, own_word, packed, arena_limit}
-use Rattle.partial_epochs.specs.Ports.{Control, Entering, Owned, Port}
-use Rattle.partial_epochs.specs.Ports.Entering.{Stands, Marks, Loaded}
-use Rattle.partial_epochs.specs.Control.{IsAt, IsEarlier, IsOut, IsOwner, LawfulControl, MayPut}
-use Rattle.partial_epochs.specs.Epochs.{Beside, IsSetting, IsStanding, LawfulEpochs, controls, numbers, place_now}
-use Rattle.partial_epochs.specs.Owning.{GivesStayLawful, MarksAreLoaded, OthersAreElsewhere, OwnersLookAway, TakesStayLawful, cleaner, having_given, having_loaded, having_put, just_taken, owning}
-use Rattle.partial_epochs.specs.Entering.{having_passed}
+use Rattle.partial_epochs.proofs.Common.{ℕ, ◌≡◌, ◌≢◌, ◌+◌, ◌<◌, ◌≤◌, ◌==◌, ◌⊎◌, Bool, true, false, cond, Option, Some, None, IfSome, List, length, get_or, set, refl, sym, ap, subst, ◌∙◌, inl, inr, arith, eqb_tells, get_or-set_same, get_or-set_other, length-set, put, Plan, Place, IsPlace, at_word, control_size, control_words, current_word, entering_mark, marked, own_word, packed, arena_limit, Control, Entering, Owned, Port, Stands, Marks, Loaded, IsAt, IsEarlier, IsOut, IsOwner, LawfulControl, MayPut, Beside, IsSetting, IsStanding, LawfulEpochs, controls, numbers, place_now, GivesStayLawful, MarksAreLoaded, OthersAreElsewhere, OwnersLookAway, TakesStayLawful, cleaner, having_given, having_loaded, having_put, just_taken, owning, having_passed}
 use Rattle.partial_epochs.proofs.Entering.{control_lifted, current_is, cw_at, cw_long, not_marked}
 use Rattle.partial_epochs.proofs.Lists.{put_all, set_of}
 use Rattle.partial_epochs.proofs.Owning.{knows_more}

@@ -1,20 +1,5 @@
 -- An entering port comes to no older epoch than the one that was the current one as it stored its mark.
-use Rattle.std.proofs.Common.{ℕ, ◌≡◌, ◌≢◌, ◌+◌, ◌%◌, ◌^◌, ◌<◌, ◌≤◌, ◌==◌, ◌⊎◌, Bool, true, false, cond, Some, None, List, get_or, set, refl, sym, ap, subst, ◌∙◌, inl, inr, arith}
-use Rattle.std.proofs.lemmas.Bool.Decides.{eqb_tells}
-use Rattle.std.proofs.lemmas.List.{get_or-set_same, get_or-set_other}
-use Rattle.partial_model.proofs.ListLemmas.{some_same}
-use Rattle.partial_words.specs.Step.{words_after}
-use Rattle.partial_words.specs.declared.step.Step.{Step}
-use Rattle.partial_words.specs.declared.step.Step.TheVariants.{Load, Store, Exchange, Add}
-use Rattle.partial_epochs.specs.Lists.{put}
-use Rattle.partial_epochs.specs.Layout.{IsPlace, Place, Plan, at_word, base, control_words, current_word, marked, packed, placed, set_word}
-use Rattle.partial_epochs.specs.Ports.{Control, Owned, Port}
-use Rattle.partial_epochs.specs.Ports.Entering.{Marks, Loaded}
-use Rattle.partial_epochs.specs.Control.{IsAt, IsEarlier, MayPut}
-use Rattle.partial_epochs.specs.Epochs.{Beside, LawfulEpochs, place_now}
-use Rattle.partial_epochs.specs.Entering.{arrived}
-use Rattle.partial_epochs.specs.Owning.{having_loaded, having_looked, having_put, owning}
-use Rattle.partial_epochs.specs.Publishing.{having_published, next_place}
+use Rattle.partial_epochs.proofs.Common.{ℕ, ◌≡◌, ◌≢◌, ◌+◌, ◌%◌, ◌^◌, ◌<◌, ◌≤◌, ◌==◌, ◌⊎◌, Bool, true, false, cond, Some, None, List, get_or, set, refl, sym, ap, subst, ◌∙◌, inl, inr, arith, eqb_tells, get_or-set_same, get_or-set_other, some_same, words_after, Step, Load, Store, Exchange, Add, put, IsPlace, Place, Plan, at_word, base, control_words, current_word, marked, packed, placed, set_word, Control, Owned, Port, Marks, Loaded, IsAt, IsEarlier, MayPut, Beside, LawfulEpochs, place_now, arrived, having_loaded, having_looked, having_put, owning, having_published, next_place}
 use Rattle.partial_epochs.specs.Time.{ArrivalsKeepTime, AsidesKeepTime, EntriesKeepTime, IsBesideTime, KeepsTime, LoadedMarksKeepTime, LooksKeepTime, MarksKeepTime, OpeningsKeepTime, PublishesKeepTime, PutsKeepTime, StepsKeepPlaces}
 use Rattle.partial_epochs.proofs.Entering.{cw_at, current_is, held_mark, marked_epoch, not_marked}
 use Rattle.partial_epochs.proofs.Lists.{put_all, put_other, put_same}

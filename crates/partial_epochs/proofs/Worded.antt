@@ -1,21 +1,8 @@
 -- A step of an inner memory that is made in the words of its arena, seen with the seals taken off.
-use Rattle.std.proofs.Common.{ℕ, ◌≡◌, ◌≢◌, ◌+◌, ◌%◌, ◌^◌, ◌<◌, ◌≤◌, ◌==◌, ◌⊎◌, Bool, true, false, cond, List, [], ◌∷◌, length, get_or, set, refl, sym, ap, subst, ◌∙◌, inl, inr, arith}
-use Rattle.std.specs.Prelude.{nat_lt}
-use Rattle.std.specs.List.{AllByRecursion}
-use Rattle.std.proofs.lemmas.Bool.{cases_lt, lt-ltb}
-use Rattle.std.proofs.lemmas.Bool.Decides.{eqb_tells}
-use Rattle.std.proofs.lemmas.List.{get_or-set_same, get_or-set_other, length-set, set-get_or}
-use Rattle.partial_model.specs.declared.history.Applied.{Applied}
-use Rattle.partial_words.specs.declared.step.Step.{Step}
-use Rattle.partial_words.specs.declared.step.Step.TheVariants.{Load, Store, Exchange, Add}
-use Rattle.partial_words.specs.Layout.{total}
-use Rattle.partial_words.specs.Step.{answer_of, word_of, words_after}
-use Rattle.partial_core.specs.Steps.{added_by}
-use Rattle.partial_epochs.specs.Layout.{Plan, IsSealed, arena_words, base, component_words, placed, plain, seal, seals, unsealed}
-use Rattle.partial_epochs.specs.MachineSteps.{MeetsSeal}
+use Rattle.partial_epochs.proofs.Common.{ℕ, ◌≡◌, ◌≢◌, ◌+◌, ◌%◌, ◌^◌, ◌<◌, ◌≤◌, ◌==◌, ◌⊎◌, Bool, true, false, cond, List, [], ◌∷◌, length, get_or, set, refl, sym, ap, subst, ◌∙◌, inl, inr, arith, nat_lt, AllByRecursion, cases_lt, lt-ltb, eqb_tells, get_or-set_same, get_or-set_other, length-set, set-get_or, Applied, Step, Load, Store, Exchange, Add, total, answer_of, word_of, words_after, added_by, Plan, IsSealed, arena_words, base, component_words, placed, plain, seal, seals, unsealed, MeetsSeal, not_below}
 use Rattle.partial_epochs.proofs.Apart.{IsApart}
 use Rattle.partial_epochs.proofs.Lists.{at_of, same_of, set_of}
-use Rattle.partial_epochs.proofs.Places.{below_whole, not_below}
+use Rattle.partial_epochs.proofs.Places.{below_whole}
 
 -- what the step does to the arena
 pub record Words (e : Plan) (words : List ℕ) (x : ℕ) (step : Step) (words' : List ℕ) : Type 0 where

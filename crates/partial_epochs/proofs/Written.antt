@@ -1,13 +1,7 @@
 -- What a reply's note writes, and the places of a port's own entries.
-use Rattle.std.proofs.Common.{ℕ, ◌≡◌, ◌+◌, ◌++◌, Bool, cond, Option, Some, List, [], ◌∷◌, refl, sym, ap, ◌∙◌, inl, inr}
-use Rattle.std.specs.List.{AllByRecursion}
-use Rattle.std.proofs.lemmas.Bool.Decides.{eqb_tells}
-use Rattle.partial_model.specs.declared.history.Applied.{Applied}
-use Rattle.partial_model.specs.declared.call.Note.{Note}
+use Rattle.partial_epochs.proofs.Common.{ℕ, ◌≡◌, ◌+◌, ◌++◌, Bool, cond, Option, Some, List, [], ◌∷◌, refl, sym, ap, ◌∙◌, inl, inr, AllByRecursion, eqb_tells, Applied, Note, places_by, wrote, IsPlacedAt}
 use Rattle.partial_model.specs.declared.call.Note.TheVariants as note
-use Rattle.partial_model.specs.Outcome.{places_by, wrote}
 use Rattle.partial_machine.specs.declared.stage.Reply.TheVariants as reply
-use Rattle.partial_core.specs.Steps.{IsPlacedAt}
 
 -- a reply that isn't that of an applied update writes none
 pub lost_none : (s : ℕ) (n : Note) (i : ℕ) → IsPlacedAt (reply.Lost s) n i → wrote (Some n) ++ [] ≡ []

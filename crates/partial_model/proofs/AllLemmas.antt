@@ -1,6 +1,5 @@
 -- What holds of all elements of a list.
-use Rattle.std.proofs.Common.{ℕ, zero, suc, ◌≡◌, ◌<◌, ◌++◌, List, [], ◌∷◌, Some, slice_get, length, map, take, get_or, refl, arith}
-use Rattle.std.specs.List.{AllByRecursion}
+use Rattle.partial_model.proofs.Common.{ℕ, zero, suc, ◌≡◌, ◌<◌, ◌++◌, List, [], ◌∷◌, Some, slice_get, length, map, take, get_or, refl, arith, AllByRecursion}
 
 -- one element in the middle
 module _ {A : Type 0} (P : A → Type 0) where

@@ -1,9 +1,5 @@
 -- What tests on numbers and lists decide.
-use Rattle.std.proofs.Common.{ℕ, ◌<◌, ◌≤◌, nat_le, nat_lt, Bool, true, false, not, ◌&&◌, ◌||◌, List, [], ◌∷◌, refl, sym, Decides, Option, Some, None, IfSome}
-use Rattle.std.specs.List.{AllByRecursion, list_all, list_any}
-use Rattle.std.specs.Option.{option_map_or}
-use Rattle.std.proofs.lemmas.Bool.{true≢false, ltb-true, lt-ltb, leb-true, le-leb}
-use Rattle.std.proofs.lemmas.Bool.Decides.{Decides-and}
+use Rattle.partial_model.proofs.Common.{ℕ, ◌<◌, ◌≤◌, nat_le, nat_lt, Bool, true, false, not, ◌&&◌, ◌||◌, List, [], ◌∷◌, refl, sym, Decides, Option, Some, None, IfSome, AllByRecursion, list_all, list_any, option_map_or, true≢false, ltb-true, lt-ltb, leb-true, le-leb, Decides-and}
 
 pub Decides-nat_le : (a b : ℕ) → Decides (nat_le a b) (a ≤ b)
 Decides-nat_le a b = (leb-true a b, le-leb a b)

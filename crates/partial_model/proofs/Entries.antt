@@ -1,21 +1,10 @@
 -- The entries of a port in a history are the updates of its notes; and what holds of its places and entries.
-use Rattle.std.proofs.Common.{ℕ, zero, suc, ◌≡◌, ◌+◌, ◌==◌, ◌++◌, Bool, true, false, cond, List, [], ◌∷◌, map, get_or, refl, sym, ◌∙◌, ap, subst, Option, Some, None, slice_get, arith, ◌≤◌, Contains}
-use Rattle.std.specs.List.{AllByRecursion}
-use Rattle.std.proofs.lemmas.Option.{get_or_from_slice_get}
-use Rattle.std.proofs.lemmas.Bool.{eq-eqb, eqb-true}
+use Rattle.partial_model.proofs.Common.{ℕ, zero, suc, ◌≡◌, ◌+◌, ◌==◌, ◌++◌, Bool, true, false, cond, List, [], ◌∷◌, map, get_or, refl, sym, ◌∙◌, ap, subst, Option, Some, None, slice_get, arith, ◌≤◌, Contains, AllByRecursion, get_or_from_slice_get, eq-eqb, eqb-true, Applied, Opening, Call, Answer, Note, Noted, IsTrueOf, IsLegal, LegalNotes, seen_after, wrote, places_by, places_written, EachOnce, EntriesAreNoted, entries_by, entry_of, applied_by}
 use Rattle.std.proofs.lemmas.List.Elements.{All-contains, All-contains_itself, All-from_recursion, recursion_from_All}
-use Rattle.partial_model.specs.declared.history.Applied.{Applied}
-use Rattle.partial_model.specs.declared.history.Opening.{Opening}
-use Rattle.partial_model.specs.declared.call.Call.{Call}
 use Rattle.partial_model.specs.declared.call.Call.TheVariants as call
-use Rattle.partial_model.specs.declared.call.Answer.{Answer}
 use Rattle.partial_model.specs.declared.call.Answer.TheVariants as answer
-use Rattle.partial_model.specs.declared.call.Note.{Note}
 use Rattle.partial_model.specs.declared.call.Note.TheVariants as note
-use Rattle.partial_model.specs.Notes.{Noted, IsTrueOf, IsLegal, LegalNotes, seen_after}
-use Rattle.partial_model.specs.Outcome.{wrote, places_by, places_written, EachOnce}
 use Rattle.partial_model.proofs.AllLemmas.{all_weaker}
-use Rattle.partial_model.specs.Entries.{EntriesAreNoted, entries_by, entry_of, applied_by}
 
 -- the function f gives the entry at each place of the list, whose first entry stands at place k
 abbrev pub GivesEntries : (ℕ → Applied) → ℕ → List Applied → Type 0

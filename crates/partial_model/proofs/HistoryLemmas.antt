@@ -1,20 +1,38 @@
 -- What one entry more does to the last entry for a component.
-use Rattle.std.proofs.Common.{ℕ, zero, suc, ◌≡◌, ◌+◌, ◌-◌, ◌<◌, ◌≤◌, ◌==◌, ◌++◌, ◌⊎◌, Bool, true, false, cond, List, [], ◌∷◌, length, take, get_or, refl, sym, ◌∙◌, ap, inl, inr, Option, Some, None, slice_get, arith}
-use Rattle.std.specs.List.{AllByRecursion}
-use Rattle.std.specs.Option.{option_map_or}
-use Rattle.std.proofs.lemmas.Bool.{eq-eqb, ne_eqb, cases_lt}
-use Rattle.std.proofs.lemmas.Bool.Decides.{eqb_tells}
-use Rattle.std.proofs.lemmas.List.{take_more, take_all}
-use Rattle.partial_model.specs.declared.history.Applied.{Applied}
-use Rattle.partial_model.specs.declared.history.Opening.{Opening}
-use Rattle.partial_model.specs.Entries.{LastEntriesDecide}
-use Rattle.partial_model.specs.History.{last_from, last_entry, initial_stamp, value_of, stamp_of}
+use Rattle.partial_model.proofs.Common.{ℕ, zero, suc, ◌≡◌, ◌+◌, ◌-◌, ◌<◌, ◌≤◌, ◌==◌, ◌++◌, ◌⊎◌, Bool, true, false, cond, List, [], ◌∷◌, length, take, get_or, refl, sym, ◌∙◌, ap, inl, inr, Option, Some, None, slice_get, arith, AllByRecursion, option_map_or, eq-eqb, ne_eqb, cases_lt, eqb_tells, take_more, take_all, Applied, Opening, LastEntriesDecide, last_entry, initial_stamp, value_of, stamp_of}
+use Rattle.partial_model.specs.History.{last_from}
 
 -- an entry at the end is the last one for its component and changes nothing for another
 pub last_from-push : (found : Option Applied) (j : ℕ) (h : List Applied) (e : Applied) → last_from found j (h ++ e ∷ []) ≡ cond (e.component == j) (Some e) (last_from found j h)
 unfolding last_from
 last_from-push found j [] e = refl
 last_from-push found j (x ∷ h) e = last_from-push (cond (x.component == j) (Some x) found) j h e
+
+-- the last entry of two histories
+pub last_of_both : (found : Option Applied) (j : ℕ) (a b : List Applied) → last_from found j (a ++ b) ≡ last_from (last_from found j a) j b
+unfolding last_from
+last_of_both found j [] b = refl
+last_of_both found j (e ∷ a) b = last_of_both (cond (e.component == j) (Some e) found) j a b
+
+-- what is told of the entry that was found last, or of none
+module _ (f : Applied → ℕ) where
+  abbrev In : Option Applied → ℕ → ℕ
+  In found d = option_map_or f found d
+
+  chosen : (c : Bool) (e : Applied) (found : Option Applied) (d : ℕ) → In (cond c (Some e) found) d ≡ In (cond c (Some e) None) (In found d)
+  chosen true e found d = refl
+  chosen false e found d = refl
+
+  -- an entry found before counts where the history has none for the component
+  pub found_before : (found : Option Applied) (j : ℕ) (h : List Applied) (d : ℕ) → In (last_from found j h) d ≡ In (last_from None j h) (In found d)
+  unfolding last_from
+  found_before found j [] d = refl
+  found_before found j (e ∷ h) d = found_before (cond (e.component == j) (Some e) found) j h d ∙ ap (In (last_from None j h)) (chosen (e.component == j) e found d)
+      ∙ sym (found_before (cond (e.component == j) (Some e) None) j h (In found d))
+
+  -- what is told after two histories is what the second one tells over what the first one does
+  pub behind_both : (a b : List Applied) (j d : ℕ) → In (last_from None j (a ++ b)) d ≡ In (last_from None j b) (In (last_from None j a) d)
+  behind_both a b j d = ap (λ (t : Option Applied). In t d) (last_of_both None j a b) ∙ found_before (last_from None j a) j b d
 
 -- nothing is found in no history
 pub last_entry-nil : (j : ℕ) → last_entry j [] ≡ None

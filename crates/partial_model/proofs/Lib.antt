@@ -1,3 +1,4 @@
+mod Common
 pub mod AllLemmas
 pub mod ListLemmas
 pub mod CheckLaws

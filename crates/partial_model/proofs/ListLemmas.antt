@@ -1,5 +1,5 @@
 -- Elements of lists: those that are written into another list, and one that was looked up.
-use Rattle.std.proofs.Common.{ℕ, ◌≡◌, ◌++◌, List, length, take, drop, Some, sym, ◌∙◌, ap}
+use Rattle.partial_model.proofs.Common.{ℕ, ◌≡◌, ◌++◌, List, length, take, drop, Some, sym, ◌∙◌, ap}
 use Rattle.std.proofs.Math.Seq.{take-append_seam}
 
 -- what is taken of a list that was written whole into another of the same length is the list

@@ -1,20 +1,11 @@
 -- What a longer history and one note more leave of a port's notes.
-use Rattle.std.proofs.Common.{ℕ, zero, suc, ◌≡◌, ◌≢◌, ◌+◌, ◌≤◌, ◌==◌, ◌++◌, Bool, true, false, cond, List, [], ◌∷◌, length, map, refl, sym, ◌∙◌, ap, subst, Option, Some, None, slice_get, IfSome, Contains, arith, length-append, append_assoc, append-nil}
-use Rattle.std.specs.List.{AllByRecursion}
-use Rattle.std.proofs.lemmas.List.{take-append-le}
-use Rattle.partial_model.specs.declared.history.Applied.{Applied}
-use Rattle.partial_model.specs.declared.history.Opening.{Opening}
-use Rattle.partial_model.specs.declared.call.Call.{Call}
+use Rattle.partial_model.proofs.Common.{ℕ, zero, suc, ◌≡◌, ◌≢◌, ◌+◌, ◌≤◌, ◌==◌, ◌++◌, Bool, true, false, cond, List, [], ◌∷◌, length, map, refl, sym, ◌∙◌, ap, subst, Option, Some, None, slice_get, IfSome, Contains, arith, append_assoc, append-nil, AllByRecursion, take-append-le, Applied, Opening, Call, Answer, Note, HaveDistinctStamps, value_of, stamp_of, Noted, IsEntryFor, IsTrueOf, IsLegal, LegalNotes, LegalNotesAreShown, seen_after, seen_by, place_of, shown_by, wrote, places_by, places_written}
+use Rattle.std.proofs.Common.{length-append}
 use Rattle.partial_model.specs.declared.call.Call.TheVariants as call
-use Rattle.partial_model.specs.declared.call.Answer.{Answer}
 use Rattle.partial_model.specs.declared.call.Answer.TheVariants as answer
-use Rattle.partial_model.specs.declared.call.Note.{Note}
 use Rattle.partial_model.specs.declared.call.Note.TheVariants as note
-use Rattle.partial_model.specs.History.{HaveDistinctStamps, value_of, stamp_of}
-use Rattle.partial_model.specs.Notes.{Noted, IsEntryFor, IsTrueOf, IsLegal, LegalNotes, LegalNotesAreShown, seen_after, seen_by, place_of, shown_by}
 pub use Rattle.partial_model.proofs.AllLemmas.{all_append as AllByRecursion-append, all_weaker as AllByRecursion-weaker}
 use Rattle.partial_model.proofs.HistoryLemmas.{place_below}
-use Rattle.partial_model.specs.Outcome.{wrote, places_by, places_written}
 
 -- an entry stays where it stands
 pub slice_get_grows : {A : Type 0} (h es : List A) (k : ℕ) (e : A) → slice_get h k ≡ Some e → slice_get (h ++ es) k ≡ Some e
@@ -121,7 +112,7 @@ distinct_push [] e w new = (tt, tt)
 distinct_push (x ∷ h) e w new = (AllByRecursion-push (λ f. x.stamp ≢ f.stamp) h e w.0 new.0, distinct_push h e w.1 new.1)
 
 -- what is true of a history shows no more than it has
-shown_within : (o : Opening) (h : List Applied) (p : ℕ) (c : Call) (a : Answer) (n : Note) → IsTrueOf o h p c a n → shown_by n ≤ length h
+pub shown_within : (o : Opening) (h : List Applied) (p : ℕ) (c : Call) (a : Answer) (n : Note) → IsTrueOf o h p c a n → shown_by n ≤ length h
 shown_within o h p (call.Update j v) (answer.Applied s) (note.Wrote k) w = let below = place_below h k (record { port = p; component = j; value = v; stamp = s }) w in omega arith
 shown_within o h p (call.Update j v) (answer.Lost by) (note.Lost k) w = let below = place_below h k w.0 w.1 in omega arith
 shown_within o h p (call.Scan js) (answer.Scanned vs c b) (note.Saw n) w = w.within
@@ -130,7 +121,7 @@ shown_within o h p (call.UpdateIf j x v) (answer.Applied s) (note.Wrote k) w = l
 shown_within o h p (call.UpdateIf j x v) (answer.Changed t) (note.Saw n) w = w.0
 shown_within o h p _ _ _ w = absurd w
 
-note_within : (o : Opening) (h : List Applied) (p seen : ℕ) (c : Call) (a : Answer) (n : Option Note) → seen ≤ length h → IfSome n (λ note. IsTrueOf o h p c a note × (seen ≤ place_of note)) →
+pub note_within : (o : Opening) (h : List Applied) (p seen : ℕ) (c : Call) (a : Answer) (n : Option Note) → seen ≤ length h → IfSome n (λ note. IsTrueOf o h p c a note × (seen ≤ place_of note)) →
     seen_after seen n ≤ length h
 note_within o h p seen c a None less w = less
 note_within o h p seen c a (Some n) less w = shown_within o h p c a n w.0

@@ -1,17 +1,5 @@
 -- The calls of one port after the other: what the tests of all calls decide of each port.
-use Rattle.std.proofs.Common.{ℕ, zero, suc, ◌≡◌, ◌≢◌, ◌+◌, ◌<◌, ◌≤◌, ◌⊎◌, inl, inr, ◌==◌, nat_le, Bool, true, false, cond, ◌&&◌, ◌||◌, List, [], ◌∷◌, ◌++◌, length, refl, sym, ap, ◌∙◌, subst, Decides, Option, Some, None, IfSome, filter, filter_map, arith}
-use Rattle.std.specs.List.{list_all}
-use Rattle.std.specs.Option.{option_map_or}
-use Rattle.std.proofs.lemmas.Bool.{true≢false, eq-eqb, ne_eqb, cases_lt}
-use Rattle.std.proofs.lemmas.Bool.Decides.{Decides-and, Decides-or, Decides-like, eqb_tells}
-use Rattle.partial_model.specs.declared.history.Applied.{Applied}
-use Rattle.partial_model.specs.declared.history.Opening.{Opening}
-use Rattle.partial_model.specs.declared.call.Called.{Called}
-use Rattle.partial_model.specs.declared.call.Finish.{Finish}
-use Rattle.partial_model.specs.History.{IsHistory}
-use Rattle.partial_model.specs.Notes.{Noted, LegalNotes, IsLegal}
-use Rattle.partial_model.specs.Outcome.{Follows, RealTime, noted_of, notes_of, places_by, places_written, EachOnce, LegalOutcome}
-use Rattle.partial_model.specs.Inner.Checks.{call_is_legal, seen_behind, notes_are_legal, claim_of, taken, is_spent, none_between, none_above, claim_all, is_legal_outcome, is_history, are_in_time}
+use Rattle.partial_model.proofs.Common.{ℕ, zero, suc, ◌≡◌, ◌≢◌, ◌+◌, ◌<◌, ◌≤◌, ◌⊎◌, inl, inr, ◌==◌, nat_le, Bool, true, false, cond, ◌&&◌, ◌||◌, List, [], ◌∷◌, ◌++◌, length, refl, sym, ap, ◌∙◌, subst, Decides, Option, Some, None, IfSome, filter, filter_map, arith, list_all, option_map_or, true≢false, eq-eqb, ne_eqb, cases_lt, Decides-and, Decides-or, Decides-like, eqb_tells, Applied, Opening, Called, Finish, IsHistory, Noted, LegalNotes, IsLegal, Follows, RealTime, noted_of, notes_of, places_by, places_written, EachOnce, LegalOutcome, call_is_legal, seen_behind, notes_are_legal, claim_of, taken, is_spent, none_between, none_above, claim_all, is_legal_outcome, is_history, are_in_time}
 use Rattle.partial_model.proofs.Decisions.{Decides-nat_le, Decides-and3, Decides-never, Decides-always}
 use Rattle.partial_model.proofs.CheckLaws.{Decides-is_legal, Decides-is_history, Decides-are_in_time}
 

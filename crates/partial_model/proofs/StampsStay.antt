@@ -1,11 +1,5 @@
 -- A stamp of a component never returns, since the stamps of a history are distinct.
-use Rattle.std.proofs.Common.{ℕ, zero, suc, ◌≡◌, ◌≢◌, ◌<◌, ◌≤◌, List, [], ◌∷◌, length, map, take, get_or, Option, Some, None, slice_get, refl, sym, ◌∙◌, ap, subst, inl, inr, arith}
-use Rattle.std.specs.List.{AllByRecursion}
-use Rattle.std.specs.Option.{option_map_or}
-use Rattle.std.proofs.lemmas.Bool.{cases_lt}
-use Rattle.partial_model.specs.declared.history.Applied.{Applied}
-use Rattle.partial_model.specs.declared.history.Opening.{Opening}
-use Rattle.partial_model.specs.History.{IsHistory, HaveDistinctStamps, last_entry, initial_stamp, value_of, stamp_of}
+use Rattle.partial_model.proofs.Common.{ℕ, zero, suc, ◌≡◌, ◌≢◌, ◌<◌, ◌≤◌, List, [], ◌∷◌, length, map, take, get_or, Option, Some, None, slice_get, refl, sym, ◌∙◌, ap, subst, inl, inr, arith, option_map_or, cases_lt, Applied, Opening, IsHistory, HaveDistinctStamps, last_entry, initial_stamp, value_of, stamp_of}
 use Rattle.partial_model.specs.Stamps.{HasThen, StampsNeverReturn, Twice, EqualCollectsStandTogether}
 use Rattle.partial_model.proofs.AllLemmas.{all_where}
 use Rattle.partial_model.proofs.HistoryLemmas.{last_at, stamp_all}

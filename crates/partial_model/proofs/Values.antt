@@ -1,13 +1,5 @@
 -- A component's value, entry by entry.
-use Rattle.std.proofs.Common.{ℕ, zero, suc, ◌≡◌, ◌+◌, ◌<◌, ◌≤◌, ◌==◌, ◌++◌, cond, List, [], ◌∷◌, length, take, get_or, slice_index, refl, ◌∙◌, ap, inl, inr, Option, Some, slice_get, arith}
-use Rattle.std.specs.Option.{option_map_or}
-use Rattle.std.proofs.lemmas.List.{take_more}
-use Rattle.std.proofs.lemmas.Option.{get_or_from_slice_get, slice_get_within}
-use Rattle.std.proofs.lemmas.Bool.{eq-eqb, ne_eqb, cases_lt}
-use Rattle.partial_model.specs.declared.history.Applied.{Applied}
-use Rattle.partial_model.specs.declared.history.Opening.{Opening}
-use Rattle.partial_model.specs.History.{value_of}
-use Rattle.partial_model.specs.Entries.{RisingNeverFalls}
+use Rattle.partial_model.proofs.Common.{ℕ, zero, suc, ◌≡◌, ◌+◌, ◌<◌, ◌≤◌, ◌==◌, ◌++◌, cond, List, [], ◌∷◌, length, take, get_or, slice_index, refl, ◌∙◌, ap, inl, inr, Option, Some, slice_get, arith, option_map_or, take_more, get_or_from_slice_get, slice_get_within, eq-eqb, ne_eqb, cases_lt, Applied, Opening, value_of, RisingNeverFalls}
 use Rattle.partial_model.proofs.HistoryLemmas.{last_entry-nil, value_of-push}
 
 -- the value before the first entry

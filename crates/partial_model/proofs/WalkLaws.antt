@@ -1,43 +1,16 @@
 -- What one call more leaves of a walk over the calls.
-use Rattle.std.proofs.Common.{ℕ, ◌≡◌, ◌+◌, ◌<◌, ◌≤◌, ◌==◌, Bool, true, cond, ◌&&◌, List, ◌∷◌, length, drop, get_or, sym, ap, ◌∙◌, Option, Some, None, IfSome, arith}
-use Rattle.std.proofs.lemmas.List.{drop_more}
-use Rattle.std.proofs.lemmas.Option.{slice_get_within}
-use Rattle.partial_model.specs.declared.history.Applied.{Applied}
-use Rattle.partial_model.specs.declared.history.Opening.{Opening}
-use Rattle.partial_model.specs.declared.call.Call.{Call}
-use Rattle.partial_model.specs.declared.call.Call.TheVariants as call
-use Rattle.partial_model.specs.declared.call.Answer.{Answer}
-use Rattle.partial_model.specs.declared.call.Answer.TheVariants as answer
-use Rattle.partial_model.specs.declared.call.Note.{Note}
-use Rattle.partial_model.specs.declared.call.Note.TheVariants as note
-use Rattle.partial_model.specs.declared.call.Finish.{Finish}
-use Rattle.partial_model.specs.declared.call.Called.{Called}
-use Rattle.partial_model.specs.Notes.{IsTrueOf, shown_by, seen_after, place_of}
-use Rattle.partial_model.specs.Inner.Checks.{call_is_legal, seen_behind, notes_are_legal}
+use Rattle.partial_model.proofs.Common.{ℕ, ◌≡◌, ◌+◌, ◌<◌, ◌≤◌, ◌==◌, Bool, true, cond, ◌&&◌, List, ◌∷◌, length, drop, get_or, sym, ap, ◌∙◌, Option, Some, None, drop_more, Applied, Opening, Finish, Called, call_is_legal, seen_behind, notes_are_legal}
+use Rattle.partial_model.proofs.NotesLemmas.{note_within}
 use Rattle.partial_model.proofs.PortLaws.{CallIsLegal, Decides-call_is_legal}
 
 -- ---- what a legal call has seen
 
-pub true_within : (o : Opening) (h : List Applied) (p : ℕ) (c : Call) (a : Answer) (n : Note) → IsTrueOf o h p c a n → shown_by n ≤ length h
-true_within o h p (call.Update j v) (answer.Applied s) (note.Wrote k) w = let below : k < length h = slice_get_within h k (record { port = p; component = j; value = v; stamp = s }) w in omega arith
-true_within o h p (call.Update j v) (answer.Lost by) (note.Lost k) w = let below : k < length h = slice_get_within h k w.0 w.1 in omega arith
-true_within o h p (call.Scan js) (answer.Scanned vs c b) (note.Saw n) w = w.within
-true_within o h p (call.Read j) (answer.Read v s) (note.Saw n) w = w.0
-true_within o h p (call.UpdateIf j x v) (answer.Applied s) (note.Wrote k) w = let below : k < length h =
-    slice_get_within h k (record { port = p; component = j; value = v; stamp = s }) w.0 in omega arith
-true_within o h p (call.UpdateIf j x v) (answer.Changed t) (note.Saw n) w = w.0
-true_within o h p _ _ _ w = absurd w
-
 pub seen_within : (o : Opening) (h : List Applied) (seen : ℕ) (c : Called) → call_is_legal o h seen c ≡ true → seen ≤ length h → seen_behind seen c.finish ≤ length h
 seen_within o h seen c legal within = finished c.finish ((Decides-call_is_legal o h seen c).0 legal)
   where
-    noted : (a : Answer) (n : Option Note) → IfSome n (λ note. IsTrueOf o h c.port c.call a note × (seen ≤ place_of note)) → seen_after seen n ≤ length h
-    noted a None w = within
-    noted a (Some n) w = true_within o h c.port c.call a n w.0
-
     finished : (f : Option Finish) → CallIsLegal o h seen (record c { finish = f }) → seen_behind seen f ≤ length h
     finished None w = within
-    finished (Some f) w = noted f.answer f.note w.1
+    finished (Some f) w = note_within o h c.port seen c.call f.answer f.note within w.1
 
 -- ---- one call further
 

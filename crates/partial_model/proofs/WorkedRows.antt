@@ -1,19 +1,10 @@
 -- Outcomes that were worked out by hand: lawful ones, and ones with one thing changed that are not.
-use Rattle.std.proofs.Common.{ℕ, ◌≡◌, true, false, List, [], ◌∷◌, refl, sym, ◌∙◌, Option, Some, None}
-use Rattle.std.proofs.lemmas.Bool.{true≢false}
-use Rattle.partial_model.specs.declared.history.Applied.{Applied}
-use Rattle.partial_model.specs.declared.history.Opening.{Opening}
-use Rattle.partial_model.specs.declared.call.Call.{Call}
+use Rattle.partial_model.proofs.Common.{ℕ, ◌≡◌, true, false, List, [], ◌∷◌, refl, sym, ◌∙◌, Option, Some, None, true≢false, Applied, Opening, Call, Answer, Note, Called, LegalOutcome, is_legal_outcome}
 use Rattle.partial_model.specs.declared.call.Call.TheVariants as call
 use Rattle.partial_model.specs.declared.call.Refused.TheVariants as refused
-use Rattle.partial_model.specs.declared.call.Answer.{Answer}
 use Rattle.partial_model.specs.declared.call.Answer.TheVariants as answer
-use Rattle.partial_model.specs.declared.call.Note.{Note}
 use Rattle.partial_model.specs.declared.call.Note.TheVariants as note
-use Rattle.partial_model.specs.declared.call.Called.{Called}
 use Rattle.partial_model.specs.History.{last_from}
-use Rattle.partial_model.specs.Outcome.{LegalOutcome}
-use Rattle.partial_model.specs.Inner.Checks.{is_legal_outcome}
 use Rattle.partial_model.proofs.PortLaws.{Decides-is_legal_outcome}
 
 abbrev Unlawful : Opening → List Applied → List Called → Type 0

@@ -1,16 +1,6 @@
 -- The steps by which a block is claimed and written, and by which a list is published.
-use Rattle.std.proofs.Common.{ℕ, ◌≡◌, ◌≢◌, ◌+◌, ◌*◌, ◌<◌, ◌≤◌, ◌==◌, ◌++◌, ◌^◌, ◌%◌, Bool, true, false, cond, List, ◌∷◌, length, get_or, set, Some, None, refl, sym, ◌∙◌, ap, subst, inl, inr, arith, get_or-set_other, get_or-set_same, length-set}
-use Rattle.std.proofs.lemmas.Bool.{cases_lt}
-use Rattle.partial_model.specs.declared.history.Applied.{Applied}
-use Rattle.partial_model.specs.declared.history.Opening.{Opening}
-use Rattle.partial_words.specs.Layout.{Layout, slot_counter, list_head, pool_counter, list_counter, slot_word, list_base, list_end, pool_end, total}
+use Rattle.partial_state.proofs.Common.{ℕ, ◌≡◌, ◌≢◌, ◌+◌, ◌*◌, ◌<◌, ◌≤◌, ◌==◌, ◌++◌, ◌^◌, ◌%◌, Bool, true, false, cond, List, ◌∷◌, length, get_or, set, Some, None, refl, sym, ◌∙◌, ap, subst, inl, inr, arith, get_or-set_other, get_or-set_same, length-set, cases_lt, Applied, Opening, Layout, slot_counter, list_head, pool_counter, list_counter, slot_word, list_base, list_end, pool_end, total, length-pairs, Block, AreApart, IsApartFrom, IsPublishedList, IsHead, Own, Holding, Space, first_of, end_of, counter_of, block_of, unpublished, blocks_in, others_of, EachTwo, pool_marks, list_marks, Pool, Lists, LawfulWords, IsOwn, IsTied, IsDue, IsKept, ClaimsAreKept, StoresAreKept, PublishingsAreKept}
 use Rattle.partial_words.specs.VacatedList.{list_block}
-use Rattle.partial_words.proofs.RecordLemmas.{length-pairs}
-use Rattle.partial_state.specs.Views.{Block, AreApart, IsApartFrom, IsPublishedList, IsHead}
-use Rattle.partial_state.specs.Holdings.{Own, Holding, Space, first_of, end_of, counter_of, block_of, unpublished, blocks_in, others_of, EachTwo, pool_marks, list_marks}
-use Rattle.partial_state.specs.Holdings.Space.{Pool, Lists}
-use Rattle.partial_state.specs.LawfulWords.{LawfulWords, IsOwn, IsTied, IsDue}
-use Rattle.partial_state.specs.Effects.{IsKept, ClaimsAreKept, StoresAreKept, PublishingsAreKept}
 use Rattle.partial_state.proofs.ListLemmas.{all_at, all_weaker, two_take, two_put}
 use Rattle.partial_state.proofs.Frames.{IsClaimedBlock, word_at, apart_turns, head_moves}
 use Rattle.partial_state.proofs.Claimed.{unpublished_two, all_claimed}

@@ -1,11 +1,5 @@
 -- The blocks of the words, with one port's holding in the place of another.
-use Rattle.std.proofs.Common.{ℕ, ◌≡◌, ◌+◌, ◌*◌, ◌++◌, List, [], ◌∷◌, length, map, Option, Some, None, refl, sym, ◌∙◌, ap}
-use Rattle.std.specs.List.{cons_option}
-use Rattle.std.specs.Option.{option_map}
-use Rattle.partial_model.specs.declared.history.Applied.{Applied}
-use Rattle.partial_words.specs.Layout.{Layout, pool_base}
-use Rattle.partial_state.specs.Views.{Block, Joined}
-use Rattle.partial_state.specs.Holdings.{Own, Holding, block_of, block_at, announcements, unpublished, blocks_in, joined_in}
+use Rattle.partial_state.proofs.Common.{ℕ, ◌≡◌, ◌+◌, ◌*◌, ◌++◌, List, [], ◌∷◌, length, map, Option, Some, None, refl, sym, ◌∙◌, ap, cons_option, option_map, Applied, Layout, pool_base, Block, Joined, Own, Holding, block_of, block_at, announcements, unpublished, blocks_in, joined_in}
 use Rattle.partial_state.proofs.ListLemmas.{Adds, adds_behind, adds_before}
 use Rattle.partial_state.proofs.HoldingLemmas.{filter_split}
 

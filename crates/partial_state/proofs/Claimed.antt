@@ -1,24 +1,9 @@
 -- The blocks of lawful words: all their words are claimed, and those that are published are apart from the others.
-use Rattle.std.proofs.Common.{ℕ, ◌≡◌, ◌+◌, ◌*◌, ◌<◌, ◌≤◌, ◌==◌, ◌++◌, Bool, true, false, cond, List, [], ◌∷◌, length, map, get_or, Option, Some, None, IfSome, MatchOption, slice_get, refl, ◌∙◌, ap, subst, inl, inr, arith}
-use Rattle.std.specs.List.{AllByRecursion, cons_option}
-use Rattle.std.specs.Option.{option_map}
-use Rattle.std.proofs.lemmas.Bool.{eqb-true}
-use Rattle.partial_model.specs.declared.history.Applied.{Applied}
-use Rattle.partial_model.specs.declared.history.Opening.{Opening}
-use Rattle.partial_words.specs.Layout.{Layout, pool_counter, slot_word, pool_base}
-use Rattle.partial_words.specs.Record.{view_of, view_len}
-use Rattle.partial_words.proofs.RecordLemmas.{length-pairs}
-use Rattle.partial_state.specs.Views.{Block, AreApart, Joined, HasPairs, IsAnnounced, IsApartFrom}
-use Rattle.partial_state.specs.Holdings.{Claimed, Holding, Space, first_of, end_of, counter_of, block_of, block_at, announcements, unpublished, blocks_in, joined_in, EachTwo}
-use Rattle.partial_state.specs.Holdings.Space.{Pool, Lists}
-use Rattle.partial_state.specs.LawfulWords.{LawfulWords, IsOwn, IsTied, IsClaim, IsEntry}
-use Rattle.partial_state.specs.Loads.{IsPublished}
+use Rattle.partial_state.proofs.Common.{ℕ, ◌≡◌, ◌+◌, ◌*◌, ◌<◌, ◌≤◌, ◌==◌, ◌++◌, Bool, true, false, cond, List, [], ◌∷◌, length, map, get_or, Option, Some, None, IfSome, MatchOption, slice_get, refl, ◌∙◌, ap, subst, inl, inr, arith, AllByRecursion, cons_option, option_map, eqb-true, Applied, Opening, Layout, pool_counter, slot_word, pool_base, view_of, view_len, length-pairs, Block, AreApart, Joined, HasPairs, IsAnnounced, IsApartFrom, Claimed, Holding, Space, first_of, end_of, counter_of, block_of, block_at, announcements, unpublished, blocks_in, joined_in, EachTwo, Pool, Lists, LawfulWords, IsOwn, IsTied, IsClaim, IsEntry, IsPublished, AllByRecursion-get, all_where}
 use Rattle.partial_state.proofs.ListLemmas.{all_append, all_back, all_map, all_unmap, all_weaker, two_back, two_across}
 use Rattle.partial_state.proofs.Frames.{IsClaimedBlock, announcement_claimed, block_published}
 use Rattle.partial_state.proofs.HoldingLemmas.{if_some, if_all, all_unpublished}
 use Rattle.partial_state.proofs.Blocks.{announcement_of}
-use Rattle.partial_model.proofs.NotesLemmas.{AllByRecursion-get}
-use Rattle.partial_model.proofs.AllLemmas.{all_where}
 
 -- what holds of the value that stands there
 pub match_some : {A : Type 0} (P : Type 0) (Q : A → Type 0) (f : Option A) (a : A) → f ≡ Some a → MatchOption f P Q → Q a

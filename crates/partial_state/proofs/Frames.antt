@@ -1,18 +1,9 @@
 -- What a step leaves of all that is published: blocks, and all that is said by them.
-use Rattle.std.proofs.Common.{ℕ, ◌≡◌, ◌+◌, ◌<◌, ◌≤◌, ◌⊎◌, List, length, take, get_or, slice_get, Some, refl, sym, ◌∙◌, ap, subst, inl, inr, arith}
-use Rattle.std.proofs.lemmas.Bool.{cases_lt}
+use Rattle.partial_state.proofs.Common.{ℕ, ◌≡◌, ◌+◌, ◌<◌, ◌≤◌, ◌⊎◌, List, length, take, get_or, slice_get, Some, refl, sym, ◌∙◌, ap, subst, inl, inr, arith, cases_lt, Applied, Opening, place_below, Layout, slot_counter, pool_counter, list_counter, slot_word, list_base, list_end, pool_base, StandsAt, view_block, prev_of, view_of, length-pairs, IsViewOf, Block, AreApart, Joined, HasFreshView, HasPairs, IsView, IsWithin, IsBegunSince, Covers, Names, IsAnnounced, IsPublishedList, IsApartFrom, IsHead, IsPublished, IsSlotAnswer}
 use Rattle.partial_intervals.specs.Intervals.{Ranges}
-use Rattle.partial_model.specs.declared.history.Applied.{Applied}
-use Rattle.partial_model.specs.declared.history.Opening.{Opening}
 use Rattle.partial_model.specs.History.{value_of}
-use Rattle.partial_model.proofs.HistoryLemmas.{place_below}
-use Rattle.partial_words.specs.Layout.{Layout, slot_counter, pool_counter, list_counter, slot_word, list_base, list_end, pool_base}
-use Rattle.partial_words.specs.Record.{StandsAt, view_block, prev_of, view_of}
 use Rattle.partial_words.specs.Announcement.{announcement_block}
 use Rattle.partial_words.specs.VacatedList.{list_block}
-use Rattle.partial_words.proofs.RecordLemmas.{length-pairs}
-use Rattle.partial_state.specs.Views.{IsViewOf, Block, AreApart, Joined, HasFreshView, HasPairs, IsView, IsWithin, IsBegunSince, Covers, Names, IsAnnounced, IsPublishedList, IsApartFrom, IsHead}
-use Rattle.partial_state.specs.Loads.{IsPublished, IsSlotAnswer}
 use Rattle.partial_state.proofs.ListLemmas.{all_weaker}
 
 -- one word

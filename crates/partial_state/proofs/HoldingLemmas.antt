@@ -1,14 +1,5 @@
 -- Holdings with one in the place of another: their blocks, the other ports' ones, and how many are marked.
-use Rattle.std.proofs.Common.{ℕ, suc, ◌≡◌, ◌≢◌, ◌+◌, ◌*◌, ◌<◌, ◌≤◌, ◌==◌, ◌++◌, Bool, true, false, cond, List, [], ◌∷◌, length, filter_map, get_or, Option, Some, None, IfSome, IsSomeAnd, refl, sym, ◌∙◌, ap, subst, inl, inr, arith}
-use Rattle.std.specs.List.{AllByRecursion, cons_option}
-use Rattle.std.specs.Option.{option_map}
-use Rattle.std.proofs.lemmas.Bool.{ne_eqb}
-use Rattle.partial_words.specs.Record.{view_of, view_len}
-use Rattle.partial_words.specs.Layout.{Layout, list_base}
-use Rattle.partial_state.specs.LawfulWords.{IsOwn}
-use Rattle.partial_state.specs.Holdings.Space.{Pool, Lists}
-use Rattle.partial_state.specs.Views.{Block, AreApart, Joined}
-use Rattle.partial_state.specs.Holdings.{Own, Holding, Space, first_of, EachTwo, IfJoined, block_of, block_at, unpublished, others_of, pool_marks, slot_marks, list_marks, HaveOtherPorts, HaveOtherSlots}
+use Rattle.partial_state.proofs.Common.{ℕ, suc, ◌≡◌, ◌≢◌, ◌+◌, ◌*◌, ◌<◌, ◌≤◌, ◌==◌, ◌++◌, Bool, true, false, cond, List, [], ◌∷◌, length, filter_map, get_or, Option, Some, None, IfSome, IsSomeAnd, refl, sym, ◌∙◌, ap, subst, inl, inr, arith, AllByRecursion, cons_option, option_map, ne_eqb, view_of, view_len, Layout, list_base, IsOwn, Pool, Lists, Block, AreApart, Joined, Own, Holding, Space, first_of, EachTwo, IfJoined, block_of, block_at, unpublished, others_of, pool_marks, slot_marks, list_marks, HaveOtherPorts, HaveOtherSlots}
 
 -- what holds of the value in an option
 pub if_some : {A : Type 0} (P Q : A → Type 0) (found : Option A) → ((a : A) → found ≡ Some a → P a → Q a) → IfSome found P → IfSome found Q

@@ -1,3 +1,4 @@
+mod Common
 pub mod ListLemmas
 pub mod Frames
 pub mod HoldingLemmas

@@ -1,10 +1,5 @@
 -- One element of a list in the place of another.
-use Rattle.std.proofs.Common.{ℕ, zero, suc, map, ◌∙◌, ◌≡◌, ◌<◌, ◌≤◌, ◌++◌, List, [], ◌∷◌, length, refl, sym, ap, subst, Some, slice_get, append_assoc, arith}
-use Rattle.std.proofs.lemmas.List.{length_push}
-use Rattle.partial_model.proofs.HistoryLemmas.{place_below}
-use Rattle.partial_model.proofs.NotesLemmas.{slice_get_last}
-use Rattle.std.specs.List.{AllByRecursion}
-use Rattle.partial_state.specs.Holdings.{EachTwo}
+use Rattle.partial_state.proofs.Common.{ℕ, zero, suc, map, ◌∙◌, ◌≡◌, ◌<◌, ◌≤◌, ◌++◌, List, [], ◌∷◌, length, refl, sym, ap, subst, Some, slice_get, append_assoc, arith, length_push, place_below, slice_get_last, AllByRecursion, EachTwo}
 pub use Rattle.partial_model.proofs.AllLemmas.{all_before, all_at, all_after, all_join, all_weaker, all_append, all_front, all_back, all_map, all_unmap}
 
 module _ {A : Type 0} (R : A → A → Type 0) (turn : (x y : A) → R x y → R y x) where

@@ -1,17 +1,5 @@
 -- What a load answers is true from then on.
-use Rattle.std.proofs.Common.{ℕ, ◌≡◌, ◌<◌, ◌≤◌, List, [], ◌∷◌, length, get_or, Option, Some, None, IfSome, MatchOption, refl, sym, ◌∙◌, ap, subst, inl, inr, arith}
-use Rattle.std.specs.List.{AllByRecursion}
-use Rattle.std.proofs.lemmas.Bool.{cases_lt}
-use Rattle.std.proofs.lemmas.List.{take_all}
-use Rattle.partial_model.specs.declared.history.Applied.{Applied}
-use Rattle.partial_model.specs.declared.history.Opening.{Opening}
-use Rattle.partial_model.specs.History.{stamp_of}
-use Rattle.partial_words.specs.Layout.{Layout, slot_counter, slot_word}
-use Rattle.partial_state.specs.Views.{Joined, IsAnnounced, IsHead}
-use Rattle.partial_state.specs.Holdings.{Claimed, Holding, unpublished, IfJoined}
-use Rattle.partial_state.specs.LawfulWords.{LawfulWords, IsClaimedIn, IsClaim}
-use Rattle.partial_state.specs.Loads.{IsSlotAnswer}
-use Rattle.partial_state.specs.Effects.{LoadsAreTrue}
+use Rattle.partial_state.proofs.Common.{ℕ, ◌≡◌, ◌<◌, ◌≤◌, List, [], ◌∷◌, length, get_or, Option, Some, None, IfSome, MatchOption, refl, sym, ◌∙◌, ap, subst, inl, inr, arith, AllByRecursion, cases_lt, take_all, Applied, Opening, stamp_of, Layout, slot_counter, slot_word, Joined, IsAnnounced, IsHead, Claimed, Holding, unpublished, IfJoined, LawfulWords, IsClaimedIn, IsClaim, IsSlotAnswer, LoadsAreTrue}
 use Rattle.partial_state.proofs.ListLemmas.{all_weaker}
 use Rattle.partial_state.proofs.Claimed.{match_some}
 use Rattle.partial_state.proofs.HoldingLemmas.{if_some, if_all, if_some_at, some_found}

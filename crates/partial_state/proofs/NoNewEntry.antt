@@ -1,16 +1,6 @@
 -- The steps that add nothing to the history, and what most steps leave as it was.
-use Rattle.std.proofs.Common.{ℕ, ◌≡◌, ◌≢◌, ◌+◌, ◌*◌, ◌<◌, ◌≤◌, ◌⊎◌, ◌++◌, ◌^◌, ◌%◌, true, false, List, ◌∷◌, length, get_or, Option, None, IfSome, IsSomeAnd, refl, sym, ◌∙◌, ap, subst, inl, inr, arith}
-use Rattle.std.proofs.lemmas.Bool.{eq-eqb}
+use Rattle.partial_state.proofs.Common.{ℕ, ◌≡◌, ◌≢◌, ◌+◌, ◌*◌, ◌<◌, ◌≤◌, ◌⊎◌, ◌++◌, ◌^◌, ◌%◌, true, false, List, ◌∷◌, length, get_or, Option, None, IfSome, IsSomeAnd, refl, sym, ◌∙◌, ap, subst, inl, inr, arith, eq-eqb, Applied, Opening, place_below, Layout, IsLayout, slot_counter, list_head, pool_counter, list_counter, slot_word, list_base, list_end, pool_end, Block, AreApart, Covers, IsHead, Claimed, Own, Due, Holding, block_of, block_at, unpublished, blocks_in, others_of, IfJoined, joined_in, EachTwo, HaveOtherSlots, pool_marks, slot_marks, list_marks, Pool, LawfulWords, IsOwn, IsTied, IsClaim, IsDue, IsKept}
 use Rattle.std.proofs.Math.Nat.{mul-le-mul_left}
-use Rattle.partial_model.specs.declared.history.Applied.{Applied}
-use Rattle.partial_model.specs.declared.history.Opening.{Opening}
-use Rattle.partial_model.proofs.HistoryLemmas.{place_below}
-use Rattle.partial_words.specs.Layout.{Layout, IsLayout, slot_counter, list_head, pool_counter, list_counter, slot_word, list_base, list_end, pool_end}
-use Rattle.partial_state.specs.Views.{Block, AreApart, Covers, IsHead}
-use Rattle.partial_state.specs.Holdings.{Claimed, Own, Due, Holding, block_of, block_at, unpublished, blocks_in, others_of, IfJoined, joined_in, EachTwo, HaveOtherSlots, pool_marks, slot_marks, list_marks}
-use Rattle.partial_state.specs.Holdings.Space.{Pool}
-use Rattle.partial_state.specs.LawfulWords.{LawfulWords, IsOwn, IsTied, IsClaim, IsDue}
-use Rattle.partial_state.specs.Effects.{IsKept}
 use Rattle.partial_state.proofs.ListLemmas.{all_at, all_weaker}
 use Rattle.partial_state.proofs.Frames.{Frame, stays, head_moves, covers_moves}
 use Rattle.partial_state.proofs.HoldingLemmas.{own_far, if_some, if_some_at, some_found, joined_weaker, others_gone, marks_same, marks_more, marks_few, pool_is, slots_are, lists_are}

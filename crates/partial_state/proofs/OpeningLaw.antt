@@ -1,25 +1,17 @@
 -- Words as they open are lawful.
-use Rattle.std.proofs.Common.{ℕ, zero, suc, ◌≡◌, ◌+◌, ◌*◌, ◌<◌, ◌≤◌, ◌++◌, false, List, [], ◌∷◌, length, get_or, Some, None, IfSome, refl, sym, ap, subst, inl, arith, ◌∙◌}
-use Rattle.std.specs.List.{AllByRecursion}
-use Rattle.std.proofs.lemmas.Bool.Decides.{nat_tests}
-use Rattle.partial_words.specs.Layout.{Layout, slot_counter, list_head, pool_counter, list_counter, slot_word, list_base, pool_base}
-use Rattle.partial_words.specs.Chain.{opening_word}
+use Rattle.partial_state.proofs.Common.{ℕ, zero, suc, ◌≡◌, ◌+◌, ◌*◌, ◌<◌, ◌≤◌, ◌++◌, false, List, [], ◌∷◌, length, get_or, Some, None, IfSome, refl, sym, ap, subst, inl, arith, ◌∙◌, AllByRecursion, nat_tests, Layout, slot_counter, list_head, pool_counter, list_counter, slot_word, list_base, pool_base, opening_word, Block, AreApart, Holding, EachTwo, HaveOtherPorts, HaveOtherSlots, announcements, unpublished, IsTied, idle_holdings, OpeningIsLawful}
 use Rattle.partial_words.proofs.LayoutLemmas.{opening_agrees, view_opens}
-use Rattle.partial_state.specs.Views.{Block, AreApart}
-use Rattle.partial_state.specs.Holdings.{Holding, EachTwo, HaveOtherPorts, HaveOtherSlots, announcements, unpublished}
-use Rattle.partial_state.specs.LawfulWords.{IsTied}
-use Rattle.partial_state.specs.Effects.{idle_holdings, OpeningIsLawful}
 
 -- ports that hold nothing
-abbrev idle : ℕ → Holding
+abbrev pub idle : ℕ → Holding
 idle p = record { port = p; claimed = None; own = None; due = None; pool_spent = false; slots_spent = false; lists_spent = false }
 
-idle_length : (p n : ℕ) → length (idle_holdings p n) ≡ n
+pub idle_length : (p n : ℕ) → length (idle_holdings p n) ≡ n
 idle_length p zero = refl
 idle_length p (suc n) = ap suc (idle_length (p + 1) n)
 
 -- what holds of each of them
-idle_all : (P : Holding → Type 0) → ((p : ℕ) → P (idle p)) → (p n : ℕ) → AllByRecursion P (idle_holdings p n)
+pub idle_all : (P : Holding → Type 0) → ((p : ℕ) → P (idle p)) → (p n : ℕ) → AllByRecursion P (idle_holdings p n)
 idle_all P f p zero = tt
 idle_all P f p (suc n) = (f p, idle_all P f (p + 1) n)
 
@@ -27,35 +19,35 @@ idle_other : (q p n : ℕ) → q < p → AllByRecursion (HaveOtherPorts (idle q)
 idle_other q p zero below = tt
 idle_other q p (suc n) below = (λ e. omega (arith, below, e), idle_other q (p + 1) n (omega arith))
 
-idle_ports : (p n : ℕ) → EachTwo HaveOtherPorts (idle_holdings p n)
+pub idle_ports : (p n : ℕ) → EachTwo HaveOtherPorts (idle_holdings p n)
 idle_ports p zero = tt
 idle_ports p (suc n) = (idle_other p (p + 1) n (omega arith), idle_ports (p + 1) n)
 
-idle_slots : (p n : ℕ) → EachTwo HaveOtherSlots (idle_holdings p n)
+pub idle_slots : (p n : ℕ) → EachTwo HaveOtherSlots (idle_holdings p n)
 idle_slots p zero = tt
 idle_slots p (suc n) = (idle_all (HaveOtherSlots (idle p)) (λ q. tt) (p + 1) n, idle_slots (p + 1) n)
 
-none_unpublished : (p n : ℕ) → unpublished (idle_holdings p n) ≡ []
+pub none_unpublished : (p n : ℕ) → unpublished (idle_holdings p n) ≡ []
 none_unpublished p zero = refl
 none_unpublished p (suc n) = none_unpublished (p + 1) n
 
-none_announced : (p n : ℕ) → announcements (idle_holdings p n) ≡ []
+pub none_announced : (p n : ℕ) → announcements (idle_holdings p n) ≡ []
 none_announced p zero = refl
 none_announced p (suc n) = none_announced (p + 1) n
 
-pool_opens : (z : Layout) (initial : List ℕ) → opening_word z initial (pool_counter z) ≡ pool_base z + 3 * z.m
+pub pool_opens : (z : Layout) (initial : List ℕ) → opening_word z initial (pool_counter z) ≡ pool_base z + 3 * z.m
 pool_opens z initial = grind (arith, nat_tests)
 
-slot_opens : (z : Layout) (initial : List ℕ) → 1 ≤ z.slots → opening_word z initial (slot_counter z) ≡ 0
+pub slot_opens : (z : Layout) (initial : List ℕ) → 1 ≤ z.slots → opening_word z initial (slot_counter z) ≡ 0
 slot_opens z initial some = grind (arith, nat_tests)
 
-list_opens : (z : Layout) (initial : List ℕ) → 1 ≤ z.slots → opening_word z initial (list_head z) ≡ 0
+pub list_opens : (z : Layout) (initial : List ℕ) → 1 ≤ z.slots → opening_word z initial (list_head z) ≡ 0
 list_opens z initial some = grind (arith, nat_tests)
 
-lists_open : (z : Layout) (initial : List ℕ) → 1 ≤ z.slots → opening_word z initial (list_counter z) ≡ list_base z
+pub lists_open : (z : Layout) (initial : List ℕ) → 1 ≤ z.slots → opening_word z initial (list_counter z) ≡ list_base z
 lists_open z initial some = grind (arith, nat_tests)
 
-slots_open : (z : Layout) (initial : List ℕ) (l : ℕ) → l < z.slots → opening_word z initial (slot_word z l) ≡ 0
+pub slots_open : (z : Layout) (initial : List ℕ) (l : ℕ) → l < z.slots → opening_word z initial (slot_word z l) ≡ 0
 slots_open z initial l below = grind (arith, nat_tests)
 
 pub opening_is_lawful : OpeningIsLawful

@@ -1,14 +1,6 @@
 -- The steps on slots: a claim, a join and a leave.
-use Rattle.std.proofs.Common.{ℕ, ◌≡◌, ◌≢◌, ◌+◌, ◌*◌, ◌<◌, ◌≤◌, ◌++◌, ◌^◌, ◌%◌, ◌∷◌, length, get_or, set, Option, Some, None, IfSome, IsSomeAnd, refl, sym, ◌∙◌, ap, subst, inl, inr, arith, get_or-set_other, get_or-set_same, length-set}
-use Rattle.std.specs.List.{AllByRecursion}
-use Rattle.std.proofs.lemmas.Bool.Decides.{eqb_tells}
-use Rattle.partial_words.specs.Layout.{slot_counter, list_head, pool_counter, list_counter, slot_word, list_base, list_end, pool_end}
+use Rattle.partial_state.proofs.Common.{ℕ, ◌≡◌, ◌≢◌, ◌+◌, ◌*◌, ◌<◌, ◌≤◌, ◌++◌, ◌^◌, ◌%◌, ◌∷◌, length, get_or, set, Option, Some, None, IfSome, IsSomeAnd, refl, sym, ◌∙◌, ap, subst, inl, inr, arith, get_or-set_other, get_or-set_same, length-set, AllByRecursion, eqb_tells, slot_counter, list_head, pool_counter, list_counter, slot_word, list_base, list_end, pool_end, Block, AreApart, Joined, IsAnnounced, IsApartFrom, Claimed, Own, Holding, block_of, unpublished, blocks_in, others_of, joined_in, Pool, IsOwn, IsTied, IsClaim, IsDue, SlotClaimsAreKept, JoinsAreKept, LeavesAreKept}
 use Rattle.partial_words.specs.Announcement.{announcement_block}
-use Rattle.partial_state.specs.Views.{Block, AreApart, Joined, IsAnnounced, IsApartFrom}
-use Rattle.partial_state.specs.Holdings.{Claimed, Own, Holding, block_of, unpublished, blocks_in, others_of, joined_in}
-use Rattle.partial_state.specs.Holdings.Space.{Pool}
-use Rattle.partial_state.specs.LawfulWords.{IsOwn, IsTied, IsClaim, IsDue}
-use Rattle.partial_state.specs.Effects.{SlotClaimsAreKept, JoinsAreKept, LeavesAreKept}
 use Rattle.partial_state.proofs.ListLemmas.{all_at, two_take, two_put}
 use Rattle.partial_state.proofs.Frames.{apart_turns}
 use Rattle.partial_state.proofs.Claimed.{unpublished_two}

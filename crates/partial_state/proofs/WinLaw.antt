@@ -1,24 +1,6 @@
 -- A won exchange of a component: its record is published, and the history gains its entry.
-use Rattle.std.proofs.Common.{ℕ, ◌≡◌, ◌≢◌, ◌+◌, ◌*◌, ◌<◌, ◌≤◌, ◌==◌, ◌++◌, Bool, true, false, cond, List, [], ◌∷◌, length, map, get_or, set, Option, Some, None, IfSome, slice_get, refl, sym, ◌∙◌, ap, subst, inl, inr, arith, append_assoc, get_or-set_other, get_or-set_same, length-set}
-use Rattle.std.specs.List.{AllByRecursion}
-use Rattle.std.specs.Option.{option_map}
-use Rattle.std.proofs.lemmas.Bool.{eq-eqb, eqb-true, eqb-false}
-use Rattle.std.proofs.lemmas.Bool.Decides.{eqb_tells}
-use Rattle.std.proofs.lemmas.List.{length_push, take-append-le}
-use Rattle.partial_model.specs.declared.history.Applied.{Applied}
-use Rattle.partial_model.specs.declared.history.Opening.{Opening}
-use Rattle.partial_model.specs.History.{IsHistory, initial_stamp, stamp_of}
-use Rattle.partial_model.proofs.HistoryLemmas.{stamp_of-push}
-use Rattle.partial_model.proofs.NotesLemmas.{distinct_push, slice_get_grows, AllByRecursion-push, AllByRecursion-get}
-use Rattle.partial_words.specs.Layout.{Layout, slot_counter, list_head, pool_counter, list_counter, slot_word, list_end, pool_base, pool_end}
-use Rattle.partial_words.specs.Record.{prev_of, view_of}
-use Rattle.partial_words.specs.Chain.{IsLink, IsChain, chain_of}
+use Rattle.partial_state.proofs.Common.{ℕ, ◌≡◌, ◌≢◌, ◌+◌, ◌*◌, ◌<◌, ◌≤◌, ◌==◌, ◌++◌, Bool, true, false, cond, List, [], ◌∷◌, length, map, get_or, set, Option, Some, None, IfSome, slice_get, refl, sym, ◌∙◌, ap, subst, inl, inr, arith, append_assoc, get_or-set_other, get_or-set_same, length-set, AllByRecursion, option_map, eq-eqb, eqb-true, eqb-false, eqb_tells, length_push, take-append-le, Applied, Opening, IsHistory, initial_stamp, stamp_of, stamp_of-push, distinct_push, slice_get_grows, AllByRecursion-push, AllByRecursion-get, Layout, slot_counter, list_head, pool_counter, list_counter, slot_word, list_end, pool_base, pool_end, prev_of, view_of, IsLink, IsChain, chain_of, Block, AreApart, Joined, HasFreshView, Covers, IsWithin, Claimed, Own, Due, Holding, Space, first_of, end_of, counter_of, block_of, block_at, announcements, unpublished, blocks_in, others_of, IfJoined, joined_in, EachTwo, HaveOtherPorts, Pool, LawfulWords, IsOwn, IsTied, IsDue, IsKept, WinsAreKept, all_where}
 use Rattle.partial_words.proofs.ChainLemmas.{chain_cons, links_from-push}
-use Rattle.partial_state.specs.Views.{Block, AreApart, Joined, HasFreshView, Covers, IsWithin}
-use Rattle.partial_state.specs.Holdings.{Claimed, Own, Due, Holding, Space, first_of, end_of, counter_of, block_of, block_at, announcements, unpublished, blocks_in, others_of, IfJoined, joined_in, EachTwo, HaveOtherPorts}
-use Rattle.partial_state.specs.Holdings.Space.{Pool}
-use Rattle.partial_state.specs.LawfulWords.{LawfulWords, IsOwn, IsTied, IsDue}
-use Rattle.partial_state.specs.Effects.{IsKept, WinsAreKept}
 use Rattle.partial_state.proofs.ListLemmas.{all_at, all_front, all_back, all_join, all_weaker, all_unmap, two_before, two_after, two_take, two_put, Adds, adds_behind, found_before, found_last}
 use Rattle.partial_state.proofs.Frames.{Frame, Grows, apart_turns, fresh_moves, covers_moves}
 use Rattle.partial_state.proofs.HoldingLemmas.{if_some_at, some_found, joined_weaker, ports_turn, others_gone, others_all, filter_append, three_words, block_stays}
@@ -26,7 +8,6 @@ use Rattle.partial_state.proofs.Blocks.{unpublished_is, announced_same, own_adde
 use Rattle.partial_state.proofs.Rebuild.{Moves, chain_moves, entries_stay}
 use Rattle.partial_state.proofs.EffectLemmas.{IsNew, keeps}
 use Rattle.partial_state.proofs.NoNewEntry.{pool_stays, slots_stay, lists_stay, taken_stays, claim_stays, head_stays}
-use Rattle.partial_model.proofs.AllLemmas.{all_where}
 
 map_push : {A B : Type 0} (f : A → B) (xs : List A) (y : A) → map f (xs ++ y ∷ []) ≡ map f xs ++ f y ∷ []
 map_push f [] y = refl

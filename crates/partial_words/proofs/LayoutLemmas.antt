@@ -64,27 +64,27 @@ region_within s w Pool x = omega arith
 pub regions_apart : (s : Layout) → AreRegionsOf s
 regions_apart s = record { cover = region_cover s; disjoint = region_disjoint s; within = region_within s }
 
-opening_component : (s : Layout) (initial : List ℕ) (w : ℕ) → w < s.m → opening_word s initial w ≡ pool_base s + 3 * w
+pub opening_component : (s : Layout) (initial : List ℕ) (w : ℕ) → w < s.m → opening_word s initial w ≡ pool_base s + 3 * w
 opening_component s initial w below = grind (arith, nat_tests)
 
-opening_record : (s : Layout) (initial : List ℕ) (k : ℕ) → k < 3 * s.m → opening_word s initial (pool_base s + k) ≡ initial_record_word initial k
+pub opening_record : (s : Layout) (initial : List ℕ) (k : ℕ) → k < 3 * s.m → opening_word s initial (pool_base s + k) ≡ initial_record_word initial k
 opening_record s initial k below =
     let e : pool_base s + k - pool_base s ≡ k = omega arith in
     let f : opening_word s initial (pool_base s + k) ≡ initial_record_word initial (pool_base s + k - pool_base s) = grind (arith, nat_tests) in
     f ∙ ap (initial_record_word initial) e
 
-initial_value : (initial : List ℕ) (j : ℕ) → initial_record_word initial (3 * j + 1) ≡ slice_index initial j
+pub initial_value : (initial : List ℕ) (j : ℕ) → initial_record_word initial (3 * j + 1) ≡ slice_index initial j
 initial_value initial j =
     let e : (3 * j + 1) % 3 ≡ 1 = omega arith in
     let f : (3 * j + 1) / 3 ≡ j = omega arith in
     ap (λ n. cond (n == 1) (slice_index initial ((3 * j + 1) / 3)) 0) e ∙ ap (slice_index initial) f
 
-initial_prev : (initial : List ℕ) (j : ℕ) → initial_record_word initial (3 * j) ≡ 0
+pub initial_prev : (initial : List ℕ) (j : ℕ) → initial_record_word initial (3 * j) ≡ 0
 initial_prev initial j =
     let e : (3 * j) % 3 ≡ 0 = omega arith in
     ap (λ n. cond (n == 1) (slice_index initial (3 * j / 3)) 0) e
 
-initial_view : (initial : List ℕ) (j : ℕ) → initial_record_word initial (3 * j + 2) ≡ 0
+pub initial_view : (initial : List ℕ) (j : ℕ) → initial_record_word initial (3 * j + 2) ≡ 0
 initial_view initial j =
     let e : (3 * j + 2) % 3 ≡ 2 = omega arith in
     ap (λ n. cond (n == 1) (slice_index initial ((3 * j + 2) / 3)) 0) e

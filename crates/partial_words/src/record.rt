@@ -25,6 +25,7 @@ const VIEW: usize = 2;
 const OWN_VIEW: usize = 3;
 
 /// The number of the word that holds the value of the record at word `at`.
+#[inline(always)]
 pub fn value_word(at: u64) -> u64
     requires { own_view at < 2 ^ 64 }
     ensures { result ≡ value_word at }
@@ -33,6 +34,7 @@ pub fn value_word(at: u64) -> u64
 }
 
 /// The number of the word that holds the reference of the view of the record at word `at`.
+#[inline(always)]
 pub fn view_word(at: u64) -> u64
     requires { own_view at < 2 ^ 64 }
     ensures { result ≡ view_word at }
@@ -41,6 +43,7 @@ pub fn view_word(at: u64) -> u64
 }
 
 /// The reference of the own view of the record at word `at`: the view follows the record's three words.
+#[inline(always)]
 pub fn own_view(at: u64) -> u64
     requires { own_view at < 2 ^ 64 }
     ensures { result ≡ own_view at }
@@ -49,6 +52,7 @@ pub fn own_view(at: u64) -> u64
 }
 
 /// How many words a view of so many pairs has.
+#[inline(always)]
 pub fn view_size(pairs: u64) -> u64
     requires { pairs < 2 ^ 32 }
     ensures { result ≡ view_size pairs }
@@ -57,6 +61,7 @@ pub fn view_size(pairs: u64) -> u64
 }
 
 /// How many words a record without a view of its own has.
+#[inline(always)]
 pub fn plain_record_size() -> u64
     ensures { result ≡ plain_record_size }
 {
@@ -64,6 +69,7 @@ pub fn plain_record_size() -> u64
 }
 
 /// How many words a record with its own view of so many pairs has.
+#[inline(always)]
 pub fn full_record_size(pairs: u64) -> u64
     requires { pairs < 2 ^ 32 }
     ensures { result ≡ full_record_size pairs }

@@ -1,5 +1,4 @@
-use Rattle.std.proofs.Common.{◌≡◌}
-use Rattle.partial_active.specs.GetSetAnswers.{GoTogether}
+use Rattle.partial_active.proofs.Common.{◌≡◌, GoTogether}
 use Rattle.partial_active.proofs.tests.drive_for.Given as goal
 
 -- the machine and its buffers go together

@@ -1,5 +1,4 @@
-use Rattle.std.proofs.lemmas.Bool.Decides.{Decides-at}
-use Rattle.partial_model.specs.Inner.Checks.{is_legal_outcome}
+use Rattle.partial_model.proofs.Common.{Decides-at, is_legal_outcome}
 use Rattle.partial_model.proofs.PortLaws.{Decides-is_legal_outcome}
 use Rattle.partial_model.proofs.checker.check_outcome.Goals as goal
 

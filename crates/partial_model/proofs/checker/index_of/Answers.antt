@@ -1,8 +1,4 @@
-use Rattle.std.proofs.Common.{ℕ, ◌≡◌, ◌<◌, ◌&&◌, nat_lt, not, Bool, true, false, length, refl, sym, ◌∙◌, subst}
-use Rattle.std.specs.List.{AllByRecursion, list_all, list_any}
-use Rattle.std.proofs.lemmas.Bool.{true≢false}
-use Rattle.partial_model.specs.declared.history.Applied.{Applied}
-use Rattle.partial_model.specs.Inner.Checks.{is_initial}
+use Rattle.partial_model.proofs.Common.{ℕ, ◌≡◌, ◌<◌, ◌&&◌, nat_lt, not, Bool, true, false, length, refl, sym, ◌∙◌, subst, AllByRecursion, list_all, list_any, true≢false, Applied, is_initial}
 use Rattle.partial_model.proofs.Decisions.{Decides-list_all, Decides-nat_lt}
 use Rattle.partial_model.proofs.checker.index_of.Goals as goal
 

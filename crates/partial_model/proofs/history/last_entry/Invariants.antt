@@ -1,5 +1,4 @@
-use Rattle.std.proofs.Common.{◌≡◌, take}
-use Rattle.partial_model.specs.History.{last_entry}
+use Rattle.partial_model.proofs.Common.{◌≡◌, take, last_entry}
 use Rattle.partial_model.proofs.history.last_entry.Given as goal
 
 -- no entry from the index on is for the component

@@ -1,4 +1,4 @@
-use Rattle.std.proofs.Common.{arith}
+use Rattle.partial_active.proofs.Common.{arith}
 use Rattle.partial_active.proofs.Extended.{length_normal}
 use Rattle.partial_active.proofs.get_set.GetSet.after_walk.Goals as goal
 

@@ -1,7 +1,4 @@
-use Rattle.std.proofs.Common.{subst, ap, sym, ◌∙◌}
-use Rattle.partial_words.specs.Layout.{IsLayout}
-use Rattle.partial_active.specs.declared.get_set.Stage.TheVariants.{ListHigh, Counter, Slot, Len, Index}
-use Rattle.partial_active.specs.GetSet.{GetSetState}
+use Rattle.partial_active.proofs.Common.{subst, ap, sym, ◌∙◌, IsLayout, ListHigh, Counter, Slot, Len, Index, GetSetState}
 use Rattle.partial_active.proofs.Answered.{Keeps, kept}
 use Rattle.partial_active.proofs.get_set.GetSet.answer.Goals as goal
 

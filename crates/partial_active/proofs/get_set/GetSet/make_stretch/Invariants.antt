@@ -1,6 +1,4 @@
-use Rattle.std.proofs.Common.{◌≡◌}
-use Rattle.partial_active.specs.GetSet.{left_of}
-use Rattle.partial_active.specs.Making.{IsAt}
+use Rattle.partial_active.proofs.Common.{◌≡◌, left_of, IsAt}
 use Rattle.partial_active.proofs.get_set.GetSet.make_stretch.Given as goal
 
 -- the steps are at this getSet and its buffers, and no others were made

@@ -1,4 +1,4 @@
-use Rattle.std.proofs.Common.{◌≤◌, vec_len, vec_capacity}
+use Rattle.partial_active.proofs.Common.{◌≤◌, vec_len, vec_capacity}
 use Rattle.partial_active.proofs.Marks.{IsEmptied}
 use Rattle.partial_active.proofs.index_set.IndexSet.clear.Given as goal
 

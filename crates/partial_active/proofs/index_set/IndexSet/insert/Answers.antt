@@ -1,5 +1,4 @@
-use Rattle.std.proofs.Common.{◌≡◌, vec_len, ap, sym, ◌∙◌, arith}
-use Rattle.partial_active.specs.IndexSet.{IndexList}
+use Rattle.partial_active.proofs.Common.{◌≡◌, vec_len, ap, sym, ◌∙◌, arith, IndexList}
 use Rattle.partial_active.proofs.Marks.{count_lt-length}
 use Rattle.partial_active.proofs.index_set.IndexSet.insert.Goals as goal
 

@@ -1,13 +1,6 @@
-use Rattle.std.proofs.Common.{◌≡◌, ◌&&◌, Bool, true, false, List, length, Option, None, Decides, MatchOption, sym, ap, ◌∙◌, subst}
-use Rattle.std.proofs.lemmas.Bool.Decides.{Decides-at}
-use Rattle.partial_model.specs.declared.history.Applied.{Applied}
-use Rattle.partial_model.specs.declared.history.Opening.{Opening}
-use Rattle.partial_model.specs.declared.call.Called.{Called}
+use Rattle.partial_model.proofs.Common.{◌≡◌, ◌&&◌, Bool, true, false, List, length, Option, None, Decides, MatchOption, sym, ap, ◌∙◌, subst, Decides-at, Applied, Opening, Called, LegalOutcome, places_by, is_history, are_in_time, notes_are_legal, claim_all, is_legal_outcome, IsIndexOf}
 use Rattle.partial_model.specs.declared.checker.index.Index.{Index}
 use Rattle.partial_model.specs.Checked.{Checked}
-use Rattle.partial_model.specs.Outcome.{LegalOutcome, places_by}
-use Rattle.partial_model.specs.Inner.Checks.{is_history, are_in_time, notes_are_legal, claim_all, is_legal_outcome}
-use Rattle.partial_model.specs.Inner.Indexed.{IsIndexOf}
 use Rattle.partial_model.proofs.PortLaws.{Decides-is_legal_outcome}
 use Rattle.partial_model.proofs.checker.Checker.check.Goals as goal
 

@@ -1,6 +1,4 @@
-use Rattle.std.proofs.Common.{ℕ, ◌≡◌, ◌≢◌, ◌==◌, false, ◌&&◌, List, [], ◌∷◌, length, take, refl, sym, ap, ◌∙◌, arith}
-use Rattle.partial_model.specs.History.{value_of}
-use Rattle.partial_model.specs.Inner.Checks.{hold}
+use Rattle.partial_model.proofs.Common.{ℕ, ◌≡◌, ◌≢◌, ◌==◌, false, ◌&&◌, List, [], ◌∷◌, length, take, refl, sym, ap, ◌∙◌, arith, value_of, hold}
 use Rattle.partial_model.proofs.checker.answers.hold.Goals as goal
 use Rattle.partial_model.proofs.StampLaws.{and_false}
 

@@ -1,6 +1,4 @@
-use Rattle.std.proofs.Common.{◌≡◌, take, drop}
-use Rattle.partial_model.specs.History.{value_of}
-use Rattle.partial_model.specs.Inner.Checks.{hold}
+use Rattle.partial_model.proofs.Common.{◌≡◌, take, drop, value_of, hold}
 use Rattle.partial_model.proofs.checker.answers.hold.Given as goal
 
 -- the positions from here on decide

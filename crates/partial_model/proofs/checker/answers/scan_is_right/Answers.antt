@@ -1,4 +1,4 @@
-use Rattle.std.proofs.Common.{length, sym, ◌∙◌}
+use Rattle.partial_model.proofs.Common.{length, sym, ◌∙◌}
 use Rattle.partial_model.proofs.CheckLaws.{Decides-names_components}
 use Rattle.partial_model.proofs.checker.answers.scan_is_right.Goals as goal
 

@@ -1,6 +1,4 @@
-use Rattle.std.proofs.Common.{◌≡◌, drop}
-use Rattle.partial_model.specs.Outcome.{places_by}
-use Rattle.partial_model.specs.Inner.Checks.{places_from, claim_all}
+use Rattle.partial_model.proofs.Common.{◌≡◌, drop, places_by, places_from, claim_all}
 use Rattle.partial_model.proofs.checker.claims.claim_all.Given as goal
 
 -- the calls from here on decide

@@ -1,5 +1,4 @@
-use Rattle.std.proofs.Common.{◌≡◌}
-use Rattle.partial_model.specs.Inner.Checks.{places_from}
+use Rattle.partial_model.proofs.Common.{◌≡◌, places_from}
 use Rattle.partial_model.proofs.checker.claims.next_place.Given as goal
 
 -- no entry by the port was passed

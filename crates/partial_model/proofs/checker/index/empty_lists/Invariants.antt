@@ -1,5 +1,4 @@
-use Rattle.std.proofs.Common.{ℕ, ◌≡◌, [], length}
-use Rattle.partial_model.specs.Inner.Indexed.{list_at}
+use Rattle.partial_model.proofs.Common.{ℕ, ◌≡◌, [], length, list_at}
 use Rattle.partial_model.proofs.checker.index.empty_lists.Given as goal
 
 -- each list so far is empty

@@ -1,8 +1,4 @@
-use Rattle.std.proofs.Common.{ℕ, ◌≡◌, ◌<◌, length, get_or, List, [], ◌∷◌, ◌++◌, slice_get, Some, sym, ap, subst, ◌∙◌, arith}
-use Rattle.std.proofs.lemmas.List.{length-set}
-use Rattle.std.proofs.lemmas.Option.{slice_get-get_or}
-use Rattle.partial_model.specs.declared.history.Applied.{Applied}
-use Rattle.partial_model.specs.Inner.Indexed.{AreListsOf}
+use Rattle.partial_model.proofs.Common.{ℕ, ◌≡◌, ◌<◌, length, get_or, [], ◌∷◌, ◌++◌, slice_get, Some, sym, ap, subst, ◌∙◌, arith, length-set, slice_get-get_or, Applied, AreListsOf}
 use Rattle.partial_model.proofs.IndexLaws.{list_at_within, lists_more}
 use Rattle.partial_model.proofs.NotesLemmas.{AllByRecursion-get}
 use Rattle.partial_model.proofs.checker.index.places_of.Goals as goal

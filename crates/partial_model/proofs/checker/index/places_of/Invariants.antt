@@ -1,5 +1,4 @@
-use Rattle.std.proofs.Common.{◌≡◌, length}
-use Rattle.partial_model.specs.Inner.Indexed.{AreListsOf}
+use Rattle.partial_model.proofs.Common.{◌≡◌, length, AreListsOf}
 use Rattle.partial_model.proofs.checker.index.places_of.Given as goal
 
 -- the lists hold the places of the entries so far

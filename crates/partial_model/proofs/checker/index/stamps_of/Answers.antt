@@ -1,7 +1,5 @@
-use Rattle.std.proofs.Common.{ℕ, ◌≡◌, nat_eq, length, get_or, slice_get, Option, Some, None, is_some, true, false, refl, sym, ap, subst, ◌∙◌, arith}
+use Rattle.partial_model.proofs.Common.{ℕ, ◌≡◌, nat_eq, length, sym, subst, ◌∙◌, arith, slice_get-get_or, AreStampsOf}
 use Rattle.std.specs.HashMap as hash
-use Rattle.std.proofs.lemmas.Option.{slice_get-get_or}
-use Rattle.partial_model.specs.Inner.Indexed.{AreStampsOf}
 use Rattle.partial_model.proofs.IndexLaws.{some_of, none_of, stamps_more, doubled, all_new}
 use Rattle.partial_model.proofs.checker.index.stamps_of.Goals as goal
 

@@ -1,6 +1,5 @@
-use Rattle.std.proofs.Common.{nat_eq}
+use Rattle.partial_model.proofs.Common.{nat_eq, AreStampsOf}
 use Rattle.std.specs.HashMap as hash
-use Rattle.partial_model.specs.Inner.Indexed.{AreStampsOf}
 use Rattle.partial_model.proofs.checker.index.stamps_of.Given as goal
 
 -- the map holds the stamps of the entries so far

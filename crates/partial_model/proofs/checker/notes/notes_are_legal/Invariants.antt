@@ -1,5 +1,4 @@
-use Rattle.std.proofs.Common.{◌≡◌, ◌≤◌, length, drop}
-use Rattle.partial_model.specs.Inner.Checks.{notes_are_legal}
+use Rattle.partial_model.proofs.Common.{◌≡◌, ◌≤◌, length, drop, notes_are_legal}
 use Rattle.partial_model.proofs.checker.notes.notes_are_legal.Given as goal
 
 -- the calls from here on decide, and the port has seen no more than the history

@@ -1,6 +1,4 @@
-use Rattle.std.proofs.Common.{◌≡◌, None, drop}
-use Rattle.std.specs.Option.{option_map}
-use Rattle.partial_model.specs.Inner.Checks.{are_in_time}
+use Rattle.partial_model.proofs.Common.{◌≡◌, None, drop, option_map, are_in_time}
 use Rattle.partial_model.proofs.checker.times.are_in_time.Given as goal
 
 -- the calls from here on decide

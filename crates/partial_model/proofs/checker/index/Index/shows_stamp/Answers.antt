@@ -1,6 +1,5 @@
-use Rattle.std.proofs.Common.{◌≡◌, nat_eq, sym, ◌∙◌}
+use Rattle.partial_model.proofs.Common.{nat_eq, sym, ◌∙◌, lt-leb}
 use Rattle.std.specs.HashMap as hash
-use Rattle.std.proofs.lemmas.Bool.{lt-leb}
 use Rattle.partial_model.proofs.IndexLaws.{shows_nothing, shows_late, shows_early}
 use Rattle.partial_model.proofs.checker.index.Index.shows_stamp.Goals as goal
 
