@@ -106,14 +106,14 @@ fn update_beside(
         let reply = Reply::Changed { by: old };
         return Ok(Ending::of(lines.ends_with(reply), reply));
     }
-    let (mut behind, written) = put(lines, &mut core, change, old);
+    let written = put(&mut lines, &mut core, change, old);
     let Some(at) = written else {
         let reply = Reply::Refused(Refused::PoolSpent);
-        return Ok(Ending::of(behind.ends_with(reply), reply));
+        return Ok(Ending::of(lines.ends_with(reply), reply));
     };
-    let found = behind.follow(Step::Exchange(component, old, at));
+    let found = lines.follow(Step::Exchange(component, old, at));
     let reply = reply_to(change, Exchanged::of(old, at, found));
-    let mut ending = Ending::of(behind.ends_with(reply), reply);
+    let mut ending = Ending::of(lines.ends_with(reply), reply);
     ending.viewed = !core.found_none();
     Ok(ending)
 }
@@ -140,7 +140,7 @@ fn scan_beside(
     let mut lines = Plain::open(alloc, sizes, initial, beside, seed)?;
     let size = announcement_size(which.len() as u64);
     let at = lines.follow(Step::Add(sizes.pool_counter(), size));
-    let (mut behind, scanned) = scan(lines, &mut core, which, at, &mut into);
+    let scanned = scan(&mut lines, &mut core, which, at, &mut into);
     let reply = match scanned {
         Ok(scanned) => Reply::Scanned {
             collects: scanned.collects,
@@ -148,8 +148,8 @@ fn scan_beside(
         },
         Err(cause) => Reply::Refused(cause),
     };
-    let same = scanned.is_err() || has_values(&behind.beside, &into);
-    Ok(Ending::of(behind.ends_with(reply) && same, reply))
+    let same = scanned.is_err() || has_values(&lines.beside, &into);
+    Ok(Ending::of(lines.ends_with(reply) && same, reply))
 }
 
 #[test]

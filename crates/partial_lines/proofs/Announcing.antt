@@ -1,14 +1,7 @@
 -- The announcement of a scan in straight lines: which store is due, and where its answer leads.
-use Rattle.std.proofs.Common.{ℕ, ◌≡◌, ◌+◌, ◌<◌, ◌==◌, Bool, true, false, cond, length, Some, refl, sym, ap, ◌∙◌, arith}
-use Rattle.std.specs.Prelude.{slice_index}
-use Rattle.std.proofs.lemmas.Bool.{ne_eqb, eq-eqb, eqb-true, eqb-false, le-ltb}
+use Rattle.partial_lines.proofs.Common.{ℕ, ◌≡◌, ◌+◌, ◌<◌, ◌==◌, Bool, true, false, cond, length, Some, refl, sym, ap, ◌∙◌, arith, slice_index, ne_eqb, eq-eqb, eqb-true, eqb-false, le-ltb, pool_end, Stage, ScanBegun, StoringAnnouncement, CoreState, advance, advance_at, at_stage, begin_joining, pool_refused, step_of, announcing}
 use Rattle.partial_words.specs.declared.step.Step.TheVariants.{Store}
 use Rattle.partial_words.specs.Announcement.{announcement_block, announcement_size}
-use Rattle.partial_words.specs.Layout.{pool_end}
-use Rattle.partial_machine.specs.declared.stage.Stage.{Stage}
-use Rattle.partial_machine.specs.declared.stage.Stage.TheVariants.{ScanBegun, StoringAnnouncement}
-use Rattle.partial_machine.specs.Machine.{CoreState, advance, advance_at, at_stage, begin_joining, pool_refused, step_of}
-use Rattle.partial_lines.specs.Lines.{announcing}
 
 abbrev either : CoreState → ℕ → ℕ → Bool → CoreState
 either s at k b = cond b (begin_joining s at) (at_stage s (StoringAnnouncement at k))

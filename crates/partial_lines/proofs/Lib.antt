@@ -1,3 +1,4 @@
+mod Common
 mod Writing
 mod Parts
 mod Announcing

@@ -1,8 +1,6 @@
 -- The getSet and the embedded scan of a call in straight lines: where an answer leads its machine.
-use Rattle.std.proofs.Common.{ℕ, ◌≡◌, ◌==◌, cond, length, Option, Some, None, true, refl, sym, ap, subst, ◌∙◌}
-use Rattle.std.specs.Prelude.{IsSome}
+use Rattle.partial_lines.proofs.Common.{ℕ, ◌≡◌, ◌==◌, cond, length, Option, Some, None, true, refl, sym, ap, subst, ◌∙◌, IsSome, false≢true, Stage, GettingSet, Viewing, ClaimingRecord, Scanning, Leaving, scan_begun, scan_step, set_begun, set_step, CoreState, advance, at_stage, getting, scanning, step_at, step_of, with_getting, with_scanning, IsSound, is_sound_at, GetsOn, IsScanStage, IsViewing, behind_scan, positions_at, set_kept, set_made}
 use Rattle.std.specs.Option.{option_map_or, is_some}
-use Rattle.std.proofs.lemmas.Bool.{false≢true}
 use Rattle.partial_words.specs.declared.step.Step.{Step}
 use Rattle.partial_active.specs.GetSet as finding
 use Rattle.partial_active.specs.GetSetAnswers as finding_answers
@@ -10,13 +8,7 @@ use Rattle.partial_embedded.specs.Embedded as viewing
 use Rattle.partial_embedded.specs.declared.embedded.Stage as viewed
 use Rattle.partial_embedded.specs.declared.embedded.Stage.TheVariants.{Done}
 use Rattle.partial_machine.specs.declared.stage.Change.{Change}
-use Rattle.partial_machine.specs.declared.stage.Stage.{Stage}
-use Rattle.partial_machine.specs.declared.stage.Stage.TheVariants.{GettingSet, Viewing, ClaimingRecord, Scanning, Leaving}
-use Rattle.partial_machine.specs.Lines.{scan_begun, scan_step, set_begun, set_step}
-use Rattle.partial_machine.specs.Machine.{CoreState, advance, at_stage, getting, scanning, step_at, step_of, with_getting, with_scanning}
 use Rattle.partial_machine.specs.Possible.{IsPossible, IsPossibleAt}
-use Rattle.partial_machine.specs.Sound.{IsSound, is_sound_at}
-use Rattle.partial_lines.specs.Lines.{GetsOn, IsScanStage, IsViewing, behind_scan, positions_at, set_kept, set_made}
 
 -- what a getSet leaves that is over
 module _ (s : CoreState) (c : Change) (old : ℕ) where

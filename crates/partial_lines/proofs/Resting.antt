@@ -1,15 +1,8 @@
 -- The machine that a port keeps behind a call: with the marks of the call's machine, and sound.
-use Rattle.std.proofs.Common.{◌≡◌, Bool, refl, sym, ap, subst, ◌∙◌}
-use Rattle.std.specs.Prelude.{nat_eq}
+use Rattle.partial_lines.proofs.Common.{◌≡◌, Bool, refl, sym, ap, subst, ◌∙◌, nat_eq, Layout, Stage, Idle, CoreState, at_stage, AreComponents, IsSound, is_sound_at}
 use Rattle.std.specs.List.{IsDistinct}
-use Rattle.partial_words.specs.Layout.{Layout}
 use Rattle.partial_active.specs.Found.{Buffers, IsFor as AreBuffersFor}
 use Rattle.partial_active.specs.GetSet.{GetSetState}
-use Rattle.partial_embedded.specs.Embedded.{RowsState, IsFor as AreRowsFor}
-use Rattle.partial_machine.specs.declared.stage.Stage.{Stage}
-use Rattle.partial_machine.specs.declared.stage.Stage.TheVariants.{Idle}
-use Rattle.partial_machine.specs.Machine.{CoreState, at_stage}
-use Rattle.partial_machine.specs.Sound.{AreComponents, IsSound, is_sound_at}
 use Rattle.partial_machine.proofs.Laws.{rests_are_sound}
 use Rattle.partial_core.specs.Part.{IsMarkedLike}
 use Rattle.partial_lines.specs.Replies.{RestsLike}

@@ -1,6 +1,7 @@
 //! The getSet of an update. Its steps are steps of the call.
 
 ghost use Rattle.std.specs.Prelude.{◌≡◌};
+ghost use Rattle.std.proofs.Common.{refl, ◌∙◌};
 ghost use Rattle.partial_machine.specs.Machine.{getting};
 ghost use Rattle.partial_lines.specs.Lines.{IsGetting, GetsOn, gets_itself, gets_further};
 
@@ -10,27 +11,28 @@ use partial_words::Step;
 
 /// The steps of a getSet, to which a call has come.
 #[derive(Drop)]
-pub struct SetSteps<M> {
+pub struct SetSteps<'a, M> {
     /// Whoever makes the steps of the call.
-    pub lines: M,
+    pub lines: &'a mut M,
 }
 
-impl<M: Makes> Steps for SetSteps<M> {
-    ghost goes = { λ l. M.goes l.lines × IsGetting (M.machine l.lines) };
+impl<'a, M: Makes> Steps for SetSteps<'a, M> {
+    ghost goes = { λ l. M.goes l.lines.now × IsGetting (M.machine l.lines.now) };
 
-    ghost set = { λ l. getting (M.machine l.lines) };
+    ghost set = { λ l. getting (M.machine l.lines.now) };
 
-    ghost follows = { λ l k. M.leads l.lines k.lines × GetsOn (M.machine l.lines) (M.machine k.lines) };
+    ghost follows = { λ l k. ((k.lines.ghost_name ≡ l.lines.ghost_name) × M.leads l.lines.now k.lines.now) ×
+        GetsOn (M.machine l.lines.now) (M.machine k.lines.now) };
 
     #[inline(always)]
     fn make(&mut self, step: Step) -> u64 {
         self.lines.make(step)
     }
 
-    ghost follows_itself = { λ l. (M.leads_itself l.lines, gets_itself (M.machine l.lines)) };
+    ghost follows_itself = { λ l. ((refl, M.leads_itself l.lines.now), gets_itself (M.machine l.lines.now)) };
 
     ghost follows_on = { λ l k j f g. (
-      M.leads_on l.lines k.lines j.lines f.0 g.0,
-      gets_further (M.machine l.lines) (M.machine k.lines) (M.machine j.lines) f.1 g.1,
+      (g.0.0 ∙ f.0.0, M.leads_on l.lines.now k.lines.now j.lines.now f.0.1 g.0.1),
+      gets_further (M.machine l.lines.now) (M.machine k.lines.now) (M.machine j.lines.now) f.1 g.1,
     ) };
 }

@@ -16,36 +16,34 @@ use crate::embedded::scan_found;
 use crate::get_set::SetSteps;
 use crate::makes::Makes;
 use partial_core::{Change, Core};
-use partial_words::{Step, plain_record_size};
+use partial_words::{Step, plain_record_size, value_word, view_word};
 
 /// Makes an update that has loaded `old` as its component's record, from its getSet up to the exchange of the
 /// component, and returns the reference of its record. The exchange of `old` for it is due then, and the caller
 /// makes it. Returns `None` when the claim of the record went past the end of the pool: the update is refused,
 /// and the port marked.
 #[inline(always)]
-pub fn put<M: Makes>(lines: M, core: &mut Core, change: Change, old: u64) -> (M, Option<u64>)
-    requires goes { M.goes lines }
+pub fn put<M: Makes>(lines: &mut M, core: &mut Core, change: Change, old: u64) -> Option<u64>
+    requires goes { M.goes lines.old }
     requires idle { core.old.stage ≡ Idle }
     requires sound { IsSound core.old }
-    requires machine { M.machine lines ≡ set_made (set_begun core.old) change old }
-    ensures goes { M.goes result.0 }
-    ensures leads { M.leads lines result.0 }
-    ensures due { IfSome result.1 (λ at. (M.machine result.0).stage ≡ Exchanging change old at) }
-    ensures refused { IfNone result.1 (reply_of (M.machine result.0) ≡ Some (reply.Refused refused.PoolSpent)) }
-    ensures rests { RestsLike (M.machine result.0) core.new }
+    requires machine { M.machine lines.old ≡ set_made (set_begun core.old) change old }
+    ensures goes { M.goes lines.new }
+    ensures leads { M.leads lines.old lines.new }
+    ensures due { IfSome result (λ at. (M.machine lines.new).stage ≡ Exchanging change old at) }
+    ensures refused { IfNone result (reply_of (M.machine lines.new) ≡ Some (reply.Refused refused.PoolSpent)) }
+    ensures rests { RestsLike (M.machine lines.new) core.new }
 {
     let mut steps = SetSteps { lines };
     let set = core.make_set(&mut steps);
-    let SetSteps { mut lines } = steps;
+    let SetSteps { lines } = steps;
     if core.found_none() {
         core.keep_list_mark(&set);
-        let at = write_plain(&mut lines, core, change, old);
-        return (lines, at);
+        return write_plain(lines, core, change, old);
     }
     core.keep_set(set);
-    let mut behind = scan_found(lines, core);
-    let at = write_record(&mut behind, core, change, old);
-    (behind, at)
+    scan_found(lines, core);
+    write_record(lines, core, change, old)
 }
 
 // Claims and writes the record of an update that found no announced index. The record has no view. Returns its
@@ -74,8 +72,8 @@ fn write_plain<M: Makes>(lines: &mut M, core: &mut Core, change: Change, old: u6
         return None;
     }
     lines.make(Step::Store(at as u32, old));
-    lines.make(Step::Store((at + 1) as u32, change.value));
-    lines.make(Step::Store((at + 2) as u32, 0));
+    lines.make(Step::Store(value_word(at) as u32, change.value));
+    lines.make(Step::Store(view_word(at) as u32, 0));
     Some(at)
 }
 
@@ -101,7 +99,7 @@ fn write_record<M: Makes>(lines: &mut M, core: &mut Core, change: Change, old: u
     store_word(lines, core, change, old, at, 0);
     store_word(lines, core, change, old, at, 1);
     store_word(lines, core, change, old, at, 2);
-    for k in 3..size {
+    for k in plain_record_size()..size {
         store_word(lines, core, change, old, at, k);
     }
     Some(at)

@@ -34,48 +34,47 @@ pub struct Scanned {
 /// no slot is left for it: the port is marked, and `into` is unchanged.
 #[inline(always)]
 pub fn scan<M: Makes>(
-    mut lines: M,
+    lines: &mut M,
     core: &mut Core,
     which: &[u32],
     at: u64,
     into: &mut [u64],
-) -> (M, Result<Scanned, Refused>)
-    requires goes { M.goes lines }
+) -> Result<Scanned, Refused>
+    requires goes { M.goes lines.old }
     requires idle { core.old.stage ≡ Idle }
     requires sound { IsSound core.old }
     requires possible { IsPossible (scan_asked core.old which.now) at }
-    requires machine { M.machine lines ≡ advance (scan_asked core.old which.now) at }
+    requires machine { M.machine lines.old ≡ advance (scan_asked core.old which.now) at }
     requires lengths { length into.old ≡ length which.now }
-    ensures goes { M.goes result.0 }
-    ensures leads { M.leads lines result.0 }
-    ensures replies { reply_of (M.machine result.0) ≡ Some (scan_reply result.1) }
-    ensures asked { (M.machine result.0).asked ≡ which.now }
-    ensures rows { core.new.rows ≡ (M.machine result.0).rows }
-    ensures rests { RestsLike (M.machine result.0) core.new }
-    ensures copied { IfOk result.1 (λ _. into.new ≡ map (slice_index core.new.rows.values) which.now) }
-    ensures unchanged { IfErr result.1 (λ _. into.new ≡ into.old) }
+    ensures goes { M.goes lines.new }
+    ensures leads { M.leads lines.old lines.new }
+    ensures replies { reply_of (M.machine lines.new) ≡ Some (scan_reply result) }
+    ensures asked { (M.machine lines.new).asked ≡ which.now }
+    ensures rows { core.new.rows ≡ (M.machine lines.new).rows }
+    ensures rests { RestsLike (M.machine lines.new) core.new }
+    ensures copied { IfOk result (λ _. into.new ≡ map (slice_index core.new.rows.values) which.now) }
+    ensures unchanged { IfErr result (λ _. into.new ≡ into.old) }
 {
     let sizes = core.sizes();
     let size = announcement_size(which.len() as u64);
     if at + size > u64::from(sizes.pool_end()) {
         core.mark_pool();
-        return (lines, Err(Refused::PoolSpent));
+        return Err(Refused::PoolSpent);
     }
     for k in 0..size {
-        store_index(&mut lines, which, at, k);
+        store_index(lines, which, at, k);
     }
-    let Some(slot) = join(&mut lines, sizes, at) else {
+    let Some(slot) = join(lines, sizes, at) else {
         core.mark_slots();
-        return (lines, Err(Refused::SlotsSpent));
+        return Err(Refused::SlotsSpent);
     };
-    let (mut behind, embedded) = scan_asked(lines, core, which);
+    let embedded = scan_asked(lines, core, which);
     core.copy_values(which, into);
-    behind.make(Step::Store(sizes.slot_word(slot), 1));
-    let scanned = Scanned {
+    lines.make(Step::Store(sizes.slot_word(slot), 1));
+    Ok(Scanned {
         collects: embedded.collects(),
         borrowed: embedded.borrowed(),
-    };
-    (behind, Ok(scanned))
+    })
 }
 
 // Stores word `k` of the announcement of these positions, whose block begins at word `at`.

@@ -1,19 +1,10 @@
 -- A memory that is closed with all its ports: each entry is in the notes of exactly one.
-use Rattle.std.proofs.Common.{ℕ, zero, suc, ◌≡◌, ◌≢◌, ◌+◌, ◌<◌, ◌≤◌, List, [], ◌∷◌, ◌++◌, map, Contains, refl, sym, ◌∙◌, ap, subst, Some, slice_get, inl, inr, arith}
-use Rattle.std.specs.List.{AllByRecursion, range_with_len}
-use Rattle.std.proofs.lemmas.Bool.{cases_lt}
-use Rattle.atomic_table.specs.Seated.{TableId}
-use Rattle.partial_model.specs.declared.history.Applied.{Applied}
+use Rattle.partial_memory.proofs.Common.{ℕ, zero, suc, ◌≡◌, ◌≢◌, ◌+◌, ◌<◌, ◌≤◌, List, [], ◌∷◌, ◌++◌, map, Contains, refl, sym, ◌∙◌, ap, subst, Some, slice_get, inl, inr, arith, AllByRecursion, range_with_len, cases_lt, TableId, Applied, all_append, all_at, all_before, all_after, all_front, all_back, all_join, all_unmap, About, IsShuffle, newcomers, IsOf, MemoryView, PortView, new_ports, Closes, IsPortOf}
 use Rattle.partial_model.specs.Notes.{LegalNotes}
 use Rattle.partial_model.specs.Outcome.{places_written}
-use Rattle.partial_model.proofs.AllLemmas.{all_append, all_at, all_before, all_after, all_front, all_back, all_join, all_unmap}
 use Rattle.partial_model.proofs.Entries.{entries_are_noted, written_at, written_by}
 use Rattle.partial_model.proofs.NotesLemmas.{AllByRecursion-get}
-use Rattle.partial_memory.specs.declared.rule.About.{About}
 use Rattle.partial_memory.specs.declared.closed.Closed.{Closed}
-use Rattle.partial_memory.specs.Rule.{IsShuffle, newcomers}
-use Rattle.partial_memory.specs.Ports.{IsOf, MemoryView, PortView, new_ports}
-use Rattle.partial_memory.specs.Closing.{Closes, IsPortOf}
 use Rattle.partial_memory.specs.AllPorts.{AreAllPorts, ClosedWithAllPorts, IsInOnePort, IsPortIn, OpenedPortsAreAll}
 use Rattle.partial_memory.proofs.Shuffles.{find, same_order}
 
@@ -85,7 +76,15 @@ unmapped {A} {B} f (x ∷ xs) (b ∷ before) y after e =
     let one : f x ≡ b = cc in
     let rest : map f xs ≡ before ++ y ∷ after = cc in
     let u = unmapped f xs before y after rest in
-    record { front = x ∷ u.front; at = u.at; back = u.back; is = ap (λ l. x ∷ l) u.is; before_is = ap (λ z. z ∷ map f u.front) one ∙ ap (λ l. b ∷ l) u.before_is; at_is = u.at_is; after_is = u.after_is }
+    record {
+      front = x ∷ u.front;
+      at = u.at;
+      back = u.back;
+      is = ap (λ l. x ∷ l) u.is;
+      before_is = ap (λ z. z ∷ map f u.front) one ∙ ap (λ l. b ∷ l) u.before_is;
+      at_is = u.at_is;
+      after_is = u.after_is;
+    }
 
 module _ (m : MemoryView) (ports : List PortView) (closed : Closed) (all : AreAllPorts m ports) (c : Closes m ports closed) where
   port_in : (port : PortView) → IsOf m port → IsPortOf c.log port → IsPortIn m.about.opening c.log port
@@ -110,8 +109,10 @@ module _ (m : MemoryView) (ports : List PortView) (closed : Closed) (all : AreAl
       let f = find r.before e.port r.after (map (λ (p : PortView). p.number) ports) (subst (λ l. IsShuffle l (map (λ (p : PortView). p.number) ports)) r.is all.numbers) in
       let u = unmapped (λ (p : PortView). p.number) ports f.before e.port f.after f.is in
       let others : AllByRecursion (λ i. i ≢ e.port) (f.before ++ f.after) = shuffled (λ i. i ≢ e.port) (r.before ++ r.after) (f.before ++ f.after) f.less r.others in
-      let front = all_unmap (λ i. i ≢ e.port) (λ (p : PortView). p.number) u.front (subst (AllByRecursion (λ i. i ≢ e.port)) (sym u.before_is) (all_front (λ i. i ≢ e.port) f.before f.after others)) in
-      let back = all_unmap (λ i. i ≢ e.port) (λ (p : PortView). p.number) u.back (subst (AllByRecursion (λ i. i ≢ e.port)) (sym u.after_is) (all_back (λ i. i ≢ e.port) f.before f.after others)) in
+      let front = all_unmap (λ i. i ≢ e.port) (λ (p : PortView). p.number) u.front
+      (subst (AllByRecursion (λ i. i ≢ e.port)) (sym u.before_is) (all_front (λ i. i ≢ e.port) f.before f.after others)) in
+      let back = all_unmap (λ i. i ≢ e.port) (λ (p : PortView). p.number) u.back
+      (subst (AllByRecursion (λ i. i ≢ e.port)) (sym u.after_is) (all_back (λ i. i ≢ e.port) f.before f.after others)) in
       let each : AllByRecursion (IsPortOf c.log) (u.front ++ u.at ∷ u.back) = subst (AllByRecursion (IsPortOf c.log)) u.is c.each in
       let told = all_at (IsPortOf c.log) u.front u.at u.back each in
       record {

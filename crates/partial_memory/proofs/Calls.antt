@@ -1,19 +1,5 @@
 -- The steps of a call, one after the other.
-use Rattle.std.proofs.Common.{ℕ, ◌≡◌, ◌+◌, ◌<◌, ◌++◌, ◌⊎◌, ◌||◌, false, cond, Some, None, List, [], ◌∷◌, length, sym, ap, subst, ◌∙◌, inl, inr, arith}
-use Rattle.std.proofs.lemmas.List.{length_push}
-use Rattle.partial_words.specs.declared.step.Step.{Step}
-use Rattle.partial_words.specs.Layout.{Layout, IsLayout, total}
-use Rattle.partial_words.specs.Step.{word_of}
-use Rattle.partial_machine.specs.Machine.{CoreState, advance, step_of, reply_of}
-use Rattle.partial_machine.specs.Calls.{is_begun}
-use Rattle.partial_machine.specs.Behind.{refuses_pool, refuses_slots}
-use Rattle.partial_machine.proofs.Laws.{due_is_unreplied, due_words_are_there}
-use Rattle.partial_core.specs.Part.{Part, Kept, HasBegun, IsMachineOf}
-use Rattle.partial_core.specs.Steps.{Tells}
-use Rattle.partial_core.proofs.Laws.{first_steps_make_calls, further_steps_make_calls}
-use Rattle.partial_memory.specs.declared.rule.About.{About}
-use Rattle.partial_memory.specs.Rule.{Seated, AreByOpened, Told}
-use Rattle.partial_memory.specs.Inner.Steps.{Begins, CallMade}
+use Rattle.partial_memory.proofs.Common.{ℕ, ◌≡◌, ◌+◌, ◌<◌, ◌++◌, ◌⊎◌, ◌||◌, false, cond, Some, None, List, [], ◌∷◌, length, sym, ap, subst, ◌∙◌, inl, inr, arith, length_push, Step, Layout, IsLayout, total, word_of, CoreState, advance, step_of, reply_of, is_begun, refuses_pool, refuses_slots, due_is_unreplied, due_words_are_there, Part, Kept, HasBegun, IsMachineOf, Tells, first_steps_make_calls, further_steps_make_calls, About, Seated, AreByOpened, Told, Begins, CallMade}
 
 -- the machine that a step leads to, and its port
 module _ (x : Seated) (c : CoreState) (y : Seated) (a : ℕ) (z : Seated) (about : y.about ≡ x.about) (t : Told c y a z) where

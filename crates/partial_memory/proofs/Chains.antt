@@ -1,27 +1,15 @@
 -- The chains of a closed memory, read from its words.
-use Rattle.std.proofs.Common.{ℕ, zero, suc, ◌≡◌, ◌+◌, ◌≢◌, ◌<◌, ◌≤◌, ◌++◌, ◌⊎◌, Bool, true, false, List, [], ◌∷◌, length, map, get_or, refl, sym, ap, subst, ◌∙◌, inl, inr, arith, append_assoc, append-nil, length-append}
-use Rattle.std.specs.List.{AllByRecursion, IsDistinct, list_any}
+use Rattle.partial_memory.proofs.Common.{ℕ, zero, suc, ◌≡◌, ◌+◌, ◌≢◌, ◌<◌, ◌≤◌, ◌++◌, ◌⊎◌, Bool, true, false, List, [], ◌∷◌, length, map, get_or, refl, sym, ap, subst, ◌∙◌, inl, inr, arith, append_assoc, append-nil, length-append, AllByRecursion, list_any, eqb-true, false≢true, ltb-false, ltb-true, ne_eqb, or_cases, nat_lt, get_or_append_left, get_or_push, length-map, length_push, some, some-injective, some-ne-none, get_elem?, Applied, Opening, all_map, all_weaker, IsLink, chain_of, Layout, RecordsAreWithin, IsWhole, AreValues, AreChains, AreChainsFrom}
+use Rattle.std.specs.List.{IsDistinct}
 use Rattle.std.specs.declared.alloc.Global.{Global}
 use Rattle.std.specs.declared.vec.Vec.{Vec}
-use Rattle.std.proofs.lemmas.Bool.{eqb-true, false≢true, ltb-false, ltb-true, ne_eqb, or_cases}
-use Rattle.std.specs.Prelude.{nat_lt}
-use Rattle.std.proofs.lemmas.List.{get_or_append_left, get_or_push, length-map, length_push}
 use Rattle.std.proofs.lemmas.Map.Keys.{IsDistinct-cons}
 use Rattle.std.proofs.lemmas.Map.Steps.{length-le_from_distinct_below}
 use Rattle.std.proofs.Math.Dec.{eqb}
-use mathlib.Core.Option.{some, some-injective, some-ne-none}
-use lib.ListN.{get_elem?}
-use Rattle.partial_model.specs.declared.history.Applied.{Applied}
-use Rattle.partial_model.specs.declared.history.Opening.{Opening}
 use Rattle.partial_model.specs.History.{HaveDistinctStamps, value_of as value_after}
-use Rattle.partial_model.proofs.AllLemmas.{all_map, all_weaker}
 use Rattle.partial_words.specs.declared.record.Link.{Link}
-use Rattle.partial_words.specs.Chain.{IsLink, chain_of}
-use Rattle.partial_words.specs.Layout.{Layout}
 use Rattle.partial_words.specs.Record.{prev_of, value_of, view_word}
 use Rattle.partial_words.proofs.ChainLemmas.{chain_all, chain_count, chain_head}
-use Rattle.partial_core.specs.Ports.{RecordsAreWithin}
-use Rattle.partial_memory.specs.Closing.{IsWhole, AreValues, AreChains, AreChainsFrom}
 
 -- a word of a closed table
 pub elem_or : (ws : List ℕ) (k x : ℕ) → get_elem? ws k ≡ some x → get_or ws k 0 ≡ x

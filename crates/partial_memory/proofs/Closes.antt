@@ -1,21 +1,6 @@
 -- A memory that is closed: the ports that were handed in, and the last state.
-use Rattle.std.proofs.Common.{ℕ, ◌≡◌, ◌++◌, List, [], ◌∷◌, length, map, refl, sym, ap, subst, ◌∙◌, append_assoc, append-nil}
-use Rattle.std.specs.List.{AllByRecursion}
-use Rattle.std.proofs.lemmas.List.{nil_from_length}
-use mathlib.Core.Option.{some}
-use lib.ListN.{get_elem?}
-use Rattle.atomic_table.specs.Table.{State, Me}
-use Rattle.atomic_table.specs.Seated.{TableId}
-use Rattle.partial_model.specs.declared.history.Applied.{Applied}
-use Rattle.partial_model.proofs.AllLemmas.{all_append, all_back, all_front}
-use Rattle.partial_words.specs.Layout.{total}
-use Rattle.partial_core.specs.Ports.{RecordsAreWithin}
-use Rattle.partial_core.proofs.Laws.{lawful_ports_fit, lawful_records_are_within}
-use Rattle.partial_memory.specs.declared.rule.About.{About}
+use Rattle.partial_memory.proofs.Common.{ℕ, ◌≡◌, ◌++◌, List, [], ◌∷◌, length, map, refl, sym, ap, subst, ◌∙◌, append_assoc, append-nil, AllByRecursion, nil_from_length, some, get_elem?, State, Me, TableId, Applied, all_append, all_back, all_front, total, RecordsAreWithin, lawful_ports_fit, lawful_records_are_within, About, Seated, AreByOpened, AreOf, IsIn, IsKept, IsLawfulWith, IsShuffle, parts_of, IsOf, MemoryView, PortView, port_view, AreChains, AreValues, Closes, IsPortOf}
 use Rattle.partial_memory.specs.declared.closed.Closed.{Closed}
-use Rattle.partial_memory.specs.Rule.{Seated, AreByOpened, AreOf, IsIn, IsKept, IsLawfulWith, IsShuffle, parts_of}
-use Rattle.partial_memory.specs.Ports.{IsOf, MemoryView, PortView, port_view}
-use Rattle.partial_memory.specs.Closing.{AreChains, AreValues, Closes, IsPortOf}
 use Rattle.partial_memory.specs.Lawfulness.{ClosesLawfully}
 use Rattle.partial_memory.proofs.Looks.{see_all, to_front}
 use Rattle.partial_memory.proofs.Shuffles.{put_elsewhere}

@@ -1,16 +1,8 @@
 -- What follows from how a call was led to its reply, and why a call is refused at once.
-use Rattle.std.proofs.Common.{ℕ, ◌≡◌, ◌+◌, ◌<◌, ◌≤◌, Some, subst, ◌∙◌}
-use Rattle.partial_model.specs.declared.call.Refused.{Refused}
+use Rattle.partial_memory.proofs.Common.{ℕ, ◌≡◌, ◌+◌, ◌<◌, ◌≤◌, Some, subst, ◌∙◌, Refused, Add, Layout, greatest_record, pool_counter, pool_end, slot_counter, CoreState, fresh, step_of, IsOldMark, IsRefusedBy, calls_are_refused_at_once, calls_claim_once, answers_of, PortView}
 use Rattle.partial_model.specs.declared.call.Refused.TheVariants as refused
-use Rattle.partial_words.specs.declared.step.Step.TheVariants.{Add}
-use Rattle.partial_words.specs.Layout.{Layout, greatest_record, pool_counter, pool_end, slot_counter}
-use Rattle.partial_machine.specs.Machine.{CoreState, fresh, step_of}
-use Rattle.partial_machine.specs.Behind.{IsOldMark, IsRefusedBy}
-use Rattle.partial_machine.proofs.Laws.{calls_are_refused_at_once, calls_claim_once}
-use Rattle.partial_core.specs.Part.{answers_of}
-use Rattle.partial_memory.specs.Ports.{PortView}
 use Rattle.partial_memory.specs.Led.{HasMark, LateRefusalsArePastEnd, LedCallsClaimOnce, RefusalsAtOnceFit}
-use Rattle.partial_memory.proofs.Replies.{run_sizes}
+use Rattle.partial_machine.proofs.Behind.{run_sizes}
 
 pub led_calls_claim_once : LedCallsClaimOnce
 led_calls_claim_once p q c r w = calls_claim_once w.begun w.machine (answers_of q.kept) w.began.layout w.began.sound w.run

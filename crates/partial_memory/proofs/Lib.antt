@@ -1,3 +1,4 @@
+mod Common
 mod Shuffles
 mod Views
 mod Steps

@@ -1,18 +1,6 @@
 -- A look at the whole history in a meeting, and the ports of two seats that come together.
-use Rattle.std.proofs.Common.{ℕ, zero, suc, ◌≡◌, ◌<◌, ◌++◌, List, [], ◌∷◌, map, set, refl, sym, ap, subst, ◌∙◌, append_assoc}
-use Rattle.std.specs.List.{AllByRecursion}
-use mathlib.Core.Option.{some, some-injective, some-ne-none}
-use lib.ListN.{get_elem?}
+use Rattle.partial_memory.proofs.Common.{ℕ, zero, suc, ◌≡◌, ◌<◌, ◌++◌, List, [], ◌∷◌, map, set, refl, sym, ap, subst, ◌∙◌, append_assoc, AllByRecursion, some, some-injective, some-ne-none, get_elem?, Me, keeps, Allows, Joins, Applied, all_at, all_join, all_before, all_after, port_of, with_seen, Lawful, Fits, lawful_ports_fit, looks_stay_lawful, About, Seated, AreByOpened, AreOf, AreOpened, IsIn, IsKept, IsShuffle, parts_of, flatten, having_met, looks}
 use lib.Seq.{set-get_or}
-use Rattle.atomic_table.specs.Table.{Me, keeps, Allows, Joins}
-use Rattle.partial_model.specs.declared.history.Applied.{Applied}
-use Rattle.partial_model.proofs.AllLemmas.{all_at, all_join, all_before, all_after}
-use Rattle.partial_core.specs.Part.{port_of, with_seen}
-use Rattle.partial_core.specs.Lawful.{Lawful}
-use Rattle.partial_core.specs.Steps.{Fits}
-use Rattle.partial_core.proofs.Laws.{lawful_ports_fit, looks_stay_lawful}
-use Rattle.partial_memory.specs.declared.rule.About.{About}
-use Rattle.partial_memory.specs.Rule.{Seated, AreByOpened, AreOf, AreOpened, IsIn, IsKept, IsShuffle, parts_of, flatten, having_met, looks}
 use Rattle.partial_memory.proofs.Shuffles.{find, put_elsewhere}
 use Rattle.partial_memory.proofs.Views.{around, reordered}
 use Rattle.partial_memory.proofs.Steps.{parts_split, entries_opened}

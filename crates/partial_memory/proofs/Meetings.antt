@@ -1,15 +1,6 @@
 -- Two ports that meet.
-use Rattle.std.proofs.Common.{ℕ, ◌≡◌, ◌++◌, List, [], ◌∷◌, map, refl, sym, ap, subst, ◌∙◌}
-use Rattle.std.specs.List.{AllByRecursion}
-use Rattle.atomic_table.specs.Table.{Me}
-use Rattle.atomic_table.specs.Seated.{TableId}
-use Rattle.partial_model.specs.declared.history.Applied.{Applied}
-use Rattle.partial_machine.specs.Machine.{CoreState}
-use Rattle.partial_memory.specs.declared.rule.About.{About}
-use Rattle.partial_memory.specs.Rule.{Seated, AreOf, IsIn, IsLawfulWith, first_of, having_met, looks, one_in, others_of}
-use Rattle.partial_memory.specs.Ports.{IsResting, Knows, MemoryView, PortView, port_view}
+use Rattle.partial_memory.proofs.Common.{ℕ, ◌≡◌, ◌++◌, List, [], ◌∷◌, map, refl, sym, ap, subst, ◌∙◌, AllByRecursion, Me, TableId, Applied, CoreState, About, Seated, AreOf, IsIn, IsLawfulWith, first_of, having_met, looks, one_in, others_of, IsResting, Knows, MemoryView, PortView, port_view, Meets}
 use Rattle.partial_memory.specs.Lawfulness.{MeetsLawfully}
-use Rattle.partial_memory.specs.Calls.{Meets}
 
 -- what a port knows of the history that it has seen in a meeting
 knows_met : (t : TableId) (log : List Applied) (x : Seated) → IsIn log x → Knows (port_view t (having_met log x))

@@ -1,19 +1,15 @@
 -- What the calls of a memory leave in the notes of their ports.
-use Rattle.std.proofs.Common.{ℕ, ◌≡◌, List, [], ◌∷◌, sym, ap, ◌∙◌, inl, inr, Some, append-nil}
+use Rattle.partial_memory.proofs.Common.{ℕ, ◌≡◌, List, [], ◌∷◌, sym, ap, ◌∙◌, inl, inr, Some, append-nil, Call, Refused, PortView, Answered, Goes, IsRefused, Updates, UpdatesIf, met}
 use Rattle.partial_model.specs.declared.history.Applied.{Applied as Entry}
-use Rattle.partial_model.specs.declared.call.Call.{Call}
 use Rattle.partial_model.specs.declared.call.Call.TheVariants as call
 use Rattle.partial_model.specs.declared.call.Answer.{Answer}
 use Rattle.partial_model.specs.declared.call.Answer.TheVariants as answer
 use Rattle.partial_model.specs.declared.call.Note.{Note}
-use Rattle.partial_model.specs.declared.call.Refused.{Refused}
 use Rattle.partial_model.specs.Notes.{Noted}
 use Rattle.partial_memory.specs.declared.answers.Updated.{Updated}
 use Rattle.partial_memory.specs.declared.answers.Updated.TheVariants.{Applied, Lost}
 use Rattle.partial_memory.specs.declared.answers.UpdatedIf.{UpdatedIf}
 use Rattle.partial_memory.specs.declared.answers.UpdatedIf.TheVariants as conditional
-use Rattle.partial_memory.specs.Ports.{PortView, Answered, Goes, IsRefused}
-use Rattle.partial_memory.specs.Calls.{Updates, UpdatesIf, met}
 use Rattle.partial_memory.specs.Noting.{CallsNoteOnce, NotesCall, NotesMore, noted_update, noted_update_if}
 
 goes_on : (p q : PortView) (new : List Noted) → Goes p q new → NotesMore p q new

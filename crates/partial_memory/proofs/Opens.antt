@@ -1,17 +1,5 @@
 -- A memory as it opens, and its ports.
-use Rattle.std.proofs.Common.{ℕ, zero, suc, ◌≡◌, ◌+◌, ◌-◌, ◌<◌, ◌≤◌, ◌++◌, List, [], ◌∷◌, refl, sym, ap, subst, ◌∙◌, arith, append-nil, append_assoc}
-use Rattle.atomic_table.specs.Table.{Me, opening}
-use Rattle.atomic_table.specs.Seated.{TableId}
-use Rattle.partial_words.specs.Layout.{Layout, IsLayout}
-use Rattle.partial_words.specs.Chain.{OpensWith}
-use Rattle.partial_machine.specs.Machine.{CoreState, fresh}
-use Rattle.partial_machine.proofs.Laws.{rests_are_sound}
-use Rattle.partial_core.specs.Part.{fresh_parts}
-use Rattle.partial_core.specs.Lawful.{Lawful}
-use Rattle.partial_core.proofs.Laws.{opens_lawful, ports_come_between}
-use Rattle.partial_memory.specs.declared.rule.About.{About}
-use Rattle.partial_memory.specs.Rule.{Seated, AreOpened, IsKept, IsShuffle, newcomer, newcomers, parts_of, first_of, others_of, one_in}
-use Rattle.partial_memory.specs.Ports.{PortView, port_view, IsResting, new_ports}
+use Rattle.partial_memory.proofs.Common.{ℕ, zero, suc, ◌≡◌, ◌+◌, ◌-◌, ◌<◌, ◌≤◌, ◌++◌, List, [], ◌∷◌, refl, sym, ap, subst, ◌∙◌, arith, append-nil, append_assoc, Me, opening, TableId, Layout, IsLayout, OpensWith, CoreState, fresh, rests_are_sound, fresh_parts, Lawful, opens_lawful, ports_come_between, About, Seated, AreOpened, IsKept, IsShuffle, newcomer, newcomers, parts_of, first_of, others_of, one_in, PortView, port_view, IsResting, new_ports}
 use Rattle.partial_memory.proofs.Shuffles.{same_order}
 
 newcomers_parts : (about : About) (port n : ℕ) → parts_of (newcomers about port n) ≡ fresh_parts about.sizes port n

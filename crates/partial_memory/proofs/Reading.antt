@@ -1,24 +1,10 @@
 -- A read in two loads, whose machine is where its port's kept answers lead.
-use Rattle.std.proofs.Common.{ℕ, ◌≡◌, ◌+◌, ◌<◌, Some, None, List, [], ◌∷◌, refl, sym, ap, subst, ◌∙◌, inl, inr, cond, arith}
-use Rattle.std.proofs.lemmas.Bool.{lt-ltb}
-use Rattle.atomic_table.specs.Table.{Me, Allows}
-use Rattle.atomic_table.specs.Seated.{TableId}
+use Rattle.partial_memory.proofs.Common.{ℕ, ◌≡◌, ◌+◌, ◌<◌, Some, None, List, [], ◌∷◌, refl, sym, ap, subst, ◌∙◌, inl, inr, cond, arith, lt-ltb, Me, Allows, TableId, Load, Layout, IsLayout, total, CoreState, advance, step_of, refusal_of, IsBetween, IsMachineOf, IsMarkedLike, core_of, port_of, Fits, ports_come_between, About, Seated, AreByOpened, IsBadgeOfOne, IsKept, IsOne, Told, makes, one_in, one_of, reading, CallMade, PortView, IsResting, port_view}
 use Rattle.partial_model.specs.declared.call.Call.TheVariants as call
 use Rattle.partial_model.specs.declared.call.Refused.TheVariants as refused
-use Rattle.partial_words.specs.declared.step.Step.TheVariants.{Load}
-use Rattle.partial_words.specs.Layout.{Layout, IsLayout, total}
 use Rattle.partial_words.specs.Record.{value_word}
 use Rattle.partial_machine.specs.declared.stage.Reply.TheVariants as reply
-use Rattle.partial_machine.specs.Machine.{CoreState, advance, step_of}
-use Rattle.partial_machine.specs.Calls.{refusal_of}
 use Rattle.partial_machine.specs.Sound.{IsSound}
-use Rattle.partial_core.specs.Part.{IsBetween, IsMachineOf, IsMarkedLike, core_of, port_of}
-use Rattle.partial_core.specs.Steps.{Fits}
-use Rattle.partial_core.proofs.Laws.{ports_come_between}
-use Rattle.partial_memory.specs.declared.rule.About.{About}
-use Rattle.partial_memory.specs.Rule.{Seated, AreByOpened, IsBadgeOfOne, IsKept, IsOne, Told, makes, one_in, one_of, reading}
-use Rattle.partial_memory.specs.Inner.Steps.{CallMade}
-use Rattle.partial_memory.specs.Ports.{PortView, IsResting, port_view}
 use Rattle.partial_memory.proofs.Calls.{runs_machine, runs_on, runs_within}
 use Rattle.partial_memory.proofs.Resting.{CallBegins, refusal_here}
 use Rattle.partial_memory.proofs.Replies.{ReadTold, read_told}

@@ -1,14 +1,8 @@
 -- A memory that opens with the values of a closed one goes on where its history ended.
-use Rattle.std.proofs.Common.{ℕ, zero, suc, ◌≡◌, ◌-◌, ◌<◌, ◌≤◌, ◌==◌, ◌++◌, Bool, true, false, cond, List, [], ◌∷◌, length, get_or}
-use Rattle.std.proofs.Common.{replicate, take, slice_index, refl, sym, ◌∙◌, ap, inl, inr, Option, Some, None, arith}
-use Rattle.std.specs.List.{AllByRecursion}
+use Rattle.partial_memory.proofs.Common.{ℕ, zero, suc, ◌≡◌, ◌-◌, ◌<◌, ◌≤◌, ◌++◌, Bool, cond, List, [], ◌∷◌, length, get_or, replicate, take, slice_index, refl, sym, ◌∙◌, ap, inl, inr, Option, Some, None, arith, AllByRecursion, ne_eqb, cases_lt, get_or_past, take_all, Applied, Opening, AreValues}
 use Rattle.std.specs.Option.{option_map_or}
-use Rattle.std.proofs.lemmas.Bool.{ne_eqb, cases_lt}
-use Rattle.std.proofs.lemmas.List.{get_or_past, take_all}
-use Rattle.partial_model.specs.declared.history.Applied.{Applied}
-use Rattle.partial_model.specs.declared.history.Opening.{Opening}
+use Rattle.partial_model.proofs.HistoryLemmas.{behind_both}
 use Rattle.partial_model.specs.History.{IsHistory, last_from, last_entry, value_of}
-use Rattle.partial_memory.specs.Closing.{AreValues}
 use Rattle.partial_memory.specs.Reopening.{ClosedMemoriesContinue, extended, with_zeros}
 
 -- values to which zeros were added
@@ -20,28 +14,9 @@ grown_is_extended m n all old values grown same count fits =
 abbrev value_in : Option Applied → ℕ → ℕ
 value_in found d = option_map_or (λ (x : Applied). x.value) found d
 
-pick_in : (b : Bool) (e : Applied) (found : Option Applied) (d : ℕ) → value_in (cond b (Some e) found) d ≡ value_in (cond b (Some e) None) (value_in found d)
-pick_in true e found d = refl
-pick_in false e found d = refl
-
--- an entry found before counts where the history has none for the component
-found_before : (found : Option Applied) (j : ℕ) (h : List Applied) (d : ℕ) → value_in (last_from found j h) d ≡ value_in (last_entry j h) (value_in found d)
-unfolding last_from
-found_before found j [] d = refl
-found_before found j (e ∷ h) d =
-    found_before (cond (e.component == j) (Some e) found) j h d
-    ∙ ap (value_in (last_entry j h)) (pick_in (e.component == j) e found d)
-    ∙ sym (found_before (cond (e.component == j) (Some e) None) j h (value_in found d))
-
-both_histories : (found : Option Applied) (j : ℕ) (log h : List Applied) → last_from found j (log ++ h) ≡ last_from (last_from found j log) j h
-unfolding last_from
-both_histories found j [] h = refl
-both_histories found j (e ∷ log) h = both_histories (cond (e.component == j) (Some e) found) j log h
-
 -- the value after both histories is that after the second one, over the value after the first
 value_behind_both : (o : Opening) (log h : List Applied) (j : ℕ) → value_of o (log ++ h) j ≡ value_in (last_entry j h) (value_of o log j)
-value_behind_both o log h j =
-    ap (λ (found : Option Applied). value_in found (slice_index o.values j)) (both_histories None j log h) ∙ found_before (last_entry j log) j h (slice_index o.values j)
+value_behind_both o log h j = behind_both (λ (x : Applied). x.value) log h j (slice_index o.values j)
 
 -- no entry for a component that isn't there
 none_there : (m j : ℕ) (log : List Applied) → m ≤ j → AllByRecursion (λ (e : Applied). e.component < m) log → last_entry j log ≡ None

@@ -1,41 +1,22 @@
 -- What a call that has ended leaves of its port, by its reply.
-use Rattle.std.proofs.Common.{ℕ, ◌≡◌, ◌≤◌, ◌<◌, ◌+◌, ◌++◌, ◌||◌, false, cond, Option, Some, None, List, [], ◌∷◌, length, map, slice_index, refl, sym, ap, subst, ◌∙◌, arith, inr}
-use Rattle.std.specs.Prelude.{Result, Ok, Err, IfOk, IfErr}
-use Rattle.std.proofs.lemmas.Bool.{ne_eqb}
-use Rattle.atomic_table.specs.Seated.{TableId}
-use Rattle.partial_model.specs.declared.call.Call.{Call}
+use Rattle.partial_memory.proofs.Common.{ℕ, ◌≡◌, ◌≤◌, ◌<◌, ◌+◌, ◌++◌, ◌||◌, false, cond, Option, Some, None, List, [], ◌∷◌, length, map, slice_index, refl, sym, ap, subst, ◌∙◌, arith, inr, Result, Err, IfOk, IfErr, ne_eqb, TableId, Call, Refused, Finished, ScanBegun, CoreState, reply_of, scanned_values, answer_for, begin_scan, begun_of, call_of, scan_refusal, update_refusal, IsRefusedBy, refuses_pool, refuses_slots, Kept, answers_of, core_of, AreNotesOf, IsNoteOf, IsPlacedAt, IsRefusal, made_calls_make_their_steps, Layout, IsLayout, greatest_record, pool_end, About, scan_reply, Seated, one_in, CallMade, Ended, PortView, port_view, refusal, IsResting, Knows, Goes, CountsSteps, Answered, IsPastEnd, RefusedLate, IsRefused, is_pool, is_slots, Updates, UpdatesIf, Reads, Scans}
+use Rattle.std.specs.Prelude.{Ok}
 use Rattle.partial_model.specs.declared.call.Call.TheVariants as call
 use Rattle.partial_model.specs.declared.call.Answer.TheVariants as answer
 use Rattle.partial_model.specs.declared.call.Note.{Note}
 use Rattle.partial_model.specs.declared.call.Note.TheVariants as note
-use Rattle.partial_model.specs.declared.call.Refused.{Refused}
 use Rattle.partial_model.specs.declared.call.Refused.TheVariants as refused
 use Rattle.partial_model.proofs.NotesLemmas.{LegalNotes-last}
 use Rattle.partial_model.specs.Notes.{Noted, Fits as NoteFits, LegalNotes, MayBeRefused}
 use Rattle.partial_embedded.specs.Embedded.{RowsState}
 use Rattle.partial_machine.specs.declared.stage.Reply.{Reply}
 use Rattle.partial_machine.specs.declared.stage.Reply.TheVariants as reply
-use Rattle.partial_machine.specs.declared.stage.Stage.TheVariants.{Finished, ScanBegun}
-use Rattle.partial_machine.specs.Machine.{CoreState, advance, reply_of, scanned_values}
-use Rattle.partial_machine.specs.Calls.{answer_for, begin_scan, begun_of, call_of, scan_refusal, update_refusal}
-use Rattle.partial_machine.specs.Behind.{IsRefusedBy, refuses_pool, refuses_slots}
-use Rattle.partial_machine.specs.Sound.{IsSound}
-use Rattle.partial_machine.proofs.Laws.{answers_lead_on}
+use Rattle.partial_machine.proofs.Behind.{run_sizes}
 use Rattle.partial_machine.specs.Steps.{Run, AreOfScan, pairs_loaded}
-use Rattle.partial_core.specs.Part.{Kept, answers_of, core_of}
-use Rattle.partial_core.specs.Steps.{AreNotesOf, IsNoteOf, IsPlacedAt, IsRefusal}
-use Rattle.partial_core.proofs.Laws.{made_calls_make_their_steps}
-use Rattle.partial_words.specs.Layout.{Layout, IsLayout, greatest_record, pool_end}
-use Rattle.partial_memory.specs.declared.rule.About.{About}
 use Rattle.partial_lines.specs.declared.whole_scan.Scanned.{Scanned}
-use Rattle.partial_lines.specs.Replies.{scan_reply}
 use Rattle.partial_memory.specs.declared.answers.Updated.TheVariants as updated
 use Rattle.partial_memory.specs.declared.answers.UpdatedIf.TheVariants as conditional
-use Rattle.partial_memory.specs.Rule.{Seated, one_in}
-use Rattle.partial_memory.specs.Inner.Steps.{CallMade, Ended}
-use Rattle.partial_memory.specs.Ports.{PortView, port_view, refusal, IsResting, Knows, Goes, CountsSteps, Answered, IsPastEnd, RefusedLate, IsRefused, is_pool, is_slots}
 use Rattle.partial_memory.specs.Led.{BeganAs, IsLed, IsLedTo, IsLedToRefusal, IsLedWhereLate, ScanIsLed, ScansLed}
-use Rattle.partial_memory.specs.Calls.{Updates, UpdatesIf, Reads, Scans}
 use Rattle.partial_memory.proofs.Resting.{CallBegins, call_begins, scan_begins}
 
 -- a call that was answered: its note fits and has its place in what is seen now, and its answers led it there
@@ -55,13 +36,6 @@ slots_refused_is : (cause : Refused) → refuses_slots (Some (reply.Refused caus
 slots_refused_is refused.Component = refl
 slots_refused_is refused.SlotsSpent = refl
 slots_refused_is refused.PoolSpent = refl
-
--- a run keeps the sizes of its machine
-pub run_sizes : (s t : CoreState) (xs : List ℕ) → IsLayout s.sizes → IsSound s → Run s xs t → t.sizes ≡ s.sizes
-run_sizes s t [] layout sound is = ap (λ (v : CoreState). v.sizes) is
-run_sizes s t (x ∷ xs) layout sound run =
-    let on = answers_lead_on s x layout sound run.0 in
-    run_sizes (advance s x) t xs (subst IsLayout (sym on.sizes) layout) on.sound run.1 ∙ on.sizes
 
 -- the last of some kept answers
 last_kept : (kept : List Kept) (front : List ℕ) (last : ℕ) → answers_of kept ≡ front ++ last ∷ [] → (f : List Kept) × (k : Kept) × (kept ≡ f ++ k ∷ []) × (k.answer ≡ last)
@@ -306,7 +280,8 @@ module _ (t : TableId) (b : CoreState) (x : Seated) (c : CoreState) (y : Seated)
   saw_note which w stage asked k s (note.Wrote n) is f a = absurd f
   saw_note which w stage asked k s (note.Lost n) is f a = absurd f
 
-  pub scan_told : (which : List ℕ) → CallBegins t x b (call.Scan which) → b.stage ≡ ScanBegun → b.asked ≡ which → (r : Reply) → reply_of c ≡ Some r → ScanTold (port_view t x) which c r (port_view t y)
+  pub scan_told : (which : List ℕ) → CallBegins t x b (call.Scan which) → b.stage ≡ ScanBegun → b.asked ≡ which → (r : Reply) → reply_of c ≡ Some r →
+      ScanTold (port_view t x) which c r (port_view t y)
   scan_told which w stage asked (reply.Scanned k s) is =
       let a = answered_with t b x c y m (call.Scan which) w (reply.Scanned k s) is refl refl (noted_by (reply.Scanned k s) is) in saw_note which w stage asked k s a.note is a.fits a.answered
   scan_told which w stage asked (reply.Refused cause) is = (refused_with t b x c y m (call.Scan which) w cause is, refusal_led t b x c y m (call.Scan which) w cause is)

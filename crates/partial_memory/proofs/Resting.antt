@@ -1,27 +1,11 @@
 -- A port between two calls: how it begins one, and that it is between two again once that has ended.
-use Rattle.std.proofs.Common.{ℕ, ◌≡◌, ◌≤◌, ◌==◌, true, false, cond, Some, None, List, [], ◌∷◌, length, refl, sym, ap, subst, ◌∙◌}
-use Rattle.std.specs.Prelude.{is_some}
-use Rattle.std.proofs.lemmas.Bool.{ne_eqb}
-use Rattle.atomic_table.specs.Seated.{TableId}
-use Rattle.partial_model.specs.declared.call.Call.{Call}
+use Rattle.partial_memory.proofs.Common.{ℕ, ◌≡◌, ◌≤◌, ◌==◌, true, false, cond, Some, None, List, [], ◌∷◌, length, refl, sym, ap, subst, ◌∙◌, is_some, ne_eqb, TableId, Call, Layout, IsLayout, Finished, ScanBegun, CoreState, at_stage, IsServed, begin_scan, begun_of, call_of, makes_steps, refusal_of, scan_refusal, calls_begin, IsMarkedLike, core_of, port_of, Fits, calls_begin_between, ports_come_between, About, Seated, IsBadgeOfOne, AreByOpened, one_in, Begins, Ended, IsOf, IsResting, MemoryView, PortView, port_view, refusal}
 use Rattle.partial_model.specs.declared.call.Call.TheVariants as call
 use Rattle.partial_model.specs.Refusals.{refusal_at_once}
-use Rattle.partial_words.specs.Layout.{Layout, IsLayout}
 use Rattle.partial_machine.specs.declared.stage.Reply.{Reply}
 use Rattle.partial_machine.specs.declared.stage.Reply.TheVariants as reply
-use Rattle.partial_machine.specs.declared.stage.Stage.TheVariants.{Finished, ScanBegun}
 use Rattle.partial_machine.specs.Lines.{asking, scan_asked}
-use Rattle.partial_machine.specs.Machine.{CoreState, at_stage}
-use Rattle.partial_machine.specs.Calls.{IsServed, begin_scan, begun_of, call_of, makes_steps, refusal_of, scan_refusal}
 use Rattle.partial_machine.specs.Sound.{IsSound}
-use Rattle.partial_machine.proofs.Laws.{calls_begin}
-use Rattle.partial_core.specs.Part.{IsMarkedLike, core_of, port_of}
-use Rattle.partial_core.specs.Steps.{Fits}
-use Rattle.partial_core.proofs.Laws.{calls_begin_between, ports_come_between}
-use Rattle.partial_memory.specs.declared.rule.About.{About}
-use Rattle.partial_memory.specs.Rule.{Seated, IsBadgeOfOne, AreByOpened, one_in}
-use Rattle.partial_memory.specs.Inner.Steps.{Begins, Ended}
-use Rattle.partial_memory.specs.Ports.{IsOf, IsResting, MemoryView, PortView, port_view, refusal}
 
 -- a call that a port begins
 pub record CallBegins (t : TableId) (x : Seated) (b : CoreState) (c : Call) : Type 0 where

@@ -1,23 +1,8 @@
 -- Each step that is due is allowed: whatever the table is then, the words and the ports of all seats stay those of a lawful state.
-use Rattle.std.proofs.Common.{ℕ, zero, suc, ◌≡◌, ◌+◌, ◌<◌, ◌==◌, ◌%◌, ◌^◌, ◌++◌, Bool, true, false, cond, Some, List, [], ◌∷◌, map, get_or, set, refl, sym, ap, subst, ◌∙◌, arith}
-use Rattle.std.specs.List.{AllByRecursion, Contains}
-use mathlib.Core.Option.{some}
-use lib.ListN.{get_elem?}
+use Rattle.partial_memory.proofs.Common.{ℕ, zero, suc, ◌≡◌, ◌+◌, ◌<◌, ◌==◌, ◌%◌, ◌^◌, ◌++◌, Bool, true, false, cond, Some, List, [], ◌∷◌, map, get_or, set, refl, sym, ap, subst, ◌∙◌, arith, AllByRecursion, some, get_elem?, Me, keeps, Allows, Applied, Step, Load, Store, Exchange, Add, word_of, answer_of, words_after, CoreState, step_of, all_at, all_join, all_before, all_after, Part, IsMachineOf, port_of, Lawful, LeadsOn, added_by, steps_stay_lawful, lawful_ports_fit, lawful_machines_are_ready, About, Seated, AreOpened, AreByOpened, Told, IsKept, IsShuffle, IsOne, one_of, parts_of, makes}
+use Rattle.std.specs.List.{Contains}
 use lib.Seq.{set-get_or}
 use prog.Atomic.{either}
-use Rattle.atomic_table.specs.Table.{Me, keeps, Allows}
-use Rattle.partial_model.specs.declared.history.Applied.{Applied}
-use Rattle.partial_words.specs.declared.step.Step.{Step}
-use Rattle.partial_words.specs.declared.step.Step.TheVariants.{Load, Store, Exchange, Add}
-use Rattle.partial_words.specs.Step.{word_of, answer_of, words_after}
-use Rattle.partial_machine.specs.Machine.{CoreState, step_of}
-use Rattle.partial_model.proofs.AllLemmas.{all_at, all_join, all_before, all_after}
-use Rattle.partial_core.specs.Part.{Part, IsMachineOf, port_of}
-use Rattle.partial_core.specs.Lawful.{Lawful}
-use Rattle.partial_core.specs.Steps.{LeadsOn, added_by}
-use Rattle.partial_core.proofs.Laws.{steps_stay_lawful, lawful_ports_fit, lawful_machines_are_ready}
-use Rattle.partial_memory.specs.declared.rule.About.{About}
-use Rattle.partial_memory.specs.Rule.{Seated, AreOpened, AreByOpened, Told, IsKept, IsShuffle, IsOne, one_of, parts_of, makes}
 use Rattle.partial_memory.proofs.Shuffles.{find}
 use Rattle.partial_memory.proofs.Views.{around}
 

@@ -1,17 +1,6 @@
 -- Calls in straight lines: each step is allowed, and leads the call on.
-use Rattle.std.proofs.Common.{ℕ, ◌≡◌, ◌<◌, Some, List, refl, sym, subst, ◌∙◌, inl, inr}
-use Rattle.atomic_table.specs.Table.{Me, Allows}
-use Rattle.atomic_table.specs.Seated.{TableId}
-use Rattle.partial_words.specs.declared.step.Step.{Step}
-use Rattle.partial_words.specs.Layout.{total}
-use Rattle.partial_words.specs.Step.{word_of}
-use Rattle.partial_machine.specs.Machine.{CoreState, advance, step_of}
+use Rattle.partial_memory.proofs.Common.{ℕ, ◌≡◌, ◌<◌, Some, List, refl, sym, subst, ◌∙◌, inl, inr, Me, Allows, TableId, Step, total, word_of, CoreState, advance, step_of, IsMachineOf, core_of, About, Seated, IsKept, IsOne, Told, makes, one_of, Begins, CallMade, IsGoing, IsUnderWay, Leads, machine_of}
 use Rattle.partial_machine.specs.Possible.{IsPossible}
-use Rattle.partial_core.specs.Part.{IsMachineOf, core_of}
-use Rattle.partial_memory.specs.declared.rule.About.{About}
-use Rattle.partial_memory.specs.Rule.{Seated, IsKept, IsOne, Told, makes, one_of}
-use Rattle.partial_memory.specs.Inner.Steps.{Begins, CallMade}
-use Rattle.partial_memory.specs.Inner.Lines.{IsGoing, IsUnderWay, Leads, machine_of}
 use Rattle.partial_memory.proofs.Calls.{runs_machine, runs_on, runs_within}
 use Rattle.partial_memory.proofs.Steps.{step_asked, change_of, told_of}
 

@@ -1,10 +1,5 @@
 -- The parts of all views: around one view, cut off and gathered.
-use Rattle.std.proofs.Common.{◌≡◌, ℕ, zero, suc, List, [], ◌∷◌, ◌++◌, set, refl, ap, sym, ◌∙◌, subst, append_assoc, append-nil}
-use mathlib.Core.Option.{some, some-injective, some-ne-none}
-use lib.ListN.{get_elem?}
-use Rattle.atomic_table.specs.Table.{State, Splits}
-use Rattle.partial_memory.specs.declared.rule.About.{About}
-use Rattle.partial_memory.specs.Rule.{Seated, flatten, IsKept, IsShuffle, others_of, first_of}
+use Rattle.partial_memory.proofs.Common.{◌≡◌, ℕ, zero, suc, List, [], ◌∷◌, ◌++◌, set, refl, ap, sym, ◌∙◌, subst, append_assoc, append-nil, some, some-injective, some-ne-none, get_elem?, State, Splits, About, Seated, flatten, IsKept, IsShuffle, others_of, first_of}
 use Rattle.partial_memory.proofs.Shuffles.{put_elsewhere}
 
 -- the parts before and behind those of the view at a place, whatever that view becomes

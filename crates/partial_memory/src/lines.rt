@@ -2,14 +2,13 @@
 //! where the kept answers of the seat's port lead.
 
 ghost use Rattle.std.specs.Prelude.{◌≡◌, Some};
-ghost use Rattle.partial_words.specs.Layout.{total};
 ghost use Rattle.partial_words.specs.declared.step.Step.TheVariants.{Load};
 ghost use Rattle.partial_machine.specs.declared.stage.Stage.TheVariants.{UpdateBegun};
 ghost use Rattle.partial_machine.specs.Lines.{scan_asked};
 ghost use Rattle.partial_machine.specs.Machine.{advance, at_stage, step_of};
 ghost use Rattle.partial_machine.specs.Possible.{IsPossible};
 ghost use Rattle.partial_memory.specs.Rule.{IsOne, one_of};
-ghost use Rattle.partial_memory.specs.Inner.Steps.{Begins, CallMade};
+ghost use Rattle.partial_memory.specs.Inner.Steps.{Begins, CallMade, IsAtRest};
 ghost use Rattle.std.proofs.Common.{refl, ◌∙◌};
 ghost use Rattle.partial_memory.specs.Inner.Lines.{IsGoing, Leads, leads_itself, leads_on, machine_of};
 
@@ -58,10 +57,8 @@ impl<'a> Makes for SeatLines<'a> {
 /// machine that begins the update.
 #[inline(always)]
 pub fn begin_update<G: Moment>(words: &Words, seat: &mut Place, core: &Core, change: Change) -> u64
-    requires table { seat.old.table_id ≡ words.now.table_id }
-    requires words { words.now.table_id.words ≡ total words.now.key.sizes }
     requires one { IsOne seat.old.me }
-    requires own { (one_of seat.old.me.0).about ≡ words.now.key }
+    requires rest { IsAtRest words.now.table_id words.now.key seat.old.table_id (one_of seat.old.me.0) core.now }
     requires moment { G.core ≡ at_stage core.now (UpdateBegun change) }
     requires begins { Begins G.core (one_of seat.old.me.0) }
     ensures going { IsGoing words.now.table_id words.now.key seat.new.table_id seat.new.me }
@@ -77,10 +74,8 @@ pub fn begin_update<G: Moment>(words: &Words, seat: &mut Place, core: &Core, cha
 /// answer. `G` is the machine that begins the scan.
 #[inline(always)]
 pub fn begin_scan<G: Moment>(words: &Words, seat: &mut Place, core: &Core, which: &[u32]) -> u64
-    requires table { seat.old.table_id ≡ words.now.table_id }
-    requires words { words.now.table_id.words ≡ total words.now.key.sizes }
     requires one { IsOne seat.old.me }
-    requires own { (one_of seat.old.me.0).about ≡ words.now.key }
+    requires rest { IsAtRest words.now.table_id words.now.key seat.old.table_id (one_of seat.old.me.0) core.now }
     requires moment { G.core ≡ scan_asked core.now which.now }
     requires begins { Begins G.core (one_of seat.old.me.0) }
     ensures going { IsGoing words.now.table_id words.now.key seat.new.table_id seat.new.me }

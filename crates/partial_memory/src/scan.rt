@@ -1,13 +1,10 @@
 //! A scan, whose steps are made on the shared words.
 
 ghost use Rattle.std.specs.Prelude.{◌≡◌, length, map, slice_index, IfOk, IfErr};
-ghost use Rattle.partial_words.specs.Layout.{total};
-ghost use Rattle.partial_machine.specs.declared.stage.Stage.TheVariants.{Idle};
 ghost use Rattle.partial_machine.specs.Lines.{scan_asked};
-ghost use Rattle.partial_machine.specs.Sound.{IsSound};
 ghost use Rattle.partial_lines.specs.Replies.{scan_reply};
 ghost use Rattle.partial_memory.specs.Rule.{IsBadgeOfOne, IsOne, one_in, one_of};
-ghost use Rattle.partial_memory.specs.Inner.Steps.{Begins, ScanEnded};
+ghost use Rattle.partial_memory.specs.Inner.Steps.{Begins, IsAtRest, ScanEnded};
 
 use crate::lines::{SeatLines, begin_scan};
 use crate::port::take_seat;
@@ -30,12 +27,8 @@ pub fn scan(
     which: &[u32],
     into: &mut [u64],
 ) -> Result<Scanned, Refused>
-    requires table { badge.old.table_id ≡ words.now.table_id }
-    requires words { words.now.table_id.words ≡ total words.now.key.sizes }
     requires one { IsBadgeOfOne badge.old.views }
-    requires own { (one_in badge.old.views).about ≡ words.now.key }
-    requires idle { core.old.stage ≡ Idle }
-    requires sound { IsSound core.old }
+    requires rest { IsAtRest words.now.table_id words.now.key badge.old.table_id (one_in badge.old.views) core.old }
     requires begins { Begins (scan_asked core.old which.now) (one_in badge.old.views) }
     requires lengths { length into.old ≡ length which.now }
     ensures table { badge.new.table_id ≡ badge.old.table_id }
@@ -58,12 +51,8 @@ fn make_scan(
     which: &[u32],
     into: &mut [u64],
 ) -> (Place, Result<Scanned, Refused>)
-    requires table { seat.table_id ≡ words.now.table_id }
-    requires words { words.now.table_id.words ≡ total words.now.key.sizes }
     requires one { IsOne seat.me }
-    requires own { (one_of seat.me.0).about ≡ words.now.key }
-    requires idle { core.old.stage ≡ Idle }
-    requires sound { IsSound core.old }
+    requires rest { IsAtRest words.now.table_id words.now.key seat.table_id (one_of seat.me.0) core.old }
     requires begins { Begins (scan_asked core.old which.now) (one_of seat.me.0) }
     requires lengths { length into.old ≡ length which.now }
     ensures table { result.0.table_id ≡ seat.table_id }
@@ -74,7 +63,8 @@ fn make_scan(
     ensures unchanged { IfErr result.1 (λ _. into.new ≡ into.old) }
 {
     let at = begin_scan::<Brand>(words, &mut seat, core, which);
-    let (lines, scanned) = partial_lines::scan(SeatLines { words, seat }, core, which, at, into);
+    let mut lines = SeatLines { words, seat };
+    let scanned = partial_lines::scan(&mut lines, core, which, at, into);
     let SeatLines { words: _, seat } = lines;
     (seat, scanned)
 }

@@ -1,13 +1,11 @@
 //! An update, whose steps are made on the shared words.
 
 ghost use Rattle.std.specs.Prelude.{◌≡◌};
-ghost use Rattle.partial_words.specs.Layout.{total};
-ghost use Rattle.partial_machine.specs.declared.stage.Stage.TheVariants.{Idle, UpdateBegun};
+ghost use Rattle.partial_machine.specs.declared.stage.Stage.TheVariants.{UpdateBegun};
 ghost use Rattle.partial_machine.specs.Machine.{at_stage};
-ghost use Rattle.partial_machine.specs.Sound.{IsSound};
 ghost use Rattle.partial_lines.specs.Replies.{update_reply};
 ghost use Rattle.partial_memory.specs.Rule.{IsBadgeOfOne, IsOne, one_in, one_of};
-ghost use Rattle.partial_memory.specs.Inner.Steps.{Begins, Ended};
+ghost use Rattle.partial_memory.specs.Inner.Steps.{Begins, Ended, IsAtRest};
 
 use crate::lines::{SeatLines, begin_update, make};
 use crate::port::take_seat;
@@ -29,12 +27,8 @@ pub fn update(
     core: &mut Core,
     change: Change,
 ) -> Result<Exchanged, Refused>
-    requires table { badge.old.table_id ≡ words.now.table_id }
-    requires words { words.now.table_id.words ≡ total words.now.key.sizes }
     requires one { IsBadgeOfOne badge.old.views }
-    requires own { (one_in badge.old.views).about ≡ words.now.key }
-    requires idle { core.old.stage ≡ Idle }
-    requires sound { IsSound core.old }
+    requires rest { IsAtRest words.now.table_id words.now.key badge.old.table_id (one_in badge.old.views) core.old }
     requires begins { Begins (at_stage core.old (UpdateBegun change)) (one_in badge.old.views) }
     ensures table { badge.new.table_id ≡ badge.old.table_id }
     ensures one { IsBadgeOfOne badge.new.views }
@@ -53,12 +47,8 @@ fn make_update(
     core: &mut Core,
     change: Change,
 ) -> (Place, Result<Exchanged, Refused>)
-    requires table { seat.table_id ≡ words.now.table_id }
-    requires words { words.now.table_id.words ≡ total words.now.key.sizes }
     requires one { IsOne seat.me }
-    requires own { (one_of seat.me.0).about ≡ words.now.key }
-    requires idle { core.old.stage ≡ Idle }
-    requires sound { IsSound core.old }
+    requires rest { IsAtRest words.now.table_id words.now.key seat.table_id (one_of seat.me.0) core.old }
     requires begins { Begins (at_stage core.old (UpdateBegun change)) (one_of seat.me.0) }
     ensures table { result.0.table_id ≡ seat.table_id }
     ensures one { IsOne result.0.me }
@@ -69,7 +59,8 @@ fn make_update(
     if change.expected.is_some_and(|expected| expected != old) {
         return (seat, Ok(Exchanged::Overtaken { by: old }));
     }
-    let (lines, written) = put(SeatLines { words, seat }, core, change, old);
+    let mut lines = SeatLines { words, seat };
+    let written = put(&mut lines, core, change, old);
     let SeatLines {
         words: _,
         seat: mut behind,

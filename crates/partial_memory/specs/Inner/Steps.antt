@@ -1,6 +1,7 @@
 -- The steps that a call makes: how it begins, goes on and ends at its seat.
 use Rattle.std.specs.Prelude.{ℕ, ◌≡◌, ◌+◌, ◌||◌, List, length, Some}
-use Rattle.partial_words.specs.Layout.{IsLayout}
+use Rattle.atomic_table.specs.Seated.{TableId}
+use Rattle.partial_words.specs.Layout.{IsLayout, total}
 use Rattle.partial_machine.specs.declared.stage.Reply.{Reply}
 use Rattle.partial_machine.specs.declared.stage.Stage.TheVariants.{Idle}
 use Rattle.partial_machine.specs.Lines.{scan_asked}
@@ -9,7 +10,16 @@ use Rattle.partial_machine.specs.Sound.{IsSound}
 use Rattle.partial_machine.specs.Behind.{refuses_pool, refuses_slots}
 use Rattle.partial_core.specs.Part.{HasBegun, IsMarkedLike}
 use Rattle.partial_core.specs.Calls.{Made}
+use Rattle.partial_memory.specs.declared.rule.About.{About}
 use Rattle.partial_memory.specs.Rule.{Seated, AreByOpened}
+
+-- between two calls: the port x is one of the table and of its memory, and the machine that it keeps is idle and sound
+pub record IsAtRest (table : TableId) (about : About) (here : TableId) (x : Seated) (core : CoreState) : Type 0 where
+  pub fits : here ≡ table
+  pub words : table.words ≡ total about.sizes
+  pub own : x.about ≡ about
+  pub idle : core.stage ≡ Idle
+  pub sound : IsSound core
 
 -- the machine b has begun a call at the port x
 pub record Begins (b : CoreState) (x : Seated) : Type 0 where

@@ -13,15 +13,15 @@ open-requires-clause-begins c =
     let begins = scan_begins c.in_ok-beside.beside c.begin_scan.new.self c.args.which.now few (λ e. omega (arith, some, e)) c.in_default.ensures.ok.0 c.in_default.ensures.ok.1 in
     subst (λ (s : CoreState). Begins s c.begin_scan.new.self) c.in_ok-beside.ensures begins
 
-pub scan-behind-requires-clause-possible : goal.scan-behind-requires-clause-possible
-scan-behind-requires-clause-possible c =
+pub scan-scanned-requires-clause-possible : goal.scan-scanned-requires-clause-possible
+scan-scanned-requires-clause-possible c =
     let some = c.requires.some in
     let begun = scan_is c.in_ok-beside.beside c.begin_scan.new.self c.args.which.now (λ e. omega (arith, some, e)) c.in_default.ensures.ok.1 in
     let is = c.in_ok-lines.ensures.machine ∙ begun ∙ ap (λ (s : CoreState). scan_asked s c.args.which.now) (c.in_ok-beside.ensures ∙ sym c.in_ok-core.ensures) in
     subst (λ (d : CoreState). IsPossible d c.follow-at.result) is c.follow-at.ensures.possible
 
-pub scan-behind-requires-clause-machine : goal.scan-behind-requires-clause-machine
-scan-behind-requires-clause-machine c =
+pub scan-scanned-requires-clause-machine : goal.scan-scanned-requires-clause-machine
+scan-scanned-requires-clause-machine c =
     let some = c.requires.some in
     let begun = scan_is c.in_ok-beside.beside c.begin_scan.new.self c.args.which.now (λ e. omega (arith, some, e)) c.in_default.ensures.ok.1 in
     let is = c.in_ok-lines.ensures.machine ∙ begun ∙ ap (λ (s : CoreState). scan_asked s c.args.which.now) (c.in_ok-beside.ensures ∙ sym c.in_ok-core.ensures) in

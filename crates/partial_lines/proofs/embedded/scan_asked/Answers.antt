@@ -1,35 +1,34 @@
-use Rattle.std.proofs.Common.{refl, sym, ap, ◌∙◌, subst}
+use Rattle.partial_lines.proofs.Common.{◌≡◌, rules, refl, sym, ap, ◌∙◌, subst, Stage, Leaving, at_stage, scanning, with_scanning, IsScanStage, behind_scan, positions_at}
 use Rattle.partial_embedded.specs.Embedded.{GoTogether}
-use Rattle.partial_machine.specs.declared.stage.Stage.{Stage}
-use Rattle.partial_machine.specs.Machine.{at_stage, scanning, with_scanning}
-use Rattle.partial_lines.specs.Lines.{IsScanStage, behind_scan, positions_at}
 use Rattle.partial_lines.proofs.Parts.{at_asked, scan_made, scan_over}
 use Rattle.partial_lines.proofs.embedded.scan_asked.Goals as goal
 
-pub scan_positions-embedded-requires-clause-together : goal.scan_positions-embedded-requires-clause-together
-scan_positions-embedded-requires-clause-together g c =
-    let s = g.M.Makes.machine c.args.lines in
-    let at = at_asked s (g.met.M.Makes.sound c.args.lines c.requires.goes) c.requires.stage in
+pub scan_positions-requires-clause-together : goal.scan_positions-requires-clause-together
+scan_positions-requires-clause-together g c =
+    let s = g.M.Makes.machine c.args.lines.now in
+    let at = at_asked s (g.met.M.Makes.sound c.args.lines.now c.requires.goes) c.requires.stage in
     subst (λ p. GoTogether c.args.which.now p) (c.requires.scan ∙ ap (λ e. (e, c.args.core.now.rows)) (sym c.begin_scanning-begun.ensures))
     (subst (λ l. GoTogether l (scanning s)) c.requires.asked at.together)
 
-pub scan_positions-embedded-requires-clause-goes : goal.scan_positions-embedded-requires-clause-goes
-scan_positions-embedded-requires-clause-goes g c =
-    let s = g.M.Makes.machine c.args.lines in
-    let at = at_asked s (g.met.M.Makes.sound c.args.lines c.requires.goes) c.requires.stage in
+pub scan_positions-requires-clause-goes : goal.scan_positions-requires-clause-goes
+scan_positions-requires-clause-goes g c =
+    let s = g.M.Makes.machine c.args.lines.now in
+    let at = at_asked s (g.met.M.Makes.sound c.args.lines.now c.requires.goes) c.requires.stage in
     (c.requires.goes, subst (IsScanStage s) (sym c.requires.stage) at.stage)
 
-pub scan_positions-embedded-requires-clause-scan : goal.scan_positions-embedded-requires-clause-scan
-scan_positions-embedded-requires-clause-scan g c = c.requires.scan ∙ ap (λ e. (e, c.args.core.now.rows)) (sym c.begin_scanning-begun.ensures)
+pub scan_positions-requires-clause-scan : goal.scan_positions-requires-clause-scan
+scan_positions-requires-clause-scan g c = c.requires.scan ∙ ap (λ e. (e, c.args.core.now.rows)) (sym c.begin_scanning-begun.ensures)
 
-pub scan_positions-embedded-requires-clause-positions : goal.scan_positions-embedded-requires-clause-positions
-scan_positions-embedded-requires-clause-positions g c = ap (positions_at (g.M.Makes.machine c.args.lines)) c.requires.stage ∙ c.requires.asked
+pub scan_positions-requires-clause-positions : goal.scan_positions-requires-clause-positions
+scan_positions-requires-clause-positions g c = ap (positions_at (g.M.Makes.machine c.args.lines.now)) c.requires.stage ∙ c.requires.asked
 
 pub returns-clause-machine : goal.returns-clause-machine
 returns-clause-machine g c =
-    let start = g.M.Makes.machine c.args.lines in
-    let d = g.M.Makes.machine c.scan_positions-embedded.new.loads.lines in
-    let on = c.scan_positions-embedded.ensures.follows.1 in
-    let over = scan_over d _ refl c.scan_positions-embedded.ensures.goes.1 (ap (λ p. p.0.stage) c.scan_positions-embedded.ensures.scan ∙ c.scan_positions-embedded.ensures.done) in
-    let made = scan_made start d _ on.rest c.scan_positions-embedded.ensures.scan over on.stage in
-    made ∙ ap (λ (t : Stage). at_stage (with_scanning start (c.scan_positions-embedded.result, c.scan_positions-embedded.new.self.rows)) (behind_scan t)) c.requires.stage
+    let start = g.M.Makes.machine c.args.lines.now in
+    let d = g.M.Makes.machine c.scan_positions.new.loads.lines.now in
+    let on = c.scan_positions.ensures.follows.1 in
+    let over = scan_over d _ refl c.scan_positions.ensures.goes.1 (ap (λ p. p.0.stage) c.scan_positions.ensures.scan ∙ c.scan_positions.ensures.done) in
+    let made : d ≡ at_stage (with_scanning start (c.scan_positions.result, c.scan_positions.new.self.rows)) Leaving =
+    scan_made start d _ on.rest c.scan_positions.ensures.scan over on.stage
+    ∙ ap (λ (t : Stage). at_stage (with_scanning start (c.scan_positions.result, c.scan_positions.new.self.rows)) (behind_scan t)) c.requires.stage in
+    search rules

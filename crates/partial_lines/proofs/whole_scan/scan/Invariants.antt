@@ -1,6 +1,4 @@
-use Rattle.std.proofs.Common.{◌≡◌}
-use Rattle.partial_machine.specs.Lines.{scan_asked}
-use Rattle.partial_lines.specs.Lines.{announcing}
+use Rattle.partial_lines.proofs.Common.{◌≡◌, scan_asked, announcing}
 use Rattle.partial_lines.proofs.whole_scan.scan.Given as goal
 
 abbrev pub invariant-loop-k : goal.invariant-loop-k

@@ -1,7 +1,5 @@
-use Rattle.std.proofs.Common.{sym, ap, ◌∙◌}
-use Rattle.std.specs.Prelude.{slice_index}
+use Rattle.partial_lines.proofs.Common.{sym, ap, ◌∙◌, slice_index, at_stage}
 use Rattle.partial_words.specs.Announcement.{announcement_block}
-use Rattle.partial_machine.specs.Machine.{at_stage}
 use Rattle.partial_lines.proofs.Announcing.{store_due, store_then}
 use Rattle.partial_lines.proofs.whole_scan.store_index.Goals as goal
 

@@ -1,5 +1,4 @@
-use Rattle.std.proofs.Common.{◌+◌, ◌-◌, length}
-use Rattle.std.specs.Slots.{slots_len, slots_items}
+use Rattle.partial_memory.proofs.Common.{◌+◌, ◌-◌, length, slots_len, slots_items}
 use Rattle.partial_memory.proofs.Chains.{Walked}
 use Rattle.partial_memory.proofs.closed.chain.Given as goal
 

@@ -1,7 +1,4 @@
-use Rattle.std.proofs.Common.{rules, ◌≡◌, ◌<◌, ◌≤◌, ap, sym, subst, length, arith}
-use Rattle.std.specs.Slots.{slots_items}
-use Rattle.partial_words.specs.Chain.{chain_of}
-use Rattle.partial_memory.specs.Closing.{AreChains, AreChainsFrom, AreValues, IsWhole}
+use Rattle.partial_memory.proofs.Common.{rules, ◌≡◌, ◌<◌, ◌≤◌, ap, sym, subst, length, arith, slots_items, chain_of, AreChains, AreChainsFrom, AreValues, IsWhole}
 use Rattle.partial_memory.proofs.Chains.{elem_or, whole_chain, values_more, chains_more, first_value, links_some}
 use Rattle.partial_memory.proofs.closed.closed_of.Goals as goal
 

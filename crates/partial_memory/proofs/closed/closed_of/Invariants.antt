@@ -1,11 +1,4 @@
-use Rattle.std.proofs.Common.{◌≡◌, ◌≤◌, List}
-use Rattle.std.specs.Slots.{slots_items}
-use Rattle.std.specs.Vec.{vec_capacity}
-use Rattle.partial_model.specs.declared.history.Applied.{Applied}
-use Rattle.partial_model.specs.declared.history.Opening.{Opening}
-use Rattle.partial_words.specs.Layout.{Layout}
-use Rattle.partial_core.specs.Ports.{RecordsAreWithin}
-use Rattle.partial_memory.specs.Closing.{AreValues, AreChains}
+use Rattle.partial_memory.proofs.Common.{◌≡◌, ◌≤◌, List, slots_items, vec_capacity, Applied, Opening, Layout, RecordsAreWithin, AreValues, AreChains}
 use Rattle.partial_memory.proofs.closed.closed_of.Given as goal
 
 abbrev pub invariant-loop-j : goal.invariant-loop-j

@@ -1,8 +1,4 @@
-use Rattle.std.proofs.Common.{◌<◌, Some, refl, sym, ap, subst, ◌∙◌, inl}
-use Rattle.partial_words.specs.declared.step.Step.TheVariants.{Load}
-use Rattle.partial_words.specs.Layout.{total}
-use Rattle.partial_machine.specs.Machine.{step_of}
-use Rattle.partial_memory.specs.declared.rule.About.{About}
+use Rattle.partial_memory.proofs.Common.{◌<◌, Some, refl, sym, ap, subst, ◌∙◌, inl, Load, total, step_of, About}
 use Rattle.partial_memory.proofs.Calls.{runs_within}
 use Rattle.partial_memory.proofs.Steps.{step_asked}
 use Rattle.partial_memory.proofs.Straight.{first_leads}
@@ -12,18 +8,18 @@ pub load-requires : goal.load-requires
 load-requires g c =
     let due = ap step_of c.requires.moment ∙ ap (λ w. Some (Load w)) (sym c.component_word-word.ensures) in
     let within = runs_within _ _ _ _ (Load c.component_word-word.result) c.requires.begins (inl (refl, refl)) due in
-    let there = subst (λ n. c.component_word-word.result < n) (sym c.requires.words) (subst (λ (o : About). c.component_word-word.result < total o.sizes) c.requires.own within) in
-    let r = step_asked _ _ _ _ _ _ _ _ (Load _) there c.requires.one c.requires.own refl (inl c.requires.begins.begun, due) refl in
-    (c.requires.table, r.0, r.1)
+    let there = subst (λ n. c.component_word-word.result < n) (sym c.requires.rest.words) (subst (λ (o : About). c.component_word-word.result < total o.sizes) c.requires.rest.own within) in
+    let r = step_asked _ _ _ _ _ _ _ _ (Load _) there c.requires.one c.requires.rest.own refl (inl c.requires.begins.begun, due) refl in
+    (c.requires.rest.fits, r.0, r.1)
 
 pub returns-clause-going : goal.returns-clause-going
 returns-clause-going g c =
     let told = c.load.ensures.2.1 in
     let due = ap step_of c.requires.moment ∙ ap (λ w. Some (Load w)) (sym c.component_word-word.ensures) in
     record {
-      fits = c.load.ensures.0 ∙ c.requires.table;
-      words = c.requires.words;
+      fits = c.load.ensures.0 ∙ c.requires.rest.fits;
+      words = c.requires.rest.words;
       one = c.load.ensures.2.0;
-      own = told.about ∙ c.requires.own;
+      own = told.about ∙ c.requires.rest.own;
       under = (_, _, c.requires.begins, first_leads _ _ c.requires.begins (Load _) due _ _ told);
     }

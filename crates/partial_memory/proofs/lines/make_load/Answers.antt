@@ -1,4 +1,4 @@
-use Rattle.partial_words.specs.declared.step.Step.TheVariants.{Load}
+use Rattle.partial_memory.proofs.Common.{Load}
 use Rattle.partial_memory.proofs.Straight.{next_asked, next_going, next_leads}
 use Rattle.partial_memory.proofs.lines.make_load.Goals as goal
 

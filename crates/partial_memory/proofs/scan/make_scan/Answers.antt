@@ -1,12 +1,12 @@
-use Rattle.partial_memory.specs.Inner.Lines.{machine_of}
+use Rattle.partial_memory.proofs.Common.{machine_of}
 use Rattle.partial_memory.proofs.scan.make_scan.Goals as goal
 
 pub returns-clause-ended : goal.returns-clause-ended
 returns-clause-ended c =
-    let behind = c.scan-lines.ensures in
+    let behind = c.scan-scanned.ensures in
     record {
       ended = record {
-        machine = machine_of c.scan-lines.result.0.seat.me;
+        machine = machine_of c.scan-scanned.new.lines.seat.me;
         made = behind.leads.1 _ _ c.requires.begins c.begin_scan-at.ensures.made;
         replies = behind.replies;
         like = behind.rests.like;

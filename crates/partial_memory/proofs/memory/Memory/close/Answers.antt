@@ -1,11 +1,4 @@
-use Rattle.std.proofs.Common.{rules, ◌≡◌, ap, sym, ◌∙◌, subst, List, arith}
-use Rattle.std.specs.Slots.{slots_items}
-use Rattle.atomic_table.specs.Table.{Me}
-use Rattle.partial_words.specs.Layout.{Layout}
-use Rattle.partial_memory.specs.declared.rule.About.{About}
-use Rattle.atomic_table.specs.Seated.{TableId}
-use Rattle.partial_memory.specs.Rule.{Seated}
-use Rattle.partial_memory.specs.Ports.{MemoryView, port_view}
+use Rattle.partial_memory.proofs.Common.{rules, ◌≡◌, ap, sym, ◌∙◌, subst, List, arith, slots_items, Me, Layout, About, TableId, Seated, MemoryView, port_view}
 use Rattle.partial_memory.proofs.Looks.{gathers}
 use Rattle.partial_memory.proofs.Closes.{Ends, taken_none, taken_more, own_one, own_more, of_last, ends, closes}
 use Rattle.partial_memory.proofs.memory.Memory.close.Goals as goal
@@ -72,5 +65,6 @@ returns c =
     let here : Ends c.args.self.about words c.loop-port.seat.me.0 = subst (λ (a : About). Ends a words c.loop-port.seat.me.0) same e in
     let count : c.m.result ≡ c.args.self.about.sizes.m = c.m.ensures.value ∙ ap (λ (z : Layout). z.m) c.self.invariant.0 ∙ ap (λ (a : About). a.sizes.m) same in
     let shown = c.in_ok-closed.ensures c.args.self.about.sizes c.args.self.about.opening here.log here.records (sym count) in
-    let both = closes c.args.self c.args.port c.args.rest.items _ _ _ c.in_ok-closed.field-0 c.m.result here c.loop-port.invariant.taken (sym c.loop-port.rest.ok.0 ∙ c.in_default.ensures.cases.0) count shown in
+    let both = closes c.args.self c.args.port c.args.rest.items _ _ _ c.in_ok-closed.field-0 c.m.result here c.loop-port.invariant.taken
+    (sym c.loop-port.rest.ok.0 ∙ c.in_default.ensures.cases.0) count shown in
     record { closed = both.0; lawful = both }

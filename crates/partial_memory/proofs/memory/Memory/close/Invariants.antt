@@ -1,7 +1,4 @@
-use Rattle.std.proofs.Common.{◌≡◌}
-use Rattle.std.specs.List.{AllByRecursion}
-use Rattle.partial_memory.specs.Ports.{IsOf}
-use Rattle.partial_memory.specs.Rule.{AreOf}
+use Rattle.partial_memory.proofs.Common.{◌≡◌, AllByRecursion, IsOf, AreOf}
 use Rattle.partial_memory.proofs.Closes.{Taken}
 use Rattle.partial_memory.proofs.memory.Memory.close.Given as goal
 

@@ -1,7 +1,4 @@
-use Rattle.std.proofs.Common.{rules, ◌≡◌, ap, sym, ◌∙◌, List, [], ◌∷◌}
-use Rattle.atomic_table.specs.Table.{Me}
-use Rattle.partial_memory.specs.Rule.{Seated, first_of, one_in, others_of}
-use Rattle.partial_memory.specs.Ports.{MemoryView, PortView, port_view}
+use Rattle.partial_memory.proofs.Common.{rules, ◌≡◌, ap, sym, ◌∙◌, List, [], ◌∷◌, Me, Seated, first_of, one_in, others_of, MemoryView, PortView, port_view}
 use Rattle.partial_memory.proofs.Views.{deals}
 use Rattle.partial_memory.proofs.Looks.{looks_on, gathers}
 use Rattle.partial_memory.proofs.Meetings.{both_of, joined, looked, meets, meets_lawfully, rests_met}

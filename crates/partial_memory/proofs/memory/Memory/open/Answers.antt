@@ -1,11 +1,4 @@
-use Rattle.std.proofs.Common.{rules, [], ◌∷◌, ◌≡◌, ap, sym, ◌∙◌, subst, List, ℕ, length}
-use Rattle.partial_words.specs.Chain.{AreOpeningWords}
-use Rattle.atomic_table.specs.Table.{Me}
-use Rattle.atomic_table.specs.Seated.{TableId}
-use Rattle.partial_words.specs.Layout.{IsLayout}
-use Rattle.partial_memory.specs.declared.rule.About.{About}
-use Rattle.partial_memory.specs.Rule.{Seated, one_in}
-use Rattle.partial_memory.specs.Ports.{port_view}
+use Rattle.partial_memory.proofs.Common.{rules, [], ◌∷◌, ◌≡◌, ap, sym, ◌∙◌, subst, List, ℕ, length, AreOpeningWords, Me, TableId, IsLayout, About, Seated, one_in, port_view}
 use Rattle.partial_memory.proofs.Opens.{opens, rests_new, deals_next, made_next}
 use Rattle.partial_memory.proofs.Views.{deals}
 use Rattle.partial_memory.proofs.memory.Memory.open.Goals as goal

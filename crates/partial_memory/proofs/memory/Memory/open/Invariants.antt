@@ -1,7 +1,4 @@
-use Rattle.std.proofs.Common.{◌≡◌, ◌-◌, ◌≤◌, [], ◌++◌}
-use Rattle.std.specs.Vec.{vec_len, vec_capacity}
-use Rattle.partial_memory.specs.Rule.{newcomers}
-use Rattle.partial_memory.specs.Ports.{new_ports}
+use Rattle.partial_memory.proofs.Common.{◌≡◌, ◌-◌, ◌≤◌, [], ◌++◌, vec_len, vec_capacity, newcomers, new_ports}
 use Rattle.partial_memory.proofs.memory.Memory.open.Given as goal
 
 abbrev pub invariant-loop-number : goal.invariant-loop-number

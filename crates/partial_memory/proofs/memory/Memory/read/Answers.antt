@@ -1,9 +1,4 @@
-use Rattle.std.proofs.Common.{rules, ◌≡◌, ◌<◌, ap, sym, ◌∙◌, subst, Some, arith}
-use Rattle.partial_words.specs.declared.step.Step.TheVariants.{Load}
-use Rattle.partial_words.specs.Layout.{Layout, total}
-use Rattle.partial_machine.specs.Machine.{step_of}
-use Rattle.partial_memory.specs.declared.rule.About.{About}
-use Rattle.partial_memory.specs.Rule.{one_in}
+use Rattle.partial_memory.proofs.Common.{rules, ◌≡◌, ◌<◌, ap, sym, ◌∙◌, subst, Some, arith, Load, Layout, total, step_of, About, one_in}
 use Rattle.partial_memory.proofs.Reading.{first_told, begins_asked, goes_on_asked, next_machine, next_within, next_is, read_is, read_rests, badge_of, read_seen}
 use Rattle.partial_memory.proofs.memory.Memory.read.Goals as goal
 

@@ -1,6 +1,5 @@
-use Rattle.std.proofs.Common.{rules, ◌≡◌, ◌∙◌, ◌-◌, ◌≤◌, ◌++◌, length, take, replicate}
-use Rattle.std.specs.Vec.{vec_len}
-use Rattle.std.specs.Prelude.{Result, Ok, Err, IfOk}
+use Rattle.partial_memory.proofs.Common.{rules, ◌≡◌, ◌∙◌, ◌-◌, ◌≤◌, ◌++◌, length, take, replicate, vec_len, Result, Err, IfOk}
+use Rattle.std.specs.Prelude.{Ok}
 use Rattle.partial_memory.specs.Reopening.{extended}
 use Rattle.partial_memory.proofs.Reopening.{closed_memories_continue, grown_is_extended}
 use Rattle.partial_memory.proofs.memory.Memory.reopen.Goals as goal

@@ -1,9 +1,5 @@
-use Rattle.std.proofs.Common.{rules, ◌≡◌, ◌≤◌, refl, sym, ap, ◌∙◌, subst, length, Some, inl}
-use Rattle.std.proofs.lemmas.Result.{err_from_is_err_and}
+use Rattle.partial_memory.proofs.Common.{rules, ◌≡◌, ◌≤◌, refl, sym, ap, ◌∙◌, subst, length, Some, inl, err_from_is_err_and, Layout, PortView, refusal, one_in}
 use Rattle.partial_model.specs.declared.call.Call.TheVariants as call
-use Rattle.partial_words.specs.Layout.{Layout}
-use Rattle.partial_memory.specs.Ports.{PortView, refusal}
-use Rattle.partial_memory.specs.Rule.{one_in}
 use Rattle.partial_memory.proofs.Resting.{asked_begins, refusal_here, rests, scan_begins, same_memory}
 use Rattle.partial_memory.proofs.Replies.{scan_ended, scan_answered, at_once, err_err}
 use Rattle.partial_memory.proofs.memory.Memory.scan.Goals as goal
@@ -14,13 +10,10 @@ scan-requires c =
     let sizes : c.me.inside.core.sizes ≡ c.args.self.now.about.sizes = search rules in
     let few : length c.args.which.now ≤ c.me.inside.core.sizes.m = subst (λ (z : Layout). length c.args.which.now ≤ z.m) (sym sizes) c.requires.lengths.1 in
     let begins = scan_begins _ _ _ c.me.invariant c.me.inside.badge.table_id _ _ few some c.in_ok-may_scan.ensures.ok (asked_begins c.me.inside.core _ some) in
+    let between = c.me.invariant.between in
     record {
-      table = search rules;
-      words = search rules;
       one = c.me.invariant.one;
-      own = search rules;
-      idle = c.me.invariant.between.idle;
-      sound = c.me.invariant.between.sound;
+      rest = record { fits = search rules; words = search rules; own = search rules; idle = between.idle; sound = between.sound };
       begins = begins.begins;
       lengths = c.requires.lengths.0;
     }

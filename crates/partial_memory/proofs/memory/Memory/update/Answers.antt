@@ -1,11 +1,7 @@
-use Rattle.std.proofs.Common.{rules, ◌≡◌, refl, sym, ap, ◌∙◌, Some, None, Ok, inl, inr}
-use Rattle.std.proofs.lemmas.Result.{err_from_is_err_and}
+use Rattle.partial_memory.proofs.Common.{rules, ◌≡◌, refl, sym, ap, ◌∙◌, Some, None, Ok, inl, inr, err_from_is_err_and, update_reply, PortView, refusal, one_in}
 use Rattle.partial_model.specs.declared.call.Call.TheVariants as call
 use Rattle.partial_machine.specs.declared.stage.Change.{Change}
 use Rattle.partial_machine.specs.declared.stage.Reply.TheVariants as reply
-use Rattle.partial_lines.specs.Replies.{update_reply}
-use Rattle.partial_memory.specs.Ports.{PortView, refusal}
-use Rattle.partial_memory.specs.Rule.{one_in}
 use Rattle.partial_memory.proofs.Resting.{call_begins, refusal_here, rests, same_memory}
 use Rattle.partial_memory.proofs.Replies.{update_ended, at_once, ok_ok, err_ok, err_err, ok_err}
 use Rattle.partial_memory.proofs.memory.Memory.update.Goals as goal
@@ -16,7 +12,11 @@ update-requires c =
     let ok = c.in_ok-may_update.ensures.ok in
     let begins = call_begins _ _ _ c.me.invariant c.me.inside.badge.table_id _ (call.Update c.args.component c.args.value) tt ok refl refl in
     let between = c.me.invariant.between in
-    record { table = search rules; words = search rules; one = c.me.invariant.one; own = search rules; idle = between.idle; sound = between.sound; begins = begins.begins }
+    record {
+      one = c.me.invariant.one;
+      rest = record { fits = search rules; words = search rules; own = search rules; idle = between.idle; sound = between.sound };
+      begins = begins.begins;
+    }
 
 pub invariant_of-me : goal.invariant_of-me
 invariant_of-me c =
