@@ -1,20 +1,11 @@
 -- Workers for the ports of a memory, and what their threads come to.
-use Rattle.std.proofs.Common.{ℕ, suc, ◌≡◌, ◌+◌, ◌<◌, ◌≤◌, ◌++◌, List, [], ◌∷◌, length, take, get_or, sym, ap, subst, ◌∙◌, arith}
-use Rattle.std.specs.List.{AllByRecursion}
-use Rattle.std.specs.Vec.{vec_capacity}
-use Rattle.std.proofs.Math.Seq.{take-suc}
-use Rattle.std.proofs.lemmas.List.{get_or_default, length-map, map-append}
-use Rattle.partial_model.specs.declared.call.Call.{Call}
-use Rattle.partial_model.proofs.AllLemmas.{all_append, all_back, all_front}
-use Rattle.partial_memory.specs.Ports.{MemoryView, PortView}
+use Rattle.partial_workers.proofs.Common.{ℕ, suc, ◌≡◌, ◌+◌, ◌<◌, ◌≤◌, ◌++◌, List, [], ◌∷◌, length, take, get_or, sym, ap, subst, ◌∙◌, arith, AllByRecursion, vec_capacity, take-suc, get_or_default, length-map, map-append, Call, all_append, all_back, all_front, MemoryView, PortView, AreEach, IsWithin, HasRoom, HaveCome, HaveRooms, IsDone, IsHired, IsNew, IsStarted, calls_of}
 use Rattle.partial_workers.specs.declared.worker.Job.{Job}
 use Rattle.partial_workers.specs.declared.worker.Worked.{Worked}
 use Rattle.partial_workers.specs.declared.worker.Worker.{Worker}
 use Rattle.partial_workers.specs.declared.workers.Results.{Results}
-use Rattle.partial_workers.specs.Answered.{AreEach, IsWithin}
 use Rattle.std.specs.declared.thread.PromisedHandle.{PromisedHandle}
 use Rattle.partial_workers.specs.declared.workers.Works.{Works}
-use Rattle.partial_workers.specs.Work.{HasRoom, HaveCome, HaveRooms, IsDone, IsHired, IsNew, IsStarted, calls_of}
 use Rattle.partial_workers.proofs.Pairs.{each_at, each_length, each_push}
 
 -- one call more of a port

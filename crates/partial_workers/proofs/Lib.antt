@@ -1,3 +1,4 @@
+mod Common
 pub mod Hires
 pub mod Made
 pub mod Pairs

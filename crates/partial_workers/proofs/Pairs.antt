@@ -1,10 +1,5 @@
 -- Two lists whose elements at each place belong together.
-use Rattle.std.proofs.Common.{ℕ, zero, suc, ◌≡◌, ◌+◌, ◌<◌, ◌++◌, List, [], ◌∷◌, length, map, take, get_or, refl, sym, ap, subst, ◌∙◌, arith}
-use Rattle.std.specs.List.{AllByRecursion}
-use Rattle.std.proofs.Math.Seq.{take-suc}
-use Rattle.partial_model.proofs.AllLemmas.{all_append}
-use Rattle.std.proofs.lemmas.List.{length-take-le}
-use Rattle.partial_workers.specs.Answered.{AreEach}
+use Rattle.partial_workers.proofs.Common.{ℕ, zero, suc, ◌≡◌, ◌+◌, ◌<◌, ◌++◌, List, [], ◌∷◌, length, map, take, get_or, refl, sym, ap, subst, ◌∙◌, arith, AllByRecursion, take-suc, all_append, length-take-le, AreEach}
 
 module _ {A B : Type 0} (P : ℕ → A → B → Type 0) where
   pub each_length : (k : ℕ) (xs : List A) (ys : List B) → AreEach P k xs ys → length xs ≡ length ys

@@ -1,30 +1,22 @@
 -- The answers of workers that have ended are right in the history of the memory that was closed with their ports.
-use Rattle.std.proofs.Common.{ℕ, ◌≡◌, ◌+◌, ◌<◌, ◌≤◌, ◌++◌, Option, Some, None, List, [], ◌∷◌, length, map, refl, sym, ap, subst, ◌∙◌, inl, inr, arith}
-use Rattle.std.specs.Prelude.{IfSome}
-use Rattle.std.specs.List.{AllByRecursion}
-use Rattle.std.proofs.lemmas.List.{length-map}
+use Rattle.partial_workers.proofs.Common.{ℕ, ◌≡◌, ◌+◌, ◌<◌, ◌≤◌, ◌++◌, Option, Some, None, List, [], ◌∷◌, length, map, refl, sym, ap, subst, ◌∙◌, inl, inr, arith, AllByRecursion, length-map, Call, Answer, all_append, all_back, all_front, IsOf, MemoryView, PortView, new_ports, AreAnswered, AreEach, AreMakable, AreRight, Fills, HasNumber, HaveCome, IsDone, IsNew, IsOpenedFor, IsUnnoted, WasClosedLawfully, WasEmpty, WasRefused}
 use Rattle.std.specs.declared.alloc.Global.{Global}
 use Rattle.std.specs.declared.vec.Vec.{Vec}
 use Rattle.partial_model.specs.declared.history.Applied.{Applied}
 use Rattle.partial_model.specs.declared.history.Opening.{Opening}
-use Rattle.partial_model.specs.declared.call.Call.{Call}
 use Rattle.partial_model.specs.declared.call.Call.TheVariants as call
-use Rattle.partial_model.specs.declared.call.Answer.{Answer}
 use Rattle.partial_model.specs.declared.call.Answer.TheVariants as answer
 use Rattle.partial_model.specs.declared.call.Note.{Note}
 use Rattle.partial_model.specs.declared.call.Note.TheVariants as note
-use Rattle.partial_model.specs.Notes.{Noted, LegalNotes, IsLegal, IsTrueOf, place_of, seen_after}
+use Rattle.partial_model.specs.Notes.{Noted, LegalNotes, IsLegal, seen_after}
 use Rattle.partial_model.specs.Outcome.{EachOnce, places_written, wrote}
-use Rattle.partial_model.proofs.AllLemmas.{all_append, all_back, all_front}
-use Rattle.partial_model.proofs.WalkLaws.{true_within}
-use Rattle.partial_memory.specs.Ports.{IsOf, MemoryView, PortView, new_ports}
+use Rattle.partial_model.proofs.NotesLemmas.{note_within}
 use Rattle.partial_memory.specs.Rule.{newcomers}
 use Rattle.partial_memory.specs.Closing.{Closes, IsPortOf}
+use Rattle.partial_memory.specs.Lawfulness.{ClosesLawfully}
 use Rattle.partial_memory.specs.declared.closed.Closed.{Closed}
 use Rattle.partial_workers.specs.declared.worker.Worked.{Worked}
 use Rattle.partial_workers.specs.declared.workers.Results.{Results}
-use Rattle.partial_workers.specs.Answered.{AreAnswered, AreEach, AreMakable, AreRight}
-use Rattle.partial_workers.specs.Work.{Fills, HaveCome, IsDone, IsNew, IsOpenedFor, IsUnnoted, WasEmpty, WasRefused}
 use Rattle.partial_workers.proofs.Made.{unnoted_seen}
 use Rattle.partial_workers.proofs.Pairs.{each_length}
 
@@ -47,11 +39,6 @@ unnoted_legal : (o : Opening) (h : List Applied) (p seen : ℕ) (n : Noted) → 
 unnoted_legal o h p seen n within (inl w) = refused_legal o h p seen n w
 unnoted_legal o h p seen n within (inr w) = empty_legal o h p seen n within w
 
-noted_within : (o : Opening) (h : List Applied) (p seen : ℕ) (c : Call) (a : Answer) (t : Option Note) → seen ≤ length h → IfSome t (λ note. IsTrueOf o h p c a note × (seen ≤ place_of note)) →
-    seen_after seen t ≤ length h
-noted_within o h p seen c a None within w = within
-noted_within o h p seen c a (Some t) within w = true_within o h p c a t w.0
-
 fills_legal : (o : Opening) (h : List Applied) (p seen : ℕ) (kept ns : List Noted) → seen ≤ length h → Fills (length o.values) seen kept ns → LegalNotes o h p seen kept → LegalNotes o h p seen ns
 fills_legal o h p seen kept [] within f w = tt
 fills_legal o h p seen kept (n ∷ ns) within (inl f) w =
@@ -59,7 +46,7 @@ fills_legal o h p seen kept (n ∷ ns) within (inl f) w =
     (unnoted_legal o h p seen n within f.0, fills_legal o h p (seen_after seen n.note) kept ns (subst (λ k. k ≤ length h) (sym same) within) f.1 (subst (λ k. LegalNotes o h p k kept) (sym same) w))
 fills_legal o h p seen kept (n ∷ ns) within (inr f) w =
     let both : LegalNotes o h p seen (n ∷ f.0) = subst (LegalNotes o h p seen) f.1 w in
-    (both.0, fills_legal o h p (seen_after seen n.note) f.0 ns (noted_within o h p seen n.call n.answer n.note within both.0.1) f.2 both.1)
+    (both.0, fills_legal o h p (seen_after seen n.note) f.0 ns (note_within o h p seen n.call n.answer n.note within both.0.1) f.2 both.1)
 
 unnoted_writes : (m seen : ℕ) (n : Noted) → IsUnnoted m seen n → wrote n.note ≡ []
 unnoted_writes m seen n (inl w) = ap wrote w.2
@@ -132,6 +119,25 @@ ran m plan fresh r rest last closed opened come is w =
       values = w.values;
     } in
     subst (λ (l : List (Vec Answer Global)). AreRight o plan l closed.values.items) come.answers right
+
+each_numbered : (m : MemoryView) (port : ℕ) (plan : List (List Call)) (done : List Worked) → AreEach (IsDone m) port plan done → AreEach HasNumber port plan done
+each_numbered m port [] [] each = tt
+each_numbered m port [] (w ∷ done) each = absurd each
+each_numbered m port (calls ∷ plan) [] each = absurd each
+each_numbered m port (calls ∷ plan) (w ∷ done) each = (each.0.number, each_numbered m (port + 1) plan done each.1)
+
+pub closed_lawfully : (m : MemoryView) (plan : List (List Call)) (r : Results) (rest : List PortView) (last : PortView) (closed : Closed) → HaveCome m plan r → r.ports.items ≡ rest ++ last ∷ [] →
+    ClosesLawfully m (last ∷ rest) closed → WasClosedLawfully m plan r.answers.items closed
+closed_lawfully m plan r rest last closed come is w =
+    record {
+      done = come.done;
+      answers = come.answers;
+      numbers = each_numbered m 0 plan come.done come.each;
+      front = rest;
+      last = last;
+      ports = come.ports ∙ is;
+      lawful = w;
+    }
 
 -- ---- the ports of a memory that was opened for calls
 

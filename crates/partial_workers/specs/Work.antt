@@ -2,6 +2,8 @@
 use Rattle.std.specs.Prelude.{ℕ, ◌≡◌, ◌++◌, ◌<◌, ◌≤◌, ◌^◌, ◌⊎◌, List, [], ◌∷◌, length, map, Some, None}
 use Rattle.std.specs.List.{AllByRecursion}
 use Rattle.std.specs.Vec.{vec_capacity}
+use Rattle.std.specs.declared.alloc.Global.{Global}
+use Rattle.std.specs.declared.vec.Vec.{Vec}
 use Rattle.std.specs.declared.thread.PromisedHandle.{PromisedHandle}
 use Rattle.partial_model.specs.declared.call.Call.{Call}
 use Rattle.partial_model.specs.declared.call.Call.TheVariants as call
@@ -11,7 +13,9 @@ use Rattle.partial_model.specs.declared.call.Note.TheVariants as note
 use Rattle.partial_model.specs.declared.call.Refused.{Refused}
 use Rattle.partial_model.specs.Notes.{Noted, MayBeRefused, seen_after, seen_by}
 use Rattle.partial_memory.specs.Ports.{IsOf, MemoryView, PortView, new_ports}
+use Rattle.partial_memory.specs.Lawfulness.{ClosesLawfully}
 use Rattle.partial_memory.specs.Rule.{newcomers}
+use Rattle.partial_memory.specs.declared.closed.Closed.{Closed}
 use Rattle.partial_workers.specs.declared.worker.Job.{Job}
 use Rattle.partial_workers.specs.declared.worker.Worked.{Worked}
 use Rattle.partial_workers.specs.declared.worker.Worker.{Worker}
@@ -113,3 +117,17 @@ pub record IsOpenedFor (m : MemoryView) (calls : List (List Call)) (fresh : List
   pub values : length m.about.opening.values ≡ m.about.sizes.m
   pub count : m.about.ports ≡ length calls
   pub ports : fresh ≡ new_ports m.table (newcomers m.about 0 (length calls))
+
+-- the worker's port has that number
+abbrev pub HasNumber : ℕ → List Call → Worked → Type 0
+HasNumber port calls w = w.port.number ≡ port
+
+-- the memory was closed lawfully with the ports that have these answers, one port for each list of calls, by their numbers
+pub record WasClosedLawfully (m : MemoryView) (calls : List (List Call)) (given : List (Vec Answer Global)) (c : Closed) : Type 0 where
+  pub done : List Worked
+  pub answers : map (λ w. w.answers) done ≡ given
+  pub numbers : AreEach HasNumber 0 calls done
+  pub front : List PortView
+  pub last : PortView
+  pub ports : map (λ w. w.port) done ≡ front ++ last ∷ []
+  pub lawful : ClosesLawfully m (last ∷ front) c

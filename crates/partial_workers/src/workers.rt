@@ -5,7 +5,7 @@ ghost use Rattle.std.specs.Vec.{vec_capacity};
 ghost use Rattle.partial_model.specs.declared.call.Call.{Call as CallType};
 ghost use Rattle.partial_memory.specs.Ports.{IsOf, MemoryView};
 ghost use Rattle.partial_workers.specs.Answered.{AreEach, AreMakable, AreRight, IsWithin};
-ghost use Rattle.partial_workers.specs.Work.{HasRoom, HaveCome, HaveRooms, IsDone, IsHired, IsNew, IsOpenedFor, IsReady, IsStarted, calls_of};
+ghost use Rattle.partial_workers.specs.Work.{HasRoom, HaveCome, HaveRooms, IsDone, IsHired, IsNew, IsOpenedFor, IsReady, IsStarted, WasClosedLawfully, calls_of};
 
 use crate::error::RunError;
 use crate::gate::Gate;
@@ -164,7 +164,8 @@ pub struct Ran {
 /// passes the gate before and after each.
 ///
 /// Each port has one answer for each of its calls, whatever the answers are. There is one history over the values of
-/// the opening in which all of them are right, and after which the closed memory has its values.
+/// the opening in which all of them are right, and after which the closed memory has its values. The memory was closed
+/// in a lawful state, with the ports that have these answers.
 ///
 /// All memory but that of closing is taken before the first worker starts.
 ///
@@ -182,8 +183,10 @@ pub fn run_on<'c, R: Threads + Wait + Sync, G: Gate>(
 ) -> Result<Ran, RunError>
     requires opened { IsOpenedFor memory (map (λ c. c.now) calls.now) ports.items }
     requires makable { AreMakable memory.about.sizes.m (map (λ c. c.now) calls.now) }
-    ensures { IfOk result (λ ran. AreRight memory.about.opening (map (λ c. c.now) calls.now) ran.answers.items
+    ensures right { IfOk result (λ ran. AreRight memory.about.opening (map (λ c. c.now) calls.now) ran.answers.items
         ran.closed.values.items) }
+    ensures lawful { IfOk result (λ ran. WasClosedLawfully memory (map (λ c. c.now) calls.now) ran.answers.items
+        ran.closed) }
 {
     let count = calls.len();
     let workers = hire(alloc, &memory, calls, ports)?;

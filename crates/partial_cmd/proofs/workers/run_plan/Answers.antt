@@ -16,4 +16,4 @@ returns g c =
     let p = c.args.plan.now in
     let given : List (List Call) = map (λ (b : Bor (List Call)). b.now) c.deref.result.now in
     let same : given ≡ p.ports = ap (λ (l : List (Bor (List Call))). map (λ (b : Bor (List Call)). b.now) l) c.deref.ensures.value ∙ c.in_ok-calls.ensures ∙ c.ports.ensures.value in
-    plan_ran c.args.memory.about.opening p given c.run_on.result same c.run_on.ensures
+    plan_ran c.args.memory.about.opening p given c.run_on.result same c.run_on.ensures.right

@@ -1,6 +1,4 @@
-use Rattle.std.proofs.Common.{◌<◌, ◌^◌, length, refl, subst, arith}
-use Rattle.std.specs.List.{AllByRecursion}
-use Rattle.partial_workers.specs.Answered.{IsWithin}
+use Rattle.partial_workers.proofs.Common.{◌<◌, ◌^◌, length, refl, subst, arith, AllByRecursion, IsWithin}
 use Rattle.partial_workers.proofs.Pairs.{all_next}
 use Rattle.partial_workers.proofs.makable.are_makable.Goals as goal
 

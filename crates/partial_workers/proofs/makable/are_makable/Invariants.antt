@@ -1,5 +1,4 @@
-use Rattle.std.proofs.Common.{take}
-use Rattle.partial_workers.specs.Answered.{AreMakable}
+use Rattle.partial_workers.proofs.Common.{take, AreMakable}
 use Rattle.partial_workers.proofs.makable.are_makable.Given as goal
 
 -- the ports so far

@@ -1,5 +1,4 @@
-use Rattle.std.proofs.Common.{refl}
-use Rattle.partial_workers.specs.Answered.{IsWithin}
+use Rattle.partial_workers.proofs.Common.{refl, IsWithin}
 use Rattle.partial_workers.proofs.Pairs.{all_next}
 use Rattle.partial_workers.proofs.makable.are_within.Goals as goal
 

@@ -1,6 +1,4 @@
-use Rattle.std.proofs.Common.{take}
-use Rattle.std.specs.List.{AllByRecursion}
-use Rattle.partial_workers.specs.Answered.{IsWithin}
+use Rattle.partial_workers.proofs.Common.{take, AllByRecursion, IsWithin}
 use Rattle.partial_workers.proofs.makable.are_within.Given as goal
 
 -- the calls so far

@@ -1,4 +1,4 @@
-use Rattle.std.proofs.Common.{rules, ◌≡◌, ◌∙◌, length, inl}
+use Rattle.partial_workers.proofs.Common.{rules, ◌≡◌, ◌∙◌, length, inl}
 use Rattle.partial_model.specs.declared.call.Call.TheVariants as call
 use Rattle.partial_model.proofs.ListLemmas.{written_whole}
 use Rattle.partial_workers.proofs.Made.{refused_at, scanned_at}

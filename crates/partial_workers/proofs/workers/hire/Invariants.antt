@@ -1,7 +1,4 @@
-use Rattle.std.proofs.Common.{◌≡◌, ◌≤◌, length, map, take}
-use Rattle.std.specs.Vec.{vec_capacity}
-use Rattle.partial_workers.specs.Answered.{AreEach}
-use Rattle.partial_workers.specs.Work.{IsHired}
+use Rattle.partial_workers.proofs.Common.{◌≡◌, ◌≤◌, length, map, take, vec_capacity, AreEach, IsHired}
 use Rattle.partial_workers.proofs.workers.hire.Given as goal
 
 -- the workers so far

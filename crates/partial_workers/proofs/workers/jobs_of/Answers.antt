@@ -1,4 +1,4 @@
-use Rattle.std.proofs.Common.{rules}
+use Rattle.partial_workers.proofs.Common.{rules}
 use Rattle.partial_workers.proofs.Hires.{calls_more, rooms_more}
 use Rattle.partial_workers.proofs.workers.jobs_of.Goals as goal
 

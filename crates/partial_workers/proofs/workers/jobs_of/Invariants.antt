@@ -1,6 +1,4 @@
-use Rattle.std.proofs.Common.{◌≡◌, ◌≤◌, length, take}
-use Rattle.std.specs.Vec.{vec_capacity}
-use Rattle.partial_workers.specs.Work.{HaveRooms, calls_of}
+use Rattle.partial_workers.proofs.Common.{◌≡◌, ◌≤◌, length, take, vec_capacity, HaveRooms, calls_of}
 use Rattle.partial_workers.proofs.workers.jobs_of.Given as goal
 
 -- the calls so far

@@ -1,8 +1,4 @@
-use Rattle.std.proofs.Common.{rules, ◌+◌, ◌++◌, [], ◌∷◌, length, sym, ap, subst, ◌∙◌, arith}
-use Rattle.std.proofs.lemmas.Iterator.Adapters.{YieldsList-from_vec}
-use Rattle.std.proofs.lemmas.Iterator.Consumers.{YieldsList-turn, YieldsList-end}
-use Rattle.std.proofs.lemmas.List.{length_push, take_all}
-use Rattle.partial_workers.specs.Work.{HaveCome, IsStarted}
+use Rattle.partial_workers.proofs.Common.{rules, ◌+◌, ◌++◌, [], ◌∷◌, length, sym, ap, subst, ◌∙◌, arith, YieldsList-from_vec, YieldsList-turn, YieldsList-end, length_push, take_all, HaveCome, IsStarted}
 use Rattle.partial_workers.proofs.Hires.{come_more, done_as_started}
 use Rattle.partial_workers.proofs.Pairs.{each_length}
 use Rattle.partial_workers.proofs.workers.join.Goals as goal

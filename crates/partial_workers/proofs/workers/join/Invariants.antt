@@ -1,9 +1,4 @@
-use Rattle.std.proofs.Common.{◌≡◌, ◌≤◌, List, length, take}
-use Rattle.std.specs.Vec.{vec_capacity}
-use Rattle.partial_model.specs.declared.call.Call.{Call}
-use Rattle.partial_memory.specs.Ports.{MemoryView}
-use Rattle.partial_workers.specs.Answered.{AreEach}
-use Rattle.partial_workers.specs.Work.{HaveCome, IsStarted}
+use Rattle.partial_workers.proofs.Common.{◌≡◌, ◌≤◌, List, length, take, vec_capacity, Call, MemoryView, AreEach, HaveCome, IsStarted}
 use Rattle.partial_workers.proofs.workers.join.Given as goal
 
 -- the threads that have ended so far

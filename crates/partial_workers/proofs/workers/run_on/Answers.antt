@@ -1,7 +1,6 @@
-use Rattle.std.proofs.Common.{rules, List, map, Bor, arith}
+use Rattle.partial_workers.proofs.Common.{rules, List, map, Bor, arith, Call}
 use Rattle.std.proofs.lemmas.Bool.{false≢true}
-use Rattle.partial_model.specs.declared.call.Call.{Call}
-use Rattle.partial_workers.proofs.Reported.{come_many, last_own, opened_new, ran}
+use Rattle.partial_workers.proofs.Reported.{closed_lawfully, come_many, last_own, opened_new, ran}
 use Rattle.partial_workers.proofs.workers.run_on.Goals as goal
 
 pub hire-requires : goal.hire-requires
@@ -24,7 +23,12 @@ close-requires-clause-rest g c =
     (last_own c.args.memory (map (λ (b : Bor (List Call)). b.now) c.args.calls.now) c.in_ok-ports.field-0 c.pop.new.self.items c.in-Some.last
     c.in_ok-ports.ensures.1 (search rules)).0
 
-pub returns : goal.returns
-returns g c =
+pub returns-clause-right : goal.returns-clause-right
+returns-clause-right g c =
     ran c.args.memory (map (λ (b : Bor (List Call)). b.now) c.args.calls.now) c.args.ports.items c.in_ok-ports.field-0 c.pop.new.self.items c.in-Some.last c.in_ok-closed.closed
     c.requires.opened c.in_ok-ports.ensures.1 (search rules) c.in_ok-closed.ensures.closed
+
+pub returns-clause-lawful : goal.returns-clause-lawful
+returns-clause-lawful g c =
+    closed_lawfully c.args.memory (map (λ (b : Bor (List Call)). b.now) c.args.calls.now) c.in_ok-ports.field-0 c.pop.new.self.items c.in-Some.last c.in_ok-closed.closed
+    c.in_ok-ports.ensures.1 (search rules) c.in_ok-closed.ensures.lawful

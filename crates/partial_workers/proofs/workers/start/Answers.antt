@@ -1,10 +1,4 @@
-use Rattle.std.proofs.Common.{rules, ◌≡◌, ◌+◌, ◌++◌, List, [], ◌∷◌, length, map, take, get_or, Bor, sym, ap, subst, ◌∙◌, arith}
-use Rattle.std.proofs.lemmas.Iterator.Adapters.{YieldsList-from_vec}
-use Rattle.std.proofs.lemmas.Iterator.Consumers.{YieldsList-turn, YieldsList-end}
-use Rattle.std.proofs.lemmas.List.{length-map, length_push, take_all}
-use Rattle.partial_model.specs.declared.call.Call.{Call}
-use Rattle.partial_workers.specs.Answered.{AreEach}
-use Rattle.partial_workers.specs.Work.{IsHired, IsStarted, calls_of}
+use Rattle.partial_workers.proofs.Common.{rules, ◌≡◌, ◌+◌, ◌++◌, List, [], ◌∷◌, length, map, take, get_or, Bor, sym, ap, subst, ◌∙◌, arith, YieldsList-from_vec, YieldsList-turn, YieldsList-end, length-map, length_push, take_all, Call, AreEach, IsHired, IsStarted, calls_of}
 use Rattle.partial_workers.specs.declared.workers.Works.{Works}
 use Rattle.partial_workers.proofs.Hires.{done_alike}
 use Rattle.partial_workers.proofs.Pairs.{each_at, each_length, each_push, each_some, map_at}

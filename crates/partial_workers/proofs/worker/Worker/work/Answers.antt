@@ -1,10 +1,5 @@
-use Rattle.std.proofs.Common.{rules, ◌≡◌, ◌<◌, ◌+◌, List, length, take, get_or, sym, ap, subst, ◌∙◌, arith}
-use Rattle.std.proofs.lemmas.Iterator.Adapters.{YieldsList-from_vec}
-use Rattle.std.proofs.lemmas.Iterator.Consumers.{YieldsList-turn, YieldsList-end}
-use Rattle.std.proofs.lemmas.List.{length-map, length_push, take_all}
-use Rattle.partial_model.specs.declared.call.Answer.{Answer}
+use Rattle.partial_workers.proofs.Common.{rules, ◌≡◌, ◌<◌, ◌+◌, List, length, take, get_or, sym, ap, subst, ◌∙◌, arith, YieldsList-from_vec, YieldsList-turn, YieldsList-end, length-map, length_push, take_all, Answer, AreMade, calls_of}
 use Rattle.partial_workers.specs.declared.worker.Job.{Job}
-use Rattle.partial_workers.specs.Work.{AreMade, calls_of}
 use Rattle.partial_workers.proofs.Made.{made_next}
 use Rattle.partial_workers.proofs.Pairs.{map_at}
 use Rattle.partial_workers.proofs.worker.Worker.work.Goals as goal

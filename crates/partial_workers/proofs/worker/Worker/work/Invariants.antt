@@ -1,7 +1,4 @@
-use Rattle.std.proofs.Common.{◌≡◌, ◌≤◌, length, take}
-use Rattle.std.specs.Vec.{vec_capacity}
-use Rattle.partial_memory.specs.Ports.{IsOf}
-use Rattle.partial_workers.specs.Work.{AreMade, calls_of}
+use Rattle.partial_workers.proofs.Common.{◌≡◌, ◌≤◌, length, take, vec_capacity, IsOf, AreMade, calls_of}
 use Rattle.partial_workers.proofs.worker.Worker.work.Given as goal
 
 -- the calls so far

@@ -1,7 +1,4 @@
-use Rattle.std.proofs.Common.{List, map, Bor, arith}
-use Rattle.std.proofs.lemmas.List.{length-map}
-use Rattle.partial_model.specs.declared.call.Call.{Call}
-use Rattle.partial_workers.specs.Work.{IsStarted}
+use Rattle.partial_workers.proofs.Common.{List, map, Bor, arith, length-map, Call, IsStarted}
 use Rattle.partial_workers.proofs.Pairs.{each_length}
 use Rattle.partial_workers.proofs.workers.fn.run_on.scope.Goals as goal
 

@@ -1,0 +1,14 @@
+-- The names that several proofs of this crate take from elsewhere.
+pub use Rattle.std.proofs.Common.{ℕ, suc, ◌≡◌, ◌+◌, ◌<◌, ◌≤◌, ◌++◌, List, [], ◌∷◌, length, take, get_or, sym, ap, subst, ◌∙◌, arith, ◌⊎◌, Some, None, refl, inl, inr, zero, map, Option, ◌^◌, rules, Bor}
+pub use Rattle.std.specs.List.{AllByRecursion}
+pub use Rattle.std.specs.Vec.{vec_capacity}
+pub use Rattle.std.proofs.Math.Seq.{take-suc}
+pub use Rattle.std.proofs.lemmas.List.{get_or_default, length-map, map-append, append-nil, length-take-le, length_push, take_all}
+pub use Rattle.std.proofs.lemmas.Iterator.Adapters.{YieldsList-from_vec}
+pub use Rattle.std.proofs.lemmas.Iterator.Consumers.{YieldsList-turn, YieldsList-end}
+pub use Rattle.partial_model.specs.declared.call.Call.{Call}
+pub use Rattle.partial_model.proofs.AllLemmas.{all_append, all_back, all_front}
+pub use Rattle.partial_memory.specs.Ports.{MemoryView, PortView, IsOf, Answered, IsRefused, new_ports}
+pub use Rattle.partial_model.specs.declared.call.Answer.{Answer}
+pub use Rattle.partial_workers.specs.Answered.{AreEach, IsWithin, AreAnswered, AreMakable, AreRight}
+pub use Rattle.partial_workers.specs.Work.{HasRoom, HaveCome, HaveRooms, IsDone, IsHired, IsNew, IsStarted, calls_of, AreMade, Fills, IsMade, IsUnnoted, HasNumber, IsOpenedFor, WasClosedLawfully, WasEmpty, WasRefused}
