@@ -9,3 +9,5 @@ mod conditional;
 mod growths;
 #[cfg(test)]
 mod openings;
+#[cfg(test)]
+mod stamped;

@@ -1,17 +1,6 @@
 -- A memory that is closed with all its ports: each entry is in the notes of exactly one.
-use Rattle.std.proofs.Common.{ℕ, zero, suc, ◌≡◌, ◌≢◌, ◌+◌, ◌<◌, ◌≤◌, ◌==◌, ◌⊎◌, Bool, true, false, cond, List, [], ◌∷◌, ◌++◌, Contains, refl, sym, ◌∙◌, ap, subst, Some, slice_get, inl, inr, arith}
-use Rattle.std.specs.List.{AllByRecursion}
-use Rattle.std.proofs.lemmas.Bool.Decides.{eqb_tells}
-use Rattle.atomic_table.specs.Seated.{TableId}
-use Rattle.partial_model.specs.declared.history.Applied.{Applied}
-use Rattle.partial_model.specs.Notes.{LegalNotes}
-use Rattle.partial_model.specs.Outcome.{places_written}
-use Rattle.partial_model.proofs.AllLemmas.{all_after, all_append, all_at, all_back, all_before, all_front}
+use Rattle.partial_long_lived.proofs.Common.{ℕ, zero, suc, ◌≡◌, ◌≢◌, ◌+◌, ◌<◌, ◌≤◌, ◌==◌, ◌⊎◌, Bool, true, false, cond, List, [], ◌∷◌, ◌++◌, Contains, refl, sym, ◌∙◌, ap, subst, Some, slice_get, inl, inr, arith, AllByRecursion, eqb_tells, TableId, Applied, LegalNotes, places_written, all_after, all_append, all_at, all_back, all_before, all_front, AllByRecursion-get, About, newcomers, IsOf, MemoryView, PortView, new_ports}
 use Rattle.partial_model.proofs.Entries.{entries_are_noted, written_at, written_by}
-use Rattle.partial_model.proofs.NotesLemmas.{AllByRecursion-get}
-use Rattle.partial_long_lived.specs.declared.rule.About.{About}
-use Rattle.partial_long_lived.specs.Rule.{newcomers}
-use Rattle.partial_long_lived.specs.Ports.{IsOf, MemoryView, PortView, new_ports}
 use Rattle.partial_long_lived.specs.Closing.{Closes, IsPortOf}
 use Rattle.partial_long_lived.specs.AllPorts.{AreAllPorts, ClosedWithAllPorts, IsInOnePort, IsPortIn, OpenedPortsAreAll, ports_of}
 use Rattle.partial_long_lived.proofs.NewPorts.{new_own}

@@ -1,41 +1,13 @@
 -- A call of a port: how it begins at the seat that was taken out, and what it leaves once the seat is put back.
-use Rattle.std.proofs.Common.{ℕ, zero, suc, None, append-nil, ◌≡◌, ◌<◌, ◌≤◌, ◌++◌, ◌∷◌, [], Option, Some, IfSome, Bool, true, false, true≢false, List, length, ap, ◌+◌}
-use Rattle.std.proofs.Common.{take, refl, sym, ap, subst, ◌∙◌, inl, inr, arith}
-use Rattle.std.specs.Prelude.{Contains, nat_lt, slice_index}
-use Rattle.std.specs.List.{AllByRecursion, list_all}
-use Rattle.std.specs.Option.{option_map}
-use Rattle.std.proofs.Math.Seq.{take-append_seam}
-use Rattle.atomic_table.specs.Seated.{TableId}
-use Rattle.partial_model.specs.declared.history.Applied.{Applied}
+use Rattle.partial_long_lived.proofs.Common.{ℕ, zero, suc, None, append-nil, ◌≡◌, ◌<◌, ◌≤◌, ◌++◌, ◌∷◌, [], Option, Some, IfSome, Bool, true, false, true≢false, List, length, ap, ◌+◌, take, refl, sym, subst, ◌∙◌, inl, inr, arith, nat_lt, slice_index, AllByRecursion, list_all, option_map, take-append_seam, TableId, Applied, IsEntryFor, IsLegal, LegalNotes, Noted, seen_by, AllByRecursion-get, LegalNotes-last, Layout, CoreState, fresh, AreComponents, IsSound, is_sound_at, IsBetween, IsMarkedLike, core_of, is_at_rest, public_stamp, Refused, Component, Overtaken, NoArena, EpochsSpent, About, Stand, Seating, Began, Seated, one_in, IsOf, MemoryView, PortView, port_view, seen_in, IsStandOf, IsSeatingOf, IsResting, Goes, IsHeld, epoch_at, port_at, HasCome, HasRead, IsIdle, Changed, NotChanged, HasScanned, RestsUnmarked, ScanMade, noted_scan, NotScanned, RestsAt}
+use Rattle.partial_long_lived.specs.Inner.DoubleCollect.{HasStayed, ScannedStamped}
+use Rattle.std.specs.Prelude.{Contains}
 use Rattle.partial_model.specs.declared.call.Call.TheVariants as call
 use Rattle.partial_model.specs.declared.call.Answer.TheVariants as answer
 use Rattle.partial_model.specs.declared.call.Note.TheVariants as note
-use Rattle.partial_model.specs.Notes.{IsEntryFor, IsLegal, LegalNotes, Noted, seen_by}
 use Rattle.partial_model.proofs.Decisions.{Decides-list_all, Decides-nat_lt}
-use Rattle.partial_model.proofs.NotesLemmas.{AllByRecursion-get, LegalNotes-last}
-use Rattle.partial_words.specs.Layout.{Layout}
 use Rattle.partial_active.specs.GetSet.{fresh as unmarked}
-use Rattle.partial_machine.specs.Machine.{CoreState, fresh}
-use Rattle.partial_machine.specs.Sound.{AreComponents, IsSound, is_sound_at}
-use Rattle.partial_core.specs.Part.{IsBetween, IsMarkedLike, core_of}
-use Rattle.partial_machine.specs.Calls.{is_at_rest}
-use Rattle.partial_epochs.specs.History.{public_stamp}
-use Rattle.partial_long_lived.specs.declared.error.Refused.{Refused}
-use Rattle.partial_long_lived.specs.declared.error.Refused.TheVariants.{Component, Overtaken, NoArena, EpochsSpent}
-use Rattle.partial_long_lived.specs.declared.rule.About.{About}
-use Rattle.partial_long_lived.specs.declared.stand.Stand.{Stand}
-use Rattle.partial_long_lived.specs.declared.seating.Seating.{Seating}
-use Rattle.partial_long_lived.specs.Rule.{Began, Seated, one_in}
-use Rattle.partial_long_lived.specs.Ports.{IsOf, MemoryView, PortView, port_view, seen_in}
 use Rattle.partial_long_lived.specs.Calls as calls
-use Rattle.partial_long_lived.specs.Seating.{IsStandOf, IsSeatingOf}
-use Rattle.partial_long_lived.specs.Resting.{IsResting}
-use Rattle.partial_long_lived.specs.Inner.Steps.{Goes}
-use Rattle.partial_long_lived.specs.Inner.Held.{IsHeld, epoch_at, port_at}
-use Rattle.partial_long_lived.specs.Inner.Calls.{HasCome, HasRead, IsIdle}
-use Rattle.partial_long_lived.specs.Inner.Changing.{Changed, NotChanged}
-use Rattle.partial_long_lived.specs.Inner.Scans.{HasScanned, RestsUnmarked, ScanMade, noted_scan}
-use Rattle.partial_long_lived.specs.Inner.Rests.{NotScanned, RestsAt}
 use Rattle.partial_long_lived.proofs.Coming.{goes_on}
 use Rattle.partial_long_lived.proofs.Resting.{kept_is, rests_kept, taken_is}
 
@@ -308,6 +280,15 @@ has_scanned_seen table s t (j ∷ js) values collects borrowed public w is some 
       },
     )
 
+-- a scan that told stamps, as callers see it
+pub has_stamped_seen : (table : TableId) (s t : Stand) (which values stamps : List ℕ) → ScannedStamped s t which values stamps → 0 < length which →
+    AllByRecursion (λ j. j < (port_at s).about.sizes.m) which → calls.ScansStamped (port_view table (port_at s)) which values stamps (port_view table (port_at t))
+unfolding has_scanned_seen
+has_stamped_seen table s t [] values stamps w some inside = absurd (omega (arith, some))
+has_stamped_seen table s t (j ∷ js) values stamps w some inside =
+    let scan = has_scanned_seen table s t (j ∷ js) values 2 None None w.scanned refl some inside in
+    (scan.0, scan.1, w.stamps_are)
+
 -- a scan that was refused, as callers see it
 pub not_scanned_seen : (table : TableId) (s t : Stand) (which : List ℕ) (cause : Refused) → (epoch_at t ≡ t.epoch) → NotScanned s t cause → AllByRecursion (λ j. j < (port_at s).about.sizes.m) which →
     calls.IsRefused (port_view table (port_at s)) (call.Scan which) cause (port_view table (port_at t))
@@ -333,3 +314,14 @@ module _ (m : MemoryView) (s : Seating) (t u : Stand) (s' : Seating) (p : PortVi
   scan_refused cause w =
       callers_see m s t u s' p k view own held k' (λ (a b : PortView). calls.IsRefused a (call.Scan which) cause b)
       (not_scanned_seen m.table t u which cause (sym held.epoch) w (below_there w.goes.about))
+
+  pub stamped_answered : (values stamps : List ℕ) → ScannedStamped t u which values stamps → 0 < length which →
+      calls.ScansStamped p which values stamps (port_view s'.badge.table_id (one_in s'.badge.views))
+  stamped_answered values stamps w some =
+      callers_see m s t u s' p k view own held k' (λ (a b : PortView). calls.ScansStamped a which values stamps b)
+      (has_stamped_seen m.table t u which values stamps w some (below_there w.scanned.goes.about))
+
+  pub stayed_seen : HasStayed t u → (port_at u).notes ≡ (port_at t).notes → calls.Goes p (port_view s'.badge.table_id (one_in s'.badge.views)) []
+  stayed_seen stayed notes =
+      callers_see m s t u s' p k view own held k' (λ (a b : PortView). calls.Goes a b [])
+      (goes_seen m.table (port_at t) (port_at u) [] stayed.come.goes (notes ∙ sym (append-nil (port_at t).notes)))

@@ -1,21 +1,6 @@
 -- Steps that change neither histories nor what their port has seen or noted.
-use Rattle.std.proofs.Common.{ℕ, ◌≡◌, ◌≢◌, ◌≤◌, ◌++◌, Option, Some, None, IfSome, List, [], ◌∷◌, length, refl, sym, ap, subst, ◌∙◌, arith, append-nil}
-use Rattle.partial_model.specs.declared.history.Applied.{Applied}
-use Rattle.partial_model.specs.Notes.{LegalNotes, Noted}
-use Rattle.partial_core.specs.Part.{Part}
-use Rattle.partial_epochs.specs.Lists.{put}
-use Rattle.partial_epochs.specs.History.{history_of}
-use Rattle.partial_epochs.specs.Ports.{Port}
-use Rattle.partial_epochs.specs.Epochs.{Beside, LawfulEpochs, place_now}
-use Rattle.partial_epochs.specs.Time.{KeepsTime}
-use Rattle.partial_epochs.specs.Notes.{LawfulMemory}
-use Rattle.partial_epochs.proofs.Lists.{put_other, put_same}
+use Rattle.partial_long_lived.proofs.Common.{ℕ, ◌≡◌, ◌≢◌, ◌≤◌, ◌++◌, Option, Some, None, IfSome, List, [], ◌∷◌, length, refl, sym, ap, subst, ◌∙◌, arith, append-nil, Applied, LegalNotes, Noted, Part, put, history_of, Port, Beside, LawfulEpochs, place_now, KeepsTime, LawfulMemory, put_other, put_same, About, Began, Found, HasBegun, IsFinal, IsLast, IsSeat, IsSeen, IsSince, Seated, plan_of, seen_in, IsKnown, becomes}
 use Rattle.partial_epochs.proofs.Sights.{asides_stay_lawful}
-use Rattle.partial_long_lived.specs.declared.rule.About.{About}
-use Rattle.partial_long_lived.specs.Rule.{Began, Found, HasBegun, IsFinal, IsLast, IsSeat, IsSeen, IsSince, Seated, plan_of}
-use Rattle.partial_long_lived.specs.Ports.{seen_in}
-use Rattle.partial_long_lived.specs.Inner.Steps.{IsKnown}
-use Rattle.partial_long_lived.specs.Inner.Moves.{becomes}
 use Rattle.partial_long_lived.proofs.Kept.{HasGrown, Moved, final_grows, none_grown, not_grown, seen_grows}
 
 -- a change of a port that leaves its place, its part and the epochs behind it, and passes no fewer components

@@ -1,26 +1,5 @@
 -- The steps of a change of epoch, as its code asks for them.
-use Rattle.std.proofs.Common.{ℕ, ◌≡◌, ◌≢◌, ◌+◌, ◌-◌, ◌*◌, ◌%◌, ◌^◌, ◌<◌, ◌≤◌, ◌==◌, Bool, cond, Option, Some, IfSome, List, [], sym, ap, subst, ◌∙◌, inl, inr, arith}
-use Rattle.std.proofs.lemmas.Bool.{lt-ltb}
-use prog.Atomic.{either}
-use Rattle.atomic_table.specs.Table.{Me, Allows}
-use Rattle.atomic_table.specs.Seated.{TableId}
-use Rattle.partial_words.specs.Layout.{first_free, list_base, pool_base}
-use Rattle.partial_words.specs.Chain.{opening_word}
-use Rattle.partial_epochs.specs.Layout.{Place, Plan, arena_limit, at_word, base, entering_mark, marked, own_word, packed, seal, set_word}
-use Rattle.partial_epochs.specs.Ports.{Owned, Port}
-use Rattle.partial_epochs.specs.Ports.Entering.{Stands}
-use Rattle.partial_epochs.specs.Publishing.{next_place}
-use Rattle.partial_epochs.specs.Sealing.{passing}
-use Rattle.partial_epochs.proofs.Places.{below_whole, set_place}
-use Rattle.partial_long_lived.specs.declared.rule.About.{About}
-use Rattle.partial_long_lived.specs.declared.stand.Stand.{Stand}
-use Rattle.partial_long_lived.specs.Rule.{IsKept, Seated, one_of, plan_of}
-use Rattle.partial_long_lived.specs.Shape.{bare, shape_plan}
-use Rattle.partial_long_lived.specs.Inner.Steps.{Goes, IsOne, tells}
-use Rattle.partial_long_lived.specs.Inner.Held.{IsHeld, port_at}
-use Rattle.partial_long_lived.specs.Inner.Moves.{Gives, LoadsPort, PassesSealed, Publishes, PutsPort, Seals, Sets, Takes, passed_at, unpacked}
-use Rattle.partial_long_lived.specs.Inner.Calls.{IsIdle}
-use Rattle.partial_long_lived.specs.Inner.Changing.{IsCarriedStamp, IsInitialValue, IsRight, IsSetting, MayPutPort, OfOwned, Owns, PutsBy, SetsLists, SetsNext, TakesBy, Works}
+use Rattle.partial_long_lived.proofs.Common.{ℕ, ◌≡◌, ◌≢◌, ◌+◌, ◌-◌, ◌*◌, ◌%◌, ◌^◌, ◌<◌, ◌≤◌, ◌==◌, Bool, cond, Option, Some, IfSome, List, [], sym, ap, subst, ◌∙◌, inl, inr, arith, lt-ltb, either, Me, Allows, TableId, first_free, list_base, pool_base, opening_word, Place, Plan, arena_limit, at_word, base, entering_mark, marked, own_word, packed, seal, set_word, Owned, Port, Stands, next_place, passing, below_whole, set_place, About, Stand, IsKept, Seated, one_of, plan_of, bare, shape_plan, Goes, IsOne, tells, IsHeld, port_at, Gives, LoadsPort, PassesSealed, Publishes, PutsPort, Seals, Sets, Takes, passed_at, unpacked, IsIdle, IsCarriedStamp, IsInitialValue, IsRight, IsSetting, MayPutPort, OfOwned, Owns, PutsBy, SetsLists, SetsNext, TakesBy, Works}
 use Rattle.partial_long_lived.proofs.Changes.{may_give, may_load_port, may_pass, may_put, may_seal, may_take}
 use Rattle.partial_long_lived.proofs.Sets.{may_set_over_lists, may_set_same, may_set_stamp, may_set_value}
 use Rattle.partial_long_lived.proofs.Publishes.{may_publish}

@@ -1,54 +1,14 @@
 -- An attempt of an update in the epoch where a port stands.
-use Rattle.std.proofs.Common.{ℕ, ◌≡◌, ◌≢◌, ◌+◌, ◌<◌, ◌≤◌, ◌==◌, ◌++◌, Bool, true, false, cond, Option, None, Some, Ok, List, [], ◌∷◌, length, map, refl, sym, ap, subst, ◌∙◌, inl, inr, arith}
-use Rattle.std.specs.Option.{option_map_or}
-use Rattle.std.specs.Prelude.{nat_lt, is_some, ◌||◌, IfSome, take}
+use Rattle.partial_long_lived.proofs.Common.{ℕ, ◌≡◌, ◌≢◌, ◌+◌, ◌<◌, ◌≤◌, ◌==◌, ◌++◌, Bool, true, false, cond, Option, None, Some, Ok, List, [], ◌∷◌, length, map, refl, sym, ap, subst, ◌∙◌, inl, inr, arith, option_map_or, nat_lt, is_some, lt-ltb, eqb_tells, length-map, TableId, Applied, Call, Answer, Note, stamp_of, Noted, place_of, Load, Exchange, IsLayout, Layout, greatest_record, pool_end, Change, Reply, Stage, Exchanging, Finished, UpdateBegun, CoreState, advance_at, at_stage, begin_getting, lists_spent, overtaken, reply_of, step_at, step_of, answer_for, call_of, update_call, IsRecord, IsSound, is_sound_at, Part, AreNotesOf, IsNoteOf, IsPlacedAt, Exchanged, RestsLike, update_reply, Plan, seal, unsealed, history_of, public_entry, public_log, stamp_limit, public_noted, Control, About, Shape, Stand, Began, Seated, plan_of, seen_in, Goes, BeganBy, IsHeld, port_at, IsIdle, Kept, opening_of, Makes, MissesSeal, answered, RestsUnmarked, CallMade, claim_of, IsGoing, Leads, MayBegin, machine_at, Attempted, ExchangeDue, ExpectsOne, IsEntryOf, IsOwn, NotesNothing, Stayed, noted_where, word_from}
+use Rattle.std.specs.Prelude.{◌||◌, IfSome, take}
 use Rattle.std.proofs.Math.Bool.{or-false}
-use Rattle.std.proofs.lemmas.Bool.{lt-ltb}
-use Rattle.std.proofs.lemmas.Bool.Decides.{eqb_tells}
-use Rattle.std.proofs.lemmas.List.{length-append, length-map}
-use Rattle.atomic_table.specs.Seated.{TableId}
-use Rattle.partial_model.specs.declared.history.Applied.{Applied}
-use Rattle.partial_model.specs.declared.call.Call.{Call}
+use Rattle.std.proofs.lemmas.List.{length-append}
 use Rattle.partial_model.specs.declared.call.Call.TheVariants as call
-use Rattle.partial_model.specs.declared.call.Answer.{Answer}
-use Rattle.partial_model.specs.declared.call.Note.{Note}
 use Rattle.partial_model.specs.declared.call.Note.TheVariants as note
-use Rattle.partial_model.specs.History.{stamp_of}
-use Rattle.partial_model.specs.Notes.{Noted, place_of}
-use Rattle.partial_words.specs.declared.step.Step.TheVariants.{Load, Exchange}
-use Rattle.partial_words.specs.Layout.{IsLayout, Layout, greatest_record, pool_end}
-use Rattle.partial_machine.specs.declared.stage.Change.{Change}
-use Rattle.partial_machine.specs.declared.stage.Reply.{Reply}
 use Rattle.partial_machine.specs.declared.stage.Reply.TheVariants as reply
-use Rattle.partial_machine.specs.declared.stage.Stage.{Stage}
-use Rattle.partial_machine.specs.declared.stage.Stage.TheVariants.{Exchanging, Finished, UpdateBegun}
-use Rattle.partial_machine.specs.Machine.{CoreState, advance_at, at_stage, begin_getting, lists_spent, overtaken, reply_of, step_at, step_of}
-use Rattle.partial_machine.specs.Calls.{answer_for, call_of, update_call}
 use Rattle.partial_machine.specs.Possible.{IsPossibleAt}
-use Rattle.partial_machine.specs.Sound.{IsRecord, IsSound, is_sound_at}
-use Rattle.partial_core.specs.Part.{Part}
-use Rattle.partial_core.specs.Steps.{AreNotesOf, IsNoteOf, IsPlacedAt}
-use Rattle.partial_lines.specs.declared.exchange.Exchanged.{Exchanged}
 use Rattle.partial_lines.specs.declared.exchange.Exchanged.TheVariants.{Applied as IsApplied, Overtaken}
-use Rattle.partial_lines.specs.Replies.{RestsLike, update_reply}
-use Rattle.partial_epochs.specs.Layout.{Plan, seal, unsealed}
-use Rattle.partial_epochs.specs.History.{history_of, public_entry, public_log, stamp_limit}
-use Rattle.partial_epochs.specs.Notes.{public_noted}
-use Rattle.partial_epochs.specs.Ports.{Control}
-use Rattle.partial_long_lived.specs.declared.rule.About.{About}
-use Rattle.partial_long_lived.specs.declared.shape.Shape.{Shape}
-use Rattle.partial_long_lived.specs.declared.stand.Stand.{Stand}
-use Rattle.partial_long_lived.specs.Rule.{Began, Seated, plan_of}
-use Rattle.partial_long_lived.specs.Ports.{seen_in}
-use Rattle.partial_long_lived.specs.Inner.Steps.{Goes}
-use Rattle.partial_long_lived.specs.Inner.Moves.{BeganBy}
-use Rattle.partial_long_lived.specs.Inner.Held.{IsHeld, port_at}
-use Rattle.partial_long_lived.specs.Inner.Calls.{IsIdle, Kept}
-use Rattle.partial_long_lived.specs.Inner.Loads.{opening_of}
-use Rattle.partial_long_lived.specs.Inner.Machine.{Begins, Makes, MissesSeal, answered}
-use Rattle.partial_long_lived.specs.Inner.Scans.{RestsUnmarked}
-use Rattle.partial_long_lived.specs.Inner.Under.{CallMade, claim_of, IsGoing, Leads, MayBegin, machine_at}
-use Rattle.partial_long_lived.specs.Inner.Updates.{Attempted, ExchangeDue, ExpectsOne, IsEntryOf, IsOwn, NotesNothing, Stayed, noted_where, word_from}
+use Rattle.partial_long_lived.specs.Inner.Machine.{Begins}
 use Rattle.partial_long_lived.proofs.Coming.{goes_on}
 use Rattle.partial_long_lived.proofs.Under.{first_made, next_made, notes_same}
 

@@ -1,19 +1,6 @@
 -- When a call begins, and where a port that looks stands.
-use Rattle.std.proofs.Common.{ℕ, ◌≡◌, ◌<◌, ◌≤◌, ◌++◌, Bool, true, false, List, [], ◌∷◌, length, get_or, refl, sym, ap, ◌∙◌, arith, length-append}
-use Rattle.partial_model.specs.declared.history.Applied.{Applied}
-use Rattle.partial_model.specs.Notes.{Noted}
-use Rattle.partial_epochs.specs.Layout.{current_word, packed}
-use Rattle.partial_epochs.specs.History.{history_of}
-use Rattle.partial_epochs.specs.Ports.{Port}
-use Rattle.partial_epochs.specs.Epochs.{Beside, LawfulEpochs, place_now}
-use Rattle.partial_epochs.specs.Notes.{LawfulMemory, one_history}
-use Rattle.partial_epochs.proofs.Entering.{current_is}
-use Rattle.partial_epochs.proofs.Places.{packed_arena}
+use Rattle.partial_long_lived.proofs.Common.{ℕ, ◌≡◌, ◌<◌, ◌≤◌, ◌++◌, Bool, true, false, List, [], ◌∷◌, length, get_or, refl, sym, ap, ◌∙◌, arith, length-append, Applied, Noted, current_word, packed, history_of, Port, Beside, LawfulEpochs, place_now, LawfulMemory, one_history, current_is, packed_arena, About, Began, HasBegun, IsSeat, Seated, plan_of, seen_in, BeganBy}
 use Rattle.partial_epochs.proofs.Present.{same_place}
-use Rattle.partial_long_lived.specs.declared.rule.About.{About}
-use Rattle.partial_long_lived.specs.Rule.{Began, HasBegun, IsSeat, Seated, plan_of}
-use Rattle.partial_long_lived.specs.Ports.{seen_in}
-use Rattle.partial_long_lived.specs.Inner.Moves.{BeganBy}
 use Rattle.partial_long_lived.proofs.Seen.{seen_begins}
 
 -- what a port has seen is no more than there is

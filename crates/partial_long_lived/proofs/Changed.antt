@@ -1,15 +1,5 @@
 -- A change of epoch, from its look to the epoch that is entered.
-use Rattle.std.proofs.Common.{ℕ, ◌≡◌, ◌<◌, ◌≤◌, Bool, List, None, refl, ap, subst, ◌∙◌}
-use Rattle.partial_model.specs.Notes.{Noted}
-use Rattle.partial_epochs.specs.Layout.{Place}
-use Rattle.partial_epochs.specs.Ports.{Port}
-use Rattle.partial_epochs.specs.Entering.{arrived}
-use Rattle.partial_long_lived.specs.declared.rule.About.{About}
-use Rattle.partial_long_lived.specs.declared.stand.Stand.{Stand}
-use Rattle.partial_long_lived.specs.Rule.{Began, Seated, plan_of}
-use Rattle.partial_long_lived.specs.Inner.Held.{port_at}
-use Rattle.partial_long_lived.specs.Inner.Calls.{Entered, Kept, Looked}
-use Rattle.partial_long_lived.specs.Inner.Changing.{Changed, Stays}
+use Rattle.partial_long_lived.proofs.Common.{ℕ, ◌≡◌, ◌<◌, ◌≤◌, Bool, List, None, refl, ap, subst, ◌∙◌, Noted, Place, Port, arrived, About, Stand, Began, Seated, plan_of, port_at, Entered, Kept, Looked, Changed, Stays}
 use Rattle.partial_long_lived.proofs.Coming.{goes_on}
 use Rattle.partial_long_lived.proofs.Looking.{looked_keeps}
 

@@ -1,28 +1,5 @@
 -- The steps of a change of epoch are allowed.
-use Rattle.std.proofs.Common.{ℕ, ◌≡◌, ◌≢◌, ◌+◌, ◌-◌, ◌%◌, ◌^◌, ◌<◌, ◌≤◌, ◌==◌, ◌⊎◌, Bool, true, false, cond, Option, Some, None, List, get_or, set, refl, sym, ap, subst, ◌∙◌, inl, inr, arith}
-use Rattle.std.specs.Prelude.{nat_lt}
-use Rattle.std.proofs.lemmas.Bool.{cases_lt, lt-ltb}
-use Rattle.std.proofs.lemmas.Bool.Decides.{eqb_tells}
-use Rattle.std.proofs.lemmas.List.{get_or-set_other}
-use Rattle.partial_model.proofs.ListLemmas.{some_same}
-use prog.Atomic.{either}
-use Rattle.atomic_table.specs.Table.{Me, Allows}
-use Rattle.partial_epochs.specs.Lists.{put}
-use Rattle.partial_epochs.specs.Layout.{IsPlace, Place, Plan, at_word, base, component_words, control_words, entering_mark, marked, own_word, packed, seal}
-use Rattle.partial_epochs.specs.Ports.{Control, Entering, Owned, Port}
-use Rattle.partial_epochs.specs.Ports.Entering.{Stands, Marks, Loaded}
-use Rattle.partial_epochs.specs.Control.{IsAt, MayPut}
-use Rattle.partial_epochs.specs.Epochs.{Beside, LawfulEpochs, place_now}
-use Rattle.partial_epochs.specs.Time.{KeepsTime}
-use Rattle.partial_epochs.specs.Sealing.{passing}
-use Rattle.partial_epochs.specs.Owning.{cleaner, having_given, having_loaded, just_taken, owning}
-use Rattle.partial_epochs.proofs.Laws.{gives_stay_lawful, loaded_marks_keep_time, marks_are_loaded, others_are_elsewhere, puts_keep_time, puts_stay_lawful, sealed_passes_stay_lawful, seals_stay_lawful, takes_stay_lawful}
-use Rattle.partial_epochs.proofs.Lists.{at_of}
-use Rattle.partial_epochs.proofs.Places.{not_below}
-use Rattle.partial_long_lived.specs.declared.rule.About.{About}
-use Rattle.partial_long_lived.specs.Rule.{Began, IsKept, IsSince, Seated, one_of, plan_of}
-use Rattle.partial_long_lived.specs.Inner.Steps.{IsKnown, IsOne, tells}
-use Rattle.partial_long_lived.specs.Inner.Moves.{Gives, LoadsPort, PassesSealed, PutsPort, Seals, Takes, elsewhere, passed_at, port_loaded, port_put, taken_at, unpacked}
+use Rattle.partial_long_lived.proofs.Common.{ℕ, ◌≡◌, ◌≢◌, ◌+◌, ◌-◌, ◌%◌, ◌^◌, ◌<◌, ◌≤◌, ◌==◌, ◌⊎◌, Bool, true, false, cond, Option, Some, None, List, get_or, set, refl, sym, ap, subst, ◌∙◌, inl, inr, arith, nat_lt, cases_lt, lt-ltb, eqb_tells, get_or-set_other, some_same, either, Me, Allows, put, IsPlace, Place, Plan, at_word, base, component_words, control_words, entering_mark, marked, own_word, packed, seal, Control, Entering, Owned, Port, Stands, Marks, Loaded, IsAt, MayPut, Beside, LawfulEpochs, place_now, KeepsTime, passing, cleaner, having_given, having_loaded, just_taken, owning, gives_stay_lawful, loaded_marks_keep_time, marks_are_loaded, others_are_elsewhere, puts_keep_time, puts_stay_lawful, sealed_passes_stay_lawful, seals_stay_lawful, takes_stay_lawful, at_of, not_below, About, Began, IsKept, IsSince, Seated, one_of, plan_of, IsKnown, IsOne, tells, Gives, LoadsPort, PassesSealed, PutsPort, Seals, Takes, elsewhere, passed_at, port_loaded, port_put, taken_at, unpacked}
 use Rattle.partial_long_lived.proofs.Asides.{IsQuiet}
 use Rattle.partial_long_lived.proofs.Control.{Quietly, lawful_itself, load_same, quietly, time_aside, unpacked_is}
 

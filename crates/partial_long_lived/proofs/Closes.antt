@@ -1,27 +1,7 @@
 -- A memory that is closed: the ports that were handed in, and the last state.
-use Rattle.std.proofs.Common.{ℕ, ◌≡◌, ◌<◌, ◌++◌, List, [], ◌∷◌, length, slice_index, sym, ap, subst, ◌∙◌, append_assoc, append-nil, arith, take}
-use Rattle.std.specs.List.{AllByRecursion}
-use Rattle.std.proofs.Math.Seq.{take-append_seam}
-use Rattle.std.proofs.lemmas.List.{nil_from_length}
-use mathlib.Core.Option.{some}
-use lib.ListN.{get_elem?}
-use Rattle.atomic_table.specs.Table.{State, Me}
-use Rattle.atomic_table.specs.Seated.{TableId}
-use Rattle.partial_model.specs.declared.history.Applied.{Applied}
-use Rattle.partial_model.specs.History.{IsHistory, value_of}
-use Rattle.partial_model.specs.Notes.{LegalNotes}
-use Rattle.partial_model.specs.Outcome.{EachOnce}
-use Rattle.partial_model.proofs.AllLemmas.{all_back, all_front, all_weaker}
-use Rattle.partial_epochs.specs.Ports.{Port}
-use Rattle.partial_epochs.specs.Notes.{one_history}
-use Rattle.partial_epochs.proofs.OneHistory.{epochs_fit_one_history}
-use Rattle.partial_long_lived.specs.declared.rule.About.{About}
-use Rattle.partial_long_lived.specs.declared.shape.Shape.{Shape}
-use Rattle.partial_long_lived.specs.Rule.{IsKept, IsSeat, Seated, plan_of}
-use Rattle.partial_long_lived.specs.Shape.{IsShapeOf, bare, shape_plan}
-use Rattle.partial_long_lived.specs.Ports.{AreByOpened, IsOf, MemoryView, PortView, port_view, seen_in}
+use Rattle.partial_long_lived.proofs.Common.{ℕ, ◌≡◌, ◌<◌, ◌++◌, List, [], ◌∷◌, length, sym, ap, subst, ◌∙◌, append_assoc, append-nil, arith, take, AllByRecursion, take-append_seam, nil_from_length, some, get_elem?, State, Me, TableId, Applied, IsHistory, value_of, LegalNotes, EachOnce, all_back, all_front, all_weaker, Port, one_history, epochs_fit_one_history, About, Shape, IsKept, IsSeat, Seated, plan_of, IsShapeOf, bare, shape_plan, AreByOpened, IsOf, MemoryView, PortView, port_view, seen_in, HaveLast, ReadsLast, value_now}
+use Rattle.std.proofs.Common.{slice_index}
 use Rattle.partial_long_lived.specs.Closing.{Closes, IsPortOf}
-use Rattle.partial_long_lived.specs.Inner.Last.{HaveLast, ReadsLast, value_now}
 use Rattle.partial_long_lived.proofs.Current.{have_last, value_last}
 use Rattle.partial_long_lived.proofs.Seen.{seen_begins}
 use Rattle.partial_long_lived.proofs.Views.{around}

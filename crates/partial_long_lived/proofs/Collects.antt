@@ -1,25 +1,5 @@
 -- The loads of a collect: what they leave of a port, and what they tell it.
-use Rattle.std.proofs.Common.{ℕ, ◌≡◌, ◌+◌, ◌<◌, ◌≤◌, ◌++◌, Bool, false}
-use Rattle.std.proofs.Common.{List, [], length, take, set, refl, sym, ap, subst, ◌∙◌, inl, inr, arith, append-nil, length-append}
-use Rattle.std.specs.Prelude.{slice_index}
-use Rattle.std.proofs.lemmas.Bool.Decides.{eqb_tells}
-use Rattle.std.proofs.lemmas.List.{get_or-set_other, get_or-set_same, take-append-le, take_all}
-use Rattle.atomic_table.specs.Seated.{TableId}
-use Rattle.partial_model.specs.declared.history.Applied.{Applied}
-use Rattle.partial_model.specs.History.{stamp_of}
-use Rattle.partial_model.specs.Notes.{Noted}
-use Rattle.partial_words.specs.Layout.{total}
-use Rattle.partial_core.specs.Part.{core_of}
-use Rattle.partial_epochs.specs.Notes.{having_seen}
-use Rattle.partial_long_lived.specs.declared.rule.About.{About}
-use Rattle.partial_long_lived.specs.declared.stand.Stand.{Stand}
-use Rattle.partial_long_lived.specs.Rule.{Began, Seated}
-use Rattle.partial_long_lived.specs.Inner.Steps.{Begins}
-use Rattle.partial_long_lived.specs.Inner.Held.{IsHeld, port_at}
-use Rattle.partial_long_lived.specs.Inner.Calls.{HasCome, IsIdle, Kept}
-use Rattle.partial_long_lived.specs.Inner.Loads.{Sees, opening_of}
-use Rattle.partial_long_lived.specs.Inner.Loads.Wish.{Glances}
-use Rattle.partial_long_lived.specs.Inner.DoubleCollect.{AreCollected, HasGlanced, HasStayed, WasThere}
+use Rattle.partial_long_lived.proofs.Common.{ℕ, ◌≡◌, ◌+◌, ◌<◌, ◌≤◌, ◌++◌, Bool, false, List, [], length, take, set, refl, sym, ap, subst, ◌∙◌, inl, inr, arith, append-nil, length-append, slice_index, eqb_tells, get_or-set_other, get_or-set_same, take-append-le, take_all, TableId, Applied, stamp_of, Noted, total, core_of, having_seen, About, Stand, Began, Seated, Begins, IsHeld, port_at, HasCome, IsIdle, Kept, Sees, opening_of, Glances, AreCollected, HasGlanced, HasStayed, WasThere}
 use Rattle.partial_long_lived.proofs.Coming.{begins_on, come_on, kept_on}
 use Rattle.partial_long_lived.proofs.Staying.{goes_same}
 

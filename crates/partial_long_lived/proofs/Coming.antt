@@ -1,27 +1,8 @@
 -- A port between the parts of a call: it stands where it stood, or has come to a later epoch.
-use Rattle.std.proofs.Common.{ℕ, ◌≡◌, ◌<◌, ◌≤◌, ◌&&◌, ◌++◌, not, Bool, true, false, cond, Some, List, [], ◌∷◌, length, refl, sym, ap, subst, ◌∙◌, inl, inr, arith, append-nil, append_assoc, length-append}
-use Rattle.std.specs.Prelude.{nat_lt}
-use Rattle.atomic_table.specs.Seated.{TableId}
-use Rattle.partial_model.specs.declared.history.Applied.{Applied}
+use Rattle.partial_long_lived.proofs.Common.{ℕ, ◌≡◌, ◌<◌, ◌≤◌, ◌&&◌, ◌++◌, not, Bool, true, false, cond, Some, List, [], ◌∷◌, length, refl, sym, ap, subst, ◌∙◌, inl, inr, arith, append-nil, append_assoc, length-append, nat_lt, TableId, Applied, value_of, Noted, fresh, core_of, seal, unsealed, not_below, public_of, About, Stand, Began, Seated, plan_of, seen_in, Begins, Goes, IsHeld, port_at, Sees, Wish, noted_by, opening_of, place_seen, stamp_seen, value_seen, Reads, HasCome, HasRead, HasValue, IsIdle, Kept, Settled}
 use Rattle.partial_model.specs.declared.call.Call.TheVariants as call
 use Rattle.partial_model.specs.declared.call.Answer.TheVariants as answer
 use Rattle.partial_model.specs.declared.call.Note.TheVariants as note
-use Rattle.partial_model.specs.History.{value_of}
-use Rattle.partial_model.specs.Notes.{Noted}
-use Rattle.partial_machine.specs.Machine.{fresh}
-use Rattle.partial_core.specs.Part.{core_of}
-use Rattle.partial_epochs.specs.Layout.{seal, unsealed}
-use Rattle.partial_epochs.proofs.Places.{not_below}
-use Rattle.partial_epochs.specs.Notes.{public_of}
-use Rattle.partial_long_lived.specs.declared.rule.About.{About}
-use Rattle.partial_long_lived.specs.declared.stand.Stand.{Stand}
-use Rattle.partial_long_lived.specs.Rule.{Began, Seated, plan_of}
-use Rattle.partial_long_lived.specs.Ports.{seen_in}
-use Rattle.partial_long_lived.specs.Inner.Steps.{Begins, Goes}
-use Rattle.partial_long_lived.specs.Inner.Held.{IsHeld, port_at}
-use Rattle.partial_long_lived.specs.Inner.Loads.{Sees, Wish, noted_by, opening_of, place_seen, stamp_seen, value_seen}
-use Rattle.partial_long_lived.specs.Inner.Loads.Wish.{Reads}
-use Rattle.partial_long_lived.specs.Inner.Calls.{HasCome, HasRead, HasValue, IsIdle, Kept, Settled}
 
 pub begins_on : (h l m : List Applied) → Begins h l → Begins l m → Begins h m
 begins_on h l m a c = (a.0 ++ c.0, c.1 ∙ ap (λ (t : List Applied). t ++ c.0) a.1 ∙ append_assoc h a.0 c.0)

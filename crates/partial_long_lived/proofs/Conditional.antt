@@ -1,42 +1,14 @@
 -- A conditional update of a port: the comparison, and how it ends in the port's epoch.
-use Rattle.std.proofs.Common.{ℕ, ◌≡◌, ◌+◌, ◌<◌, ◌≤◌, ◌==◌, ◌&&◌, ◌++◌, Bool, true, false, not, cond, Option, None, Some, List, [], ◌∷◌, length, refl, sym, ap, subst, ◌∙◌, inl, inr, arith, append-nil}
-use Rattle.std.specs.Prelude.{nat_lt, take}
-use Rattle.std.proofs.lemmas.Bool.{cases_lt}
-use Rattle.atomic_table.specs.Seated.{TableId}
-use Rattle.partial_model.specs.declared.history.Applied.{Applied}
+use Rattle.partial_long_lived.proofs.Common.{ℕ, ◌≡◌, ◌<◌, ◌≤◌, ◌==◌, ◌&&◌, ◌++◌, Bool, true, false, not, cond, Some, List, [], ◌∷◌, length, refl, sym, ap, subst, ◌∙◌, inl, inr, arith, append-nil, nat_lt, cases_lt, TableId, Applied, Noted, stamp_of, total, Change, is_at_rest, CoreState, IsMarkedLike, core_of, Exchanged, public_stamp, seal, unsealed, public_of, not_below, About, UpdatedIf, Asked, Stand, Began, Seated, plan_of, seen_in, IsIdle, Kept, EndedIf, HasFound, HasLooked, IsExpected, IsPlaceOf, noted_if, outcome_of, IsHeld, port_at, Sees, noted_by, opening_of, place_seen, stamp_seen, Expects, BeganBy, Attempted, ExpectsOne, IsEntryOf, IsOwn, MayCall, NotesNothing, Stayed, noted_where}
+use Rattle.std.specs.Prelude.{take}
 use Rattle.partial_model.specs.declared.call.Call.TheVariants as call
 use Rattle.partial_model.specs.declared.call.Answer.TheVariants as answer
 use Rattle.partial_model.specs.declared.call.Note.TheVariants as note
-use Rattle.partial_model.specs.Notes.{Noted}
-use Rattle.partial_model.specs.History.{stamp_of}
-use Rattle.partial_words.specs.Layout.{Layout, total}
 use Rattle.partial_words.specs.Record.{value_word}
-use Rattle.partial_machine.specs.declared.stage.Change.{Change}
-use Rattle.partial_machine.specs.Calls.{is_at_rest}
-use Rattle.partial_machine.specs.Machine.{CoreState}
-use Rattle.partial_core.specs.Part.{IsMarkedLike, core_of}
-use Rattle.partial_lines.specs.declared.exchange.Exchanged.{Exchanged}
 use Rattle.partial_lines.specs.declared.exchange.Exchanged.TheVariants.{Applied as IsApplied, Overtaken}
-use Rattle.partial_epochs.specs.History.{public_stamp}
-use Rattle.partial_epochs.specs.Layout.{seal, unsealed}
-use Rattle.partial_epochs.specs.Notes.{public_of}
-use Rattle.partial_epochs.proofs.Places.{not_below}
-use Rattle.partial_long_lived.specs.declared.rule.About.{About}
-use Rattle.partial_long_lived.specs.declared.answers.UpdatedIf.{UpdatedIf}
 use Rattle.partial_long_lived.specs.declared.answers.UpdatedIf.TheVariants as ended
-use Rattle.partial_long_lived.specs.declared.update_if.Asked.{Asked}
 use Rattle.partial_long_lived.specs.declared.update_if.Compared.TheVariants.{Sealed, Same, Other}
-use Rattle.partial_long_lived.specs.declared.stand.Stand.{Stand}
-use Rattle.partial_long_lived.specs.Rule.{Began, Seated, plan_of}
-use Rattle.partial_long_lived.specs.Ports.{seen_in}
-use Rattle.partial_long_lived.specs.Inner.Calls.{IsIdle, Kept}
-use Rattle.partial_long_lived.specs.Inner.Conditional.{EndedIf, HasFound, HasLooked, IsExpected, IsPlaceOf, noted_if, outcome_of}
-use Rattle.partial_long_lived.specs.Inner.Held.{IsHeld, port_at}
-use Rattle.partial_long_lived.specs.Inner.Loads.{Sees, noted_by, opening_of, place_seen, stamp_seen}
-use Rattle.partial_long_lived.specs.Inner.Loads.Wish.{Expects}
-use Rattle.partial_long_lived.specs.Inner.Moves.{BeganBy}
-use Rattle.partial_long_lived.specs.Inner.Updates.{Attempted, ExpectsOne, IsEntryOf, IsOwn, MayCall, NotesNothing, Stayed, noted_where}
-use Rattle.partial_long_lived.proofs.Coming.{goes_on, kept_on}
+use Rattle.partial_long_lived.proofs.Coming.{kept_on}
 
 -- the word of a record is a small number
 pub record_small : (table : TableId) (about : About) (s : Stand) (at : ℕ) → IsHeld table about s → value_word at < total (port_at s).about.sizes → at < 8388608

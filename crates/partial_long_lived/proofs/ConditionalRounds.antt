@@ -1,18 +1,5 @@
 -- The rounds of a conditional update: a comparison, perhaps an attempt, and a change of epoch, and so on.
-use Rattle.std.proofs.Common.{◌≡◌, ◌≤◌, ◌++◌, Bool, true, false, ◌∷◌, [], List, refl, ap, sym, subst, ◌∙◌}
-use Rattle.atomic_table.specs.Seated.{TableId}
-use Rattle.partial_model.specs.Notes.{Noted}
-use Rattle.partial_machine.specs.Machine.{CoreState}
-use Rattle.partial_long_lived.specs.declared.rule.About.{About}
-use Rattle.partial_long_lived.specs.declared.answers.UpdatedIf.{UpdatedIf}
-use Rattle.partial_long_lived.specs.declared.update_if.Asked.{Asked}
-use Rattle.partial_long_lived.specs.declared.stand.Stand.{Stand}
-use Rattle.partial_long_lived.specs.Inner.Steps.{Goes}
-use Rattle.partial_long_lived.specs.Inner.Held.{IsHeld, port_at}
-use Rattle.partial_long_lived.specs.Inner.Calls.{IsIdle}
-use Rattle.partial_long_lived.specs.Inner.Conditional.{EndedIf, HasUpdatedIf, noted_if}
-use Rattle.partial_long_lived.specs.Inner.Rests.{RestsAt}
-use Rattle.partial_long_lived.specs.Inner.Updates.{CameBy, IsOwn, MayCall, NotesNothing}
+use Rattle.partial_long_lived.proofs.Common.{◌≡◌, ◌≤◌, ◌++◌, Bool, true, false, ◌∷◌, [], List, refl, ap, subst, ◌∙◌, TableId, Noted, CoreState, About, UpdatedIf, Asked, Stand, Goes, IsHeld, port_at, IsIdle, EndedIf, HasUpdatedIf, noted_if, RestsAt, CameBy, IsOwn, MayCall, NotesNothing}
 use Rattle.partial_long_lived.proofs.Coming.{goes_on}
 use Rattle.partial_long_lived.proofs.Rounds.{BeganSo, began_on, goes_nowhere, may_own}
 use Rattle.partial_long_lived.proofs.Updates.{rests_may, rests_own}

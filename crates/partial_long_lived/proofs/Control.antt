@@ -1,28 +1,6 @@
 -- The steps of a change of epoch and of entering one are allowed.
-use Rattle.std.proofs.Common.{ℕ, ◌≡◌, ◌≢◌, ◌<◌, ◌≤◌, ◌==◌, ◌⊎◌, Bool, true, false, cond, Option, Some, None, IfSome, List, length, get_or, set, refl, sym, ap, subst, ◌∙◌, inl, inr, arith}
-use Rattle.std.proofs.lemmas.Bool.Decides.{eqb_tells}
-use lib.Seq.{set-get_or}
-use Rattle.atomic_table.specs.Table.{Me, Allows}
-use Rattle.partial_model.specs.declared.history.Applied.{Applied}
-use Rattle.partial_model.specs.Notes.{Noted}
-use Rattle.partial_epochs.specs.Lists.{put}
-use Rattle.partial_epochs.specs.Layout.{IsPlace, Place, Plan, arena_limit, at_word, current_word, marked, packed}
-use Rattle.partial_epochs.specs.Ports.{Entering, Owned, Port}
-use Rattle.partial_epochs.specs.Ports.Entering.{Stands, Marks}
-use Rattle.partial_epochs.specs.Epochs.{Beside, LawfulEpochs, place_now}
-use Rattle.partial_epochs.specs.Entering.{having_passed}
-use Rattle.partial_epochs.specs.Owning.{having_looked}
-use Rattle.partial_epochs.specs.Notes.{LawfulMemory}
-use Rattle.partial_epochs.proofs.Lists.{put_all, put_same, put_other}
-use Rattle.std.specs.Option.{option_map_or}
+use Rattle.partial_long_lived.proofs.Common.{ℕ, ◌≡◌, ◌≢◌, ◌<◌, ◌≤◌, ◌==◌, ◌⊎◌, Bool, true, false, cond, Option, Some, None, IfSome, List, length, get_or, set, refl, sym, ap, subst, ◌∙◌, inl, inr, arith, eqb_tells, set-get_or, Me, Allows, Applied, Noted, put, IsPlace, Place, Plan, arena_limit, at_word, current_word, marked, packed, Entering, Owned, Port, Stands, Marks, Beside, LawfulEpochs, place_now, having_passed, having_looked, LawfulMemory, put_all, put_same, put_other, option_map_or, MayPut, KeepsTime, asides_keep_time, entries_keep_time, entries_load, looks_are_true, looks_keep_time, marks_keep_time, marks_stay_lawful, owners_look, owners_look_away, About, Began, IsKept, IsSince, Seated, one_of, plan_of, IsKnown, IsOne, tells, LoadsCurrent, Looks, StoresMark, becomes, having_found, loads, looked_at, marks, unpacked}
 use Rattle.partial_epochs.proofs.Present.{same_place}
-use Rattle.partial_epochs.specs.Control.{MayPut}
-use Rattle.partial_epochs.specs.Time.{KeepsTime}
-use Rattle.partial_epochs.proofs.Laws.{asides_keep_time, entries_keep_time, entries_load, looks_are_true, looks_keep_time, marks_keep_time, marks_stay_lawful, owners_look, owners_look_away}
-use Rattle.partial_long_lived.specs.declared.rule.About.{About}
-use Rattle.partial_long_lived.specs.Rule.{Began, IsKept, IsSince, Seated, one_of, plan_of}
-use Rattle.partial_long_lived.specs.Inner.Steps.{IsKnown, IsOne, tells}
-use Rattle.partial_long_lived.specs.Inner.Moves.{LoadsCurrent, Looks, StoresMark, becomes, having_found, loads, looked_at, marks, unpacked}
 use Rattle.partial_long_lived.proofs.Asides.{IsQuiet, aside}
 use Rattle.partial_long_lived.proofs.Kept.{allowed, begun_grows, none_grown}
 use Rattle.partial_long_lived.proofs.Begins.{began_by, here_is, seen_few}

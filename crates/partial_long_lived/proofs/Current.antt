@@ -1,26 +1,8 @@
 -- The words of the current arena tell the last values.
-use Rattle.std.proofs.Common.{ℕ, ◌≡◌, ◌+◌, ◌<◌, ◌≤◌, List, length, take, get_or, sym, ap, subst, ◌∙◌, arith}
-use Rattle.std.proofs.lemmas.List.{take_all}
-use Rattle.partial_model.specs.declared.history.Applied.{Applied}
-use Rattle.partial_model.specs.declared.history.Opening.{Opening}
-use Rattle.partial_model.specs.History.{stamp_of, value_of}
-use Rattle.partial_model.proofs.AllLemmas.{all_weaker}
-use Rattle.partial_model.proofs.HistoryLemmas.{stamp_all}
-use Rattle.partial_words.specs.Layout.{total}
+use Rattle.partial_long_lived.proofs.Common.{ℕ, ◌≡◌, ◌+◌, ◌<◌, ◌≤◌, List, length, take, get_or, sym, ap, subst, ◌∙◌, arith, take_all, Applied, Opening, stamp_of, value_of, all_weaker, stamp_all, total, lawful_records_are_within, list_of, Plan, arena_words, base, unsealed, opening_behind, Port, Beside, LawfulEpochs, one_history, epochs_continue, current_is, below_whole, HaveLast, arena_now, component_now, value_now}
 use Rattle.partial_words.proofs.ChainLemmas.{records_within, value_behind_stamp}
 use Rattle.partial_core.specs.Lawful as one
-use Rattle.partial_core.proofs.Laws.{lawful_records_are_within}
-use Rattle.partial_epochs.specs.Lists.{list_of}
-use Rattle.partial_epochs.specs.Layout.{Plan, arena_words, base, unsealed}
-use Rattle.partial_epochs.specs.History.{opening_behind}
-use Rattle.partial_epochs.specs.Ports.{Port}
-use Rattle.partial_epochs.specs.Epochs.{Beside, LawfulEpochs}
-use Rattle.partial_epochs.specs.Notes.{one_history}
-use Rattle.partial_epochs.proofs.Continue.{epochs_continue}
-use Rattle.partial_epochs.proofs.Entering.{current_is}
-use Rattle.partial_epochs.proofs.Places.{below_whole}
 use Rattle.partial_epochs.proofs.Worded.{plain_at, plain_component, plain_other}
-use Rattle.partial_long_lived.specs.Inner.Last.{HaveLast, arena_now, component_now, value_now}
 
 module _ (e : Plan) (words : List ℕ) (ports : ℕ → Port) (b : Beside) (w : LawfulEpochs e words ports b) where
   -- the current word names the current arena

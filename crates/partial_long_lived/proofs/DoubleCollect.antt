@@ -1,37 +1,11 @@
 -- A scan by a double collect: two equal collects stood together between them.
-use Rattle.std.proofs.Common.{ℕ, suc, ◌≡◌, ◌+◌, ◌-◌, ◌<◌, ◌≤◌, ◌&&◌, ◌++◌, not, Bool, true, false, cond, Option, None, Result, Ok, Err}
-use Rattle.std.proofs.Common.{IfOk, IfErr, List, [], ◌∷◌, length, map, take, set, refl, sym, ap, subst, ◌∙◌, inl, inr, arith, append-nil, length-append}
-use Rattle.std.specs.Prelude.{nat_lt, slice_index}
-use Rattle.std.specs.Option.{option_map_or}
-use Rattle.std.specs.List.{AllByRecursion}
-use Rattle.std.proofs.lemmas.Bool.Decides.{eqb_tells}
-use Rattle.std.proofs.lemmas.List.{ext_get_or, get_or-map, get_or-set_other, get_or-set_same, length-map, length-set}
-use Rattle.atomic_table.specs.Seated.{TableId}
-use Rattle.partial_model.specs.declared.history.Applied.{Applied}
-use Rattle.partial_model.specs.History.{IsHistory, value_of}
-use Rattle.partial_model.specs.Notes.{Noted, seen_by}
-use Rattle.partial_model.proofs.NotesLemmas.{legal_notes_are_shown}
-use Rattle.partial_model.proofs.StampsStay.{stamps_never_return}
-use Rattle.partial_core.specs.Part.{core_of}
-use Rattle.partial_epochs.specs.Layout.{packed, seal}
-use Rattle.partial_epochs.specs.Entering.{having_passed}
-use Rattle.partial_epochs.specs.Owning.{having_looked}
-use Rattle.partial_epochs.specs.History.{history_of, public_entry, public_log}
-use Rattle.partial_epochs.specs.Ports.{Owned, Port}
+use Rattle.partial_long_lived.proofs.Common.{ℕ, suc, ◌≡◌, ◌+◌, ◌-◌, ◌<◌, ◌≤◌, ◌&&◌, ◌++◌, not, Bool, true, false, cond, Option, None, Result, Ok, Err, IfOk, IfErr, List, [], ◌∷◌, length, map, take, set, refl, sym, ap, subst, ◌∙◌, inl, inr, arith, append-nil, length-append, nat_lt, slice_index, option_map_or, AllByRecursion, eqb_tells, ext_get_or, get_or-map, get_or-set_other, get_or-set_same, length-map, length-set, TableId, Applied, IsHistory, value_of, Noted, seen_by, legal_notes_are_shown, stamps_never_return, core_of, packed, seal, having_passed, having_looked, history_of, public_entry, public_log, Owned, Port, Refused, About, Stand, Began, Seated, seen_in, IsHeld, port_at, having_found, looked_at, HasCome, IsIdle, Kept, Looked, Sees, noted_by, opening_of, Glances, HasScanned, ScanMade, SettledFirst, noted_scan, NotScanned, AreCollected, AreInside, HadValue, HadValues, HasBegunCollect, HasGlanced, HasStayed, MayNote, NotesScan, WasThere}
+use Rattle.partial_model.specs.History.{stamp_of}
 use Rattle.partial_lines.specs.declared.whole_scan.Scanned.{Scanned}
-use Rattle.partial_long_lived.specs.declared.error.Refused.{Refused}
-use Rattle.partial_long_lived.specs.declared.rule.About.{About}
-use Rattle.partial_long_lived.specs.declared.stand.Stand.{Stand}
-use Rattle.partial_long_lived.specs.Rule.{Began, Seated}
-use Rattle.partial_long_lived.specs.Ports.{seen_in}
-use Rattle.partial_long_lived.specs.Inner.Held.{IsHeld, port_at}
-use Rattle.partial_long_lived.specs.Inner.Moves.{having_found, looked_at}
-use Rattle.partial_long_lived.specs.Inner.Calls.{HasCome, IsIdle, Kept, Looked}
-use Rattle.partial_long_lived.specs.Inner.Loads.{Sees, noted_by, opening_of}
-use Rattle.partial_long_lived.specs.Inner.Loads.Wish.{Glances}
-use Rattle.partial_long_lived.specs.Inner.Scans.{HasScanned, ScanMade, SettledFirst, noted_scan}
-use Rattle.partial_long_lived.specs.Inner.Rests.{NotScanned}
-use Rattle.partial_long_lived.specs.Inner.DoubleCollect.{AreCollected, AreInside, HadValue, HadValues, HasBegunCollect, HasGlanced, HasStayed, MayNote, NotesScan, WasThere}
+use Rattle.partial_epochs.specs.Layout.{unsealed}
+use Rattle.partial_epochs.specs.Notes.{public_of}
+use Rattle.partial_long_lived.specs.Rule.{plan_of}
+use Rattle.partial_long_lived.specs.Inner.DoubleCollect.{MadeNamed, NameStamps}
 use Rattle.partial_long_lived.proofs.Coming.{come_itself, come_on, come_same, come_seen, goes_on, seen_more}
 use Rattle.partial_long_lived.proofs.Looking.{looked_away}
 use Rattle.partial_long_lived.proofs.Seen.{begin_history}
@@ -209,20 +183,35 @@ module _ (table : TableId) (about : About) (s u v : Stand) (h : IsHeld table abo
           epoch = kept'.epoch ∙ kept.epoch;
         })
 
-    -- the values of a position stood between the two collects
-    stood : AreCollected x b (length x.port.part.seen) js ws (length js) → (k v : ℕ) → k < length js → HadValue x (slice_index js k) (slice_index ws k) v →
-        v ≡ value_of (opening_of x) (take b x.port.part.seen) (slice_index js k)
-    stood second k v low had =
+    -- a position had between the two collects what it had in the first one
+    stood_then : AreCollected x b (length x.port.part.seen) js ws (length js) → (k : ℕ) → (low : k < length js) →
+        let n = (glanced_there s u g 0 b b js ws (length js) (omega arith) (omega arith) first k low).entries in
+        (stamp_of (opening_of x) (take b x.port.part.seen) (slice_index js k) ≡ stamp_of (opening_of x) (take n x.port.part.seen) (slice_index js k))
+        × (value_of (opening_of x) (take b x.port.part.seen) (slice_index js k) ≡ value_of (opening_of x) (take n x.port.part.seen) (slice_index js k))
+    stood_then second k low =
         let one = glanced_there s u g 0 b b js ws (length js) (omega arith) (omega arith) first k low in
         let two = second k low in
-        let up = one.to in
-        let more = glanced_seen s u g in
         let values = told.values in
         let j = inside k low in
         let m = ap (λ (z : About). z.sizes.m) about_is in
         let history = begin_history (opening_of x) x.port.part.seen told.begins.0 (subst (IsHistory (opening_of x)) told.begins.1 told.history) in
-        let then = stamps_never_return (opening_of x) x.port.part.seen (slice_index js k) one.entries two.entries b history (omega (arith, values, j, m)) one.to two.from (sym one.stamp ∙ two.stamp) in
-        had one.entries (omega (arith, up, more)) one.stamp ∙ sym then.1
+        stamps_never_return (opening_of x) x.port.part.seen (slice_index js k) one.entries two.entries b history (omega (arith, values, j, m)) one.to two.from (sym one.stamp ∙ two.stamp)
+
+    -- the value of a position stood between the two collects
+    stood : AreCollected x b (length x.port.part.seen) js ws (length js) → (k v : ℕ) → k < length js → HadValue x (slice_index js k) (slice_index ws k) v →
+        v ≡ value_of (opening_of x) (take b x.port.part.seen) (slice_index js k)
+    stood second k v low had =
+        let one = glanced_there s u g 0 b b js ws (length js) (omega arith) (omega arith) first k low in
+        let up = one.to in
+        let more = glanced_seen s u g in
+        had one.entries (omega (arith, up, more)) one.stamp ∙ sym (stood_then second k low).1
+
+    -- so did the stamp of its record
+    stamp_stood : AreCollected x b (length x.port.part.seen) js ws (length js) → (k : ℕ) → k < length js →
+        unsealed (slice_index ws k) ≡ stamp_of (opening_of x) (take b x.port.part.seen) (slice_index js k)
+    stamp_stood second k low =
+        let one = glanced_there s u g 0 b b js ws (length js) (omega arith) (omega arith) first k low in
+        one.stamp ∙ sym (stood_then second k low).0
 
     module _ (vs : List ℕ) (second : AreCollected x b (length x.port.part.seen) js ws (length js)) (values : HadValues x js ws vs (length js - 1)) (many : length vs ≡ length js)
         (last : (j : ℕ) → j < about.sizes.m → HadValue (port_at v) j (slice_index ws (length js - 1)) a) where
@@ -274,6 +263,17 @@ module _ (table : TableId) (about : About) (s u v : Stand) (h : IsHeld table abo
             let whole = ap (λ (l : List Applied). length l) told.begins.1 in
             let both = length-append x.port.part.seen told.begins.0 in
             omega (arith, long, seen, before, more, whole, both);
+      }
+
+      pub together_named : MadeNamed s t js vs' ws
+      unfolding together_scanned
+      together_named = record {
+        made = together_scanned;
+        stamps = subst (λ (z : Seated). NameStamps z (length (history_of x.port.before) + b) js ws) (sym told.is) (λ k low. (
+          (second k low).within,
+          ap (public_of (plan_of x.about) x.port.before (slice_index js k)) (stamp_stood second k low)
+              ∙ told.stamps (slice_index js k) (subst (λ (a : About). slice_index js k < a.sizes.m) (sym about_is) (inside k low)),
+        ));
       }
 
 -- a scan that is announced behind a double collect which was not one

@@ -1,31 +1,7 @@
 -- The exchange of the entering mark is allowed.
-use Rattle.std.proofs.Common.{ℕ, ◌≡◌, ◌<◌, ◌≤◌, ◌==◌, ◌++◌, cond, None, List, [], ◌∷◌, length, get_or, set, refl, sym, ap, subst, ◌∙◌, inl, inr, arith, append-nil, append_assoc}
-use Rattle.std.proofs.lemmas.Bool.Decides.{eqb_tells}
-use prog.Atomic.{either}
-use Rattle.atomic_table.specs.Table.{Me, Allows}
-use Rattle.partial_model.specs.declared.history.Applied.{Applied}
-use Rattle.partial_model.specs.Notes.{LegalNotes, Noted}
-use Rattle.partial_epochs.specs.Lists.{put}
-use Rattle.partial_epochs.specs.Layout.{IsPlace, Place, Plan, at_word, marked, packed}
-use Rattle.partial_epochs.specs.History.{history_of, public_log}
-use Rattle.partial_epochs.specs.Ports.{Entering, Port}
-use Rattle.partial_epochs.specs.Ports.Entering.{Loaded}
-use Rattle.partial_epochs.specs.Entering.{arrived}
+use Rattle.partial_long_lived.proofs.Common.{ℕ, ◌≡◌, ◌<◌, ◌≤◌, ◌==◌, ◌++◌, cond, None, List, [], ◌∷◌, length, get_or, set, refl, sym, ap, subst, ◌∙◌, inl, inr, arith, append-nil, append_assoc, eqb_tells, either, Me, Allows, Applied, LegalNotes, Noted, put, IsPlace, Place, Plan, at_word, marked, packed, history_of, public_log, Entering, Port, Loaded, arrived, Beside, LawfulEpochs, place_now, KeepsTime, LawfulMemory, Reached, not_marked, arrivals_keep_notes, arrivals_keep_time, arrivals_stay_lawful, put_other, put_same, history_grows, history_longer, About, IsKept, IsSeat, IsSeen, IsSince, Seated, one_of, plan_of, seen_in, Begins, IsKnown, IsOne, tells, Arrives, place_found, unpacked}
 use Rattle.partial_epochs.specs.Entering as law
-use Rattle.partial_epochs.specs.Epochs.{Beside, LawfulEpochs, place_now}
-use Rattle.partial_epochs.specs.Time.{KeepsTime}
-use Rattle.partial_epochs.specs.Notes.{LawfulMemory, Reached}
-use Rattle.partial_epochs.proofs.Entering.{not_marked}
-use Rattle.partial_epochs.proofs.Laws.{arrivals_keep_notes, arrivals_keep_time, arrivals_stay_lawful}
-use Rattle.partial_epochs.proofs.Lists.{put_other, put_same}
-use Rattle.partial_epochs.proofs.OneHistory.{history_grows}
-use Rattle.partial_epochs.proofs.Seats.{history_longer}
 use Rattle.partial_epochs.proofs.Sights.{ends}
-use Rattle.partial_long_lived.specs.declared.rule.About.{About}
-use Rattle.partial_long_lived.specs.Rule.{IsKept, IsSeat, IsSeen, IsSince, Seated, one_of, plan_of}
-use Rattle.partial_long_lived.specs.Ports.{seen_in}
-use Rattle.partial_long_lived.specs.Inner.Steps.{Begins, IsKnown, IsOne, tells}
-use Rattle.partial_long_lived.specs.Inner.Moves.{Arrives, place_found, unpacked}
 use Rattle.partial_long_lived.proofs.Seen.{legal_begins}
 use Rattle.partial_long_lived.proofs.Kept.{Moved, allowed, none_grown, not_grown}
 use Rattle.partial_long_lived.proofs.Control.{unpacked_is}

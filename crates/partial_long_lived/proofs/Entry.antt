@@ -1,16 +1,5 @@
 -- How a port enters an epoch, step by step.
-use Rattle.std.proofs.Common.{ℕ, ◌≡◌, ◌+◌, ◌==◌, List, sym, ap, subst, ◌∙◌, arith}
-use prog.Atomic.{either}
-use Rattle.atomic_table.specs.Table.{Me, Allows}
-use Rattle.atomic_table.specs.Seated.{TableId}
-use Rattle.partial_epochs.specs.Layout.{at_word, marked, packed}
-use Rattle.partial_long_lived.specs.declared.rule.About.{About}
-use Rattle.partial_long_lived.specs.declared.stand.Stand.{Stand}
-use Rattle.partial_long_lived.specs.Rule.{IsKept, Seated, one_of}
-use Rattle.partial_long_lived.specs.Inner.Steps.{tells}
-use Rattle.partial_long_lived.specs.Inner.Held.{IsHeld, port_at}
-use Rattle.partial_long_lived.specs.Inner.Moves.{Arrives, LoadsCurrent, StoresMark, unpacked}
-use Rattle.partial_long_lived.specs.Inner.Calls.{MayEnter}
+use Rattle.partial_long_lived.proofs.Common.{ℕ, ◌≡◌, ◌+◌, ◌==◌, List, sym, ap, subst, ◌∙◌, arith, either, Me, Allows, TableId, at_word, marked, packed, About, Stand, IsKept, Seated, one_of, tells, IsHeld, port_at, Arrives, LoadsCurrent, StoresMark, unpacked, MayEnter}
 use Rattle.partial_long_lived.proofs.Control.{may_load, may_mark}
 use Rattle.partial_long_lived.proofs.Enters.{may_arrive}
 use Rattle.partial_long_lived.proofs.Standing.{place_is}

@@ -1,27 +1,6 @@
 -- A step of one seat keeps the rule.
-use Rattle.std.proofs.Common.{ℕ, ◌≡◌, ◌≢◌, ◌+◌, ◌<◌, ◌≤◌, ◌==◌, ◌++◌, cond, Option, Some, None, IfSome, List, [], ◌∷◌, length, get_or, set, refl, sym, ap, subst, ◌∙◌, arith, append-nil, length-append}
-use Rattle.std.specs.List.{AllByRecursion}
-use mathlib.Core.Option.{some}
-use lib.ListN.{get_elem?}
-use Rattle.atomic_table.specs.Table.{Me, Allows, keeps}
-use Rattle.partial_model.specs.declared.history.Applied.{Applied}
-use Rattle.partial_model.specs.Notes.{LegalNotes, Noted}
-use Rattle.partial_model.proofs.AllLemmas.{all_at, all_join, all_before, all_after, all_weaker}
-use Rattle.partial_epochs.specs.Ports.{Port}
-use Rattle.partial_epochs.specs.Epochs.{Beside, IsPlan, place_now}
-use Rattle.partial_epochs.specs.Time.{KeepsTime}
-use Rattle.partial_epochs.proofs.Seats.{history_longer}
-use Rattle.partial_epochs.specs.Notes.{LawfulMemory}
-use Rattle.std.specs.Option.{option_map_or}
-use Rattle.partial_epochs.proofs.Continue.{behind_both}
+use Rattle.partial_long_lived.proofs.Common.{ℕ, ◌≡◌, ◌≢◌, ◌+◌, ◌<◌, ◌≤◌, ◌==◌, ◌++◌, cond, Option, Some, None, IfSome, List, [], ◌∷◌, length, get_or, set, refl, sym, ap, subst, ◌∙◌, arith, append-nil, length-append, AllByRecursion, some, get_elem?, Me, Allows, keeps, Applied, LegalNotes, Noted, all_at, all_join, all_before, all_after, all_weaker, Port, Beside, IsPlan, place_now, KeepsTime, history_longer, LawfulMemory, option_map_or, behind_both, IsPlace, carried_after, carried_behind, history_of, opening_behind, public_log, public_stamp, value_of, About, Began, Found, HasBegun, IsFinal, IsKept, IsSeat, IsSeen, IsSince, Seated, one_of, plan_of, seats_of, Knows, seen_in, Begins, Goes, IsKnown, IsOne, tells}
 use Rattle.partial_epochs.proofs.Last.{none_here, stays}
-use Rattle.partial_epochs.specs.Layout.{IsPlace}
-use Rattle.partial_epochs.specs.History.{carried_after, carried_behind, history_of, opening_behind, public_log, public_stamp}
-use Rattle.partial_model.specs.History.{value_of}
-use Rattle.partial_long_lived.specs.declared.rule.About.{About}
-use Rattle.partial_long_lived.specs.Rule.{Began, Found, HasBegun, IsFinal, IsKept, IsSeat, IsSeen, IsSince, Seated, one_of, plan_of, seats_of}
-use Rattle.partial_long_lived.specs.Ports.{Knows, seen_in}
-use Rattle.partial_long_lived.specs.Inner.Steps.{Begins, Goes, IsKnown, IsOne, tells}
 use Rattle.partial_long_lived.proofs.Seen.{fits_of, knows_of, seen_begins}
 use Rattle.partial_long_lived.proofs.Views.{around, others_all, seat_own, seats_both}
 

@@ -1,12 +1,6 @@
 -- The values that are read in the arena of the current word.
-use Rattle.std.proofs.Common.{ℕ, zero, suc, ◌≡◌, ◌+◌, ◌%◌, ◌<◌, List, [], ◌∷◌, ◌++◌, length, get_or, sym, ap, ◌∙◌, inl, inr, arith}
-use Rattle.std.proofs.lemmas.Bool.{cases_lt}
-use Rattle.std.proofs.lemmas.List.{get_or_push, get_or_append_left}
-use mathlib.Core.Option.{some, some-injective, some-ne-none}
-use lib.ListN.{get_elem?}
+use Rattle.partial_long_lived.proofs.Common.{ℕ, zero, suc, ◌≡◌, ◌+◌, ◌%◌, ◌<◌, List, [], ◌∷◌, ◌++◌, length, get_or, sym, ap, ◌∙◌, inl, inr, arith, cases_lt, get_or_push, get_or_append_left, some, some-injective, some-ne-none, get_elem?, Plan, base, seal, arena_now, value_now}
 use Rattle.partial_words.specs.Record.{value_word}
-use Rattle.partial_epochs.specs.Layout.{Plan, base, seal}
-use Rattle.partial_long_lived.specs.Inner.Last.{arena_now, value_now}
 
 -- a word that is there
 pub word_there : (words : List ℕ) (i x : ℕ) → get_elem? words i ≡ some x → get_or words i 0 ≡ x

@@ -1,3 +1,4 @@
+mod Common
 pub mod AllPorts
 pub mod Answering
 pub mod Asides
@@ -37,6 +38,7 @@ pub mod Scans
 pub mod Seen
 pub mod Sets
 pub mod Sights
+pub mod Stamps
 pub mod Standing
 pub mod Staying
 pub mod StillStanding

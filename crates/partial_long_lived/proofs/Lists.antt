@@ -1,6 +1,5 @@
 -- Lists that are cut at a length.
-use Rattle.std.proofs.Common.{ℕ, ◌≡◌, ◌<◌, ◌++◌, List, [], ◌∷◌, length, refl, ap, inl, inr, arith, length-append}
-use Rattle.std.proofs.lemmas.Bool.{cases_lt}
+use Rattle.partial_long_lived.proofs.Common.{ℕ, ◌≡◌, ◌<◌, ◌++◌, List, [], ◌∷◌, length, refl, ap, inl, inr, arith, length-append, cases_lt}
 
 -- what stands before an end is the same in both
 pub same_before : {A : Type 0} (l m : List A) (a c : A) (t : List A) → l ++ a ∷ t ≡ m ++ c ∷ t → a ≡ c

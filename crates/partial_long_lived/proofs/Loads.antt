@@ -1,43 +1,11 @@
 -- Loads of component words are allowed, and what they tell.
-use Rattle.std.proofs.Common.{ℕ, ◌≡◌, ◌≢◌, ◌+◌, ◌<◌, ◌≤◌, ◌==◌, ◌⊎◌, ◌&&◌, ◌++◌, not, Bool, true, false, cond, Option, Some, None, IfSome, List, [], ◌∷◌, length, map, take, get_or, set, refl, sym, ap, subst, ◌∙◌, inl, inr, arith, append-nil, append_assoc, length-append}
-use Rattle.std.specs.Prelude.{⊤, nat_lt}
-use Rattle.std.specs.List.{AllByRecursion}
-use Rattle.std.proofs.lemmas.Bool.Decides.{eqb_tells}
-use Rattle.std.proofs.lemmas.List.{length-map, take-append-le, take_all}
-use Rattle.partial_model.specs.declared.history.Applied.{Applied}
-use Rattle.partial_model.specs.declared.history.Opening.{Opening}
+use Rattle.partial_long_lived.proofs.Common.{ℕ, ◌≡◌, ◌≢◌, ◌+◌, ◌<◌, ◌≤◌, ◌==◌, ◌⊎◌, ◌&&◌, ◌++◌, not, Bool, true, false, cond, Option, Some, None, IfSome, List, [], ◌∷◌, length, map, take, get_or, set, refl, sym, ap, subst, ◌∙◌, inl, inr, arith, append-nil, append_assoc, length-append, ⊤, nat_lt, AllByRecursion, eqb_tells, length-map, take-append-le, take_all, Applied, Opening, Note, stamp_of, value_of, Fits, IsTrueOf, LegalNotes, Noted, place_of, seen_by, AreCollects, LegalNotes-push, first_free, put, MayPut, Place, Plan, base, component_words, seal, unsealed, carried_after, carried_behind, history_of, opening_behind, public_entry, public_log, Port, Stands, Beside, IsStanding, place_now, LawfulMemory, having_seen, noting, public_of, IsBesideAs, KeepsTime, asides_keep_time, components_name_records, epochs_are_histories, glances_stay_lawful, seen_records_stay, sights_stay_lawful, unsealed_is_present, history_took, at_of, put_all, put_other, put_same, held_history, history_grows, among, history_longer, About, Began, Found, HasBegun, IsFinal, IsSeat, Seated, plan_of, seen_in, Begins, IsKnown, Recalls, Sees, Wish, found_by, noted_by, place_seen, stamp_seen, MayNote, NotesScan, noted_together, Expects, Finds, Glances, Reads}
 use Rattle.partial_model.specs.declared.call.Call.TheVariants as call
 use Rattle.partial_model.specs.declared.call.Answer.TheVariants as answer
-use Rattle.partial_model.specs.declared.call.Note.{Note}
 use Rattle.partial_model.specs.declared.call.Note.TheVariants as note
-use Rattle.partial_model.specs.History.{stamp_of, value_of}
-use Rattle.partial_model.specs.Notes.{Fits, IsTrueOf, LegalNotes, Noted, place_of, seen_by, AreCollects}
-use Rattle.partial_model.proofs.NotesLemmas.{LegalNotes-push}
-use Rattle.partial_words.specs.Layout.{first_free}
-use Rattle.partial_epochs.specs.Lists.{put}
-use Rattle.partial_epochs.specs.Control.{MayPut}
 use Rattle.partial_epochs.proofs.Last.{is_raw, within as arena_within}
-use Rattle.partial_epochs.specs.Layout.{Place, Plan, base, component_words, seal, unsealed}
-use Rattle.partial_epochs.specs.History.{carried_after, carried_behind, history_of, opening_behind, public_entry, public_log}
-use Rattle.partial_epochs.specs.Ports.{Port}
-use Rattle.partial_epochs.specs.Ports.Entering.{Stands}
-use Rattle.partial_epochs.specs.Epochs.{Beside, IsStanding, place_now}
-use Rattle.partial_epochs.specs.Notes.{LawfulMemory, having_seen, noting, public_of}
-use Rattle.partial_epochs.specs.Sealing.{IsBesideAs}
-use Rattle.partial_epochs.specs.Time.{KeepsTime}
-use Rattle.partial_epochs.proofs.Laws.{asides_keep_time, components_name_records, epochs_are_histories, epochs_continue, glances_stay_lawful, seen_records_stay, sights_stay_lawful, unsealed_is_present}
-use Rattle.partial_epochs.proofs.Continue.{history_took}
-use Rattle.partial_epochs.proofs.Lists.{at_of, put_all, put_other, put_same}
-use Rattle.partial_epochs.proofs.OneHistory.{held_history, history_grows}
+use Rattle.partial_epochs.proofs.Laws.{epochs_continue}
 use Rattle.partial_epochs.proofs.Public.{stamp_public, value_public}
-use Rattle.partial_epochs.proofs.Seats.{among, history_longer}
-use Rattle.partial_long_lived.specs.declared.rule.About.{About}
-use Rattle.partial_long_lived.specs.Rule.{Began, Found, HasBegun, IsFinal, IsSeat, Seated, plan_of}
-use Rattle.partial_long_lived.specs.Ports.{seen_in}
-use Rattle.partial_long_lived.specs.Inner.Steps.{Begins, IsKnown}
-use Rattle.partial_long_lived.specs.Inner.Loads.{Recalls, Sees, Wish, found_by, noted_by, place_seen, stamp_seen}
-use Rattle.partial_long_lived.specs.Inner.DoubleCollect.{MayNote, NotesScan, noted_together}
-use Rattle.partial_long_lived.specs.Inner.Loads.Wish.{Expects, Finds, Glances, Reads}
 use Rattle.partial_long_lived.proofs.Begins.{began_by, seen_few}
 use Rattle.partial_long_lived.proofs.Control.{load_same, stands_since}
 use Rattle.partial_long_lived.proofs.Kept.{Moved, begun_grows, final_grows, none_grown, not_grown}
@@ -316,7 +284,7 @@ module _ (a : About) (words : List ℕ) (ports : ℕ → Port) (notes : ℕ → 
           let histories = epochs_are_histories e words ports b k w.epochs below stands standing in
           moved_to i g s.began (scan ∷ []) (sees_note m few_seen may.behind scan scan_true) (legal_note m may.behind scan scan_true) f
           (λ c same before. final_grows a p' b c (not_grown p' b c same before) f (final_seen f s.found)) (NotesScan js m i X (get_or words i 0))
-          (record { recalls = recalled i; log = log; begins = seen_rest; is = refl; history = histories.0; values = histories.1 })
+          (record { recalls = recalled i; log = log; begins = seen_rest; is = refl; history = histories.0; values = histories.1; stamps = λ j inside. ap (λ (l : List Applied). public_of e (ports k).before j (stamp_of o l j)) taken_seen ∙ stamp_public e w.epochs.plan (ports k).before log above m j inside })
 
     -- what a load of the component's word leads to
     module _ (j : ℕ) (inside : j < a.sizes.m) (first : Bool) (wish : Wish) (finds : IsFinding wish → j < (ports k).passed) where

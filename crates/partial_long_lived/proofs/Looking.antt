@@ -1,16 +1,5 @@
 -- What a look leaves of a port.
-use Rattle.std.proofs.Common.{ℕ, ◌≡◌, ◌==◌, Bool, true, false, cond, Option, Some, None, refl, sym, ap, ◌∙◌}
-use Rattle.std.specs.Option.{option_map_or}
-use Rattle.partial_epochs.specs.Layout.{packed}
-use Rattle.partial_epochs.specs.Ports.{Owned, Port}
-use Rattle.partial_epochs.specs.Entering.{having_passed}
-use Rattle.partial_epochs.specs.Owning.{having_looked}
-use Rattle.partial_long_lived.specs.declared.stand.Stand.{Stand}
-use Rattle.partial_long_lived.specs.Rule.{Seated}
-use Rattle.partial_long_lived.specs.Inner.Held.{port_at}
-use Rattle.partial_long_lived.specs.Inner.Moves.{having_found, looked_at}
-use Rattle.partial_long_lived.specs.Inner.Calls.{Kept, Looked}
-use Rattle.partial_long_lived.specs.Inner.Changing.{HasTaken, HoldsMark, IsPast, MayPutPort, Owns, Remains, Works}
+use Rattle.partial_long_lived.proofs.Common.{ℕ, ◌≡◌, ◌==◌, Bool, true, false, cond, Option, Some, None, refl, sym, ap, ◌∙◌, option_map_or, packed, Owned, Port, having_passed, having_looked, Stand, Seated, port_at, having_found, looked_at, Kept, Looked, HasTaken, HoldsMark, IsPast, MayPutPort, Owns, Remains, Works}
 
 -- what a look leaves as it was, whatever it finds
 looked_same : {A : Type 0} (f : Port → A) (n : ℕ) (p : Port) → ((o : Owned) → f (having_looked p o) ≡ f p) → f (having_passed p) ≡ f p → f (looked_at n p) ≡ f p

@@ -1,44 +1,8 @@
 -- The steps of a port's machine are allowed.
-use Rattle.std.proofs.Common.{ℕ, ◌≡◌, ◌≢◌, ◌+◌, ◌<◌, ◌≤◌, ◌||◌, ◌++◌, Bool, true, false, cond, Option, Some, None, IfSome, List, [], ◌∷◌, length, map, take, drop, get_or, set, refl, sym, ap, subst, ◌∙◌, inl, inr, arith, append-nil, append_assoc, length-append}
-use Rattle.std.specs.List.{AllByRecursion}
-use Rattle.std.proofs.lemmas.List.{length-map, take-append-drop, take-append-le}
-use lib.Seq.{set-get_or}
-use Rattle.partial_model.specs.declared.history.Applied.{Applied}
-use Rattle.partial_model.specs.declared.call.Call.{Call}
+use Rattle.partial_long_lived.proofs.Common.{ℕ, ◌≡◌, ◌≢◌, ◌+◌, ◌<◌, ◌≤◌, ◌||◌, ◌++◌, Bool, true, false, cond, Option, Some, None, IfSome, List, [], ◌∷◌, length, map, take, drop, get_or, set, refl, sym, ap, subst, ◌∙◌, inl, inr, arith, append-nil, append_assoc, length-append, AllByRecursion, length-map, take-append-drop, take-append-le, set-get_or, Applied, Call, Answer, stamp_of, LegalNotes, Noted, seen_by, Step, Load, Store, Exchange, Add, answer_of, word_of, words_after, CoreState, advance, reply_of, answer_for, call_of, is_begun, Part, core_of, begun_with, since_with, put, IsSealed, Place, Plan, arena_words, base, component_words, plain, placed, history_of, opening_behind, public_entry, public_log, among, history_longer, known, Control, Entering, Epoch, Port, Stands, Marks, Loaded, IsOld, MayPut, option_map, present_history, all_back, Beside, IsStanding, LawfulEpochs, numbers, place_now, HaveSlots, MachineLeads, MeetsSeal, ends_over, ExpectedOne, LawfulMemory, Reached, noting, public_noted, KeepsTime, asides_keep_time, machines_are_never_refused, notes_stay_lawful, steps_keep_places, put_all, put_other, put_same, About, Began, Found, IsFinal, IsLast, IsSeat, Seated, plan_of, seen_in, Begins, IsKnown, IsApart, Makes, MayMake, answered, change_of, over_by, told_of}
 use Rattle.partial_model.specs.declared.call.Call.TheVariants as call
-use Rattle.partial_model.specs.declared.call.Answer.{Answer}
 use Rattle.partial_model.specs.declared.call.Answer.TheVariants as answer
-use Rattle.partial_model.specs.History.{stamp_of}
-use Rattle.partial_model.specs.Notes.{LegalNotes, Noted, seen_by}
-use Rattle.partial_words.specs.declared.step.Step.{Step}
-use Rattle.partial_words.specs.declared.step.Step.TheVariants.{Load, Store, Exchange, Add}
-use Rattle.partial_words.specs.Step.{answer_of, word_of, words_after}
-use Rattle.partial_machine.specs.Machine.{CoreState, advance, reply_of}
-use Rattle.partial_machine.specs.Calls.{answer_for, call_of, is_begun}
-use Rattle.partial_core.specs.Part.{Part, core_of}
-use Rattle.partial_core.specs.Steps.{begun_with, since_with}
-use Rattle.partial_epochs.specs.Lists.{put}
-use Rattle.partial_epochs.specs.Layout.{IsSealed, Place, Plan, arena_words, base, component_words, plain, placed}
-use Rattle.partial_epochs.specs.History.{history_of, opening_behind, public_entry, public_log}
-use Rattle.partial_epochs.proofs.Seats.{among, history_longer, known}
-use Rattle.partial_epochs.specs.Ports.{Control, Entering, Epoch, Port}
-use Rattle.partial_epochs.specs.Ports.Entering.{Stands, Marks, Loaded}
-use Rattle.partial_epochs.specs.Control.{IsOld, MayPut}
-use Rattle.std.specs.Option.{option_map}
-use Rattle.partial_epochs.proofs.OneHistory.{present_history}
-use Rattle.partial_model.proofs.AllLemmas.{all_back}
-use Rattle.partial_epochs.specs.Epochs.{Beside, IsStanding, LawfulEpochs, numbers, place_now}
-use Rattle.partial_epochs.specs.MachineSteps.{HaveSlots, MachineLeads, MeetsSeal, ends_over}
-use Rattle.partial_epochs.specs.Notes.{ExpectedOne, LawfulMemory, Reached, noting, public_noted}
-use Rattle.partial_epochs.specs.Time.{KeepsTime}
-use Rattle.partial_epochs.proofs.Laws.{asides_keep_time, machines_are_never_refused, notes_stay_lawful, steps_keep_places}
-use Rattle.partial_epochs.proofs.Lists.{put_all, put_other, put_same}
 use Rattle.partial_epochs.proofs.NotesStay.{legal_notes_seen, one_or_none}
-use Rattle.partial_long_lived.specs.declared.rule.About.{About}
-use Rattle.partial_long_lived.specs.Rule.{Began, Found, IsFinal, IsLast, IsSeat, Seated, plan_of}
-use Rattle.partial_long_lived.specs.Ports.{seen_in}
-use Rattle.partial_long_lived.specs.Inner.Steps.{Begins, IsKnown}
-use Rattle.partial_long_lived.specs.Inner.Machine.{IsApart, Makes, MayMake, answered, change_of, over_by, told_of}
 use Rattle.partial_long_lived.proofs.Begins.{began_by, seen_few}
 use Rattle.partial_long_lived.proofs.Control.{stands_since}
 use Rattle.partial_long_lived.proofs.Kept.{Grows, HasGrown, HaveGrown, Moved, begun_grows, final_grows, moved_says}

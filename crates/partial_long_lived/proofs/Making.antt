@@ -1,24 +1,7 @@
 -- The steps of the machine of a seat's port are allowed.
-use Rattle.std.proofs.Common.{ℕ, ◌≡◌, ◌+◌, ◌<◌, Bool, false, cond, List, get_or, set, refl, sym, ap, subst, ◌∙◌, inl, inr, arith, ◌⊎◌}
-use lib.Seq.{set-get_or}
-use Rattle.atomic_table.specs.Table.{Me, Allows}
-use Rattle.partial_words.specs.declared.step.Step.{Step}
-use Rattle.partial_words.specs.declared.step.Step.TheVariants.{Load, Exchange}
-use Rattle.partial_words.specs.Step.{word_of}
-use Rattle.partial_machine.specs.Machine.{CoreState}
-use Rattle.partial_epochs.specs.Layout.{IsSealed, Place, Plan, base, component_words}
-use Rattle.partial_epochs.specs.MachineSteps.{HaveSlots, MachineLeads, MeetsSeal}
-use Rattle.partial_epochs.proofs.Laws.{machine_steps_stay_lawful, unsealed_is_present}
-use Rattle.partial_epochs.proofs.Lists.{at_of}
-use Rattle.std.proofs.lemmas.Bool.Decides.{eqb_tells}
-use Rattle.partial_long_lived.specs.declared.rule.About.{About}
-use Rattle.partial_long_lived.specs.Rule.{IsKept, IsSeat, Seated, one_of, plan_of}
-use Rattle.partial_long_lived.specs.Inner.Steps.{IsKnown, IsOne, tells}
+use Rattle.partial_long_lived.proofs.Common.{ℕ, ◌≡◌, ◌+◌, ◌<◌, Bool, false, cond, List, get_or, set, refl, sym, ap, subst, ◌∙◌, inl, inr, arith, ◌⊎◌, set-get_or, Me, Allows, Step, Load, Exchange, word_of, CoreState, IsSealed, Place, Plan, base, component_words, HaveSlots, MachineLeads, MeetsSeal, machine_steps_stay_lawful, unsealed_is_present, at_of, eqb_tells, About, IsKept, IsSeat, Seated, one_of, plan_of, IsKnown, IsOne, tells, seal, unsealed, cases_lt, lt-ltb, Glances}
 use Rattle.partial_long_lived.specs.Inner.Machine.{Begins as BeginsUpdate, Exchanges, IsApart, Makes, MayMake, MissesSeal, answered, change_of, makes}
 use Rattle.partial_long_lived.proofs.Sights.{nothing_moved}
-use Rattle.partial_epochs.specs.Layout.{seal, unsealed}
-use Rattle.std.proofs.lemmas.Bool.{cases_lt, lt-ltb}
-use Rattle.partial_long_lived.specs.Inner.Loads.Wish.{Glances}
 use Rattle.partial_long_lived.proofs.Kept.{Moved, allowed, moved_as, moved_says}
 use Rattle.partial_long_lived.proofs.Loads.{moved_see, seat_at, seat_is}
 use Rattle.partial_long_lived.proofs.Machine.{moved_come, moved_make, never_met, words_then}

@@ -1,25 +1,6 @@
 -- The step by which one port of a seat of two sees all of its epoch.
-use Rattle.std.proofs.Common.{ℕ, ◌≡◌, ◌≢◌, ◌+◌, ◌<◌, ◌≤◌, ◌++◌, List, [], ◌∷◌, length, get_or, set, refl, sym, ap, subst, ◌∙◌, arith, Option, append-nil, append_assoc, length-append}
-use Rattle.std.specs.List.{AllByRecursion}
-use mathlib.Core.Option.{some}
-use lib.ListN.{get_elem?}
-use Rattle.atomic_table.specs.Table.{Me, Allows, keeps}
-use Rattle.partial_model.specs.declared.history.Applied.{Applied}
-use Rattle.partial_model.specs.Notes.{Noted}
-use Rattle.partial_model.proofs.AllLemmas.{all_at, all_after}
-use Rattle.partial_epochs.specs.History.{history_of, public_log}
-use Rattle.partial_epochs.specs.Ports.{Port}
-use Rattle.partial_epochs.specs.Ports.Entering.{Stands}
-use Rattle.partial_epochs.specs.Epochs.{Beside, place_now}
-use Rattle.partial_epochs.specs.Notes.{LawfulMemory, having_seen, one_history}
-use Rattle.partial_epochs.specs.Time.{KeepsTime}
-use Rattle.partial_epochs.proofs.OneHistory.{history_grows}
-use Rattle.partial_epochs.proofs.Seats.{history_longer}
-use Rattle.partial_long_lived.specs.declared.rule.About.{About}
-use Rattle.partial_long_lived.specs.Rule.{Began, Found, HasBegun, IsKept, IsSeat, Seated, one_of, plan_of, seats_of}
-use Rattle.partial_long_lived.specs.Ports.{seen_in}
+use Rattle.partial_long_lived.proofs.Common.{ℕ, ◌≡◌, ◌<◌, ◌≤◌, ◌++◌, List, [], ◌∷◌, length, get_or, set, refl, sym, ap, subst, ◌∙◌, arith, Option, append-nil, append_assoc, length-append, AllByRecursion, Me, Allows, keeps, Applied, Noted, all_at, all_after, history_of, public_log, Port, Stands, Beside, place_now, LawfulMemory, having_seen, one_history, KeepsTime, history_grows, history_longer, About, Began, Found, HasBegun, IsKept, IsSeat, Seated, one_of, plan_of, seats_of, seen_in, Begins, IsKnown, IsOne}
 use Rattle.partial_long_lived.specs.Inner.Meeting.{Observes, observes}
-use Rattle.partial_long_lived.specs.Inner.Steps.{Begins, IsKnown, IsOne}
 use Rattle.partial_long_lived.proofs.Begins.{now, now_has_begun, seen_few}
 use Rattle.partial_long_lived.proofs.Kept.{Moved, goes_then, once_then, seats_then}
 use Rattle.partial_long_lived.proofs.Loads.{begun_place, moved_glance, seat_at, seat_is, standing, where_is}

@@ -1,20 +1,7 @@
 -- How a meeting of two ports leaves each of them.
-use Rattle.std.proofs.Common.{◌≡◌, ◌<◌, ◌≤◌, List, [], length, take, inl, refl, sym, ap, subst, ◌∙◌, arith, append-nil}
-use Rattle.std.proofs.Math.Seq.{take-append_seam}
-use Rattle.atomic_table.specs.Seated.{TableId}
-use Rattle.partial_model.specs.declared.history.Applied.{Applied}
-use Rattle.partial_core.specs.Part.{core_of}
-use Rattle.partial_long_lived.specs.declared.rule.About.{About}
-use Rattle.partial_long_lived.specs.declared.stand.Stand.{Stand}
-use Rattle.partial_long_lived.specs.declared.seating.Seating.{Seating}
-use Rattle.partial_long_lived.specs.Rule.{Began, Seated, one_in}
-use Rattle.partial_long_lived.specs.Ports.{IsOf, MemoryView, PortView, port_view, seen_in}
+use Rattle.partial_long_lived.proofs.Common.{◌≡◌, ◌<◌, ◌≤◌, List, [], length, take, inl, sym, ap, subst, ◌∙◌, arith, append-nil, take-append_seam, TableId, Applied, core_of, About, Stand, Seating, Began, Seated, one_in, IsOf, MemoryView, PortView, port_view, seen_in, IsSeatingOf, IsStandOf, HasCome, IsIdle, Kept, Settled, IsHeld, port_at, Begins}
 use Rattle.partial_long_lived.specs.Calls as calls
-use Rattle.partial_long_lived.specs.Seating.{IsSeatingOf, IsStandOf}
-use Rattle.partial_long_lived.specs.Inner.Calls.{HasCome, IsIdle, Kept, Settled}
-use Rattle.partial_long_lived.specs.Inner.Held.{IsHeld, port_at}
 use Rattle.partial_long_lived.specs.Inner.Meeting.{HasMet, Observes}
-use Rattle.partial_long_lived.specs.Inner.Steps.{Begins}
 use Rattle.partial_long_lived.proofs.Answering.{callers_see, goes_seen, view_kept, view_taken}
 use Rattle.partial_long_lived.proofs.Coming.{begins_on, come_on}
 

@@ -1,11 +1,5 @@
 -- A port gets a seat of its own, and seats are gathered.
-use Rattle.std.proofs.Common.{ℕ, zero, suc, ◌≡◌, ◌≢◌, ◌++◌, List, [], ◌∷◌, set, refl, sym, ap, subst, ◌∙◌, arith, append-nil}
-use Rattle.std.specs.List.{AllByRecursion}
-use lib.ListN.{get_elem?}
-use Rattle.atomic_table.specs.Table.{Joins, Splits, State}
-use Rattle.partial_model.proofs.AllLemmas.{all_after, all_append, all_at, all_back, all_before, all_front}
-use Rattle.partial_long_lived.specs.declared.rule.About.{About}
-use Rattle.partial_long_lived.specs.Rule.{IsKept, IsSeat, Seated, first_of, flatten, others_of, seats_of}
+use Rattle.partial_long_lived.proofs.Common.{ℕ, zero, suc, ◌≡◌, ◌≢◌, ◌++◌, List, [], ◌∷◌, set, refl, sym, ap, subst, ◌∙◌, arith, append-nil, AllByRecursion, get_elem?, Joins, Splits, State, all_after, all_append, all_at, all_back, all_before, all_front, About, IsKept, IsSeat, Seated, first_of, flatten, others_of, seats_of}
 use Rattle.partial_long_lived.proofs.Views.{around, flatten-snoc, seats_both}
 
 -- the rule holds with the same seats in other views

@@ -1,24 +1,6 @@
 -- A memory as it opens, and its ports.
-use Rattle.std.specs.List.{AllByRecursion}
-use Rattle.std.proofs.Common.{ℕ, zero, suc, ◌≡◌, ◌+◌, ◌-◌, ◌<◌, ◌++◌, false, List, [], ◌∷◌, refl, sym, ap, subst, ◌∙◌, arith, append_assoc}
-use Rattle.atomic_table.specs.Table.{Me}
-use Rattle.atomic_table.specs.Seated.{TableId}
-use Rattle.partial_model.specs.declared.history.Opening.{Opening}
-use Rattle.partial_words.specs.Layout.{Layout, pool_base}
-use Rattle.partial_machine.specs.Machine.{CoreState, fresh}
-use Rattle.partial_core.specs.Part.{IsBetween}
-use Rattle.partial_core.proofs.Laws.{ports_come_between}
-use Rattle.partial_epochs.specs.Layout.{Plan, base}
-use Rattle.partial_epochs.specs.Opening.{OpensAll}
-use Rattle.partial_long_lived.specs.declared.rule.About.{About}
-use Rattle.partial_long_lived.specs.declared.shape.Shape.{Shape}
-use Rattle.partial_long_lived.specs.declared.seating.Seating.{Seating}
-use Rattle.partial_long_lived.specs.Rule.{Seated, first_of, newcomer, newcomers, one_in, others_of, plan_of}
-use Rattle.partial_long_lived.specs.Shape.{IsShapeOf, shape_plan}
-use Rattle.partial_long_lived.specs.Ports.{IsOf, PortView, new_ports, port_view}
-use Rattle.partial_long_lived.specs.Resting.{IsResting}
+use Rattle.partial_long_lived.proofs.Common.{AllByRecursion, ℕ, zero, suc, ◌≡◌, ◌+◌, ◌-◌, ◌<◌, ◌++◌, false, List, [], ◌∷◌, refl, sym, ap, subst, ◌∙◌, arith, append_assoc, Me, TableId, Opening, Layout, pool_base, CoreState, fresh, IsBetween, ports_come_between, Plan, base, OpensAll, About, Shape, Seating, Seated, first_of, newcomer, newcomers, one_in, others_of, plan_of, IsShapeOf, shape_plan, IsOf, PortView, new_ports, port_view, IsResting, IsKnown}
 use Rattle.partial_long_lived.specs.Inner.Opening.{OpensWith}
-use Rattle.partial_long_lived.specs.Inner.Steps.{IsKnown}
 use Rattle.partial_long_lived.proofs.Opens.{newcomer_known}
 
 -- the opening words are those of what the memory is opened with

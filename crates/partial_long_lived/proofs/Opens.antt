@@ -1,13 +1,5 @@
 -- The rule holds as a memory opens.
-use Rattle.std.proofs.Common.{ℕ, zero, suc, ◌≡◌, ◌+◌, ◌<◌, ◌≤◌, Bool, cond, List, [], refl, sym, ap, subst, inl, inr, arith, append-nil}
-use Rattle.std.specs.List.{AllByRecursion}
-use Rattle.std.proofs.lemmas.Bool.Decides.{eqb_tells}
-use Rattle.atomic_table.specs.Table.{opening}
-use Rattle.partial_epochs.specs.Opening.{OpensAll, first_beside, first_ports}
-use Rattle.partial_epochs.proofs.Laws.{memories_open_lawful, openings_keep_time}
-use Rattle.partial_long_lived.specs.declared.rule.About.{About}
-use Rattle.partial_long_lived.specs.Rule.{IsKept, IsSeat, Seated, newcomer, newcomers, plan_of, seats_of}
-use Rattle.partial_long_lived.specs.Inner.Steps.{IsKnown}
+use Rattle.partial_long_lived.proofs.Common.{ℕ, zero, suc, ◌≡◌, ◌+◌, ◌<◌, ◌≤◌, Bool, cond, List, [], refl, sym, ap, subst, inl, inr, arith, append-nil, AllByRecursion, eqb_tells, opening, OpensAll, first_beside, first_ports, memories_open_lawful, openings_keep_time, About, IsKept, IsSeat, Seated, newcomer, newcomers, plan_of, seats_of, IsKnown}
 
 -- what is so of the seat of each port is so of all
 newcomers_all : (P : Seated → Type 0) (a : About) (k n : ℕ) → ((i : ℕ) → i < k + n → P (newcomer a i)) → AllByRecursion P (newcomers a k n)

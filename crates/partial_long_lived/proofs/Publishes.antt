@@ -1,23 +1,5 @@
 -- The exchange of the current word is allowed.
-use Rattle.std.proofs.Common.{ℕ, ◌≡◌, ◌<◌, ◌≤◌, ◌==◌, ◌++◌, cond, List, [], ◌∷◌, length, get_or, set, refl, sym, ap, subst, ◌∙◌, inl, inr, arith, append-nil, length-append}
-use prog.Atomic.{either}
-use Rattle.atomic_table.specs.Table.{Me, Allows}
-use Rattle.partial_model.specs.declared.history.Applied.{Applied}
-use Rattle.partial_model.specs.Notes.{LegalNotes, Noted}
-use Rattle.partial_epochs.specs.Lists.{put}
-use Rattle.partial_epochs.specs.Layout.{Plan, current_word, packed}
-use Rattle.partial_epochs.specs.Ports.{Owned, Port}
-use Rattle.partial_epochs.specs.Epochs.{Beside, LawfulEpochs, place_now}
-use Rattle.partial_epochs.specs.Time.{KeepsTime}
-use Rattle.partial_epochs.specs.Publishing.{IsWhole, having_published, next_beside, next_place}
-use Rattle.partial_epochs.specs.Notes.{LawfulMemory}
-use Rattle.partial_epochs.proofs.Laws.{publishes_keep_notes, publishes_keep_time, publishes_stay_lawful}
-use Rattle.partial_epochs.proofs.Lists.{put_other, put_same}
-use Rattle.partial_long_lived.specs.declared.rule.About.{About}
-use Rattle.partial_long_lived.specs.Rule.{IsKept, IsSeat, Seated, one_of, plan_of}
-use Rattle.partial_long_lived.specs.Ports.{seen_in}
-use Rattle.partial_long_lived.specs.Inner.Steps.{IsKnown, IsOne, tells}
-use Rattle.partial_long_lived.specs.Inner.Moves.{Publishes, becomes}
+use Rattle.partial_long_lived.proofs.Common.{ℕ, ◌≡◌, ◌<◌, ◌≤◌, ◌==◌, ◌++◌, cond, List, [], ◌∷◌, length, get_or, set, refl, sym, ap, subst, ◌∙◌, inl, inr, arith, append-nil, length-append, either, Me, Allows, Applied, LegalNotes, Noted, put, Plan, current_word, packed, Owned, Port, Beside, LawfulEpochs, place_now, KeepsTime, IsWhole, having_published, next_beside, next_place, LawfulMemory, publishes_keep_notes, publishes_keep_time, publishes_stay_lawful, put_other, put_same, About, IsKept, IsSeat, Seated, one_of, plan_of, seen_in, IsKnown, IsOne, tells, Publishes, becomes}
 use Rattle.partial_long_lived.proofs.Kept.{Grows, HasGrown, HaveGrown, Moved, allowed, begun_grows, final_grows, seen_grows}
 use Rattle.partial_long_lived.proofs.Asides.{IsQuiet, aside, final_same}
 use Rattle.partial_long_lived.proofs.Changes.{either_cond}

@@ -1,24 +1,5 @@
 -- A port between two calls: how its seat is taken out for a call, and put back.
-use Rattle.std.proofs.Common.{◌≡◌, Bool, false, None, List, [], ◌∷◌, sym, ap, subst, ◌∙◌}
-use Rattle.atomic_table.specs.Table.{Me}
-use Rattle.atomic_table.specs.Seated.{TableId}
-use Rattle.partial_machine.specs.declared.stage.Stage.TheVariants.{Idle}
-use Rattle.partial_machine.specs.Machine.{CoreState}
-use Rattle.partial_machine.specs.Sound.{IsSound}
-use Rattle.partial_core.specs.Part.{IsBetween}
-use Rattle.partial_epochs.specs.Layout.{base, whole}
-use Rattle.partial_epochs.specs.Ports.Entering.{Stands}
-use Rattle.partial_long_lived.specs.declared.rule.About.{About}
-use Rattle.partial_long_lived.specs.declared.shape.Shape.{Shape}
-use Rattle.partial_long_lived.specs.declared.stand.Stand.{Stand}
-use Rattle.partial_long_lived.specs.declared.seating.Seating.{Seating}
-use Rattle.partial_long_lived.specs.Rule.{Seated, one_in, one_of, plan_of}
-use Rattle.partial_long_lived.specs.Ports.{IsOf, MemoryView, port_view}
-use Rattle.partial_long_lived.specs.Shape.{IsShapeOf}
-use Rattle.partial_long_lived.specs.Seating.{IsStandOf, IsSeatingOf}
-use Rattle.partial_long_lived.specs.Resting.{IsResting}
-use Rattle.partial_long_lived.specs.Inner.Steps.{IsKnown}
-use Rattle.partial_long_lived.specs.Inner.Held.{IsHeld, port_at}
+use Rattle.partial_long_lived.proofs.Common.{◌≡◌, Bool, false, None, List, [], ◌∷◌, sym, ap, subst, ◌∙◌, Me, TableId, Idle, CoreState, IsSound, IsBetween, base, whole, Stands, About, Shape, Stand, Seating, Seated, one_in, one_of, plan_of, IsOf, MemoryView, port_view, IsShapeOf, IsStandOf, IsSeatingOf, IsResting, IsKnown, IsHeld, port_at}
 
 -- the port of the seat that was taken out is the one that rested
 pub taken_is : (s : Seating) (t : Stand) → IsStandOf s t → port_at t ≡ one_in s.badge.views

@@ -1,22 +1,5 @@
 -- The rounds of an update: an attempt, and a change of epoch, and so on.
-use Rattle.std.proofs.Common.{ℕ, Option, None, Result, Ok, Err, IfOk, IfErr, ◌≡◌, ◌+◌, ◌<◌, ◌≤◌, ◌++◌, Bool, true, false, List, [], ◌∷◌, length, refl, sym, ap, subst, ◌∙◌, arith, append-nil}
-use Rattle.atomic_table.specs.Seated.{TableId}
-use Rattle.partial_model.specs.Notes.{Noted}
-use Rattle.partial_machine.specs.declared.stage.Change.{Change}
-use Rattle.partial_machine.specs.Machine.{CoreState}
-use Rattle.partial_lines.specs.declared.exchange.Exchanged.{Exchanged}
-use Rattle.partial_long_lived.specs.declared.rule.About.{About}
-use Rattle.partial_long_lived.specs.declared.error.Refused.{Refused}
-use Rattle.partial_long_lived.specs.declared.error.Refused.TheVariants.{Component, Overtaken, NoArena, EpochsSpent}
-use Rattle.partial_long_lived.specs.declared.stand.Stand.{Stand}
-use Rattle.partial_long_lived.specs.Inner.Changing.{IsCause}
-use Rattle.partial_long_lived.specs.Rule.{Began, Seated}
-use Rattle.partial_long_lived.specs.Ports.{seen_in}
-use Rattle.partial_long_lived.specs.Inner.Steps.{Goes}
-use Rattle.partial_long_lived.specs.Inner.Moves.{BeganBy}
-use Rattle.partial_long_lived.specs.Inner.Held.{IsHeld, epoch_at, port_at}
-use Rattle.partial_long_lived.specs.Inner.Calls.{IsIdle}
-use Rattle.partial_long_lived.specs.Inner.Updates.{Attempted, CameBy, IsEntryOf, IsLate, IsOwn, MayCall, NotesNothing, Updated, noted_update, noted_where}
+use Rattle.partial_long_lived.proofs.Common.{ℕ, Option, None, Result, Ok, Err, IfOk, IfErr, ◌≡◌, ◌+◌, ◌<◌, ◌≤◌, ◌++◌, Bool, true, false, List, [], ◌∷◌, length, refl, sym, ap, subst, ◌∙◌, arith, append-nil, TableId, Noted, Change, CoreState, Exchanged, About, Refused, Component, Overtaken, NoArena, EpochsSpent, Stand, IsCause, Began, Seated, seen_in, Goes, BeganBy, IsHeld, epoch_at, port_at, IsIdle, Attempted, CameBy, IsEntryOf, IsLate, IsOwn, MayCall, NotesNothing, Updated, noted_update, noted_where}
 use Rattle.partial_long_lived.proofs.Coming.{goes_on, seen_more}
 
 -- whether the call began with its first step here, or as before, where the next step may still be its first one

@@ -1,43 +1,14 @@
 -- A scan where a port stands: its first step is allowed, and what it leaves of its port.
-use Rattle.std.proofs.Common.{ℕ, ◌≡◌, ◌+◌, ◌-◌, ◌%◌, ◌^◌, ◌<◌, ◌≤◌, ◌||◌, ◌++◌, Bool, false, cond, Option, Some, List, [], ◌∷◌, length, map, refl, sym, ap, subst, ◌∙◌, inl, inr, arith, length-append}
-use Rattle.std.specs.Prelude.{is_some, slice_index}
-use Rattle.std.proofs.lemmas.List.{length-map}
-use Rattle.atomic_table.specs.Table.{Allows}
-use Rattle.atomic_table.specs.Seated.{TableId}
-use Rattle.partial_model.specs.declared.history.Applied.{Applied}
-use Rattle.partial_model.specs.declared.call.Call.{Call}
+use Rattle.partial_long_lived.proofs.Common.{None, ℕ, ◌≡◌, ◌+◌, ◌-◌, ◌%◌, ◌^◌, ◌<◌, ◌≤◌, ◌||◌, ◌++◌, Bool, false, cond, Option, Some, List, [], ◌∷◌, length, map, refl, sym, ap, subst, ◌∙◌, inl, inr, arith, length-append, is_some, slice_index, length-map, Allows, TableId, Applied, Call, Note, Noted, place_of, Add, Layout, IsLayout, pool_counter, total, Reply, call_of, CoreState, advance, reply_of, scanned_values, step_of, AreComponents, IsSound, AreNotesOf, IsNoteOf, IsPlacedAt, Plan, base, plain, unsealed, history_of, public_entry, public_log, public_noted, Control, not_below, RestsLike, About, Stand, Began, IsKept, Seated, plan_of, Goes, IsOne, IsHeld, port_at, IsIdle, component_at, Makes, answered, makes, over_by, word_at, HasScanned, RestsUnmarked, ScanMade, SettledFirst, noted_scan, CallMade, IsGoing, Leads, MayBegin, machine_at}
+use Rattle.partial_long_lived.specs.Inner.DoubleCollect.{MadeNamed, ScannedNamed}
 use Rattle.partial_model.specs.declared.call.Call.TheVariants as call
 use Rattle.partial_model.specs.declared.call.Answer.TheVariants as answer
-use Rattle.partial_model.specs.declared.call.Note.{Note}
 use Rattle.partial_model.specs.declared.call.Note.TheVariants as note
-use Rattle.partial_model.specs.Notes.{Noted, place_of}
-use Rattle.partial_words.specs.declared.step.Step.TheVariants.{Add}
-use Rattle.partial_words.specs.Layout.{Layout, IsLayout, pool_counter, total}
 use Rattle.partial_words.specs.Announcement.{announcement_size}
 use Rattle.partial_embedded.specs.Embedded.{RowsState}
-use Rattle.partial_machine.specs.declared.stage.Reply.{Reply}
 use Rattle.partial_machine.specs.declared.stage.Reply.TheVariants as reply
-use Rattle.partial_machine.specs.Calls.{call_of}
 use Rattle.partial_machine.specs.Lines.{scan_asked}
-use Rattle.partial_machine.specs.Machine.{CoreState, advance, reply_of, scanned_values, step_of}
-use Rattle.partial_machine.specs.Sound.{AreComponents, IsSound}
-use Rattle.partial_core.specs.Steps.{AreNotesOf, IsNoteOf, IsPlacedAt}
-use Rattle.partial_epochs.specs.Layout.{Plan, base, plain, unsealed}
-use Rattle.partial_epochs.specs.History.{history_of, public_entry, public_log}
-use Rattle.partial_epochs.specs.Notes.{public_noted}
-use Rattle.partial_epochs.specs.Ports.{Control}
-use Rattle.partial_epochs.proofs.Places.{not_below}
-use Rattle.partial_lines.specs.Replies.{RestsLike}
-use Rattle.partial_long_lived.specs.declared.rule.About.{About}
-use Rattle.partial_long_lived.specs.declared.stand.Stand.{Stand}
-use Rattle.partial_long_lived.specs.Rule.{Began, IsKept, Seated, plan_of}
-use Rattle.partial_long_lived.specs.Inner.Steps.{Goes, IsOne}
-use Rattle.partial_long_lived.specs.Inner.Held.{IsHeld, port_at}
-use Rattle.partial_long_lived.specs.Inner.Calls.{IsIdle}
-use Rattle.partial_long_lived.specs.Inner.Loads.{component_at}
-use Rattle.partial_long_lived.specs.Inner.Machine.{Makes, answered, makes, over_by, word_at}
-use Rattle.partial_long_lived.specs.Inner.Scans.{HasScanned, RestsUnmarked, ScanBegun, ScanMade, SettledFirst, noted_scan}
-use Rattle.partial_long_lived.specs.Inner.Under.{CallMade, IsGoing, Leads, MayBegin, machine_at}
+use Rattle.partial_long_lived.specs.Inner.Scans.{ScanBegun}
 use Rattle.partial_long_lived.proofs.Coming.{goes_on}
 use Rattle.partial_long_lived.proofs.Making.{may_make}
 use Rattle.partial_long_lived.proofs.Standing.{arena_there, held_then, room_of}
@@ -261,3 +232,8 @@ has_scanned s u t which values collects borrowed settled made = record {
   behind = made.behind;
   within = made.within;
 }
+
+-- and the words that a double collect has found name the stamps at the place of its scan
+pub has_named : (s u t : Stand) (which values ws : List ℕ) → SettledFirst s u → MadeNamed u t which values ws → ScannedNamed s t which values ws
+unfolding has_scanned
+has_named s u t which values ws settled named = record { scanned = has_scanned s u t which values 2 None settled named.made; stamps = named.stamps }

@@ -1,31 +1,9 @@
 -- What a port knows of the history that it has seen.
-use Rattle.std.proofs.Common.{ℕ, ◌≡◌, ◌≢◌, ◌+◌, ◌*◌, ◌<◌, ◌≤◌, ◌==◌, ◌++◌, Bool, true, false, cond, Option, Some, None, IfSome, List, [], ◌∷◌, length, refl, sym, ap, subst, ◌∙◌, arith, append_assoc}
-use Rattle.std.specs.List.{AllByRecursion}
-use Rattle.partial_model.specs.declared.history.Applied.{Applied}
-use Rattle.partial_model.specs.declared.history.Opening.{Opening}
-use Rattle.partial_model.specs.declared.call.Call.{Call}
+use Rattle.partial_long_lived.proofs.Common.{ℕ, ◌≡◌, ◌≢◌, ◌+◌, ◌*◌, ◌<◌, ◌≤◌, ◌==◌, ◌++◌, Bool, true, false, cond, Option, Some, None, IfSome, List, [], ◌∷◌, length, refl, sym, ap, subst, ◌∙◌, arith, append_assoc, AllByRecursion, Applied, Opening, Call, Answer, Note, HaveDistinctStamps, IsHistory, IsTrueOf, LegalNotes, Noted, place_of, seen_after, EachOnce, places_by, places_written, wrote, all_append, all_front, place_below, LegalNotes-grows, history_of, public_log, Port, Beside, LawfulMemory, one_history, epochs_fit_one_history, public_stamps_are_unique, history_grows, history_longer, About, IsSeen, plan_of, Knows, seen_in, Begins, HasStampsInWords}
 use Rattle.partial_model.specs.declared.call.Call.TheVariants as call
-use Rattle.partial_model.specs.declared.call.Answer.{Answer}
 use Rattle.partial_model.specs.declared.call.Answer.TheVariants as answer
-use Rattle.partial_model.specs.declared.call.Note.{Note}
 use Rattle.partial_model.specs.declared.call.Note.TheVariants as note
-use Rattle.partial_model.specs.History.{HaveDistinctStamps, IsHistory}
-use Rattle.partial_model.specs.Notes.{IsTrueOf, LegalNotes, Noted, place_of, seen_after}
-use Rattle.partial_model.specs.Outcome.{EachOnce, places_by, places_written, wrote}
-use Rattle.partial_model.proofs.AllLemmas.{all_append, all_front}
-use Rattle.partial_model.proofs.HistoryLemmas.{place_below}
-use Rattle.partial_model.proofs.NotesLemmas.{LegalNotes-grows}
 use Rattle.partial_epochs.proofs.NotesStay.{places_both}
-use Rattle.partial_epochs.specs.History.{history_of, public_log}
-use Rattle.partial_epochs.specs.Ports.{Port}
-use Rattle.partial_epochs.specs.Epochs.{Beside}
-use Rattle.partial_epochs.specs.Notes.{LawfulMemory, one_history}
-use Rattle.partial_epochs.proofs.OneHistory.{epochs_fit_one_history, public_stamps_are_unique, history_grows}
-use Rattle.partial_epochs.proofs.Seats.{history_longer}
-use Rattle.partial_long_lived.specs.declared.rule.About.{About}
-use Rattle.partial_long_lived.specs.Rule.{IsSeen, plan_of}
-use Rattle.partial_long_lived.specs.Ports.{Knows, seen_in}
-use Rattle.partial_long_lived.specs.Inner.Steps.{Begins, HasStampsInWords}
 
 distinct_front : (h rest : List Applied) → HaveDistinctStamps (h ++ rest) → HaveDistinctStamps h
 distinct_front [] rest w = tt

@@ -1,35 +1,6 @@
 -- The stores of an owner are allowed.
-use Rattle.std.proofs.Common.{ℕ, ◌≡◌, ◌≢◌, ◌+◌, ◌-◌, ◌*◌, ◌/◌, ◌%◌, ◌<◌, ◌≤◌, ◌==◌, ◌⊎◌, ◌++◌, true, false, cond, Option, Some, IfSome, List, [], ◌∷◌, length}
-use Rattle.std.proofs.Common.{get_or, set, refl, sym, ap, subst, ◌∙◌, inl, inr, arith, length-append}
-use Rattle.std.specs.Prelude.{nat_lt}
-use Rattle.std.proofs.lemmas.Bool.{lt-ltb}
-use Rattle.std.proofs.lemmas.Bool.Decides.{eqb_tells}
-use Rattle.std.proofs.lemmas.List.{get_or-set_same}
-use Rattle.atomic_table.specs.Table.{Me, Allows}
-use Rattle.partial_model.specs.declared.history.Applied.{Applied}
-use Rattle.partial_model.specs.declared.history.Opening.{Opening}
-use Rattle.partial_model.specs.History.{value_of}
-use Rattle.partial_model.specs.Notes.{Noted}
-use Rattle.partial_model.proofs.ListLemmas.{some_same}
-use Rattle.partial_words.specs.Layout.{Layout, first_free, initial_record, list_base, list_counter, pool_base, pool_counter}
-use Rattle.partial_words.specs.Chain.{initial_record_word, opening_word}
-use Rattle.partial_epochs.specs.Lists.{list_of}
-use Rattle.partial_epochs.specs.Layout.{IsAsked, Place, Plan, control_words, current_word, packed, set_word}
-use Rattle.partial_epochs.specs.History.{carried_behind, opening_behind}
-use Rattle.partial_epochs.specs.Ports.{Owned, Port}
-use Rattle.partial_epochs.specs.Control.{MayPut}
-use Rattle.partial_epochs.specs.Epochs.{Beside, controls, next_word, numbers, place_now}
-use Rattle.partial_epochs.specs.Publishing.{having_set, vacated}
-use Rattle.partial_epochs.specs.Notes.{LawfulMemory}
-use Rattle.partial_epochs.proofs.Continue.{many}
-use Rattle.partial_epochs.proofs.Laws.{sets_stay_lawful}
-use Rattle.partial_epochs.proofs.Lists.{at_of}
-use Rattle.partial_epochs.proofs.Places.{below_whole, not_below, set_place}
+use Rattle.partial_long_lived.proofs.Common.{ℕ, ◌≡◌, ◌≢◌, ◌+◌, ◌-◌, ◌*◌, ◌/◌, ◌%◌, ◌<◌, ◌≤◌, ◌==◌, ◌⊎◌, ◌++◌, true, false, cond, Option, Some, IfSome, List, [], ◌∷◌, length, get_or, set, refl, sym, ap, subst, ◌∙◌, inl, inr, arith, length-append, nat_lt, lt-ltb, eqb_tells, get_or-set_same, Me, Allows, Applied, Opening, value_of, Noted, some_same, Layout, first_free, initial_record, list_base, list_counter, pool_base, pool_counter, initial_record_word, opening_word, list_of, IsAsked, Place, Plan, control_words, current_word, packed, set_word, carried_behind, opening_behind, Owned, Port, MayPut, Beside, controls, next_word, numbers, place_now, having_set, vacated, LawfulMemory, many, sets_stay_lawful, at_of, below_whole, not_below, set_place, About, Found, IsFinal, IsKept, IsLast, IsSeat, Seated, one_of, plan_of, IsKnown, IsOne, tells, Sets}
 use Rattle.partial_epochs.proofs.Sets as law
-use Rattle.partial_long_lived.specs.declared.rule.About.{About}
-use Rattle.partial_long_lived.specs.Rule.{Found, IsFinal, IsKept, IsLast, IsSeat, Seated, one_of, plan_of}
-use Rattle.partial_long_lived.specs.Inner.Steps.{IsKnown, IsOne, tells}
-use Rattle.partial_long_lived.specs.Inner.Moves.{Sets}
 use Rattle.partial_long_lived.proofs.Asides.{IsQuiet, aside}
 use Rattle.partial_long_lived.proofs.Begins.{here_is}
 use Rattle.partial_long_lived.proofs.Changes.{store_at}

@@ -1,19 +1,5 @@
 -- The loads of a call are allowed.
-use Rattle.std.proofs.Common.{ℕ, ◌≡◌, ◌+◌, ◌<◌, ◌++◌, Bool, List, [], ◌∷◌, get_or, set, refl, sym, ap, subst, ◌∙◌, arith, append-nil}
-use Rattle.atomic_table.specs.Table.{Me, Allows}
-use Rattle.partial_model.specs.Notes.{LegalNotes, Noted}
-use Rattle.partial_epochs.specs.Layout.{Plan, base}
-use Rattle.partial_epochs.specs.Ports.{Port}
-use Rattle.partial_epochs.specs.Ports.Entering.{Stands}
-use Rattle.partial_epochs.specs.Epochs.{Beside, place_now}
-use Rattle.partial_epochs.specs.Notes.{LawfulMemory}
-use Rattle.partial_epochs.specs.Time.{KeepsTime}
-use Rattle.partial_long_lived.specs.declared.rule.About.{About}
-use Rattle.partial_long_lived.specs.Rule.{IsKept, IsSeat, Seated, one_of, plan_of}
-use Rattle.partial_long_lived.specs.Ports.{seen_in}
-use Rattle.partial_long_lived.specs.Inner.Steps.{IsKnown, IsOne, tells}
-use Rattle.partial_long_lived.specs.Inner.Loads.{Recalls, Sees, Wish}
-use Rattle.partial_long_lived.specs.Inner.DoubleCollect.{MayNote, NotesScan, notes_scan}
+use Rattle.partial_long_lived.proofs.Common.{ℕ, ◌≡◌, ◌+◌, ◌<◌, ◌++◌, Bool, List, [], ◌∷◌, get_or, set, refl, sym, ap, subst, ◌∙◌, arith, append-nil, Me, Allows, LegalNotes, Noted, Plan, base, Port, Stands, Beside, place_now, LawfulMemory, KeepsTime, About, IsKept, IsSeat, Seated, one_of, plan_of, seen_in, IsKnown, IsOne, tells, Recalls, Sees, Wish, MayNote, NotesScan, notes_scan}
 use Rattle.partial_long_lived.proofs.Control.{load_same}
 use Rattle.partial_long_lived.proofs.Kept.{Moved, allowed, none_grown, not_grown}
 use Rattle.partial_long_lived.proofs.Loads.{IsFinding, moved_note, moved_see, recalled, seat_is, standing, where_is}

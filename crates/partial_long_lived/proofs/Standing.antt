@@ -1,31 +1,10 @@
 -- The seat of a port in a call, from step to step.
-use Rattle.std.proofs.Common.{ℕ, ◌≡◌, ◌+◌, ◌-◌, ◌*◌, ◌<◌, ◌≤◌, ◌==◌, ◌⊎◌, Bool, true, false, cond, Option, Some, None, IfSome, List, refl, sym, ap, subst, ◌∙◌, arith}
-use Rattle.std.specs.Option.{option_map_or}
-use Rattle.atomic_table.specs.Seated.{TableId}
-use Rattle.atomic_table.specs.Table.{Me, Allows}
-use Rattle.partial_epochs.specs.Layout.{Place, base, packed, span, whole}
+use Rattle.partial_long_lived.proofs.Common.{ℕ, ◌≡◌, ◌+◌, ◌-◌, ◌*◌, ◌<◌, ◌≤◌, ◌==◌, ◌⊎◌, Bool, true, false, cond, Option, Some, None, IfSome, List, refl, sym, ap, subst, ◌∙◌, arith, option_map_or, TableId, Me, Allows, Place, base, packed, span, whole, IsPlan, below_whole, Sees, Wish, component_at, sees, HaveSlots, Owned, Port, Stands, having_passed, having_looked, About, Shape, Stand, IsKept, Seated, one_of, plan_of, Goes, IsOne, tells, IsHeld, port_at, Looks, looked_at, IsShapeOf}
 use Rattle.std.proofs.Math.Nat.{mul-le-mul_right}
-use Rattle.partial_epochs.specs.Epochs.{IsPlan}
-use Rattle.partial_epochs.proofs.Places.{below_whole}
-use Rattle.partial_long_lived.specs.Inner.Loads.{Sees, Wish, component_at, sees}
 use Rattle.partial_long_lived.proofs.Loads.{IsFinding}
 use Rattle.partial_long_lived.proofs.Sights.{may_see}
-use Rattle.partial_epochs.specs.MachineSteps.{HaveSlots}
-use Rattle.partial_epochs.specs.Ports.{Owned, Port}
-use Rattle.partial_epochs.specs.Ports.Entering.{Stands}
-use Rattle.partial_epochs.specs.Entering.{having_passed}
-use Rattle.partial_epochs.specs.Owning.{having_looked}
-use Rattle.partial_long_lived.specs.declared.rule.About.{About}
-use Rattle.partial_long_lived.specs.declared.shape.Shape.{Shape}
-use Rattle.partial_long_lived.specs.declared.stand.Stand.{Stand}
-use Rattle.partial_long_lived.specs.Rule.{IsKept, Seated, one_of, plan_of}
-use Rattle.partial_long_lived.specs.Inner.Steps.{Goes, IsOne, tells}
-use Rattle.partial_long_lived.specs.Inner.Held.{IsHeld, port_at}
-use Rattle.partial_long_lived.specs.Inner.Moves.{Looks, looked_at}
-use Rattle.partial_long_lived.specs.Inner.Calls.{Kept}
 use Rattle.partial_long_lived.specs.Inner.Calls as Calls
 use Rattle.partial_long_lived.proofs.Control as Control
-use Rattle.partial_long_lived.specs.Shape.{IsShapeOf}
 
 -- a seat that stands where it stood
 pub held_then : (table : TableId) (about : About) (s t : Stand) → IsHeld table about s → t.seat.table_id ≡ s.seat.table_id → IsOne t.seat.me → Goes (port_at s) (port_at t) →

@@ -1,13 +1,5 @@
 -- A port stays where it stands, from part to part of a call.
-use Rattle.std.proofs.Common.{[], refl, sym, ◌∙◌, append-nil}
-use Rattle.atomic_table.specs.Seated.{TableId}
-use Rattle.partial_long_lived.specs.declared.rule.About.{About}
-use Rattle.partial_long_lived.specs.declared.stand.Stand.{Stand}
-use Rattle.partial_long_lived.specs.Rule.{Seated}
-use Rattle.partial_long_lived.specs.Ports.{seen_in}
-use Rattle.partial_long_lived.specs.Inner.Steps.{Goes, IsKnown}
-use Rattle.partial_long_lived.specs.Inner.Held.{IsHeld, port_at}
-use Rattle.partial_long_lived.specs.Inner.Changing.{IsSame, Remains, Stays}
+use Rattle.partial_long_lived.proofs.Common.{[], refl, sym, ◌∙◌, append-nil, TableId, About, Stand, Seated, seen_in, Goes, IsKnown, IsHeld, port_at, IsSame, Remains, Stays}
 use Rattle.partial_long_lived.proofs.Coming.{goes_on}
 
 pub goes_same : (x : Seated) → IsKnown x → Goes x x

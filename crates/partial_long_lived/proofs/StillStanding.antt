@@ -1,23 +1,5 @@
 -- Components that still have the stamps that they had.
-use Rattle.std.proofs.Common.{ℕ, ◌≡◌, ◌+◌, ◌<◌, ◌≤◌, List, [], ◌∷◌, length, take, sym, ap, subst, ◌∙◌, inl, inr, arith, append-nil}
-use Rattle.std.specs.Prelude.{slice_index}
-use Rattle.std.proofs.lemmas.Bool.Decides.{eqb_tells}
-use Rattle.std.proofs.lemmas.List.{take-append-le}
-use Rattle.atomic_table.specs.Seated.{TableId}
-use Rattle.partial_model.specs.declared.history.Applied.{Applied}
-use Rattle.partial_model.specs.History.{stamp_of}
-use Rattle.partial_model.proofs.StampsStay.{stamps_never_return}
-use Rattle.partial_long_lived.specs.declared.rule.About.{About}
-use Rattle.partial_long_lived.specs.declared.stand.Stand.{Stand}
-use Rattle.partial_long_lived.specs.declared.seating.Seating.{Seating}
-use Rattle.partial_long_lived.specs.Rule.{Seated, one_in}
-use Rattle.partial_long_lived.specs.Ports.{IsOf, MemoryView, PortView, port_view, seen_in}
-use Rattle.partial_long_lived.specs.Calls.{Differ, HasThen, StillStand}
-use Rattle.partial_long_lived.specs.Seating.{IsStandOf, IsSeatingOf}
-use Rattle.partial_long_lived.specs.Inner.Steps.{Goes}
-use Rattle.partial_long_lived.specs.Inner.Held.{IsHeld, port_at}
-use Rattle.partial_long_lived.specs.Inner.Scans.{SettledFirst}
-use Rattle.partial_long_lived.specs.Inner.DoubleCollect.{HasGlanced}
+use Rattle.partial_long_lived.proofs.Common.{ℕ, ◌≡◌, ◌+◌, ◌<◌, ◌≤◌, List, [], ◌∷◌, length, take, sym, ap, subst, ◌∙◌, inl, inr, arith, append-nil, slice_index, eqb_tells, take-append-le, TableId, Applied, stamp_of, stamps_never_return, About, Stand, Seating, Seated, one_in, IsOf, MemoryView, PortView, port_view, seen_in, Differ, HasThen, StillStand, IsStandOf, IsSeatingOf, Goes, IsHeld, port_at, SettledFirst, HasGlanced}
 use Rattle.partial_long_lived.specs.Inner.Unchanged.{HadAnother, HadStamp, HadStamps, HasStamp, stamp_at}
 use Rattle.partial_long_lived.proofs.Answering.{callers_see, goes_seen}
 use Rattle.partial_long_lived.proofs.Coming.{seen_more}

@@ -1,27 +1,6 @@
 -- A call under way: each step of its machine is allowed, and leads the call on.
-use Rattle.std.proofs.Common.{ℕ, ◌≡◌, ◌+◌, ◌-◌, ◌<◌, ◌≤◌, ◌==◌, ◌%◌, ◌^◌, Bool, true, false, cond, Some, refl, sym, ap, subst, ◌∙◌, arith}
-use Rattle.std.specs.Prelude.{nat_lt}
-use prog.Atomic.{either}
-use Rattle.atomic_table.specs.Table.{Allows}
-use Rattle.atomic_table.specs.Seated.{TableId}
-use Rattle.partial_words.specs.declared.step.Step.{Step}
-use Rattle.partial_words.specs.declared.step.Step.TheVariants.{Load, Store, Exchange, Add}
-use Rattle.partial_words.specs.Layout.{total}
-use Rattle.partial_words.specs.Step.{word_of}
-use Rattle.partial_machine.specs.Machine.{CoreState, advance, step_of}
-use Rattle.partial_machine.specs.Sound.{IsSound}
-use Rattle.partial_epochs.specs.Layout.{base, plain, unsealed}
-use Rattle.partial_epochs.specs.Epochs.{IsPlan}
-use Rattle.partial_epochs.proofs.Places.{not_below}
+use Rattle.partial_long_lived.proofs.Common.{ℕ, ◌≡◌, ◌+◌, ◌-◌, ◌<◌, ◌≤◌, ◌==◌, ◌%◌, ◌^◌, Bool, true, false, cond, Some, refl, sym, ap, subst, ◌∙◌, arith, nat_lt, either, Allows, TableId, Step, Load, Store, Exchange, Add, total, word_of, CoreState, advance, step_of, IsSound, base, plain, unsealed, IsPlan, not_below, About, Stand, IsKept, Seated, plan_of, Goes, IsOne, port_at, component_at, IsApart, IsBehind, Makes, MayMake, answered, change_of, goes_on, makes, word_at, CallMade, IsGoing, Leads, MayBegin, before_claim, machine_at}
 use Rattle.partial_lines.specs.Lines.{IsQuiet}
-use Rattle.partial_long_lived.specs.declared.rule.About.{About}
-use Rattle.partial_long_lived.specs.declared.stand.Stand.{Stand}
-use Rattle.partial_long_lived.specs.Rule.{IsKept, Seated, plan_of}
-use Rattle.partial_long_lived.specs.Inner.Steps.{Goes, IsOne}
-use Rattle.partial_long_lived.specs.Inner.Held.{port_at}
-use Rattle.partial_long_lived.specs.Inner.Loads.{component_at}
-use Rattle.partial_long_lived.specs.Inner.Machine.{IsApart, IsBehind, Makes, MayMake, answered, change_of, goes_on, makes, word_at}
-use Rattle.partial_long_lived.specs.Inner.Under.{CallMade, IsGoing, Leads, MayBegin, before_claim, machine_at}
 use Rattle.partial_long_lived.proofs.Claims.{inner_word}
 use Rattle.partial_long_lived.proofs.Making.{may_make}
 use Rattle.partial_long_lived.proofs.Changes.{either_cond}

@@ -1,53 +1,17 @@
 -- The steps of a call of a port's machine, one after the other.
-use Rattle.std.proofs.Common.{ℕ, ◌≡◌, ◌≢◌, ◌+◌, ◌*◌, ◌<◌, ◌≤◌, ◌==◌, ◌⊎◌, ◌&&◌, ◌||◌, ◌++◌, Bool, true, false, cond, Option, Some, None, List, [], ◌∷◌, length, map, take, refl, sym, ap, subst, ◌∙◌, inl, inr, arith, append-nil}
-use Rattle.std.specs.Prelude.{nat_lt}
-use Rattle.std.proofs.lemmas.Bool.Decides.{eqb_tells}
-use Rattle.std.proofs.lemmas.List.{append_cancel_left}
-use Rattle.partial_model.specs.declared.history.Applied.{Applied}
-use Rattle.partial_model.specs.declared.history.Opening.{Opening}
+use Rattle.partial_long_lived.proofs.Common.{ℕ, ◌≡◌, ◌≢◌, ◌+◌, ◌*◌, ◌<◌, ◌≤◌, ◌==◌, ◌⊎◌, ◌&&◌, ◌||◌, ◌++◌, Bool, true, false, cond, Option, Some, None, List, [], ◌∷◌, length, map, take, refl, sym, ap, subst, ◌∙◌, inl, inr, arith, append-nil, nat_lt, eqb_tells, append_cancel_left, Applied, Opening, stamp_of, Noted, seen_by, Step, Load, Store, Exchange, Add, Layout, IsLayout, greatest_record, pool_counter, total, word_of, Reply, Stage, Idle, ReadBegun, LoadingValue, UpdateBegun, GettingSet, Viewing, ClaimingRecord, StoringRecord, Exchanging, ScanBegun, StoringAnnouncement, Joining, Scanning, Leaving, Finished, some_same, not_below, cases_lt, CoreState, advance, record_size, reply_of, step_at, step_of, call_of, is_begun, IsSound, Part, first_at, AreNotesOf, Tells, begun_with, moved, take_within, first_steps_make_calls, further_steps_make_calls, history_of, opening_behind, Control, MayClaim, public_noted, About, Began, Seated, plan_of, Goes, opening_of, Makes, MayMake, over_by, CallMade, MayBegin, before_claim, claim_of}
 use Rattle.partial_model.specs.declared.call.Call.TheVariants as call
 use Rattle.partial_model.specs.declared.call.Refused.{Refused}
-use Rattle.partial_model.specs.History.{stamp_of}
-use Rattle.partial_model.specs.Notes.{Noted, seen_by}
-use Rattle.partial_words.specs.declared.step.Step.{Step}
-use Rattle.partial_words.specs.declared.step.Step.TheVariants.{Load, Store, Exchange, Add}
-use Rattle.partial_words.specs.Layout.{Layout, IsLayout, greatest_record, pool_counter, total}
-use Rattle.partial_words.specs.Step.{word_of}
 use Rattle.partial_machine.specs.declared.stage.Reply.TheVariants as reply
-use Rattle.partial_machine.specs.declared.stage.Reply.{Reply}
-use Rattle.partial_machine.specs.declared.stage.Stage.{Stage}
-use Rattle.partial_machine.specs.declared.stage.Stage.TheVariants.{Idle, ReadBegun, LoadingValue, UpdateBegun, GettingSet, Viewing, ClaimingRecord, StoringRecord, Exchanging, ScanBegun, StoringAnnouncement, Joining, Scanning, Leaving, Finished}
 use Rattle.partial_machine.specs.Behind.{IsBehind, refuses_pool, refuses_slots}
 use Rattle.partial_machine.proofs.Sound.{size_few}
-use Rattle.partial_model.proofs.ListLemmas.{some_same}
-use Rattle.partial_epochs.proofs.Places.{not_below}
-use Rattle.std.proofs.lemmas.Bool.{cases_lt}
-use Rattle.partial_machine.specs.Machine.{CoreState, advance, record_size, reply_of, step_at, step_of}
-use Rattle.partial_machine.specs.Calls.{call_of, is_begun}
-use Rattle.partial_machine.specs.Sound.{IsSound}
 use Rattle.partial_machine.proofs.Laws.{due_is_unreplied, due_words_are_there}
-use Rattle.partial_core.specs.Part.{Kept, Part, first_at}
+use Rattle.partial_core.specs.Part.{Kept}
 use Rattle.partial_core.specs.Calls.{Made}
-use Rattle.partial_core.specs.Steps.{AreNotesOf, Tells, begun_with, moved}
 use Rattle.partial_core.proofs.Parts.{seen_within as no_longer}
-use Rattle.partial_model.proofs.StampsStay.{take_within}
-use Rattle.partial_core.proofs.Laws.{first_steps_make_calls, further_steps_make_calls}
-use Rattle.partial_epochs.specs.History.{history_of, opening_behind}
-use Rattle.partial_epochs.specs.Ports.{Control}
-use Rattle.partial_epochs.specs.MachineSteps.{MayClaim}
-use Rattle.partial_epochs.specs.Notes.{public_noted}
-use Rattle.partial_long_lived.specs.declared.rule.About.{About}
-use Rattle.partial_long_lived.specs.Rule.{Began, Seated, plan_of}
-use Rattle.partial_long_lived.specs.Inner.Steps.{Goes}
-use Rattle.partial_long_lived.specs.Inner.Loads.{opening_of}
-use Rattle.partial_long_lived.specs.Inner.Machine.{Makes, MayMake, over_by}
-use Rattle.partial_long_lived.specs.Inner.Under.{CallMade, MayBegin, before_claim, claim_of}
+use Rattle.partial_core.proofs.WholeCalls.{first_push}
 use Rattle.partial_long_lived.proofs.Claims.{claimed_from, pool_claims, unclaimed_before}
 use Rattle.partial_long_lived.proofs.Coming.{goes_on}
-
-first_stays : (ks : List Kept) (last : Kept) → 0 < length ks → first_at (ks ++ last ∷ []) ≡ first_at ks
-first_stays [] last some = absurd (omega (arith, some))
-first_stays (k ∷ ks) last some = refl
 
 -- where a machine has yet to claim, its last step was no claim past the limit
 spare_step : (a : About) (c : CoreState) (s : Step) (x : ℕ) → IsSound c → c.sizes ≡ a.sizes → step_of c ≡ Some s → before_claim (advance c x).stage ≡ true → over_by (plan_of a) s x ≡ false
@@ -310,7 +274,7 @@ module _ (b : CoreState) (x : Seated) (begins : MayBegin b x) (c : CoreState) (y
           let before = ap (λ (t : Seated). length (history_of t.port.before)) m.is in
           let last : Kept = record { answer = a; at = length (m.log ++ m.entries) } in
           let kept : z.port.part.kept ≡ y.port.part.kept ++ last ∷ [] = ap (λ (p : Part). p.kept) next_part ∙ ap (λ t. cond t [] y.port.part.kept ++ last ∷ []) going in
-          let at = ap first_at kept ∙ first_stays y.port.part.kept last had.made.some in
+          let at = ap first_at kept ∙ first_push y.port.part.kept last had.made.some in
           omega (arith, early, len, before, at);
     }
 

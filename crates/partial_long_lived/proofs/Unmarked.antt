@@ -1,16 +1,10 @@
 -- A call that is not refused leaves its machine without marks.
-use Rattle.std.proofs.Common.{ℕ, ◌≡◌, ◌≢◌, ◌||◌, false, Option, Some, None, List, [], ◌∷◌, refl, sym, ap, subst, ◌∙◌}
+use Rattle.partial_long_lived.proofs.Common.{ℕ, ◌≡◌, ◌≢◌, ◌||◌, false, Option, Some, None, List, [], ◌∷◌, refl, sym, ap, subst, ◌∙◌, IsLayout, Reply, Stage, Finished, CoreState, advance, reply_at, reply_of, IsSound}
 use Rattle.partial_model.specs.declared.call.Refused.{Refused}
 use Rattle.partial_model.specs.declared.call.Refused.TheVariants as refused
-use Rattle.partial_words.specs.Layout.{IsLayout}
-use Rattle.partial_machine.specs.declared.stage.Reply.{Reply}
 use Rattle.partial_machine.specs.declared.stage.Reply.TheVariants as reply
-use Rattle.partial_machine.specs.declared.stage.Stage.{Stage}
-use Rattle.partial_machine.specs.declared.stage.Stage.TheVariants.{Finished}
 use Rattle.partial_machine.specs.Behind.{refuses_pool, refuses_slots}
-use Rattle.partial_machine.specs.Machine.{CoreState, advance, reply_at, reply_of}
 use Rattle.partial_machine.specs.Possible.{IsPossibleAt}
-use Rattle.partial_machine.specs.Sound.{IsSound}
 use Rattle.partial_machine.specs.Steps.{Run}
 use Rattle.partial_machine.proofs.Laws.{answers_lead_on}
 

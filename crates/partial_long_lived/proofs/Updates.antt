@@ -1,31 +1,9 @@
 -- An update of a port, as callers see it.
-use Rattle.std.proofs.Common.{ℕ, ◌≡◌, ◌<◌, Bool, true, false, [], sym, subst, ◌∙◌, arith, append-nil, ap, ◌+◌}
-use Rattle.atomic_table.specs.Seated.{TableId}
-use Rattle.partial_model.specs.declared.history.Applied.{Applied}
+use Rattle.partial_long_lived.proofs.Common.{ℕ, ◌≡◌, ◌<◌, Bool, true, false, [], sym, subst, ◌∙◌, arith, append-nil, ap, ◌+◌, TableId, Applied, IsLegal, LegalNotes, seen_by, AllByRecursion-get, LegalNotes-last, Change, CoreState, Exchanged, About, UpdatedIf, Asked, Refused, Component, Overtaken, NoArena, EpochsSpent, Stand, Seating, one_in, IsOf, MemoryView, PortView, port_view, seen_in, IsStandOf, IsSeatingOf, IsHeld, epoch_at, port_at, IsIdle, HasUpdatedIf, RestsAt, CameBy, IsLate, IsOwn, MayCall, Updated, noted_update, public_update, stamp_from}
 use Rattle.partial_model.specs.declared.call.Call.TheVariants as call
-use Rattle.partial_model.specs.Notes.{IsLegal, LegalNotes, seen_by}
-use Rattle.partial_model.proofs.NotesLemmas.{AllByRecursion-get, LegalNotes-last}
-use Rattle.partial_machine.specs.declared.stage.Change.{Change}
-use Rattle.partial_machine.specs.Machine.{CoreState}
-use Rattle.partial_lines.specs.declared.exchange.Exchanged.{Exchanged}
 use Rattle.partial_lines.specs.declared.exchange.Exchanged.TheVariants.{Applied as IsApplied, Overtaken as IsOvertaken}
-use Rattle.partial_long_lived.specs.declared.rule.About.{About}
-use Rattle.partial_long_lived.specs.declared.answers.UpdatedIf.{UpdatedIf}
 use Rattle.partial_long_lived.specs.declared.answers.UpdatedIf.TheVariants as conditional
-use Rattle.partial_long_lived.specs.declared.update_if.Asked.{Asked}
-use Rattle.partial_long_lived.specs.declared.error.Refused.{Refused}
-use Rattle.partial_long_lived.specs.declared.error.Refused.TheVariants.{Component, Overtaken, NoArena, EpochsSpent}
-use Rattle.partial_long_lived.specs.declared.stand.Stand.{Stand}
-use Rattle.partial_long_lived.specs.declared.seating.Seating.{Seating}
-use Rattle.partial_long_lived.specs.Rule.{one_in}
-use Rattle.partial_long_lived.specs.Ports.{IsOf, MemoryView, PortView, port_view, seen_in}
 use Rattle.partial_long_lived.specs.Calls as calls
-use Rattle.partial_long_lived.specs.Seating.{IsStandOf, IsSeatingOf}
-use Rattle.partial_long_lived.specs.Inner.Held.{IsHeld, epoch_at, port_at}
-use Rattle.partial_long_lived.specs.Inner.Calls.{IsIdle}
-use Rattle.partial_long_lived.specs.Inner.Conditional.{HasUpdatedIf}
-use Rattle.partial_long_lived.specs.Inner.Rests.{RestsAt}
-use Rattle.partial_long_lived.specs.Inner.Updates.{CameBy, IsLate, IsOwn, MayCall, Updated, noted_update, public_update, stamp_from}
 use Rattle.partial_long_lived.proofs.Answering.{callers_see, goes_seen, rests_unmarked}
 
 -- a port in a call rests where the call ends

@@ -1,21 +1,6 @@
 -- The first step of an update, and the exchange of its component.
-use Rattle.std.proofs.Common.{ℕ, ◌≡◌, ◌+◌, ◌-◌, ◌<◌, ◌==◌, Bool, Some, List, sym, ap, subst, ◌∙◌, refl, arith}
-use prog.Atomic.{either}
-use Rattle.atomic_table.specs.Table.{Me, Allows}
-use Rattle.atomic_table.specs.Seated.{TableId}
-use Rattle.partial_words.specs.declared.step.Step.TheVariants.{Load, Exchange}
-use Rattle.partial_machine.specs.declared.stage.Change.{Change}
-use Rattle.partial_machine.specs.declared.stage.Stage.TheVariants.{UpdateBegun, Exchanging}
-use Rattle.partial_machine.specs.Machine.{CoreState, step_at, step_of}
-use Rattle.partial_epochs.specs.Layout.{base}
-use Rattle.partial_long_lived.specs.declared.rule.About.{About}
-use Rattle.partial_long_lived.specs.declared.stand.Stand.{Stand}
-use Rattle.partial_long_lived.specs.Rule.{IsKept, Seated, one_of, plan_of}
-use Rattle.partial_long_lived.specs.Inner.Steps.{tells}
-use Rattle.partial_long_lived.specs.Inner.Held.{IsHeld, port_at}
-use Rattle.partial_long_lived.specs.Inner.Loads.{component_at}
-use Rattle.partial_long_lived.specs.Inner.Machine.{Begins, Exchanges, MayMake, begins, change_of, exchanges, word_at}
-use Rattle.partial_long_lived.specs.Inner.Under.{IsGoing, MayBegin, machine_at}
+use Rattle.partial_long_lived.proofs.Common.{ℕ, ◌≡◌, ◌+◌, ◌-◌, ◌<◌, ◌==◌, Bool, Some, List, sym, ap, subst, ◌∙◌, refl, arith, either, Me, Allows, TableId, Load, Exchange, Change, UpdateBegun, Exchanging, CoreState, step_at, step_of, base, About, Stand, IsKept, Seated, one_of, plan_of, tells, IsHeld, port_at, component_at, Exchanges, MayMake, begins, change_of, exchanges, word_at, IsGoing, MayBegin, machine_at}
+use Rattle.partial_long_lived.specs.Inner.Machine.{Begins}
 use Rattle.partial_long_lived.proofs.Changes.{either_cond}
 use Rattle.partial_long_lived.proofs.Making.{may_begin, may_exchange}
 use Rattle.partial_long_lived.proofs.Standing.{base_is, room_of}

@@ -1,10 +1,5 @@
 -- The seats of all views: around one view, and how many are of one port.
-use Rattle.std.proofs.Common.{◌≡◌, ◌≢◌, ℕ, zero, suc, ◌+◌, ◌==◌, ◌⊎◌, Bool, true, false, cond, List, [], ◌∷◌, ◌++◌, set, refl, ap, sym, ◌∙◌, inl, inr, arith, append_assoc}
-use Rattle.std.specs.List.{AllByRecursion}
-use Rattle.std.proofs.lemmas.Bool.Decides.{eqb_tells}
-use mathlib.Core.Option.{some, some-injective, some-ne-none}
-use lib.ListN.{get_elem?}
-use Rattle.partial_long_lived.specs.Rule.{Seated, flatten, seats_of}
+use Rattle.partial_long_lived.proofs.Common.{◌≡◌, ◌≢◌, ℕ, zero, suc, ◌+◌, ◌==◌, ◌⊎◌, Bool, true, false, cond, List, [], ◌∷◌, ◌++◌, set, refl, ap, sym, ◌∙◌, inl, inr, arith, append_assoc, AllByRecursion, eqb_tells, some, some-injective, some-ne-none, get_elem?, Seated, flatten, seats_of}
 
 -- the seats before and behind those of the view at a place, whatever that view becomes
 pub record Around (views : List (List Seated)) (id : ℕ) (v : List Seated) : Type 0 where

@@ -1,20 +1,5 @@
 -- What the owner of an arena has behind its steps.
-use Rattle.std.proofs.Common.{ℕ, ◌≡◌, ◌≢◌, ◌+◌, ◌-◌, ◌%◌, ◌<◌, ◌≤◌, Bool, true, cond, Option, Some, None, IfSome, refl, sym, ap, subst, ◌∙◌, inl, inr, arith}
-use Rattle.std.specs.Prelude.{nat_lt}
-use Rattle.std.proofs.lemmas.Bool.{lt-ltb}
-use Rattle.partial_words.specs.Layout.{Layout, first_free, pool_base}
-use Rattle.partial_epochs.specs.Layout.{Place, arena_limit, entering_mark, marked}
-use Rattle.partial_epochs.specs.Ports.{Owned}
-use Rattle.partial_epochs.specs.Ports.Entering.{Stands}
-use Rattle.partial_epochs.specs.Owning.{cleaner, having_loaded, owning}
-use Rattle.partial_epochs.specs.Publishing.{resting}
-use Rattle.partial_epochs.proofs.Places.{not_below}
-use Rattle.partial_long_lived.specs.declared.rule.About.{About}
-use Rattle.partial_long_lived.specs.declared.stand.Stand.{Stand}
-use Rattle.partial_long_lived.specs.Rule.{Seated}
-use Rattle.partial_long_lived.specs.Inner.Held.{port_at}
-use Rattle.partial_long_lived.specs.Inner.Moves.{LoadsPort, Publishes, PutsPort, Sets, becomes, elsewhere, port_loaded, port_put, unpacked}
-use Rattle.partial_long_lived.specs.Inner.Changing.{HasLoadedPort, IsRight, MayPutPort, OfOwned, Owns, PutsBy, SetsLists, SetsNext, Works}
+use Rattle.partial_long_lived.proofs.Common.{ℕ, ◌≡◌, ◌≢◌, ◌+◌, ◌-◌, ◌%◌, ◌<◌, ◌≤◌, Bool, true, cond, Option, Some, None, IfSome, refl, sym, ap, subst, ◌∙◌, inl, inr, arith, nat_lt, lt-ltb, Layout, first_free, pool_base, Place, arena_limit, entering_mark, marked, Owned, Stands, cleaner, having_loaded, owning, resting, not_below, About, Stand, Seated, port_at, LoadsPort, Publishes, PutsPort, Sets, becomes, elsewhere, port_loaded, port_put, unpacked, HasLoadedPort, IsRight, MayPutPort, OfOwned, Owns, PutsBy, SetsLists, SetsNext, Works}
 use Rattle.partial_long_lived.proofs.Sets.{alike, unlike}
 
 -- a step by the arena that the port owns

@@ -1,5 +1,5 @@
 -- What each call of a memory leaves of its port.
-use Rattle.std.specs.Prelude.{ℕ, ◌≡◌, ◌+◌, ◌<◌, ◌≤◌, ◌⊎◌, List, [], ◌∷◌, ◌++◌, length, take, None, Some, slice_index}
+use Rattle.std.specs.Prelude.{ℕ, ◌≡◌, ◌+◌, ◌<◌, ◌≤◌, ◌⊎◌, List, [], ◌∷◌, ◌++◌, length, map, take, None, Some, slice_index}
 use Rattle.partial_model.specs.declared.call.Call.{Call}
 use Rattle.partial_model.specs.declared.call.Call.TheVariants as call
 use Rattle.partial_model.specs.declared.call.Answer.{Answer}
@@ -59,6 +59,12 @@ Scans p (j ∷ js) values s q =
 abbrev pub HasThen : PortView → ℕ → ℕ → ℕ → Type 0
 HasThen p n j s = stamp_of p.memory.about.opening (take n p.seen) j ≡ s
 
+-- a scan that ended with stamps: the values and the stamps after one prefix of what is seen now; one of no position isn't noted
+abbrev pub ScansStamped : PortView → List ℕ → List ℕ → List ℕ → PortView → Type 0
+ScansStamped p [] values stamps q = (values ≡ []) × (stamps ≡ []) × (q ≡ p)
+ScansStamped p (j ∷ js) values stamps q = (n : ℕ) × Answered p q (call.Scan (j ∷ js)) (answer.Scanned values 2 None) (note.Saw n)
+    × (stamps ≡ map (λ i. stamp_of q.memory.about.opening (take n q.seen) i) (j ∷ js))
+
 -- Each of these components had this stamp at a place of the call. There is one place, behind all that the port had seen before the call, at
 -- which those stood together whose stamps the port had seen.
 pub record StillStand (p q : PortView) (js stamps : List ℕ) : Type 0 where
@@ -85,8 +91,8 @@ pub record Meets (a b c d : PortView) : Type 0 where
   pub first_all : b.seen ≡ take (length b.seen) c.seen
   pub second_all : a.seen ≡ take (length a.seen) d.seen
 
--- Why a call that changes the epoch can't end: its port has come to 16 later epochs, it has sealed all components of its epoch and found no
--- arena free, or its epoch is the last one that a word can name.
+-- Why a call that changes the epoch can't end: its port has come to 16 later epochs, it knows all components of its epoch to be sealed and
+-- has found no arena free, or its epoch is the last one that a word can name.
 abbrev pub CantEnd : PortView → Refused → PortView → Type 0
 CantEnd p Component q = ⊥
 CantEnd p Overtaken q = p.epoch + 16 ≤ q.epoch

@@ -1,6 +1,7 @@
 -- The sizes of a memory for its options, and why there are none.
 use Rattle.std.specs.Prelude.{ℕ, ◌≡◌, ◌+◌, ◌*◌, ◌/◌, ◌<◌, ◌≤◌, ◌⊎◌}
 use Rattle.partial_words.specs.Layout.{Layout, first_free}
+use Rattle.partial_words.specs.Record.{full_record_size, plain_record_size}
 use Rattle.partial_long_lived.specs.declared.open_error.OpenError.{OpenError}
 use Rattle.partial_long_lived.specs.declared.open_error.OpenError.TheVariants.{Ports, Components, Lists, Pool, Memory}
 use Rattle.partial_long_lived.specs.declared.options.Options.{Options}
@@ -16,7 +17,7 @@ most_words = 131072
 
 -- how many words the pool has behind the initial records: those of the options, and room for the greatest record of each port
 abbrev pub words_behind : ℕ → ℕ → Options → ℕ
-words_behind count ports o = o.pool + (4 + 2 * count) * ports
+words_behind count ports o = o.pool + full_record_size count * ports
 
 -- the sizes of an arena: so many pool words, and a slot for each two of them
 abbrev pub layout_for : ℕ → ℕ → Options → Layout
@@ -24,7 +25,7 @@ layout_for count ports o = record {
   m = count;
   slots = (words_behind count ports o + 1) / 2;
   lists = o.lists;
-  pool = 3 * count + words_behind count ports o;
+  pool = plain_record_size * count + words_behind count ports o;
 }
 
 -- the shape of a memory with so many components, n ports, and these options
@@ -50,9 +51,13 @@ IsShapeError count ports o Lists = ArePorts ports × AreComponents count × (mos
 IsShapeError count ports o Pool = ArePorts ports × AreComponents count × (o.lists ≤ most_lists) × (most_words < words_behind count ports o)
 IsShapeError count ports o Memory = ⊥
 
--- why a memory may not open with these components, ports and options: there are no such sizes, or memory is refused only where there are
+-- there are sizes for so many components and ports, and these options
+abbrev pub MayOpen : ℕ → ℕ → Options → Type 0
+MayOpen count ports o = ArePorts ports × AreComponents count × (o.lists ≤ most_lists) × (words_behind count ports o ≤ most_words)
+
+-- why a memory doesn't open with these components, ports and options: there are no such sizes, or memory is refused only where there are
 abbrev pub MayNotOpen : ℕ → ℕ → Options → OpenError → Type 0
-MayNotOpen count ports o Memory = ArePorts ports × AreComponents count × (o.lists ≤ most_lists) × (words_behind count ports o ≤ most_words)
+MayNotOpen count ports o Memory = MayOpen count ports o
 MayNotOpen count ports o e = IsShapeError count ports o e
 
 -- the numbers of the refusals

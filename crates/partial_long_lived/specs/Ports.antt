@@ -16,8 +16,8 @@ pub record MemoryView : Type 0 where
   pub table : TableId
   pub about : About
 
--- A port as a contract sees it: its memory, its number, the epoch where it stands and how many components of it the port has sealed, the
--- beginning of the one history over all epochs that it has seen, and the notes of its calls.
+-- A port as a contract sees it: its memory, its number, the epoch where it stands and how many components of it the port knows to be sealed,
+-- the beginning of the one history over all epochs that it has seen, and the notes of its calls.
 pub record PortView : Type 0 where
   pub memory : MemoryView
   pub number : ℕ

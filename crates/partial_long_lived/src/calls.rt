@@ -1,9 +1,10 @@
 //! The calls of a port.
 
-ghost use Rattle.std.specs.Prelude.{◌≡◌, ◌≤◌, true, false, length, nat_lt, IfOk, IfErr};
+ghost use Rattle.std.specs.Prelude.{◌≡◌, ◌≤◌, true, false, [], length, nat_lt, IfOk, IfErr};
 ghost use Rattle.std.specs.List.{list_all};
 ghost use Rattle.partial_model.specs.declared.call.Call.TheVariants as call;
-ghost use Rattle.partial_long_lived.specs.Calls.{Differ, IsRefused, Meets, Reads, Scans, StillStand, Updates, UpdatesIf};
+ghost use Rattle.partial_long_lived.specs.declared.error.Refused.TheVariants.{Component};
+ghost use Rattle.partial_long_lived.specs.Calls.{Differ, Goes, IsRefused, Meets, Reads, Scans, ScansStamped, StillStand, Updates, UpdatesIf};
 ghost use Rattle.partial_long_lived.specs.Ports.{IsOf};
 
 use crate::answers::{Updated, UpdatedIf};
@@ -13,6 +14,7 @@ use crate::meet::meet;
 use crate::port::Port;
 use crate::read::read;
 use crate::scan::{public_borrowed, scan_from};
+use crate::stamped::scan_stamped;
 use crate::unchanged::unchanged;
 use crate::update::update;
 use crate::update_if::{Asked, update_if};
@@ -44,11 +46,10 @@ impl LongLived {
             expected: None,
             value,
         };
-        let stand = me.seating.take();
+        let mut stand = me.seating.take();
         let words = &self.table.shared;
-        let (stand, spent, ended) = update(words, stand, &mut me.core, change, me.spent);
+        let ended = update(words, &mut stand, &mut me.core, change, &mut me.spent);
         let epoch = stand.epoch;
-        me.spent = spent;
         me.seating.keep(stand);
         match ended {
             Ok(exchanged) => Ok(Updated::of(epoch, exchanged)),
@@ -88,10 +89,9 @@ impl LongLived {
             expected,
             value,
         };
-        let stand = me.seating.take();
+        let mut stand = me.seating.take();
         let words = &self.table.shared;
-        let (stand, spent, ended) = update_if(words, stand, &mut me.core, asked, me.spent);
-        me.spent = spent;
+        let ended = update_if(words, &mut stand, &mut me.core, asked, &mut me.spent);
         me.seating.keep(stand);
         ended
     }
@@ -151,12 +151,12 @@ impl LongLived {
             return Err(Refused::Component);
         }
         let words = &self.table.shared;
-        let stand = me.seating.take();
+        let mut stand = me.seating.take();
         let kept = me.collected.as_mut_slice();
         let core = &mut me.core;
-        let (stand, spent, scanned) = scan_from(words, stand, core, me.spent, which, kept, into);
+        let spent = &mut me.spent;
+        let scanned = scan_from(words, &mut stand, core, spent, which, kept, into);
         let epoch = stand.epoch;
-        me.spent = spent;
         me.seating.keep(stand);
         match scanned {
             Ok(Scanned { collects, borrowed }) => Ok(Scanned {
@@ -165,6 +165,49 @@ impl LongLived {
             }),
             Err(cause) => Err(cause),
         }
+    }
+
+    /// Scans these components, in this order and with repeats, and tells their stamps too, if two collects of them are
+    /// equal; says whether it has. `into` has their values then, and `stamps` their stamps, as they stood together at one
+    /// moment of the call. It stores nothing. A scan of no position makes no step.
+    ///
+    /// `false` says that an update or a change of epoch came between the collects, or that the first component is sealed and
+    /// the port's epoch has ended. Nothing is noted then, `into` and `stamps` are unchanged, and the port stays in its
+    /// epoch. [`scan`](LongLived::scan) gives the values whatever others do, and comes to the current epoch.
+    ///
+    /// # Errors
+    /// [`Refused::Component`] exactly when an index isn't below the number of components: no step was made, and `into` and
+    /// `stamps` are unchanged.
+    pub fn scan_stamped(
+        &self,
+        me: &mut Port,
+        which: &[u32],
+        into: &mut [u64],
+        stamps: &mut [u64],
+    ) -> Result<bool, Refused>
+        requires own { IsOf self.now me.old }
+        requires few { length which.now ≤ self.now.about.sizes.m }
+        requires lengths { (length into.old ≡ length which.now) × (length stamps.old ≡ length which.now) }
+        ensures same { IsOf self.now me.new }
+        ensures scanned { IfOk result (λ is. is ≡ true → ScansStamped me.old which.now into.new stamps.new me.new) }
+        ensures goes { IfOk result (λ is. is ≡ false → Goes me.old me.new []) }
+        ensures unchanged { IfOk result (λ is. is ≡ false → (into.new ≡ into.old) × (stamps.new ≡ stamps.old)) }
+        ensures refused { IfErr result (λ cause. IsRefused me.old (call.Scan which.now) cause me.new) }
+        ensures cause { IfErr result (λ cause. cause ≡ Component) }
+        ensures untouched { IfErr result (λ _. (into.new ≡ into.old) × (stamps.new ≡ stamps.old)) }
+    {
+        if which.is_empty() {
+            return Ok(true);
+        }
+        if !all_below(which, self.shape.sizes.m()) {
+            return Err(Refused::Component);
+        }
+        let words = &self.table.shared;
+        let mut stand = me.seating.take();
+        let kept = me.collected.as_mut_slice();
+        let is_told = scan_stamped(words, &mut stand, which, kept, into, stamps);
+        me.seating.keep(stand);
+        Ok(is_told)
     }
 
     /// Says whether each of these components still has this stamp, as [`read`](LongLived::read) gives it. With `true`

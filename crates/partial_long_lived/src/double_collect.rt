@@ -1,6 +1,6 @@
 //! Scans by a double collect: two equal collects of the components, and no announcement.
 
-ghost use Rattle.std.specs.Prelude.{ℕ, ◌≡◌, ◌-◌, ◌<◌, ◌≤◌, true, false, length, slice_index, None, IfSome};
+ghost use Rattle.std.specs.Prelude.{ℕ, ◌≡◌, ◌-◌, ◌<◌, ◌≤◌, true, false, length, slice_index, IfSome};
 ghost use Rattle.partial_words.specs.Layout.{total};
 ghost use Rattle.partial_words.specs.Record.{value_word};
 ghost use Rattle.partial_epochs.specs.Layout.{unsealed};
@@ -8,10 +8,9 @@ ghost use Rattle.partial_epochs.specs.Ports.Entering.{Stands};
 ghost use Rattle.partial_long_lived.specs.Ports.{seen_in};
 ghost use Rattle.partial_long_lived.specs.Inner.Held.{IsHeld, port_at};
 ghost use Rattle.partial_long_lived.specs.Inner.Calls.{IsIdle, Kept};
-ghost use Rattle.partial_long_lived.specs.Inner.DoubleCollect.{AreCollected, AreInside, HadValue, HadValues, HasBegunCollect, HasGlanced, HasStayed, MayNote, NotesScan};
+ghost use Rattle.partial_long_lived.specs.Inner.DoubleCollect.{AreCollected, AreInside, HadValue, HadValues, HasBegunCollect, HasGlanced, HasStayed, MadeNamed, MayNote, NotesScan, ScannedNamed};
 ghost use Rattle.partial_long_lived.specs.Inner.Loads.{Sees};
 ghost use Rattle.partial_long_lived.specs.Inner.Loads.Wish.{Glances};
-ghost use Rattle.partial_long_lived.specs.Inner.Scans.{HasScanned, ScanMade};
 
 use crate::arena::{SEAL, recall};
 use crate::enter::look;
@@ -21,8 +20,8 @@ use crate::stand::Stand;
 use partial_words::value_word;
 use std::marker::Brand;
 
-/// Tries to scan these positions by a double collect, and says whether it has. `into` has their values then. `kept` is
-/// where the words of the first collect are kept.
+/// Tries to scan these positions by a double collect, and says whether it has. `into` has their values then, and `kept`
+/// the words that both collects have found.
 ///
 /// There is no scan when the two collects differ, or when the first component is sealed and the port's epoch has ended.
 /// Then nothing is noted, and `into` is unchanged.
@@ -41,7 +40,7 @@ pub fn double_collect(
     requires lengths { length into.old ≡ length which.now }
     ensures held { IsHeld words.now.table_id words.now.key stand.new }
     ensures stayed { HasStayed stand.old stand.new }
-    ensures scanned { result ≡ true → HasScanned stand.old stand.new which.now into.new 2 None }
+    ensures scanned { result ≡ true → ScannedNamed stand.old stand.new which.now into.new kept.new }
     ensures notes { result ≡ false → (port_at stand.new).notes ≡ (port_at stand.old).notes }
     ensures unchanged { result ≡ false → into.new ≡ into.old }
 {
@@ -143,7 +142,7 @@ fn confirm<G: Together>(
     requires time { (port_at stand.old).began.length ≤ length (seen_in (port_at stand.old).port) }
     ensures held { IsHeld words.now.table_id words.now.key stand.new }
     ensures stayed { HasStayed stand.old stand.new }
-    ensures scanned { result ≡ true → ScanMade stand.old stand.new which.now into.new 2 None }
+    ensures scanned { result ≡ true → MadeNamed stand.old stand.new which.now into.new kept.now }
     ensures notes { result ≡ false → (port_at stand.new).notes ≡ (port_at stand.old).notes }
     ensures unchanged { result ≡ false → into.new ≡ into.old }
 {

@@ -1,7 +1,7 @@
 //! How the owner of an arena sets its words to those with which the next epoch begins.
 
 ghost use Rattle.std.specs.Prelude.{◌≡◌, ◌+◌, ◌*◌, ◌<◌, ◌≤◌, []};
-ghost use Rattle.partial_words.specs.Layout.{first_free, list_base, pool_base};
+ghost use Rattle.partial_words.specs.Layout.{first_free, list_base, pool_base, slot_word};
 ghost use Rattle.partial_words.specs.Chain.{opening_word};
 ghost use Rattle.partial_long_lived.specs.Inner.Held.{IsHeld, port_at};
 ghost use Rattle.partial_long_lived.specs.Inner.Changing.{HasPassed, IsRight, Stays, Works};
@@ -10,7 +10,7 @@ use crate::change_plays::{SetLists, SetWord};
 use crate::find::{find_stamp, find_value};
 use crate::rule::Words;
 use crate::stand::Stand;
-use partial_words::Sizes;
+use partial_words::{Sizes, value_word, view_word};
 
 /// Sets all words of the arena.
 pub fn fill(words: &Words, stand: &mut Stand, arena: u32)
@@ -43,10 +43,28 @@ fn fill_front(words: &Words, stand: &mut Stand, arena: u32)
     ensures passed { HasPassed stand.old stand.new }
     ensures works { Works stand.new arena words.now.key.ports (pool_base words.now.key.sizes) }
 {
-    let last = stand.shape.sizes.list_base() - 1;
-    for word in 0..last {
+    for word in 0..stand.shape.sizes.slot_word(0) {
         let value = front_word(&stand.shape.sizes, word);
         set_word(words, stand, arena, word, value);
+    }
+    fill_slots(words, stand, arena);
+}
+
+// Sets the slots to 0, of which there are far more than other words.
+fn fill_slots(words: &Words, stand: &mut Stand, arena: u32)
+    requires held { IsHeld words.now.table_id words.now.key stand.old }
+    requires works { Works stand.old arena words.now.key.ports (slot_word words.now.key.sizes 0) }
+    requires inside { arena < words.now.key.arenas }
+    requires sealed { words.now.key.sizes.m ≤ (port_at stand.old).port.passed }
+    ensures held { IsHeld words.now.table_id words.now.key stand.new }
+    ensures stays { Stays stand.old stand.new }
+    ensures passed { HasPassed stand.old stand.new }
+    ensures works { Works stand.new arena words.now.key.ports (pool_base words.now.key.sizes) }
+{
+    let sizes = stand.shape.sizes;
+    let last = sizes.list_base() - 1;
+    for word in sizes.slot_word(0)..last {
+        set_word(words, stand, arena, word, 0);
     }
     set_lists(words, stand, arena, last);
 }
@@ -82,8 +100,8 @@ fn fill_record(words: &Words, stand: &mut Stand, arena: u32, component: u32)
     let at = stand.shape.sizes.initial_record(component);
     set_word(words, stand, arena, at, 0);
     let value = find_value(words, stand, component);
-    set_word(words, stand, arena, at + 1, value);
-    set_word(words, stand, arena, at + 2, 0);
+    set_word(words, stand, arena, value_word(u64::from(at)) as u32, value);
+    set_word(words, stand, arena, view_word(u64::from(at)) as u32, 0);
 }
 
 // Sets the stamp that a component carries into the next epoch.
@@ -104,6 +122,7 @@ fn fill_stamp(words: &Words, stand: &mut Stand, arena: u32, component: u32)
 }
 
 // Sets the next word of the arena.
+#[inline(always)]
 fn set_word(words: &Words, stand: &mut Stand, arena: u32, word: u32, value: u64)
     requires held { IsHeld words.now.table_id words.now.key stand.old }
     requires works { Works stand.old arena words.now.key.ports word }

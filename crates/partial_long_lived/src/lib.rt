@@ -31,6 +31,7 @@ mod scan;
 mod seal;
 mod seating;
 mod shape;
+mod stamped;
 mod stand;
 mod unchanged;
 mod update;

@@ -21,31 +21,35 @@ pub struct ArenaLines<'a> {
     /// The words that all threads share.
     pub words: &'a Words,
     /// The seat of the port.
-    pub stand: Stand,
+    pub stand: &'a mut Stand,
 }
 
 impl<'a> Makes for ArenaLines<'a> {
-    ghost goes = { λ l. IsGoing l.words.now.table_id l.words.now.key l.stand };
+    ghost goes = { λ l. IsGoing l.words.now.table_id l.words.now.key l.stand.now };
 
-    ghost machine = { λ l. machine_at l.stand };
+    ghost machine = { λ l. machine_at l.stand.now };
 
-    ghost leads = { λ l k. (k.words ≡ l.words) × Leads l.stand k.stand };
+    ghost leads = { λ l k. ((k.words ≡ l.words) × (k.stand.ghost_name ≡ l.stand.ghost_name)) ×
+        Leads l.stand.now k.stand.now };
 
     #[inline(always)]
     fn make(&mut self, step: Step) -> u64 {
-        make(self.words, &mut self.stand, step)
+        make(self.words, self.stand, step)
     }
 
     #[inline(always)]
     fn load(&mut self, word: u64) -> u64 {
-        make_load(self.words, &mut self.stand, word)
+        make_load(self.words, self.stand, word)
     }
 
     ghost sound = { λ l w. let m = w.under.3 in m.made.sound };
 
-    ghost leads_itself = { λ l. (refl, leads_itself l.stand) };
+    ghost leads_itself = { λ l. ((refl, refl), leads_itself l.stand.now) };
 
-    ghost leads_on = { λ l k j f g. (g.0 ∙ f.0, leads_on l.stand k.stand j.stand f.1 g.1) };
+    ghost leads_on = { λ l k j f g. (
+      (g.0.0 ∙ f.0.0, g.0.1 ∙ f.0.1),
+      leads_on l.stand.now k.stand.now j.stand.now f.1 g.1,
+    ) };
 }
 
 /// Makes the step that is due in the call of the port, and returns its answer.

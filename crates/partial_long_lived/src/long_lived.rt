@@ -4,7 +4,7 @@ ghost use Rattle.std.specs.Prelude.{◌≡◌, ◌+◌, ◌*◌, ◌∷◌, leng
 ghost use Rattle.std.specs.List.{AllByRecursion};
 ghost use Rattle.partial_words.specs.Layout.{first_free, pool_base};
 ghost use Rattle.partial_long_lived.specs.Rule.{newcomers};
-ghost use Rattle.partial_long_lived.specs.Options.{MayNotOpen, layout_for};
+ghost use Rattle.partial_long_lived.specs.Options.{MayNotOpen, MayOpen, layout_for};
 ghost use Rattle.partial_long_lived.specs.Ports.{IsOf, new_ports};
 ghost use Rattle.partial_long_lived.specs.Closing.{Closes};
 ghost use Rattle.partial_long_lived.specs.Inner.Opening.{OpensWith};
@@ -88,6 +88,7 @@ impl LongLived {
         ports: u32,
         options: Options,
     ) -> Result<(LongLived, Vec<Port>), OpenError>
+        ensures fits { IfOk result (λ _. MayOpen (length initial.now) ports options) }
         ensures sizes { IfOk result (λ r. r.0.about.sizes ≡ layout_for (length initial.now) ports options) }
         ensures limit { IfOk result (λ r. r.0.about.limit ≡ first_free r.0.about.sizes + options.pool) }
         ensures about { IfOk result (λ r. (r.0.about.ports ≡ ports) × (r.0.about.arenas ≡ 2 * ports)) }

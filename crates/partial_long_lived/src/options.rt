@@ -1,11 +1,11 @@
 //! How much an arena of a long-lived memory holds.
 
 ghost use Rattle.std.specs.Prelude.{◌≡◌, IfOk, IfErr};
-ghost use Rattle.partial_long_lived.specs.Options.{IsShapeFor, IsShapeError};
+ghost use Rattle.partial_long_lived.specs.Options.{IsShapeFor, IsShapeError, MayOpen};
 
 use crate::open_error::OpenError;
 use crate::shape::Shape;
-use partial_words::Sizes;
+use partial_words::{Sizes, full_record_size, plain_record_size};
 
 /// The most pool words behind the initial records: there is a slot for each two of them.
 const MOST_WORDS: u64 = 131_072;
@@ -45,6 +45,7 @@ impl Default for Options {
 /// records.
 pub fn shape(count: usize, ports: u32, options: Options) -> Result<Shape, OpenError>
     ensures ok { IfOk result (IsShapeFor count ports options) }
+    ensures fits { IfOk result (λ _. MayOpen count ports options) }
     ensures err { IfErr result (IsShapeError count ports options) }
 {
     if ports < 1 || ports > 64 {
@@ -57,14 +58,15 @@ pub fn shape(count: usize, ports: u32, options: Options) -> Result<Shape, OpenEr
         return Err(OpenError::Lists);
     }
     let m = count as u32;
-    let room = (4 + 2 * m) * ports;
-    let behind = u64::from(options.pool) + u64::from(room);
+    let room = full_record_size(u64::from(m)) * u64::from(ports);
+    let behind = u64::from(options.pool) + room;
     if behind > MOST_WORDS {
         return Err(OpenError::Pool);
     }
     let behind = behind as u32;
     let slots = (behind + 1) / 2;
-    let Ok(sizes) = Sizes::new(m, slots, options.lists, 3 * m + behind) else {
+    let initial = plain_record_size() as u32 * m;
+    let Ok(sizes) = Sizes::new(m, slots, options.lists, initial + behind) else {
         unreachable!()
     };
     let limit = u64::from(sizes.first_free()) + u64::from(options.pool);

@@ -36,6 +36,7 @@ impl Shape {
     }
 
     /// The word that the owner of arena `x` sets as number `i`: those of an opening first, and then the carried stamps.
+    #[inline(always)]
     pub fn set_word(&self, x: u32, i: u32) -> u64
         requires inside { x < self.now.arenas }
         requires word { i < first_free self.now.sizes + self.now.sizes.m }

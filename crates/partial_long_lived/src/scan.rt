@@ -1,15 +1,19 @@
 //! Scans.
 
-ghost use Rattle.std.specs.Prelude.{◌≡◌, ◌<◌, ◌≤◌, false, length, IfErr, IfOk, IfSome};
+ghost use Rattle.std.specs.Prelude.{◌≡◌, ◌<◌, ◌≤◌, false, length, map, slice_index, IfErr, IfOk, IfSome, Ok, Some};
 ghost use Rattle.std.specs.Option.{option_map};
+ghost use Rattle.partial_machine.specs.declared.stage.Stage.TheVariants.{Idle};
 ghost use Rattle.partial_machine.specs.Lines.{scan_asked};
-ghost use Rattle.partial_machine.specs.Sound.{AreComponents};
+ghost use Rattle.partial_machine.specs.Machine.{advance, reply_of};
+ghost use Rattle.partial_machine.specs.Possible.{IsPossible};
+ghost use Rattle.partial_machine.specs.Sound.{AreComponents, IsSound};
+ghost use Rattle.partial_lines.specs.Replies.{RestsLike, scan_reply};
 ghost use Rattle.partial_epochs.specs.History.{public_stamp};
 ghost use Rattle.partial_long_lived.specs.Inner.Held.{IsHeld, port_at};
 ghost use Rattle.partial_long_lived.specs.Inner.Calls.{IsIdle};
 ghost use Rattle.partial_long_lived.specs.Inner.Rests.{NotScanned, RestsAt};
 ghost use Rattle.partial_long_lived.specs.Inner.Scans.{HasScanned, RestsUnmarked, ScanBegun, ScanMade, SettledFirst};
-ghost use Rattle.partial_long_lived.specs.Inner.Under.{IsGoing, MayBegin};
+ghost use Rattle.partial_long_lived.specs.Inner.Under.{IsGoing, Leads, MayBegin, machine_at};
 
 use crate::arena::STAMPS;
 use crate::change::change;
@@ -43,74 +47,68 @@ fn settle_first(words: &Words, stand: &mut Stand, core: &mut Core)
     }
 }
 
-/// Makes a whole scan: by a double collect, or otherwise by one that is announced. Returns whether the port is spent in
-/// its epoch then, with how the scan was made. `kept` is where a double collect keeps words.
+/// Makes a whole scan: by a double collect, or otherwise by one that is announced. `spent` says whether the port is spent
+/// in its epoch, before and afterwards. Returns how the scan was made. `kept` is where a double collect keeps words.
 ///
 /// # Errors
 /// As those of [`change`]: the port stands where it stood, spent, and `into` is unchanged.
 pub fn scan_from(
     words: &Words,
-    mut stand: Stand,
+    stand: &mut Stand,
     core: &mut Core,
-    spent: bool,
+    spent: &mut bool,
     which: &[u32],
     kept: &mut [u64],
     into: &mut [u64],
-) -> (Stand, bool, Result<Scanned, Refused>)
-    requires held { IsHeld words.now.table_id words.now.key stand }
-    requires rests { RestsAt stand core.old spent }
+) -> Result<Scanned, Refused>
+    requires held { IsHeld words.now.table_id words.now.key stand.old }
+    requires rests { RestsAt stand.old core.old spent.old }
     requires asked { AreComponents core.old.sizes which.now }
     requires some { 0 < length which.now }
     requires room { length which.now ≤ length kept.old }
     requires lengths { length into.old ≡ length which.now }
-    ensures held { IsHeld words.now.table_id words.now.key result.0 }
-    ensures rests { RestsAt result.0 core.new result.1 }
-    ensures scanned { IfOk result.2 (λ q. HasScanned stand result.0 which.now into.new q.collects q.borrowed) }
-    ensures refused { IfErr result.2 (NotScanned stand result.0) }
-    ensures unchanged { IfErr result.2 (λ _. into.new ≡ into.old) }
+    ensures held { IsHeld words.now.table_id words.now.key stand.new }
+    ensures rests { RestsAt stand.new core.new spent.new }
+    ensures scanned { IfOk result (λ q. HasScanned stand.old stand.new which.now into.new q.collects q.borrowed) }
+    ensures refused { IfErr result (NotScanned stand.old stand.new) }
+    ensures unchanged { IfErr result (λ _. into.new ≡ into.old) }
 {
-    if double_collect(words, &mut stand, which, kept, into) {
-        let scanned = Scanned {
+    if double_collect(words, stand, which, kept, into) {
+        return Ok(Scanned {
             collects: 2,
             borrowed: None,
-        };
-        return (stand, spent, Ok(scanned));
+        });
     }
     scan_announced(words, stand, core, spent, which, into)
 }
 
 // Makes a scan that is announced. A port that is spent in its epoch changes the epoch first, which may be refused: then
-// the port stands where it stood, spent, and `into` is unchanged. Returns whether the port is spent then, with how the
-// scan was made.
+// the port stands where it stood, spent, and `into` is unchanged.
 fn scan_announced(
     words: &Words,
-    mut stand: Stand,
+    stand: &mut Stand,
     core: &mut Core,
-    spent: bool,
+    spent: &mut bool,
     which: &[u32],
     into: &mut [u64],
-) -> (Stand, bool, Result<Scanned, Refused>)
-    requires held { IsHeld words.now.table_id words.now.key stand }
-    requires rests { RestsAt stand core.old spent }
+) -> Result<Scanned, Refused>
+    requires held { IsHeld words.now.table_id words.now.key stand.old }
+    requires rests { RestsAt stand.old core.old spent.old }
     requires asked { AreComponents core.old.sizes which.now }
     requires some { 0 < length which.now }
     requires lengths { length into.old ≡ length which.now }
-    ensures held { IsHeld words.now.table_id words.now.key result.0 }
-    ensures rests { RestsAt result.0 core.new result.1 }
-    ensures scanned { IfOk result.2 (λ q. HasScanned stand result.0 which.now into.new q.collects q.borrowed) }
-    ensures refused { IfErr result.2 (NotScanned stand result.0) }
-    ensures unchanged { IfErr result.2 (λ _. into.new ≡ into.old) }
+    ensures held { IsHeld words.now.table_id words.now.key stand.new }
+    ensures rests { RestsAt stand.new core.new spent.new }
+    ensures scanned { IfOk result (λ q. HasScanned stand.old stand.new which.now into.new q.collects q.borrowed) }
+    ensures refused { IfErr result (NotScanned stand.old stand.new) }
+    ensures unchanged { IfErr result (λ _. into.new ≡ into.old) }
 {
-    if !spent {
-        let (stand, scanned, spent) = scan(words, stand, core, which, into);
-        return (stand, spent, Ok(scanned));
+    if !*spent {
+        return Ok(scan(words, stand, core, spent, which, into));
     }
-    if let Err(cause) = change(words, &mut stand, true) {
-        return (stand, true, Err(cause));
-    }
+    change(words, stand, true)?;
     core.clear_marks();
-    let (stand, scanned, spent) = make_scan(words, stand, core, which, into);
-    (stand, spent, Ok(scanned))
+    Ok(make_scan(words, stand, core, spent, which, into))
 }
 
 /// The public stamp of a record of that epoch whose view a scan has taken.
@@ -124,58 +122,88 @@ pub fn public_borrowed(epoch: u64, borrowed: Option<u64>) -> Option<u64>
     }
 }
 
-// Scans these components at once, and puts their values into `into`. The port is not spent in its epoch. Returns how
-// the scan was made, and whether the port is spent then.
+// Scans these components at once, and puts their values into `into`. The port is not spent in its epoch. `spent` says
+// whether it is then. Returns how the scan was made.
 fn scan(
     words: &Words,
-    mut stand: Stand,
+    stand: &mut Stand,
     core: &mut Core,
+    spent: &mut bool,
     which: &[u32],
     into: &mut [u64],
-) -> (Stand, Scanned, bool)
-    requires held { IsHeld words.now.table_id words.now.key stand }
-    requires idle { IsIdle stand }
-    requires rests { RestsUnmarked (port_at stand) core.old }
-    requires spare { (port_at stand).port.over ≡ false }
+) -> Scanned
+    requires held { IsHeld words.now.table_id words.now.key stand.old }
+    requires idle { IsIdle stand.old }
+    requires rests { RestsUnmarked (port_at stand.old) core.old }
+    requires spare { (port_at stand.old).port.over ≡ false }
     requires asked { AreComponents core.old.sizes which.now }
     requires some { 0 < length which.now }
     requires lengths { length into.old ≡ length which.now }
-    ensures held { IsHeld words.now.table_id words.now.key result.0 }
-    ensures scanned { HasScanned stand result.0 which.now into.new result.1.collects result.1.borrowed }
-    ensures rests { RestsUnmarked (port_at result.0) core.new }
-    ensures spent { (port_at result.0).port.over ≡ result.2 }
+    ensures held { IsHeld words.now.table_id words.now.key stand.new }
+    ensures scanned { HasScanned stand.old stand.new which.now into.new result.collects result.borrowed }
+    ensures rests { RestsUnmarked (port_at stand.new) core.new }
+    ensures spent { (port_at stand.new).port.over ≡ spent.new }
 {
-    settle_first(words, &mut stand, core);
-    make_scan(words, stand, core, which, into)
+    settle_first(words, stand, core);
+    make_scan(words, stand, core, spent, which, into)
 }
 
 // Makes the scan where the port stands, in an epoch that was the current one during the call.
 fn make_scan(
     words: &Words,
-    mut stand: Stand,
+    stand: &mut Stand,
     core: &mut Core,
+    spent: &mut bool,
     which: &[u32],
     into: &mut [u64],
-) -> (Stand, Scanned, bool)
-    requires held { IsHeld words.now.table_id words.now.key stand }
-    requires idle { IsIdle stand }
-    requires rests { RestsUnmarked (port_at stand) core.old }
-    requires spare { (port_at stand).port.over ≡ false }
+) -> Scanned
+    requires held { IsHeld words.now.table_id words.now.key stand.old }
+    requires idle { IsIdle stand.old }
+    requires rests { RestsUnmarked (port_at stand.old) core.old }
+    requires spare { (port_at stand.old).port.over ≡ false }
     requires asked { AreComponents core.old.sizes which.now }
     requires some { 0 < length which.now }
     requires lengths { length into.old ≡ length which.now }
-    requires fresh { (port_at stand).began.epoch ≤ stand.epoch }
-    ensures held { IsHeld words.now.table_id words.now.key result.0 }
-    ensures scanned { ScanMade stand result.0 which.now into.new result.1.collects result.1.borrowed }
-    ensures rests { RestsUnmarked (port_at result.0) core.new }
-    ensures spent { (port_at result.0).port.over ≡ result.2 }
+    requires fresh { (port_at stand.old).began.epoch ≤ stand.old.epoch }
+    ensures held { IsHeld words.now.table_id words.now.key stand.new }
+    ensures scanned { ScanMade stand.old stand.new which.now into.new result.collects result.borrowed }
+    ensures rests { RestsUnmarked (port_at stand.new) core.new }
+    ensures spent { (port_at stand.new).port.over ≡ spent.new }
 {
-    let at = begin_scan::<Brand>(words, &mut stand, core, which);
-    let spent = at + announcement_size(which.len() as u64) > stand.shape.limit;
-    let (lines, scanned) = partial_lines::scan(ArenaLines { words, stand }, core, which, at, into);
-    let ArenaLines { words: _, stand } = lines;
-    let Ok(scanned) = scanned else { unreachable!() };
-    (stand, scanned, spent)
+    let at = begin_scan::<Brand>(words, stand, core, which);
+    *spent = at + announcement_size(which.len() as u64) > stand.shape.limit;
+    announce(words, stand, core, which, at, into)
+}
+
+// Makes a scan behind its first step, the claim of its announcement, which was answered with `at`.
+#[inline(always)]
+fn announce(
+    words: &Words,
+    stand: &mut Stand,
+    core: &mut Core,
+    which: &[u32],
+    at: u64,
+    into: &mut [u64],
+) -> Scanned
+    requires going { IsGoing words.now.table_id words.now.key stand.old }
+    requires idle { core.old.stage ≡ Idle }
+    requires sound { IsSound core.old }
+    requires possible { IsPossible (scan_asked core.old which.now) at }
+    requires machine { machine_at stand.old ≡ advance (scan_asked core.old which.now) at }
+    requires lengths { length into.old ≡ length which.now }
+    ensures going { IsGoing words.now.table_id words.now.key stand.new }
+    ensures leads { Leads stand.old stand.new }
+    ensures replies { reply_of (machine_at stand.new) ≡ Some (scan_reply (Ok result)) }
+    ensures asked { (machine_at stand.new).asked ≡ which.now }
+    ensures rows { core.new.rows ≡ (machine_at stand.new).rows }
+    ensures rests { RestsLike (machine_at stand.new) core.new }
+    ensures copied { into.new ≡ map (slice_index core.new.rows.values) which.now }
+{
+    let mut lines = ArenaLines { words, stand };
+    let Ok(scanned) = partial_lines::scan(&mut lines, core, which, at, into) else {
+        unreachable!()
+    };
+    scanned
 }
 
 // Makes the first step of the machine `G`, which scans these positions: the claim of its announcement.

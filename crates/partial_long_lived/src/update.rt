@@ -2,14 +2,17 @@
 
 ghost use Rattle.std.specs.Prelude.{◌≡◌, ◌<◌, ◌≤◌, IfSome, IfNone, IfOk, IfErr, None, true, false};
 ghost use Rattle.partial_machine.specs.declared.stage.Stage.TheVariants.{Idle, UpdateBegun, Exchanging};
+ghost use Rattle.partial_machine.specs.Lines.{set_begun};
 ghost use Rattle.partial_machine.specs.Machine.{at_stage};
 ghost use Rattle.partial_machine.specs.Sound.{IsSound};
+ghost use Rattle.partial_lines.specs.Lines.{set_made};
+ghost use Rattle.partial_lines.specs.Replies.{RestsLike};
 ghost use Rattle.partial_long_lived.specs.Inner.Held.{IsHeld, epoch_at, port_at};
 ghost use Rattle.partial_long_lived.specs.Inner.Calls.{IsIdle, Kept};
 ghost use Rattle.partial_long_lived.specs.Inner.Changing.{IsCause};
 ghost use Rattle.partial_long_lived.specs.Inner.Machine.{Begins};
 ghost use Rattle.partial_long_lived.specs.Inner.Rests.{RestsAt};
-ghost use Rattle.partial_long_lived.specs.Inner.Under.{IsGoing, MayBegin, machine_at};
+ghost use Rattle.partial_long_lived.specs.Inner.Under.{IsGoing, Leads, MayBegin, machine_at};
 ghost use Rattle.partial_long_lived.specs.Inner.Updates.{Attempted, CameBy, ExchangeDue, ExpectsOne, IsLate, IsOwn, MayCall, NotesNothing, Updated};
 
 use crate::arena::SEAL;
@@ -27,73 +30,76 @@ use std::marker::Brand;
 /// How many epochs an update may change before it is refused.
 pub const MOST_CHANGES: u32 = 16;
 
-/// Makes an update of a port, in as many epochs as it takes. `spent` says whether the port is spent in its epoch. Returns
-/// the seat, whether the port is spent then, and how the update ended, with stamps of the epoch where the port stands.
+/// Makes an update of a port, in as many epochs as it takes. `spent` says whether the port is spent in its epoch, before
+/// and afterwards. Returns how the update ended, with stamps of the epoch where the port stands.
 ///
 /// # Errors
 /// [`Refused::Overtaken`] when the port has come to a later epoch 16 times; [`Refused::NoArena`] and
 /// [`Refused::EpochsSpent`] when the epoch has to be changed and can't be. Nothing was applied.
 pub fn update(
     words: &Words,
-    mut stand: Stand,
+    stand: &mut Stand,
     core: &mut Core,
     change: Change,
-    spent: bool,
-) -> (Stand, bool, Result<Exchanged, Refused>)
-    requires held { IsHeld words.now.table_id words.now.key stand }
-    requires rests { RestsAt stand core.old spent }
+    spent: &mut bool,
+) -> Result<Exchanged, Refused>
+    requires held { IsHeld words.now.table_id words.now.key stand.old }
+    requires rests { RestsAt stand.old core.old spent.old }
     requires inside { change.component < words.now.key.sizes.m }
     requires plain { change.expected ≡ None }
-    ensures held { IsHeld words.now.table_id words.now.key result.0 }
-    ensures rests { RestsAt result.0 core.new result.1 }
-    ensures updated { IfOk result.2 (λ r. Updated true change r stand result.0) }
-    ensures refused { IfErr result.2 (λ cause. IsLate 16 stand cause result.0 × CameBy true stand result.0) }
+    ensures held { IsHeld words.now.table_id words.now.key stand.new }
+    ensures rests { RestsAt stand.new core.new spent.new }
+    ensures updated { IfOk result (λ r. Updated true change r stand.old stand.new) }
+    ensures refused { IfErr result (λ cause. IsLate 16 stand.old cause stand.new × CameBy true stand.old stand.new) }
 {
-    if !spent {
-        return rounds(words, stand, core, change, true, MOST_CHANGES);
+    if !*spent {
+        return rounds(words, stand, core, change, spent, true, MOST_CHANGES);
     }
-    if let Err(cause) = renew(words, &mut stand, core, true) {
-        return (stand, true, Err(cause));
+    if let Err(cause) = renew(words, stand, core, true) {
+        return Err(cause);
     }
-    rounds(words, stand, core, change, false, MOST_CHANGES - 1)
+    rounds(words, stand, core, change, spent, false, MOST_CHANGES - 1)
 }
 
 // Makes an update of a port that is not spent, and changes the epoch behind each attempt that met a seal, so many times.
 // `first` says that the first step of the update is the first one of its call.
 fn rounds(
     words: &Words,
-    mut stand: Stand,
+    stand: &mut Stand,
     core: &mut Core,
     change: Change,
+    spent: &mut bool,
     first: bool,
     times: u32,
-) -> (Stand, bool, Result<Exchanged, Refused>)
-    requires held { IsHeld words.now.table_id words.now.key stand }
-    requires idle { IsIdle stand }
-    requires may { MayCall (port_at stand) core.old }
+) -> Result<Exchanged, Refused>
+    requires held { IsHeld words.now.table_id words.now.key stand.old }
+    requires idle { IsIdle stand.old }
+    requires may { MayCall (port_at stand.old) core.old }
     requires inside { change.component < words.now.key.sizes.m }
     requires plain { change.expected ≡ None }
     requires some { 0 < times }
-    ensures held { IsHeld words.now.table_id words.now.key result.0 }
-    ensures idle { IsIdle result.0 }
-    ensures rests { IsOwn (port_at result.0) core.new }
-    ensures spare { result.1 ≡ false → MayCall (port_at result.0) core.new }
-    ensures updated { IfOk result.2 (λ r. Updated first change r stand result.0) }
-    ensures refused { IfErr result.2 (λ cause. IsLate times stand cause result.0 × CameBy first stand result.0) }
+    ensures held { IsHeld words.now.table_id words.now.key stand.new }
+    ensures idle { IsIdle stand.new }
+    ensures rests { IsOwn (port_at stand.new) core.new }
+    ensures spare { spent.new ≡ false → MayCall (port_at stand.new) core.new }
+    ensures updated { IfOk result (λ r. Updated first change r stand.old stand.new) }
+    ensures refused { IfErr result (λ cause.
+        IsLate times stand.old cause stand.new × CameBy first stand.old stand.new) }
 {
     let mut first_step = first;
     for _ in 0..times {
-        let (behind, ended) = attempt(words, stand, core, change, first_step);
-        stand = behind;
-        if let Some((exchanged, spent)) = ended {
-            return (stand, spent, Ok(exchanged));
+        if let Some((exchanged, used)) = attempt(words, stand, core, change, first_step) {
+            *spent = used;
+            return Ok(exchanged);
         }
-        if let Err(cause) = renew(words, &mut stand, core, false) {
-            return (stand, true, Err(cause));
+        if let Err(cause) = renew(words, stand, core, false) {
+            *spent = true;
+            return Err(cause);
         }
         first_step = false;
     }
-    (stand, false, Err(Refused::Overtaken))
+    *spent = false;
+    Err(Refused::Overtaken)
 }
 
 /// Changes the epoch of a port, whose machine is a new one then. `first` says that its look is the first step of a call.
@@ -123,44 +129,39 @@ pub fn renew(words: &Words, stand: &mut Stand, core: &mut Core, first: bool) -> 
 /// spent. `first` says that the first step of the update is the first one of its call.
 pub fn attempt(
     words: &Words,
-    mut stand: Stand,
+    stand: &mut Stand,
     core: &mut Core,
     change: Change,
     first: bool,
-) -> (Stand, Option<(Exchanged, bool)>)
-    requires held { IsHeld words.now.table_id words.now.key stand }
-    requires idle { IsIdle stand }
-    requires may { MayCall (port_at stand) core.old }
+) -> Option<(Exchanged, bool)>
+    requires held { IsHeld words.now.table_id words.now.key stand.old }
+    requires idle { IsIdle stand.old }
+    requires may { MayCall (port_at stand.old) core.old }
     requires inside { change.component < words.now.key.sizes.m }
-    requires expects { ExpectsOne (port_at stand) change }
-    ensures held { IsHeld words.now.table_id words.now.key result.0 }
-    ensures attempted { IfSome result.1 (λ r. Attempted first change r.0 stand result.0) }
-    ensures sealed { IfNone result.1 (NotesNothing first stand result.0) }
-    ensures rests { IsOwn (port_at result.0) core.new }
-    ensures spare { IfSome result.1 (λ r. r.1 ≡ false → MayCall (port_at result.0) core.new) }
+    requires expects { ExpectsOne (port_at stand.old) change }
+    ensures held { IsHeld words.now.table_id words.now.key stand.new }
+    ensures attempted { IfSome result (λ r. Attempted first change r.0 stand.old stand.new) }
+    ensures sealed { IfNone result (NotesNothing first stand.old stand.new) }
+    ensures rests { IsOwn (port_at stand.new) core.new }
+    ensures spare { IfSome result (λ r. r.1 ≡ false → MayCall (port_at stand.new) core.new) }
 {
-    let old = begin::<Brand>(words, &mut stand, core, change, first);
+    let old = begin::<Brand>(words, stand, core, change, first);
     if old >= SEAL {
-        return (stand, None);
+        return None;
     }
     if let Some(expected) = change.expected {
         if expected != old {
-            return (stand, Some((Exchanged::Overtaken { by: old }, false)));
+            return Some((Exchanged::Overtaken { by: old }, false));
         }
     }
-    let (lines, written) = put(ArenaLines { words, stand }, core, change, old);
-    let ArenaLines {
-        words: _,
-        mut stand,
-    } = lines;
-    let Some(at) = written else { unreachable!() };
-    let found = exchange(words, &mut stand, change, old, at);
+    let at = write(words, stand, core, change, old);
+    let found = exchange(words, stand, change, old, at);
     if found >= SEAL && found % SEAL == old {
-        return (stand, None);
+        return None;
     }
     let greatest = full_record_size(u64::from(stand.shape.sizes.m()));
     let spent = at + greatest > stand.shape.limit;
-    (stand, Some((Exchanged::of(old, at, found % SEAL), spent)))
+    Some((Exchanged::of(old, at, found % SEAL), spent))
 }
 
 // Makes the first step of an update in the port's epoch, the load of its component word, and returns the word. `G` is the
@@ -187,6 +188,26 @@ fn begin<G: Moment>(
     } else {
         words.load::<BeginAgain<G>>(&mut stand.seat, word as usize)
     }
+}
+
+// Makes an update that has loaded `old` as its component's record up to the exchange of the component, which is due then.
+// Returns the reference of its record.
+#[inline(always)]
+fn write(words: &Words, stand: &mut Stand, core: &mut Core, change: Change, old: u64) -> u64
+    requires going { IsGoing words.now.table_id words.now.key stand.old }
+    requires idle { core.old.stage ≡ Idle }
+    requires sound { IsSound core.old }
+    requires machine { machine_at stand.old ≡ set_made (set_begun core.old) change old }
+    ensures going { IsGoing words.now.table_id words.now.key stand.new }
+    ensures leads { Leads stand.old stand.new }
+    ensures due { (machine_at stand.new).stage ≡ Exchanging change old result }
+    ensures rests { RestsLike (machine_at stand.new) core.new }
+{
+    let mut lines = ArenaLines { words, stand };
+    let Some(at) = put(&mut lines, core, change, old) else {
+        unreachable!()
+    };
+    at
 }
 
 // Exchanges the component of an update whose record lies at `at`, and returns the word that was found.

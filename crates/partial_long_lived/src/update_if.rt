@@ -39,42 +39,41 @@ pub enum Compared {
 }
 
 /// Makes a conditional update of a port, in as many epochs as it takes. `spent` says whether the port is spent in its
-/// epoch. Returns the seat, whether the port is spent then, and how the update ended. An update that finds another stamp
-/// needs no claim, so a spent port ends it in its epoch.
+/// epoch, before and afterwards. Returns how the update ended. An update that finds another stamp needs no claim, so a
+/// spent port ends it in its epoch.
 ///
 /// # Errors
 /// [`Refused::Overtaken`] when the port has come to a later epoch 16 times; [`Refused::NoArena`] and
 /// [`Refused::EpochsSpent`] when the epoch has to be changed and can't be. Nothing was applied.
 pub fn update_if(
     words: &Words,
-    mut stand: Stand,
+    stand: &mut Stand,
     core: &mut Core,
     asked: Asked,
-    spent: bool,
-) -> (Stand, bool, Result<UpdatedIf, Refused>)
-    requires held { IsHeld words.now.table_id words.now.key stand }
-    requires rests { RestsAt stand core.old spent }
+    spent: &mut bool,
+) -> Result<UpdatedIf, Refused>
+    requires held { IsHeld words.now.table_id words.now.key stand.old }
+    requires rests { RestsAt stand.old core.old spent.old }
     requires inside { asked.component < words.now.key.sizes.m }
-    ensures held { IsHeld words.now.table_id words.now.key result.0 }
-    ensures rests { RestsAt result.0 core.new result.1 }
-    ensures updated { IfOk result.2 (λ r. HasUpdatedIf asked r stand result.0) }
-    ensures refused { IfErr result.2 (λ cause. IsLate 16 stand cause result.0 × CameBy true stand result.0) }
+    ensures held { IsHeld words.now.table_id words.now.key stand.new }
+    ensures rests { RestsAt stand.new core.new spent.new }
+    ensures updated { IfOk result (λ r. HasUpdatedIf asked r stand.old stand.new) }
+    ensures refused { IfErr result (λ cause. IsLate 16 stand.old cause stand.new × CameBy true stand.old stand.new) }
 {
     let mut first = true;
-    let mut used = spent;
     for _ in 0..MOST_CHANGES {
-        let (behind, ended) = round(words, stand, core, asked, first, used);
-        stand = behind;
-        if let Some((updated, spent)) = ended {
-            return (stand, spent, Ok(updated));
+        if let Some((updated, used)) = round(words, stand, core, asked, first, *spent) {
+            *spent = used;
+            return Ok(updated);
         }
-        if let Err(cause) = renew(words, &mut stand, core, false) {
-            return (stand, true, Err(cause));
+        if let Err(cause) = renew(words, stand, core, false) {
+            *spent = true;
+            return Err(cause);
         }
         first = false;
-        used = false;
+        *spent = false;
     }
-    (stand, false, Err(Refused::Overtaken))
+    Err(Refused::Overtaken)
 }
 
 // Makes a conditional update in the port's epoch. Returns how it ended, and whether the port is spent then; or `None` when
@@ -82,45 +81,44 @@ pub fn update_if(
 // first step is the first one of the call; else the epoch was the current one during the call.
 fn round(
     words: &Words,
-    mut stand: Stand,
+    stand: &mut Stand,
     core: &mut Core,
     asked: Asked,
     first: bool,
     spent: bool,
-) -> (Stand, Option<(UpdatedIf, bool)>)
-    requires held { IsHeld words.now.table_id words.now.key stand }
-    requires idle { IsIdle stand }
-    requires own { IsOwn (port_at stand) core.old }
-    requires may { spent ≡ false → MayCall (port_at stand) core.old }
+) -> Option<(UpdatedIf, bool)>
+    requires held { IsHeld words.now.table_id words.now.key stand.old }
+    requires idle { IsIdle stand.old }
+    requires own { IsOwn (port_at stand.old) core.old }
+    requires may { spent ≡ false → MayCall (port_at stand.old) core.old }
     requires inside { asked.component < words.now.key.sizes.m }
-    requires fresh { first ≡ false → (port_at stand).began.epoch ≤ stand.epoch }
-    ensures held { IsHeld words.now.table_id words.now.key result.0 }
-    ensures ended { IfSome result.1 (λ r. EndedIf first asked r.0 stand result.0) }
-    ensures none { IfNone result.1 (NotesNothing first stand result.0) }
-    ensures own { IsOwn (port_at result.0) core.new }
-    ensures spare { IfSome result.1 (λ r. r.1 ≡ false → MayCall (port_at result.0) core.new) }
+    requires fresh { first ≡ false → (port_at stand.old).began.epoch ≤ stand.old.epoch }
+    ensures held { IsHeld words.now.table_id words.now.key stand.new }
+    ensures ended { IfSome result (λ r. EndedIf first asked r.0 stand.old stand.new) }
+    ensures none { IfNone result (NotesNothing first stand.old stand.new) }
+    ensures own { IsOwn (port_at stand.new) core.new }
+    ensures spare { IfSome result (λ r. r.1 ≡ false → MayCall (port_at stand.new) core.new) }
 {
-    let at = match compare(words, &mut stand, asked, first) {
-        Compared::Sealed => return (stand, None),
+    let at = match compare(words, stand, asked, first) {
+        Compared::Sealed => return None,
         Compared::Other { stamp } => {
-            return (stand, Some((UpdatedIf::Changed { by: stamp }, spent)));
+            return Some((UpdatedIf::Changed { by: stamp }, spent));
         }
         Compared::Same { at } => at,
     };
     if spent {
-        return (stand, None);
+        return None;
     }
     let change = Change {
         component: asked.component,
         expected: Some(at),
         value: asked.value,
     };
-    let (mut behind, ended) = attempt(words, stand, core, change, false);
-    let Some((exchanged, spent)) = ended else {
-        return (behind, None);
+    let Some((exchanged, spent)) = attempt(words, stand, core, change, false) else {
+        return None;
     };
-    let updated = public_outcome(words, &mut behind, asked.component, exchanged);
-    (behind, Some((updated, spent)))
+    let updated = public_outcome(words, stand, asked.component, exchanged);
+    Some((updated, spent))
 }
 
 // Compares the public stamp of a component with the expected one.

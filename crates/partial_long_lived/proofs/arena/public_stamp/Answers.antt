@@ -1,9 +1,4 @@
-use Rattle.std.proofs.Common.{◌≡◌, ◌+◌, ◌*◌, Bool, cond, length, sym, ap, ◌∙◌, arith}
-use Rattle.partial_words.specs.Layout.{first_free}
-use Rattle.partial_epochs.specs.Layout.{Plan}
-use Rattle.partial_epochs.specs.History.{carried_behind, public_stamp}
-use Rattle.partial_epochs.proofs.Places.{not_below}
-use Rattle.partial_long_lived.specs.Inner.Held.{port_at}
+use Rattle.partial_long_lived.proofs.Common.{◌≡◌, ◌+◌, ◌*◌, Bool, cond, length, sym, ap, ◌∙◌, arith, first_free, Plan, carried_behind, public_stamp, not_below, port_at}
 use Rattle.partial_long_lived.proofs.arena.public_stamp.Goals as goal
 
 pub returns-else-at-from-clause-stamp : goal.returns-else-at-from-clause-stamp

@@ -1,5 +1,4 @@
-use Rattle.std.proofs.Common.{false, ◌<◌, arith}
-use Rattle.partial_long_lived.specs.Inner.Loads.Wish.{Reads}
+use Rattle.partial_long_lived.proofs.Common.{false, ◌<◌, arith, Reads}
 use Rattle.partial_long_lived.proofs.Standing.{component_there, see_asked}
 use Rattle.partial_long_lived.proofs.arena.read_again.Goals as goal
 

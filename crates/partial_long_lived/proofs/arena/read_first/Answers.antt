@@ -1,5 +1,4 @@
-use Rattle.std.proofs.Common.{true, ◌<◌, arith}
-use Rattle.partial_long_lived.specs.Inner.Loads.Wish.{Reads}
+use Rattle.partial_long_lived.proofs.Common.{true, ◌<◌, arith, Reads}
 use Rattle.partial_long_lived.proofs.Standing.{component_there, see_asked}
 use Rattle.partial_long_lived.proofs.arena.read_first.Goals as goal
 

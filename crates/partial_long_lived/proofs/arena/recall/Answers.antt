@@ -1,4 +1,4 @@
-use Rattle.std.proofs.Common.{sym, subst, ◌<◌}
+use Rattle.partial_long_lived.proofs.Common.{sym, subst, ◌<◌}
 use Rattle.partial_long_lived.proofs.Sights.{may_recall}
 use Rattle.partial_long_lived.proofs.arena.recall.Goals as goal
 

@@ -1,4 +1,4 @@
-use Rattle.std.proofs.Common.{◌+◌, ◌*◌, ap}
+use Rattle.partial_long_lived.proofs.Common.{◌+◌, ◌*◌, ap}
 use Rattle.partial_long_lived.proofs.Asked.{publish_asked}
 use Rattle.partial_long_lived.proofs.Standing.{some_word}
 use Rattle.partial_long_lived.proofs.Working.{publish_owns}

@@ -1,6 +1,4 @@
-use Rattle.partial_long_lived.specs.Inner.Held.{IsHeld}
-use Rattle.partial_long_lived.specs.Inner.Calls.{IsIdle}
-use Rattle.partial_long_lived.specs.Inner.Changing.{Remains}
+use Rattle.partial_long_lived.proofs.Common.{IsHeld, IsIdle, Remains}
 use Rattle.partial_long_lived.proofs.claim.claim_one.Given as goal
 
 abbrev pub invariant-loop-arena : goal.invariant-loop-arena

@@ -1,4 +1,4 @@
-use Rattle.std.proofs.Common.{◌+◌, ap}
+use Rattle.partial_long_lived.proofs.Common.{◌+◌, ap}
 use Rattle.partial_long_lived.proofs.Asked.{own_there, take_asked}
 use Rattle.partial_long_lived.proofs.claim.take.Goals as goal
 

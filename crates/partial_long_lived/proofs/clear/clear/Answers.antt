@@ -1,5 +1,4 @@
-use Rattle.std.proofs.Common.{false, refl}
-use Rattle.partial_epochs.specs.Owning.{just_taken}
+use Rattle.partial_long_lived.proofs.Common.{false, refl, just_taken}
 use Rattle.partial_long_lived.proofs.Looking.{away_owns, away_past, looked_remains, taken_works}
 use Rattle.partial_long_lived.proofs.clear.clear.Goals as goal
 

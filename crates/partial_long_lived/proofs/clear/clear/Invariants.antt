@@ -1,5 +1,4 @@
-use Rattle.partial_long_lived.specs.Inner.Held.{IsHeld}
-use Rattle.partial_long_lived.specs.Inner.Changing.{Remains, Works}
+use Rattle.partial_long_lived.proofs.Common.{IsHeld, Remains, Works}
 use Rattle.partial_long_lived.proofs.clear.clear.Given as goal
 
 abbrev pub invariant-loop-port : goal.invariant-loop-port

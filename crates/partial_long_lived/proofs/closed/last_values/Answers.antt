@@ -1,9 +1,5 @@
-use Rattle.std.proofs.Common.{rules, ℕ, ◌≡◌, ◌+◌, ◌<◌, slice_index, ap, sym, ◌∙◌, subst, arith}
-use mathlib.Core.Option.{some}
-use lib.ListN.{get_elem?}
-use Rattle.std.specs.Slots.{slots_items}
-use Rattle.partial_long_lived.specs.Shape.{bare, shape_plan}
-use Rattle.partial_long_lived.specs.Inner.Last.{value_now}
+use Rattle.partial_long_lived.proofs.Common.{rules, ℕ, ◌≡◌, ◌+◌, ◌<◌, ap, sym, ◌∙◌, subst, arith, some, get_elem?, slots_items, bare, shape_plan, value_now}
+use Rattle.std.proofs.Common.{slice_index}
 use Rattle.partial_long_lived.proofs.LastValues.{value_at, value_more}
 use Rattle.partial_long_lived.proofs.closed.last_values.Goals as goal
 

@@ -1,9 +1,5 @@
-use Rattle.std.proofs.Common.{◌≡◌, ◌≤◌, ◌<◌, length, ℕ, slice_index}
-use Rattle.std.specs.Vec.{vec_capacity}
-use Rattle.std.specs.Slots.{slots_items}
-use Rattle.partial_epochs.specs.Layout.{base}
-use Rattle.partial_long_lived.specs.Shape.{bare, shape_plan}
-use Rattle.partial_long_lived.specs.Inner.Last.{arena_now, value_now}
+use Rattle.partial_long_lived.proofs.Common.{◌≡◌, ◌≤◌, ◌<◌, length, ℕ, vec_capacity, slots_items, base, bare, shape_plan, arena_now, value_now}
+use Rattle.std.proofs.Common.{slice_index}
 use Rattle.partial_long_lived.proofs.closed.last_values.Given as goal
 
 -- the values of the first j components

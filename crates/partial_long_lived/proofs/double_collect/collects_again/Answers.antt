@@ -1,4 +1,4 @@
-use Rattle.std.proofs.Common.{arith}
+use Rattle.partial_long_lived.proofs.Common.{arith}
 use Rattle.partial_long_lived.proofs.Collects.{collects_same, glanced_by, glanced_idle, glanced_itself, glanced_on, glanced_seen}
 use Rattle.partial_long_lived.proofs.double_collect.collects_again.Goals as goal
 

@@ -1,7 +1,4 @@
-use Rattle.std.proofs.Common.{length}
-use Rattle.partial_long_lived.specs.Inner.Held.{IsHeld, port_at}
-use Rattle.partial_long_lived.specs.Inner.Calls.{IsIdle}
-use Rattle.partial_long_lived.specs.Inner.DoubleCollect.{AreCollected, HasGlanced}
+use Rattle.partial_long_lived.proofs.Common.{length, IsHeld, port_at, IsIdle, AreCollected, HasGlanced}
 use Rattle.partial_long_lived.proofs.double_collect.collects_again.Given as goal
 
 abbrev pub invariant-loop-k : goal.invariant-loop-k

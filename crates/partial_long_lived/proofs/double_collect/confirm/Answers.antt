@@ -1,7 +1,5 @@
-use Rattle.std.proofs.Common.{ℕ, List, length, sym, subst, ◌∙◌}
-use Rattle.partial_long_lived.specs.Inner.DoubleCollect.{MayNote, NotesScan}
-use Rattle.partial_long_lived.specs.Inner.Held.{port_at}
-use Rattle.partial_long_lived.proofs.DoubleCollect.{may_together, together_scanned, together_stayed}
+use Rattle.partial_long_lived.proofs.Common.{ℕ, List, length, sym, subst, ◌∙◌, MayNote, NotesScan, port_at}
+use Rattle.partial_long_lived.proofs.DoubleCollect.{may_together, together_named, together_stayed}
 use Rattle.partial_long_lived.proofs.double_collect.confirm.Goals as goal
 
 pub load_noting-requires-clause-may : goal.load_noting-requires-clause-may
@@ -26,7 +24,7 @@ returns-clause-scanned g c = λ made.
     let r = c.requires in
     let l = c.load_values.ensures in
     let n = c.load_noting.ensures in
-    together_scanned _ _ _ _ _ r.held r.idle c.args.which.now c.args.kept.now r.inside r.some r.collected r.time c.collects_again.ensures.glanced l.kept l.same _ n.kept n.noted.0 _
+    together_named _ _ _ _ _ r.held r.idle c.args.which.now c.args.kept.now r.inside r.some r.collected r.time c.collects_again.ensures.glanced l.kept l.same _ n.kept n.noted.0 _
     (subst (λ m. NotesScan c.args.which.now m n.noted.0 (port_at c.load_values.new.stand) c.load_noting.result (port_at c.load_noting.new.stand)) r.entries
     (subst (λ (js : List ℕ). NotesScan js g.G.Together.entries n.noted.0 (port_at c.load_values.new.stand) c.load_noting.result (port_at c.load_noting.new.stand)) r.which n.noted.1))
     _ (c.collects_again.ensures.collected c.if-not-collects_again.false) l.values (l.lengths ∙ r.lengths) n.value

@@ -1,6 +1,6 @@
 use Rattle.partial_long_lived.proofs.Collects.{glanced_stayed, stayed_on}
 use Rattle.partial_long_lived.proofs.DoubleCollect.{settled_on}
-use Rattle.partial_long_lived.proofs.Scans.{has_scanned}
+use Rattle.partial_long_lived.proofs.Scans.{has_named}
 use Rattle.partial_long_lived.proofs.double_collect.double_collect.Goals as goal
 
 pub returns-clause-stayed : goal.returns-clause-stayed
@@ -11,4 +11,4 @@ returns-clause-stayed c =
 pub returns-clause-scanned : goal.returns-clause-scanned
 returns-clause-scanned c = λ made.
     let begun = rw c.in-Some.is at c.begin.ensures.begun in
-    has_scanned _ _ _ _ _ _ _ (settled_on _ _ _ begun.settled c.collect.ensures.glanced) (c.confirm.ensures.scanned made)
+    has_named _ _ _ _ _ _ (settled_on _ _ _ begun.settled c.collect.ensures.glanced) (c.confirm.ensures.scanned made)

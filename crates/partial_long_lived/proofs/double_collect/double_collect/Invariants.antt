@@ -1,5 +1,4 @@
-use Rattle.std.proofs.Common.{length}
-use Rattle.partial_long_lived.specs.Inner.Held.{port_at}
+use Rattle.partial_long_lived.proofs.Common.{length, port_at}
 use Rattle.partial_long_lived.proofs.double_collect.double_collect.Given as goal
 
 -- what the port notes: the components, behind all that it has seen as the second collect begins

@@ -1,5 +1,4 @@
-use Rattle.std.proofs.Common.{true, ◌<◌, arith}
-use Rattle.partial_long_lived.specs.Inner.Loads.Wish.{Glances}
+use Rattle.partial_long_lived.proofs.Common.{true, ◌<◌, arith, Glances}
 use Rattle.partial_long_lived.proofs.Standing.{component_there, see_asked}
 use Rattle.partial_long_lived.proofs.double_collect.glance_first.Goals as goal
 

@@ -1,7 +1,4 @@
-use Rattle.std.proofs.Common.{◌≡◌, length}
-use Rattle.partial_long_lived.specs.Inner.Held.{IsHeld, port_at}
-use Rattle.partial_long_lived.specs.Inner.Calls.{Kept}
-use Rattle.partial_long_lived.specs.Inner.DoubleCollect.{HadValues}
+use Rattle.partial_long_lived.proofs.Common.{◌≡◌, length, IsHeld, port_at, Kept, HadValues}
 use Rattle.partial_long_lived.proofs.double_collect.load_values.Given as goal
 
 abbrev pub invariant-loop-k : goal.invariant-loop-k

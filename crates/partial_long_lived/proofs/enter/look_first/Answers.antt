@@ -1,4 +1,4 @@
-use Rattle.std.proofs.Common.{true}
+use Rattle.partial_long_lived.proofs.Common.{true}
 use Rattle.partial_long_lived.proofs.Control.{may_look}
 use Rattle.partial_long_lived.proofs.Standing.{some_word, own_look}
 use Rattle.partial_long_lived.proofs.enter.look_first.Goals as goal

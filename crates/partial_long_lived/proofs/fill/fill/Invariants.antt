@@ -1,7 +1,4 @@
-use Rattle.std.proofs.Common.{◌+◌, ◌*◌, ◌≤◌}
-use Rattle.partial_words.specs.Layout.{first_free, pool_base}
-use Rattle.partial_long_lived.specs.Inner.Held.{IsHeld, port_at}
-use Rattle.partial_long_lived.specs.Inner.Changing.{Stays, Works}
+use Rattle.partial_long_lived.proofs.Common.{◌+◌, ◌*◌, ◌≤◌, first_free, pool_base, IsHeld, port_at, Stays, Works}
 use Rattle.partial_long_lived.proofs.fill.fill.Given as goal
 
 abbrev pub invariant-loop-component : goal.invariant-loop-component

@@ -1,7 +1,4 @@
-use Rattle.std.proofs.Common.{◌≡◌, ◌+◌, ◌≤◌}
-use Rattle.partial_words.specs.Layout.{list_base}
-use Rattle.partial_long_lived.specs.Inner.Held.{IsHeld, port_at}
-use Rattle.partial_long_lived.specs.Inner.Changing.{HasPassed, Stays, Works}
+use Rattle.partial_long_lived.proofs.Common.{◌≤◌, IsHeld, port_at, HasPassed, Stays, Works}
 use Rattle.partial_long_lived.proofs.fill.fill_front.Given as goal
 
 abbrev pub invariant-loop-word : goal.invariant-loop-word
@@ -11,5 +8,4 @@ invariant-loop-word l = record {
   passed : HasPassed l.fn.stand l.stand;
   sealed : l.words.key.sizes.m ≤ (port_at l.stand).port.passed;
   works : Works l.stand l.arena l.words.key.ports l.word;
-  last : l.last + 1 ≡ list_base l.words.key.sizes;
 }

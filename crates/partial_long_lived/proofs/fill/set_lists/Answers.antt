@@ -1,6 +1,4 @@
-use Rattle.std.proofs.Common.{◌<◌, ◌+◌, ap, arith}
-use Rattle.partial_words.specs.Layout.{first_free}
-use Rattle.partial_long_lived.specs.declared.rule.About.{About}
+use Rattle.partial_long_lived.proofs.Common.{◌<◌, ◌+◌, ap, arith, first_free, About}
 use Rattle.partial_long_lived.proofs.Asked.{set_lists_asked, set_there}
 use Rattle.partial_long_lived.proofs.Working.{set_lists_works}
 use Rattle.partial_long_lived.proofs.fill.set_lists.Goals as goal

@@ -1,6 +1,4 @@
-use Rattle.std.proofs.Common.{◌<◌, false, arith}
-use Rattle.partial_long_lived.specs.Inner.Held.{port_at}
-use Rattle.partial_long_lived.specs.Inner.Loads.Wish.{Finds}
+use Rattle.partial_long_lived.proofs.Common.{◌<◌, false, arith, port_at, Finds}
 use Rattle.partial_long_lived.proofs.Standing.{component_there, see_asked}
 use Rattle.partial_long_lived.proofs.find.find.Goals as goal
 

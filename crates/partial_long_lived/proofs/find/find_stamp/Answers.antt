@@ -1,9 +1,4 @@
-use Rattle.std.proofs.Common.{refl, sym, ap, ◌∙◌}
-use Rattle.partial_epochs.specs.Notes.{public_of}
-use Rattle.partial_long_lived.specs.declared.rule.About.{About}
-use Rattle.partial_long_lived.specs.Rule.{Seated, plan_of}
-use Rattle.partial_long_lived.specs.Inner.Held.{port_at}
-use Rattle.partial_long_lived.specs.Inner.Loads.{stamp_seen, value_seen}
+use Rattle.partial_long_lived.proofs.Common.{refl, sym, ap, ◌∙◌, public_of, About, Seated, plan_of, port_at, stamp_seen, value_seen}
 use Rattle.partial_long_lived.proofs.find.find_stamp.Goals as goal
 
 pub returns-clause-found : goal.returns-clause-found

@@ -1,7 +1,4 @@
-use Rattle.std.proofs.Common.{refl, ap, ◌∙◌}
-use Rattle.partial_long_lived.specs.Rule.{Seated}
-use Rattle.partial_long_lived.specs.Inner.Held.{port_at}
-use Rattle.partial_long_lived.specs.Inner.Loads.{stamp_seen, value_seen}
+use Rattle.partial_long_lived.proofs.Common.{refl, ap, ◌∙◌, Seated, port_at, stamp_seen, value_seen}
 use Rattle.partial_long_lived.proofs.find.find_value.Goals as goal
 
 pub returns-clause-found : goal.returns-clause-found

@@ -1,8 +1,5 @@
-use Rattle.std.proofs.Common.{◌≡◌, ◌+◌, length, ℕ, ◌<◌, ◌≤◌, slice_index}
-use Rattle.partial_words.specs.Layout.{first_free, initial_record, total}
-use Rattle.partial_words.specs.Chain.{opening_word}
-use Rattle.partial_epochs.specs.Layout.{whole}
-use Rattle.partial_long_lived.specs.Shape.{bare, shape_plan}
+use Rattle.partial_long_lived.proofs.Common.{◌≡◌, ◌+◌, length, ℕ, ◌<◌, ◌≤◌, first_free, initial_record, total, opening_word, whole, bare, shape_plan}
+use Rattle.std.proofs.Common.{slice_index}
 use Rattle.partial_long_lived.proofs.long_lived.opening_words.Given as goal
 
 -- the first w words of the arena are those of an opening, and the control words are 0

@@ -1,5 +1,4 @@
-use Rattle.std.proofs.Common.{rules, ◌≡◌, ◌∙◌, List, [], ◌∷◌, ap}
-use Rattle.partial_long_lived.specs.Rule.{Seated, one_of}
+use Rattle.partial_long_lived.proofs.Common.{rules, ◌∙◌, List, [], ◌∷◌, ap, Seated, one_of}
 use Rattle.partial_long_lived.proofs.Meeting.{may_observe, together}
 use Rattle.partial_long_lived.proofs.Meets.{deals, gathers}
 use Rattle.partial_long_lived.proofs.meet.look_together.Goals as goal

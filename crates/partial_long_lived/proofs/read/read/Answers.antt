@@ -1,9 +1,4 @@
-use Rattle.std.proofs.Common.{◌≤◌, not, true, false, length, refl, ap, arith}
-use Rattle.std.proofs.lemmas.Bool.{lt-ltb}
-use Rattle.partial_epochs.specs.Layout.{seal}
-use Rattle.partial_long_lived.specs.Rule.{Began, Seated}
-use Rattle.partial_long_lived.specs.Ports.{seen_in}
-use Rattle.partial_long_lived.specs.Inner.Held.{port_at}
+use Rattle.partial_long_lived.proofs.Common.{◌≤◌, not, true, false, length, refl, ap, arith, lt-ltb, seal, Began, Seated, seen_in, port_at}
 use Rattle.partial_long_lived.proofs.Coming.{come_itself, read_ends, settled_began, settled_come, settled_fresh, settled_notes}
 use Rattle.partial_long_lived.proofs.read.read.Goals as goal
 use Rattle.partial_long_lived.proofs.read.read.Goals.{then-found-ge-SEAL, else-found-ge-SEAL}

@@ -1,4 +1,4 @@
-use Rattle.std.proofs.Common.{refl, ◌∙◌}
+use Rattle.partial_long_lived.proofs.Common.{refl, ◌∙◌}
 use Rattle.partial_long_lived.proofs.Scans.{claim_asked, claim_there, scan_begun, scan_going}
 use Rattle.partial_long_lived.proofs.scan.begin_scan.Goals as goal
 

@@ -1,21 +1,16 @@
-use Rattle.std.proofs.Common.{Some, ap, ◌∙◌}
-use Rattle.partial_lines.specs.Replies.{scan_reply}
 use Rattle.partial_long_lived.proofs.Scans.{scan_begins, scan_made, scan_rests}
 use Rattle.partial_long_lived.proofs.scan.make_scan.Goals as goal
 
 pub returns-clause-scanned : goal.returns-clause-scanned
 returns-clause-scanned c =
     let r = c.requires in
-    let end = c.scan-lines.ensures in
+    let end = c.announce.ensures in
     let begins = scan_begins _ _ _ c.args.core.now c.args.which.now r.held r.idle r.rests r.spare r.asked r.some in
-    let copied = rw c.in-Ok.is at end.copied in
-    let replies = end.replies ∙ ap (λ q. Some (scan_reply q)) c.in-Ok.is in
-    scan_made _ _ _ _ _ r.held r.idle c.args.core.now c.args.which.now begins _ c.begin_scan-at.ensures.begun end.leads.1 _ _ replies _ c.scan-lines.new.core.rows copied end.asked end.rows r.fresh
+    scan_made _ _ _ _ _ r.held r.idle c.args.core.now c.args.which.now begins _ c.begin_scan-at.ensures.begun end.leads _ _ end.replies _ c.announce.new.core.rows end.copied end.asked end.rows r.fresh
 
 pub returns-clause-rests : goal.returns-clause-rests
 returns-clause-rests c =
     let r = c.requires in
-    let end = c.scan-lines.ensures in
+    let end = c.announce.ensures in
     let begins = scan_begins _ _ _ c.args.core.now c.args.which.now r.held r.idle r.rests r.spare r.asked r.some in
-    let replies = end.replies ∙ ap (λ q. Some (scan_reply q)) c.in-Ok.is in
-    scan_rests _ _ _ _ _ r.held r.idle c.args.core.now c.args.which.now begins _ c.begin_scan-at.ensures.begun end.leads.1 _ _ replies _ r.rests end.rests
+    scan_rests _ _ _ _ _ r.held r.idle c.args.core.now c.args.which.now begins _ c.begin_scan-at.ensures.begun end.leads _ _ end.replies _ r.rests end.rests

@@ -1,4 +1,4 @@
-use Rattle.std.proofs.Common.{◌+◌, ap, ◌∙◌, arith}
+use Rattle.partial_long_lived.proofs.Common.{◌+◌, ap, ◌∙◌, arith}
 use Rattle.partial_long_lived.proofs.Asked.{pass_asked, seal_asked}
 use Rattle.partial_long_lived.proofs.Standing.{component_there}
 use Rattle.partial_long_lived.proofs.seal.pass.Goals as goal

@@ -1,7 +1,4 @@
-use Rattle.std.proofs.Common.{◌≡◌}
-use Rattle.partial_long_lived.specs.Inner.Held.{IsHeld}
-use Rattle.partial_long_lived.specs.Inner.Calls.{IsIdle}
-use Rattle.partial_long_lived.specs.Inner.Changing.{IsSame, Stays}
+use Rattle.partial_long_lived.proofs.Common.{◌≡◌, IsHeld, IsIdle, IsSame, Stays}
 use Rattle.partial_long_lived.proofs.seal.seal.Given as goal
 
 abbrev pub invariant-loop : goal.invariant-loop

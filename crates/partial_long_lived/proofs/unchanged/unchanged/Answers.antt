@@ -1,8 +1,4 @@
-use Rattle.std.proofs.Common.{◌<◌, sym, ap, ◌∙◌, arith}
-use Rattle.std.specs.Prelude.{slice_index}
-use Rattle.partial_epochs.specs.Layout.{Plan}
-use Rattle.partial_long_lived.specs.declared.rule.About.{About}
-use Rattle.partial_long_lived.specs.Inner.Held.{port_at}
+use Rattle.partial_long_lived.proofs.Common.{◌<◌, sym, ap, ◌∙◌, arith, slice_index, Plan, About, port_at}
 use Rattle.partial_long_lived.proofs.Collects.{glanced_idle}
 use Rattle.partial_long_lived.proofs.DoubleCollect.{settled_on}
 use Rattle.partial_long_lived.proofs.StillStanding.{had_more}

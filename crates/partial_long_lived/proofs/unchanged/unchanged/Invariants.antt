@@ -1,6 +1,4 @@
-use Rattle.partial_long_lived.specs.Inner.Held.{IsHeld, port_at}
-use Rattle.partial_long_lived.specs.Inner.Calls.{IsIdle}
-use Rattle.partial_long_lived.specs.Inner.Scans.{SettledFirst}
+use Rattle.partial_long_lived.proofs.Common.{IsHeld, port_at, IsIdle, SettledFirst}
 use Rattle.partial_long_lived.specs.Inner.Unchanged.{HadStamps}
 use Rattle.partial_long_lived.proofs.unchanged.unchanged.Given as goal
 

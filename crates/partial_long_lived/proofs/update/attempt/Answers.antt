@@ -1,6 +1,5 @@
-use Rattle.std.proofs.Common.{rules, arith, inl, inr, refl}
+use Rattle.partial_long_lived.proofs.Common.{rules, arith, inl, inr, refl, MissesSeal}
 use Rattle.partial_long_lived.proofs.Attempts.{attempt_between, attempt_ends, attempt_going, attempt_rests, attempt_spares, first_between, first_ends, first_spares, met_seal, update_begins}
-use Rattle.partial_long_lived.specs.Inner.Machine.{MissesSeal}
 use Rattle.partial_long_lived.proofs.update.attempt.Goals.{else-found-ge-SEAL-via-then-found-ge-SEAL+else-found-old, else-found-ge-SEAL-via-else-found-ge-SEAL}
 use Rattle.partial_long_lived.proofs.update.attempt.Goals as goal
 
@@ -9,8 +8,8 @@ begin-old-requires-clause-begins c =
     let r = c.requires in
     update_begins _ _ _ c.args.core.now c.args.change r.held r.idle r.may.rests r.may.over r.inside r.expects
 
-pub put-lines-requires-clause-goes : goal.put-lines-requires-clause-goes
-put-lines-requires-clause-goes c =
+pub write-at-requires-clause-going : goal.write-at-requires-clause-going
+write-at-requires-clause-going c =
     let r = c.requires in
     let begins = update_begins _ _ _ c.args.core.now c.args.change r.held r.idle r.may.rests r.may.over r.inside r.expects in
     let low = c.if-old-ge-SEAL.false in
@@ -24,7 +23,7 @@ returns-then-found-old-clause-sealed c =
     let high = c.if-found-ge-SEAL.true in
     let same = c.if-found-old.true in
     met_seal _ _ _ r.held r.idle c.args.core.now c.args.change begins c.args.first _ c.begin-old.ensures.held c.begin-old.ensures.kept _ c.begin-old.ensures.begun (omega (arith, low))
-    _ c.put-lines.ensures.leads.1 c.in-Some-written.at c.exchange-found.result (search rules) _ c.exchange-found.ensures.kept c.exchange-found.ensures.exchanged (omega (arith, high)) same
+    _ c.write-at.ensures.leads c.write-at.result c.exchange-found.result (search rules) _ c.exchange-found.ensures.kept c.exchange-found.ensures.exchanged (omega (arith, high)) same
 
 pub returns-then-found-old-clause-rests : goal.returns-then-found-old-clause-rests
 returns-then-found-old-clause-rests c =
@@ -32,7 +31,7 @@ returns-then-found-old-clause-rests c =
     let begins = update_begins _ _ _ c.args.core.now c.args.change r.held r.idle r.may.rests r.may.over r.inside r.expects in
     let low = c.if-old-ge-SEAL.false in
     attempt_rests _ _ _ r.held r.idle c.args.core.now c.args.change begins c.args.first _ c.begin-old.ensures.held c.begin-old.ensures.kept _ c.begin-old.ensures.begun (omega (arith, low))
-    _ c.put-lines.ensures.leads.1 c.in-Some-written.at c.exchange-found.result (search rules) _ c.exchange-found.ensures.kept _ r.may.rests c.put-lines.ensures.rests
+    _ c.write-at.ensures.leads c.write-at.result c.exchange-found.result (search rules) _ c.exchange-found.ensures.kept _ r.may.rests c.write-at.ensures.rests
 
 pub returns-clause-rests : goal.returns-clause-rests
 returns-clause-rests c =
@@ -40,7 +39,7 @@ returns-clause-rests c =
     let begins = update_begins _ _ _ c.args.core.now c.args.change r.held r.idle r.may.rests r.may.over r.inside r.expects in
     let low = c.if-old-ge-SEAL.false in
     attempt_rests _ _ _ r.held r.idle c.args.core.now c.args.change begins c.args.first _ c.begin-old.ensures.held c.begin-old.ensures.kept _ c.begin-old.ensures.begun (omega (arith, low))
-    _ c.put-lines.ensures.leads.1 c.in-Some-written.at c.exchange-found.result (search rules) _ c.exchange-found.ensures.kept _ r.may.rests c.put-lines.ensures.rests
+    _ c.write-at.ensures.leads c.write-at.result c.exchange-found.result (search rules) _ c.exchange-found.ensures.kept _ r.may.rests c.write-at.ensures.rests
 
 pub returns-clause-attempted : goal.returns-clause-attempted
 returns-clause-attempted c =
@@ -52,7 +51,7 @@ returns-clause-attempted c =
       | else-found-ge-SEAL-via-else-found-ge-SEAL w ↦ (let less = w.if-found-ge-SEAL.false in inl (omega (arith, less)))
     ]) in
     attempt_ends _ _ _ r.held r.idle c.args.core.now c.args.change begins c.args.first _ c.begin-old.ensures.held c.begin-old.ensures.kept _ c.begin-old.ensures.begun (omega (arith, low))
-    _ c.put-lines.ensures.leads.1 c.in-Some-written.at c.exchange-found.result (search rules) _ c.exchange-found.ensures.kept c.exchange-found.ensures.exchanged misses _ c.of.ensures
+    _ c.write-at.ensures.leads c.write-at.result c.exchange-found.result (search rules) _ c.exchange-found.ensures.kept c.exchange-found.ensures.exchanged misses _ c.of.ensures
 
 pub returns-clause-spare : goal.returns-clause-spare
 returns-clause-spare c room =
@@ -65,9 +64,9 @@ returns-clause-spare c room =
     ]) in
     record {
       rests = attempt_between _ _ _ r.held r.idle c.args.core.now c.args.change begins c.args.first _ c.begin-old.ensures.held c.begin-old.ensures.kept _ c.begin-old.ensures.begun (omega (arith, low))
-          _ c.put-lines.ensures.leads.1 c.in-Some-written.at c.exchange-found.result (search rules) _ c.exchange-found.ensures.kept c.exchange-found.ensures.exchanged misses _ c.of.ensures _ r.may.rests c.put-lines.ensures.rests;
+          _ c.write-at.ensures.leads c.write-at.result c.exchange-found.result (search rules) _ c.exchange-found.ensures.kept c.exchange-found.ensures.exchanged misses _ c.of.ensures _ r.may.rests c.write-at.ensures.rests;
       over = attempt_spares _ _ _ r.held r.idle c.args.core.now c.args.change begins c.args.first _ c.begin-old.ensures.held c.begin-old.ensures.kept _ c.begin-old.ensures.begun (omega (arith, low))
-          _ c.put-lines.ensures.leads.1 c.in-Some-written.at c.exchange-found.result (search rules) _ c.exchange-found.ensures.kept c.exchange-found.ensures.exchanged misses _ c.of.ensures _ _ refl (search rules) room;
+          _ c.write-at.ensures.leads c.write-at.result c.exchange-found.result (search rules) _ c.exchange-found.ensures.kept c.exchange-found.ensures.exchanged misses _ c.of.ensures _ _ refl (search rules) room;
     }
 
 pub returns-then-expected-old-clause-attempted : goal.returns-then-expected-old-clause-attempted

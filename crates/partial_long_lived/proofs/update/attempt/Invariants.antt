@@ -1,5 +1,4 @@
-use Rattle.partial_machine.specs.declared.stage.Stage.TheVariants.{UpdateBegun}
-use Rattle.partial_machine.specs.Machine.{at_stage}
+use Rattle.partial_long_lived.proofs.Common.{UpdateBegun, at_stage}
 use Rattle.partial_long_lived.proofs.update.attempt.Given as goal
 
 -- the machine that begins the update

@@ -1,7 +1,4 @@
-use Rattle.std.proofs.Common.{true, false, ◌<◌, ap, arith, subst, sym}
-use Rattle.partial_machine.specs.Machine.{CoreState}
-use Rattle.partial_long_lived.specs.Rule.{one_of}
-use Rattle.partial_long_lived.specs.Inner.Held.{port_at}
+use Rattle.partial_long_lived.proofs.Common.{true, false, ◌<◌, ap, arith, subst, sym, CoreState, one_of, port_at}
 use Rattle.partial_long_lived.specs.Inner.Machine.{Begins}
 use Rattle.partial_long_lived.proofs.Standing.{component_there}
 use Rattle.partial_long_lived.proofs.Updating.{begin_asked, begun_at}

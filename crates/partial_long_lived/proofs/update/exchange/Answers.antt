@@ -1,4 +1,4 @@
-use Rattle.std.proofs.Common.{◌<◌, arith}
+use Rattle.partial_long_lived.proofs.Common.{◌<◌, arith}
 use Rattle.partial_long_lived.proofs.Standing.{component_there}
 use Rattle.partial_long_lived.proofs.Updating.{exchange_asked, exchanged_at}
 use Rattle.partial_long_lived.proofs.update.exchange.Goals as goal

@@ -1,39 +1,38 @@
-use Rattle.std.proofs.Common.{rules, refl, arith}
-use Rattle.partial_long_lived.specs.Inner.Updates.{Attempted, NotesNothing}
+use Rattle.partial_long_lived.proofs.Common.{rules, refl, arith, Attempted, NotesNothing}
 use Rattle.partial_long_lived.proofs.Rounds.{came_on, came_rounds, late_of, may_own, one_later, round_ended, round_met, rounds_begin, rounds_came}
 use Rattle.partial_long_lived.proofs.update.rounds.Goals as goal
 
 pub loop-init : goal.loop-init
-loop-init c = let r = c.requires in (rounds_begin _ _ c.args.first c.args.stand _ r.held r.idle r.may, λ some. absurd (omega (arith, some)), omega (arith))
+loop-init c = let r = c.requires in (rounds_begin _ _ c.args.first c.args.stand.now _ r.held r.idle r.may, λ some. absurd (omega (arith, some)), omega (arith))
 
-pub attempt-behind-requires-clause-held : goal.attempt-behind-requires-clause-held
-attempt-behind-requires-clause-held c = c.loop.invariant.0.held
+pub attempt-requires-clause-held : goal.attempt-requires-clause-held
+attempt-requires-clause-held c = c.loop.invariant.0.held
 
-pub attempt-behind-requires-clause-idle : goal.attempt-behind-requires-clause-idle
-attempt-behind-requires-clause-idle c = c.loop.invariant.0.idle
+pub attempt-requires-clause-idle : goal.attempt-requires-clause-idle
+attempt-requires-clause-idle c = c.loop.invariant.0.idle
 
-pub attempt-behind-requires-clause-may : goal.attempt-behind-requires-clause-may
-attempt-behind-requires-clause-may c = c.loop.invariant.0.may
+pub attempt-requires-clause-may : goal.attempt-requires-clause-may
+attempt-requires-clause-may c = c.loop.invariant.0.may
 
 pub returns-in-Some-clause-updated : goal.returns-in-Some-clause-updated
 returns-in-Some-clause-updated c =
-    let ended : Attempted c.loop.first_step c.args.change c.in-Some.exchanged c.loop.stand c.attempt-behind.result.0 = search rules in
-    round_ended _ _ c.args.first c.loop.first_step c.args.stand c.loop.stand _ c.loop.invariant.0 _ _ c.requires.plain _ c.attempt-behind.ensures.held ended
+    let ended : Attempted c.loop.first_step c.args.change c.in-Some.exchanged c.loop.stand c.attempt.new.stand = search rules in
+    round_ended _ _ c.args.first c.loop.first_step c.args.stand.now c.loop.stand _ c.loop.invariant.0 _ _ c.requires.plain _ c.attempt.ensures.held ended
 
 pub returns-in-Err-clause-refused : goal.returns-in-Err-clause-refused
 returns-in-Err-clause-refused c =
-    let met : NotesNothing c.loop.first_step c.loop.stand c.attempt-behind.result.0 = search rules in (
-      late_of c.args.times c.args.stand c.renew.new.stand c.in-Err.cause (rw c.in-Err.is at c.renew.ensures.cause),
-      came_on c.args.first c.args.stand c.attempt-behind.result.0 _ (round_met _ _ c.args.first c.loop.first_step c.args.stand c.loop.stand _ c.loop.invariant.0 _ met) c.renew.ensures.came,
+    let met : NotesNothing c.loop.first_step c.loop.stand c.attempt.new.stand = search rules in (
+      late_of c.args.times c.args.stand.now c.renew.new.stand c.in-Err.cause (rw c.in-Err.is at c.renew.ensures.cause),
+      came_on c.args.first c.args.stand.now c.attempt.new.stand _ (round_met _ _ c.args.first c.loop.first_step c.args.stand.now c.loop.stand _ c.loop.invariant.0 _ met) c.renew.ensures.came,
     )
 
 pub loop-preserved : goal.loop-preserved
 loop-preserved c =
-    let met : NotesNothing c.loop.first_step c.loop.stand c.attempt-behind.result.0 = search rules in
-    let came = came_on c.args.first c.args.stand c.attempt-behind.result.0 _ (round_met _ _ c.args.first c.loop.first_step c.args.stand c.loop.stand _ c.loop.invariant.0 _ met) c.renew.ensures.came in (
-      came_rounds _ _ c.args.first c.args.stand _ _ c.renew.ensures.held c.renew.ensures.idle (search rules) came,
+    let met : NotesNothing c.loop.first_step c.loop.stand c.attempt.new.stand = search rules in
+    let came = came_on c.args.first c.args.stand.now c.attempt.new.stand _ (round_met _ _ c.args.first c.loop.first_step c.args.stand.now c.loop.stand _ c.loop.invariant.0 _ met) c.renew.ensures.came in (
+      came_rounds _ _ c.args.first c.args.stand.now _ _ c.renew.ensures.held c.renew.ensures.idle (search rules) came,
       λ some. refl,
-      one_later _ _ c.args.stand c.loop.stand c.attempt-behind.result.0 c.renew.new.stand _ c.loop.invariant.0.held c.attempt-behind.ensures.held met.stayed.kept.epoch c.loop.invariant.2 (search rules),
+      one_later _ _ c.args.stand.now c.loop.stand c.attempt.new.stand c.renew.new.stand _ c.loop.invariant.0.held c.attempt.ensures.held met.stayed.kept.epoch c.loop.invariant.2 (search rules),
     )
 
 pub returns-clause-held : goal.returns-clause-held
@@ -53,4 +52,4 @@ returns-clause-refused c =
     let some = c.requires.some in
     let over = c.loop-test.false in
     let later = c.loop.invariant.2 in
-    (omega (arith, over, later), rounds_came _ _ c.args.first c.loop.first_step c.args.stand c.loop.stand _ c.loop.invariant.0 (c.loop.invariant.1 (omega (arith, some, over))))
+    (omega (arith, over, later), rounds_came _ _ c.args.first c.loop.first_step c.args.stand.now c.loop.stand _ c.loop.invariant.0 (c.loop.invariant.1 (omega (arith, some, over))))

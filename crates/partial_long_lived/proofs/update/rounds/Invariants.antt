@@ -1,5 +1,4 @@
-use Rattle.std.proofs.Common.{◌≡◌, ◌+◌, ◌<◌, ◌≤◌, false}
-use Rattle.partial_long_lived.specs.Inner.Held.{epoch_at}
+use Rattle.partial_long_lived.proofs.Common.{◌≡◌, ◌+◌, ◌<◌, ◌≤◌, false, epoch_at}
 use Rattle.partial_long_lived.proofs.Rounds.{RoundsOn}
 use Rattle.partial_long_lived.proofs.update.rounds.Given as goal
 

@@ -1,4 +1,4 @@
-use Rattle.partial_long_lived.specs.Inner.Loads.Wish.{Expects}
+use Rattle.partial_long_lived.proofs.Common.{Expects}
 use Rattle.partial_long_lived.proofs.update_if.compare.Given as goal
 
 -- the port compares the component's stamp with the expected one

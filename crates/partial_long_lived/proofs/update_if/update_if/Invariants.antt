@@ -1,8 +1,7 @@
-use Rattle.std.proofs.Common.{◌≡◌, ◌+◌, ◌<◌, ◌≤◌, false}
-use Rattle.partial_long_lived.specs.Inner.Held.{epoch_at}
+use Rattle.partial_long_lived.proofs.Common.{◌≡◌, ◌+◌, ◌<◌, ◌≤◌, false, epoch_at}
 use Rattle.partial_long_lived.proofs.ConditionalRounds.{ComparesOn}
 use Rattle.partial_long_lived.proofs.update_if.update_if.Given as goal
 
 -- the call has come so far, to a later epoch behind each round; behind the first round its next step is not its first one, and the port is not spent
 abbrev pub invariant-loop : goal.invariant-loop
-invariant-loop l = ComparesOn l.words.table_id l.words.key l.first l.used l.fn.stand l.stand l.core × (0 < l.counter → (l.first ≡ false) × (l.used ≡ false)) × (epoch_at l.fn.stand + l.counter ≤ epoch_at l.stand)
+invariant-loop l = ComparesOn l.words.table_id l.words.key l.first l.spent l.fn.stand l.stand l.core × (0 < l.counter → (l.first ≡ false) × (l.spent ≡ false)) × (epoch_at l.fn.stand + l.counter ≤ epoch_at l.stand)

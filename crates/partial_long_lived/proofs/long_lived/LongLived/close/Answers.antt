@@ -1,11 +1,4 @@
-use Rattle.std.proofs.Common.{rules, ◌≡◌, ap, sym, ◌∙◌, subst, List, arith}
-use Rattle.std.specs.Slots.{slots_items}
-use Rattle.atomic_table.specs.Table.{Me}
-use Rattle.atomic_table.specs.Seated.{TableId}
-use Rattle.partial_long_lived.specs.declared.rule.About.{About}
-use Rattle.partial_long_lived.specs.Rule.{Seated}
-use Rattle.partial_long_lived.specs.Shape.{IsShapeOf}
-use Rattle.partial_long_lived.specs.Ports.{MemoryView, port_view}
+use Rattle.partial_long_lived.proofs.Common.{rules, ◌≡◌, ap, sym, ◌∙◌, subst, List, arith, slots_items, Me, TableId, About, Seated, IsShapeOf, MemoryView, port_view}
 use Rattle.partial_long_lived.proofs.Meets.{gathers}
 use Rattle.partial_long_lived.proofs.Closes.{Ends, closes, ends, have_shape, of_last, taken_more, taken_none}
 use Rattle.partial_long_lived.proofs.long_lived.LongLived.close.Goals as goal

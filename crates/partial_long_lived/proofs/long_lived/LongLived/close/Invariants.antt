@@ -1,6 +1,4 @@
-use Rattle.std.proofs.Common.{◌≡◌}
-use Rattle.std.specs.List.{AllByRecursion}
-use Rattle.partial_long_lived.specs.Ports.{IsOf}
+use Rattle.partial_long_lived.proofs.Common.{◌≡◌, AllByRecursion, IsOf}
 use Rattle.partial_long_lived.proofs.Closes.{Taken}
 use Rattle.partial_long_lived.proofs.long_lived.LongLived.close.Given as goal
 

@@ -1,14 +1,4 @@
-use Rattle.std.proofs.Common.{rules, [], ◌∷◌, ◌≡◌, ◌<◌, refl, ap, sym, ◌∙◌, subst, List}
-use Rattle.std.specs.List.{AllByRecursion}
-use Rattle.atomic_table.specs.Table.{Me}
-use Rattle.atomic_table.specs.Seated.{TableId}
-use Rattle.partial_model.proofs.AllLemmas.{all_front}
-use Rattle.partial_epochs.specs.Layout.{base}
-use Rattle.partial_epochs.specs.Opening.{OpensAll}
-use Rattle.partial_long_lived.specs.declared.rule.About.{About}
-use Rattle.partial_long_lived.specs.Rule.{Seated, one_in, plan_of}
-use Rattle.partial_long_lived.specs.Shape.{IsShapeOf}
-use Rattle.partial_long_lived.specs.Ports.{IsOf, port_view}
+use Rattle.partial_long_lived.proofs.Common.{rules, [], ◌∷◌, ◌≡◌, ◌<◌, refl, ap, sym, ◌∙◌, subst, List, AllByRecursion, Me, TableId, all_front, base, OpensAll, About, Seated, one_in, plan_of, IsShapeOf, IsOf, port_view}
 use Rattle.partial_long_lived.specs.Inner.Opening.{OpensWith}
 use Rattle.partial_long_lived.proofs.Opens.{opens}
 use Rattle.partial_long_lived.proofs.NewPorts.{deals_next, made_next, new_own, opens_as, rests_new, shape_here}

@@ -1,7 +1,4 @@
-use Rattle.std.proofs.Common.{◌≡◌, ◌-◌, ◌≤◌, [], ◌++◌}
-use Rattle.std.specs.Vec.{vec_len, vec_capacity}
-use Rattle.partial_long_lived.specs.Rule.{newcomers}
-use Rattle.partial_long_lived.specs.Ports.{new_ports}
+use Rattle.partial_long_lived.proofs.Common.{◌≡◌, ◌-◌, ◌≤◌, [], ◌++◌, vec_len, vec_capacity, newcomers, new_ports}
 use Rattle.partial_long_lived.proofs.long_lived.LongLived.open.Given as goal
 
 abbrev pub invariant-loop-number : goal.invariant-loop-number

@@ -1,8 +1,5 @@
-use Rattle.std.proofs.Common.{rules, ◌≡◌, ◌<◌, sym, ap, ◌∙◌, subst}
-use Rattle.std.specs.Vec.{vec_len}
-use Rattle.partial_long_lived.specs.declared.shape.Shape.{Shape}
+use Rattle.partial_long_lived.proofs.Common.{rules, ◌≡◌, ◌<◌, sym, ap, ◌∙◌, subst, vec_len, Shape, IsResting}
 use Rattle.partial_long_lived.specs.declared.port.Port.TheInside.{Inside}
-use Rattle.partial_long_lived.specs.Resting.{IsResting}
 use Rattle.partial_long_lived.proofs.Answering.{read_seen, rests_anew, rests_here, rests_number, rests_put, rests_taken}
 use Rattle.partial_long_lived.proofs.long_lived.LongLived.read.Goals.{then-stand-epoch, else-stand-epoch}
 use Rattle.partial_long_lived.proofs.long_lived.LongLived.read.Goals as goal

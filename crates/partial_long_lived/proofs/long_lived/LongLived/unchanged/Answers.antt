@@ -1,4 +1,4 @@
-use Rattle.std.proofs.Common.{sym, ◌∙◌}
+use Rattle.partial_long_lived.proofs.Common.{sym, ◌∙◌}
 use Rattle.partial_long_lived.proofs.StillStanding.{differ_seen, still_seen}
 use Rattle.partial_long_lived.proofs.long_lived.LongLived.unchanged.Goals as goal
 

@@ -1,27 +1,24 @@
-use Rattle.std.proofs.Common.{rules, ◌<◌, sym, ◌∙◌, subst, IfOk, IfErr}
+use Rattle.partial_long_lived.proofs.Common.{rules, ◌<◌, sym, ◌∙◌, subst, IfOk, IfErr, IsRefused, Updates, port_view, one_in}
 use Rattle.partial_model.specs.declared.call.Call.TheVariants as call
-use Rattle.partial_long_lived.specs.Calls.{IsRefused, Updates}
-use Rattle.partial_long_lived.specs.Ports.{port_view}
-use Rattle.partial_long_lived.specs.Rule.{one_in}
 use Rattle.partial_long_lived.proofs.Updates.{update_answered, update_fits, update_refused}
 use Rattle.partial_long_lived.proofs.long_lived.LongLived.update.Goals.{in-Ok, in-Err}
 use Rattle.partial_long_lived.proofs.long_lived.LongLived.update.Goals as goal
 
 pub of-requires : goal.of-requires
-of-requires c = update_fits _ _ _ _ (rw c.in-Ok.is at c.update-stand.ensures.updated)
+of-requires c = update_fits _ _ _ _ (rw c.in-Ok.is at c.update-ended.ensures.updated)
 
 pub returns-clause-answered : goal.returns-clause-answered
 returns-clause-answered c =
     let own = c.requires ∙ sym c.self.view_is in
     let inside : c.args.component < c.self.inside.table.shared.key.sizes.m = search rules in
     let kept = c.keep.new.self in
-    let held = c.update-stand.ensures.held in
+    let held = c.update-ended.ensures.held in
     elim c.match-ended.branch [
       | in-Ok w ↦
-          let ended = rw w.in-Ok.is at c.update-stand.ensures.updated in
+          let ended = rw w.in-Ok.is at c.update-ended.ensures.updated in
           subst (λ r. IfOk r (λ q. Updates c.args.me.now c.args.component c.args.value q (port_view kept.badge.table_id (one_in kept.badge.views)))) (sym w.result-is)
           (subst (λ q. Updates c.args.me.now c.args.component c.args.value q (port_view kept.badge.table_id (one_in kept.badge.views))) (sym w.of.ensures)
-          (update_answered _ c.me.inside.seating c.take-stand.result c.update-stand.result.0 kept _ c.take-stand.ensures c.me.view_is own held c.keep.ensures _ _ ended inside))
+          (update_answered _ c.me.inside.seating c.take-stand.result c.update-ended.new.stand kept _ c.take-stand.ensures c.me.view_is own held c.keep.ensures _ _ ended inside))
       | in-Err w ↦ subst (λ r. IfOk r (λ q. Updates c.args.me.now c.args.component c.args.value q (port_view kept.badge.table_id (one_in kept.badge.views)))) (sym w.result-is) tt
     ]
 
@@ -30,11 +27,11 @@ returns-clause-refused c =
     let own = c.requires ∙ sym c.self.view_is in
     let inside : c.args.component < c.self.inside.table.shared.key.sizes.m = search rules in
     let kept = c.keep.new.self in
-    let held = c.update-stand.ensures.held in
+    let held = c.update-ended.ensures.held in
     elim c.match-ended.branch [
       | in-Ok w ↦ subst (λ r. IfErr r (λ cause. IsRefused c.args.me.now (call.Update c.args.component c.args.value) cause (port_view kept.badge.table_id (one_in kept.badge.views)))) (sym w.result-is) tt
       | in-Err w ↦
-          let not = rw w.in-Err.is at c.update-stand.ensures.refused in
+          let not = rw w.in-Err.is at c.update-ended.ensures.refused in
           subst (λ r. IfErr r (λ cause. IsRefused c.args.me.now (call.Update c.args.component c.args.value) cause (port_view kept.badge.table_id (one_in kept.badge.views)))) (sym w.result-is)
-          (update_refused _ c.me.inside.seating c.take-stand.result c.update-stand.result.0 kept _ c.take-stand.ensures c.me.view_is own held c.keep.ensures c.args.component c.args.value _ not.0 not.1 inside)
+          (update_refused _ c.me.inside.seating c.take-stand.result c.update-ended.new.stand kept _ c.take-stand.ensures c.me.view_is own held c.keep.ensures c.args.component c.args.value _ not.0 not.1 inside)
     ]

@@ -1,0 +1,119 @@
+//! Scans that tell stamps, over changes of epoch.
+
+ghost use Rattle.std.specs.Prelude.{◌≤◌};
+ghost use Rattle.partial_long_lived.specs.Ports.{IsOf};
+
+use partial_long_lived::{LongLived, Options, Port, Refused, Updated, UpdatedIf};
+use std::process::Abort;
+use std::test::Fail;
+
+// Sets component 0, and returns its stamp.
+fn sets(rt: &impl Abort, memory: &LongLived, port: &mut Port, value: u64) -> u64
+    requires { IsOf memory.now port.old }
+    ensures { IsOf memory.now port.new }
+{
+    let Ok(Updated::Applied { stamp }) = memory.update(port, 0, value) else {
+        panic!(rt; "not applied");
+    };
+    stamp
+}
+
+// A scan of both components tells these values and stamps, component 1 first, and so do reads.
+fn tells(rt: &impl Abort, memory: &LongLived, port: &mut Port, values: [u64; 2], stamps: [u64; 2])
+    requires own { IsOf memory.now port.old }
+    requires both { 2 ≤ memory.now.about.sizes.m }
+    ensures { IsOf memory.now port.new }
+{
+    let mut into = [0u64; 2];
+    let mut told = [0u64; 2];
+    let is_told = memory.scan_stamped(port, &[1, 0], &mut into, &mut told);
+    assert_eq!(rt; is_told, Ok(true));
+    assert_eq!(rt; into, values);
+    assert_eq!(rt; told, stamps);
+    assert_eq!(rt; memory.read(port, 1), Ok((values[0], stamps[0])));
+    assert_eq!(rt; memory.read(port, 0), Ok((values[1], stamps[1])));
+}
+
+// A port whose epoch has ended is told nothing, and the caller's values stay.
+fn is_told_nothing(rt: &impl Abort, memory: &LongLived, port: &mut Port)
+    requires own { IsOf memory.now port.old }
+    requires both { 2 ≤ memory.now.about.sizes.m }
+    ensures { IsOf memory.now port.new }
+{
+    let mut into = [5u64; 2];
+    let mut told = [6u64; 2];
+    let is_told = memory.scan_stamped(port, &[1, 0], &mut into, &mut told);
+    assert_eq!(rt; is_told, Ok(false));
+    assert_eq!(rt; into, [5, 5]);
+    assert_eq!(rt; told, [6, 6]);
+}
+
+// The stamp that component 1 begins with.
+fn carried(rt: &impl Abort, memory: &LongLived, port: &mut Port) -> u64
+    requires { IsOf memory.now port.old }
+    ensures { IsOf memory.now port.new }
+{
+    let Ok((20, stamp)) = memory.read(port, 1) else {
+        panic!(rt; "not read");
+    };
+    stamp
+}
+
+// The first port sets component 0 in two epochs, and scans with stamps in both. The other one, which stands in the first
+// epoch, is told nothing until it has read. An update may expect a stamp that a scan has told.
+fn tells_stamps(rt: &impl Abort, memory: &LongLived, first: &mut Port, last: &mut Port)
+    requires first { IsOf memory.now first.old }
+    requires last { IsOf memory.now last.old }
+    requires both { 2 ≤ memory.now.about.sizes.m }
+{
+    let second = carried(rt, memory, first);
+    let one = sets(rt, memory, first, 11);
+    tells(rt, memory, first, [20, 11], [second, one]);
+    tells(rt, memory, last, [20, 11], [second, one]);
+    let two = sets(rt, memory, first, 12);
+    assert!(rt; one < 1 << 23);
+    assert_eq!(rt; two >> 23, 1);
+    tells(rt, memory, first, [20, 12], [second, two]);
+    is_told_nothing(rt, memory, last);
+    is_told_nothing(rt, memory, last);
+    assert_eq!(rt; memory.read(last, 0), Ok((12, two)));
+    tells(rt, memory, last, [20, 12], [second, two]);
+    let Ok(UpdatedIf::Applied { stamp }) = memory.update_if(last, 0, two, 13) else {
+        panic!(rt; "not applied");
+    };
+    tells(rt, memory, last, [20, 13], [second, stamp]);
+}
+
+// The pool has one word, so that the second update changes the epoch.
+#[test]
+fn stamps_are_told_over_epochs(rt: HostRuntime) -> Result<(), Fail> {
+    let options = Options { lists: 2, pool: 1 };
+    let (memory, mut ports) = LongLived::open(rt.alloc(), &[10, 20], 2, options)?;
+    let mut last = ports.pop().ok_or("a last port")?;
+    let mut first = ports.pop().ok_or("a first port")?;
+    tells_stamps(&rt, &memory, &mut first, &mut last);
+    Ok(())
+}
+
+// A component that isn't there is refused, and the caller's values stay. A scan of no position is told.
+fn refuses(rt: &impl Abort, memory: &LongLived, port: &mut Port)
+    requires own { IsOf memory.now port.old }
+    requires both { 2 ≤ memory.now.about.sizes.m }
+{
+    let mut into = [5u64; 2];
+    let mut told = [6u64; 2];
+    let ended = memory.scan_stamped(port, &[1, 2], &mut into, &mut told);
+    assert_eq!(rt; ended, Err(Refused::Component));
+    assert_eq!(rt; into, [5, 5]);
+    assert_eq!(rt; told, [6, 6]);
+    let ended = memory.scan_stamped(port, &[], &mut [], &mut []);
+    assert_eq!(rt; ended, Ok(true));
+}
+
+#[test]
+fn refused_scans(rt: HostRuntime) -> Result<(), Fail> {
+    let (memory, mut ports) = LongLived::open(rt.alloc(), &[10, 20], 1, Options::default())?;
+    let mut port = ports.pop().ok_or("a port")?;
+    refuses(&rt, &memory, &mut port);
+    Ok(())
+}
