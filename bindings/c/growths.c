@@ -83,7 +83,7 @@ static int open_without(long growth)
 {
     partial_handle memory = PARTIAL_EMPTY;
     refuse(growth);
-    uint32_t code = partial_open(1, initial, 2, &sizes, 3, &memory);
+    uint32_t code = partial_open(initial, 2, &sizes, 3, &memory);
     refuse(0);
     check(code == 0 || code == PARTIAL_MEMORY, "an opening is answered or refused for memory", growth);
     check((code == 0) == (memory.held != NULL), "a refused opening leaves the handle empty", growth);
@@ -95,7 +95,7 @@ static int take_without(long growth)
 {
     partial_handle memory = PARTIAL_EMPTY;
     partial_handle port = PARTIAL_EMPTY;
-    partial_open(1, initial, 2, &sizes, 1, &memory);
+    partial_open(initial, 2, &sizes, 1, &memory);
     refuse(growth);
     uint32_t code = partial_take_port(&memory, &port);
     refuse(0);
@@ -114,7 +114,7 @@ static int give_without(long growth)
 {
     partial_handle memory = PARTIAL_EMPTY;
     partial_handle port = PARTIAL_EMPTY;
-    partial_open(1, initial, 2, &sizes, 1, &memory);
+    partial_open(initial, 2, &sizes, 1, &memory);
     partial_take_port(&memory, &port);
     refuse(growth);
     uint32_t code = partial_give_port(&memory, &port);
@@ -132,7 +132,7 @@ static int give_without(long growth)
 static int close_without(long growth)
 {
     partial_handle memory = PARTIAL_EMPTY;
-    partial_open(1, initial, 2, &sizes, 2, &memory);
+    partial_open(initial, 2, &sizes, 2, &memory);
     refuse(growth);
     uint32_t code = partial_close(&memory);
     refuse(0);
@@ -147,10 +147,10 @@ static int reopen_without(long growth)
     partial_handle memory = PARTIAL_EMPTY;
     partial_handle again = PARTIAL_EMPTY;
     uint64_t values[2] = {0, 0};
-    partial_open(1, initial, 2, &sizes, 1, &memory);
+    partial_open(initial, 2, &sizes, 1, &memory);
     partial_close(&memory);
     refuse(growth);
-    uint32_t code = partial_reopen(2, &memory, 3, &sizes, 2, &again);
+    uint32_t code = partial_reopen(&memory, 3, &sizes, 2, &again);
     refuse(0);
     check(code == 0 || code == PARTIAL_MEMORY, "a memory reopens or is refused for memory", growth);
     check((code == 0) == (again.held != NULL), "a refused reopening leaves the handle empty", growth);

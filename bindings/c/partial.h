@@ -24,9 +24,9 @@
  * - the functions of this header, which refuse null pointers and call the proved
  *   ones, named `partial_door_`, and the declarations of these here, with their
  *   parameters and the layout of the structs;
- * - the number that this header gives each `partial_memory`, by a counter that all files
- *   of a program share. A shared object that hides its symbols has a counter of its own:
- *   there, ports are used with memories that were made there;
+ * - the number that this header gives each memory and each opening, by a counter that all
+ *   files of a program share. A shared object that hides its symbols has a counter of its
+ *   own: there, ports are used with memories that were made there;
  * - the C compiler, the linker, and `malloc`, `realloc` and `free`.
  *
  * Rules for pointers and handles
@@ -42,9 +42,6 @@
  * - One call at a time uses a handle. It may move to another thread when a lock, the
  *   start or the join of a thread, or a sequentially consistent atomic orders its
  *   calls. Calls on different handles may run side by side.
- * - The number `opening` of `partial_open` differs for each opening that exists at a
- *   time. One exists until its own handle and the handles of all its ports are empty. A
- *   `partial_memory` gets its number from this header.
  * - No call is made in a signal handler, or in the child of a fork of a process
  *   with threads.
  *
@@ -186,14 +183,23 @@ uint32_t partial_door_port_read(partial_port *port, uint32_t component,
 uint32_t partial_door_port_scan(partial_port *port, const uint32_t *which,
                                 size_t positions, uint64_t *into, size_t room,
                                 partial_scan_answer *answer);
+uint32_t partial_door_port_scan_stamped(partial_port *port, const uint32_t *which,
+                                        size_t positions, uint64_t *into, size_t room,
+                                        uint64_t *stamps, size_t count, uint32_t *answer);
 uint32_t partial_door_port_unchanged(partial_port *port, const uint32_t *which,
                                      size_t positions, const uint64_t *stamps,
                                      size_t count, uint32_t *answer);
 uint32_t partial_door_port_meet(partial_port *first, partial_port *second);
 uint32_t partial_door_port_number(partial_port *port, uint32_t *answer);
 
-/* How many memories were made in this program: the number of the last one. */
+/* How many memories and openings were made in this program: the number of the last one. */
 __attribute__((weak)) uint64_t partial_memories_made = 0;
+
+/* The number of a new one. */
+static inline uint64_t partial_next_number(void)
+{
+    return __atomic_add_fetch(&partial_memories_made, 1, __ATOMIC_SEQ_CST);
+}
 
 /*
  * Makes a memory that never wears out, in the empty handle `memory`. It has a component
@@ -213,9 +219,8 @@ static inline uint32_t partial_memory_new_with(const uint64_t *initial, size_t c
     if ((!initial && components) || !arena || !memory) {
         return PARTIAL_NULL;
     }
-    const uint64_t number = __atomic_add_fetch(&partial_memories_made, 1, __ATOMIC_SEQ_CST);
-    return partial_door_memory_new(number, initial ? initial : &none, components, ports,
-                                   arena, memory);
+    return partial_door_memory_new(partial_next_number(), initial ? initial : &none,
+                                   components, ports, arena, memory);
 }
 
 /* The same, with arenas of 1024 list words and 16384 pool words. */
@@ -368,6 +373,39 @@ static inline uint32_t partial_port_scan(partial_port *port,
 }
 
 /*
+ * Scans the components in `which`, in this order and with repeats, with their stamps, when
+ * two collects of them are equal. `answer` is 1 then: `into` has their values and `stamps`
+ * their stamps, as they stood together at one moment of the call. For no position `answer`
+ * is 1. `count` is how many stamps there is room for.
+ *
+ * Otherwise `answer` is 0, and `into` and `stamps` are as they were: an update or a change
+ * of epoch came between, or the port's epoch had ended before. `partial_port_scan` gives the
+ * values then, whatever other threads do, and takes the port to the current epoch, which
+ * this call doesn't.
+ *
+ * 23: a pointer is null. 17: the handle holds no port. 19: `positions` and `room`, or
+ * `positions` and `count`, differ, or there are more positions than components. 7: an index
+ * in `which` isn't below the number of components. `into`, `stamps` and `answer` are as
+ * they were.
+ */
+static inline uint32_t partial_port_scan_stamped(partial_port *port,
+                                                 const uint32_t *which, size_t positions,
+                                                 uint64_t *into, size_t room,
+                                                 uint64_t *stamps, size_t count,
+                                                 uint32_t *answer)
+{
+    const uint32_t no_component = 0;
+    uint64_t no_value = 0;
+    uint64_t no_stamp = 0;
+    if (!port || (!which && positions) || (!into && room) || (!stamps && count) || !answer) {
+        return PARTIAL_NULL;
+    }
+    return partial_door_port_scan_stamped(port, which ? which : &no_component, positions,
+                                          into ? into : &no_value, room,
+                                          stamps ? stamps : &no_stamp, count, answer);
+}
+
+/*
  * Says whether each component in `which` still has the stamp beside it in `stamps`, as a
  * read of this port has answered it: `answer` is 1 then, and they stood together at one
  * moment of the call. It is 0 when a component isn't there, or had another stamp at a
@@ -435,15 +473,13 @@ static inline uint32_t partial_port_free(partial_port *port)
 
 /*
  * Opens a memory into the handle `memory`. It has a component for each value in
- * `initial`, and holds `ports` ports. `opening` is a number that the caller picks to tell
- * memories apart: no two memories that exist at a time have the same.
+ * `initial`, and holds `ports` ports.
  *
  * 23: a pointer is null. 18: the handle holds something. 1 to 4: the first size that
  * is out of its range. 5: there are not 1 to 64 ports. 6: an allocation was refused. The
  * handle is as it was.
  */
-static inline uint32_t partial_open(uint64_t opening,
-                                    const uint64_t *initial, size_t components,
+static inline uint32_t partial_open(const uint64_t *initial, size_t components,
                                     const partial_sizes *sizes, uint32_t ports,
                                     partial_handle *memory)
 {
@@ -451,29 +487,30 @@ static inline uint32_t partial_open(uint64_t opening,
     if ((!initial && components) || !sizes || !memory) {
         return PARTIAL_NULL;
     }
-    return partial_door_open(opening, initial ? initial : &none, components, sizes, ports,
-                             memory);
+    return partial_door_open(partial_next_number(), initial ? initial : &none, components,
+                             sizes, ports, memory);
 }
 
 /*
  * Opens a memory that goes on with the values of a closed one into the handle
  * `memory`. It has `components` components, and those that the closed memory didn't
  * have begin at 0. Stamps start anew. The closed memory stays, and can be reopened
- * again. `opening` and `ports` as for `partial_open`.
+ * again. `ports` as for `partial_open`.
  *
  * 23: a pointer is null. 18: `memory` holds something. 17: `closed` holds no closed
  * memory. 1 to 4: the first size that is out of its range. 5: there are not 1 to 64
  * ports. 13: the closed memory has more components. 6: an allocation was refused. Both
  * handles are as they were.
  */
-static inline uint32_t partial_reopen(uint64_t opening, partial_handle *closed,
-                                      uint32_t components, const partial_sizes *sizes,
-                                      uint32_t ports, partial_handle *memory)
+static inline uint32_t partial_reopen(partial_handle *closed, uint32_t components,
+                                      const partial_sizes *sizes, uint32_t ports,
+                                      partial_handle *memory)
 {
     if (!closed || !sizes || !memory) {
         return PARTIAL_NULL;
     }
-    return partial_door_reopen(opening, closed, components, sizes, ports, memory);
+    return partial_door_reopen(partial_next_number(), closed, components, sizes, ports,
+                               memory);
 }
 
 /*

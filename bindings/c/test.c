@@ -24,11 +24,11 @@ static void check(int holds, const char *name)
 static const partial_sizes ample = {1000, 1000, 1000000};
 
 /* Opens a memory, and takes out as many ports as there are handles. */
-static int opened(uint64_t opening, const uint64_t *initial, size_t components,
+static int opened(const uint64_t *initial, size_t components,
                   const partial_sizes *sizes, partial_handle *memory,
                   partial_handle *ports, uint32_t count)
 {
-    uint32_t code = partial_open(opening, initial, components, sizes, count, memory);
+    uint32_t code = partial_open(initial, components, sizes, count, memory);
     for (uint32_t k = 0; k < count && code == 0; k++) {
         code = partial_take_port(memory, &ports[count - 1 - k]);
     }
@@ -40,7 +40,7 @@ static void test_one_port(void)
     const uint64_t initial[2] = {10, 20};
     partial_handle memory = PARTIAL_EMPTY;
     partial_handle port = PARTIAL_EMPTY;
-    check(opened(1, initial, 2, &ample, &memory, &port, 1), "a memory opens");
+    check(opened(initial, 2, &ample, &memory, &port, 1), "a memory opens");
 
     partial_read_answer before = {0, 0};
     check(partial_read(&port, 1, &before) == 0 && before.value == 20, "a read gives the initial value");
@@ -76,7 +76,7 @@ static void test_example(void)
     partial_update_answer set;
     partial_scan_answer scanned;
     uint64_t into[2];
-    int fine = partial_open(7, initial, 3, &sizes, 1, &memory) == 0 && partial_take_port(&memory, &port) == 0
+    int fine = partial_open(initial, 3, &sizes, 1, &memory) == 0 && partial_take_port(&memory, &port) == 0
         && partial_update(&port, 0, 11, &set) == 0
         && partial_scan(&port, (const uint32_t[]){2, 0}, 2, into, 2, &scanned) == 0;
     check(fine, "the example is answered");
@@ -92,16 +92,16 @@ static void test_refused_openings(void)
     const partial_sizes no_slots = {0, 0, 100};
     const partial_sizes many_lists = {1, 65537, 100};
     const partial_sizes small_pool = {1, 0, 5};
-    check(partial_open(1, initial, 0, &ample, 1, &memory) == PARTIAL_COMPONENTS, "no component is refused");
-    check(partial_open(1, initial, 2, &no_slots, 1, &memory) == PARTIAL_SLOTS, "no slot is refused");
-    check(partial_open(1, initial, 2, &many_lists, 1, &memory) == PARTIAL_LIST_WORDS, "65537 list words are refused");
-    check(partial_open(1, initial, 2, &small_pool, 1, &memory) == PARTIAL_POOL_WORDS, "5 pool words are refused");
-    check(partial_open(1, initial, 2, &ample, 0, &memory) == PARTIAL_PORT_COUNT, "no port is refused");
-    check(partial_open(1, initial, 2, &ample, 65, &memory) == PARTIAL_PORT_COUNT, "65 ports are refused");
+    check(partial_open(initial, 0, &ample, 1, &memory) == PARTIAL_COMPONENTS, "no component is refused");
+    check(partial_open(initial, 2, &no_slots, 1, &memory) == PARTIAL_SLOTS, "no slot is refused");
+    check(partial_open(initial, 2, &many_lists, 1, &memory) == PARTIAL_LIST_WORDS, "65537 list words are refused");
+    check(partial_open(initial, 2, &small_pool, 1, &memory) == PARTIAL_POOL_WORDS, "5 pool words are refused");
+    check(partial_open(initial, 2, &ample, 0, &memory) == PARTIAL_PORT_COUNT, "no port is refused");
+    check(partial_open(initial, 2, &ample, 65, &memory) == PARTIAL_PORT_COUNT, "65 ports are refused");
     check(memory.held == NULL, "a refused opening leaves the handle empty");
-    check(partial_open(1, initial, 2, &ample, 1, &memory) == 0, "a memory opens after refusals");
+    check(partial_open(initial, 2, &ample, 1, &memory) == 0, "a memory opens after refusals");
     void *held = memory.held;
-    check(partial_open(2, initial, 2, &ample, 1, &memory) == PARTIAL_HOLDS_ONE, "a handle in use is refused");
+    check(partial_open(initial, 2, &ample, 1, &memory) == PARTIAL_HOLDS_ONE, "a handle in use is refused");
     check(memory.held == held, "and the handle is as it was");
     partial_free(&memory);
 }
@@ -126,7 +126,7 @@ static void test_refused_calls(void)
 
     partial_handle memory = PARTIAL_EMPTY;
     partial_handle port = PARTIAL_EMPTY;
-    check(opened(1, initial, 2, &ample, &memory, &port, 1), "a memory of two components opens");
+    check(opened(initial, 2, &ample, &memory, &port, 1), "a memory of two components opens");
     check(partial_take_port(&memory, &none) == PARTIAL_NONE_HOME, "there is no second port");
     check(partial_take_port(&memory, &port) == PARTIAL_HOLDS_ONE, "a handle in use takes no port");
     check(partial_read(&memory, 0, &read) == PARTIAL_HOLDS_NONE, "a memory is no port");
@@ -151,7 +151,7 @@ static void test_spent_pool(void)
     partial_handle port = PARTIAL_EMPTY;
     partial_update_answer set = {0, 0};
     partial_scan_answer scanned = {0, 0, 0};
-    check(opened(1, initial, 1, &small, &memory, &port, 1), "a small memory opens");
+    check(opened(initial, 1, &small, &memory, &port, 1), "a small memory opens");
     check(partial_update(&port, 0, 2, &set) == 0, "there is room for an update");
     check(partial_scan(&port, which, 1, into, 1, &scanned) == 0 && into[0] == 2, "and for a scan");
     check(partial_update(&port, 0, 3, &set) == PARTIAL_POOL_SPENT, "but for no more");
@@ -168,8 +168,8 @@ static void test_close(void)
     partial_handle other = PARTIAL_EMPTY;
     partial_update_answer set = {0, 0};
     partial_read_answer read = {0, 0};
-    check(opened(1, initial, 2, &ample, &memory, ports, 2), "two ports open");
-    check(opened(2, initial, 2, &ample, &other_memory, &other, 1), "another memory opens");
+    check(opened(initial, 2, &ample, &memory, ports, 2), "two ports open");
+    check(opened(initial, 2, &ample, &other_memory, &other, 1), "another memory opens");
     check(partial_meet(&ports[0], &ports[1]) == 0, "two ports of a memory meet");
     check(partial_meet(&ports[0], &other) == PARTIAL_TWO_MEMORIES, "ports of two memories don't");
     check(partial_update(&ports[0], 0, 11, &set) == 0, "port 0 updates");
@@ -202,19 +202,19 @@ static void test_reopen(void)
     partial_handle port = PARTIAL_EMPTY;
     const partial_sizes small_pool = {1, 0, 8};
     partial_update_answer set = {0, 0};
-    check(partial_reopen(2, &memory, 2, &ample, 1, &again) == PARTIAL_HOLDS_NONE, "an empty handle isn't reopened");
-    check(opened(1, initial, 2, &ample, &memory, &port, 1), "a memory opens to be closed");
-    check(partial_reopen(2, &memory, 2, &ample, 1, &again) == PARTIAL_HOLDS_NONE, "an open memory isn't reopened");
+    check(partial_reopen(&memory, 2, &ample, 1, &again) == PARTIAL_HOLDS_NONE, "an empty handle isn't reopened");
+    check(opened(initial, 2, &ample, &memory, &port, 1), "a memory opens to be closed");
+    check(partial_reopen(&memory, 2, &ample, 1, &again) == PARTIAL_HOLDS_NONE, "an open memory isn't reopened");
     check(partial_update(&port, 1, 22, &set) == 0, "its port updates");
     check(partial_give_port(&memory, &port) == 0 && partial_close(&memory) == 0, "it closes");
 
-    check(partial_reopen(2, &memory, 0, &ample, 1, &again) == PARTIAL_COMPONENTS, "no component is refused again");
-    check(partial_reopen(2, &memory, 3, &small_pool, 1, &again) == PARTIAL_POOL_WORDS, "and so is a small pool");
-    check(partial_reopen(2, &memory, 2, &ample, 65, &again) == PARTIAL_PORT_COUNT, "and 65 ports");
-    check(partial_reopen(2, &memory, 1, &ample, 1, &again) == PARTIAL_TOO_SMALL, "one of two components is too few");
+    check(partial_reopen(&memory, 0, &ample, 1, &again) == PARTIAL_COMPONENTS, "no component is refused again");
+    check(partial_reopen(&memory, 3, &small_pool, 1, &again) == PARTIAL_POOL_WORDS, "and so is a small pool");
+    check(partial_reopen(&memory, 2, &ample, 65, &again) == PARTIAL_PORT_COUNT, "and 65 ports");
+    check(partial_reopen(&memory, 1, &ample, 1, &again) == PARTIAL_TOO_SMALL, "one of two components is too few");
     check(again.held == NULL, "a refused reopening leaves the handle empty");
-    check(partial_reopen(2, &memory, 3, &ample, 1, &again) == 0, "a closed memory opens again");
-    check(partial_reopen(3, &memory, 3, &ample, 1, &again) == PARTIAL_HOLDS_ONE, "but not into a handle in use");
+    check(partial_reopen(&memory, 3, &ample, 1, &again) == 0, "a closed memory opens again");
+    check(partial_reopen(&memory, 3, &ample, 1, &again) == PARTIAL_HOLDS_ONE, "but not into a handle in use");
 
     const uint32_t which[3] = {0, 1, 2};
     uint64_t into[3] = {9, 9, 9};
@@ -241,7 +241,7 @@ static void test_state(void)
     partial_scan_answer scanned = {0, 0, 0};
     partial_update_answer set = {0, 0};
     check(partial_state(&ports[0], &state) == PARTIAL_HOLDS_NONE && state.number == 7, "no port has no state");
-    check(opened(1, initial, 1, &few_slots, &memory, ports, 3), "three ports open");
+    check(opened(initial, 1, &few_slots, &memory, ports, 3), "three ports open");
     check(partial_state(&memory, &state) == PARTIAL_HOLDS_NONE && state.number == 7, "a memory has no port's state");
     for (uint32_t k = 0; k < 3; k++) {
         check(partial_state(&ports[k], &state) == 0 && state.number == k, "a port knows its number");
@@ -274,14 +274,14 @@ static void test_null(void)
     partial_read_answer read = {0, 0};
     partial_scan_answer scanned = {9, 9, 9};
     partial_port_state state = {0, 0, 0};
-    check(partial_open(1, NULL, 1, &ample, 1, &memory) == PARTIAL_NULL, "null values are refused");
-    check(partial_open(1, initial, 1, NULL, 1, &memory) == PARTIAL_NULL, "null sizes are refused");
-    check(partial_open(1, initial, 1, &ample, 1, NULL) == PARTIAL_NULL, "a null handle opens nothing");
-    check(partial_open(1, NULL, 0, &ample, 1, &memory) == PARTIAL_COMPONENTS, "no values may be at null");
-    check(opened(1, initial, 1, &ample, &memory, &port, 1), "a memory opens after null pointers");
-    check(partial_reopen(2, NULL, 1, &ample, 1, &spare) == PARTIAL_NULL, "null isn't reopened");
-    check(partial_reopen(2, &memory, 1, NULL, 1, &spare) == PARTIAL_NULL, "nor with null sizes");
-    check(partial_reopen(2, &memory, 1, &ample, 1, NULL) == PARTIAL_NULL, "nor into null");
+    check(partial_open(NULL, 1, &ample, 1, &memory) == PARTIAL_NULL, "null values are refused");
+    check(partial_open(initial, 1, NULL, 1, &memory) == PARTIAL_NULL, "null sizes are refused");
+    check(partial_open(initial, 1, &ample, 1, NULL) == PARTIAL_NULL, "a null handle opens nothing");
+    check(partial_open(NULL, 0, &ample, 1, &memory) == PARTIAL_COMPONENTS, "no values may be at null");
+    check(opened(initial, 1, &ample, &memory, &port, 1), "a memory opens after null pointers");
+    check(partial_reopen(NULL, 1, &ample, 1, &spare) == PARTIAL_NULL, "null isn't reopened");
+    check(partial_reopen(&memory, 1, NULL, 1, &spare) == PARTIAL_NULL, "nor with null sizes");
+    check(partial_reopen(&memory, 1, &ample, 1, NULL) == PARTIAL_NULL, "nor into null");
     check(partial_take_port(NULL, &spare) == PARTIAL_NULL, "null has no port");
     check(partial_take_port(&memory, NULL) == PARTIAL_NULL, "null takes no port");
     check(partial_give_port(NULL, &port) == PARTIAL_NULL, "a port doesn't come home to null");
@@ -358,7 +358,7 @@ static void test_threads(void)
     work works[WRITERS + 1];
     memset(ports, 0, sizeof ports);
     partial_handle memory = PARTIAL_EMPTY;
-    check(opened(1, initial, WRITERS, &sizes, &memory, ports, WRITERS + 1), "four ports open");
+    check(opened(initial, WRITERS, &sizes, &memory, ports, WRITERS + 1), "four ports open");
     int started = 0;
     for (uint32_t k = 0; k <= WRITERS; k++) {
         works[k] = (work){&ports[k], k, 0, 0};

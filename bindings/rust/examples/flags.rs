@@ -3,7 +3,7 @@
 //!
 //! A word says how often flags are flipped; without one they are flipped ten million times.
 
-use partial_door::{Memory, Port, Refused};
+use partial_door::{Memory, Port, Refused, UpdatedIf};
 use std::error::Error;
 use std::thread;
 
@@ -23,16 +23,17 @@ fn flip(mut port: Port, thread: u32, flips: u64) -> Result<[u64; WORDS as usize]
     Ok(odd)
 }
 
-/// Sets the first flag that is clear in two words, when one is, as they stand together at one moment.
+/// Sets the first flag that is clear in two words, when one is, as they stand together at one moment. The word is the one
+/// that the scan saw, by its stamp; otherwise the two are scanned again.
 fn set_first_clear(port: &mut Port, words: [u32; 2]) -> Result<Option<u64>, Refused> {
-    for (word, flags) in words.into_iter().zip(port.scan_array(words)?) {
-        if flags != u64::MAX {
-            let flag = flags.trailing_ones();
-            port.modify(word, |flags| (flags & (1 << flag) == 0).then_some(flags | 1 << flag))?;
-            return Ok(Some(64 * u64::from(word) + u64::from(flag)));
+    loop {
+        let (flags, Some(stamps)) = port.scan_stamped(words)? else { continue };
+        let Some(k) = flags.iter().position(|&word| word != u64::MAX) else { return Ok(None) };
+        let flag = flags[k].trailing_ones();
+        if let UpdatedIf::Applied { .. } = port.update_if(words[k], stamps[k], flags[k] | 1 << flag)? {
+            return Ok(Some(64 * u64::from(words[k]) + u64::from(flag)));
         }
     }
-    Ok(None)
 }
 
 fn main() -> Result<(), Box<dyn Error + Send + Sync>> {

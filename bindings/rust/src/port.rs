@@ -213,6 +213,52 @@ impl Port {
         Ok(into)
     }
 
+    /// Scans these components, in this order and with repeats, and returns their stamps beside their values. Both are as
+    /// they stood together at one moment of the call.
+    ///
+    /// The stamps are `None` when an update to one of these components came between the steps of the call, or the epoch was
+    /// changed since this port's last call. The values are then those of [`Port::scan_array`], which gives them whatever
+    /// other threads do. The call orders memory as a scan does.
+    ///
+    /// ```
+    /// use partial_door::{Memory, UpdatedIf};
+    ///
+    /// let mut port = Memory::new(&[5, 8])?.port()?;
+    /// let ([first, second], Some(stamps)) = port.scan_stamped([0, 1])? else { panic!("no other port updates it") };
+    /// assert_eq!((first, second), (5, 8));
+    /// assert!(matches!(port.update_if(0, stamps[0], second)?, UpdatedIf::Applied { .. }));
+    /// # Ok::<(), Box<dyn std::error::Error + Send + Sync>>(())
+    /// ```
+    ///
+    /// # Errors
+    /// As those of [`Port::scan`].
+    #[inline]
+    #[allow(clippy::type_complexity)]
+    pub fn scan_stamped<const N: usize>(
+        &mut self,
+        which: [u32; N],
+    ) -> Result<([u64; N], Option<[Stamp; N]>), Refused> {
+        let (mut into, mut words, mut told) = ([0; N], [0; N], 0);
+        // SAFETY: the handle, the arrays and the place for the answer are borrowed for the call.
+        let code = unsafe {
+            raw::partial_door_port_scan_stamped(
+                &mut self.handle,
+                which.as_ptr(),
+                N,
+                into.as_mut_ptr(),
+                N,
+                words.as_mut_ptr(),
+                N,
+                &mut told,
+            )
+        };
+        match code {
+            0 if told == 1 => Ok((into, Some(words.map(|word| self.stamp(word))))),
+            0 => Ok((self.scan_array(which)?, None)),
+            code => Err(Refused::of(code)),
+        }
+    }
+
     /// Says whether each of these components still has the value that this port has read, by its stamp. If so, all of
     /// them had these values together at one moment of the call. `false` says that a component isn't there, or had
     /// another stamp at a moment of the call. A stamp that this port hasn't read itself was the component's own at some

@@ -111,6 +111,16 @@ unsafe extern "C" {
         room: usize,
         answer: *mut ScanAnswer,
     ) -> u32;
+    pub fn partial_door_port_scan_stamped(
+        port: *mut Handle,
+        which: *const u32,
+        positions: usize,
+        into: *mut u64,
+        room: usize,
+        stamps: *mut u64,
+        count: usize,
+        answer: *mut u32,
+    ) -> u32;
     pub fn partial_door_port_unchanged(
         port: *mut Handle,
         which: *const u32,

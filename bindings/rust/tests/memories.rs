@@ -77,6 +77,9 @@ fn a_call_is_refused_with_its_cause() {
     assert_eq!(port.scan(&[0, 1], &mut into), Err(Refused::Length));
     assert_eq!(port.scan(&[2], &mut into), Err(Refused::Component));
     assert_eq!(port.scan_array([0, 0, 0]), Err(Refused::Length));
+    assert_eq!(port.scan_stamped([0, 0, 0]), Err(Refused::Length));
+    assert_eq!(port.scan_stamped([0, 2]), Err(Refused::Component));
+    assert_eq!(port.scan_stamped([]), Ok(([], Some([]))));
     assert_eq!(into, [7]);
     assert_eq!(port.scan_array([]).expect("it makes no step"), []);
     assert_eq!(port.scan_array([1, 0]).expect("they are there"), [2, 1]);
@@ -135,6 +138,59 @@ fn stamps_are_those_of_one_memory() {
         }
     }
     assert_eq!(stamps.len(), 400);
+}
+
+#[test]
+fn a_stamped_scan_agrees_with_reads_over_many_epochs() {
+    let memory = tiny(&[1, 2, 3], 2);
+    let (mut first, mut second) = (memory.port().expect("a port"), memory.port().expect("a port"));
+    let mut told = 0;
+    for turn in 0..300 {
+        first.update(0, turn).expect("it isn't refused");
+        let (values, stamps) = second.scan_stamped([1, 0, 1]).expect("they are there");
+        let reads = [1, 0, 1].map(|component| second.read(component).expect("it is there"));
+        assert_eq!(values, reads.map(|read| read.value));
+        assert_eq!(values, [told + 2, turn, told + 2]);
+        if let Some(stamps) = stamps {
+            assert_eq!(stamps, reads.map(|read| read.stamp));
+            assert_eq!(second.unchanged([(1, stamps[0]), (0, stamps[1])]), Ok(true));
+            told += 1;
+            assert!(matches!(second.update_if(1, stamps[2], told + 2), Ok(UpdatedIf::Applied { .. })));
+            assert!(matches!(second.update_if(1, stamps[2], 0), Ok(UpdatedIf::Changed { .. })));
+        }
+    }
+    assert!(told > 0 && second.read(0).expect("it is there").stamp.epoch() > 10);
+}
+
+#[test]
+fn a_stamped_scan_beside_writers_gives_each_value_its_stamp() {
+    let memory = tiny(&[0; 3], 4);
+    std::thread::scope(|scope| {
+        for component in 0..3 {
+            let mut port = memory.port().expect("a port is free");
+            scope.spawn(move || {
+                for value in 1..=3000 {
+                    set(&mut port, component, value);
+                }
+            });
+        }
+        let mut port = memory.port().expect("a port is free");
+        let mut last: [Option<(u64, Stamp)>; 3] = [None; 3];
+        for _ in 0..3000 {
+            let (values, stamps) = port.scan_stamped([0, 1, 2]).expect("it isn't refused");
+            for (k, stamp) in stamps.into_iter().flatten().enumerate() {
+                if let Some((value, seen)) = last[k] {
+                    assert!(value <= values[k]);
+                    assert_eq!(value == values[k], seen == stamp);
+                }
+                last[k] = Some((values[k], stamp));
+            }
+        }
+    });
+    let mut port = memory.port().expect("a port is free again");
+    let (values, stamps) = port.scan_stamped([2, 1, 0]).expect("it isn't refused");
+    assert_eq!(values, [3000; 3]);
+    assert!(stamps.is_none() || port.scan_stamped([2, 1, 0]).expect("it isn't refused") == (values, stamps));
 }
 
 #[test]

@@ -1,10 +1,6 @@
 -- A handle and its parts own what a box at the same types owns.
-use mir.Syntax.{impl, tnil, dnil}
-use mathlib.Core.List.{[]}
-use denote.Signature.{Slot, plain}
-use Rattle.std_alloc.proofs.BoxSteps.Form.{Bx}
+use Rattle.partial_door.proofs.Common.{impl, tnil, dnil, [], Slot, plain, Bx, ghosts, dict}
 use Rattle.std_heap.specs.contracts.Global as Heap
-use Rattle.std_heap.specs.contracts.GlobalAllocator.TheImpl.{ghosts, dict}
 use Rattle.std_heap.proofs.Global.TheLaws as heap
 use Rattle.partial_door.specs.contracts.held.Held as Held
 use Rattle.partial_door.proofs.held.Held.TheLaws as held

@@ -1,30 +1,13 @@
 -- A handle by value is null and owns nothing, or is a box of what it holds. Assumes `Logic`.
 use mathlib.Core.Path.{◌≡◌, refl, subst}
 use Prim.Native.Nat.{ℕ}
-use mathlib.Core.List.{List, [], ◌∷◌, ◌++◌}
-use seplogic.Ra.Ura.{Ura}
+use Rattle.partial_door.proofs.Common.{List, [], ◌∷◌, ◌++◌, Ura, T, lit<, Val, WT, has_ty, vstruct, vcons, vnil, vnull, of_list, ent, via, snd∗, fst∗, never, guard, guard_i, Logic, sem, Goal, Seq, Step, step, Item, ‵, given, ◌$◌, move, drop, use1, learn, fsplit, fjoin, fpick, fpack, feq_l, feq_i, fact_use, lone, Valss, nothing, Ptr, Testable, block_ptr, null_ptr, ptr_val, lies_at, in_a_block, Fits, α, handle_tells, Option, None, Some, box_owns, X, R, handle, box_ty, ghosts}
 use base.Fraction.{full_share}
 use mir.Raw.{raw as bare}
-use lib.Dec.{T, lit<}
-use mir.Val.{Val, WT, has_ty, vstruct, vcons, vnil, vnull, of_list}
-use base.Logic.{ent, via, snd∗, fst∗, never, guard, guard_i}
-use types.Logic.{Logic, sem}
-use types.Kit.{Goal, Seq, Step, step, Item, ‵, given, ◌$◌, move, drop, use1, learn, fsplit, fjoin, fpick, fpack, feq_l, feq_i}
-use contract.Monad.{fact_use}
-use denote.Memory.{lone}
-use denote.RattleType.{Valss}
-use denote.Steps.{nothing}
 use denote.Struct.Struct.{within}
 use denote.Struct.Owning.{shape, fields, to}
-use denote.RawPtr.{Ptr, Testable, block_ptr, null_ptr, ptr_val, lies_at, in_a_block}
-use Rattle.core.proofs.alloc.Calls.{Fits, α, handle_tells}
 use Rattle.std_alloc.proofs.ResultValues.{and_tt}
-use Rattle.std.specs.declared.option.Option.{Option}
-use Rattle.std.specs.declared.option.Option.TheVariants.{None, Some}
-use Rattle.std_alloc.specs.Box.Ownership.{box_owns}
-use Rattle.std_alloc.proofs.BoxSteps.Form.{X, R, handle, box_ty}
 use Rattle.std_heap.specs.declared.Global.{Global}
-use Rattle.std_heap.specs.contracts.GlobalAllocator.TheImpl.{ghosts}
 use Rattle.std_heap.proofs.GlobalToken.{dealloc_token-Testable}
 use Rattle.partial_door.proofs.AsBox.{E}
 use Rattle.partial_door.specs.Owned.{handle_owns}

@@ -1,4 +1,6 @@
+mod Common
 pub mod AsBox
 pub mod HandleSteps
 pub mod Opened
 pub mod OpenedLong
+pub mod Stamped

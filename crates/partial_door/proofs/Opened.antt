@@ -1,11 +1,11 @@
 -- The ports of a memory that has opened, and what is held then.
-use Rattle.std.proofs.Common.{◌≡◌, ◌<◌, ◌++◌, ℕ, List, [], ◌∷◌, sym, subst}
+use Rattle.partial_door.proofs.Common.{◌≡◌, ◌<◌, ℕ, sym, subst, Layout, pool_base, IsOf, MemoryView, new_ports}
+use Rattle.std.proofs.Common.{◌++◌, List, [], ◌∷◌}
 use Rattle.std.specs.List.{AllByRecursion}
 use Rattle.std.specs.Arc.{arc_value}
 use Rattle.partial_model.proofs.AllLemmas.{all_back, all_front}
-use Rattle.partial_words.specs.Layout.{Layout, pool_base}
 use Rattle.partial_memory.specs.Rule.{newcomers}
-use Rattle.partial_memory.specs.Ports.{IsOf, MemoryView, PortView, new_ports}
+use Rattle.partial_memory.specs.Ports.{PortView}
 use Rattle.partial_memory.proofs.Laws.{opened_ports_are_all}
 use Rattle.partial_door.specs.declared.held.OpenMemory.{OpenMemory}
 use Rattle.partial_door.specs.Memories.{HasOpened}

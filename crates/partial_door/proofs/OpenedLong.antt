@@ -1,10 +1,8 @@
 -- What is held of a long-lived memory that has opened, and why it isn't closed.
-use Rattle.std.proofs.Common.{◌≡◌, ◌∙◌, ℕ, List, length, sym, ap, subst, inl, inr}
-use Rattle.std.specs.declared.option.Option.{Option}
-use Rattle.std.specs.declared.option.Option.TheVariants.{Some}
+use Rattle.partial_door.proofs.Common.{◌≡◌, ◌∙◌, ℕ, length, sym, ap, subst, inl, inr, Option, Some, PortView, Held}
+use Rattle.std.proofs.Common.{List}
 use Rattle.partial_long_lived.specs.declared.options.Options.{Options}
-use Rattle.partial_long_lived.specs.Ports.{MemoryView, PortView}
-use Rattle.partial_door.specs.declared.held.Held.{Held}
+use Rattle.partial_long_lived.specs.Ports.{MemoryView}
 use Rattle.partial_door.specs.LongMemories.{IsNew, MayNotCloseLong}
 use Rattle.partial_door.specs.LongExports.{ClosesLongAt}
 use Rattle.partial_door.specs.Inner.Long.{IsUnclosedLong}

@@ -1,5 +1,5 @@
 -- What the calls of a port of a long-lived memory leave of what its handle holds.
-use Rattle.std.specs.Prelude.{ℕ, ◌≡◌, ◌⊎◌, List, length}
+use Rattle.std.specs.Prelude.{ℕ, ◌≡◌, ◌⊎◌, List, [], length}
 use Rattle.std.specs.Arc.{arc_value}
 use Rattle.partial_model.specs.declared.call.Call.TheVariants as call
 use Rattle.partial_long_lived.specs.declared.answers.Updated.{Updated}
@@ -7,9 +7,10 @@ use Rattle.partial_long_lived.specs.declared.answers.Updated.TheVariants.{Applie
 use Rattle.partial_long_lived.specs.declared.answers.UpdatedIf.{UpdatedIf}
 use Rattle.partial_long_lived.specs.declared.answers.UpdatedIf.TheVariants as conditional
 use Rattle.partial_long_lived.specs.declared.error.Refused.{Refused}
+use Rattle.partial_long_lived.specs.declared.error.Refused.TheVariants.{Component}
 use Rattle.partial_long_lived.specs.Refusals.{refused_code}
 use Rattle.partial_long_lived.specs.Ports.{PortView}
-use Rattle.partial_long_lived.specs.Calls.{Differ, IsRefused, Reads, Scanned, Scans, StillStand, Updates, UpdatesIf}
+use Rattle.partial_long_lived.specs.Calls.{Differ, Goes, IsRefused, Reads, Scanned, Scans, ScansStamped, StillStand, Updates, UpdatesIf}
 use Rattle.partial_door.specs.declared.answers.UpdateAnswer.{UpdateAnswer}
 use Rattle.partial_door.specs.declared.answers.ReadAnswer.{ReadAnswer}
 use Rattle.partial_door.specs.declared.answers.ScanAnswer.{ScanAnswer}
@@ -70,6 +71,20 @@ LongScanEnds which before values old new p code q =
     ⊎ ((values ≡ before) × (new ≡ old)
     × (((code ≡ 19) × IsMismatch p.memory.about.sizes.m which before × (q ≡ p))
     ⊎ ((cause : Refused) × (code ≡ refused_code cause) × IsRefused p (call.Scan which) cause q)))
+
+-- why a scan with stamps makes no step: the lengths don't fit, of a memory of m components, or a component isn't there
+abbrev pub MayNotScanStamped : List ℕ → List ℕ → List ℕ → PortView → ℕ → PortView → Type 0
+MayNotScanStamped which values stamps p code q =
+    ((code ≡ 19) × (IsMismatch p.memory.about.sizes.m which values ⊎ (length stamps ≡ length which → ⊥)) × (q ≡ p))
+    ⊎ ((code ≡ refused_code Component) × IsRefused p (call.Scan which) Component q)
+
+-- A scan gave values with their stamps, and the answer is 1; or it gave none, and the answer is 0; or it was refused, and the answer stays.
+-- Both arrays are as they were unless it gave values.
+abbrev pub LongScanStampedEnds : List ℕ → List ℕ → List ℕ → List ℕ → List ℕ → ℕ → ℕ → PortView → ℕ → PortView → Type 0
+LongScanStampedEnds which before values old stamps was after p code q =
+    ((code ≡ 0) × (after ≡ 1) × ScansStamped p which values stamps q)
+    ⊎ ((values ≡ before) × (stamps ≡ old)
+    × (((code ≡ 0) × (after ≡ 0) × Goes p q []) ⊎ ((after ≡ was) × MayNotScanStamped which before old p code q)))
 
 -- an answer was given whether components still have stamps, or the two lengths differ, and then the answer and the port are as they were
 abbrev pub LongUnchangedEnds : List ℕ → List ℕ → ℕ → ℕ → PortView → ℕ → PortView → Type 0

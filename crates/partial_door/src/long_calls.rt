@@ -2,7 +2,7 @@
 //! answered and otherwise the number of the refusal. A refused call leaves the caller's places as they were.
 
 ghost use Rattle.std.specs.Prelude.{◌≡◌};
-ghost use Rattle.partial_door.specs.LongCalls.{AtLongPort, LongNumberEnds, LongReadEnds, LongScanEnds, LongUnchangedEnds, LongUpdateEnds, LongUpdateIfEnds};
+ghost use Rattle.partial_door.specs.LongCalls.{AtLongPort, LongNumberEnds, LongReadEnds, LongScanEnds, LongScanStampedEnds, LongUnchangedEnds, LongUpdateEnds, LongUpdateIfEnds};
 ghost use Rattle.partial_door.specs.LongMemories.{ArePortsApart, MeetsLong};
 
 use crate::answers::{
@@ -103,6 +103,45 @@ impl Held {
                 match own.memory.scan(&mut own.port, which, into) {
                     Ok(scanned) => {
                         *answer = scan_answer(scanned);
+                        FINE
+                    }
+                    Err(cause) => u32::from(cause.code()),
+                }
+            }
+            _ => HOLDS_NONE,
+        }
+    }
+
+    /// Scans the components `which` into `into`, and their stamps into `stamps`, when two collects of them are
+    /// equal. Says whether they were: 1 or 0.
+    ///
+    /// Returns 17 when this isn't a port of a long-lived memory, 19 when two of the three lengths differ or they
+    /// exceed the number of components, and 7 when an index isn't below that number.
+    pub fn scan_stamped_long(
+        &mut self,
+        which: &[u32],
+        into: &mut [u64],
+        stamps: &mut [u64],
+        answer: &mut u32,
+    ) -> u32
+        ensures { AtLongPort ((into.new ≡ into.old) × (stamps.new ≡ stamps.old) × (answer.new ≡ answer.old))
+            (LongScanStampedEnds which.now into.old into.new stamps.old stamps.new answer.old answer.new)
+            self.old result self.new }
+    {
+        match self {
+            Held::LongPort(own) => {
+                if which.len() != into.len() {
+                    return LENGTH;
+                }
+                if stamps.len() != which.len() {
+                    return LENGTH;
+                }
+                if which.len() > own.components {
+                    return LENGTH;
+                }
+                match own.memory.scan_stamped(&mut own.port, which, into, stamps) {
+                    Ok(is_told) => {
+                        *answer = u32::from(is_told);
                         FINE
                     }
                     Err(cause) => u32::from(cause.code()),

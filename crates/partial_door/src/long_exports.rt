@@ -4,7 +4,7 @@
 
 ghost use Rattle.std.specs.Prelude.{◌≡◌, Some};
 ghost use Rattle.partial_door.specs.declared.held.Held.{Held as HeldType};
-ghost use Rattle.partial_door.specs.LongCalls.{LongNumberEnds, LongReadEnds, LongScanEnds, LongUnchangedEnds, LongUpdateEnds, LongUpdateIfEnds};
+ghost use Rattle.partial_door.specs.LongCalls.{LongNumberEnds, LongReadEnds, LongScanEnds, LongScanStampedEnds, LongUnchangedEnds, LongUpdateEnds, LongUpdateIfEnds};
 ghost use Rattle.partial_door.specs.LongMemories.{AreLongApart, ArePortsApart, options_of};
 ghost use Rattle.partial_door.specs.LongExports.{AtLongHandle, ClosesLongAt, GivesLongAt, MeetsLongAt, OpensNewAt, TakesLongAt};
 
@@ -93,6 +93,29 @@ pub extern "C" fn partial_door_port_scan(
         return HOLDS_NONE;
     };
     held.scan_long(which, into, answer)
+}
+
+/// Scans the components `which` into `into`, and their stamps into `stamps`, when two collects of them are equal.
+/// `answer` says whether they were: 1 or 0. When they were not, `into` and `stamps` stay as they were.
+///
+/// Returns 17 when the handle holds no port of a long-lived memory, 19 when two of the three lengths differ or
+/// they exceed the number of components, and 7 when an index isn't below that number.
+#[unsafe(no_mangle)]
+pub extern "C" fn partial_door_port_scan_stamped(
+    port: &mut Handle,
+    which: &[u32],
+    into: &mut [u64],
+    stamps: &mut [u64],
+    answer: &mut u32,
+) -> u32
+    ensures { AtLongHandle ((into.new ≡ into.old) × (stamps.new ≡ stamps.old) × (answer.new ≡ answer.old))
+        (LongScanStampedEnds which.now into.old into.new stamps.old stamps.new answer.old answer.new)
+        port.old.held result port.new.held }
+{
+    let Some(held) = port.held() else {
+        return HOLDS_NONE;
+    };
+    held.scan_stamped_long(which, into, stamps, answer)
 }
 
 /// Says whether each of the components `which` still has the stamp beside it in `stamps`: 1 or 0.

@@ -1,5 +1,5 @@
-use Rattle.std.proofs.Common.{refl, sym, subst, ap, Some, ◌∙◌, inl, inr}
-use Rattle.partial_door.specs.Inner.Kept.{IsUnclosed}
+use Rattle.partial_door.proofs.Common.{refl, sym, subst, ap, ◌∙◌, inl, inr, IsUnclosed}
+use Rattle.std.proofs.Common.{Some}
 use Rattle.partial_door.proofs.exports.partial_door_close.Goals as goal
 
 pub returns-in-Ok : goal.returns-in-Ok

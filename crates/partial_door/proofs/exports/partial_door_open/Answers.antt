@@ -1,4 +1,4 @@
-use Rattle.std.proofs.Common.{refl, inl, inr}
+use Rattle.partial_door.proofs.Common.{refl, inl, inr}
 use Rattle.partial_door.proofs.exports.partial_door_open.Goals as goal
 
 pub returns-in-Some : goal.returns-in-Some

@@ -1,4 +1,4 @@
-use Rattle.std.proofs.Common.{rules, refl, inl, inr}
+use Rattle.partial_door.proofs.Common.{rules, refl, inl, inr}
 use Rattle.partial_door.proofs.exports.partial_door_reopen.Goals as goal
 
 pub returns-in-Some-clause-opened : goal.returns-in-Some-clause-opened

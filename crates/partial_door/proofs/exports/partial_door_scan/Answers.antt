@@ -1,4 +1,4 @@
-use Rattle.std.proofs.Common.{refl, inr}
+use Rattle.partial_door.proofs.Common.{refl, inr}
 use Rattle.partial_door.proofs.exports.partial_door_scan.Goals as goal
 
 pub returns : goal.returns

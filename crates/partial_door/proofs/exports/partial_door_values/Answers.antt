@@ -1,4 +1,4 @@
-use Rattle.std.proofs.Common.{inr}
+use Rattle.partial_door.proofs.Common.{inr}
 use Rattle.partial_door.proofs.exports.partial_door_values.Goals as goal
 
 pub returns-clause-copied : goal.returns-clause-copied

@@ -1,4 +1,4 @@
-use Rattle.std.proofs.Common.{rules, refl, sym, ◌∙◌, inl, inr}
+use Rattle.partial_door.proofs.Common.{rules, refl, sym, ◌∙◌, inl, inr}
 use Rattle.partial_door.proofs.long_exports.partial_door_memory_take_port.Goals as goal
 
 pub returns-in-Some : goal.returns-in-Some

@@ -1,4 +1,4 @@
-use Rattle.std.proofs.Common.{refl, inr}
+use Rattle.partial_door.proofs.Common.{refl, inr}
 use Rattle.partial_door.proofs.long_exports.partial_door_port_number.Goals as goal
 
 pub returns : goal.returns

@@ -1,6 +1,5 @@
-use Rattle.std.proofs.Common.{rules, ◌≡◌, ◌∙◌, refl, sym, ap, subst, inl, inr}
+use Rattle.partial_door.proofs.Common.{rules, ◌≡◌, ◌∙◌, refl, sym, ap, subst, inl, inr, IsKept}
 use Rattle.partial_door.specs.declared.held.Held.TheVariants as held
-use Rattle.partial_door.specs.Inner.Kept.{IsKept}
 use Rattle.partial_door.proofs.memories.closed.Goals as goal
 
 pub returns-in-Err-Away-clause-err : goal.returns-in-Err-Away-clause-err

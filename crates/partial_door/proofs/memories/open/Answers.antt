@@ -1,6 +1,4 @@
-use Rattle.std.proofs.Common.{ap, refl, ◌∙◌}
-use Rattle.core.proofs.result.Match.{if_ok_then}
-use Rattle.partial_words.specs.Layout.{pool_base}
+use Rattle.partial_door.proofs.Common.{ap, refl, ◌∙◌, if_ok_then, pool_base}
 use Rattle.partial_door.proofs.Opened.{homes, opened_is}
 use Rattle.partial_door.proofs.memories.open.Goals as goal
 

@@ -1,7 +1,4 @@
-use Rattle.std.proofs.Common.{◌≤◌, length, ap, refl, subst, sym, ◌∙◌}
-use Rattle.core.proofs.result.Match.{if_ok_then}
-use Rattle.partial_words.specs.Layout.{Layout, pool_base}
-use Rattle.partial_memory.specs.Ports.{MemoryView}
+use Rattle.partial_door.proofs.Common.{◌≤◌, length, ap, refl, subst, sym, ◌∙◌, if_ok_then, Layout, pool_base, MemoryView}
 use Rattle.partial_memory.specs.Reopening.{ContinuesAll, extended}
 use Rattle.partial_door.proofs.Opened.{homes, opened_is}
 use Rattle.partial_door.proofs.memories.reopen_closed.Goals as goal

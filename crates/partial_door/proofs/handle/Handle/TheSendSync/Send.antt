@@ -1,14 +1,11 @@
 -- A handle may go to another thread, since what it holds may.
 use mir.Raw.{raw}
 use base.Shift.{Keyless}
-use denote.Memory.{lone}
-use denote.RawPtr.{Ptr}
+use Rattle.partial_door.proofs.Common.{lone, Ptr, Option, None, Some}
 use denote.Struct.Struct.{exits_of}
 use denote.Struct.Owning.{shape, fields, to}
 use denote.Param.Send.{IsSend, AllSend, owning_send, struct_send, sendable}
 use Rattle.std.proofs.Crossing as heap
-use Rattle.std.specs.declared.option.Option.{Option}
-use Rattle.std.specs.declared.option.Option.TheVariants.{None, Some}
 use Rattle.std_alloc.proofs.SendSync.{quiet, lies}
 use Rattle.std_heap.specs.declared.Global.{Global}
 use Rattle.std_heap.proofs.Global.TheSendSync as handle

@@ -1,31 +1,7 @@
 -- `empty` puts a null pointer beside the allocator's handle.
 use mathlib.Core.Path.{refl, sym, subst}
-use mathlib.Core.List.{List, [], ◌∷◌, ◌++◌}
-use seplogic.Ra.Ura.{Ura}
-use mir.Val.{Val, vstruct, vcons, vnil, vnull}
-use base.Logic.{SProp, ent, emp}
-use base.Fml.{ftrue, fsep}
-use prog.Memory.{Memory}
-use prog.Routine.{Routine}
-use prog.Wp.{WpFn, Tables}
-use types.Logic.{Logic}
-use contract.Monad.{Fun}
-use contract.Running.{tables, tables_of}
-use sound.WpLaws.{WpFn-mono}
-use types.Kit.{Item, ‵, raw, ◌⊛◌, ◌$◌, ◌∵◌, !, qed, by, move, drop, join, split, fsplit, fjoin, suffices, done}
-use types.Part.{agg}
-use types.Run.{lit, no_more, and_then, returns, enter}
-use types.ByLocal.{alloc_all, pass_all, free_all, look_at, get, sets}
-use denote.Exit.{yes}
-use denote.RawPtr.{null_ptr}
-use denote.Signature.{Slot, plain}
-use denote.Steps.{nothing}
-use denote.Triple.Spec.{triple_of}
-use denote.Triple.Table.{entered}
-use denote.Triple.Walked.{says, Stays, stay_dropped, walk_of, ends_at, Goes-dropped, walk_Meets}
-use Rattle.core.proofs.alloc.Calls.{handle_tells}
-use Rattle.std.specs.declared.option.Option.TheVariants.{None}
-use Rattle.std_alloc.proofs.BoxSteps.Form.{handle}
+use Rattle.partial_door.proofs.Common.{List, [], ◌∷◌, ◌++◌, Ura, Val, vstruct, vcons, vnil, vnull, SProp, ent, emp, ftrue, fsep, Memory, Routine, WpFn, Tables, Logic, Fun, tables, WpFn-mono, Item, ‵, raw, ◌⊛◌, ◌$◌, ◌∵◌, !, qed, by, move, drop, join, split, fsplit, fjoin, suffices, done, agg, lit, no_more, and_then, returns, enter, alloc_all, pass_all, free_all, look_at, get, sets, yes, null_ptr, Slot, plain, nothing, triple_of, entered, says, Stays, stay_dropped, walk_of, ends_at, Goes-dropped, walk_Meets, handle_tells, None, handle}
+use contract.Running.{tables_of}
 use Rattle.std_heap.specs.contracts.Global as Heap
 use Rattle.partial_door.proofs.AsBox.{E}
 use Rattle.partial_door.proofs.HandleSteps.{null_in, null_typed}

@@ -1,47 +1,17 @@
 -- `held` lends what lies behind the pointer, where that isn't null, and the handle follows it.
 use mathlib.Core.Path.{◌≡◌, refl, sym, subst}
 use Prim.Native.Nat.{ℕ}
-use mathlib.Core.List.{List, [], ◌∷◌}
-use seplogic.Ra.Ura.{Ura}
-use lib.Dec.{lit<}
-use mir.Syntax.{named}
+use Rattle.partial_door.proofs.Common.{List, [], ◌∷◌, Ura, lit<, named, Val, vptr, vnull, vstruct, vcons, vnil, SProp, ent, sep, emp, via, fst∗, id⊢, Lft, GName, Share, Fml, ftrue, flft, fres, fsep, Memory, Routine, Env, WpFn, Tables, Logic, sem, Fun, tables, WpFn-mono, ‵, raw, ◌⊛◌, some, later, at_ret, ◌$◌, ◌∵◌, !, qed, by, move, keep, drop, split, split3, join, group, frame, rewrite, fsplit, fsplit3, fjoin, fpack, pick, suffices, use0, use1, await, done, agg, look_in, sub, whole, stop, fld, load, addr, lit, of_opd, no_more, and_then, bin, first, blocks, branches, skips, exec, returns, returns_within, enter, alloc_all, pass_all, free_all, look_at, get, through, sets, sets_last, env, no, RattleType, owns, Ptr, block_ptr, ptr_val, tests_null, mem, cell_at, part_at, plain, type_at, mut_ref_to, nothing, opens, closes, Clauses, at_exit, triple_of, entered, says, Stays, stay_dropped, walk_of, ends_at, walked, walk_Meets, Goes-spent_ref, Option, None, Some, X, R, τ, handle, word, box_in, ghosts}
 use mir.Raw.{raw as bare}
-use mir.Val.{Val, vptr, vnull, vstruct, vcons, vnil}
 use base.Fraction.{full_share}
-use base.Logic.{SProp, ent, sep, emp, via, fst∗, id⊢}
-use base.Fml.{Lft, GName, Share, Fml, ftrue, flft, fres, fsep}
-use prog.Memory.{Memory}
-use prog.Routine.{Routine}
-use prog.Wp.{Env, WpFn, Tables}
-use types.Logic.{Logic, sem}
-use contract.Monad.{Fun}
-use contract.Running.{tables, tables_of}
-use sound.WpLaws.{WpFn-mono}
-use types.Kit.{‵, raw, ◌⊛◌, some, later, at_ret, ◌$◌, ◌∵◌, !, qed, by, move, keep, drop, split, split3, join, group, frame, rewrite, fsplit, fsplit3, fjoin, fpack, pick, suffices, use0, use1, await, done}
-use types.Part.{agg, look_in, sub, whole}
-use types.Run.{stop, fld, load, addr, lit, of_opd, no_more, and_then, bin, first, blocks, branches, skips, exec, returns, returns_within, enter}
-use types.ByLocal.{alloc_all, pass_all, free_all, look_at, get, through, sets, sets_last, env}
+use contract.Running.{tables_of}
 use types.Match.{live}
-use denote.Exit.{no}
-use denote.RattleType.{RattleType, owns}
 use denote.Ref.{MutRef, MutBor, mut_vals, mut_Tells}
-use denote.RawPtr.{Ptr, block_ptr, ptr_val, tests_null}
-use denote.Memory.{mem, cell_at, part_at, part_of}
-use denote.Signature.{plain, type_at, mut_ref_to}
-use denote.Steps.{nothing, opens, closes}
+use denote.Memory.{part_of}
 use denote.Follow.{follows, follows_by, lends_Part}
-use denote.Triple.Clauses.{Clauses, at_exit}
 use denote.Triple.Entry.{on_entry}
-use denote.Triple.Spec.{triple_of}
-use denote.Triple.Table.{entered}
-use denote.Triple.Walked.{says, Stays, stay_dropped, walk_of, ends_at, walked, walk_Meets, Goes-spent_ref}
 use Rattle.core.proofs.option.Made.{Some-of, none_of}
-use Rattle.std.specs.declared.option.Option.{Option}
-use Rattle.std.specs.declared.option.Option.TheVariants.{None, Some}
-use Rattle.std_alloc.proofs.BoxSteps.Form.{X, R, τ, handle, word}
-use Rattle.std_alloc.proofs.BoxSteps.Steps.{box_in}
 use Rattle.std_alloc.proofs.VecSteps.Shapes.{after}
-use Rattle.std_heap.specs.contracts.GlobalAllocator.TheImpl.{ghosts}
 use Rattle.partial_door.specs.Lending.{with_held}
 use Rattle.partial_door.specs.contracts.held.Held as Held
 use Rattle.partial_door.specs.contracts.handle.Handle as Handle

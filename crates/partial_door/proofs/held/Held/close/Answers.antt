@@ -1,7 +1,5 @@
-use Rattle.std.proofs.Common.{rules, ◌≡◌, subst}
-use Rattle.partial_door.specs.declared.held.Held.{Held}
+use Rattle.partial_door.proofs.Common.{rules, ◌≡◌, subst, Held, IsUnclosed}
 use Rattle.partial_door.specs.declared.held.Held.TheVariants as held
-use Rattle.partial_door.specs.Inner.Kept.{IsUnclosed}
 use Rattle.partial_door.specs.Memories.{ClosesAt}
 use Rattle.partial_door.proofs.held.Held.close.Goals as goal
 

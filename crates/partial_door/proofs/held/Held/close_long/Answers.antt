@@ -1,5 +1,4 @@
-use Rattle.std.proofs.Common.{rules, ◌≡◌, refl, subst, inr}
-use Rattle.partial_door.specs.declared.held.Held.{Held}
+use Rattle.partial_door.proofs.Common.{rules, ◌≡◌, refl, subst, inr, Held}
 use Rattle.partial_door.specs.LongMemories.{IsReady}
 use Rattle.partial_door.proofs.OpenedLong.{as_was}
 use Rattle.partial_door.proofs.held.Held.close_long.Goals as goal

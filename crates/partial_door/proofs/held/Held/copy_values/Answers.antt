@@ -1,4 +1,4 @@
-use Rattle.std.proofs.Common.{rules, refl, inl, inr}
+use Rattle.partial_door.proofs.Common.{rules, refl, inl, inr}
 use Rattle.partial_door.proofs.held.Held.copy_values.Goals as goal
 
 pub returns : goal.returns

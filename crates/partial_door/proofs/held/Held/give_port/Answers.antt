@@ -1,4 +1,5 @@
-use Rattle.std.proofs.Common.{rules, ◌++◌, ◌∷◌, [], ◌∙◌, List, ap, sym, refl, inl, inr}
+use Rattle.partial_door.proofs.Common.{rules, ◌∙◌, ap, sym, refl, inl, inr}
+use Rattle.std.proofs.Common.{◌++◌, ◌∷◌, [], List}
 use Rattle.partial_memory.specs.Ports.{PortView}
 use Rattle.partial_door.proofs.held.Held.give_port.Goals as goal
 

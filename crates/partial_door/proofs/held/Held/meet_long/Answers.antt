@@ -1,4 +1,4 @@
-use Rattle.std.proofs.Common.{rules, refl, sym, inl, inr}
+use Rattle.partial_door.proofs.Common.{rules, refl, sym, inl, inr}
 use Rattle.partial_door.proofs.held.Held.meet_long.Goals as goal
 
 pub returns : goal.returns

@@ -1,5 +1,4 @@
-use Rattle.std.proofs.Common.{inr}
-use Rattle.core.proofs.result.Match.{if_ok_then}
+use Rattle.partial_door.proofs.Common.{inr, if_ok_then}
 use Rattle.std.proofs.lemmas.Result.{IfErr-weaker}
 use Rattle.partial_door.proofs.held.Held.reopen.Goals as goal
 

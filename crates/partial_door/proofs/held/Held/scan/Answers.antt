@@ -1,5 +1,4 @@
-use Rattle.std.proofs.Common.{rules, refl, inl, inr}
-use Rattle.partial_memory.specs.Ports.{MemoryView}
+use Rattle.partial_door.proofs.Common.{rules, refl, inl, inr, MemoryView}
 use Rattle.partial_door.proofs.Opened.{more}
 use Rattle.partial_door.proofs.held.Held.scan.Goals as goal
 

@@ -1,4 +1,4 @@
-use Rattle.std.proofs.Common.{refl, inr}
+use Rattle.partial_door.proofs.Common.{refl, inr}
 use Rattle.partial_door.proofs.held.Held.state.Goals as goal
 
 pub returns-in-Port : goal.returns-in-Port

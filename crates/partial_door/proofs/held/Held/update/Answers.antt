@@ -1,4 +1,4 @@
-use Rattle.std.proofs.Common.{rules, refl, inl, inr}
+use Rattle.partial_door.proofs.Common.{rules, refl, inl, inr}
 use Rattle.partial_memory.specs.declared.answers.Updated.TheVariants.{Applied, Lost}
 use Rattle.partial_door.proofs.held.Held.update.Goals as goal
 

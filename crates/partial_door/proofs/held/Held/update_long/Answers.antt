@@ -1,4 +1,4 @@
-use Rattle.std.proofs.Common.{rules, refl, inl, inr}
+use Rattle.partial_door.proofs.Common.{rules, refl, inl, inr}
 use Rattle.partial_door.proofs.held.Held.update_long.Goals as goal
 
 pub returns-in-Ok : goal.returns-in-Ok
