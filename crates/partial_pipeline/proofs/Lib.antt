@@ -1,3 +1,4 @@
+mod Common
 pub mod Pipes
 pub mod Reports
 pub mod Rooms

@@ -1,32 +1,15 @@
 -- What the closed memory of a pipeline tells of the monitor's scans.
-use Rattle.std.proofs.Common.{ℕ, zero, suc, inl, inr, ◌≡◌, ◌+◌, ◌<◌, ◌≤◌, ◌++◌, List, [], ◌∷◌, length, map, take, slice_index, refl, sym, ◌∙◌, ap, subst, Option, Some, None, slice_get, arith}
+use Rattle.partial_pipeline.proofs.Common.{ℕ, zero, suc, inl, inr, ◌≡◌, ◌+◌, ◌<◌, ◌≤◌, ◌++◌, List, [], ◌∷◌, length, map, take, slice_index, refl, sym, ◌∙◌, ap, subst, Option, Some, None, slice_get, arith, AllByRecursion, ext_get_or, get_or-map, length-map, take_all, cases_lt, Applied, Opening, Call, Answer, Note, Noted, LegalNotes, IsLegal, seen_after, seen_by, EachOnce, places_written, wrote, AllByRecursion-get, LegalNotes-last, all_where, IsOf, MemoryView, PortView, AreFrom, AreOrdered, HaveEnded, HaveRisen, IsOrderly, IsPipeline, IsStageIn, NeverFall, last_of, EndEach, HasMet, IsEachStage, NotesMore, Opens, Sees, Watched, StageEnd, Finished}
 use Rattle.std.specs.Prelude.{IfSome}
-use Rattle.std.specs.List.{AllByRecursion}
 use Rattle.std.specs.declared.alloc.Global.{Global}
 use Rattle.std.specs.declared.vec.Vec.{Vec}
-use Rattle.std.proofs.lemmas.List.{ext_get_or, get_or-map, length-map, take_all}
-use Rattle.std.proofs.lemmas.Bool.{cases_lt}
-use Rattle.partial_model.specs.declared.history.Applied.{Applied}
-use Rattle.partial_model.specs.declared.history.Opening.{Opening}
-use Rattle.partial_model.specs.declared.call.Call.{Call}
 use Rattle.partial_model.specs.declared.call.Call.TheVariants as call
-use Rattle.partial_model.specs.declared.call.Answer.{Answer}
 use Rattle.partial_model.specs.declared.call.Answer.TheVariants as answer
-use Rattle.partial_model.specs.declared.call.Note.{Note}
 use Rattle.partial_model.specs.declared.call.Note.TheVariants as note
 use Rattle.partial_model.specs.History.{value_of}
-use Rattle.partial_model.specs.Notes.{Noted, LegalNotes, IsLegal, seen_after, seen_by}
-use Rattle.partial_model.specs.Outcome.{EachOnce, places_written, wrote}
 use Rattle.partial_model.proofs.Entries.{noted_at}
-use Rattle.partial_model.proofs.NotesLemmas.{AllByRecursion-get, LegalNotes-last}
 use Rattle.partial_model.proofs.Values.{element_at}
-use Rattle.partial_model.proofs.AllLemmas.{all_where}
 use Rattle.partial_long_lived.specs.Closing.{Closes, IsPortOf}
-use Rattle.partial_long_lived.specs.Ports.{IsOf, MemoryView, PortView}
-use Rattle.partial_pipeline.specs.Pipeline.{AreFrom, AreOrdered, HaveEnded, HaveRisen, IsOrderly, IsPipeline, IsStageIn, NeverFall, last_of}
-use Rattle.partial_pipeline.specs.Stages.{EndEach, HasMet, IsEachStage, NotesMore, Opens, Sees, Watched}
-use Rattle.partial_pipeline.specs.declared.stage.StageEnd.{StageEnd}
-use Rattle.partial_pipeline.specs.declared.stage.StageEnd.TheVariants.{Finished}
 use Rattle.partial_pipeline.proofs.Pipes.{counts_never_fall, counts_stay_ordered, stage_value}
 use Rattle.partial_pipeline.proofs.Stages.{ends_many, watched_sees}
 

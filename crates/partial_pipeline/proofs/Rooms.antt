@@ -1,8 +1,5 @@
 -- Room for the monitor's scans, and the numbers of the stages.
-use Rattle.std.proofs.Common.{ℕ, zero, suc, ◌≡◌, ◌+◌, ◌<◌, ◌++◌, List, [], ◌∷◌, length, slice_index, refl, sym, ◌∙◌, ap, inl, inr, arith}
-use Rattle.std.proofs.lemmas.List.{length_push}
-use Rattle.std.proofs.lemmas.Bool.{cases_lt}
-use Rattle.partial_pipeline.specs.Stages.{IsEachStage}
+use Rattle.partial_pipeline.proofs.Common.{ℕ, zero, suc, ◌≡◌, ◌+◌, ◌<◌, ◌++◌, List, [], ◌∷◌, length, slice_index, refl, sym, ◌∙◌, ap, inl, inr, arith, length_push, cases_lt, IsEachStage}
 
 index_front : (xs : List ℕ) (x k : ℕ) → k < length xs → slice_index (xs ++ x ∷ []) k ≡ slice_index xs k
 index_front [] x k within = absurd (omega arith)

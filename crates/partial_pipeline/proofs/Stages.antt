@@ -1,31 +1,15 @@
 -- One call more of a stage, of the monitor, and a meeting.
-use Rattle.std.proofs.Common.{ℕ, zero, suc, ◌≡◌, ◌+◌, ◌<◌, ◌≤◌, ◌++◌, List, [], ◌∷◌, length, map, take, get_or, refl, sym, ◌∙◌, ap, subst, inl, inr, Option, Some, append-nil, append_assoc, length-take, arith}
-use Rattle.std.specs.List.{AllByRecursion}
-use Rattle.partial_model.specs.declared.history.Applied.{Applied}
-use Rattle.partial_model.specs.declared.history.Opening.{Opening}
-use Rattle.partial_model.specs.declared.call.Call.{Call}
+use Rattle.partial_pipeline.proofs.Common.{ℕ, zero, suc, ◌≡◌, ◌+◌, ◌<◌, ◌≤◌, ◌++◌, List, [], ◌∷◌, length, map, take, get_or, refl, sym, ◌∙◌, ap, subst, inl, inr, Option, Some, append-nil, append_assoc, length-take, arith, AllByRecursion, Applied, Opening, Call, Answer, Note, Noted, LegalNotes, seen_after, places_written, wrote, all_append, all_weaker, shown_within, Goes, IsRefused, Meets, Reads, Scanned, Scans, Updates, IsOf, Knows, MemoryView, PortView, AreFrom, HasWorked, Works, EndEach, EndsAt, HasMet, IsDone, IsWorking, NotesMore, Sees, Watched, last_value, published, StageEnd, Finished}
 use Rattle.partial_model.specs.declared.call.Call.TheVariants as call
-use Rattle.partial_model.specs.declared.call.Answer.{Answer}
 use Rattle.partial_model.specs.declared.call.Answer.TheVariants as answer
-use Rattle.partial_model.specs.declared.call.Note.{Note}
 use Rattle.partial_model.specs.declared.call.Note.TheVariants as note
-use Rattle.partial_model.specs.Notes.{Noted, LegalNotes, seen_after}
 use Rattle.partial_model.specs.Entries.{applied_by, entry_of}
-use Rattle.partial_model.specs.Outcome.{places_written, wrote}
-use Rattle.partial_model.proofs.AllLemmas.{all_append, all_weaker}
-use Rattle.partial_model.proofs.WalkLaws.{true_within}
 use Rattle.partial_long_lived.specs.declared.answers.Updated.{Updated}
 use Rattle.partial_long_lived.specs.declared.answers.Updated.TheVariants.{Applied as IsApplied, Lost}
 use Rattle.partial_long_lived.specs.declared.error.Refused.{Refused}
 use Rattle.partial_long_lived.specs.declared.error.Refused.TheVariants as refused
-use Rattle.partial_long_lived.specs.Calls.{Goes, IsRefused, Meets, Reads, Scanned, Scans, Updates}
-use Rattle.partial_long_lived.specs.Ports.{IsOf, Knows, MemoryView, PortView}
-use Rattle.partial_pipeline.specs.Pipeline.{AreFrom, HasWorked, Works}
 use Rattle.partial_pipeline.proofs.Pipes.{read_makes_none}
-use Rattle.partial_pipeline.specs.Stages.{EndEach, EndsAt, HasMet, IsDone, IsWorking, NotesMore, Sees, Watched, last_value, published}
 use Rattle.partial_pipeline.specs.declared.stage.Stage.{Stage}
-use Rattle.partial_pipeline.specs.declared.stage.StageEnd.{StageEnd}
-use Rattle.partial_pipeline.specs.declared.stage.StageEnd.TheVariants.{Finished}
 use Rattle.partial_pipeline.specs.declared.stage.Worked.{Worked}
 
 -- ---- what a call leaves of its port
@@ -250,7 +234,7 @@ sees_then p x q stages counts w s =
 note_within : (o : Opening) (h : List Applied) (p : ℕ) (c : Call) (a : Answer) (n : Option Note) (seen : ℕ) → LegalNotes o h p seen (record { call = c; answer = a; note = n } ∷ []) →
     AllByRecursion (λ i. i < length h) (wrote n)
 note_within o h p c a (Some (note.Wrote i)) seen w =
-    let within = true_within o h p c a (note.Wrote i) w.0.1.0 in
+    let within = shown_within o h p c a (note.Wrote i) w.0.1.0 in
     (omega (arith, within), tt)
 note_within o h p c a _ seen w = tt
 

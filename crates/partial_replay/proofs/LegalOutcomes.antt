@@ -1,33 +1,8 @@
 -- The calls that a replay tells are a legal outcome.
-use Rattle.std.proofs.Common.{ℕ, zero, suc, ◌⊎◌, map, take, ◌≡◌, ◌≢◌, ◌+◌, ◌<◌, ◌≤◌, ◌++◌, ◌==◌, Bool, true, false, cond, List, [], ◌∷◌, length, Option, Some, None, IfSome, IsSomeAnd, MatchOption, slice_get, refl, sym, ◌∙◌, ap, subst, inl, inr, arith, append_assoc}
-use Rattle.std.specs.List.{filter, filter_map, AllByRecursion}
-use Rattle.std.proofs.lemmas.List.Elements.{filter-append, filter_map-append}
-use Rattle.std.proofs.lemmas.List.{append-nil, length_push, map_push}
-use Rattle.std.proofs.lemmas.Bool.{ne_eqb}
-use Rattle.std.proofs.lemmas.Bool.Decides.{eqb_tells}
-use Rattle.partial_model.specs.declared.history.Applied.{Applied}
-use Rattle.partial_model.specs.declared.history.Opening.{Opening}
-use Rattle.partial_model.specs.declared.call.Call.{Call}
-use Rattle.partial_model.specs.declared.call.Called.{Called}
-use Rattle.partial_model.specs.declared.call.Finish.{Finish}
-use Rattle.partial_model.specs.Notes.{Noted, LegalNotes, shown_by, place_of}
-use Rattle.partial_model.specs.Outcome.{noted_of, notes_of, places_written, Follows, RealTime, LegalOutcome}
-use Rattle.partial_words.specs.Layout.{Layout}
-use Rattle.partial_machine.specs.Machine.{CoreState}
-use Rattle.partial_machine.specs.Bounds.{most_steps}
-use Rattle.partial_words.specs.declared.step.Event.{Event}
-use Rattle.partial_model.proofs.NotesLemmas.{AllByRecursion-append}
+use Rattle.partial_replay.proofs.Common.{ℕ, zero, suc, ◌⊎◌, map, take, ◌≡◌, ◌≢◌, ◌+◌, ◌<◌, ◌≤◌, ◌++◌, ◌==◌, Bool, true, false, cond, List, [], ◌∷◌, length, Option, Some, None, IfSome, IsSomeAnd, MatchOption, slice_get, refl, sym, ◌∙◌, ap, subst, inl, inr, arith, append_assoc, filter, filter_map, AllByRecursion, filter-append, filter_map-append, append-nil, length_push, map_push, ne_eqb, eqb_tells, Applied, Opening, Call, Called, Finish, Noted, LegalNotes, shown_by, place_of, noted_of, notes_of, places_written, Follows, RealTime, LegalOutcome, Layout, CoreState, most_steps, Event, AllByRecursion-append, Part, core_of, port_of, IsBetween, IsMachineOf, Port, UnderWay, HasLeastPlace, calls_by, AreFirstOf, AreAllMade, AreFew, IsSome, AreFinished, IsUnderWay, PortFits, end_of, ends_of, notes_in, unfinished_call, PortsFit, IsRunOf, left_over, calls_in}
 use Rattle.partial_core.specs.Known.{notes_by}
-use Rattle.partial_core.specs.Part.{Part, core_of, port_of, IsBetween, IsMachineOf}
-use Rattle.partial_replay.specs.declared.port.Port.{Port}
-use Rattle.partial_replay.specs.declared.port.UnderWay.{UnderWay}
-use Rattle.partial_replay.specs.Place.{HasLeastPlace}
-use Rattle.partial_replay.specs.Listed.{calls_by, AreFirstOf, AreAllMade, AreFew}
-use Rattle.std.specs.Option.{IsSome}
 use Rattle.partial_replay.proofs.PortLaws.{take_next, same_eqb}
 use Rattle.partial_replay.proofs.Opens.{over_none, none_over}
-use Rattle.partial_replay.specs.Inner.PortState.{AreFinished, IsUnderWay, PortFits, end_of, ends_of, notes_in, unfinished_call}
-use Rattle.partial_replay.specs.Inner.RunState.{PortsFit, IsRunOf, left_over, calls_in}
 
 notes_split : (p : ℕ) (xs ys : List Called) → notes_of p (xs ++ ys) ≡ notes_of p xs ++ notes_of p ys
 notes_split p xs ys = ap (filter_map noted_of) (filter-append (λ (c : Called). c.port == p) xs ys) ∙ filter_map-append noted_of (filter (λ (c : Called). c.port == p) xs)

@@ -1,29 +1,7 @@
 -- The calls of a port are told by the plan, the events and the lengths of the history at the port's turns.
-use Rattle.std.proofs.Common.{ℕ, ◌⊎◌, ◌≡◌, ◌≢◌, ◌+◌, ◌<◌, ◌≤◌, ◌++◌, Bool, cond, List, [], ◌∷◌, length, map, take, Option, Some, None, IfSome, IsSomeAnd, refl, sym, ◌∙◌, ap, subst, inl, inr, arith, length-append}
-use Rattle.std.specs.Option.{option_map}
-use Rattle.std.proofs.lemmas.Bool.{ne_eqb}
-use Rattle.std.proofs.lemmas.Bool.Decides.{eqb_tells}
-use Rattle.partial_model.specs.declared.history.Applied.{Applied}
-use Rattle.partial_model.specs.declared.history.Opening.{Opening}
-use Rattle.partial_model.specs.declared.call.Answer.{Answer}
+use Rattle.partial_replay.proofs.Common.{ℕ, ◌⊎◌, ◌≡◌, ◌≢◌, ◌+◌, ◌<◌, ◌≤◌, ◌++◌, Bool, cond, List, [], ◌∷◌, length, map, take, Option, Some, None, IfSome, IsSomeAnd, refl, sym, ◌∙◌, ap, subst, inl, inr, arith, length-append, option_map, ne_eqb, eqb_tells, Applied, Opening, Answer, Call, Called, Finish, Note, Refused, HaveDistinctStamps, Follows, RealTime, Reply, Idle, CoreState, at_stage, advance, reply_of, answer_for, begun_of, refusal_of, Moment, last_behind, Makes, HasSteps, IsFinishedAtOnce, IsRefusedAtOnce, IsCallOf, AreStepsOf, calls_by, AreFirstOf, EndInStep, BeginInTurns, due_is_unreplied}
 use Rattle.partial_model.specs.declared.call.Answer.TheVariants as answer
-use Rattle.partial_model.specs.declared.call.Call.{Call}
-use Rattle.partial_model.specs.declared.call.Called.{Called}
-use Rattle.partial_model.specs.declared.call.Finish.{Finish}
-use Rattle.partial_model.specs.declared.call.Note.{Note}
-use Rattle.partial_model.specs.declared.call.Refused.{Refused}
-use Rattle.partial_model.specs.History.{HaveDistinctStamps}
-use Rattle.partial_model.specs.Outcome.{Follows, RealTime}
-use Rattle.partial_machine.specs.declared.stage.Reply.{Reply}
-use Rattle.partial_machine.specs.declared.stage.Stage.TheVariants.{Idle}
-use Rattle.partial_machine.specs.Machine.{CoreState, at_stage, advance, reply_of}
-use Rattle.partial_machine.specs.Calls.{answer_for, begun_of, refusal_of}
-use Rattle.partial_replay.specs.Trace.{Moment, last_behind}
-use Rattle.partial_replay.specs.CallSteps.{Makes, HasSteps, IsFinishedAtOnce, IsRefusedAtOnce, IsCallOf, AreStepsOf}
-use Rattle.partial_replay.specs.Listed.{calls_by, AreFirstOf, EndInStep}
-use Rattle.partial_replay.specs.Turns.{BeginInTurns}
 use Rattle.partial_replay.proofs.PortLaws.{same_eqb}
-use Rattle.partial_machine.proofs.Laws.{due_is_unreplied}
 use Rattle.partial_replay.proofs.PortRuns.{AreFinishedBut, none_map}
 use Rattle.partial_replay.proofs.OneNote.{IsRightNote, AreRight, notes_same}
 

@@ -1,24 +1,9 @@
 -- A finished call has one note: the entry with its stamp, or the least prefix that shows its answer.
-use Rattle.std.proofs.Common.{ℕ, ◌≡◌, ◌<◌, ◌≤◌, List, [], ◌∷◌, length, take, Option, Some, None, IfSome, slice_get, refl, sym, ◌∙◌, ap, subst, inl, inr, arith}
-use Rattle.std.specs.List.{AllByRecursion, filter_map, cons_option}
-use Rattle.std.specs.Option.{option_map}
-use Rattle.std.proofs.lemmas.Bool.{cases_lt}
-use Rattle.partial_model.specs.declared.history.Applied.{Applied}
-use Rattle.partial_model.specs.declared.history.Opening.{Opening}
-use Rattle.partial_model.specs.declared.call.Call.{Call}
+use Rattle.partial_replay.proofs.Common.{ℕ, ◌≡◌, ◌<◌, ◌≤◌, List, [], ◌∷◌, length, take, Option, Some, None, IfSome, slice_get, refl, sym, ◌∙◌, ap, subst, inl, inr, arith, AllByRecursion, filter_map, cons_option, option_map, cases_lt, Applied, Opening, Call, Answer, Refused, Note, Called, Finish, HaveDistinctStamps, Noted, Fits, IsTrueOf, IsLegal, LegalNotes, seen_after, shown_by, place_of, noted_of, IsInTime, Shows, IsLeastFrom, HasLeastPlace}
 use Rattle.partial_model.specs.declared.call.Call.TheVariants as call
-use Rattle.partial_model.specs.declared.call.Answer.{Answer}
 use Rattle.partial_model.specs.declared.call.Answer.TheVariants as answer
-use Rattle.partial_model.specs.declared.call.Refused.{Refused}
-use Rattle.partial_model.specs.declared.call.Note.{Note}
 use Rattle.partial_model.specs.declared.call.Note.TheVariants as note
-use Rattle.partial_model.specs.declared.call.Called.{Called}
-use Rattle.partial_model.specs.declared.call.Finish.{Finish}
-use Rattle.partial_model.specs.History.{HaveDistinctStamps}
-use Rattle.partial_model.specs.Notes.{Noted, Fits, IsTrueOf, IsLegal, LegalNotes, seen_after, shown_by, place_of}
-use Rattle.partial_model.specs.Outcome.{noted_of, IsInTime}
 use Rattle.partial_model.proofs.StampsStay.{distinct_at}
-use Rattle.partial_replay.specs.Place.{Shows, IsLeastFrom, HasLeastPlace}
 
 -- the note is right for a call of port p that began when the history had so many entries
 pub record IsRightNote (o : Opening) (h : List Applied) (p began : ℕ) (c : Call) (a : Answer) (note : Option Note) : Type 0 where

@@ -1,30 +1,7 @@
 -- Two outcomes of one plan tell the same.
-use Rattle.std.proofs.Common.{ℕ, ◌≡◌, ◌<◌, ◌≤◌, ◌==◌, Bool, true, false, cond, List, [], ◌∷◌, length, map, get_or, Option, Some, None, refl, sym, ◌∙◌, ap, subst, inl, inr, arith}
-use Rattle.std.specs.List.{AllByRecursion, filter_map}
-use Rattle.std.proofs.lemmas.Bool.{cases_lt}
-use Rattle.std.proofs.lemmas.Bool.Decides.{eqb_tells}
-use Rattle.std.proofs.lemmas.List.{ext_get_or}
-use Rattle.partial_model.specs.declared.history.Applied.{Applied}
-use Rattle.partial_model.specs.declared.history.Opening.{Opening}
-use Rattle.partial_model.specs.declared.call.Call.{Call}
-use Rattle.partial_model.specs.declared.call.Called.{Called}
-use Rattle.partial_model.specs.Outcome.{IsInTime, RealTime}
-use Rattle.partial_model.proofs.HistoryLemmas.{opening_is}
-use Rattle.partial_text.specs.PlanText.{PlanView}
+use Rattle.partial_replay.proofs.Common.{ℕ, ◌≡◌, ◌<◌, ◌≤◌, ◌==◌, Bool, true, false, cond, List, [], ◌∷◌, length, map, get_or, Option, Some, None, refl, sym, ◌∙◌, ap, subst, inl, inr, arith, AllByRecursion, filter_map, cases_lt, eqb_tells, ext_get_or, Applied, Opening, Call, Called, IsInTime, RealTime, opening_is, PlanView, Event, AreOpeningWords, Layout, pool_base, total, value_of, Leads, words_after, fresh, step_of, HasLeastPlace, IsReplayOf, turn_lengths, Moment, entry_of, moments_from, moments_by, ports_of, events_in, turns_of, turns_by, lengths_in, MakeTurns, calls_by, steps_by, AreAllMade, HaveMade}
 use Rattle.partial_text.specs.declared.outcome.Outcome.{Outcome}
-use Rattle.partial_words.specs.declared.step.Event.{Event}
-use Rattle.partial_words.specs.Chain.{AreOpeningWords}
-use Rattle.partial_words.specs.Layout.{Layout, pool_base, total}
-use Rattle.partial_words.specs.Record.{value_of}
-use Rattle.partial_words.specs.Step.{Leads, words_after}
-use Rattle.partial_machine.specs.Machine.{fresh, step_of}
 use Rattle.partial_replay.specs.OneOutcome.{PlansHaveOneOutcome}
-use Rattle.partial_replay.specs.Place.{HasLeastPlace}
-use Rattle.partial_replay.specs.Replayed.{IsReplayOf, turn_lengths}
-use Rattle.partial_replay.specs.Trace.{Moment, entry_of, moments_from, moments_by, ports_of, events_in}
-use Rattle.partial_replay.specs.Turns.{turns_of, turns_by, lengths_in}
-use Rattle.partial_replay.specs.Inner.TurnState.{MakeTurns}
-use Rattle.partial_replay.specs.Listed.{calls_by, steps_by, AreAllMade, HaveMade}
 use Rattle.partial_replay.proofs.OneList.{AreListedFrom, calls_listed, finished_but, AreMade, EndAlike, calls_same, own_call, other_call}
 use Rattle.partial_replay.proofs.OneNote.{notes_right}
 use Rattle.partial_replay.proofs.OneTrace.{moments_events, Goes, traces_same, plan_turns}

@@ -1,17 +1,5 @@
 -- A plan has one trace: each port's next step is told by its machine, its answer by the words, and the next port by the turns.
-use Rattle.std.proofs.Common.{ℕ, zero, suc, ◌≡◌, ◌≢◌, ◌+◌, ◌-◌, ◌<◌, ◌≤◌, ◌==◌, ◌++◌, min, Bool, true, false, cond, List, [], ◌∷◌, length, map, replicate, Option, Some, None, refl, sym, ◌∙◌, ap, subst, inl, inr, arith}
-use Rattle.std.specs.List.{filter, range_with_len}
-use Rattle.std.proofs.lemmas.Bool.{ne_eqb}
-use Rattle.std.proofs.lemmas.Bool.Decides.{eqb_tells}
-use Rattle.std.proofs.lemmas.List.Sums.{sum_by-cons}
-use Rattle.partial_words.specs.declared.step.Step.{Step}
-use Rattle.partial_words.specs.declared.step.Event.{Event}
-use Rattle.partial_words.specs.Step.{Leads, answer_of, words_after}
-use Rattle.partial_machine.specs.Machine.{step_of}
-use Rattle.partial_replay.specs.Trace.{Moment, adds, moments_from, ports_of, events_in}
-use Rattle.partial_replay.specs.Turns.{so_many, to_its_end, made_in, left_behind, ports_in, turns_by, turns_of}
-use Rattle.partial_text.specs.PlanText.{PlanView}
-use Rattle.partial_replay.specs.Inner.TurnState.{HasTurns, MakeTurns}
+use Rattle.partial_replay.proofs.Common.{ℕ, zero, suc, ◌≡◌, ◌≢◌, ◌+◌, ◌-◌, ◌<◌, ◌≤◌, ◌==◌, ◌++◌, min, Bool, true, false, cond, List, [], ◌∷◌, length, map, replicate, Option, Some, None, refl, sym, ◌∙◌, ap, subst, inl, inr, arith, filter, range_with_len, ne_eqb, eqb_tells, sum_by-cons, Step, Event, Leads, answer_of, words_after, step_of, Moment, adds, moments_from, ports_of, events_in, so_many, to_its_end, made_in, left_behind, ports_in, turns_by, turns_of, PlanView, HasTurns, MakeTurns}
 use Rattle.partial_replay.proofs.PortLaws.{same_eqb}
 use Rattle.partial_replay.proofs.TurnLaws.{events_own, events_other}
 use Rattle.partial_replay.proofs.PortRuns.{PortAt, PortRun, port_behind}

@@ -1,34 +1,6 @@
 -- A replay as it opens, and what it lists in the end.
-use Rattle.std.proofs.Common.{ℕ, zero, suc, ◌^◌, append_assoc, ◌≡◌, ◌+◌, ◌<◌, ◌≤◌, ◌++◌, List, [], ◌∷◌, length, take, get_or, Option, Some, None, MatchOption, slice_get, refl, sym, ◌∙◌, ap, subst, arith, map, IfSome}
-use Rattle.std.specs.List.{AllByRecursion}
-use Rattle.partial_model.specs.declared.history.Opening.{Opening}
-use Rattle.partial_model.specs.declared.call.Call.{Call}
-use Rattle.partial_model.specs.declared.call.Called.{Called}
-use Rattle.partial_model.specs.Notes.{LegalNotes, seen_by}
-use Rattle.partial_model.specs.Outcome.{places_written}
-use Rattle.partial_words.specs.Layout.{Layout, IsLayout, pool_base}
-use Rattle.partial_words.specs.Chain.{AreOpeningWords}
-use Rattle.partial_machine.specs.Machine.{CoreState, fresh}
-use Rattle.partial_machine.specs.Sound.{IsSound}
-use Rattle.partial_machine.proofs.Laws.{rests_are_sound}
-use Rattle.partial_core.specs.Part.{Part, fresh_parts, IsBetween, IsMarkedLike}
-use Rattle.partial_core.proofs.Laws.{opens_lawful}
-use Rattle.partial_replay.specs.declared.port.Port.{Port}
-use Rattle.partial_replay.specs.declared.port.UnderWay.{UnderWay}
-use Rattle.partial_replay.specs.Inner.PortState.{unfinished_call, AreFinished, IsUnderWay, PortFits, notes_in, ends_of, IsGoing, HasTurned, steps_under_way}
-use Rattle.partial_replay.specs.Inner.RunState.{PortsFit, IsRunOf, FreshFrom, AreFreshPorts, AreListed, ArePlans, left_over, calls_in, ArePortsMade, AreStarted}
-use Rattle.std.specs.Option.{IsSome}
-use Rattle.std.specs.List.{zip}
-use Rattle.std.proofs.lemmas.List.{append-nil}
-use Rattle.partial_model.specs.declared.history.Applied.{Applied}
-use Rattle.partial_replay.specs.Place.{HasLeastPlace}
+use Rattle.partial_replay.proofs.Common.{ℕ, zero, suc, ◌^◌, append_assoc, ◌≡◌, ◌+◌, ◌<◌, ◌≤◌, ◌++◌, List, [], ◌∷◌, length, take, get_or, Option, Some, None, MatchOption, slice_get, refl, sym, ◌∙◌, ap, subst, arith, map, IfSome, AllByRecursion, Opening, Call, Called, LegalNotes, seen_by, places_written, Layout, IsLayout, pool_base, AreOpeningWords, CoreState, fresh, IsSound, rests_are_sound, Part, fresh_parts, IsBetween, IsMarkedLike, opens_lawful, Port, UnderWay, unfinished_call, AreFinished, IsUnderWay, PortFits, notes_in, ends_of, IsGoing, HasTurned, steps_under_way, PortsFit, IsRunOf, FreshFrom, AreFreshPorts, AreListed, ArePlans, left_over, calls_in, ArePortsMade, AreStarted, IsSome, zip, append-nil, Applied, HasLeastPlace, Moment, AreStepsOf, BeginInTurns, StopsAtStep, steps_in, EndInStep, AreFew, place_below}
 use Rattle.partial_replay.proofs.PortLaws.{some_is}
-use Rattle.partial_replay.specs.Trace.{Moment}
-use Rattle.partial_replay.specs.CallSteps.{AreStepsOf}
-use Rattle.partial_replay.specs.Turns.{BeginInTurns}
-use Rattle.partial_replay.specs.Inner.TurnState.{StopsAtStep}
-use Rattle.partial_replay.specs.Listed.{steps_in, EndInStep, AreFew}
-use Rattle.partial_model.proofs.HistoryLemmas.{place_below}
 
 -- one fresh port more
 pub fresh_push : (z : Layout) (p : ℕ) (ports : List Port) (port : Port) → FreshFrom z p ports → port.number ≡ p + length ports → port.core ≡ fresh z port.number → port.finished.items ≡ [] →

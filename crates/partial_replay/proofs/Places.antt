@@ -1,23 +1,8 @@
 -- The least place that fits: where a call's note is legal, so is the one that is found from its begin on.
-use Rattle.std.proofs.Common.{ℕ, zero, suc, ◌≡◌, ◌≢◌, ◌+◌, ◌<◌, ◌≤◌, List, [], ◌∷◌, length, take, get_or, Option, Some, None, IfSome, Contains, slice_get, refl, sym, ◌∙◌, ap, inl, inr, arith}
-use Rattle.std.specs.Option.{option_map, option_map_or}
-use Rattle.std.proofs.lemmas.Bool.{cases_lt}
-use Rattle.std.proofs.lemmas.List.{take-take}
-use Rattle.partial_model.specs.declared.history.Applied.{Applied}
-use Rattle.partial_model.specs.declared.history.Opening.{Opening}
-use Rattle.partial_model.specs.declared.call.Call.{Call}
+use Rattle.partial_replay.proofs.Common.{ℕ, zero, suc, ◌≡◌, ◌≢◌, ◌+◌, ◌<◌, ◌≤◌, List, [], ◌∷◌, length, take, get_or, Option, Some, None, IfSome, Contains, slice_get, refl, sym, ◌∙◌, ap, inl, inr, arith, option_map, option_map_or, cases_lt, take-take, Applied, Opening, Call, Answer, Note, HaveDistinctStamps, IsHistory, last_entry, initial_stamp, stamp_of, Fits, IsTrueOf, IsEntryFor, place_of, shown_by, wrote, LastAt, last_at, place_below, AllByRecursion-get, Agrees, IsPlaceFrom, IsNoteFrom, IsLeastFrom, prefix_from}
 use Rattle.partial_model.specs.declared.call.Call.TheVariants as call
-use Rattle.partial_model.specs.declared.call.Answer.{Answer}
-use Rattle.partial_model.specs.declared.call.Note.{Note}
 use Rattle.partial_model.specs.declared.call.Note.TheVariants as note
-use Rattle.partial_model.specs.History.{HaveDistinctStamps, IsHistory, last_entry, initial_stamp, stamp_of}
-use Rattle.partial_model.specs.Notes.{Fits, IsTrueOf, IsEntryFor, place_of, shown_by}
-use Rattle.partial_model.specs.Outcome.{wrote}
-use Rattle.partial_model.proofs.HistoryLemmas.{LastAt, last_at, place_below}
-use Rattle.partial_model.proofs.NotesLemmas.{AllByRecursion-get}
 use Rattle.partial_model.specs.declared.call.Answer.TheVariants as answer
-use Rattle.partial_words.specs.Chain.{Agrees}
-use Rattle.partial_replay.specs.Place.{IsPlaceFrom, IsNoteFrom, IsLeastFrom, prefix_from}
 
 -- the place that is found is one of the history
 pub place_within : (h : List Applied) (began s : ℕ) (found : Option ℕ) → IsPlaceFrom h began s found → IfSome found (λ k. k < length h)

@@ -1,12 +1,7 @@
 -- What a plan's text says of its calls.
-use Rattle.std.proofs.Common.{ℕ, ◌<◌, ◌^◌, List, [], ◌∷◌, length}
-use Rattle.std.specs.List.{AllByRecursion}
-use Rattle.partial_model.specs.declared.call.Call.{Call}
+use Rattle.partial_replay.proofs.Common.{ℕ, ◌<◌, ◌^◌, List, [], ◌∷◌, length, AllByRecursion, Call, PlanView, IsPlan, IsCall, IsServed, ArePlans}
 use Rattle.partial_model.specs.declared.call.Call.TheVariants as call
-use Rattle.partial_text.specs.PlanText.{PlanView, IsPlan, IsCall}
 use Rattle.partial_text.proofs.Laws.{plans_have_few_calls}
-use Rattle.partial_machine.specs.Calls.{IsServed}
-use Rattle.partial_replay.specs.Inner.RunState.{ArePlans}
 
 -- a plan's calls of a port are ones that the machine serves
 pub served : (m : ℕ) (cs : List Call) → AllByRecursion (IsCall m) cs → AllByRecursion (IsServed m) cs

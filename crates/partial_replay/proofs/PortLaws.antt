@@ -1,49 +1,14 @@
 -- How a port of a replay goes on as its part's port.
-use Rattle.std.proofs.Common.{ℕ, ◌==◌, ◌≢◌, set, inl, inr, zero, suc, ◌≡◌, ◌+◌, ◌<◌, ◌≤◌, ◌++◌, Bool, true, false, cond, List, [], ◌∷◌, length, take, map, get_or, Option, Some, None, IsSome, IfSome, IsSomeAnd, MatchOption, slice_get, refl, sym, ◌∙◌, ap, subst, arith, length-append}
-use Rattle.std.specs.List.{AllByRecursion, cons_option}
-use Rattle.std.specs.Option.{option_map, option_map_or}
-use Rattle.std.proofs.lemmas.Bool.Decides.{eqb_tells}
-use Rattle.std.proofs.lemmas.Bool.{false≢true}
-use Rattle.std.proofs.lemmas.List.{append-nil, length_push, map_push, take-append-le}
-use Rattle.partial_model.specs.declared.history.Applied.{Applied}
-use Rattle.partial_model.specs.declared.history.Opening.{Opening}
-use Rattle.partial_model.specs.declared.call.Call.{Call}
+use Rattle.partial_replay.proofs.Common.{ℕ, ◌==◌, ◌≢◌, set, inl, inr, zero, suc, ◌≡◌, ◌+◌, ◌<◌, ◌≤◌, ◌++◌, Bool, true, false, cond, List, [], ◌∷◌, length, take, map, get_or, Option, Some, None, IfSome, IsSomeAnd, MatchOption, slice_get, refl, sym, ◌∙◌, ap, subst, arith, length-append, AllByRecursion, cons_option, option_map, option_map_or, eqb_tells, false≢true, append-nil, length_push, map_push, take-append-le, Applied, Opening, Call, Refused, Answer, Note, Shows, IsLeastFrom, HasLeastPlace, Called, Finish, Noted, LegalNotes, IsLegal, MayBeRefused, seen_by, seen_after, shown_by, place_of, noted_of, places_written, wrote, AllByRecursion-push, LegalNotes-push, LegalNotes-grows, seen_by-push, places_written-push, Step, Event, Layout, answer_of, words_after, Reply, Idle, ReadBegun, UpdateBegun, ScanBegun, Finished, CoreState, at_stage, advance, step_of, reply_at, reply_of, AreComponents, IsSound, IsPossible, begin_scan, is_begun, is_at_rest, makes_steps, call_of, answer_for, begun_of, refusal_of, IsServed, steps_left, most_steps, Part, port_of, IsMachineOf, IsBetween, calls_begin, calls_are_refused_at_once, calls_begin_between, Port, UnderWay, IsRefusedAtOnce, IsFinishedAtOnce, end_of, ends_of, IsFinished, AreFinished, notes_in, IsUnderWay, PortFits, IsDoneAtOnce, entry_at, one_step_more, IsEndedCall, GoesOn, Ends, StepMade, AreFew, place_below}
+use Rattle.std.proofs.Common.{IsSome}
 use Rattle.partial_model.specs.declared.call.Call.TheVariants as call
-use Rattle.partial_model.specs.declared.call.Refused.{Refused}
-use Rattle.partial_model.specs.declared.call.Answer.{Answer}
 use Rattle.partial_model.specs.declared.call.Answer.TheVariants as answer
-use Rattle.partial_model.specs.declared.call.Note.{Note}
 use Rattle.partial_model.specs.declared.call.Note.TheVariants as note
-use Rattle.partial_replay.specs.Place.{Shows, IsLeastFrom, HasLeastPlace}
-use Rattle.partial_model.specs.declared.call.Called.{Called}
-use Rattle.partial_model.specs.declared.call.Finish.{Finish}
 use Rattle.std.specs.declared.vec.Vec.{Vec}
 use Rattle.std.specs.declared.alloc.Global.{Global}
-use Rattle.partial_model.specs.Notes.{Noted, LegalNotes, IsLegal, MayBeRefused, seen_by, seen_after, shown_by, place_of}
-use Rattle.partial_model.specs.Outcome.{noted_of, places_written, wrote}
-use Rattle.partial_model.proofs.NotesLemmas.{AllByRecursion-push, LegalNotes-push, LegalNotes-grows, seen_by-push, places_written-push}
-use Rattle.partial_words.specs.declared.step.Step.{Step}
-use Rattle.partial_words.specs.declared.step.Event.{Event}
-use Rattle.partial_words.specs.Layout.{Layout}
-use Rattle.partial_words.specs.Step.{answer_of, words_after}
-use Rattle.partial_machine.specs.declared.stage.Reply.{Reply}
 use Rattle.partial_machine.specs.declared.stage.Reply.TheVariants as reply
-use Rattle.partial_machine.specs.declared.stage.Stage.TheVariants.{Idle, ReadBegun, UpdateBegun, ScanBegun, Finished}
-use Rattle.partial_machine.specs.Machine.{CoreState, at_stage, advance, step_of, reply_at, reply_of}
-use Rattle.partial_machine.specs.Sound.{AreComponents, IsSound}
-use Rattle.partial_machine.specs.Possible.{IsPossible}
-use Rattle.partial_machine.specs.Calls.{begin_scan, is_begun, is_at_rest, makes_steps, call_of, answer_for, begun_of, refusal_of, IsServed}
-use Rattle.partial_machine.specs.Bounds.{steps_left, most_steps}
-use Rattle.partial_core.specs.Part.{Part, port_of, HasBegun, IsMachineOf, IsBetween}
+use Rattle.partial_core.specs.Part.{HasBegun}
 use Rattle.partial_machine.specs.declared.stage.Stage.{Stage}
-use Rattle.partial_machine.proofs.Laws.{calls_begin, calls_are_refused_at_once}
-use Rattle.partial_core.proofs.Laws.{calls_begin_between}
-use Rattle.partial_replay.specs.declared.port.Port.{Port}
-use Rattle.partial_replay.specs.declared.port.UnderWay.{UnderWay}
-use Rattle.partial_replay.specs.CallSteps.{IsRefusedAtOnce, IsFinishedAtOnce}
-use Rattle.partial_replay.specs.Inner.PortState.{end_of, ends_of, IsFinished, AreFinished, notes_in, IsUnderWay, PortFits, IsDoneAtOnce, entry_at, one_step_more, IsEndedCall, GoesOn, Ends, StepMade}
-use Rattle.partial_replay.specs.Listed.{AreFew}
-use Rattle.partial_model.proofs.HistoryLemmas.{place_below}
 
 pub same_eqb : (a b : ℕ) → a ≡ b → (a == b) ≡ true
 same_eqb a b h = elim (eqb_tells a b) [ inl w ↦ w.0 | inr w ↦ absurd (w.1 h) ]

@@ -1,21 +1,5 @@
 -- A port of a plan as a machine of its own: which step it makes next, whatever was answered so far.
-use Rattle.std.proofs.Common.{ℕ, ◌≡◌, ◌++◌, List, [], ◌∷◌, length, map, take, Option, Some, None, refl, sym, ◌∙◌, ap, subst, inl, inr, true, arith}
-use Rattle.std.specs.Option.{IsSome, is_some, option_map, option_map_or}
-use Rattle.std.proofs.lemmas.Bool.{false≢true}
-use Rattle.std.proofs.lemmas.List.{map-append}
-use Rattle.partial_model.specs.declared.call.Call.{Call}
-use Rattle.partial_model.specs.declared.call.Called.{Called}
-use Rattle.partial_model.specs.declared.call.Finish.{Finish}
-use Rattle.partial_model.specs.declared.call.Refused.{Refused}
-use Rattle.partial_words.specs.declared.step.Event.{Event}
-use Rattle.partial_machine.specs.declared.stage.Reply.{Reply}
-use Rattle.partial_machine.specs.declared.stage.Stage.TheVariants.{Idle}
-use Rattle.partial_machine.specs.Machine.{CoreState, at_stage, advance, step_at, step_of, reply_of}
-use Rattle.partial_machine.specs.Calls.{answer_for, begun_of, refusal_of}
-use Rattle.partial_machine.proofs.Laws.{due_is_unreplied}
-use Rattle.partial_replay.specs.Trace.{Moment}
-use Rattle.partial_replay.specs.CallSteps.{Makes, HasSteps, IsCallOf, AreStepsOf}
-use Rattle.partial_replay.specs.Listed.{AreFirstOf, AreAllMade}
+use Rattle.partial_replay.proofs.Common.{ℕ, ◌≡◌, ◌++◌, List, [], ◌∷◌, length, map, take, Option, Some, None, refl, sym, ◌∙◌, ap, subst, inl, inr, true, arith, IsSome, is_some, option_map, option_map_or, false≢true, map-append, Call, Called, Finish, Refused, Event, Reply, Idle, CoreState, at_stage, advance, step_at, step_of, reply_of, answer_for, begun_of, refusal_of, due_is_unreplied, Moment, Makes, HasSteps, IsCallOf, AreStepsOf, AreFirstOf, AreAllMade}
 
 -- the machine of a port, in the call under way or idle behind the last one, and the plan's calls behind it
 pub record PortAt : Type 0 where

@@ -1,36 +1,6 @@
 -- The events of a port are the steps of its calls.
-use Rattle.std.proofs.Common.{ℕ, ◌≢◌, ◌≤◌, suc, ◌≡◌, ◌+◌, ◌<◌, ◌==◌, ◌++◌, Bool, true, false, cond, List, [], ◌∷◌, length, map, set, Option, Some, None, IfSome, MatchOption, slice_get, refl, sym, ◌∙◌, ap, subst, inl, inr, arith, append_assoc, length-append}
-use Rattle.std.specs.List.{AllByRecursion, filter, filter_map, cons_option, sum_by}
-use Rattle.std.specs.Option.{option_map, is_some, IsSome}
-use Rattle.std.proofs.lemmas.List.{append-nil, length_push, length-map}
-use Rattle.std.proofs.lemmas.List.Sums.{sum_by-cons}
-use Rattle.std.proofs.lemmas.Bool.{false≢true, ne_eqb}
-use Rattle.std.proofs.lemmas.List.Elements.{filter-append}
-use Rattle.std.proofs.lemmas.Bool.Decides.{eqb_tells}
-use Rattle.partial_model.specs.declared.history.Applied.{Applied}
-use Rattle.partial_model.specs.declared.call.Call.{Call}
-use Rattle.partial_model.specs.declared.call.Called.{Called}
-use Rattle.partial_model.specs.declared.call.Finish.{Finish}
-use Rattle.partial_model.specs.declared.history.Opening.{Opening}
-use Rattle.partial_words.specs.declared.step.Step.{Step}
-use Rattle.partial_words.specs.declared.step.Event.{Event}
-use Rattle.partial_words.specs.Layout.{Layout}
-use Rattle.partial_words.specs.Step.{word_of, answer_of}
-use Rattle.partial_machine.specs.declared.stage.Reply.{Reply}
+use Rattle.partial_replay.proofs.Common.{ℕ, ◌≢◌, ◌≤◌, suc, ◌≡◌, ◌+◌, ◌<◌, ◌==◌, ◌++◌, Bool, true, false, cond, List, [], ◌∷◌, length, map, set, Option, Some, None, IfSome, MatchOption, slice_get, refl, sym, ◌∙◌, ap, subst, inl, inr, arith, append_assoc, length-append, AllByRecursion, filter, filter_map, cons_option, sum_by, option_map, is_some, IsSome, append-nil, length_push, length-map, sum_by-cons, false≢true, ne_eqb, filter-append, eqb_tells, Applied, Call, Called, Finish, Opening, Step, Event, Layout, word_of, answer_of, Reply, Idle, Finished, CoreState, at_stage, advance, step_of, reply_at, reply_of, fresh, IsPossible, Part, IsBetween, answer_for, is_at_rest, begun_of, refusal_of, Port, UnderWay, Moment, last_behind, adds, is_won, new_of, entry_of, moments_from, moments_by, ports_of, events_in, EndInStep, Makes, IsCallOf, AreStepsOf, IsUnderWay, PortFits, IsGoing, PortMade, KeepsMade, unfinished_call, began_at, IsDoneAtOnce, ended_call, one_step_more, GoesOn, Ends, StepMade, ArePortsMade, AreStarted, AreStartedBut, left_over, unvalued, StopsAtStep}
 use Rattle.partial_machine.specs.declared.stage.Stage.{Stage}
-use Rattle.partial_machine.specs.declared.stage.Stage.TheVariants.{Idle, Finished}
-use Rattle.partial_machine.specs.Machine.{CoreState, at_stage, advance, step_of, reply_at, reply_of, fresh}
-use Rattle.partial_machine.specs.Possible.{IsPossible}
-use Rattle.partial_core.specs.Part.{Part, IsBetween}
-use Rattle.partial_machine.specs.Calls.{answer_for, is_at_rest, begun_of, refusal_of}
-use Rattle.partial_replay.specs.declared.port.Port.{Port}
-use Rattle.partial_replay.specs.declared.port.UnderWay.{UnderWay}
-use Rattle.partial_replay.specs.Trace.{Moment, last_behind, adds, is_won, new_of, entry_of, moments_from, moments_by, ports_of, events_in}
-use Rattle.partial_replay.specs.Listed.{EndInStep}
-use Rattle.partial_replay.specs.CallSteps.{Makes, IsCallOf, AreStepsOf}
-use Rattle.partial_replay.specs.Inner.PortState.{IsUnderWay, PortFits, IsGoing, PortMade, KeepsMade, unfinished_call, began_at, IsDoneAtOnce, ended_call, one_step_more, GoesOn, Ends, StepMade}
-use Rattle.partial_replay.specs.Inner.RunState.{ArePortsMade, AreStarted, AreStartedBut, left_over, unvalued}
-use Rattle.partial_replay.specs.Inner.TurnState.{StopsAtStep}
 use Rattle.partial_replay.proofs.PortLaws.{same_eqb, get_set, get_set_other}
 use Rattle.partial_replay.proofs.Opens.{over_none}
 use Rattle.partial_replay.proofs.LegalOutcomes.{begun_by}

@@ -1,21 +1,5 @@
 -- A port begins its calls in its turns.
-use Rattle.std.proofs.Common.{ℕ, ◌≡◌, ◌+◌, ◌<◌, ◌++◌, List, [], ◌∷◌, length, slice_get, Option, Some, None, IfSome, MatchOption, sym, ◌∙◌, ap, subst, arith}
-use Rattle.std.proofs.lemmas.List.{append-nil, length_push}
-use Rattle.std.proofs.lemmas.List.Sums.{sum_by_push}
-use Rattle.partial_model.specs.declared.history.Applied.{Applied}
-use Rattle.partial_model.specs.declared.call.Call.{Call}
-use Rattle.partial_model.specs.declared.call.Called.{Called}
-use Rattle.partial_model.proofs.NotesLemmas.{slice_get_grows, slice_get_last}
-use Rattle.partial_words.specs.declared.step.Event.{Event}
-use Rattle.partial_machine.specs.declared.stage.Reply.{Reply}
-use Rattle.partial_machine.specs.Machine.{CoreState, reply_of}
-use Rattle.partial_machine.specs.Calls.{answer_for}
-use Rattle.partial_replay.specs.declared.port.Port.{Port}
-use Rattle.partial_replay.specs.declared.port.UnderWay.{UnderWay}
-use Rattle.partial_replay.specs.Inner.PortState.{HasTurned, steps_under_way, one_step_more, ended_call, unfinished_call, GoesOn, Ends, StepMade, core_behind}
-use Rattle.partial_replay.specs.Inner.RunState.{left_over}
-use Rattle.partial_replay.specs.Turns.{BeginInTurns}
-use Rattle.partial_replay.specs.Listed.{steps_in}
+use Rattle.partial_replay.proofs.Common.{ℕ, ◌≡◌, ◌+◌, ◌<◌, ◌++◌, List, [], ◌∷◌, length, slice_get, Option, Some, None, IfSome, MatchOption, sym, ◌∙◌, ap, subst, arith, append-nil, length_push, sum_by_push, Applied, Call, Called, slice_get_grows, slice_get_last, Event, Reply, CoreState, reply_of, answer_for, Port, UnderWay, HasTurned, steps_under_way, one_step_more, ended_call, unfinished_call, GoesOn, Ends, StepMade, core_behind, left_over, BeginInTurns, steps_in}
 use Rattle.partial_replay.proofs.TurnLengths.{begin_longer, begin_push}
 use Rattle.partial_replay.proofs.LegalOutcomes.{begun_by}
 

@@ -1,42 +1,13 @@
 -- What a replay has come to is an outcome of its plan.
-use Rattle.std.proofs.Common.{ℕ, Bool, true, false, cond, zero, suc, ◌⊎◌, ◌≡◌, ◌+◌, ◌<◌, ◌≤◌, ◌==◌, List, [], ◌∷◌, length, map, take, get_or, Some, slice_get, refl, sym, ◌∙◌, ap, subst, inl, inr, arith}
-use Rattle.std.specs.List.{filter_map, sum_by, AllByRecursion}
-use Rattle.std.proofs.lemmas.Option.{get_or_from_slice_get}
-use Rattle.partial_model.specs.declared.history.Applied.{Applied}
-use Rattle.partial_model.specs.declared.history.Opening.{Opening}
-use Rattle.partial_model.specs.declared.call.Call.{Call}
-use Rattle.partial_model.specs.declared.call.Called.{Called}
-use Rattle.partial_model.specs.Outcome.{LegalOutcome}
-use Rattle.partial_words.specs.declared.step.Event.{Event}
-use Rattle.partial_words.specs.Layout.{Layout, pool_base}
-use Rattle.partial_words.specs.Record.{value_of}
-use Rattle.partial_words.specs.Step.{Leads}
-use Rattle.partial_words.specs.Chain.{Agrees, AreOpeningWords}
-use Rattle.std.proofs.lemmas.List.Sums.{sum_by-cons}
-use Rattle.partial_text.specs.PlanText.{PlanView}
-use Rattle.partial_machine.specs.Machine.{CoreState, fresh}
-use Rattle.partial_replay.specs.CallSteps.{AreStepsOf}
-use Rattle.partial_machine.specs.Bounds.{most_steps}
-use Rattle.partial_replay.specs.Inner.PortState.{PortFits}
+use Rattle.partial_replay.proofs.Common.{ℕ, Bool, true, false, cond, zero, suc, ◌⊎◌, ◌≡◌, ◌+◌, ◌<◌, ◌≤◌, ◌==◌, List, [], ◌∷◌, length, map, take, get_or, Some, slice_get, refl, sym, ◌∙◌, ap, subst, inl, inr, arith, filter_map, sum_by, AllByRecursion, get_or_from_slice_get, Applied, Opening, Call, Called, LegalOutcome, Event, Layout, pool_base, value_of, Leads, Agrees, AreOpeningWords, sum_by-cons, PlanView, CoreState, fresh, AreStepsOf, most_steps, PortFits, Port, Run, HasLeastPlace, entry_of, moments_from, moments_by, ports_of, events_in, turns_of, turns_by, ports_in, lengths_in, BeginInTurns, calls_by, steps_by, AreFirstOf, AreAllMade, EndInStep, HaveMade, AreFew, IsReplayOf, turn_lengths, AreStarted, IsBetweenTurns, IsRunOf, Tells, calls_in, StopsAtStep, StopAtSteps, IsDone, HasMadeTurns, HasBegun, lengths_so_far, HaveBegun, lawful_ports_fit, place_below}
 use Rattle.partial_replay.proofs.PortSteps.{ending_begun, steps_begun, events_steps, none_moments}
 use Rattle.partial_text.specs.declared.outcome.Outcome.{Outcome}
-use Rattle.partial_replay.specs.declared.port.Port.{Port}
-use Rattle.partial_replay.specs.declared.run.Run.{Run}
-use Rattle.partial_replay.specs.Place.{HasLeastPlace}
-use Rattle.partial_replay.specs.Trace.{entry_of, moments_from, moments_by, ports_of, events_in}
-use Rattle.partial_replay.specs.Turns.{turns_of, turns_by, ports_in, lengths_in, BeginInTurns}
-use Rattle.partial_replay.specs.Listed.{calls_by, steps_by, AreFirstOf, AreAllMade, EndInStep, HaveMade, AreFew}
-use Rattle.partial_replay.specs.Replayed.{IsReplayOf, turn_lengths}
-use Rattle.partial_replay.specs.Inner.RunState.{AreStarted, IsBetweenTurns, IsRunOf, Tells, calls_in}
-use Rattle.partial_replay.specs.Inner.TurnState.{StopsAtStep, StopAtSteps, IsDone, HasMadeTurns, HasBegun, lengths_so_far, HaveBegun}
 use Rattle.partial_replay.proofs.RunSteps.{port_in, ports_length}
-use Rattle.partial_core.proofs.Laws.{lawful_ports_fit}
 use Rattle.partial_replay.proofs.LegalOutcomes.{begun_by, few_told, least_told, run_legal, listed_at, none_listed, first_begun, all_made}
 use Rattle.partial_replay.proofs.TurnLaws.{follows_ports, turns_told}
 use Rattle.partial_replay.proofs.TurnLengths.{lengths_same}
 use Rattle.partial_replay.proofs.PortTurns.{turns_over}
 use Rattle.partial_replay.proofs.Traces.{entries_told}
-use Rattle.partial_model.proofs.HistoryLemmas.{place_below}
 
 -- a place of a list is in it or behind it
 pub at_place : {A : Type 0} (xs : List A) (i : ℕ) → ((x : A) × (slice_get xs i ≡ Some x)) ⊎ (length xs ≤ i)

@@ -1,44 +1,13 @@
 -- A step of a port keeps a replay's state lawful.
-use Rattle.std.proofs.Common.{ℕ, ◌≡◌, ◌+◌, ◌<◌, ◌≤◌, ◌++◌, Bool, true, false, cond, List, [], ◌∷◌, length, Option, Some, None, IfSome, MatchOption, slice_get, inr, refl, sym, ◌∙◌, ap, subst, arith, length-append}
+use Rattle.partial_replay.proofs.Common.{ℕ, ◌≡◌, ◌+◌, ◌<◌, ◌≤◌, ◌++◌, Bool, true, false, cond, List, [], ◌∷◌, length, Option, Some, None, IfSome, MatchOption, slice_get, inr, refl, sym, ◌∙◌, ap, subst, arith, length-append, append-nil, length-map, Applied, Opening, Call, Refused, Note, Called, Noted, LegalNotes, IsLegal, MayBeRefused, seen_by, shown_by, place_of, Fits, IsTrueOf, places_written, wrote, places_written-append, AllByRecursion-push, AllByRecursion-weaker, LegalNotes-last, Step, Event, Layout, Answers, Leads, answer_of, words_after, Reply, Idle, CoreState, at_stage, scanned_values, advance, step_of, reply_of, IsSound, rests_are_sound, steps_left, most_steps, Part, Kept, core_of, port_of, IsBetween, IsMarkedLike, first_at, is_begun, is_at_rest, call_of, answer_for, Port, UnderWay, ends_of, notes_in, IsUnderWay, PortFits, AreWithin, HasValues, MayAnswer, one_step_more, ended_call, GoesOn, Ends, AreFew, IsNoteFrom, IsLeastFrom, view_word, lawful_records_are_within, initial_stamp, AllByRecursion}
 use Rattle.std.specs.Prelude.{is_some}
-use Rattle.std.proofs.lemmas.List.{append-nil, length-map}
-use Rattle.partial_model.specs.declared.history.Applied.{Applied}
-use Rattle.partial_model.specs.declared.history.Opening.{Opening}
-use Rattle.partial_model.specs.declared.call.Call.{Call}
-use Rattle.partial_model.specs.declared.call.Refused.{Refused}
 use Rattle.partial_model.specs.declared.call.Answer.TheVariants as answer
 use Rattle.partial_model.specs.declared.call.Call.TheVariants as call
-use Rattle.partial_model.specs.declared.call.Note.{Note}
 use Rattle.partial_model.specs.declared.call.Note.TheVariants as note
-use Rattle.partial_model.specs.declared.call.Called.{Called}
-use Rattle.partial_model.specs.Notes.{Noted, LegalNotes, IsLegal, MayBeRefused, seen_by, shown_by, place_of, Fits, IsTrueOf}
-use Rattle.partial_model.specs.Outcome.{places_written, wrote}
-use Rattle.partial_model.proofs.NotesLemmas.{places_written-append, AllByRecursion-push, AllByRecursion-weaker, LegalNotes-last}
-use Rattle.partial_words.specs.declared.step.Step.{Step}
-use Rattle.partial_words.specs.declared.step.Event.{Event}
-use Rattle.partial_words.specs.Layout.{Layout}
-use Rattle.partial_words.specs.Step.{Answers, Leads, answer_of, words_after}
-use Rattle.partial_machine.specs.declared.stage.Reply.{Reply}
 use Rattle.partial_machine.specs.declared.stage.Reply.TheVariants as reply
-use Rattle.partial_machine.specs.declared.stage.Stage.TheVariants.{Idle}
-use Rattle.partial_machine.specs.Machine.{CoreState, at_stage, scanned_values, advance, step_of, reply_of}
-use Rattle.partial_machine.specs.Sound.{IsSound}
-use Rattle.partial_machine.proofs.Laws.{rests_are_sound}
-use Rattle.partial_machine.specs.Bounds.{steps_left, most_steps}
-use Rattle.partial_core.specs.Part.{Part, Kept, core_of, port_of, IsBetween, IsMarkedLike, first_at}
 use Rattle.partial_core.specs.Lawful.{Lawful}
 use Rattle.partial_core.specs.Steps.{begun_with, kept_with, added_by, LeadsOn, IsNoteOf, IsRefusal, AreNotesOf}
-use Rattle.partial_machine.specs.Calls.{is_begun, is_at_rest, call_of, answer_for}
-use Rattle.partial_replay.specs.declared.port.Port.{Port}
-use Rattle.partial_replay.specs.declared.port.UnderWay.{UnderWay}
-use Rattle.partial_replay.specs.Inner.PortState.{ends_of, notes_in, IsUnderWay, PortFits, AreWithin, HasValues, MayAnswer, one_step_more, ended_call, GoesOn, Ends}
-use Rattle.partial_replay.specs.Listed.{AreFew}
-use Rattle.partial_replay.specs.Place.{IsNoteFrom, IsLeastFrom}
 use Rattle.partial_replay.proofs.ScanPlaces.{has_records, has_record}
-use Rattle.partial_words.specs.Record.{view_word}
-use Rattle.partial_core.proofs.Laws.{lawful_records_are_within}
-use Rattle.partial_model.specs.History.{initial_stamp}
-use Rattle.std.specs.List.{AllByRecursion}
 use Rattle.partial_replay.proofs.Places.{finds_place}
 use Rattle.partial_replay.proofs.PortLaws.{some_is, DoneFits, EndedCall, done_of, done_grows, push_fits, fits_with}
 

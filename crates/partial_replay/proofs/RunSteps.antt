@@ -1,40 +1,14 @@
 -- A turn of a port among the others.
-use Rattle.std.proofs.Common.{ℕ, zero, suc, ◌≡◌, ◌+◌, ◌-◌, ◌*◌, ◌<◌, ◌≤◌, ◌==◌, ◌++◌, Bool, true, false, cond, not, List, [], ◌∷◌, length, get_or, set, Option, Some, None, MatchOption, MatchBool, nat_lt, ◌^◌, slice_get, Result, Ok, Err, OnOk, refl, sym, ◌∙◌, ap, subst, arith, length-append, get_or-set_other, mul-le-mul, mul-suc}
+use Rattle.partial_replay.proofs.Common.{ℕ, zero, suc, ◌≡◌, ◌+◌, ◌-◌, ◌*◌, ◌<◌, ◌≤◌, ◌==◌, ◌++◌, Bool, true, false, cond, not, List, [], ◌∷◌, length, get_or, set, Option, Some, None, MatchOption, MatchBool, nat_lt, ◌^◌, slice_get, Result, Ok, Err, OnOk, refl, sym, ◌∙◌, ap, subst, arith, length-append, get_or-set_other, mul-le-mul, mul-suc, option_map_or, is_some, IsSome, false≢true, ltb-true, append-nil, length_push, Applied, Opening, Call, Called, LegalNotes-grows, AllByRecursion-get, AllByRecursion-push, Step, Event, Layout, IsLayout, Leads, answer_of, words_after, value_of, view_word, Reply, Idle, CoreState, reply_of, steps_left, most_of_update, most_steps, Part, port_of, IsBetween, answer_for, IsServed, steps_stay_lawful, lawful_machines_are_ready, lawful_records_are_within, Port, UnderWay, KeepsMade, IsExchangeWithin, AreWithin, notes_in, IsUnderWay, PortFits, core_behind, entry_at, one_step_more, ended_call, GoesOn, Ends, StepMade, MayStep, KeepsFit, AreStartedBut, ArePlans, PortsFit, IsRunOf, left_for, left_of, left_at, AllByRecursion, place_below}
 use Rattle.std.proofs.Math.Nat.{mul-le-mul_left}
-use Rattle.std.specs.Option.{option_map_or, is_some, IsSome}
-use Rattle.std.proofs.lemmas.Bool.{false≢true, ltb-true}
-use Rattle.std.proofs.lemmas.List.{append-nil, length_push}
-use Rattle.partial_model.specs.declared.history.Applied.{Applied}
-use Rattle.partial_model.specs.declared.history.Opening.{Opening}
-use Rattle.partial_model.specs.declared.call.Call.{Call}
 use Rattle.partial_model.specs.declared.call.Call.TheVariants as call
-use Rattle.partial_model.specs.declared.call.Called.{Called}
-use Rattle.partial_model.proofs.NotesLemmas.{LegalNotes-grows, AllByRecursion-get, AllByRecursion-push}
-use Rattle.partial_words.specs.declared.step.Step.{Step}
 use Rattle.partial_words.specs.declared.step.Step.TheVariants.{Load, Store, Exchange, Add}
-use Rattle.partial_words.specs.declared.step.Event.{Event}
-use Rattle.partial_words.specs.Layout.{Layout, IsLayout}
-use Rattle.partial_words.specs.Step.{Leads, answer_of, words_after}
-use Rattle.partial_words.specs.Record.{value_of, view_word}
-use Rattle.partial_machine.specs.declared.stage.Reply.{Reply}
-use Rattle.partial_machine.specs.declared.stage.Stage.TheVariants.{Idle}
-use Rattle.partial_machine.specs.Machine.{CoreState, reply_of}
-use Rattle.partial_machine.specs.Bounds.{steps_left, most_of_update, most_steps}
-use Rattle.partial_core.specs.Part.{Part, port_of, IsBetween}
 use Rattle.partial_core.specs.Lawful.{Lawful}
-use Rattle.partial_machine.specs.Calls.{answer_for, IsServed}
 use Rattle.partial_core.specs.Steps.{added_by, PublishesWithin, LeadsOn}
-use Rattle.partial_core.proofs.Laws.{steps_stay_lawful, lawful_machines_are_ready, lawful_records_are_within}
-use Rattle.partial_replay.specs.declared.port.Port.{Port}
-use Rattle.partial_replay.specs.declared.port.UnderWay.{UnderWay}
-use Rattle.partial_replay.specs.Inner.PortState.{KeepsMade, IsExchangeWithin, AreWithin, notes_in, IsUnderWay, PortFits, core_behind, entry_at, one_step_more, ended_call, GoesOn, Ends, StepMade, MayStep, KeepsFit}
-use Rattle.partial_replay.specs.Inner.RunState.{AreStartedBut, ArePlans, PortsFit, IsRunOf, left_for, left_of, left_at}
 use Rattle.partial_replay.proofs.PortLaws.{least_grow, finished_grows, get_is, between_of}
 use Rattle.partial_replay.proofs.RunLaws.{due_step, lawful_within, leads_push, sizes_y, step_fits, end_may}
 use Rattle.partial_replay.proofs.PortSteps.{ports_step, ports_begin, log_long}
-use Rattle.std.specs.List.{AllByRecursion}
 use Rattle.partial_replay.proofs.Traces.{entries_push}
-use Rattle.partial_model.proofs.HistoryLemmas.{place_below}
 
 -- another port's history grows
 way_grows : (log es : List Applied) (calls : List Call) (x : Part) (core : CoreState) (done : List Called) (way : Option UnderWay) → MatchOption way (IsBetween x core)

@@ -1,19 +1,6 @@
 -- The turns of a replay, and the calls that the ports begin in them.
-use Rattle.std.proofs.Common.{ℕ, suc, ◌≡◌, ◌+◌, ◌-◌, ◌<◌, ◌≤◌, ◌==◌, ◌++◌, Bool, true, false, cond, List, [], ◌∷◌, length, map, set, replicate, slice_get, Option, Some, None, MatchOption, refl, sym, ◌∙◌, ap, subst, inl, inr, arith, append_assoc}
-use Rattle.std.proofs.lemmas.List.{append-nil, length-map, length-replicate, map-append}
-use Rattle.std.proofs.lemmas.Bool.Decides.{eqb_tells}
-use Rattle.partial_model.specs.declared.history.Applied.{Applied}
-use Rattle.partial_model.specs.declared.call.Call.{Call}
-use Rattle.partial_words.specs.declared.step.Event.{Event}
-use Rattle.partial_words.specs.Layout.{Layout}
+use Rattle.partial_replay.proofs.Common.{ℕ, suc, ◌≡◌, ◌+◌, ◌-◌, ◌<◌, ◌≤◌, ◌==◌, ◌++◌, Bool, true, false, cond, List, [], ◌∷◌, length, map, set, replicate, slice_get, Option, Some, None, MatchOption, refl, sym, ◌∙◌, ap, subst, inl, inr, arith, append_assoc, append-nil, length-map, length-replicate, map-append, eqb_tells, Applied, Call, Event, Layout, Port, Run, Moment, moments_from, last_behind, ports_of, events_in, idle_in, lengths_of, lengths_in, HasTurned, StepMade, IsRun, IsReady, IsSameMemory, IsSameOpening, IsDone, StayDone, StayStopped, StayStoppedBut, StayStoppedWith, GoesOnBy, HasBegun, own_turns, BeginsIn, StepsIn, GoesOnIn, moments_behind, TurnMade, StepsMade, TurnsMade, MakeTurns, HasMadeTurns, lengths_so_far, HaveBegun}
 use Rattle.partial_replay.specs.declared.memory.Memory.{Memory}
-use Rattle.partial_replay.specs.declared.port.Port.{Port}
-use Rattle.partial_replay.specs.declared.run.Run.{Run}
-use Rattle.partial_replay.specs.Trace.{Moment, moments_from, last_behind, ports_of, events_in}
-use Rattle.partial_replay.specs.Turns.{idle_in, lengths_of, lengths_in}
-use Rattle.partial_replay.specs.Inner.PortState.{HasTurned, StepMade}
-use Rattle.partial_replay.specs.Inner.RunState.{IsRun, IsReady, IsSameMemory, IsSameOpening}
-use Rattle.partial_replay.specs.Inner.TurnState.{IsDone, StayDone, StayStopped, StayStoppedBut, StayStoppedWith, GoesOnBy, HasBegun, own_turns, BeginsIn, StepsIn, GoesOnIn, moments_behind, TurnMade, StepsMade, TurnsMade, MakeTurns, HasMadeTurns, lengths_so_far, HaveBegun}
 use Rattle.partial_replay.proofs.PortLaws.{get_set, get_set_other}
 use Rattle.partial_replay.proofs.PortSteps.{log_long}
 use Rattle.partial_replay.proofs.TurnLaws.{ready_done, by_more, last_turns}

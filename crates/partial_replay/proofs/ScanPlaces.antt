@@ -1,23 +1,9 @@
 -- The search for the place of a scan: what is marked at each place, and that the least place is found.
-use Rattle.std.proofs.Common.{ℕ, zero, suc, ◌≡◌, ◌≢◌, ◌+◌, ◌-◌, ◌<◌, ◌≤◌, ◌==◌, ◌++◌, ◌⊎◌, Bool, true, false, not, cond, List, [], ◌∷◌, length, map, take, get_or, set, count_by, Option, Some, None, slice_get, refl, sym, ◌∙◌, ap, subst, inl, inr, get_or-set_other, arith}
-use Rattle.std.specs.List.{AllByRecursion}
-use Rattle.std.specs.Option.{option_map_or}
-use Rattle.std.proofs.lemmas.Bool.{false≢true, cases_eq, cases_lt, eq-eqb, eqb-true}
-use Rattle.std.proofs.lemmas.List.{length-set, get_or-set_same, get_or-map, length-map}
-use Rattle.std.proofs.lemmas.List.Sums.{sum_by-cons}
-use Rattle.std.proofs.lemmas.Option.{get_or_from_slice_get, slice_get_within}
+use Rattle.partial_replay.proofs.Common.{ℕ, zero, suc, ◌≡◌, ◌≢◌, ◌+◌, ◌-◌, ◌<◌, ◌≤◌, ◌==◌, ◌++◌, ◌⊎◌, Bool, true, false, not, cond, List, [], ◌∷◌, length, map, take, get_or, set, count_by, Option, Some, None, slice_get, refl, sym, ◌∙◌, ap, subst, inl, inr, get_or-set_other, arith, AllByRecursion, option_map_or, false≢true, cases_eq, cases_lt, eq-eqb, eqb-true, length-set, get_or-set_same, get_or-map, length-map, sum_by-cons, get_or_from_slice_get, slice_get_within, Applied, Opening, last_entry, initial_stamp, stamp_of, last_entry-passed, stamp_all, AllByRecursion-get, position_below, Agrees, prev_of, value_of, values_after, values_now, differs, marks_before, AreMarked, AllHave, AreWanted, AreMarksOf, HasRecord, HasRecords, IsLeft, IsEmpty, IsLeast, ShowsValues}
 use Rattle.std.proofs.lemmas.Grind.{same_number_lists}
 use Rattle.std.proofs.Math.Seq.{take-length}
-use Rattle.partial_model.specs.declared.history.Applied.{Applied}
-use Rattle.partial_model.specs.declared.history.Opening.{Opening}
-use Rattle.partial_model.specs.History.{last_entry, initial_stamp, stamp_of}
-use Rattle.partial_model.proofs.HistoryLemmas.{last_entry-passed, stamp_all}
-use Rattle.partial_model.proofs.NotesLemmas.{AllByRecursion-get}
-use Rattle.partial_model.proofs.AllLemmas.{position_below}
-use Rattle.partial_words.specs.Chain.{Agrees}
-use Rattle.partial_words.specs.Record.{prev_of, value_of}
 use Rattle.partial_words.proofs.ChainLemmas.{value_behind_stamp, prev_before_entry}
-use Rattle.partial_replay.specs.ScanPlace.{values_after, values_now, differs, marks_before, AreMarked, AllHave, AreWanted, AreComponents, AreMarksOf, HasRecord, HasRecords, IsLeft, IsEmpty, IsLeast, ShowsValues}
+use Rattle.partial_replay.specs.ScanPlace.{AreComponents}
 
 -- the values in the words are those after the whole history
 pub now_is_after : (o : Opening) (words : List ℕ) (h : List Applied) (j : ℕ) → Agrees o words h → j < length o.values → values_now words j ≡ values_after o h (length h) j

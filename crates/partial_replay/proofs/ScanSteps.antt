@@ -1,28 +1,10 @@
 -- The answered scans of a replay make their steps.
-use Rattle.std.proofs.Common.{ℕ, zero, suc, ◌≡◌, ◌<◌, ◌++◌, Bool, cond, List, [], ◌∷◌, length, map, get_or, Option, Some, None, refl, sym, ◌∙◌, ap, subst, inl, inr, arith}
-use Rattle.std.specs.List.{AllByRecursion}
-use Rattle.std.specs.Option.{option_map}
-use Rattle.std.proofs.lemmas.Bool.Decides.{eqb_tells}
-use Rattle.std.proofs.lemmas.List.{length-map}
-use Rattle.partial_model.specs.declared.call.Call.{Call}
+use Rattle.partial_replay.proofs.Common.{ℕ, zero, suc, ◌≡◌, ◌<◌, ◌++◌, Bool, cond, List, [], ◌∷◌, length, map, get_or, Option, Some, None, refl, sym, ◌∙◌, ap, subst, inl, inr, arith, AllByRecursion, option_map, eqb_tells, length-map, Call, Called, Finish, all_take, Layout, IsLayout, Reply, Idle, ScanBegun, Finished, CoreState, at_stage, advance, reply_of, fresh, IsSound, begin_scan, answer_for, begun_of, IsServed, answers_lead_on, due_is_unreplied, rests_are_sound, stays_sound, scans_make_their_steps, PlanView, IsPlan, IsCall, Moment, moments_by, Makes, IsCallOf, HasSteps, AreStepsOf, calls_by}
 use Rattle.partial_model.specs.declared.call.Call.TheVariants as call
 use Rattle.partial_model.specs.declared.call.Answer.TheVariants as answer
-use Rattle.partial_model.specs.declared.call.Called.{Called}
-use Rattle.partial_model.specs.declared.call.Finish.{Finish}
-use Rattle.partial_model.proofs.AllLemmas.{all_take}
-use Rattle.partial_words.specs.Layout.{Layout, IsLayout}
-use Rattle.partial_machine.specs.declared.stage.Reply.{Reply}
 use Rattle.partial_machine.specs.declared.stage.Reply.TheVariants as reply
-use Rattle.partial_machine.specs.declared.stage.Stage.TheVariants.{Idle, ScanBegun, Finished}
-use Rattle.partial_machine.specs.Machine.{CoreState, at_stage, advance, reply_of, fresh}
-use Rattle.partial_machine.specs.Sound.{IsSound}
-use Rattle.partial_machine.specs.Calls.{begin_scan, answer_for, begun_of, IsServed}
 use Rattle.partial_machine.specs.Steps.{Run, AreOfScan, pairs_loaded}
-use Rattle.partial_machine.proofs.Laws.{answers_lead_on, due_is_unreplied, rests_are_sound, stays_sound, scans_make_their_steps}
-use Rattle.partial_text.specs.PlanText.{PlanView, IsPlan, IsCall}
-use Rattle.partial_replay.specs.Trace.{Moment, moments_by}
-use Rattle.partial_replay.specs.CallSteps.{Makes, IsCallOf, HasSteps, AreStepsOf}
-use Rattle.partial_replay.specs.Listed.{calls_by}
+use Rattle.partial_machine.proofs.Behind.{run_sizes}
 use Rattle.partial_replay.specs.ScanSteps.{answers_of, events_in_front, own_events, IsOfItsScan, AnsweredScansMakeTheirSteps}
 use Rattle.partial_replay.proofs.PortLaws.{Begins, begins, begun_sizes, once_empty}
 use Rattle.partial_replay.proofs.StepsOf.{IsCut, steps_cut}
@@ -32,12 +14,6 @@ use Rattle.partial_replay.proofs.Plans.{served}
 run_of : (s t : CoreState) (xs : List Moment) → Makes s xs t → Run s (answers_of xs) t
 run_of s t [] m = m
 run_of s t (x ∷ xs) m = (m.1, run_of (advance s x.event.answer) t xs m.2)
-
-run_sizes : (s t : CoreState) (xs : List ℕ) → IsLayout s.sizes → IsSound s → Run s xs t → t.sizes ≡ s.sizes
-run_sizes s t [] layout w run = ap (λ (v : CoreState). v.sizes) run
-run_sizes s t (x ∷ xs) layout w run =
-    let k = answers_lead_on s x layout w run.0 in
-    run_sizes (advance s x) t xs (subst IsLayout (sym k.sizes) layout) k.sound run.1 ∙ k.sizes
 
 -- a call with steps, as its machine sees it
 record CallRun (z : Layout) (s : CoreState) (c : Called) (own : List Moment) (last : CoreState) : Type 0 where

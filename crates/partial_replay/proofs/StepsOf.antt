@@ -1,12 +1,6 @@
 -- The calls of a port and their events, cut at a call.
-use Rattle.std.proofs.Common.{ℕ, ◌≡◌, ◌+◌, ◌++◌, List, [], ◌∷◌, length, take, drop, refl, sym, ◌∙◌, ap, subst}
+use Rattle.partial_replay.proofs.Common.{ℕ, ◌≡◌, ◌+◌, ◌++◌, List, [], ◌∷◌, length, take, drop, refl, sym, ◌∙◌, ap, subst, sum_by-cons, Called, CoreState, Moment, IsCallOf, AreStepsOf, steps_in}
 use Rattle.std.proofs.Math.Seq.{take-append_seam, take-append-add, drop-append_seam, drop-append-add}
-use Rattle.std.proofs.lemmas.List.Sums.{sum_by-cons}
-use Rattle.partial_model.specs.declared.call.Called.{Called}
-use Rattle.partial_machine.specs.Machine.{CoreState}
-use Rattle.partial_replay.specs.Trace.{Moment}
-use Rattle.partial_replay.specs.CallSteps.{IsCallOf, AreStepsOf}
-use Rattle.partial_replay.specs.Listed.{steps_in}
 
 -- the events of the calls in front of one, its own, and those behind it
 pub record IsCut (s : CoreState) (front : List Called) (c : Called) (behind : List Called) (xs : List Moment) (last : CoreState) : Type 0 where

@@ -1,26 +1,8 @@
 -- What a trace says, event by event.
-use Rattle.std.proofs.Common.{ℕ, suc, ◌-◌, ◌≡◌, ◌+◌, ◌<◌, ◌==◌, ◌++◌, Bool, true, false, cond, List, [], ◌∷◌, length, map, get_or, take, nat_lt, Option, Some, None, slice_get, refl, sym, ◌∙◌, ap, arith}
-use Rattle.std.specs.List.{filter_map, cons_option}
-use Rattle.std.proofs.lemmas.List.Elements.{filter_map-append}
-use Rattle.std.proofs.lemmas.List.{map-append}
-use Rattle.std.proofs.lemmas.Option.{get_or_from_slice_get}
-use Rattle.partial_model.specs.declared.history.Applied.{Applied}
-use Rattle.partial_model.specs.declared.history.Opening.{Opening}
+use Rattle.partial_replay.proofs.Common.{ℕ, suc, ◌-◌, ◌≡◌, ◌+◌, ◌<◌, ◌==◌, ◌++◌, Bool, true, false, cond, List, [], ◌∷◌, length, map, get_or, take, nat_lt, Option, Some, None, slice_get, refl, sym, ◌∙◌, ap, arith, filter_map, cons_option, filter_map-append, map-append, get_or_from_slice_get, Applied, Opening, IsHistory, initial_stamp, last_entry, stamp_of, option_map_or, word_of, last_entry-found, place_below, AllByRecursion-get, Step, Event, value_of, Agrees, is_won, new_of, entry_of, entry_at, unvalued}
 use Rattle.partial_model.specs.History as history
-use Rattle.partial_model.specs.History.{IsHistory, initial_stamp, last_entry, stamp_of}
-use Rattle.std.specs.Option.{option_map_or}
-use Rattle.partial_words.specs.Step.{word_of}
-use Rattle.partial_model.proofs.HistoryLemmas.{last_entry-found, place_below}
-use Rattle.partial_model.proofs.NotesLemmas.{AllByRecursion-get}
-use Rattle.partial_words.specs.declared.step.Step.{Step}
 use Rattle.partial_words.specs.declared.step.Step.TheVariants.{Load, Store, Exchange, Add}
-use Rattle.partial_words.specs.declared.step.Event.{Event}
-use Rattle.partial_words.specs.Record.{value_of}
-use Rattle.partial_words.specs.Chain.{Agrees}
 use Rattle.partial_words.proofs.ChainLemmas.{value_behind_stamp}
-use Rattle.partial_replay.specs.Trace.{is_won, new_of, entry_of}
-use Rattle.partial_replay.specs.Inner.PortState.{entry_at}
-use Rattle.partial_replay.specs.Inner.RunState.{unvalued}
 
 entry_won : (p w old new v : ℕ) (c b : Bool) → cons_option (cond (cond c b false) (Some (record { port = p; component = w; value = 0; stamp = new })) None) [] ≡ map unvalued
     (cond c (cond b (record { port = p; component = w; value = v; stamp = new } ∷ []) []) [])

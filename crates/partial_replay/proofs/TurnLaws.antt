@@ -1,25 +1,5 @@
 -- The turns of a replay, one behind the other.
-use Rattle.std.proofs.Common.{ℕ, zero, suc, ◌≡◌, ◌≢◌, ◌+◌, ◌-◌, ◌<◌, ◌≤◌, ◌==◌, ◌++◌, Bool, true, false, cond, List, [], ◌∷◌, length, get_or, map, take, replicate, set, Option, Some, None, slice_get, refl, sym, ◌∙◌, ap, subst, inl, inr, arith, append_assoc, length-append, MatchOption}
-use Rattle.std.specs.List.{filter, range_with_len}
-use Rattle.std.proofs.lemmas.List.Elements.{filter-append}
-use Rattle.std.proofs.lemmas.List.Sums.{sum_by-cons, sum_by-append}
-use Rattle.partial_replay.specs.Turns.{so_many, to_its_end, made_in, ports_in, turns_by, turns_of, left_behind}
-use Rattle.partial_text.specs.PlanText.{PlanView}
-use Rattle.partial_replay.specs.Listed.{AreAllMade, EndInStep, HaveMade}
-use Rattle.partial_model.specs.declared.call.Called.{Called}
-use Rattle.std.proofs.lemmas.List.{take_all, append-nil, map_push, map-append, length-replicate, replicate-append-replicate}
-use Rattle.std.proofs.lemmas.Bool.{ne_eqb, cases_lt}
-use Rattle.std.proofs.lemmas.Bool.Decides.{eqb_tells}
-use Rattle.partial_model.specs.declared.call.Call.{Call}
-use Rattle.partial_words.specs.declared.step.Event.{Event}
-use Rattle.partial_words.specs.Step.{answer_of}
-use Rattle.partial_model.specs.declared.history.Applied.{Applied}
-use Rattle.partial_replay.specs.Inner.PortState.{StepMade}
-use Rattle.partial_replay.specs.declared.port.Port.{Port}
-use Rattle.partial_replay.specs.declared.run.Run.{Run}
-use Rattle.partial_replay.specs.Trace.{ports_of, events_in}
-use Rattle.partial_replay.specs.Inner.RunState.{IsReady}
-use Rattle.partial_replay.specs.Inner.TurnState.{IsDone, GoesOnBy, TurnsMade, StopAtSteps, HasTurns, MakeTurns, HasMadeTurns}
+use Rattle.partial_replay.proofs.Common.{ℕ, zero, suc, ◌≡◌, ◌≢◌, ◌+◌, ◌-◌, ◌<◌, ◌≤◌, ◌==◌, ◌++◌, Bool, true, false, cond, List, [], ◌∷◌, length, get_or, map, take, replicate, set, Option, Some, None, slice_get, refl, sym, ◌∙◌, ap, subst, inl, inr, arith, append_assoc, length-append, MatchOption, filter, range_with_len, filter-append, sum_by-cons, sum_by-append, so_many, to_its_end, made_in, ports_in, turns_by, turns_of, left_behind, PlanView, AreAllMade, EndInStep, HaveMade, Called, take_all, append-nil, map_push, map-append, length-replicate, replicate-append-replicate, ne_eqb, cases_lt, eqb_tells, Call, Event, answer_of, Applied, StepMade, Port, Run, ports_of, events_in, IsReady, IsDone, GoesOnBy, TurnsMade, StopAtSteps, HasTurns, MakeTurns, HasMadeTurns}
 use Rattle.partial_replay.proofs.PortLaws.{get_set, get_set_other, take_next, get_is, same_eqb}
 
 -- a port in another state: the ports that have made all their calls have still made them where this one has

@@ -1,15 +1,5 @@
 -- How long the history is at each turn of a port, and the calls that the port begins in its turns.
-use Rattle.std.proofs.Common.{ℕ, zero, suc, ◌≡◌, ◌≢◌, ◌+◌, ◌-◌, ◌≤◌, ◌==◌, ◌++◌, Bool, true, false, cond, List, [], ◌∷◌, length, map, take, drop, replicate, slice_get, Option, Some, refl, sym, ◌∙◌, ap, subst, arith, append_assoc, length-append}
-use Rattle.std.proofs.lemmas.List.{append-nil, length-map, length-replicate, map-append, take-append-drop, take-append-le, drop-append-le}
-use Rattle.std.proofs.lemmas.List.Sums.{sum_by-cons}
-use Rattle.std.proofs.lemmas.Bool.{ne_eqb}
-use Rattle.partial_model.specs.declared.call.Called.{Called}
-use Rattle.partial_model.proofs.NotesLemmas.{slice_get_grows}
-use Rattle.partial_words.specs.declared.step.Event.{Event}
-use Rattle.partial_replay.specs.Trace.{Moment, adds, moments_from, last_behind, ports_of, events_in}
-use Rattle.partial_replay.specs.Turns.{made_in, left_behind, lengths_of, lengths_in, BeginInTurns}
-use Rattle.partial_replay.specs.Listed.{steps_in}
-use Rattle.partial_replay.specs.Inner.TurnState.{HasTurns, MakeTurns, own_turns}
+use Rattle.partial_replay.proofs.Common.{ℕ, zero, suc, ◌≡◌, ◌≢◌, ◌+◌, ◌-◌, ◌≤◌, ◌==◌, ◌++◌, Bool, true, false, cond, List, [], ◌∷◌, length, map, take, drop, replicate, slice_get, Option, Some, refl, sym, ◌∙◌, ap, subst, arith, append_assoc, length-append, append-nil, length-map, length-replicate, map-append, take-append-drop, take-append-le, drop-append-le, sum_by-cons, ne_eqb, Called, slice_get_grows, Event, Moment, adds, moments_from, last_behind, ports_of, events_in, made_in, left_behind, lengths_of, lengths_in, BeginInTurns, steps_in, HasTurns, MakeTurns, own_turns}
 use Rattle.partial_replay.proofs.PortLaws.{same_eqb}
 use Rattle.partial_replay.proofs.TurnLaws.{own_events, made_is, left_same, turns_grow}
 

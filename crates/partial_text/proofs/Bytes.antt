@@ -1,8 +1,6 @@
 -- What reads and writes in a row do to the known bytes.
-use Rattle.std.proofs.Common.{◌≡◌, ℕ, ◌+◌, ◌-◌, ◌≤◌, List, [], ◌++◌, length, take, drop, Option, None, Some, refl, sym, ap, ◌∙◌, append_assoc, arith}
-use Rattle.std.proofs.lemmas.List.{append-nil, take_rest, drop-drop, length-drop}
+use Rattle.partial_text.proofs.Common.{◌≡◌, ℕ, ◌+◌, ◌-◌, ◌≤◌, List, [], ◌++◌, length, take, drop, Option, None, Some, refl, sym, ap, ◌∙◌, append_assoc, arith, append-nil, take_rest, drop-drop, length-drop, Appends, Consumes, Keeps}
 use Rattle.std.proofs.Math.Seq.{take-add}
-use Rattle.std.specs.Io.KnownBytes.{Appends, Consumes, Keeps}
 
 pub Appends_none : (a : Option (List ℕ)) → Appends a a []
 Appends_none None = tt

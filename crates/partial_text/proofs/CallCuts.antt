@@ -1,10 +1,6 @@
 -- How the texts of calls come one after the other.
-use Rattle.std.proofs.Common.{◌≡◌, ℕ, ◌+◌, ◌<◌, ◌≤◌, Bool, true, false, cond, eqb, ◌&&◌, List, [], ◌∷◌, ◌++◌, length, get_or, take, drop, Result, Ok, ◌-◌, refl, sym, ap, ◌∙◌, append_assoc, arith}
-use Rattle.std.proofs.lemmas.List.{append-nil, at_drop_more, at_drop_all, take_more, take_all, take_rest}
-use Rattle.partial_model.specs.declared.call.Call.{Call}
-use Rattle.partial_text.specs.declared.fault.PlanError.{PlanError}
-use Rattle.partial_text.specs.Pieces.{onto_first}
-use Rattle.partial_text.specs.Judging.{is_cut, call_texts, call_texts_behind, call_at, calls_at}
+use Rattle.partial_text.proofs.Common.{◌≡◌, ℕ, ◌+◌, ◌<◌, ◌≤◌, Bool, true, false, cond, eqb, ◌&&◌, List, [], ◌∷◌, ◌++◌, length, get_or, take, drop, Result, Ok, ◌-◌, refl, sym, ap, ◌∙◌, append_assoc, arith, append-nil, at_drop_more, at_drop_all, take_more, take_all, take_rest, Call, PlanError, onto_first, is_cut, call_texts, call_texts_behind, call_at}
+use Rattle.partial_text.specs.Judging.{calls_at}
 
 -- bytes in front of the first text
 abbrev pub with_front : List ℕ → List (List ℕ) → List (List ℕ)

@@ -1,20 +1,9 @@
 -- A call is read exactly from its text, and calls from their texts in a row.
-use Rattle.std.proofs.Common.{◌≡◌, ℕ, ◌^◌, ◌<◌, ◌≤◌, Bool, true, false, cond, eqb, ltb, ◌&&◌, List, [], ◌∷◌, ◌++◌, length, map, codes, Ok, Err, refl, sym, ap, subst, ◌∙◌, append_assoc, drop, ◌⊎◌, inl, inr, arith}
-use Rattle.std.specs.Prelude.{decimal}
-use Rattle.std.specs.Option.{ok_or}
-use Rattle.std.specs.List.{flat_map, AllByRecursion}
-use Rattle.std.specs.Str.{bytes_eq}
-use Rattle.std.proofs.lemmas.Bool.{eqb-true, ltb-false}
-use Rattle.std.proofs.lemmas.List.{append-nil, length-map}
-use Rattle.std.proofs.lemmas.List.Folds.{flat_map-map}
-use Rattle.partial_model.specs.declared.call.Call.{Call}
+use Rattle.partial_text.proofs.Common.{◌≡◌, ℕ, ◌^◌, ◌<◌, ◌≤◌, Bool, true, false, cond, eqb, ltb, ◌&&◌, List, [], ◌∷◌, ◌++◌, length, map, codes, Ok, Err, refl, sym, ap, subst, ◌∙◌, append_assoc, drop, ◌⊎◌, inl, inr, arith, decimal, ok_or, flat_map, AllByRecursion, bytes_eq, eqb-true, ltb-false, append-nil, length-map, flat_map-map, Call, until, onto_first, ◌>>=◌, call_text, next_call, port_line, IsCall, greatest, greatest_index, fields_of, exactly_one, exactly_two, exactly_three, number_at, numbers_at, call_texts}
 use Rattle.partial_model.specs.declared.call.Call.TheVariants as call
 use Rattle.partial_text.specs.declared.fault.Cause.TheVariants as cause
 use Rattle.partial_text.specs.declared.fault.PlanError.TheVariants as plan
-use Rattle.partial_text.specs.Pieces.{until, onto_first}
-use Rattle.partial_text.specs.Fault.{◌>>=◌}
-use Rattle.partial_text.specs.PlanText.{call_text, next_call, port_line, IsCall}
-use Rattle.partial_text.specs.Judging.{greatest, greatest_index, fields_of, exactly_one, exactly_two, exactly_three, number_at, numbers_at, update_from, scan_from, read_from, update_if_from, call_at, calls_at, call_texts, port_at}
+use Rattle.partial_text.specs.Judging.{update_from, scan_from, read_from, update_if_from, call_at, calls_at, port_at}
 use Rattle.partial_text.proofs.NumberLaws.{and_both}
 use Rattle.partial_text.proofs.PieceLaws.{behind_each}
 use Rattle.partial_text.proofs.FieldLaws.{bind_ok, if_ok, unless_ok, ok_is, found_ok, number_at_ok, numbers_ok, behind_numbers, one_is, two_is, three_is, with_word}

@@ -1,20 +1,8 @@
 -- Fields that are read as numbers are the numbers' digits, and these are read as the numbers.
-use Rattle.std.proofs.Common.{◌≡◌, ℕ, ◌^◌, ◌<◌, ◌≤◌, Bool, true, false, cond, eqb, List, [], ◌∷◌, ◌++◌, map, Option, None, Some, Result, Ok, Err, refl, sym, ap, ◌∙◌, append_assoc, arith}
-use Rattle.std.specs.Prelude.{decimal}
-use Rattle.std.specs.Option.{ok_or}
-use Rattle.std.specs.List.{flat_map, AllByRecursion}
-use Rattle.std.specs.Str.{bytes_eq}
-use Rattle.std.proofs.lemmas.List.{append-nil}
-use Rattle.std.proofs.lemmas.List.Folds.{flat_map-map}
-use Rattle.std.proofs.lemmas.Slice.Eq.{bytes_eq-Decides}
+use Rattle.partial_text.proofs.Common.{◌≡◌, ℕ, ◌^◌, ◌<◌, ◌≤◌, Bool, true, false, cond, eqb, List, [], ◌∷◌, ◌++◌, map, Option, None, Some, Result, Ok, Err, refl, sym, ap, ◌∙◌, append_assoc, arith, decimal, ok_or, flat_map, AllByRecursion, bytes_eq, append-nil, flat_map-map, bytes_eq-Decides, PlanError, until, pieces_behind, number_of, ◌>>=◌, number_field, fields_of, exactly_one, exactly_two, exactly_three, exactly_four, number_at}
 use Rattle.partial_text.specs.declared.fault.Cause.TheVariants as cause
-use Rattle.partial_text.specs.declared.fault.PlanError.{PlanError}
 use Rattle.partial_text.specs.declared.fault.PlanError.TheVariants as plan
-use Rattle.partial_text.specs.Pieces.{until, pieces_behind}
-use Rattle.partial_text.specs.Number.{number_of}
-use Rattle.partial_text.specs.Fault.{◌>>=◌}
-use Rattle.partial_text.specs.PlanText.{number_field}
-use Rattle.partial_text.specs.Judging.{fields_of, exactly_one, exactly_two, exactly_three, exactly_four, number_at, numbers_at}
+use Rattle.partial_text.specs.Judging.{numbers_at}
 use Rattle.partial_text.proofs.NumberLaws.{number_ok, number_again, HasNo, HasNo-append, HasNo-decimal, IsNoDigit}
 use Rattle.partial_text.proofs.PieceLaws.{behind_each, joined_is, until_joined, pieces_joined}
 

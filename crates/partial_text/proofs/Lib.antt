@@ -1,3 +1,4 @@
+mod Common
 pub mod Cuts
 pub mod CallCuts
 pub mod Steps

@@ -1,21 +1,11 @@
 -- Each line is read exactly from its text.
-use Rattle.std.proofs.Common.{◌≡◌, ℕ, ◌*◌, ◌^◌, ◌<◌, ◌≤◌, Bool, true, false, cond, eqb, leb, ltb, ◌&&◌, List, [], ◌∷◌, ◌++◌, length, map, drop, codes, Ok, Err, refl, sym, ap, subst, ◌∙◌, append_assoc, ◌⊎◌, inl, inr, arith}
-use Rattle.std.specs.Prelude.{decimal}
-use Rattle.std.specs.Option.{ok_or}
-use Rattle.std.specs.List.{flat_map, AllByRecursion}
-use Rattle.std.specs.Str.{bytes_eq}
-use Rattle.std.proofs.lemmas.Bool.{eqb-true, leb-true, ltb-true}
-use Rattle.std.proofs.lemmas.List.{append-nil, length-map}
+use Rattle.partial_text.proofs.Common.{◌≡◌, ℕ, ◌*◌, ◌^◌, ◌<◌, ◌≤◌, Bool, true, false, cond, eqb, leb, ltb, ◌&&◌, List, [], ◌∷◌, ◌++◌, length, map, drop, codes, Ok, Err, refl, sym, ap, subst, ◌∙◌, append_assoc, ◌⊎◌, inl, inr, arith, decimal, ok_or, flat_map, AllByRecursion, bytes_eq, eqb-true, leb-true, ltb-true, append-nil, length-map, bytes_eq-Decides, until, from, ◌>>=◌, field, sizes_line, initial_line, entry_text, rest_text, IsEntry, greatest, greatest_index, fields_of, exactly_four, number_at, numbers_at, in_range, is_nil, is_rest}
 use Rattle.std.proofs.lemmas.Fmt.{decimal_nonempty}
-use Rattle.std.proofs.lemmas.Slice.Eq.{bytes_eq-Decides}
 use Rattle.partial_words.specs.Layout.{Layout, IsLayout}
 use Rattle.partial_words.specs.declared.sizes.SizeError.TheVariants as size
 use Rattle.partial_text.specs.declared.fault.Cause.TheVariants as cause
 use Rattle.partial_text.specs.declared.fault.PlanError.TheVariants as plan
-use Rattle.partial_text.specs.Pieces.{until, from}
-use Rattle.partial_text.specs.Fault.{◌>>=◌}
-use Rattle.partial_text.specs.PlanText.{field, sizes_line, initial_line, entry_text, rest_text, IsEntry}
-use Rattle.partial_text.specs.Judging.{greatest, greatest_index, fields_of, exactly_four, number_at, numbers_at, in_range, sizes_from, sizes_at, initial_at, entry_at, is_nil, is_rest, entries_at}
+use Rattle.partial_text.specs.Judging.{sizes_from, sizes_at, initial_at, entry_at, entries_at}
 use Rattle.partial_text.proofs.NumberLaws.{and_both}
 use Rattle.partial_text.proofs.PieceLaws.{behind_each, until_from}
 use Rattle.partial_text.proofs.FieldLaws.{bind_ok, if_ok, ok_is, found_ok, number_at_ok, numbers_ok, behind_numbers, four_is, with_word}

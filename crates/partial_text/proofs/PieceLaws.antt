@@ -1,10 +1,6 @@
 -- The pieces of a text joined again are the text, and the pieces of joined pieces are these pieces.
-use Rattle.std.proofs.Common.{◌≡◌, ℕ, Bool, true, false, cond, eqb, List, [], ◌∷◌, ◌++◌, refl, sym, ap, ◌∙◌, arith}
-use Rattle.std.specs.List.{flat_map, AllByRecursion}
-use Rattle.std.proofs.lemmas.List.{append-nil}
-use Rattle.std.proofs.lemmas.Bool.{eqb-true}
+use Rattle.partial_text.proofs.Common.{◌≡◌, ℕ, Bool, true, false, cond, eqb, List, [], ◌∷◌, ◌++◌, refl, sym, ap, ◌∙◌, arith, flat_map, AllByRecursion, append-nil, eqb-true, until, from, onto_first, pieces, pieces_behind}
 use Rattle.std.proofs.Math.Dec.{eqb_refl}
-use Rattle.partial_text.specs.Pieces.{until, from, onto_first, pieces, pieces_behind}
 use Rattle.partial_text.proofs.Cuts.{pieces-cut}
 use Rattle.partial_text.proofs.NumberLaws.{HasNo}
 

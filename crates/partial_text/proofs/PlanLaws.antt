@@ -1,17 +1,8 @@
 -- What is read as a plan is the plan's text.
-use Rattle.std.proofs.Common.{◌≡◌, ℕ, ◌+◌, ◌<◌, ◌≤◌, Bool, true, cond, eqb, ltb, List, [], ◌∷◌, ◌++◌, length, codes, Ok, Err, refl, sym, ap, subst, ◌∙◌, append_assoc, inl, inr, arith}
-use Rattle.std.specs.List.{flat_map, AllByRecursion}
-use Rattle.std.specs.Str.{bytes_eq}
-use Rattle.std.proofs.lemmas.Bool.{eqb-false, ltb-true, ltb-false}
-use Rattle.std.proofs.lemmas.List.{append-nil, length-append}
-use Rattle.std.proofs.lemmas.Slice.Eq.{bytes_eq-Decides}
-use Rattle.partial_model.specs.declared.call.Call.{Call}
+use Rattle.partial_text.proofs.Common.{◌≡◌, ℕ, ◌+◌, ◌<◌, ◌≤◌, Bool, true, cond, eqb, ltb, List, [], ◌∷◌, ◌++◌, length, codes, Ok, Err, refl, sym, ap, subst, ◌∙◌, append_assoc, inl, inr, arith, flat_map, AllByRecursion, bytes_eq, eqb-false, ltb-true, ltb-false, append-nil, length-append, bytes_eq-Decides, Call, until, from, pieces, ◌>>=◌, PlanView, sizes_line, initial_line, port_line, entry_text, field, rest_text, steps_line, ended, plan_text, IsCall, IsEntry, IsPlan, Tail, fields_of, sizes_at, initial_at, port_at, entries_at, is_end}
 use Rattle.partial_text.specs.declared.fault.Cause.TheVariants as cause
 use Rattle.partial_text.specs.declared.fault.PlanError.TheVariants as plan
-use Rattle.partial_text.specs.Pieces.{until, from, pieces}
-use Rattle.partial_text.specs.Fault.{◌>>=◌}
-use Rattle.partial_text.specs.PlanText.{PlanView, sizes_line, initial_line, port_line, entry_text, field, rest_text, steps_line, ended, plan_text, IsCall, IsEntry, IsPlan}
-use Rattle.partial_text.specs.Judging.{Tail, fields_of, line_at, sizes_at, initial_at, port_at, more_ports, entries_at, is_end, last_at, tail_at, lines_judged, judged}
+use Rattle.partial_text.specs.Judging.{line_at, more_ports, last_at, tail_at, lines_judged, judged}
 use Rattle.partial_text.proofs.PieceLaws.{behind_each, behind_pieces, until_from}
 use Rattle.partial_text.proofs.FieldLaws.{bind_ok, if_ok, unless_ok, ok_is, with_word}
 use Rattle.partial_text.proofs.CallLaws.{port_ok, chosen}

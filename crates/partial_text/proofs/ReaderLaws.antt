@@ -1,14 +1,7 @@
 -- What a reader gave decides what is answered.
-use Rattle.std.proofs.Common.{◌≡◌, ℕ, ◌<◌, ◌≤◌, true, false, List, ◌++◌, length, Option, None, Some, Result, Ok, Err, refl, sym, ap, subst, ◌∙◌, inl, inr, arith}
-use Rattle.std.specs.Prelude.{IfSome, IfOk}
-use Rattle.std.specs.Io.KnownBytes.{Consumes, IsAtEnd}
-use Rattle.std.proofs.lemmas.Bool.{cases_lt, lt-ltb}
-use Rattle.std.proofs.lemmas.List.{append-nil, length-append}
+use Rattle.partial_text.proofs.Common.{◌≡◌, ℕ, ◌<◌, ◌≤◌, true, false, List, ◌++◌, length, Option, None, Some, Result, Ok, Err, refl, sym, ap, subst, ◌∙◌, inl, inr, arith, IfSome, IfOk, Consumes, IsAtEnd, cases_lt, lt-ltb, append-nil, length-append, PlanError, Fails, Gives, IsReaderFault, PlanView, IsPlan, plan_text}
 use Rattle.partial_text.specs.declared.fault.Cause.TheVariants as cause
-use Rattle.partial_text.specs.declared.fault.PlanError.{PlanError}
 use Rattle.partial_text.specs.declared.fault.PlanError.TheVariants as plan
-use Rattle.partial_text.specs.Fault.{Fails, Gives, IsReaderFault}
-use Rattle.partial_text.specs.PlanText.{PlanView, IsPlan, plan_text}
 use Rattle.partial_text.specs.Judging.{judged}
 use Rattle.partial_text.proofs.PlanLaws.{judged_ok}
 use Rattle.partial_text.proofs.AgainLaws.{judged_again}

@@ -1,12 +1,7 @@
 -- What an error says, and how one line of a plan text leads to the next.
-use Rattle.std.proofs.Common.{◌≡◌, ℕ, ◌+◌, true, false, cond, List, [], ◌∷◌, length, codes, Result, Ok, refl, sym, ap, ◌∙◌}
-use Rattle.std.specs.Str.{bytes_eq}
-use Rattle.partial_model.specs.declared.call.Call.{Call}
-use Rattle.partial_text.specs.declared.fault.PlanError.{PlanError}
+use Rattle.partial_text.proofs.Common.{◌≡◌, ℕ, ◌+◌, true, false, cond, List, [], ◌∷◌, length, codes, Result, Ok, refl, sym, ap, ◌∙◌, bytes_eq, Call, PlanError, until, from, ◌>>=◌, Fails, Tail, more_ports, last_at}
 use Rattle.partial_text.specs.declared.fault.PlanError.TheVariants as plan
-use Rattle.partial_text.specs.Pieces.{until, from}
-use Rattle.partial_text.specs.Fault.{◌>>=◌, Fails}
-use Rattle.partial_text.specs.Judging.{Tail, line_at, more_ports, last_at, tail_at}
+use Rattle.partial_text.specs.Judging.{line_at, tail_at}
 
 -- a step that fails fails the whole
 pub Fails_first : {A B : Type 0} (e : PlanError) (r : Result A PlanError) (f : A → Result B PlanError) (judged : Result B PlanError) → Fails e r → (r >>= f) ≡ judged → Fails e judged

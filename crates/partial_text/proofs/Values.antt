@@ -1,13 +1,9 @@
 -- The values after a history, entry by entry.
-use Rattle.std.proofs.Common.{◌≡◌, ℕ, ◌<◌, ◌≢◌, Bool, true, false, cond, eqb, List, [], ◌∷◌, length, get_or, set, Option, None, Some, refl, sym, ◌∙◌, zero-add, arith}
-use Rattle.std.specs.Option.{option_map_or}
-use Rattle.std.proofs.lemmas.Bool.{eqb-true, eqb-false}
-use Rattle.std.proofs.lemmas.List.{get_or-set_same, get_or-set_other, length-set, ext_get_or}
+use Rattle.partial_text.proofs.Common.{◌≡◌, ℕ, ◌<◌, ◌≢◌, Bool, true, false, cond, eqb, List, [], ◌∷◌, length, get_or, set, Option, None, Some, refl, sym, ◌∙◌, zero-add, arith, option_map_or, eqb-true, eqb-false, get_or-set_same, get_or-set_other, length-set, ext_get_or, values_of}
 use Rattle.std.proofs.lemmas.List.FromFn.{length-map-range_with_len, get_or-map-range_with_len}
 use Rattle.partial_model.specs.declared.history.Applied.{Applied}
 use Rattle.partial_model.specs.declared.history.Opening.{Opening}
 use Rattle.partial_model.specs.History.{last_from, value_of}
-use Rattle.partial_text.specs.OutcomeText.{values_of}
 
 -- each entry sets its component
 abbrev pub values_after : List ℕ → List Applied → List ℕ

@@ -1,6 +1,5 @@
-use Rattle.std.proofs.Common.{rules, ◌+◌, sym, subst}
+use Rattle.partial_pipeline.proofs.Common.{rules, ◌+◌, sym, subst, IsEachStage}
 use Rattle.partial_pipeline.proofs.Rooms.{numbers_more}
-use Rattle.partial_pipeline.specs.Stages.{IsEachStage}
 use Rattle.partial_pipeline.proofs.monitor.numbers.Goals as goal
 
 pub loop-stage-preserved : goal.loop-stage-preserved

@@ -1,6 +1,4 @@
-use Rattle.std.proofs.Common.{◌≤◌}
-use Rattle.std.specs.Vec.{vec_capacity}
-use Rattle.partial_pipeline.specs.Stages.{IsEachStage}
+use Rattle.partial_pipeline.proofs.Common.{◌≤◌, vec_capacity, IsEachStage}
 use Rattle.partial_pipeline.proofs.monitor.numbers.Given as goal
 
 -- the numbers so far

@@ -1,6 +1,4 @@
-use Rattle.std.proofs.Common.{◌≡◌, ◌≤◌, length}
-use Rattle.std.specs.Vec.{vec_capacity}
-use Rattle.partial_pipeline.specs.Stages.{AreRooms}
+use Rattle.partial_pipeline.proofs.Common.{◌≡◌, ◌≤◌, length, vec_capacity, AreRooms}
 use Rattle.partial_pipeline.proofs.monitor.rooms_for.Given as goal
 
 -- the room so far

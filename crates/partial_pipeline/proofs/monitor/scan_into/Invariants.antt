@@ -1,6 +1,4 @@
-use Rattle.std.proofs.Common.{◌≡◌, [], length}
-use Rattle.partial_long_lived.specs.Ports.{IsOf}
-use Rattle.partial_pipeline.specs.Stages.{NotesMore}
+use Rattle.partial_pipeline.proofs.Common.{◌≡◌, [], length, IsOf, NotesMore}
 use Rattle.partial_pipeline.proofs.monitor.scan_into.Given as goal
 
 -- the scans so far were refused

@@ -1,6 +1,4 @@
-use Rattle.std.proofs.Common.{◌≡◌, ◌∙◌, ℕ, List, length, subst}
-use Rattle.partial_long_lived.specs.Ports.{IsOf}
-use Rattle.partial_pipeline.specs.Stages.{HasMet}
+use Rattle.partial_pipeline.proofs.Common.{◌≡◌, ◌∙◌, ℕ, List, length, subst, IsOf, HasMet}
 use Rattle.partial_pipeline.proofs.Stages.{from_all}
 use Rattle.partial_pipeline.proofs.Reports.{LastSees, ended, last_number, last_sees, orderly}
 use Rattle.partial_pipeline.proofs.run.close.Goals as goal

@@ -1,5 +1,4 @@
-use Rattle.std.proofs.Common.{◌≡◌, ◌≤◌, length}
-use Rattle.std.specs.Vec.{vec_capacity}
+use Rattle.partial_pipeline.proofs.Common.{◌≡◌, ◌≤◌, length, vec_capacity}
 use Rattle.partial_pipeline.proofs.run.flags.Given as goal
 
 -- room for the flags to come

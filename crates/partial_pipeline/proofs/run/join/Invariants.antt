@@ -1,7 +1,4 @@
-use Rattle.std.proofs.Common.{◌≡◌, ◌≤◌, length}
-use Rattle.std.specs.Vec.{vec_capacity}
-use Rattle.partial_pipeline.specs.Pipeline.{AreFrom}
-use Rattle.partial_pipeline.specs.Stages.{EndEach, HasMet, IsWatching}
+use Rattle.partial_pipeline.proofs.Common.{◌≡◌, ◌≤◌, length, vec_capacity, AreFrom, EndEach, HasMet, IsWatching}
 use Rattle.partial_pipeline.proofs.run.join.Given as goal
 
 -- the stages that have ended so far

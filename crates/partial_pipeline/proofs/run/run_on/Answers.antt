@@ -1,7 +1,4 @@
-use Rattle.std.proofs.Common.{rules, ◌≡◌, ◌<◌, ◌≤◌, [], arith, sym, subst, length}
-use Rattle.std.specs.Vec.{vec_capacity}
-use Rattle.partial_pipeline.specs.Pipeline.{AreFrom}
-use Rattle.partial_pipeline.specs.Stages.{IsNew}
+use Rattle.partial_pipeline.proofs.Common.{rules, ◌≡◌, ◌<◌, ◌≤◌, [], arith, sym, subst, length, vec_capacity, AreFrom, IsNew}
 use Rattle.partial_pipeline.proofs.Watching.{opened_stages}
 use Rattle.partial_pipeline.proofs.run.run_on.Goals as goal
 

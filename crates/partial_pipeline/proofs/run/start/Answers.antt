@@ -1,9 +1,6 @@
-use Rattle.std.proofs.Common.{rules, ◌+◌, length, sym, ap, subst, ◌∙◌, arith}
+use Rattle.partial_pipeline.proofs.Common.{rules, ◌+◌, length, sym, ap, subst, ◌∙◌, arith, length_push, AreFrom, IsStarted}
 use Rattle.std.proofs.lemmas.Iterator.Adapters.{YieldsList-from_vec}
 use Rattle.std.proofs.lemmas.Iterator.Consumers.{YieldsList-turn}
-use Rattle.std.proofs.lemmas.List.{length_push}
-use Rattle.partial_pipeline.specs.Pipeline.{AreFrom}
-use Rattle.partial_pipeline.specs.Stages.{IsStarted}
 use Rattle.partial_pipeline.specs.declared.run.Works.{Works}
 use Rattle.partial_pipeline.proofs.Stages.{from_push}
 use Rattle.partial_pipeline.proofs.Watching.{new_at, new_self}

@@ -1,7 +1,4 @@
-use Rattle.std.proofs.Common.{◌≡◌, ◌≤◌, length}
-use Rattle.std.specs.Vec.{vec_capacity}
-use Rattle.partial_pipeline.specs.Pipeline.{AreFrom}
-use Rattle.partial_pipeline.specs.Stages.{IsStarted}
+use Rattle.partial_pipeline.proofs.Common.{◌≡◌, ◌≤◌, length, vec_capacity, AreFrom, IsStarted}
 use Rattle.partial_pipeline.proofs.run.start.Given as goal
 
 -- the threads so far

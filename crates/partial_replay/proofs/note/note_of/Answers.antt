@@ -1,6 +1,4 @@
-use Rattle.std.proofs.Common.{ℕ, List, slice_get, sym, ◌∙◌, ap, subst}
-use Rattle.partial_model.specs.declared.history.Applied.{Applied}
-use Rattle.partial_replay.specs.ScanPlace.{HasRecord}
+use Rattle.partial_replay.proofs.Common.{ℕ, List, slice_get, sym, ◌∙◌, ap, subst, Applied, HasRecord}
 use Rattle.partial_replay.proofs.Places.{place_within}
 use Rattle.partial_replay.proofs.note.note_of.Goals as goal
 

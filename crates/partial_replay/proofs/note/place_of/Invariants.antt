@@ -1,4 +1,4 @@
-use Rattle.partial_replay.specs.Place.{HasNoneFrom}
+use Rattle.partial_replay.proofs.Common.{HasNoneFrom}
 use Rattle.partial_replay.proofs.note.place_of.Given as goal
 
 -- no entry from the place on has the stamp

@@ -1,19 +1,5 @@
-use Rattle.std.proofs.Common.{ℕ, ◌≡◌, ◌++◌, ◌∙◌, Bool, false, cond, List, [], length, get_or, Option, Some, None, map, take, ap, subst, sym, arith, ◌+◌, ◌<◌, ◌∷◌}
-use Rattle.std.specs.List.{range_with_len}
-use Rattle.std.proofs.lemmas.List.{take_all}
-use Rattle.std.proofs.lemmas.Bool.{false≢true}
-use Rattle.partial_model.specs.declared.call.Call.{Call}
-use Rattle.partial_replay.specs.declared.run.Run.{Run}
-use Rattle.partial_replay.specs.Inner.RunState.{Tells, ArePlans, IsBetweenTurns}
-use Rattle.partial_replay.specs.Inner.TurnState.{StopAtSteps, HasMadeTurns, TurnsMade, HaveBegun}
-use Rattle.partial_replay.specs.Replayed.{IsReplayOf}
+use Rattle.partial_replay.proofs.Common.{ℕ, ◌≡◌, ◌++◌, ◌∙◌, Bool, false, cond, List, [], length, get_or, Option, Some, None, map, take, ap, subst, sym, arith, ◌+◌, ◌<◌, ◌∷◌, range_with_len, take_all, false≢true, Call, Run, Tells, ArePlans, IsBetweenTurns, StopAtSteps, HasMadeTurns, TurnsMade, HaveBegun, IsReplayOf, Opening, AllByRecursion-get, IsEntry, Layout, ports_of, so_many, to_its_end, turns_of}
 use Rattle.partial_replay.proofs.Plans.{are_plans}
-use Rattle.partial_model.specs.declared.history.Opening.{Opening}
-use Rattle.partial_model.proofs.NotesLemmas.{AllByRecursion-get}
-use Rattle.partial_text.specs.PlanText.{IsEntry}
-use Rattle.partial_words.specs.Layout.{Layout}
-use Rattle.partial_replay.specs.Trace.{ports_of}
-use Rattle.partial_replay.specs.Turns.{so_many, to_its_end, turns_of}
 use Rattle.partial_replay.proofs.PortLaws.{get_is}
 use Rattle.partial_replay.proofs.Replays.{replay_told}
 use Rattle.partial_replay.proofs.RunTurns.{begun_next}

@@ -1,8 +1,4 @@
-use Rattle.std.proofs.Common.{◌≡◌, ◌++◌, map, take}
-use Rattle.std.specs.List.{range_with_len}
-use Rattle.partial_replay.specs.Turns.{so_many, to_its_end}
-use Rattle.partial_replay.specs.Inner.RunState.{IsBetweenTurns}
-use Rattle.partial_replay.specs.Inner.TurnState.{StopAtSteps, HasMadeTurns, HaveBegun}
+use Rattle.partial_replay.proofs.Common.{◌≡◌, ◌++◌, map, take, range_with_len, so_many, to_its_end, IsBetweenTurns, StopAtSteps, HasMadeTurns, HaveBegun}
 use Rattle.partial_replay.proofs.replaying.replay.Given as goal
 
 -- the replay is of the plan's sizes and values, and has made the turns so far

@@ -1,5 +1,4 @@
-use Rattle.std.proofs.Common.{◌≡◌, length, take}
-use Rattle.partial_replay.specs.Inner.RunState.{calls_in}
+use Rattle.partial_replay.proofs.Common.{◌≡◌, length, take, calls_in}
 use Rattle.partial_replay.proofs.run.calls_of.Given as goal
 
 -- the calls of the ports so far

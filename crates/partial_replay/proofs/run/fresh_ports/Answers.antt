@@ -1,7 +1,4 @@
-use Rattle.std.proofs.Common.{◌+◌, length, ap, ◌∙◌, subst, sym, arith, refl, List}
-use Rattle.std.proofs.lemmas.List.{length_push}
-use Rattle.partial_replay.specs.declared.port.Port.{Port}
-use Rattle.partial_replay.specs.Inner.RunState.{FreshFrom}
+use Rattle.partial_replay.proofs.Common.{◌+◌, length, ap, ◌∙◌, subst, sym, arith, refl, List, length_push, Port, FreshFrom}
 use Rattle.partial_replay.proofs.Opens.{fresh_push}
 use Rattle.partial_replay.proofs.run.fresh_ports.Goals as goal
 

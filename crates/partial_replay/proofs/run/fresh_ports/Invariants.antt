@@ -1,5 +1,4 @@
-use Rattle.std.proofs.Common.{◌≡◌, length}
-use Rattle.partial_replay.specs.Inner.RunState.{FreshFrom}
+use Rattle.partial_replay.proofs.Common.{◌≡◌, length, FreshFrom}
 use Rattle.partial_replay.proofs.run.fresh_ports.Given as goal
 
 -- so many ports are made

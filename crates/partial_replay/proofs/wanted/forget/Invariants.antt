@@ -1,5 +1,4 @@
-use Rattle.std.proofs.Common.{◌≡◌, length}
-use Rattle.partial_replay.specs.ScanPlace.{AreMarksOf, IsLeft}
+use Rattle.partial_replay.proofs.Common.{◌≡◌, length, AreMarksOf, IsLeft}
 use Rattle.partial_replay.proofs.wanted.forget.Given as goal
 
 -- what is still wanted stands at a position from the k-th on, and nothing else is marked

@@ -1,9 +1,4 @@
-use Rattle.std.proofs.Common.{ℕ, ◌≡◌, ◌≢◌, ◌-◌, ◌<◌, ◌≤◌, ◌⊎◌, List, Bool, Option, count_by, length, get_or, None, Some, slice_get, refl, sym, ◌∙◌, subst, inl, inr, arith}
-use Rattle.std.proofs.lemmas.Bool.{eqb-true, eq-eqb, false≢true}
-use Rattle.std.proofs.lemmas.Option.{slice_get-get_or}
-use Rattle.partial_model.specs.declared.history.Applied.{Applied}
-use Rattle.partial_words.specs.Record.{prev_of, value_of}
-use Rattle.partial_replay.specs.ScanPlace.{AllHave, HasRecord, marks_before, values_after}
+use Rattle.partial_replay.proofs.Common.{ℕ, ◌≡◌, ◌≢◌, ◌-◌, ◌<◌, ◌≤◌, ◌⊎◌, List, Bool, Option, count_by, length, get_or, None, Some, slice_get, refl, sym, ◌∙◌, subst, inl, inr, arith, eqb-true, eq-eqb, false≢true, slice_get-get_or, Applied, prev_of, value_of, AllHave, HasRecord, marks_before, values_after}
 use Rattle.partial_replay.proofs.ScanPlaces.{IsFoundFrom, IsWalked, walked_at_end, walked_back, found_least}
 use Rattle.partial_replay.proofs.wanted.least_prefix.Goals as goal
 

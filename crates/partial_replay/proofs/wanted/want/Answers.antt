@@ -1,6 +1,4 @@
-use Rattle.std.proofs.Common.{◌<◌, length, get_or, refl, arith, rules}
-use Rattle.partial_replay.specs.ScanPlace.{values_now}
-use Rattle.partial_model.proofs.AllLemmas.{position_below}
+use Rattle.partial_replay.proofs.Common.{◌<◌, length, get_or, refl, arith, rules, values_now, position_below}
 use Rattle.partial_replay.proofs.ScanPlaces.{wanted_more, marked_more}
 use Rattle.partial_replay.proofs.wanted.want.Goals as goal
 

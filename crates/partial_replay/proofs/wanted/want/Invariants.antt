@@ -1,5 +1,4 @@
-use Rattle.std.proofs.Common.{◌≡◌, length}
-use Rattle.partial_replay.specs.ScanPlace.{AreMarked, AreWanted, values_now}
+use Rattle.partial_replay.proofs.Common.{◌≡◌, length, AreMarked, AreWanted, values_now}
 use Rattle.partial_replay.proofs.wanted.want.Given as goal
 
 -- the components of the first k positions are wanted, and those that differ are marked

@@ -1,5 +1,4 @@
-use Rattle.std.proofs.Common.{[]}
-use Rattle.partial_text.specs.Judging.{calls_at, call_texts}
+use Rattle.partial_text.proofs.Common.{[], calls_at, call_texts}
 use Rattle.partial_text.proofs.CallCuts.{next_call}
 use Rattle.partial_text.proofs.calls.calls_of.Goals as goal
 

@@ -1,5 +1,4 @@
-use Rattle.std.proofs.Common.{◌≡◌, ◌∷◌, [], length}
-use Rattle.partial_text.specs.Judging.{calls_at, call_texts, call_texts_behind}
+use Rattle.partial_text.proofs.Common.{◌≡◌, ◌∷◌, [], length, calls_at, call_texts, call_texts_behind}
 use Rattle.partial_text.proofs.calls.calls_of.Given as goal
 
 abbrev pub invariant-loop-calls : goal.invariant-loop-calls

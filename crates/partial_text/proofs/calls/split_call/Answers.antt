@@ -1,6 +1,4 @@
-use Rattle.std.proofs.Common.{◌≡◌, false, drop, sym, ap, ◌∙◌}
-use Rattle.std.proofs.lemmas.List.{take_rest}
-use Rattle.partial_text.specs.Judging.{is_cut}
+use Rattle.partial_text.proofs.Common.{◌≡◌, false, drop, sym, ap, ◌∙◌, take_rest, is_cut}
 use Rattle.partial_text.proofs.CallCuts.{texts_more}
 use Rattle.partial_text.proofs.calls.split_call.Goals as goal
 

@@ -1,4 +1,4 @@
-use Rattle.std.proofs.Common.{sym, ◌∙◌}
+use Rattle.partial_text.proofs.Common.{sym, ◌∙◌}
 use Rattle.partial_text.proofs.PlanLaws.{judged_ok}
 use Rattle.partial_text.proofs.AgainLaws.{judged_again}
 use Rattle.partial_text.proofs.law.texts_tell_plans.Goals as goal

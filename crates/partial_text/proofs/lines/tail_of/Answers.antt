@@ -1,11 +1,5 @@
-use Rattle.std.proofs.Common.{◌≡◌, ℕ, true, false, ◌+◌, List, [], length, codes, Result, Ok, refl, sym, ap, ◌∙◌, arith}
-use Rattle.std.specs.Str.{bytes_eq}
+use Rattle.partial_text.proofs.Common.{◌≡◌, ℕ, true, false, ◌+◌, List, [], length, codes, Result, Ok, refl, sym, ap, ◌∙◌, arith, bytes_eq, Call, PlanError, until, from, pieces, ◌>>=◌, line_at, more_ports, last_at, tail_at}
 use Rattle.std.proofs.lemmas.Result.{err_from_is_err_and}
-use Rattle.partial_model.specs.declared.call.Call.{Call}
-use Rattle.partial_text.specs.declared.fault.PlanError.{PlanError}
-use Rattle.partial_text.specs.Pieces.{until, from, pieces}
-use Rattle.partial_text.specs.Fault.{◌>>=◌}
-use Rattle.partial_text.specs.Judging.{line_at, more_ports, last_at, tail_at}
 use Rattle.partial_text.proofs.Steps.{Fails_first, tail_step, tail_by, at_port_line, at_last_line}
 use Rattle.partial_text.proofs.lines.tail_of.Goals as goal
 

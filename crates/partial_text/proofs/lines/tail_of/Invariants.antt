@@ -1,6 +1,4 @@
-use Rattle.std.proofs.Common.{◌≡◌, ◌+◌, ◌≤◌, [], length}
-use Rattle.partial_text.specs.Pieces.{pieces}
-use Rattle.partial_text.specs.Judging.{tail_at}
+use Rattle.partial_text.proofs.Common.{◌≡◌, ◌+◌, ◌≤◌, [], length, pieces, tail_at}
 use Rattle.partial_text.proofs.lines.tail_of.Given as goal
 
 abbrev pub invariant-loop-ports : goal.invariant-loop-ports

@@ -1,5 +1,4 @@
-use Rattle.std.proofs.Common.{◌≡◌, ◌≤◌, drop}
-use Rattle.partial_text.specs.Number.{number_from}
+use Rattle.partial_text.proofs.Common.{◌≡◌, ◌≤◌, drop, number_from}
 use Rattle.partial_text.proofs.number.value.Given as goal
 
 abbrev pub invariant-loop-digit : goal.invariant-loop-digit

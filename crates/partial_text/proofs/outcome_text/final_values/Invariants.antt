@@ -1,4 +1,4 @@
-use Rattle.std.proofs.Common.{◌≡◌, drop}
+use Rattle.partial_text.proofs.Common.{◌≡◌, drop}
 use Rattle.partial_text.proofs.Values.{values_after}
 use Rattle.partial_text.proofs.outcome_text.final_values.Given as goal
 

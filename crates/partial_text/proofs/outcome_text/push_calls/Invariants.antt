@@ -1,6 +1,4 @@
-use Rattle.std.proofs.Common.{◌≡◌, ◌++◌, take}
-use Rattle.std.specs.List.{flat_map}
-use Rattle.partial_text.specs.OutcomeText.{call_line}
+use Rattle.partial_text.proofs.Common.{◌≡◌, ◌++◌, take, flat_map, call_line}
 use Rattle.partial_text.proofs.outcome_text.push_calls.Given as goal
 
 abbrev pub invariant-loop-called : goal.invariant-loop-called

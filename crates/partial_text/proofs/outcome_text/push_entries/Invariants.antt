@@ -1,5 +1,4 @@
-use Rattle.std.proofs.Common.{◌≡◌, ◌++◌, drop}
-use Rattle.partial_text.specs.OutcomeText.{entry_lines}
+use Rattle.partial_text.proofs.Common.{◌≡◌, ◌++◌, drop, entry_lines}
 use Rattle.partial_text.proofs.outcome_text.push_entries.Given as goal
 
 abbrev pub invariant-loop-place : goal.invariant-loop-place

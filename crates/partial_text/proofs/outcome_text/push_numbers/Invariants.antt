@@ -1,6 +1,4 @@
-use Rattle.std.proofs.Common.{◌≡◌, ◌++◌, take}
-use Rattle.std.specs.List.{flat_map}
-use Rattle.partial_text.specs.PlanText.{number_field}
+use Rattle.partial_text.proofs.Common.{◌≡◌, ◌++◌, take, flat_map, number_field}
 use Rattle.partial_text.proofs.outcome_text.push_numbers.Given as goal
 
 abbrev pub invariant-loop-number : goal.invariant-loop-number

@@ -1,5 +1,4 @@
-use Rattle.std.proofs.Common.{◌≡◌, ◌+◌, ◌≤◌, length, drop}
-use Rattle.partial_text.specs.Pieces.{pieces}
+use Rattle.partial_text.proofs.Common.{◌≡◌, ◌+◌, ◌≤◌, length, drop, pieces}
 use Rattle.partial_text.proofs.pieces.count.Given as goal
 
 abbrev pub invariant-loop-byte : goal.invariant-loop-byte

@@ -1,4 +1,4 @@
-use Rattle.std.proofs.Common.{eq-eqb}
+use Rattle.partial_text.proofs.Common.{eq-eqb}
 use Rattle.partial_text.proofs.Cuts.{pieces_here, pieces_end}
 use Rattle.partial_text.proofs.pieces.split_before.Goals as goal
 

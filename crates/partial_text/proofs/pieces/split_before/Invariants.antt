@@ -1,5 +1,4 @@
-use Rattle.std.proofs.Common.{◌≡◌, ◌++◌, take, drop}
-use Rattle.partial_text.specs.Pieces.{until, from}
+use Rattle.partial_text.proofs.Common.{◌≡◌, ◌++◌, take, drop, until, from}
 use Rattle.partial_text.proofs.pieces.split_before.Given as goal
 
 abbrev pub invariant-loop-index : goal.invariant-loop-index

@@ -1,5 +1,4 @@
-use Rattle.std.proofs.Common.{◌≡◌, ◌+◌, ◌≤◌, false, length}
-use Rattle.std.specs.Io.KnownBytes.{Consumes}
+use Rattle.partial_text.proofs.Common.{◌≡◌, ◌+◌, ◌≤◌, false, length, Consumes}
 use Rattle.partial_text.proofs.reading.read_text.Given as goal
 
 abbrev pub invariant-loop : goal.invariant-loop

@@ -1,4 +1,4 @@
-use Rattle.std.proofs.Common.{◌≡◌, ◌++◌, drop}
+use Rattle.partial_text.proofs.Common.{◌≡◌, ◌++◌, drop}
 use Rattle.partial_text.specs.ReportText.{answer_lines}
 use Rattle.partial_text.proofs.report_text.push_answers.Given as goal
 

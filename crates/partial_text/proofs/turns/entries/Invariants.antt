@@ -1,6 +1,4 @@
-use Rattle.std.proofs.Common.{◌≡◌, [], length}
-use Rattle.partial_text.specs.Pieces.{pieces_behind}
-use Rattle.partial_text.specs.Judging.{entries_at}
+use Rattle.partial_text.proofs.Common.{◌≡◌, [], length, pieces_behind, entries_at}
 use Rattle.partial_text.proofs.turns.entries.Given as goal
 
 abbrev pub invariant-loop-rest : goal.invariant-loop-rest

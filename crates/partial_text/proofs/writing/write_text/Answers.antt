@@ -1,4 +1,4 @@
-use Rattle.std.proofs.Common.{refl, ◌∙◌}
+use Rattle.partial_text.proofs.Common.{refl, ◌∙◌}
 use Rattle.partial_text.proofs.Bytes.{written_more}
 use Rattle.partial_text.proofs.writing.write_text.Goals as goal
 

@@ -1,5 +1,4 @@
-use Rattle.std.proofs.Common.{◌≡◌, ◌-◌, ◌≤◌, false, length, take, drop}
-use Rattle.std.specs.Io.KnownBytes.{Appends}
+use Rattle.partial_text.proofs.Common.{◌≡◌, ◌-◌, ◌≤◌, false, length, take, drop, Appends}
 use Rattle.partial_text.proofs.writing.write_text.Given as goal
 
 abbrev pub invariant-loop-rest : goal.invariant-loop-rest

@@ -1,4 +1,4 @@
-use Rattle.std.proofs.Common.{arith}
+use Rattle.partial_pipeline.proofs.Common.{arith}
 use Rattle.partial_pipeline.proofs.Watching.{watching_more, watching_refused}
 use Rattle.partial_pipeline.proofs.monitor.Monitor.watch.Goals as goal
 

@@ -1,4 +1,4 @@
-use Rattle.partial_pipeline.specs.Stages.{IsWatching}
+use Rattle.partial_pipeline.proofs.Common.{IsWatching}
 use Rattle.partial_pipeline.proofs.monitor.Monitor.watch.Given as goal
 
 -- the monitor between two scans

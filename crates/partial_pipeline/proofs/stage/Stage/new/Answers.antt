@@ -1,6 +1,4 @@
-use Rattle.std.proofs.Common.{◌≡◌, ◌<◌, refl, sym, ap, subst, arith}
-use Rattle.partial_pipeline.specs.Pipeline.{Works}
-use Rattle.partial_pipeline.specs.Stages.{published}
+use Rattle.partial_pipeline.proofs.Common.{◌≡◌, ◌<◌, refl, sym, ap, subst, arith, Works, published}
 use Rattle.partial_pipeline.proofs.stage.Stage.new.Goals as goal
 use Rattle.partial_pipeline.proofs.stage.Stage.new.Goals.{then-number-eq0, else-number-eq0}
 

@@ -1,5 +1,4 @@
-use Rattle.std.proofs.Common.{◌≡◌, ◌+◌, ◌≤◌}
-use Rattle.partial_pipeline.specs.Stages.{IsWorking}
+use Rattle.partial_pipeline.proofs.Common.{◌≡◌, ◌+◌, ◌≤◌, IsWorking}
 use Rattle.partial_pipeline.proofs.stage.Stage.publish.Given as goal
 
 -- the stage while it tries to publish its next count

@@ -1,9 +1,5 @@
-use Rattle.std.proofs.Common.{ℕ, ◌≡◌, ◌∙◌, refl, sym, ap, subst, Some}
-use Rattle.partial_long_lived.specs.Ports.{MemoryView}
-use Rattle.partial_pipeline.specs.Stages.{IsDone, IsWorking}
+use Rattle.partial_pipeline.proofs.Common.{ℕ, ◌≡◌, ◌∙◌, refl, sym, ap, subst, Some, MemoryView, IsDone, IsWorking, StageEnd, Finished, Stopped}
 use Rattle.partial_pipeline.specs.declared.stage.Stage.{Stage}
-use Rattle.partial_pipeline.specs.declared.stage.StageEnd.{StageEnd}
-use Rattle.partial_pipeline.specs.declared.stage.StageEnd.TheVariants.{Finished, Stopped}
 use Rattle.partial_pipeline.proofs.Stages.{is_done}
 use Rattle.partial_pipeline.proofs.stage.Stage.run.Goals as goal
 use Rattle.partial_pipeline.proofs.stage.Stage.run.Goals.{else-loop-turn-test, then-loop-turn-test+in-Some}

@@ -1,6 +1,4 @@
-use Rattle.std.proofs.Common.{◌≡◌}
-use Rattle.partial_pipeline.specs.Stages.{IsWorking}
-use Rattle.partial_pipeline.specs.declared.stage.StageEnd.TheVariants.{Stopped}
+use Rattle.partial_pipeline.proofs.Common.{◌≡◌, IsWorking, Stopped}
 use Rattle.partial_pipeline.proofs.stage.Stage.run.Given as goal
 
 -- the stage between two turns

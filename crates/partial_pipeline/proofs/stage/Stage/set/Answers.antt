@@ -1,5 +1,4 @@
-use Rattle.std.proofs.Common.{◌≤◌, subst, arith}
-use Rattle.partial_long_lived.specs.Calls.{Updates}
+use Rattle.partial_pipeline.proofs.Common.{◌≤◌, subst, arith, Updates}
 use Rattle.partial_long_lived.specs.declared.answers.Updated.{Updated}
 use Rattle.partial_long_lived.specs.declared.answers.Updated.TheVariants.{Applied, Lost}
 use Rattle.partial_pipeline.proofs.Stages.{update_refused, works_applied, works_lost, works_on}

@@ -1,10 +1,4 @@
-use Rattle.std.proofs.Common.{◌≡◌, ◌+◌, ◌<◌, ◌++◌, refl, ◌∷◌, [], ℕ, length, Some, slice_get, sym, ◌∙◌, ap, subst, arith}
-use Rattle.std.proofs.lemmas.List.{length_push}
-use Rattle.partial_model.proofs.NotesLemmas.{AllByRecursion-get}
-use Rattle.partial_model.specs.declared.call.Called.{Called}
-use Rattle.partial_words.specs.Layout.{Layout}
-use Rattle.partial_machine.specs.Calls.{IsServed}
-use Rattle.partial_replay.specs.Inner.PortState.{IsDoneAtOnce}
+use Rattle.partial_replay.proofs.Common.{◌≡◌, ◌+◌, ◌<◌, ◌++◌, refl, ◌∷◌, [], ℕ, length, Some, slice_get, sym, ◌∙◌, ap, subst, arith, length_push, AllByRecursion-get, Called, Layout, IsServed, IsDoneAtOnce}
 use Rattle.partial_replay.proofs.PortLaws.{begun_fits, once_fits, once_idle, once_sizes, call_at_place, match_none, match_some}
 use Rattle.partial_replay.proofs.PortSteps.{begun_made, once_made}
 use Rattle.partial_replay.proofs.PortTurns.{turn_comes, turn_once, turn_begins}

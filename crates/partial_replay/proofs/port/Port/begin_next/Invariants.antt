@@ -1,6 +1,4 @@
-use Rattle.std.proofs.Common.{◌≡◌, ◌≤◌, ◌-◌, length, None}
-use Rattle.partial_machine.specs.declared.stage.Stage.TheVariants.{Idle}
-use Rattle.partial_replay.specs.Inner.PortState.{BeginsInTurn, KeepsFit, KeepsMade}
+use Rattle.partial_replay.proofs.Common.{◌≡◌, ◌≤◌, ◌-◌, length, None, Idle, BeginsInTurn, KeepsFit, KeepsMade}
 use Rattle.partial_replay.proofs.port.Port.begin_next.Given as goal
 
 -- the machine is idle and of the same sizes, and the port goes on as its part's port

@@ -1,21 +1,9 @@
-use Rattle.std.proofs.Common.{◌≡◌, ◌<◌, ◌++◌, ◌∷◌, [], ℕ, List, length, Some, slice_get, sym, ◌∙◌, ap, subst, arith, refl}
-use Rattle.std.specs.Option.{option_to_list}
-use Rattle.std.proofs.lemmas.List.{append-nil, with_items_is}
+use Rattle.partial_replay.proofs.Common.{◌≡◌, ◌<◌, ◌++◌, ◌∷◌, [], ℕ, List, length, Some, slice_get, sym, ◌∙◌, ap, subst, arith, refl, option_to_list, append-nil, with_items_is, Applied, answer_of, words_after, answer_for, CoreState, at_stage, IsPossible, Step, Idle, Answer, entry_at, one_step_more, IsEndedCall, place_below}
 use Rattle.partial_model.proofs.ListLemmas.{some_same}
-use Rattle.partial_model.specs.declared.history.Applied.{Applied}
-use Rattle.partial_words.specs.Step.{answer_of, words_after}
-use Rattle.partial_machine.specs.Calls.{answer_for}
-use Rattle.partial_machine.specs.Machine.{CoreState, at_stage}
-use Rattle.partial_machine.specs.Possible.{IsPossible}
-use Rattle.partial_words.specs.declared.step.Step.{Step}
-use Rattle.partial_machine.specs.declared.stage.Stage.TheVariants.{Idle}
-use Rattle.partial_model.specs.declared.call.Answer.{Answer}
 use Rattle.partial_replay.specs.declared.memory.Memory.{Memory}
-use Rattle.partial_replay.specs.Inner.PortState.{entry_at, one_step_more, IsEndedCall}
 use Rattle.partial_replay.proofs.PortLaws.{answer_idle, step_ended, call_at_place}
 use Rattle.partial_replay.proofs.port.Port.make_step.Goals as goal
 use Rattle.partial_replay.proofs.port.Port.make_step.Goals.{in-Some+in_ok-push-2, in_default}
-use Rattle.partial_model.proofs.HistoryLemmas.{place_below}
 
 pub returns-in_ok-push-in-Some-take-clause-made : goal.returns-in_ok-push-in-Some-take-clause-made
 returns-in_ok-push-in-Some-take-clause-made c =

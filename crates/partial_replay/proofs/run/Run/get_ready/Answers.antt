@@ -1,7 +1,4 @@
-use Rattle.std.proofs.Common.{◌≡◌, ◌+◌, ◌≤◌, List, length, set, Some, slice_get, sym, ◌∙◌, ap, subst, arith}
-use Rattle.partial_model.specs.declared.call.Call.{Call}
-use Rattle.partial_replay.specs.Inner.PortState.{KeepsFit, KeepsMade}
-use Rattle.partial_replay.specs.Inner.TurnState.{BeginsIn}
+use Rattle.partial_replay.proofs.Common.{◌≡◌, ◌+◌, ◌≤◌, List, length, set, Some, slice_get, sym, ◌∙◌, ap, subst, arith, Call, KeepsFit, KeepsMade, BeginsIn}
 use Rattle.partial_replay.proofs.RunSteps.{port_here, begin_keeps, ports_length, got, none_of, some_of, match_bool, begun_done, port_in, idle_between, left_is, left_ready, served_here}
 use Rattle.partial_replay.proofs.PortLaws.{get_set, some_is}
 use Rattle.partial_replay.proofs.PortSteps.{ending_but, started_but, started_idle}

@@ -1,15 +1,11 @@
-use Rattle.std.proofs.Common.{◌≡◌, length, Some, slice_get, set, sym, ◌∙◌, ap, subst, arith}
-use Rattle.partial_words.specs.Layout.{Layout}
+use Rattle.partial_replay.proofs.Common.{◌≡◌, length, Some, slice_get, set, sym, ◌∙◌, ap, subst, arith, Layout, Port, ArePlans, IsRunOf, place_below}
 use Rattle.std.proofs.lemmas.Result.{on_ok_weaker}
-use Rattle.partial_replay.specs.declared.port.Port.{Port}
-use Rattle.partial_replay.specs.Inner.RunState.{ArePlans, IsRunOf}
 use Rattle.partial_replay.proofs.RunSteps.{port_here, may_step, step_keeps, got, left_is, left_falls, port_in, components_here, step_sizes, on_ok_both}
 use Rattle.partial_replay.proofs.PortLaws.{get_set}
 use Rattle.partial_replay.proofs.PortSteps.{ending_with, started_set, step_ending, step_started}
 use Rattle.partial_replay.proofs.TurnLaws.{done_set, by_step, stepped_done}
 use Rattle.partial_replay.proofs.RunTurns.{steps_at}
 use Rattle.partial_replay.proofs.run.Run.make_step.Goals as goal
-use Rattle.partial_model.proofs.HistoryLemmas.{place_below}
 
 pub make_step-requires-clause-may : goal.make_step-requires-clause-may
 make_step-requires-clause-may c =

@@ -1,9 +1,4 @@
-use Rattle.std.proofs.Common.{◌≡◌, ℕ, List, [], length, ap, ◌∙◌, subst, sym}
-use Rattle.partial_model.specs.declared.history.Applied.{Applied}
-use Rattle.partial_model.specs.declared.history.Opening.{Opening}
-use Rattle.partial_words.specs.declared.step.Event.{Event}
-use Rattle.partial_words.specs.Chain.{AreOpeningWords}
-use Rattle.partial_replay.specs.Inner.RunState.{IsRunOf}
+use Rattle.partial_replay.proofs.Common.{◌≡◌, ℕ, List, [], length, ap, ◌∙◌, subst, sym, Applied, Opening, Event, AreOpeningWords, IsRunOf}
 use Rattle.partial_replay.proofs.Opens.{opens_run, fresh_started, fresh_turned, fresh_ending}
 use Rattle.partial_replay.proofs.run.Run.open.Goals as goal
 

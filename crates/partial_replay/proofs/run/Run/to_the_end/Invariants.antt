@@ -1,6 +1,4 @@
-use Rattle.std.proofs.Common.{ℕ}
-use Rattle.partial_replay.specs.Inner.RunState.{IsBetweenTurns, IsSameOpening, left_at}
-use Rattle.partial_replay.specs.Inner.TurnState.{StayStopped, StepsMade}
+use Rattle.partial_replay.proofs.Common.{ℕ, IsBetweenTurns, IsSameOpening, left_at, StayStopped, StepsMade}
 use Rattle.partial_replay.proofs.run.Run.to_the_end.Given as goal
 
 -- the replay is between two turns, and a step was made in each turn

@@ -1,7 +1,5 @@
-use Rattle.std.proofs.Common.{Bool, subst}
+use Rattle.partial_replay.proofs.Common.{Bool, subst, AreStarted, IsReady, IsDone}
 use Rattle.std.specs.Bool.{MatchBool}
-use Rattle.partial_replay.specs.Inner.RunState.{AreStarted, IsReady}
-use Rattle.partial_replay.specs.Inner.TurnState.{IsDone}
 use Rattle.partial_replay.proofs.RunTurns.{turn_done, turn_stepped}
 use Rattle.partial_replay.proofs.run.Run.turn.Goals as goal
 

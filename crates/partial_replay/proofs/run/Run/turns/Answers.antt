@@ -1,5 +1,4 @@
-use Rattle.std.proofs.Common.{◌≡◌, ◌∙◌, ℕ, Bool, Some, refl, subst, arith}
-use Rattle.partial_replay.specs.Inner.TurnState.{TurnMade, TurnsMade}
+use Rattle.partial_replay.proofs.Common.{◌≡◌, ◌∙◌, ℕ, Bool, Some, refl, subst, arith, TurnMade, TurnsMade}
 use Rattle.partial_replay.proofs.RunTurns.{no_steps, step_more, turns_all, turns_end}
 use Rattle.partial_replay.proofs.run.Run.turns.Goals as goal
 

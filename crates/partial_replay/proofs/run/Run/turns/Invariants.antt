@@ -1,5 +1,4 @@
-use Rattle.partial_replay.specs.Inner.RunState.{IsBetweenTurns, IsSameOpening}
-use Rattle.partial_replay.specs.Inner.TurnState.{StayStopped, StepsMade}
+use Rattle.partial_replay.proofs.Common.{IsBetweenTurns, IsSameOpening, StayStopped, StepsMade}
 use Rattle.partial_replay.proofs.run.Run.turns.Given as goal
 
 -- the replay is between two turns, and a step was made in each turn

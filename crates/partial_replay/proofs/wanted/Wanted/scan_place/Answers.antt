@@ -1,6 +1,4 @@
-use Rattle.std.proofs.Common.{ℕ, ◌≡◌, ◌<◌, ◌∙◌, List, Option, length, None, get_or, sym, ap, subst, vec_len, arith, rules}
-use Rattle.std.specs.List.{AllByRecursion}
-use Rattle.partial_replay.specs.ScanPlace.{AreMarked, AreWanted, HasRecord, values_after, values_now}
+use Rattle.partial_replay.proofs.Common.{ℕ, ◌≡◌, ◌<◌, ◌∙◌, List, Option, length, None, get_or, sym, ap, subst, vec_len, arith, rules, AllByRecursion, AreMarked, AreWanted, HasRecord, values_after, values_now}
 use Rattle.partial_replay.proofs.ScanPlaces.{take_front, have_shown, least_shown, wanted_below}
 use Rattle.partial_replay.proofs.wanted.Wanted.scan_place.Goals as goal
 

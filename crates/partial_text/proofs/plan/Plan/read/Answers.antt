@@ -1,8 +1,5 @@
-use Rattle.std.proofs.Common.{Err, sym, subst, ap, ◌∙◌}
+use Rattle.partial_text.proofs.Common.{Err, sym, subst, ap, ◌∙◌, PlanView, Fails, Gives, judged}
 use Rattle.std.proofs.lemmas.Result.{err_from_is_err_and}
-use Rattle.partial_text.specs.PlanText.{PlanView}
-use Rattle.partial_text.specs.Fault.{Fails, Gives}
-use Rattle.partial_text.specs.Judging.{judged}
 use Rattle.partial_text.proofs.ReaderLaws.{judged_all, only_memory, found_from, exact_from, only_from, always, true_not_false}
 use Rattle.partial_text.proofs.plan.Plan.read.Goals as goal
 
