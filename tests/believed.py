@@ -30,7 +30,7 @@ CALLS = [
 ]
 LONG_LIVED = [
     ('partial_long_lived/src/long_lived.rt', ['open', 'close']),
-    ('partial_long_lived/src/calls.rt', ['update', 'update_if', 'read', 'scan', 'unchanged', 'meet']),
+    ('partial_long_lived/src/calls.rt', ['update', 'update_if', 'read', 'scan', 'scan_stamped', 'unchanged', 'meet']),
 ]
 RUNNING = [*CALLS[:2], ('partial_memory/src/port.rt', ['pool_spent', 'slots_spent']), ('partial_memory/src/law.rt', None)]
 TOGETHER = RUNNING + [

@@ -1,6 +1,6 @@
 //! What is measured.
 
-use crate::objects::{faces, Face, SIZES};
+use crate::objects::{faces, faces_of, Face, Faces, NO_LISTS, SIZES};
 use crate::parts::{Parts, Sample};
 use partial_door::{opening as openings, Memory, Updated};
 use std::hint::black_box;
@@ -34,12 +34,13 @@ const fn speed(name: &'static str, run: fn(&str) -> Sample) -> Bench {
     Bench { name, endings: &[""], is_time: false, run }
 }
 
-pub const BENCHES: [Bench; 16] = [
+pub const BENCHES: [Bench; 17] = [
     speed("read, 1 thread", |name| timed(name, 1, PARTS, rest, read)),
     speed("read, 4 threads", |name| timed(name, 4, PARTS, rest, read)),
     speed("update, 1 thread, nobody scans", |name| timed(name, 1, PARTS, rest, update)),
     speed("update, 4 threads, nobody scans", |name| timed(name, 4, PARTS, rest, update)),
     speed("update, 1 thread, after scans", |name| timed(name, 1, PARTS, scan_often, update)),
+    speed("update, 1 thread, after scans, no list words left", without_lists),
     speed("add one, 1 thread, nobody scans", |name| timed(name, 1, PARTS, rest, add_one)),
     speed("scan of 4, 1 thread", |name| timed(name, 1, PARTS_OF_SCANS, rest, scan::<4>)),
     speed("scan of 16, 1 thread", |name| timed(name, 1, PARTS_OF_SCANS, rest, scan::<16>)),
@@ -77,7 +78,12 @@ type Work = fn(&mut dyn Face, u32, u32);
 
 // Nanoseconds of a call, where each thread makes so many parts, or fewer where another one has made them all.
 fn timed(name: &str, threads: usize, parts: u32, before: fn(&mut dyn Face), work: Work) -> Sample {
-    let (_memory, mut all) = faces(name, M, threads);
+    timed_on(faces(name, M, threads), parts, before, work)
+}
+
+// The same on a thread for each of these faces.
+fn timed_on((_memory, mut all): Faces, parts: u32, before: fn(&mut dyn Face), work: Work) -> Sample {
+    let threads = all.len();
     before(&mut *all[0]);
     let (ready, over) = (AtomicUsize::new(0), AtomicBool::new(false));
     let made: Vec<Parts> = std::thread::scope(|scope| {
@@ -119,6 +125,14 @@ fn wait_for(ready: &AtomicUsize, threads: usize) {
     while ready.load(SeqCst) < threads {
         std::hint::spin_loop();
     }
+}
+
+// An update in an opening that has no room for a list of the slots that scans have left: each update walks over them.
+fn without_lists(name: &str) -> Sample {
+    if !matches!(name, "opening" | "raw" | "called") {
+        return Sample::none();
+    }
+    timed_on(faces_of(name, M, 1, NO_LISTS), PARTS_OF_SCANS, scan_often, update)
 }
 
 fn rest(_face: &mut dyn Face) {}

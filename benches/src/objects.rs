@@ -236,12 +236,23 @@ fn words(m: usize) -> Vec<AtomicU64> {
     (0..m).map(|_| AtomicU64::new(0)).collect()
 }
 
-/// The faces of a new object of m components, and what keeps a single opening there.
-pub fn faces(name: &str, m: usize, threads: usize) -> (Option<opening::Memory>, Vec<Box<dyn Face>>) {
+/// The sizes of an opening without room for a list of vacated slots.
+pub const NO_LISTS: Sizes = Sizes { list_words: 1, ..SIZES };
+
+/// The faces of an object, and what keeps a single opening there.
+pub type Faces = (Option<opening::Memory>, Vec<Box<dyn Face>>);
+
+/// The faces of a new object of m components.
+pub fn faces(name: &str, m: usize, threads: usize) -> Faces {
+    faces_of(name, m, threads, SIZES)
+}
+
+/// The same, where an opening has these sizes.
+pub fn faces_of(name: &str, m: usize, threads: usize, sizes: Sizes) -> Faces {
     fn boxed<F: Face + 'static>(face: F) -> Box<dyn Face> {
         Box::new(Apart(face))
     }
-    fn all<F: Face + Clone + 'static>(face: F, threads: usize) -> (Option<opening::Memory>, Vec<Box<dyn Face>>) {
+    fn all<F: Face + Clone + 'static>(face: F, threads: usize) -> Faces {
         (None, (0..threads).map(|_| boxed(face.clone())).collect())
     }
     let zeros = vec![0; m];
@@ -251,12 +262,12 @@ pub fn faces(name: &str, m: usize, threads: usize) -> (Option<opening::Memory>, 
             (None, (0..threads).map(|_| boxed(memory.port().expect("a port is free"))).collect())
         }
         "opening" => {
-            let (memory, ports) = opening::open(&zeros, SIZES, threads as u32).expect("it opens");
+            let (memory, ports) = opening::open(&zeros, sizes, threads as u32).expect("it opens");
             (Some(memory), ports.into_iter().map(boxed).collect())
         }
-        "raw" => (None, raw::open(&zeros, SIZES, threads as u32).into_iter().map(boxed).collect()),
+        "raw" => (None, raw::open(&zeros, sizes, threads as u32).into_iter().map(boxed).collect()),
         "called" => {
-            let ports = raw::open(&zeros, SIZES, threads as u32).into_iter();
+            let ports = raw::open(&zeros, sizes, threads as u32).into_iter();
             (None, ports.map(|port| boxed(Called(port))).collect())
         }
         "mutex" => all(Locked(Arc::new(Mutex::new(zeros))), threads),
