@@ -1,4 +1,3 @@
-mod Common
 pub mod MidCalls
 pub mod Calls
 pub mod Parts

@@ -1,4 +1,3 @@
-mod Common
 pub mod Pairs
 pub mod Parts
 pub mod Sound

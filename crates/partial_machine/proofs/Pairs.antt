@@ -1,7 +1,8 @@
 -- The words of the pairs of a record that has the values of a list of indices.
-use Rattle.partial_machine.proofs.Common.{ℕ, ◌≡◌, ◌*◌, ◌/◌, ◌%◌, ◌<◌, List, length, get_or, map, sym, ◌∙◌, ap, arith, flat_map}
+use Rattle.std.proofs.Common.{ℕ, ◌≡◌, ◌*◌, ◌/◌, ◌%◌, ◌<◌, List, length, get_or, map, sym, ◌∙◌, ap, arith}
 use Rattle.std.proofs.lemmas.List.{length-map}
 use Rattle.std.proofs.Math.ListN as lists
+use Rattle.std.specs.List.{flat_map}
 use Rattle.partial_words.specs.Record.{pair_words}
 use Rattle.partial_words.proofs.RecordLemmas.{word_even, word_odd}
 

@@ -1,5 +1,9 @@
 use Rattle.std.specs.Vec.{vec_capacity}
-use Rattle.partial_machine.proofs.Common.{sym, ◌∙◌, ap, subst, GettingSet, Viewing, Joining, Scanning, CoreState, IsMachine, IsPossibleAt}
+use Rattle.std.proofs.Common.{sym, ◌∙◌, ap, subst}
+use Rattle.partial_machine.specs.declared.stage.Stage.TheVariants.{GettingSet, Viewing, Joining, Scanning}
+use Rattle.partial_machine.specs.Machine.{CoreState}
+use Rattle.partial_machine.specs.Sound.{IsMachine}
+use Rattle.partial_machine.specs.Possible.{IsPossibleAt}
 use Rattle.partial_machine.proofs.Sound.{fewer_on}
 use Rattle.partial_machine.proofs.machine.Core.answer.Goals as goal
 

@@ -1,5 +1,7 @@
 use Rattle.std.specs.Vec.{vec_capacity}
-use Rattle.partial_machine.proofs.Common.{subst, CoreState, IsMachine}
+use Rattle.std.proofs.Common.{subst}
+use Rattle.partial_machine.specs.Machine.{CoreState}
+use Rattle.partial_machine.specs.Sound.{IsMachine}
 use Rattle.partial_machine.proofs.Submachines.{performs_fewer}
 use Rattle.partial_machine.proofs.machine.Core.perform.Goals as goal
 
