@@ -26,7 +26,7 @@ rows() {
     row "read, $1" "$2" read
     row "scan of 4, $1" "$2" scan
 }
-(cd crates/partial_door && rt lib) >"$made/log" 2>&1 || { cat "$made/log"; exit 1; }
+bindings/library.sh >"$made/log" 2>&1 || { cat "$made/log"; exit 1; }
 build() {
     (cd benches && CARGO_TARGET_DIR=$made/$1 cargo build --offline --quiet --release --example count)
 }

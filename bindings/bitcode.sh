@@ -4,9 +4,9 @@
 # can put that of a call in the place of the call (docs/using/c-and-rust.md). What it writes to standard output is one
 # line, the words for RUSTFLAGS to link so.
 #
-# It wants `rt` on the path. `rt lib` proves and builds all, and takes no toolchain but the kit's. So its last step is
-# made once more here, in its words: `rattle build`, which builds nothing but what is proved, with a toolchain in which
-# `clang` is the kit's own and writes bitcode.
+# It wants `rt` on the path. library.sh proves and builds all, with the kit's toolchain. Then the last step is made once
+# more: `rattle build`, which builds nothing but what is proved, with a toolchain in which `clang` is the kit's own and
+# writes bitcode.
 set -eu
 stop() {
     echo "bitcode.sh: $1" >&2
@@ -22,12 +22,13 @@ top=$(cd "$(dirname "$0")/.." && pwd)
 crate=$top/crates/partial_door
 out=${out:-$crate/out/bitcode/libpartial_door.a}
 . "$top/scripts/need.sh" && need rt
+. "$top/scripts/door.sh"
 kit=$(dirname "$(rt doc)")
 for part in bin/rattle toolchain/bin/clang toolchain/bin/llvm-ar toolchain/lib rlibs logic_built \
     rattle/logic/antt-project.json; do
     [ -e "$kit/$part" ] || stop "the kit has no $part"
 done
-(cd "$crate" && rt lib) >&2 || stop "rt lib has failed"
+"$top/bindings/library.sh" >&2 || stop "library.sh has failed"
 
 # The toolchain. Its parts are called with no environment, so these paths stand in it. It keeps the words of the call.
 made=$(mktemp -d)
@@ -43,36 +44,7 @@ exec "$kit/toolchain/bin/clang" -flto=thin "\$@"
 END
 chmod +x "$made/bin/clang"
 
-# libraries NAME: those that the crate names in crates.txt. below NAME: those of the repository, down to the last.
-libraries() {
-    sed -n "s/^$1\( staticlib\)\{0,1\}://p" "$top/crates.txt"
-}
-below() {
-    for library in $(libraries "$1"); do
-        if [ -d "$top/crates/$library" ]; then
-            echo "$library"
-            below "$library"
-        fi
-    done
-}
-set -- --extern "std=$kit/rlibs/std.rlib" -L "dependency=$kit/rlibs"
-for library in $(libraries partial_door); do
-    if [ -d "$top/crates/$library" ]; then
-        set -- "$@" --extern "$library=$top/crates/$library/out/rlib/$library.rlib"
-    else
-        set -- "$@" --extern "$library=$kit/rlibs/$library.rlib"
-    fi
-done
-for library in $(below partial_door | sort -u); do
-    set -- "$@" -L "dependency=$top/crates/$library/out/rlib"
-done
-
-mkdir -p "$(dirname "$out")"
-cd "$crate"
-"$kit/bin/rattle" build --crate-name partial_door src/lib.rt "$@" \
-    --antt-project "$kit/rattle/logic/antt-project.json" --logic-built "$kit/logic_built" --jobs 2 \
-    --links partial_door= --crate-type staticlib --toolchain "$made" --backend llvm --incremental out/incremental \
-    -o "$out" >"$made/said" 2>&1 || {
+build_door "$made" "$out" >"$made/said" 2>&1 || {
     cat "$made/said" >&2
     stop "rattle build has failed"
 }

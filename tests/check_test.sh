@@ -16,8 +16,8 @@ set -u
 . "$top/tests/count.sh" || exit 1
 if [ "\$1" = started ]; then
     sleep 0.1 &
-    bash -c "\$2" >"$room/started" 2>&1 &
-    count_started part "\$!" "$room/started"
+    start bash -c "\$2"
+    count_started
 else
     count bash -c "\$2"
 fi
@@ -53,6 +53,16 @@ counts "a part whose count isn't its last line" 0 1 'echo "5 passed, 0 failed"; 
 counts "a part whose last line is more than a count" 0 1 'echo "some 5 passed, 0 failed"'
 counts "a part that isn't there" 0 1 "exec $room/missing"
 counts "a count with zeros before it" 8 0 'echo "08 passed, 00 failed"'
+
+# Two parts side by side are both counted, the first one though it ends last.
+said=$(bash -c '. "$1"; start bash -c "sleep 0.2; echo 2 passed, 1 failed"; start bash -c "echo 3 passed, 0 failed"
+    count_started; count_started; echo "$passed and $failed"' bash "$top/tests/count.sh")
+if [ "$said" = $'2 passed, 1 failed\n3 passed, 0 failed\n5 and 1' ]; then
+    well=$((well + 1))
+else
+    ill=$((ill + 1))
+    printf 'failed: two parts side by side\n%s\n' "$said"
+fi
 
 echo "$well passed, $ill failed"
 [ "$ill" -eq 0 ]

@@ -30,11 +30,24 @@ count() {
     rm -f "$said"
 }
 
-# count_started NAME PROCESS FILE: waits for a part that was started with its output in this file, shows what it said,
-# and adds what it counts.
+# start COMMAND..: starts a part beside the others. What it says goes to a file of its own.
+started=()
+start() {
+    local said
+    said=$(mktemp) || exit 1
+    "$@" >"$said" 2>&1 &
+    started+=("$1" "$!" "$said")
+}
+
+# count_started: waits for the parts that were started, in their order, shows what each said, and adds what it counts.
 count_started() {
-    local status=0
-    wait "$2" || status=$?
-    cat "$3"
-    add_counts "$1" "$status" "$3"
+    local at status
+    for ((at = 0; at < ${#started[@]}; at += 3)); do
+        status=0
+        wait "${started[at + 1]}" || status=$?
+        cat "${started[at + 2]}"
+        add_counts "${started[at]}" "$status" "${started[at + 2]}"
+        rm -f "${started[at + 2]}"
+    done
+    started=()
 }

@@ -1,5 +1,5 @@
 #!/bin/sh
-# Builds the static library `partial_door` over proved work, and tests the ways to it from C and from Rust.
+# Builds the static library `partial_door` over what `rt ci` proved, and tests the ways to it from C and from Rust.
 # With cargo it also builds the library's bitcode, and tests the crate for Rust over that.
 # The last line is 'N passed, M failed'. It wants cc and, for the bindings, cargo.
 set -u
@@ -92,7 +92,7 @@ installed() {
 }
 kit=$(dirname "$(rt doc)")
 heap=$kit/c/liblibc_c.a
-item "the static library is proved and built" sh -c 'cd crates/partial_door && rt lib --jobs 2'
+item "the static library is proved and built" bindings/library.sh
 item "the C test is compiled" compile "$made/test" bindings/c/test.c
 counts "the C test" "$made/test"
 if command -v pkg-config >/dev/null 2>&1; then

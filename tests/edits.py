@@ -34,7 +34,8 @@ import signal
 import subprocess
 import sys
 import tempfile
-from concurrent.futures import ThreadPoolExecutor
+import time
+from concurrent import futures
 from dataclasses import dataclass, field
 from pathlib import Path
 
@@ -43,6 +44,11 @@ KIT = Path(shutil.which('rt')).resolve().parent.parent
 PARTS = ('src', 'specs', 'proofs')
 # Seconds for one check, which may have to prove a whole crate.
 LIMIT = 3600
+# So many crates at once while a command proves them, and seconds until it is seen again what it has proved. A library
+# is whole once nothing was written to it for so many seconds.
+BESIDE = 2
+PAUSE = 1
+SETTLED = 5
 # Goals of meaning: what a function ensures, the invariant of a type, and that of a loop.
 MEANING = re.compile(r'(returns|invariant_of)(-|$)|loop(-\S+)?-(init|preserved)(-|$)')
 # Goals that an edit may name: what a called function requires, but for those of an index and of what can't be.
@@ -171,25 +177,51 @@ def command_of(name, crates, proved):
             '--incremental', 'kept']
 
 
-def copy_of(top, there):
-    """A copy of the repository's crates with their libraries, where a command may make these anew. In the repository it
-    may not, since other commands read them."""
-    there.mkdir()
-    shutil.copy2(top / 'crates.txt', there)
-    shutil.copytree(top / 'crates', there / 'crates', ignore=lambda folder, names: [
-        it for it in names if Path(folder).name == 'out' and it != 'rlib'])
-    return there
+class Libraries:
+    """The proved libraries of the crates, each copied once to a folder of this program's own: what runs beside it may make
+    a library anew, and a library fits those alone that it was made with."""
+
+    def __init__(self, folder, ended=None):
+        self.folder, self.ended, self.begun, self.parent = folder, ended, time.time_ns(), os.getppid()
+
+    def are_beside(self):
+        """Whether the command is still at work that proves them. It isn't once whoever started both is gone."""
+        return self.ended is not None and not self.ended.exists() and os.getppid() == self.parent
+
+    def priority(self):
+        """The words before a command that has to leave the processors to the one at work."""
+        return ['nice'] if self.are_beside() else []
+
+    def take(self, name):
+        """Whether the library is in the folder. While the command is at work, only one counts that it has made, and that
+        is whole."""
+        here, there = TOP / 'crates' / name / 'out' / 'rlib', self.folder / name
+        if there.is_dir():
+            return True
+        made = made_at(here / f'{name}.rlib')
+        if made is None or self.are_beside() and not self.begun < made < time.time_ns() - SETTLED * 1e9:
+            return False
+        room = tempfile.mkdtemp(dir=self.folder)
+        try:
+            shutil.copytree(here, f'{room}/{name}')
+        except (OSError, shutil.Error):
+            return False
+        if made_at(here / f'{name}.rlib') != made:
+            return False
+        os.rename(f'{room}/{name}', there)
+        return True
+
+    def has(self, names):
+        """Whether the libraries with these names are in the folder."""
+        return all([self.take(it) for it in names])
 
 
-def kept_of(name, there):
-    """The folder of what checks kept of the crate: here, or in another copy on this machine, from where it is taken into
-    this one."""
-    kept = TOP / 'crates' / name / 'out' / 'incremental'
-    if kept.is_dir():
-        return kept
-    subprocess.run(['rt', 'check', '--only', ''], cwd=there / 'crates' / name, stdin=subprocess.DEVNULL,
-                   stdout=subprocess.DEVNULL, stderr=subprocess.DEVNULL, check=False)
-    return there / 'crates' / name / 'out' / 'incremental'
+def made_at(library):
+    """When a library was last written to, in nanoseconds, or None where there is none."""
+    try:
+        return max(os.stat(it).st_mtime_ns for it in [library, library / 'format', *library.iterdir()])
+    except OSError:
+        return None
 
 
 def asked_of(edit):
@@ -375,21 +407,21 @@ def counted(edits, faults):
     return sum(it.name not in faulty for it in edits), len(faulty) + sum(name is None for name, _ in faults)
 
 
-def try_crate(name, crates, proved, there):
-    """Tries a crate's edits over the libraries in this folder, beside this copy of the repository: the edits, how many
-    functions were refused without an answer that did not fit, and what is wrong."""
+def try_crate(name, crates, libraries):
+    """Tries a crate's edits over these libraries: the edits, how many functions were refused without an answer that did
+    not fit, and what is wrong."""
     crate = TOP / 'crates' / name
     (edits, faults), more = edits_of(crate), 0
-    command, left = command_of(name, crates, proved), edits
-    kept = kept_of(name, there)
+    command, left = command_of(name, crates, libraries.folder), edits
+    kept = crate / 'out' / 'incremental'
     with tempfile.TemporaryDirectory(prefix='edits-') as room:
         shutil.copytree(kept, f'{room}/kept') if kept.is_dir() else os.mkdir(f'{room}/kept')
         while left:
             members, places = first_round(left, crate)
-            asked = [] if left is edits else [word for it in members for word in asked_of(it)]
+            asked = [*libraries.priority(), *command, *[word for it in members for word in asked_of(it)]]
 
             def again(without):
-                return check(Path(room), name, places, [*command, *asked], without)
+                return check(Path(room), name, places, asked, without)
 
             tried, wrong, others = try_round(name, members, *again({}), again)
             faults += wrong
@@ -398,30 +430,61 @@ def try_crate(name, crates, proved, there):
     return edits, more, faults
 
 
+def in_turns(names, jobs, is_ready, is_beside, call):
+    """What the call gives for each of these names, in their order: so many at once, or two while a command runs beside
+    them. A name waits until it is ready, and has no answer where it isn't when the command has ended."""
+    left, running, given = list(names), {}, {}
+    with futures.ThreadPoolExecutor(jobs) as pool:
+        while left or running:
+            beside = is_beside()
+            free = (min(jobs, BESIDE) if beside else jobs) - len(running)
+            for name in list(left):
+                if free > 0 and is_ready(name):
+                    left.remove(name)
+                    running[pool.submit(call, name)] = name
+                    free -= 1
+            if running:
+                for it in futures.wait(running, PAUSE, futures.FIRST_COMPLETED).done:
+                    given[running.pop(it)] = it.result()
+            elif beside:
+                time.sleep(PAUSE)
+            else:
+                break
+    return given
+
+
+def try_crates(chosen, crates, jobs, libraries):
+    """Tries the edits of these crates, the greatest ones first, and says what came of them: how many passed and failed."""
+    size = {it: sum(path.stat().st_size for path in (TOP / 'crates' / it / 'src').glob('**/*.rt')) for it in chosen}
+    tried = in_turns(sorted(chosen, key=lambda it: -size[it]), jobs, lambda it: libraries.has(below(it, crates)),
+                     libraries.are_beside, lambda it: try_crate(it, crates, libraries))
+    passed = failed = 0
+    for name in chosen:
+        if name not in tried:
+            print(f'{name}: a crate below is not proved', flush=True)
+            failed += 1
+            continue
+        edits, more, faults = tried[name]
+        print(f'{name}: {len(edits)} edits; {more} functions were refused without an answer that did not fit',
+              *[text for _, text in faults], sep='\n', flush=True)
+        well, ill = counted(edits, faults)
+        passed, failed = passed + well, failed + ill
+    return passed, failed
+
+
 def main():
     words = argparse.ArgumentParser(description=__doc__.splitlines()[0])
     words.add_argument('--jobs', type=int, default=len(os.sched_getaffinity(0)))
+    words.add_argument('--beside', type=Path, metavar='FILE')
     words.add_argument('names', nargs='*')
     given = words.parse_args()
     crates = crates_of(TOP)
     chosen = [it for it in crates
               if (TOP / 'crates' / it / 'edits').is_dir() and (not given.names or it in given.names)]
-    size = {it: sum(path.stat().st_size for path in (TOP / 'crates' / it / 'src').glob('**/*.rt')) for it in chosen}
-    passed, failed = 0, 0
-    if not all(is_built(it) for name in chosen for it in below(name, crates)):
+    if given.beside is None and not all(is_built(it) for name in chosen for it in below(name, crates)):
         subprocess.run(['rt', 'all', 'check'], cwd=TOP, stdin=subprocess.DEVNULL, stdout=subprocess.DEVNULL, check=True)
-    with tempfile.TemporaryDirectory(prefix='proved-') as proved, ThreadPoolExecutor(given.jobs) as pool:
-        # What is built beside this may make a library anew, and a library fits those alone that it was made with.
-        for library in {it for name in chosen for it in below(name, crates)}:
-            shutil.copytree(TOP / 'crates' / library / 'out' / 'rlib', Path(proved) / library)
-        there = copy_of(TOP, Path(proved) / 'there')
-        tried = {it: pool.submit(try_crate, it, crates, proved, there) for it in sorted(chosen, key=lambda it: -size[it])}
-        for name in chosen:
-            edits, more, faults = tried[name].result()
-            print(f'{name}: {len(edits)} edits; {more} functions were refused without an answer that did not fit',
-                  *[text for _, text in faults], sep='\n', flush=True)
-            well, ill = counted(edits, faults)
-            passed, failed = passed + well, failed + ill
+    with tempfile.TemporaryDirectory(prefix='proved-') as proved:
+        passed, failed = try_crates(chosen, crates, given.jobs, Libraries(Path(proved), given.beside))
     print(f'{passed} passed, {failed} failed')
     return 1 if failed or not passed else 0
 

@@ -6,6 +6,7 @@ The last line is 'N passed, M failed'.
 """
 import sys
 import tempfile
+import time
 from pathlib import Path
 
 sys.path.insert(0, str(Path(__file__).resolve().parent))
@@ -137,6 +138,71 @@ def cases():
     yield 'an answer is taken away whole', 'first g' not in left and 'c.more' not in left and 'second c' in left
     yield from of_counts()
     yield from of_runs()
+    yield from of_turns()
+    yield from of_libraries()
+
+
+def of_turns():
+    """The cases of names that are tried side by side, beside a command and alone."""
+    edits.PAUSE = 0.01
+    most, now = [0], [0]
+
+    def call(name):
+        now[0] += 1
+        most[0] = max(most[0], now[0])
+        time.sleep(0.05)
+        now[0] -= 1
+        return name.upper()
+
+    names = ['a', 'b', 'c', 'd', 'e', 'f']
+    every = {it: it.upper() for it in names}
+    yield 'each name has its answer', edits.in_turns(names, 3, lambda it: True, lambda: False, call) == every
+    yield 'so many are tried at once', most == [3]
+    most[0], ends = 0, time.monotonic() + 0.5
+    yield 'each name has its answer beside a command', edits.in_turns(
+        names, 3, lambda it: True, lambda: time.monotonic() < ends, call) == every
+    yield 'two are tried at once beside a command', most == [2]
+    asked = []
+
+    def is_ready(name):
+        asked.append(name)
+        return name != 'b' or len(asked) > 20
+
+    yield 'a name waits until it is ready', edits.in_turns(['a', 'b'], 2, is_ready, lambda: len(asked) < 30, call) == {'a': 'A', 'b': 'B'}
+    yield 'a name that is not ready at the end has no answer', edits.in_turns(
+        ['a', 'b'], 2, lambda it: it == 'a', lambda: False, call) == {'a': 'A'}
+
+
+def of_libraries():
+    """The cases of libraries that are copied while a command makes them."""
+    with tempfile.TemporaryDirectory() as room:
+        top, edits.TOP = edits.TOP, Path(room)
+        edits.SETTLED = 0.2
+        ended, copies = Path(room) / 'ended', Path(room) / 'copies'
+        copies.mkdir()
+
+        def make(name, text):
+            made = Path(room) / 'crates' / name / 'out/rlib' / f'{name}.rlib'
+            made.mkdir(parents=True, exist_ok=True)
+            (made / 'format').write_text(text, encoding='utf-8')
+
+        make('old', 'one')
+        time.sleep(0.3)
+        libraries = edits.Libraries(copies, ended)
+        make('new', 'two')
+        yield 'a library that was there before is not taken beside the command', not libraries.take('old')
+        yield 'nor one that is written just now', not libraries.take('new')
+        yield 'nor one that is not there', not libraries.take('none')
+        time.sleep(0.3)
+        yield 'a library that the command has made is taken', libraries.has(['new']) and libraries.are_beside()
+        make('new', 'three')
+        copy = (copies / 'new/new.rlib/format').read_text(encoding='utf-8')
+        yield 'it is copied once', libraries.take('new') and copy == 'two'
+        yield 'a command beside is left the processors', libraries.priority() == ['nice']
+        ended.touch()
+        yield 'behind the command each library is taken that is there', libraries.has(['old', 'new']) and not libraries.has(['none'])
+        yield 'and the processors too', libraries.priority() == [] and not libraries.are_beside()
+        edits.TOP = top
 
 
 def of_counts():

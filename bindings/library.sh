@@ -1,0 +1,24 @@
+#!/bin/sh
+# library.sh: proves and builds the static library `partial_door`, into crates/partial_door/out/libpartial_door.a. Where
+# `rt ci` has proved the crates below it, and no source is newer, it takes these; else `rt lib` proves them first. It
+# wants `rt` on the path.
+set -eu
+top=$(cd "$(dirname "$0")/.." && pwd)
+. "$top/scripts/need.sh" && need rt
+. "$top/scripts/fresh.sh"
+. "$top/scripts/door.sh"
+kit=$(dirname "$(rt doc)")
+crate=$top/crates/partial_door
+
+# Whether each library below is there, and no source is newer.
+are_proved() {
+    for library in $(below partial_door | sort -u); do
+        [ -e "$top/crates/$library/out/rlib/$library.rlib/format" ] &&
+            is_newest "$top/crates/$library/out/rlib/$library.rlib/format" || return
+    done
+}
+if are_proved; then
+    build_door "$kit/toolchain" "$crate/out/libpartial_door.a"
+else
+    cd "$crate" && rt lib
+fi
