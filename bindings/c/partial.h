@@ -378,10 +378,9 @@ static inline uint32_t partial_port_scan(partial_port *port,
  * their stamps, as they stood together at one moment of the call. For no position `answer`
  * is 1. `count` is how many stamps there is room for.
  *
- * Otherwise `answer` is 0, and `into` and `stamps` are as they were: an update or a change
- * of epoch came between, or the port's epoch had ended before. `partial_port_scan` gives the
- * values then, whatever other threads do, and takes the port to the current epoch, which
- * this call doesn't.
+ * Otherwise `answer` is 0, and `into` and `stamps` are as they were: in both of its tries an
+ * update or a change of epoch came between the collects. `partial_port_scan` gives the values
+ * then, whatever other threads do.
  *
  * 23: a pointer is null. 17: the handle holds no port. 19: `positions` and `room`, or
  * `positions` and `count`, differ, or there are more positions than components. 7: an index

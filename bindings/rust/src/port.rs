@@ -216,9 +216,9 @@ impl Port {
     /// Scans these components, in this order and with repeats, and returns their stamps beside their values. Both are as
     /// they stood together at one moment of the call.
     ///
-    /// The stamps are `None` when an update to one of these components came between the steps of the call, or the epoch was
-    /// changed since this port's last call. The values are then those of [`Port::scan_array`], which gives them whatever
-    /// other threads do. The call orders memory as a scan does.
+    /// The stamps are `None` when an update to one of these components or a change of epoch came between the steps of the
+    /// call, in both of its tries. The values are then those of [`Port::scan_array`], which gives them whatever other threads
+    /// do. The call orders memory as a scan does.
     ///
     /// ```
     /// use partial_door::{Memory, UpdatedIf};

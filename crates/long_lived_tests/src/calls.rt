@@ -3,38 +3,61 @@
 ghost use Rattle.std.specs.Prelude.{◌≤◌};
 ghost use Rattle.partial_long_lived.specs.Ports.{IsOf};
 
+use crate::memories::{SPENT, one, pair};
 use partial_long_lived::{LongLived, Options, Port, Refused, Updated};
 use std::process::Abort;
 use std::test::Fail;
 
-// Each port reads the initial values. Their stamps are distinct, and stay as they are.
+// A component is read with this value, and has the stamp that is returned.
+fn reads(rt: &impl Abort, memory: &LongLived, port: &mut Port, component: u32, value: u64) -> u64
+    requires { IsOf memory.now port.old }
+    ensures { IsOf memory.now port.new }
+{
+    let Ok((found, stamp)) = memory.read(port, component) else {
+        panic!(rt; "not read");
+    };
+    assert_eq!(rt; found, value);
+    stamp
+}
+
+// The stamps of the initial values are distinct, and stay as they are.
+fn reads_initial(rt: &impl Abort, memory: &LongLived, first: &mut Port, last: &mut Port)
+    requires first { IsOf memory.now first.old }
+    requires last { IsOf memory.now last.old }
+{
+    let ten = reads(rt, memory, first, 0, 10);
+    let most = reads(rt, memory, first, 1, u64::MAX);
+    let thirty = reads(rt, memory, first, 2, 30);
+    assert!(rt; ten < most);
+    assert!(rt; most < thirty);
+    assert_eq!(rt; reads(rt, memory, last, 2, 30), thirty);
+    assert_eq!(rt; reads(rt, memory, first, 0, 10), ten);
+}
+
+// Each port reads the initial values.
 #[test]
 fn initial_reads(rt: HostRuntime) -> Result<(), Fail> {
-    let alloc = rt.alloc();
-    let greatest = u64::MAX;
-    let (memory, mut ports) = LongLived::open(alloc, &[10, greatest, 30], 2, Options::default())?;
+    let values = [10, u64::MAX, 30];
+    let (memory, mut ports) = LongLived::open(rt.alloc(), &values, 2, Options::default())?;
     let mut last = ports.pop().ok_or("a last port")?;
     let mut first = ports.pop().ok_or("a first port")?;
-    let (ten, ten_stamp) = memory.read(&mut first, 0)?;
-    let (most, most_stamp) = memory.read(&mut first, 1)?;
-    let (thirty, thirty_stamp) = memory.read(&mut first, 2)?;
-    assert_eq!(rt; (ten, most, thirty), (10, greatest, 30));
-    assert!(rt; ten_stamp < most_stamp);
-    assert!(rt; most_stamp < thirty_stamp);
-    assert_eq!(rt; memory.read(&mut last, 2)?, (30, thirty_stamp));
-    assert_eq!(rt; memory.read(&mut first, 0)?, (10, ten_stamp));
+    reads_initial(&rt, &memory, &mut first, &mut last);
     Ok(())
 }
 
 // A read of a component that isn't there is refused, and the port reads on.
+fn refuses(rt: &impl Abort, memory: &LongLived, port: &mut Port)
+    requires { IsOf memory.now port.old }
+{
+    assert_eq!(rt; memory.read(port, 2), Err(Refused::Component));
+    assert_eq!(rt; memory.read(port, u32::MAX), Err(Refused::Component));
+    reads(rt, memory, port, 1, 20);
+}
+
 #[test]
 fn refused_reads(rt: HostRuntime) -> Result<(), Fail> {
-    let (memory, mut ports) = LongLived::open(rt.alloc(), &[10, 20], 1, Options::default())?;
-    let mut port = ports.pop().ok_or("a port")?;
-    assert_eq!(rt; memory.read(&mut port, 2), Err(Refused::Component));
-    assert_eq!(rt; memory.read(&mut port, u32::MAX), Err(Refused::Component));
-    let (value, _) = memory.read(&mut port, 1)?;
-    assert_eq!(rt; value, 20);
+    let (memory, mut port) = one(rt.alloc(), Options::default())?;
+    refuses(&rt, &memory, &mut port);
     Ok(())
 }
 
@@ -78,12 +101,10 @@ fn works(rt: &impl Abort, memory: &LongLived, port: &mut Port)
     shows(rt, memory, port, [13, 20]);
 }
 
-// With a pool of one word each call makes its port spent, so that the next one changes the epoch.
+// Each call makes its port spent.
 #[test]
 fn updates_over_epochs(rt: HostRuntime) -> Result<(), Fail> {
-    let options = Options { lists: 2, pool: 1 };
-    let (memory, mut ports) = LongLived::open(rt.alloc(), &[10, 20], 1, options)?;
-    let mut port = ports.pop().ok_or("a port")?;
+    let (memory, mut port) = one(rt.alloc(), SPENT)?;
     works(&rt, &memory, &mut port);
     Ok(())
 }
@@ -105,10 +126,7 @@ fn takes_turns(rt: &impl Abort, memory: &LongLived, first: &mut Port, last: &mut
 // A port that stands in an old epoch scans and updates in the current one.
 #[test]
 fn ports_in_two_epochs(rt: HostRuntime) -> Result<(), Fail> {
-    let options = Options { lists: 2, pool: 1 };
-    let (memory, mut ports) = LongLived::open(rt.alloc(), &[10, 20], 2, options)?;
-    let mut last = ports.pop().ok_or("a last port")?;
-    let mut first = ports.pop().ok_or("a first port")?;
+    let (memory, mut first, mut last) = pair(rt.alloc(), SPENT)?;
     takes_turns(&rt, &memory, &mut first, &mut last);
     Ok(())
 }
@@ -133,10 +151,7 @@ fn scans_alone(rt: &impl Abort, memory: &LongLived, first: &mut Port, last: &mut
 // Ports that are spent in the first epoch scan there.
 #[test]
 fn scans_of_spent_ports(rt: HostRuntime) -> Result<(), Fail> {
-    let options = Options { lists: 2, pool: 1 };
-    let (memory, mut ports) = LongLived::open(rt.alloc(), &[10, 20], 2, options)?;
-    let mut last = ports.pop().ok_or("a last port")?;
-    let mut first = ports.pop().ok_or("a first port")?;
+    let (memory, mut first, mut last) = pair(rt.alloc(), SPENT)?;
     scans_alone(&rt, &memory, &mut first, &mut last);
     Ok(())
 }
@@ -162,10 +177,7 @@ fn keeps_stamps(rt: &impl Abort, memory: &LongLived, first: &mut Port, last: &mu
 // The pool has one word, so that the second update changes the epoch.
 #[test]
 fn stamps_over_epochs(rt: HostRuntime) -> Result<(), Fail> {
-    let options = Options { lists: 2, pool: 1 };
-    let (memory, mut ports) = LongLived::open(rt.alloc(), &[10, 20], 2, options)?;
-    let mut last = ports.pop().ok_or("a last port")?;
-    let mut first = ports.pop().ok_or("a first port")?;
+    let (memory, mut first, mut last) = pair(rt.alloc(), SPENT)?;
     keeps_stamps(&rt, &memory, &mut first, &mut last);
     Ok(())
 }
@@ -191,10 +203,7 @@ fn meets(rt: &impl Abort, memory: &LongLived, first: &mut Port, last: &mut Port)
 // The pool has one word, so that the first port changes the epoch twice between the meetings.
 #[test]
 fn meetings(rt: HostRuntime) -> Result<(), Fail> {
-    let options = Options { lists: 2, pool: 1 };
-    let (memory, mut ports) = LongLived::open(rt.alloc(), &[10, 20], 2, options)?;
-    let mut last = ports.pop().ok_or("a last port")?;
-    let mut first = ports.pop().ok_or("a first port")?;
+    let (memory, mut first, mut last) = pair(rt.alloc(), SPENT)?;
     meets(&rt, &memory, &mut first, &mut last);
     Ok(())
 }

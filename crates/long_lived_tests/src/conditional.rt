@@ -2,6 +2,7 @@
 
 ghost use Rattle.partial_long_lived.specs.Ports.{IsOf};
 
+use crate::memories::{SPENT, one, pair};
 use partial_long_lived::{LongLived, Options, Port, Refused, UpdatedIf};
 use std::process::Abort;
 use std::test::Fail;
@@ -70,24 +71,24 @@ fn sets_in_turn(rt: &impl Abort, memory: &LongLived, first: &mut Port, last: &mu
 // The pool has one word.
 #[test]
 fn stamps_are_expected(rt: HostRuntime) -> Result<(), Fail> {
-    let options = Options { lists: 2, pool: 1 };
-    let (memory, mut ports) = LongLived::open(rt.alloc(), &[10, 20], 2, options)?;
-    let mut last = ports.pop().ok_or("a last port")?;
-    let mut first = ports.pop().ok_or("a first port")?;
+    let (memory, mut first, mut last) = pair(rt.alloc(), SPENT)?;
     sets_in_turn(&rt, &memory, &mut first, &mut last);
     Ok(())
 }
 
 // A component that isn't there is refused, and the port goes on.
+fn refuses(rt: &impl Abort, memory: &LongLived, port: &mut Port)
+    requires { IsOf memory.now port.old }
+{
+    assert_eq!(rt; memory.update_if(port, 2, 0, 1), Err(Refused::Component));
+    let Ok((20, _)) = memory.read(port, 1) else {
+        panic!(rt; "not read");
+    };
+}
+
 #[test]
 fn refused_components(rt: HostRuntime) -> Result<(), Fail> {
-    let (memory, mut ports) = LongLived::open(rt.alloc(), &[10, 20], 1, Options::default())?;
-    let mut port = ports.pop().ok_or("a port")?;
-    assert_eq!(rt;
-        memory.update_if(&mut port, 2, 0, 1),
-        Err(Refused::Component)
-    );
-    let (value, _) = memory.read(&mut port, 1)?;
-    assert_eq!(rt; value, 20);
+    let (memory, mut port) = one(rt.alloc(), Options::default())?;
+    refuses(&rt, &memory, &mut port);
     Ok(())
 }

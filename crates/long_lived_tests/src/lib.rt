@@ -8,6 +8,8 @@ mod conditional;
 #[cfg(test)]
 mod growths;
 #[cfg(test)]
+mod memories;
+#[cfg(test)]
 mod openings;
 #[cfg(test)]
 mod stamped;

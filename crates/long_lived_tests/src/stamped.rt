@@ -3,6 +3,7 @@
 ghost use Rattle.std.specs.Prelude.{◌≤◌};
 ghost use Rattle.partial_long_lived.specs.Ports.{IsOf};
 
+use crate::memories::{SPENT, one, pair};
 use partial_long_lived::{LongLived, Options, Port, Refused, Updated, UpdatedIf};
 use std::process::Abort;
 use std::test::Fail;
@@ -34,20 +35,6 @@ fn tells(rt: &impl Abort, memory: &LongLived, port: &mut Port, values: [u64; 2],
     assert_eq!(rt; memory.read(port, 0), Ok((values[1], stamps[1])));
 }
 
-// A port whose epoch has ended is told nothing, and the caller's values stay.
-fn is_told_nothing(rt: &impl Abort, memory: &LongLived, port: &mut Port)
-    requires own { IsOf memory.now port.old }
-    requires both { 2 ≤ memory.now.about.sizes.m }
-    ensures { IsOf memory.now port.new }
-{
-    let mut into = [5u64; 2];
-    let mut told = [6u64; 2];
-    let is_told = memory.scan_stamped(port, &[1, 0], &mut into, &mut told);
-    assert_eq!(rt; is_told, Ok(false));
-    assert_eq!(rt; into, [5, 5]);
-    assert_eq!(rt; told, [6, 6]);
-}
-
 // The stamp that component 1 begins with.
 fn carried(rt: &impl Abort, memory: &LongLived, port: &mut Port) -> u64
     requires { IsOf memory.now port.old }
@@ -60,7 +47,7 @@ fn carried(rt: &impl Abort, memory: &LongLived, port: &mut Port) -> u64
 }
 
 // The first port sets component 0 in two epochs, and scans with stamps in both. The other one, which stands in the first
-// epoch, is told nothing until it has read. An update may expect a stamp that a scan has told.
+// epoch, is told those of the second one. An update may expect a stamp that a scan has told.
 fn tells_stamps(rt: &impl Abort, memory: &LongLived, first: &mut Port, last: &mut Port)
     requires first { IsOf memory.now first.old }
     requires last { IsOf memory.now last.old }
@@ -74,9 +61,6 @@ fn tells_stamps(rt: &impl Abort, memory: &LongLived, first: &mut Port, last: &mu
     assert!(rt; one < 1 << 23);
     assert_eq!(rt; two >> 23, 1);
     tells(rt, memory, first, [20, 12], [second, two]);
-    is_told_nothing(rt, memory, last);
-    is_told_nothing(rt, memory, last);
-    assert_eq!(rt; memory.read(last, 0), Ok((12, two)));
     tells(rt, memory, last, [20, 12], [second, two]);
     let Ok(UpdatedIf::Applied { stamp }) = memory.update_if(last, 0, two, 13) else {
         panic!(rt; "not applied");
@@ -87,10 +71,7 @@ fn tells_stamps(rt: &impl Abort, memory: &LongLived, first: &mut Port, last: &mu
 // The pool has one word, so that the second update changes the epoch.
 #[test]
 fn stamps_are_told_over_epochs(rt: HostRuntime) -> Result<(), Fail> {
-    let options = Options { lists: 2, pool: 1 };
-    let (memory, mut ports) = LongLived::open(rt.alloc(), &[10, 20], 2, options)?;
-    let mut last = ports.pop().ok_or("a last port")?;
-    let mut first = ports.pop().ok_or("a first port")?;
+    let (memory, mut first, mut last) = pair(rt.alloc(), SPENT)?;
     tells_stamps(&rt, &memory, &mut first, &mut last);
     Ok(())
 }
@@ -112,8 +93,7 @@ fn refuses(rt: &impl Abort, memory: &LongLived, port: &mut Port)
 
 #[test]
 fn refused_scans(rt: HostRuntime) -> Result<(), Fail> {
-    let (memory, mut ports) = LongLived::open(rt.alloc(), &[10, 20], 1, Options::default())?;
-    let mut port = ports.pop().ok_or("a port")?;
+    let (memory, mut port) = one(rt.alloc(), Options::default())?;
     refuses(&rt, &memory, &mut port);
     Ok(())
 }

@@ -1,6 +1,6 @@
 -- A call of a port: how it begins at the seat that was taken out, and what it leaves once the seat is put back.
 use Rattle.partial_long_lived.proofs.Common.{ℕ, zero, suc, None, append-nil, ◌≡◌, ◌<◌, ◌≤◌, ◌++◌, ◌∷◌, [], Option, Some, IfSome, Bool, true, false, true≢false, List, length, ap, ◌+◌, take, refl, sym, subst, ◌∙◌, inl, inr, arith, nat_lt, slice_index, AllByRecursion, list_all, option_map, take-append_seam, TableId, Applied, IsEntryFor, IsLegal, LegalNotes, Noted, seen_by, AllByRecursion-get, LegalNotes-last, Layout, CoreState, fresh, AreComponents, IsSound, is_sound_at, IsBetween, IsMarkedLike, core_of, is_at_rest, public_stamp, Refused, Component, Overtaken, NoArena, EpochsSpent, About, Stand, Seating, Began, Seated, one_in, IsOf, MemoryView, PortView, port_view, seen_in, IsStandOf, IsSeatingOf, IsResting, Goes, IsHeld, epoch_at, port_at, HasCome, HasRead, IsIdle, Changed, NotChanged, HasScanned, RestsUnmarked, ScanMade, noted_scan, NotScanned, RestsAt}
-use Rattle.partial_long_lived.specs.Inner.DoubleCollect.{HasStayed, ScannedStamped}
+use Rattle.partial_long_lived.specs.Inner.DoubleCollect.{ScannedStamped}
 use Rattle.std.specs.Prelude.{Contains}
 use Rattle.partial_model.specs.declared.call.Call.TheVariants as call
 use Rattle.partial_model.specs.declared.call.Answer.TheVariants as answer
@@ -321,7 +321,7 @@ module _ (m : MemoryView) (s : Seating) (t u : Stand) (s' : Seating) (p : PortVi
       callers_see m s t u s' p k view own held k' (λ (a b : PortView). calls.ScansStamped a which values stamps b)
       (has_stamped_seen m.table t u which values stamps w some (below_there w.scanned.goes.about))
 
-  pub stayed_seen : HasStayed t u → (port_at u).notes ≡ (port_at t).notes → calls.Goes p (port_view s'.badge.table_id (one_in s'.badge.views)) []
-  stayed_seen stayed notes =
+  pub came_seen : HasCome t u → (port_at u).notes ≡ (port_at t).notes → calls.Goes p (port_view s'.badge.table_id (one_in s'.badge.views)) []
+  came_seen come notes =
       callers_see m s t u s' p k view own held k' (λ (a b : PortView). calls.Goes a b [])
-      (goes_seen m.table (port_at t) (port_at u) [] stayed.come.goes (notes ∙ sym (append-nil (port_at t).notes)))
+      (goes_seen m.table (port_at t) (port_at u) [] come.goes (notes ∙ sym (append-nil (port_at t).notes)))

@@ -5,7 +5,7 @@ use Rattle.partial_lines.specs.declared.whole_scan.Scanned.{Scanned}
 use Rattle.partial_epochs.specs.Layout.{unsealed}
 use Rattle.partial_epochs.specs.Notes.{public_of}
 use Rattle.partial_long_lived.specs.Rule.{plan_of}
-use Rattle.partial_long_lived.specs.Inner.DoubleCollect.{MadeNamed, NameStamps}
+use Rattle.partial_long_lived.specs.Inner.DoubleCollect.{MadeNamed, NameStamps, ScannedNamed}
 use Rattle.partial_long_lived.proofs.Coming.{come_itself, come_on, come_same, come_seen, goes_on, seen_more}
 use Rattle.partial_long_lived.proofs.Looking.{looked_away}
 use Rattle.partial_long_lived.proofs.Seen.{begin_history}
@@ -276,31 +276,42 @@ module _ (table : TableId) (about : About) (s u v : Stand) (h : IsHeld table abo
         ));
       }
 
--- a scan that is announced behind a double collect which was not one
-module _ (s u t : Stand) (stayed : HasStayed s u) (notes : (port_at u).notes ≡ (port_at s).notes) where
-  stayed_scanned : (which values : List ℕ) (collects : ℕ) (borrowed : Option ℕ) → HasScanned u t which values collects borrowed → HasScanned s t which values collects borrowed
-  stayed_scanned which values collects borrowed w = record {
-    shape = w.shape ∙ stayed.come.shape;
-    number = w.number ∙ stayed.come.number;
-    later = let up = w.later in let same = stayed.epoch in omega (arith, up, same);
-    goes = goes_on (port_at s) (port_at u) (port_at t) stayed.come.goes w.goes;
+-- a scan behind a double collect which was not one, and what the port has come to since
+module _ (s u t : Stand) (come : HasCome s u) (notes : (port_at u).notes ≡ (port_at s).notes) where
+  come_later : s.epoch ≤ u.epoch
+  come_later = elim come.machine [
+    | inl same ↦ let is = same.0 in omega (arith, is)
+    | inr later ↦ let up = later.0 in omega (arith, up)
+  ]
+
+  come_scanned : (which values : List ℕ) (collects : ℕ) (borrowed : Option ℕ) → HasScanned u t which values collects borrowed → HasScanned s t which values collects borrowed
+  come_scanned which values collects borrowed w = record {
+    shape = w.shape ∙ come.shape;
+    number = w.number ∙ come.number;
+    later = let up = w.later in let low = come_later in omega (arith, up, low);
+    goes = goes_on (port_at s) (port_at u) (port_at t) come.goes w.goes;
     idle = w.idle;
     place = w.place;
     notes = w.notes ∙ ap (λ (l : List Noted). l ++ noted_scan t.epoch which values collects borrowed w.place ∷ []) notes;
-    first = let few = w.first in let more = seen_more (port_at s) (port_at u) stayed.come.goes in omega (arith, few, more);
+    first = let few = w.first in let more = seen_more (port_at s) (port_at u) come.goes in omega (arith, few, more);
     behind = w.behind;
     within = w.within;
   }
 
-  stayed_refused : (cause : Refused) → NotScanned u t cause → NotScanned s t cause
-  stayed_refused cause w = record { goes = goes_on (port_at s) (port_at u) (port_at t) stayed.come.goes w.goes; notes = w.notes ∙ notes; why = w.why }
+  -- a double collect names the same stamps for the whole call
+  pub come_named : (which values ws : List ℕ) → ScannedNamed u t which values ws → ScannedNamed s t which values ws
+  unfolding come_scanned
+  come_named which values ws w = record { scanned = come_scanned which values 2 None w.scanned; stamps = w.stamps }
 
-  -- and so of what such a scan has ended with
-  pub stayed_ok : (r : Result Scanned Refused) (which values : List ℕ) → IfOk r (λ q. HasScanned u t which values q.collects q.borrowed) →
+  come_refused : (cause : Refused) → NotScanned u t cause → NotScanned s t cause
+  come_refused cause w = record { goes = goes_on (port_at s) (port_at u) (port_at t) come.goes w.goes; notes = w.notes ∙ notes; why = w.why }
+
+  -- what a scan that is announced has ended with
+  pub come_ok : (r : Result Scanned Refused) (which values : List ℕ) → IfOk r (λ q. HasScanned u t which values q.collects q.borrowed) →
       IfOk r (λ q. HasScanned s t which values q.collects q.borrowed)
-  stayed_ok (Ok q) which values w = stayed_scanned which values q.collects q.borrowed w
-  stayed_ok (Err cause) which values w = w
+  come_ok (Ok q) which values w = come_scanned which values q.collects q.borrowed w
+  come_ok (Err cause) which values w = w
 
-  pub stayed_err : (r : Result Scanned Refused) → IfErr r (NotScanned u t) → IfErr r (NotScanned s t)
-  stayed_err (Ok q) w = w
-  stayed_err (Err cause) w = stayed_refused cause w
+  pub come_err : (r : Result Scanned Refused) → IfErr r (NotScanned u t) → IfErr r (NotScanned s t)
+  come_err (Ok q) w = w
+  come_err (Err cause) w = come_refused cause w

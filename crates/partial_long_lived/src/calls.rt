@@ -169,11 +169,11 @@ impl LongLived {
 
     /// Scans these components, in this order and with repeats, and tells their stamps too, if two collects of them are
     /// equal; says whether it has. `into` has their values then, and `stamps` their stamps, as they stood together at one
-    /// moment of the call. It stores nothing. A scan of no position makes no step.
+    /// moment of the call. A scan of no position makes no step.
     ///
-    /// `false` says that an update or a change of epoch came between the collects, or that the first component is sealed and
-    /// the port's epoch has ended. Nothing is noted then, `into` and `stamps` are unchanged, and the port stays in its
-    /// epoch. [`scan`](LongLived::scan) gives the values whatever others do, and comes to the current epoch.
+    /// It tries twice, and enters the current epoch between, if its own has ended. `false` says that an update or a change
+    /// of epoch came between the collects of both tries. Nothing is noted then, and `into` and `stamps` are unchanged.
+    /// [`scan`](LongLived::scan) gives the values whatever others do.
     ///
     /// # Errors
     /// [`Refused::Component`] exactly when an index isn't below the number of components: no step was made, and `into` and
@@ -204,8 +204,13 @@ impl LongLived {
         }
         let words = &self.table.shared;
         let mut stand = me.seating.take();
+        let epoch = stand.epoch;
         let kept = me.collected.as_mut_slice();
         let is_told = scan_stamped(words, &mut stand, which, kept, into, stamps);
+        if stand.epoch != epoch {
+            me.core.clear_marks();
+            me.spent = false;
+        }
         me.seating.keep(stand);
         Ok(is_told)
     }

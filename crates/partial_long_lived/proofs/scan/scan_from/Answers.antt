@@ -1,12 +1,12 @@
-use Rattle.partial_long_lived.proofs.DoubleCollect.{stayed_err, stayed_ok}
+use Rattle.partial_long_lived.proofs.DoubleCollect.{come_err, come_ok}
 use Rattle.partial_long_lived.proofs.scan.scan_from.Goals as goal
 
 pub returns-clause-scanned : goal.returns-clause-scanned
 returns-clause-scanned c =
     let d = c.double_collect.ensures in
-    stayed_ok _ _ _ d.stayed (d.notes c.if-double_collect.false) _ _ _ c.scan_announced.ensures.scanned
+    come_ok _ _ _ d.stayed.come (d.notes c.if-double_collect.false) _ _ _ c.scan_announced.ensures.scanned
 
 pub returns-clause-refused : goal.returns-clause-refused
 returns-clause-refused c =
     let d = c.double_collect.ensures in
-    stayed_err _ _ _ d.stayed (d.notes c.if-double_collect.false) _ c.scan_announced.ensures.refused
+    come_err _ _ _ d.stayed.come (d.notes c.if-double_collect.false) _ c.scan_announced.ensures.refused

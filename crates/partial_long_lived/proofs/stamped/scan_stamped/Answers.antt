@@ -4,6 +4,6 @@ use Rattle.partial_long_lived.proofs.stamped.scan_stamped.Goals as goal
 
 pub returns-clause-scanned : goal.returns-clause-scanned
 returns-clause-scanned c = λ _.
-    let named = c.double_collect.ensures.scanned c.if-not-double_collect.false in
+    let named = c.collect_now.ensures.scanned c.if-not-collect_now.false in
     let told = c.load_stamps.ensures in
     stamped_behind _ _ _ _ _ _ _ named told.kept told.same (told.lengths ∙ c.requires.stamps) told.stamps
