@@ -204,10 +204,10 @@ impl LongLived {
         }
         let words = &self.table.shared;
         let mut stand = me.seating.take();
-        let epoch = stand.epoch;
+        let before = stand.epoch;
         let kept = me.collected.as_mut_slice();
         let is_told = scan_stamped(words, &mut stand, which, kept, into, stamps);
-        if stand.epoch != epoch {
+        if stand.epoch != before {
             me.core.clear_marks();
             me.spent = false;
         }

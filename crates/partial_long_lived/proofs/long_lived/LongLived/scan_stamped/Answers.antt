@@ -1,7 +1,7 @@
 use Rattle.partial_long_lived.proofs.Common.{rules, ◌≡◌, ◌<◌, length, refl, sym, ap, ◌∙◌, subst, AllByRecursion, vec_len, Shape, IsResting}
 use Rattle.partial_long_lived.specs.declared.port.Port.TheInside.{Inside}
 use Rattle.partial_long_lived.proofs.Answering.{are_below, came_seen, not_below, rests_anew, rests_here, rests_number, rests_put, rests_taken, stamped_answered}
-use Rattle.partial_long_lived.proofs.long_lived.LongLived.scan_stamped.Goals.{then-stand-epoch, else-stand-epoch}
+use Rattle.partial_long_lived.proofs.long_lived.LongLived.scan_stamped.Goals.{then-stand-before, else-stand-before}
 use Rattle.partial_long_lived.proofs.long_lived.LongLived.scan_stamped.Goals as goal
 
 pub returns-then-not-all_below-clause-refused : goal.returns-then-not-all_below-clause-refused
@@ -38,9 +38,9 @@ invariant_of-me c =
     let number = (rests_number _ t _ _ c.me.invariant.0 c.take-stand.ensures) in
     let same : c.keep.new.self.shape ≡ c.me.inside.seating.shape = c.keep.ensures.shape ∙ come.shape ∙ c.take-stand.ensures.shape in
     let room : vec_len c.me.inside.collected ≡ c.keep.new.self.shape.sizes.m = c.me.invariant.1 ∙ ap (λ (z : Shape). z.sizes.m) (sym same) in
-    elim c.if-stand-epoch.branch [
-      | then-stand-epoch w ↦ subst (λ (x : Inside). IsResting c.keep.new.self x.core x.spent × (vec_len x.collected ≡ c.keep.new.self.shape.sizes.m)) (sym w.me-inside-is)
-          (rests_put _ u c.keep.new.self _ _ c.scan_stamped-is_told.ensures.held c.keep.ensures (rests_anew t u _ _ number come rests w.if-stand-epoch.true _ w.clear_marks.ensures), room)
-      | else-stand-epoch w ↦ subst (λ (x : Inside). IsResting c.keep.new.self x.core x.spent × (vec_len x.collected ≡ c.keep.new.self.shape.sizes.m)) (sym w.me-inside-is)
-          (rests_put _ u c.keep.new.self _ _ c.scan_stamped-is_told.ensures.held c.keep.ensures (rests_here t u _ _ come rests w.if-stand-epoch.false), room)
+    elim c.if-stand-before.branch [
+      | then-stand-before w ↦ subst (λ (x : Inside). IsResting c.keep.new.self x.core x.spent × (vec_len x.collected ≡ c.keep.new.self.shape.sizes.m)) (sym w.me-inside-is)
+          (rests_put _ u c.keep.new.self _ _ c.scan_stamped-is_told.ensures.held c.keep.ensures (rests_anew t u _ _ number come rests w.if-stand-before.true _ w.clear_marks.ensures), room)
+      | else-stand-before w ↦ subst (λ (x : Inside). IsResting c.keep.new.self x.core x.spent × (vec_len x.collected ≡ c.keep.new.self.shape.sizes.m)) (sym w.me-inside-is)
+          (rests_put _ u c.keep.new.self _ _ c.scan_stamped-is_told.ensures.held c.keep.ensures (rests_here t u _ _ come rests w.if-stand-before.false), room)
     ]
