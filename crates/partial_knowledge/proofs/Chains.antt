@@ -8,8 +8,8 @@ use Rattle.partial_model.specs.declared.history.Opening.{Opening}
 use Rattle.partial_model.specs.History.{IsHistory, initial_stamp, stamp_of, last_entry}
 use Rattle.partial_model.proofs.HistoryLemmas.{last_from-push, last_at, overtaken_at}
 use Rattle.partial_model.proofs.StampsStay.{take_within, in_whole, distinct_at, stamp_told}
-use Rattle.partial_words.specs.Layout.{Layout, pool_base, pool_end, pool_counter}
-use Rattle.partial_words.specs.Record.{prev_of}
+use Rattle.partial_words.specs.Layout.{Layout, pool_base, pool_end, pool_counter, initial_words}
+use Rattle.partial_words.specs.Record.{prev_of, plain_record_size}
 use Rattle.partial_words.specs.Chain.{Agrees}
 use Rattle.partial_words.proofs.ChainLemmas.{prev_before_entry}
 use Rattle.partial_state.specs.Views.{Block, AreApart, IsApartFrom, IsWithin, IsBegunSince}
@@ -121,9 +121,9 @@ apart_part (b ∷ us) at size from count low high apart = (
 -- a record of the history lies in the pool, below the counter, and no block that isn't published shares a word with it
 pub record IsStanding (z : Layout) (words : List ℕ) (hs : List Holding) (stamp : ℕ) : Type 0 where
   pub above : pool_base z ≤ stamp
-  pub within : stamp + 3 ≤ pool_end z
-  pub below : stamp + 3 ≤ get_or words (pool_counter z) 0
-  pub apart : IsApartFrom (unpublished hs) (record { at = stamp; size = 3 })
+  pub within : stamp + plain_record_size ≤ pool_end z
+  pub below : stamp + plain_record_size ≤ get_or words (pool_counter z) 0
+  pub apart : IsApartFrom (unpublished hs) (record { at = stamp; size = plain_record_size })
 
 module _ (z : Layout) (o : Opening) (words : List ℕ) (hs : List Holding) (log : List Applied) (w : LawfulWords z o words hs log) where
   pub standing : (n stamp : ℕ) → IsWithin o log n stamp → IsStanding z words hs stamp
@@ -136,13 +136,14 @@ module _ (z : Layout) (o : Opening) (words : List ℕ) (hs : List Holding) (log 
       let stamps = w.stamps in
       let low = w.pool_low in
       let pool = w.sizes.pool.0 in
-      let free : IsApartFrom (unpublished hs) (record { at = pool_base z; size = 3 * z.m }) = all_back (AreApart (record { at = pool_base z; size = 3 * z.m })) (announcements hs) (unpublished hs)
-      (all_back (AreApart (record { at = pool_base z; size = 3 * z.m })) (map (λ (e : Applied). block_at words e.stamp) log) (announcements hs ++ unpublished hs) blocks.0) in
+      let free : IsApartFrom (unpublished hs) (record { at = pool_base z; size = initial_words z }) =
+          all_back (AreApart (record { at = pool_base z; size = initial_words z })) (announcements hs) (unpublished hs)
+      (all_back (AreApart (record { at = pool_base z; size = initial_words z })) (map (λ (e : Applied). block_at words e.stamp) log) (announcements hs ++ unpublished hs) blocks.0) in
       record {
         above = omega (arith, is, stamps);
         within = omega (arith, is, stamps, below, values, pool);
         below = omega (arith, is, stamps, below, values, low);
-        apart = apart_part (unpublished hs) (pool_base z) (3 * z.m) stamp 3 (omega (arith, is, stamps)) (omega (arith, is, stamps, below, values)) free;
+        apart = apart_part (unpublished hs) (pool_base z) (initial_words z) stamp 3 (omega (arith, is, stamps)) (omega (arith, is, stamps, below, values)) free;
       }
   standing n stamp (inr entry) =
       let blocks = w.apart in
