@@ -114,9 +114,10 @@ after_len p slot at x = if x == 0 then come_to p (slot + 1) else in_stage p (Ind
 
 -- one more interval of the list was read
 abbrev pub after_interval : Pair → ℕ → ℕ → ℕ → ℕ → Pair
-after_interval p at left lo x =
-    (record p.0 { stage = if left == 1 then Counter else ListLow (next_word at) (left - 1) },
-    record p.1 { read = p.1.read ++ (lo, x) ∷ [] })
+after_interval p at left lo x = (
+  record p.0 { stage = if left == 1 then Counter else ListLow (next_word at) (left - 1) },
+  record p.1 { read = p.1.read ++ (lo, x) ∷ [] },
+)
 
 -- one more index of the announcement was read
 abbrev pub after_index : Pair → ℕ → ℕ → ℕ → ℕ → Pair

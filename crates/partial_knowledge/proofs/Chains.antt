@@ -137,13 +137,13 @@ module _ (z : Layout) (o : Opening) (words : List ℕ) (hs : List Holding) (log 
       let low = w.pool_low in
       let pool = w.sizes.pool.0 in
       let free : IsApartFrom (unpublished hs) (record { at = pool_base z; size = initial_words z }) =
-          all_back (AreApart (record { at = pool_base z; size = initial_words z })) (announcements hs) (unpublished hs)
+      all_back (AreApart (record { at = pool_base z; size = initial_words z })) (announcements hs) (unpublished hs)
       (all_back (AreApart (record { at = pool_base z; size = initial_words z })) (map (λ (e : Applied). block_at words e.stamp) log) (announcements hs ++ unpublished hs) blocks.0) in
       record {
         above = omega (arith, is, stamps);
         within = omega (arith, is, stamps, below, values, pool);
         below = omega (arith, is, stamps, below, values, low);
-        apart = apart_part (unpublished hs) (pool_base z) (initial_words z) stamp 3 (omega (arith, is, stamps)) (omega (arith, is, stamps, below, values)) free;
+        apart = apart_part (unpublished hs) (pool_base z) (initial_words z) stamp plain_record_size (omega (arith, is, stamps)) (omega (arith, is, stamps, below, values)) free;
       }
   standing n stamp (inr entry) =
       let blocks = w.apart in
@@ -160,11 +160,12 @@ module _ (z : Layout) (o : Opening) (words : List ℕ) (hs : List Holding) (log 
         above = omega (arith, is, above);
         within = omega (arith, is, within);
         below = omega (arith, is, below);
-        apart = apart_part (unpublished hs) e.stamp ((block_at words e.stamp).size) stamp 3 (omega (arith, is)) (let three = three_words words e.stamp in omega (arith, is, three)) free;
+        apart = apart_part (unpublished hs) e.stamp ((block_at words e.stamp).size) stamp plain_record_size (omega (arith, is))
+            (let three = three_words words e.stamp in omega (arith, is, three)) free;
       }
 
   -- each of its words may be loaded
-  pub standing_word : (stamp i : ℕ) → i < 3 → IsStanding z words hs stamp → IsReadable z words hs (stamp + i)
+  pub standing_word : (stamp i : ℕ) → i < plain_record_size → IsStanding z words hs stamp → IsReadable z words hs (stamp + i)
   standing_word stamp i lt s =
       let above = s.above in
       let within = s.within in
@@ -172,7 +173,7 @@ module _ (z : Layout) (o : Opening) (words : List ℕ) (hs : List Holding) (log 
         omega (arith, lt, within),
         λ far. record {
           claimed = inr (omega (arith, above), omega (arith, lt, below));
-          apart = apart_part (unpublished hs) stamp 3 (stamp + i) 1 (omega arith)
+          apart = apart_part (unpublished hs) stamp plain_record_size (stamp + i) 1 (omega arith)
               (omega (arith, lt)) s.apart;
         },
       )

@@ -11,7 +11,7 @@ use Rattle.partial_model.proofs.HistoryLemmas.{place_below}
 use Rattle.partial_model.proofs.StampsStay.{stamps_never_return}
 use Rattle.partial_words.specs.declared.step.Step.TheVariants.{Load}
 use Rattle.partial_words.specs.Layout.{Layout, list_base, pool_end}
-use Rattle.partial_words.specs.Record.{prev_of, view_of, view_block, view_size, view_word, pairs_word, next_word, pair_index_word, pair_value_word}
+use Rattle.partial_words.specs.Record.{prev_of, view_of, view_block, view_size, view_word, pairs_word, next_word, pair_index_word, pair_value_word, value_word}
 use Rattle.partial_words.proofs.ChainLemmas.{value_behind_stamp}
 use Rattle.partial_words.proofs.BlockLemmas.{list_reads_back}
 use Rattle.partial_words.proofs.RecordLemmas.{length-pairs}
@@ -490,7 +490,7 @@ module _ (o : Opening) (words : List ℕ) (hs : List Holding) (log : List Applie
       let below = together.positions.components k here in
       (omega (arith, is, below), λ far. absurd (omega (arith, is, below, far)))
   readable_at (View stamp) n e goes knows = let is : view_word stamp ≡ n = cc in subst (IsReadable p.0.sizes words hs) is
-      (standing_word p.0.sizes o words hs log w stamp 2 (omega arith) (third_stands o words hs log indices low high p w together order stamp knows))
+      (standing_word p.0.sizes o words hs log w stamp (view_word 0) (omega arith) (third_stands o words hs log indices low high p w together order stamp knows))
   readable_at (Len at) n e goes knows =
       let is : at ≡ n = cc in
       let f = third_fresh o words hs log indices low high p w together order knows.0 knows.1 in
@@ -523,7 +523,7 @@ module _ (o : Opening) (words : List ℕ) (hs : List Holding) (log : List Applie
       let below : slice_index indices k < length o.values = let b = together.positions.components k here in let values = w.values in omega (arith, b, values) in
       let within : IsWithin o log knows.prefix (slice_index p.1.last k) = subst (IsWithin o log knows.prefix) (sym (knows.stamps k here))
       (stamp_within o log knows.prefix (slice_index indices k) below) in
-      subst (IsReadable p.0.sizes words hs) is (standing_word p.0.sizes o words hs log w (slice_index p.1.last k) 1 (omega arith)
+      subst (IsReadable p.0.sizes words hs) is (standing_word p.0.sizes o words hs log w (slice_index p.1.last k) (value_word 0) (omega arith)
       (standing p.0.sizes o words hs log w knows.prefix (slice_index p.1.last k) within))
   readable_at Done n e goes knows = absurd cc
 

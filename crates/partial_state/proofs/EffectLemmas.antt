@@ -178,7 +178,7 @@ module _ (z : Layout) (o : Opening) (words words' : List ℕ) (before : List Hol
       let below = entry.below in
       let more = c.moves.pool in
       let prev = entry_prev z o words words' before h h' after log w c.moves k e s in
-      let view = entry_three z o words words' before h h' after log w c.moves k e 2 s (omega arith) in
+      let view = entry_three z o words words' before h h' after log w c.moves k e (view_word 0) s (omega arith) in
       let within = place_below log k e s in
       record {
         entry = record { above = entry.above; within = entry.within; below = omega (arith, below, more) };

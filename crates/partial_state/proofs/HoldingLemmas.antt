@@ -166,14 +166,14 @@ block_stays words words' stamp same =
     let size = three_words words stamp in
     let view : view_of words' stamp ≡ view_of words stamp = same (view_word 0) (omega (arith, size)) in
     ap (λ (v : ℕ). record { at = stamp; size = cond (v == own_view stamp) (full_record_size (view_len words' (own_view stamp))) plain_record_size }) view
-        ∙ either words words' stamp same (view_of words stamp == own_view stamp) refl
+    ∙ either words words' stamp same (view_of words stamp == own_view stamp) refl
   where
     either : (words words' : List ℕ) (stamp : ℕ) → ((n : ℕ) → n < (block_at words stamp).size → get_or words' (stamp + n) 0 ≡ get_or words (stamp + n) 0) → (b : Bool) →
         (view_of words stamp == own_view stamp) ≡ b →
-            ◌≡◌ {A = Block} (record { at = stamp; size = cond (view_of words stamp == own_view stamp) (full_record_size (view_len words' (own_view stamp))) plain_record_size }) (block_at words stamp)
+        ◌≡◌ {A = Block} (record { at = stamp; size = cond (view_of words stamp == own_view stamp) (full_record_size (view_len words' (own_view stamp))) plain_record_size }) (block_at words stamp)
     either words words' stamp same true e =
         let inside : plain_record_size < (block_at words stamp).size = subst (λ (t : Bool). plain_record_size < cond t (full_record_size (view_len words (own_view stamp))) plain_record_size) (sym e)
-            (omega arith) in
+        (omega arith) in
         ap (λ (n : ℕ). record { at = stamp; size = cond (view_of words stamp == own_view stamp) (full_record_size n) plain_record_size }) (same plain_record_size inside)
     either words words' stamp same false e =
         ap (λ (t : Bool). record { at = stamp; size = cond t (full_record_size (view_len words' (own_view stamp))) plain_record_size }) e ∙

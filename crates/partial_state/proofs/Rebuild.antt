@@ -1,5 +1,5 @@
 -- Lawful words with one port's holding in the place of another, and with other words.
-use Rattle.partial_state.proofs.Common.{ℕ, ◌≡◌, ◌≢◌, ◌+◌, ◌*◌, ◌<◌, ◌≤◌, ◌++◌, List, [], ◌∷◌, length, map, get_or, Option, Some, IfSome, slice_get, sym, ◌∙◌, ap, subst, arith, AllByRecursion, Applied, Opening, initial_stamp, Layout, slot_counter, pool_counter, list_counter, slot_word, list_base, pool_base, prev_of, Agrees, IsLink, IsChain, chain_of, Block, AreApart, Own, Holding, Space, counter_of, block_of, block_at, announcements, unpublished, blocks_in, EachTwo, Pool, Lists, LawfulWords, IsOwn, IsTied, IsEntry, AllByRecursion-get, all_where, initial_words, first_free, value_word, value_of}
+use Rattle.partial_state.proofs.Common.{ℕ, ◌≡◌, ◌≢◌, ◌+◌, ◌*◌, ◌<◌, ◌≤◌, ◌++◌, List, [], ◌∷◌, length, map, get_or, Option, Some, IfSome, slice_get, sym, ◌∙◌, ap, subst, arith, AllByRecursion, Applied, Opening, initial_stamp, Layout, slot_counter, pool_counter, list_counter, slot_word, list_base, pool_base, prev_of, Agrees, IsLink, IsChain, chain_of, Block, AreApart, Own, Holding, Space, counter_of, block_of, block_at, announcements, unpublished, blocks_in, EachTwo, Pool, Lists, LawfulWords, IsOwn, IsTied, IsEntry, AllByRecursion-get, all_where, initial_words, first_free, value_word, value_of, prev_word, plain_record_size}
 use Rattle.partial_words.specs.declared.record.Link.{Link}
 use Rattle.partial_words.proofs.ChainLemmas.{chain_all}
 use Rattle.partial_state.proofs.ListLemmas.{all_at, all_before, all_after, all_join, two_before, two_after, map_same}
@@ -126,18 +126,19 @@ module _ (z : Layout) (o : Opening) (words words' : List ℕ) (before : List Hol
       (λ c is a. part_apart (word_at (e.stamp + n)) (block_at words e.stamp) (block_of c) (omega arith) (omega (arith, below)) a)
       (from_own b (entry_free z o words (before ++ h ∷ after) log w k e s)))
 
-  pub entry_three : (k : ℕ) (e : Applied) (n : ℕ) → slice_get log k ≡ Some e → n < 3 → get_or words' (e.stamp + n) 0 ≡ get_or words (e.stamp + n) 0
+  pub entry_three : (k : ℕ) (e : Applied) (n : ℕ) → slice_get log k ≡ Some e → n < plain_record_size → get_or words' (e.stamp + n) 0 ≡ get_or words (e.stamp + n) 0
   entry_three k e n s below = let size = three_words words e.stamp in entry_word k e n s (omega (arith, size, below))
 
-  pub entry_prev : (k : ℕ) (e : Applied) → slice_get log k ≡ Some e → get_or words' e.stamp 0 ≡ get_or words e.stamp 0
-  entry_prev k e s = let none : e.stamp ≡ e.stamp + 0 = omega arith in ap (λ n. get_or words' n 0) none ∙ entry_three k e 0 s (omega arith) ∙ ap (λ n. get_or words n 0) (sym none)
+  pub entry_prev : (k : ℕ) (e : Applied) → slice_get log k ≡ Some e → prev_of words' e.stamp ≡ prev_of words e.stamp
+  entry_prev k e s = let none : prev_word e.stamp ≡ e.stamp + prev_word 0 = omega arith in ap (λ n. get_or words' n 0) none ∙ entry_three k e (prev_word 0) s (omega arith)
+      ∙ ap (λ n. get_or words n 0) (sym none)
 
   pub initial_word : (n : ℕ) → pool_base z ≤ n → n < first_free z → get_or words' n 0 ≡ get_or words n 0
   initial_word n from to =
       let b : Block = record { at = pool_base z; size = initial_words z } in
       m.same n (omega (arith, from)) (if_some (λ c. AreApart (record { at = pool_base z; size = initial_words z }) (block_of c)) (λ c. AreApart (word_at n) (block_of c)) h.own
       (λ c is a. part_apart (word_at n) (record { at = pool_base z; size = initial_words z }) (block_of c) from (omega (arith, to)) a)
-          (from_own b (initial_free z o words (before ++ h ∷ after) log w)))
+      (from_own b (initial_free z o words (before ++ h ∷ after) log w)))
 
   -- the chains stay
   pub chain_moves : (j : ℕ) → j < length o.values → IsChain words' (get_or words j 0) (chain_of o j log)
@@ -146,7 +147,7 @@ module _ (z : Layout) (o : Opening) (words words' : List ℕ) (before : List Hol
       let values = w.values in
       let P : ℕ → Type 0 = λ s. (prev_of words' s ≡ prev_of words s) × (value_of words' s ≡ value_of words s) in
       chain_stays words words' m.count (get_or words j 0) (chain_of o j log)
-      (chain_all P o j log (all_where (λ (e : Applied). P e.stamp) log (λ k e s. (entry_prev k e s, entry_three k e 1 s (omega arith)))) (
+      (chain_all P o j log (all_where (λ (e : Applied). P e.stamp) log (λ k e s. (entry_prev k e s, entry_three k e (value_word 0) s (omega arith)))) (
         initial_word (initial_stamp o j) (omega (arith, base)) (omega (arith, base, values, below)),
         initial_word (value_word (initial_stamp o j)) (omega (arith, base))
             (omega (arith, base, values, below)),
