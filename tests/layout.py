@@ -29,9 +29,10 @@ PATTERNS = {
     'a word behind a reference that is loaded': r"(?:slice_index|get_or) [\w']+ \w+(?: 0)? \+ [23]\b",
     'pairs behind a word': rf'{WORD} \+ 2 \*',
     'words of an announcement': rf'(?<![\w.])1 \+ {INDICES}|{INDICES} \+ 1\b',
-    'words behind those of the components': rf'(?:{COMPONENTS}|\bm\(\)) \+ [1-4]\b',
+    'words behind those of the components': rf'(?:{COMPONENTS}|\bm\(\)) \+ [1-4]\b|\bm(?:\(\))? - [1-4]\b',
     'words of the greatest list': r'(?:\.slots|\bslots\(\)) \+ 2\b',
-    'the size of a record': r'\bsize = [34]\b|(?<![\w.])[34] [<≤] (?:record_size|result\b|\(block_at)|λ _\. 3\)',
+    'the size of a record': r'\bsize = [34]\b|(?<![\w.])[34] [<≤] (?:record_size|result\b|\(block_at)|λ _\. 3\)'
+                            r'|(?<![\w.])[ikn] < 3\b|\bk - [34]\b',
 }
 
 # The places in which a number means something else: the file, what stands there, and why.
@@ -52,6 +53,8 @@ ALLOWED = [
     ('partial_replay/proofs/RunSteps.antt', ['z.m + 3', 'z.m + 2'], BOUND),
     ('partial_epochs/specs/Bounds.antt', ['1 + 2 * e.sizes.m'], 'a look, and two steps for each component'),
     ('partial_epochs/specs/Changing.antt', ['last_loads e = 3 * e.sizes.m'], 'three loads of each component'),
+    ('partial_picture/src/words.rt', ['word - m - 4'], 'the number of a slot, by its word'),
+    ('partial_picture/specs/Words.antt', ['w - s.m - 4'], 'the number of a slot, by its word'),
     ('partial_pipeline/specs/Stages.antt', ['m.about.sizes.m + 1'], 'a port for each component, and one more'),
     ('partial_pipeline/proofs/Watching.antt', ['m.about.sizes.m + 1'], 'a port for each component, and one more'),
 ]

@@ -28,6 +28,8 @@ FOUND = (
     'pub size_few : (s : CoreState) → (3 ≤ record_size s) × Fits s',
     'option_map_or (λ _. 3) s.embedded.borrowed own',
     'ensures least { 3 ≤ result }',
+    'entry_word : (n : ℕ) → n < 3 → get_or later (e.stamp + n) 0 ≡ get_or words (e.stamp + n) 0',
+    '_ => self.pair_word(k - 4),',
     # places in a record
     'value : get_or words (at + 1) 0 ≡ v',
     'lines.make(Step::Store((at + 2) as u32, 0));',
@@ -56,6 +58,7 @@ FOUND = (
     'counter_low : (s : Space) → z.m + 2 ≤ counter_of z s',
     'IsApart z (Store w v) = z.m + 4 ≤ w',
     'let counter = sizes.m() + 3;',
+    'let slot = word - m - 4;',
     '        self.m + 2',
     'lists_high : n ≤ list_end z + (z.slots + 2) * marks',
 )
