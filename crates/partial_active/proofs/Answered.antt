@@ -1,5 +1,5 @@
 -- What an answer keeps: the machine and its buffers go together, and the steps left fall.
-use Rattle.partial_active.proofs.Common.{ℕ, ◌≡◌, ◌+◌, ◌-◌, ◌<◌, ◌≤◌, min, true, false, eqb, ltb, [], ◌∷◌, ◌++◌, length, cond, IsSome, slice_index, inl, inr, refl, sym, ap, subst, arith, false≢true, cond_both, ltb-false, eqb-true, eqb-false, length_push, IsNormal, Layout, IsLayout, list_end, list_base, pool_base, pool_end, list_block, IsFor, IsBehind, with_index, Stage, Head, ListLen, ListLow, ListHigh, Counter, Slot, Len, Index, Claim, Write, Publish, Done, Pair, step_at, step_of, advance_at, come_to, note_slot, in_stage, left_at, left_of, walk_left, EndsBelow, IsListHead, IsListLen, IsNextLow, IsSlotWord, IsAnnouncedLen, IsListClaim, is_possible_at, IsPossible, HasRead, IsWalking, IsAtSlot, goes_at, GoTogether}
+use Rattle.partial_active.proofs.Common.{ℕ, ◌≡◌, ◌+◌, ◌-◌, ◌<◌, ◌≤◌, min, true, false, eqb, ltb, [], ◌∷◌, ◌++◌, length, cond, IsSome, slice_index, inl, inr, refl, sym, ap, subst, arith, false≢true, cond_both, ltb-false, eqb-true, eqb-false, length_push, IsNormal, Layout, IsLayout, list_end, list_base, pool_base, pool_end, list_block, IsFor, IsBehind, with_index, Stage, Head, ListLen, ListLow, ListHigh, Counter, Slot, Len, Index, Claim, Write, Publish, Done, Pair, step_at, step_of, advance_at, come_to, note_slot, in_stage, left_at, left_of, walk_left, EndsBelow, IsListHead, IsListLen, IsNextLow, IsSlotWord, IsAnnouncedLen, IsListClaim, is_possible_at, IsPossible, HasRead, IsWalking, IsAtSlot, goes_at, GoTogether, next_word, indices_word, intervals_word}
 use Rattle.std.proofs.Math.Nat.{mul-le-mul_right}
 use Rattle.partial_active.proofs.Extended.{normal-extended, below-extended, normal_push, below_push}
 use Rattle.partial_active.proofs.Walk.{come_to_goes, come_to_left}
@@ -102,7 +102,7 @@ module _ (p : Pair) (layout : IsLayout p.0.sizes) (sizes : IsFor p.0.sizes p.1) 
   keeps_list_len at x goes possible =
       let none : length p.1.read ≡ 0 = ap length goes.0 in
       let list : HasRead p.0.sizes p.1.read = rw goes.0 (record { normal = normal_nil; within = below_nil p.0.sizes.slots }) in
-      cond_both (eqb x 0) Counter (ListLow (at + 1) x) (λ stage. Keeps (in_stage p stage) (left_at p.0.sizes (ListLen at)))
+      cond_both (eqb x 0) Counter (ListLow (intervals_word at) x) (λ stage. Keeps (in_stage p stage) (left_at p.0.sizes (ListLen at)))
       (λ e. record {
         together = record { sizes = sizes; stage = (list, goes.1) };
         fewer = omega (arith, goes.3);
@@ -148,7 +148,7 @@ module _ (p : Pair) (layout : IsLayout p.0.sizes) (sizes : IsFor p.0.sizes p.1) 
         within = below_push p.1.read lo x p.0.sizes.slots goes.0.list.within possible.1;
       } in
       let longer = length_push p.1.read (lo, x) in
-      cond_both (eqb left 1) Counter (ListLow (at + 1) (left - 1)) (λ stage. Keeps (record p.0 { stage = stage }, record p.1 { read = p.1.read ++ (lo, x) ∷ [] })
+      cond_both (eqb left 1) Counter (ListLow (next_word at) (left - 1)) (λ stage. Keeps (record p.0 { stage = stage }, record p.1 { read = p.1.read ++ (lo, x) ∷ [] })
       (left_at p.0.sizes (ListHigh at left lo)))
       (λ e. record {
         together = record { sizes = record { limit = sizes.limit; room = sizes.room }; stage = (list, goes.0.next) };
@@ -209,10 +209,10 @@ module _ (p : Pair) (layout : IsLayout p.0.sizes) (sizes : IsFor p.0.sizes p.1) 
   fewer_at slot here = slot_steps p.0.sizes slot (omega (arith, here.below, here.walking.end_within))
 
   pub keeps_len : (slot at x : ℕ) → goes_at (Len slot at) p → IsAnnouncedLen p.0.sizes at x → Keeps (advance_at (Len slot at) p x) (left_at p.0.sizes (Len slot at))
-  keeps_len slot at x goes possible = cond_both (eqb x 0) (come_to p (slot + 1)) (in_stage p (Index slot (at + 1) x)) (λ q. Keeps q (left_at p.0.sizes (Len slot at)))
+  keeps_len slot at x goes possible = cond_both (eqb x 0) (come_to p (slot + 1)) (in_stage p (Index slot (indices_word at) x)) (λ q. Keeps q (left_at p.0.sizes (Len slot at)))
       (λ e. keeps_next slot (left_at p.0.sizes (Len slot at)) (walk_next p slot goes.0) (omega arith))
       (λ e. record {
-        together = record { sizes = sizes; stage = (at_in_stage slot (Index slot (at + 1) x) goes.0, omega (arith, eqb-false x 0 e), possible.1, omega (arith, possible.0)) };
+        together = record { sizes = sizes; stage = (at_in_stage slot (Index slot (indices_word at) x) goes.0, omega (arith, eqb-false x 0 e), possible.1, omega (arith, possible.0)) };
         fewer = omega (arith, possible.1);
       })
 
@@ -269,7 +269,7 @@ module _ (p : Pair) (layout : IsLayout p.0.sizes) (sizes : IsFor p.0.sizes p.1) 
       let q : Pair = (p.0, record p.1 { indices = with_index p.1.indices x }) in
       let q_sizes : IsFor p.0.sizes q.1 = record { limit = sizes.limit; room = sizes.room } in
       let here = at_with p slot x goes.0 in
-      cond_both (eqb left 1) (come_to q (slot + 1)) (in_stage q (Index slot (at + 1) (left - 1))) (λ r. Keeps r (left_at p.0.sizes (Index slot at left)))
+      cond_both (eqb left 1) (come_to q (slot + 1)) (in_stage q (Index slot (next_word at) (left - 1))) (λ r. Keeps r (left_at p.0.sizes (Index slot at left)))
       (λ e. keeps_next q layout q_sizes slot (left_at p.0.sizes (Index slot at left)) (walk_next q slot here) (omega (arith, goes.1)))
       (λ e.
       let more : 1 < left = omega (arith, eqb-false left 1 e, goes.1) in
@@ -277,7 +277,7 @@ module _ (p : Pair) (layout : IsLayout p.0.sizes) (sizes : IsFor p.0.sizes p.1) 
         together = record {
           sizes = q_sizes;
           stage = (
-            at_in_stage q layout q_sizes slot (Index slot (at + 1) (left - 1)) here,
+            at_in_stage q layout q_sizes slot (Index slot (next_word at) (left - 1)) here,
             omega (arith, more),
             omega (arith, goes.2),
             omega (arith, goes.3, more),

@@ -9,9 +9,9 @@ pub use Rattle.partial_words.specs.declared.step.Step.TheVariants.{Load, Add, St
 pub use Rattle.partial_words.specs.Layout.{Layout, IsLayout, slot_counter, list_head, list_counter, slot_word, list_end, list_base, pool_base, pool_end}
 pub use Rattle.partial_words.specs.Step.{answer_of, words_after}
 pub use Rattle.partial_intervals.specs.Intervals.{IsNormal, Ranges, lowest, highest, Holds, GoesOn}
-pub use Rattle.partial_words.specs.VacatedList.{list_block, low_word, high_word}
-pub use Rattle.partial_words.specs.Record.{StandsAt}
-pub use Rattle.partial_words.specs.Announcement.{announcement_block, announced_word}
+pub use Rattle.partial_words.specs.VacatedList.{list_block, low_word, high_word, intervals_word}
+pub use Rattle.partial_words.specs.Record.{StandsAt, next_word}
+pub use Rattle.partial_words.specs.Announcement.{announcement_block, announced_word, indices_word}
 pub use Rattle.partial_words.proofs.BlockLemmas.{announcement_reads_back, list_reads_back}
 pub use Rattle.partial_active.specs.declared.get_set.Stage.{Stage}
 pub use Rattle.partial_active.specs.declared.get_set.Stage.TheVariants.{Head, ListLen, ListLow, ListHigh, Counter, Slot, Len, Index, Claim, Write, Publish, Done}

@@ -1,6 +1,6 @@
 -- What a getSet has found stays without repeats and below the number of components, so it is no more
 -- than there are components.
-use Rattle.partial_active.proofs.Common.{ℕ, suc, ◌≡◌, ◌+◌, ◌-◌, ◌<◌, ◌≤◌, min, Bool, true, false, cond, eqb, ltb, List, [], ◌∷◌, ◌++◌, length, get_or, refl, sym, ◌∙◌, ap, subst, arith, inl, inr, list_any, cond_both, cases_lt, or_cases, eqb-true, false≢true, get_or_append_left, length_push, list_end, begins_at, AreIndices, has_index, with_index, Stage, Head, ListLen, ListLow, ListHigh, Counter, Slot, Len, Index, Claim, Write, Publish, Done, Pair, after_walk, at_slot, come_to, pass_interval, note_slot, in_stage, advance_at, is_possible_at}
+use Rattle.partial_active.proofs.Common.{ℕ, suc, ◌≡◌, ◌+◌, ◌-◌, ◌<◌, ◌≤◌, min, Bool, true, false, cond, eqb, ltb, List, [], ◌∷◌, ◌++◌, length, get_or, refl, sym, ◌∙◌, ap, subst, arith, inl, inr, list_any, cond_both, cases_lt, or_cases, eqb-true, false≢true, get_or_append_left, length_push, list_end, begins_at, AreIndices, has_index, with_index, Stage, Head, ListLen, ListLow, ListHigh, Counter, Slot, Len, Index, Claim, Write, Publish, Done, Pair, after_walk, at_slot, come_to, pass_interval, note_slot, in_stage, advance_at, is_possible_at, next_word, indices_word}
 use Rattle.std.specs.List.{IsDistinct}
 use Rattle.std.proofs.Math.Seq.{get_or-append_seam}
 use Rattle.std.proofs.lemmas.Cmp.{nat_eq_equiv}
@@ -64,12 +64,12 @@ found_kept (Slot slot) p x possible w = cond_both (eqb x 0) (come_to p (slot + 1
     (λ e. walked p.0.sizes.m p (slot + 1) w)
     (λ not_empty. cond_both (eqb x 1) (come_to (note_slot p slot) (slot + 1)) (in_stage p (Len slot x)) (λ (q : Pair). AreIndices p.0.sizes.m q.1.indices)
     (λ e. walked p.0.sizes.m (note_slot p slot) (slot + 1) w) (λ e. w))
-found_kept (Len slot at) p x possible w = cond_both (eqb x 0) (come_to p (slot + 1)) (in_stage p (Index slot (at + 1) x)) (λ (q : Pair). AreIndices p.0.sizes.m q.1.indices)
+found_kept (Len slot at) p x possible w = cond_both (eqb x 0) (come_to p (slot + 1)) (in_stage p (Index slot (indices_word at) x)) (λ (q : Pair). AreIndices p.0.sizes.m q.1.indices)
     (λ e. walked p.0.sizes.m p (slot + 1) w) (λ e. w)
 found_kept (Index slot at left) p x possible w =
     let q : Pair = (p.0, record p.1 { indices = with_index p.1.indices x }) in
     let more : AreIndices p.0.sizes.m q.1.indices = one_more_index p.0.sizes.m p.1.indices x w possible in
-    cond_both (eqb left 1) (come_to q (slot + 1)) (in_stage q (Index slot (at + 1) (left - 1))) (λ (r : Pair). AreIndices p.0.sizes.m r.1.indices)
+    cond_both (eqb left 1) (come_to q (slot + 1)) (in_stage q (Index slot (next_word at) (left - 1))) (λ (r : Pair). AreIndices p.0.sizes.m r.1.indices)
     (λ e. walked p.0.sizes.m q (slot + 1) more) (λ e. more)
 found_kept (Claim words) p x possible w = cond_both (ltb (list_end p.0.sizes) (x + words)) (record p.0 { lists_spent = true; stage = Done }, p.1) (in_stage p (Write x 0 words (length p.1.next)))
     (λ (q : Pair). AreIndices p.0.sizes.m q.1.indices) (λ e. w) (λ e. w)

@@ -1,5 +1,5 @@
 -- What a getSet knows by facts leads on, from stage to stage.
-use Rattle.partial_active.proofs.Common.{ℕ, ◌≡◌, ◌+◌, ◌-◌, ◌<◌, ◌≤◌, ◌⊎◌, min, Bool, true, false, ◌&&◌, not, eqb, ltb, None, List, [], ◌∷◌, ◌++◌, length, take, get_or, slice_index, cond, inl, inr, refl, sym, ap, subst, ◌∙◌, arith, false≢true, and_parts, cases_eq, cases_lt, cond_both, ltb-false, eqb-true, eqb-false, take_more, take_all, get_or-take, length_push, Ranges, lowest, highest, Holds, IsNormal, Layout, IsLayout, list_end, list_block, announcement_reads_back, list_reads_back, Stage, Head, ListLen, ListLow, ListHigh, Counter, Slot, Len, Index, Claim, Write, Publish, Done, with_index, begins_at, Pair, step_at, advance_at, after_walk, at_slot, come_to, pass_interval, note_slot, in_stage, next_words, EndsBelow, IsListClaim, is_possible_at, IsWalking, goes_at, Facts, AreVacated, HasEach, walks, has_found, knows_by, KnowsBy, slot_at, IsAnnouncement, IsVacatedList}
+use Rattle.partial_active.proofs.Common.{ℕ, ◌≡◌, ◌+◌, ◌-◌, ◌<◌, ◌≤◌, ◌⊎◌, min, Bool, true, false, ◌&&◌, not, eqb, ltb, None, List, [], ◌∷◌, ◌++◌, length, take, get_or, slice_index, cond, inl, inr, refl, sym, ap, subst, ◌∙◌, arith, false≢true, and_parts, cases_eq, cases_lt, cond_both, ltb-false, eqb-true, eqb-false, take_more, take_all, get_or-take, length_push, Ranges, lowest, highest, Holds, IsNormal, Layout, IsLayout, list_end, list_block, announcement_reads_back, list_reads_back, Stage, Head, ListLen, ListLow, ListHigh, Counter, Slot, Len, Index, Claim, Write, Publish, Done, with_index, begins_at, Pair, step_at, advance_at, after_walk, at_slot, come_to, pass_interval, note_slot, in_stage, next_words, EndsBelow, IsListClaim, is_possible_at, IsWalking, goes_at, Facts, AreVacated, HasEach, walks, has_found, knows_by, KnowsBy, slot_at, IsAnnouncement, IsVacatedList, next_word, indices_word, intervals_word}
 use Rattle.partial_active.proofs.Extended.{length_normal, held_extended}
 use Rattle.partial_active.proofs.Walk.{begun}
 use Rattle.partial_active.proofs.Answered.{walk_begins, walk_next, walk_noted, at_with}
@@ -117,7 +117,7 @@ module _ (p : Pair) (layout : IsLayout p.0.sizes) (words : List ℕ) (t : Facts)
       let none : length p.1.read ≡ 0 = ap length goes.0 in
       rw count (
         (whole.to, length_normal list p.0.sizes.slots whole.normal (λ i lt. whole.within (highest list i) (i, lt, whole.normal.closed i lt, omega arith))),
-        cond_both (eqb (length list) 0) Counter (ListLow (at + 1) (length list)) (λ stage. KnowsBy t (in_stage p stage))
+        cond_both (eqb (length list) 0) Counter (ListLow (intervals_word at) (length list)) (λ stage. KnowsBy t (in_stage p stage))
             (λ e. λ y holds. let inside = holds.1 in absurd (omega (arith, none, inside)))
             (λ e. (at, list, record { stands = knows.1; read_is = nothing_read p.1.read list goes.0; sum = omega (arith, none) }, omega (arith, none))),
       )
@@ -171,7 +171,7 @@ module _ (p : Pair) (layout : IsLayout p.0.sizes) (words : List ℕ) (t : Facts)
       ∙ sym (take_more list i (0, 0) lt) in
       rw high (
         (omega (arith, low, closed), whole.within (highest list i) (i, lt, closed, omega arith)),
-        cond_both (eqb left 1) Counter (ListLow (at + 1) (left - 1)) (λ stage. KnowsBy t (record p.0 { stage = stage }, record p.1 { read = read }))
+        cond_both (eqb left 1) Counter (ListLow (next_word at) (left - 1)) (λ stage. KnowsBy t (record p.0 { stage = stage }, record p.1 { read = read }))
             (λ e.
             let one = eqb-true left 1 e in
             let all : read ≡ list = so_far ∙ take_all (i + 1) list (omega (arith, sum, one)) in
@@ -234,7 +234,7 @@ module _ (p : Pair) (layout : IsLayout p.0.sizes) (words : List ℕ) (t : Facts)
       let count : x ≡ length named = told ∙ (announcement_reads_back words at named whole.stands).count in
       rw count (
         (whole.to, whole.count),
-        cond_both (eqb (length named) 0) (come_to p (slot + 1)) (in_stage p (Index slot (at + 1) (length named))) (KnowsBy t)
+        cond_both (eqb (length named) 0) (come_to p (slot + 1)) (in_stage p (Index slot (indices_word at) (length named))) (KnowsBy t)
             (λ e. let none = eqb-true (length named) 0 e in
             goes_on p slot (walk_next p slot goes.0) knows.0 (w.read p.1.indices slot at named within shown (λ i lt. absurd (omega (arith, none, lt)))))
             (λ e. (knows.0, (at, named, 0, record { shown = shown; place = omega arith; sum = omega arith; so_far = λ i lt. absurd (omega (arith, lt)) }))),
@@ -267,7 +267,7 @@ module _ (p : Pair) (layout : IsLayout p.0.sizes) (words : List ℕ) (t : Facts)
       let so_far = first_more p.1.indices named i r.so_far in
       rw word (
         whole.each i lt,
-        cond_both (eqb left 1) (come_to q (slot + 1)) (in_stage q (Index slot (at + 1) (left - 1))) (KnowsBy t)
+        cond_both (eqb left 1) (come_to q (slot + 1)) (in_stage q (Index slot (next_word at) (left - 1))) (KnowsBy t)
             (λ e. let one = eqb-true left 1 e in
             let all : HasEach (with_index p.1.indices y) named = λ j below. so_far j (omega (arith, sum, one, below)) in
             goes_on q slot (walk_next q slot (at_with p slot y goes.0)) walked (w.read (with_index p.1.indices y) slot from named within r.shown all))

@@ -1,5 +1,5 @@
 -- What a getSet that is answered from orderly words knows of the list that it reads and of the one that it makes.
-use Rattle.partial_active.proofs.Common.{ℕ, ◌≡◌, ◌+◌, ◌-◌, ◌<◌, ◌≤◌, ◌⊎◌, ◌↔◌, min, Bool, true, false, ◌&&◌, not, eqb, ltb, cond, Some, None, List, [], ◌∷◌, ◌++◌, length, take, get_or, slice_index, inl, inr, refl, sym, ap, subst, ◌∙◌, arith, false≢true, cases_eq, cases_lt, cond_both, ltb-false, eqb-true, eqb-false, take_more, take_all, length_push, Ranges, lowest, highest, Holds, IsNormal, Step, Load, Store, Exchange, Add, Layout, IsLayout, list_head, list_counter, slot_word, list_end, StandsAt, list_block, low_word, high_word, answer_of, list_reads_back, Stage, Head, ListLen, ListLow, ListHigh, Counter, Slot, Len, Index, Claim, Write, Publish, Done, with_index, Buffers, IsFor, begins_at, Pair, fresh, step_at, step_of, advance, advance_at, after_walk, at_slot, come_to, pass_interval, note_slot, in_stage, next_words, EndsBelow, is_possible_at, IsPossible, IsWalking, IsAtSlot, goes_at, GoTogether, AreVacated, knows_by, slot_at, head_at, IsVacatedList, Orderly, AtSome, AtSomeStep, own_moments}
+use Rattle.partial_active.proofs.Common.{ℕ, ◌≡◌, ◌+◌, ◌-◌, ◌<◌, ◌≤◌, ◌⊎◌, ◌↔◌, min, Bool, true, false, ◌&&◌, not, eqb, ltb, cond, Some, None, List, [], ◌∷◌, ◌++◌, length, take, get_or, slice_index, inl, inr, refl, sym, ap, subst, ◌∙◌, arith, false≢true, cases_eq, cases_lt, cond_both, ltb-false, eqb-true, eqb-false, take_more, take_all, length_push, Ranges, lowest, highest, Holds, IsNormal, Step, Load, Store, Exchange, Add, Layout, IsLayout, list_head, list_counter, slot_word, list_end, StandsAt, list_block, low_word, high_word, answer_of, list_reads_back, Stage, Head, ListLen, ListLow, ListHigh, Counter, Slot, Len, Index, Claim, Write, Publish, Done, with_index, Buffers, IsFor, begins_at, Pair, fresh, step_at, step_of, advance, advance_at, after_walk, at_slot, come_to, pass_interval, note_slot, in_stage, next_words, EndsBelow, is_possible_at, IsPossible, IsWalking, IsAtSlot, goes_at, GoTogether, AreVacated, knows_by, slot_at, head_at, IsVacatedList, Orderly, AtSome, AtSomeStep, own_moments, next_word, indices_word, intervals_word}
 use Rattle.partial_words.proofs.RecordLemmas.{length-pairs}
 use Rattle.partial_active.specs.VacatedLists.{GetSetsKeepLists, WasVacated, IsListOf, FindsVacated, ClaimsWords, StoresWord, IsStored, KeepsLists, is_reading}
 use Rattle.partial_active.proofs.Extended.{held_extended, holds_extended}
@@ -191,7 +191,7 @@ module _ (s : Layout) (layout : IsLayout s) (spent : Bool) (f : Buffers) (first 
       let count : slice_index now at ≡ length list = ap (slice_index now) knows.1 ∙ (list_reads_back now (head_at s first) list (list_stands list whole)).count in
       let none : length p.1.read ≡ 0 = ap length goes.0 in
       let unnoted = none_noted (λ x at one. let never : ⊥ = cc in never) knows.0 in
-      rw count (cond_both (eqb (length list) 0) Counter (ListLow (at + 1) (length list)) (λ stage. After (in_stage p stage))
+      rw count (cond_both (eqb (length list) 0) Counter (ListLow (intervals_word at) (length list)) (λ stage. After (in_stage p stage))
       (λ e.
       let same : list ≡ p.1.read = no_interval list (eqb-true (length list) 0 e) ∙ sym goes.0 in
       (unnoted, record { head = knows.2; list = inr (subst (IsVacatedList s first (head_at s first)) same whole) }))
@@ -224,7 +224,7 @@ module _ (s : Layout) (layout : IsLayout s) (spent : Bool) (f : Buffers) (first 
       let so_far : p.1.read ++ (lo, highest list i) ∷ [] ≡ take (i + 1) list = ap (λ n. p.1.read ++ (n, highest list i) ∷ []) knows.2.2
       ∙ ap (λ (l : Ranges). l ++ get_or list i (0, 0) ∷ []) k.read_is ∙ sym (take_more list i (0, 0) lt) in
       let unnoted = none_noted (λ x at one. let never : ⊥ = cc in never) knows.0 in
-      rw high (cond_both (eqb left 1) Counter (ListLow (at + 1) (left - 1)) (λ stage. After (record p.0 { stage = stage }, record p.1 { read = p.1.read ++ (lo, highest list i) ∷ [] }))
+      rw high (cond_both (eqb left 1) Counter (ListLow (next_word at) (left - 1)) (λ stage. After (record p.0 { stage = stage }, record p.1 { read = p.1.read ++ (lo, highest list i) ∷ [] }))
       (λ e.
       let all : p.1.read ++ (lo, highest list i) ∷ [] ≡ list = so_far ∙ take_all (i + 1) list (omega (arith, count, eqb-true left 1 e)) in
       (unnoted, record { head = k.head; list = inr (subst (IsVacatedList s first (head_at s first)) (sym all) k.whole) }))
@@ -292,7 +292,7 @@ module _ (s : Layout) (layout : IsLayout s) (spent : Bool) (f : Buffers) (first 
   unfolding Steps
   step_len slot at x stage goes knows =
       let on = step_on slot p (Len slot at) stage (λ x is. let never : ⊥ = cc in never) refl refl refl refl knows in
-      cond_both (eqb x 0) (come_to p (slot + 1)) (in_stage p (Index slot (at + 1) x)) (After)
+      cond_both (eqb x 0) (come_to p (slot + 1)) (in_stage p (Index slot (indices_word at) x)) (After)
       (λ e. lists_come_to s (fresh s spent, f) first ((first ∷ done) ++ now ∷ []) p (slot + 1) (walk_next p slot goes.0) on.0 on.1)
       (λ e. (record { head = on.0.head; list = on.0.list }, on.1))
 
@@ -301,7 +301,7 @@ module _ (s : Layout) (layout : IsLayout s) (spent : Bool) (f : Buffers) (first 
   step_index slot at left x stage goes knows =
       let q : Pair = (p.0, record p.1 { indices = with_index p.1.indices x }) in
       let on = step_on slot q (Index slot at left) stage (λ x is. let never : ⊥ = cc in never) refl refl refl refl knows in
-      cond_both (eqb left 1) (come_to q (slot + 1)) (in_stage q (Index slot (at + 1) (left - 1))) (After)
+      cond_both (eqb left 1) (come_to q (slot + 1)) (in_stage q (Index slot (next_word at) (left - 1))) (After)
       (λ e. lists_come_to s (fresh s spent, f) first ((first ∷ done) ++ now ∷ []) q (slot + 1) (walk_next q slot (at_with p slot x goes.0)) on.0 on.1)
       (λ e. (record { head = on.0.head; list = on.0.list }, on.1))
 

@@ -1,6 +1,6 @@
 -- What a getSet that is answered from orderly words knows of the announcements that it has found, and in which order it
 -- names their indices.
-use Rattle.partial_active.proofs.Common.{ℕ, ◌≡◌, ◌+◌, ◌-◌, ◌<◌, ◌≤◌, ◌⊎◌, ◌↔◌, min, Bool, true, ◌||◌, ◌&&◌, not, eqb, ltb, cond, Some, None, List, [], ◌∷◌, ◌++◌, length, map, take, get_or, slice_index, inl, inr, refl, sym, ap, subst, ◌∙◌, arith, append-nil, flat_map, list_any, cases_lt, cond_both, eqb-true, eqb-false, take_more, take_all, length_push, ext_get_or, get_or_append_left, get_or_push, map-append, length-map, get_or-map, highest, Step, Load, Layout, IsLayout, list_head, slot_word, list_end, StandsAt, announcement_block, announced_word, list_block, answer_of, announcement_reads_back, Stage, Head, ListLen, ListLow, ListHigh, Counter, Slot, Len, Index, Claim, Write, Publish, Done, has_index, with_index, Buffers, IsFor, begins_at, Pair, fresh, step_at, step_of, advance, advance_at, after_walk, at_slot, come_to, pass_interval, note_slot, in_stage, next_words, EndsBelow, is_possible_at, IsPossible, IsWalking, IsAtSlot, goes_at, slot_at, head_at, IsAnnouncement, AtSome, AtSomeStep, own_moments, Announcement, FindsAnnouncement, with_all, each_once, AreRising, AreInOrder, GetSetsFindInOrder}
+use Rattle.partial_active.proofs.Common.{ℕ, ◌≡◌, ◌+◌, ◌-◌, ◌<◌, ◌≤◌, ◌⊎◌, ◌↔◌, min, Bool, true, ◌||◌, ◌&&◌, not, eqb, ltb, cond, Some, None, List, [], ◌∷◌, ◌++◌, length, map, take, get_or, slice_index, inl, inr, refl, sym, ap, subst, ◌∙◌, arith, append-nil, flat_map, list_any, cases_lt, cond_both, eqb-true, eqb-false, take_more, take_all, length_push, ext_get_or, get_or_append_left, get_or_push, map-append, length-map, get_or-map, highest, Step, Load, Layout, IsLayout, list_head, slot_word, list_end, StandsAt, announcement_block, announced_word, list_block, answer_of, announcement_reads_back, Stage, Head, ListLen, ListLow, ListHigh, Counter, Slot, Len, Index, Claim, Write, Publish, Done, has_index, with_index, Buffers, IsFor, begins_at, Pair, fresh, step_at, step_of, advance, advance_at, after_walk, at_slot, come_to, pass_interval, note_slot, in_stage, next_words, EndsBelow, is_possible_at, IsPossible, IsWalking, IsAtSlot, goes_at, slot_at, head_at, IsAnnouncement, AtSome, AtSomeStep, own_moments, Announcement, FindsAnnouncement, with_all, each_once, AreRising, AreInOrder, GetSetsFindInOrder, next_word, indices_word, intervals_word}
 use Rattle.std.specs.Prelude.{nat_eq, Contains}
 use Rattle.std.specs.List.{IsDistinct}
 use Rattle.std.proofs.lemmas.Cmp.{nat_eq_equiv}
@@ -219,13 +219,13 @@ module _ (s : Layout) (layout : IsLayout s) (spent : Bool) (f : Buffers) (first 
   unfolding Steps named_at
   step_list_len at x stage knows =
       let on = nothing_on (quiet_at (ListLen at) stage (λ slot is. let never : ⊥ = cc in never)) p.1.indices knows refl in
-      cond_both (eqb x 0) Counter (ListLow (at + 1) x) (λ stage. After (in_stage p stage)) (λ e. on) (λ e. on)
+      cond_both (eqb x 0) Counter (ListLow (intervals_word at) x) (λ stage. After (in_stage p stage)) (λ e. on) (λ e. on)
 
   step_list_high : (at left lo x : ℕ) → p.0.stage ≡ ListHigh at left lo → Before (ListHigh at left lo) p → Steps (ListHigh at left lo) x
   unfolding Steps named_at
   step_list_high at left lo x stage knows =
       let on = nothing_on (quiet_at (ListHigh at left lo) stage (λ slot is. let never : ⊥ = cc in never)) p.1.indices knows refl in
-      cond_both (eqb left 1) Counter (ListLow (at + 1) (left - 1)) (λ stage. After (record p.0 { stage = stage }, record p.1 { read = p.1.read ++ (lo, x) ∷ [] })) (λ e. on) (λ e. on)
+      cond_both (eqb left 1) Counter (ListLow (next_word at) (left - 1)) (λ stage. After (record p.0 { stage = stage }, record p.1 { read = p.1.read ++ (lo, x) ∷ [] })) (λ e. on) (λ e. on)
 
   step_counter : (x : ℕ) → p.0.stage ≡ Counter → goes_at Counter p → EndsBelow p.1.read x → Before Counter p → Steps Counter x
   unfolding Steps named_at IsDistinct
@@ -310,7 +310,7 @@ module _ (s : Layout) (layout : IsLayout s) (spent : Bool) (f : Buffers) (first 
       let count : slice_index now at ≡ length a.named = (announcement_reads_back now at a.named (stands slot at a.named goes.0 was)).count in
       let quiet = quiet_at (Len slot at) stage (λ slot is. let never : ⊥ = cc in never) in
       let on = reading_on quiet a 0 0 p.1.indices p.1.indices (λ l e. e) knows.2 in
-      rw count (cond_both (eqb (length a.named) 0) (come_to p (slot + 1)) (in_stage p (Index slot (at + 1) (length a.named))) After
+      rw count (cond_both (eqb (length a.named) 0) (come_to p (slot + 1)) (in_stage p (Index slot (indices_word at) (length a.named))) After
       (λ e. let none = eqb-true (length a.named) 0 e in named_come_to s (fresh s spent, f) ((first ∷ done) ++ now ∷ []) p (slot + 1) (walk_next p slot goes.0)
       (subst (λ n. Named s (fresh s spent, f) ((first ∷ done) ++ now ∷ []) (n + 1) p.1.indices) same
       (named_more s (fresh s spent, f) ((first ∷ done) ++ now ∷ []) a 0 p.1.indices (omega (arith, none)) on)))
@@ -335,7 +335,7 @@ module _ (s : Layout) (layout : IsLayout s) (spent : Bool) (f : Buffers) (first 
       let one_more : (l : List ℕ) → p.1.indices ≡ with_all l (take i a.named) → with_index p.1.indices x ≡ with_all l (take (i + 1) a.named) = λ l e.
       ap (λ (m : List ℕ). with_index m x) e ∙ sym (with_all-append l (take i a.named) (x ∷ [])) ∙ ap (with_all l) (sym (take_more a.named i 0 lt)) in
       let on = reading_on quiet a i (i + 1) p.1.indices (with_index p.1.indices x) one_more knows.4 in
-      rw word (cond_both (eqb left 1) (come_to q (slot + 1)) (in_stage q (Index slot (at + 1) (left - 1))) After
+      rw word (cond_both (eqb left 1) (come_to q (slot + 1)) (in_stage q (Index slot (next_word at) (left - 1))) After
       (λ e. let last = eqb-true left 1 e in named_come_to s (fresh s spent, f) ((first ∷ done) ++ now ∷ []) q (slot + 1) (walk_next q slot (at_with p slot x goes.0))
       (subst (λ n. Named s (fresh s spent, f) ((first ∷ done) ++ now ∷ []) (n + 1) (with_index p.1.indices x)) same
       (named_more s (fresh s spent, f) ((first ∷ done) ++ now ∷ []) a (i + 1) (with_index p.1.indices x) (omega (arith, last, count)) on)))

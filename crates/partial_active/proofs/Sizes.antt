@@ -1,5 +1,5 @@
 -- No answer changes the sizes.
-use Rattle.partial_active.proofs.Common.{ℕ, ◌≡◌, ◌+◌, ◌-◌, min, true, cond, eqb, ltb, length, refl, ap, ◌∙◌, cond_both, highest, list_end, with_index, begins_at, Stage, Head, ListLen, ListLow, ListHigh, Counter, Slot, Len, Index, Claim, Write, Publish, Done, Pair, after_walk, at_slot, come_to, pass_interval, note_slot, in_stage, advance_at}
+use Rattle.partial_active.proofs.Common.{ℕ, ◌≡◌, ◌+◌, ◌-◌, min, true, cond, eqb, ltb, length, refl, ap, ◌∙◌, cond_both, highest, list_end, with_index, begins_at, Stage, Head, ListLen, ListLow, ListHigh, Counter, Slot, Len, Index, Claim, Write, Publish, Done, Pair, after_walk, at_slot, come_to, pass_interval, note_slot, in_stage, advance_at, next_word, indices_word}
 
 sizes_at_slot : (p : Pair) (slot : ℕ) → (at_slot p slot).0.sizes ≡ p.0.sizes
 sizes_at_slot p slot = cond_both (ltb slot p.0.end) (record p.0 { stage = Slot slot }, p.1) (after_walk p) (λ (q : Pair). q.0.sizes ≡ p.0.sizes) (λ e. refl) (λ e. refl)
@@ -19,9 +19,10 @@ sizes_at (Slot slot) p x = cond_both (eqb x 0) (come_to p (slot + 1)) (cond (eqb
     (λ e. sizes_come_to p (slot + 1))
     (λ not_empty. cond_both (eqb x 1) (come_to (note_slot p slot) (slot + 1)) (in_stage p (Len slot x)) (λ (q : Pair). q.0.sizes ≡ p.0.sizes)
     (λ e. sizes_come_to (note_slot p slot) (slot + 1)) (λ e. refl))
-sizes_at (Len slot at) p x = cond_both (eqb x 0) (come_to p (slot + 1)) (in_stage p (Index slot (at + 1) x)) (λ (q : Pair). q.0.sizes ≡ p.0.sizes) (λ e. sizes_come_to p (slot + 1)) (λ e. refl)
+sizes_at (Len slot at) p x = cond_both (eqb x 0) (come_to p (slot + 1)) (in_stage p (Index slot (indices_word at) x)) (λ (q : Pair). q.0.sizes ≡ p.0.sizes) (λ e. sizes_come_to p (slot + 1))
+    (λ e. refl)
 sizes_at (Index slot at left) p x = cond_both (eqb left 1) (come_to (p.0, record p.1 { indices = with_index p.1.indices x }) (slot + 1))
-    (in_stage (p.0, record p.1 { indices = with_index p.1.indices x }) (Index slot (at + 1) (left - 1))) (λ (q : Pair). q.0.sizes ≡ p.0.sizes)
+    (in_stage (p.0, record p.1 { indices = with_index p.1.indices x }) (Index slot (next_word at) (left - 1))) (λ (q : Pair). q.0.sizes ≡ p.0.sizes)
     (λ e. sizes_come_to (p.0, record p.1 { indices = with_index p.1.indices x }) (slot + 1)) (λ e. refl)
 sizes_at (Claim words) p x = cond_both (ltb (list_end p.0.sizes) (x + words)) (record p.0 { lists_spent = true; stage = Done }, p.1) (in_stage p (Write x 0 words (length p.1.next)))
     (λ (q : Pair). q.0.sizes ≡ p.0.sizes) (λ e. refl) (λ e. refl)

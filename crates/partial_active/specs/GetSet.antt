@@ -5,7 +5,9 @@ use Rattle.partial_intervals.specs.Intervals.{Ranges, lowest, highest}
 use Rattle.partial_words.specs.declared.step.Step.{Step}
 use Rattle.partial_words.specs.declared.step.Step.TheVariants.{Load, Store, Exchange, Add}
 use Rattle.partial_words.specs.Layout.{Layout, slot_counter, list_head, list_counter, slot_word, list_end, greatest_list}
-use Rattle.partial_words.specs.VacatedList.{list_block, list_size}
+use Rattle.partial_words.specs.VacatedList.{list_block, list_size, intervals_word}
+use Rattle.partial_words.specs.Record.{pairs_size, next_word}
+use Rattle.partial_words.specs.Announcement.{announcement_size, indices_word}
 use Rattle.partial_active.specs.declared.get_set.Stage.{Stage}
 use Rattle.partial_active.specs.declared.get_set.Stage.TheVariants.{Head, ListLen, ListLow, ListHigh, Counter, Slot, Len, Index, Claim, Write, Publish, Done}
 use Rattle.partial_active.specs.IndexSet.{with_index}
@@ -100,7 +102,7 @@ after_head p x = (record p.0 { head = x; stage = if x == 0 then Counter else Lis
 
 -- the number of intervals was loaded
 abbrev pub after_list_len : ℕ → ℕ → Stage
-after_list_len at x = if x == 0 then Counter else ListLow (at + 1) x
+after_list_len at x = if x == 0 then Counter else ListLow (intervals_word at) x
 
 -- the slot counter was loaded, and the walk begins
 abbrev pub after_counter : Pair → ℕ → Pair
@@ -108,18 +110,20 @@ after_counter p x = come_to (record p.0 { end = min x p.0.sizes.slots; passed = 
 
 -- the number of indices of an announcement was loaded
 abbrev pub after_len : Pair → ℕ → ℕ → ℕ → Pair
-after_len p slot at x = if x == 0 then come_to p (slot + 1) else in_stage p (Index slot (at + 1) x)
+after_len p slot at x = if x == 0 then come_to p (slot + 1) else in_stage p (Index slot (indices_word at) x)
 
 -- one more interval of the list was read
 abbrev pub after_interval : Pair → ℕ → ℕ → ℕ → ℕ → Pair
-after_interval p at left lo x =
-    (record p.0 { stage = if left == 1 then Counter else ListLow (at + 1) (left - 1) }, record p.1 { read = p.1.read ++ (lo, x) ∷ [] })
+after_interval p at left lo x = (
+  record p.0 { stage = if left == 1 then Counter else ListLow (next_word at) (left - 1) },
+  record p.1 { read = p.1.read ++ (lo, x) ∷ [] },
+)
 
 -- one more index of the announcement was read
 abbrev pub after_index : Pair → ℕ → ℕ → ℕ → ℕ → Pair
 after_index p slot at left x =
     let q : Pair = (p.0, record p.1 { indices = with_index p.1.indices x }) in
-    if left == 1 then come_to q (slot + 1) else in_stage q (Index slot (at + 1) (left - 1))
+    if left == 1 then come_to q (slot + 1) else in_stage q (Index slot (next_word at) (left - 1))
 
 -- a slot was loaded: EMPTY is skipped, VACATED is noted, and else there is an announcement
 abbrev pub after_slot : Pair → ℕ → ℕ → Pair
@@ -141,7 +145,7 @@ after_write p at k words =
 abbrev pub advance_at : Stage → Pair → ℕ → Pair
 advance_at Head p x = after_head p x
 advance_at (ListLen at) p x = in_stage p (after_list_len at x)
-advance_at (ListLow at left) p x = in_stage p (ListHigh (at + 1) left x)
+advance_at (ListLow at left) p x = in_stage p (ListHigh (next_word at) left x)
 advance_at (ListHigh at left lo) p x = after_interval p at left lo x
 advance_at Counter p x = after_counter p x
 advance_at (Slot slot) p x = after_slot p slot x
@@ -172,11 +176,11 @@ walk_left s slot = (s.slots - slot) * (s.m + 2) + publish_left s
 abbrev pub left_at : Layout → Stage → ℕ
 left_at s Head = most_steps s
 left_at s (ListLen at) = list_end s - at + 1 + walk_left s 0
-left_at s (ListLow at left) = 2 * left + 1 + walk_left s 0
-left_at s (ListHigh at left lo) = 2 * left + walk_left s 0
+left_at s (ListLow at left) = pairs_size left + 1 + walk_left s 0
+left_at s (ListHigh at left lo) = pairs_size left + walk_left s 0
 left_at s Counter = 1 + walk_left s 0
 left_at s (Slot slot) = walk_left s slot
-left_at s (Len slot at) = s.m + 1 + walk_left s (slot + 1)
+left_at s (Len slot at) = announcement_size s.m + walk_left s (slot + 1)
 left_at s (Index slot at left) = left + walk_left s (slot + 1)
 left_at s (Claim words) = words + 2
 left_at s (Write at k words word) = words - k + 1

@@ -6,6 +6,7 @@ use Rattle.partial_words.specs.Step.{answer_of, word_of}
 use Rattle.partial_words.specs.Layout.{Layout, list_base, list_end, pool_base, pool_end, greatest_list}
 use Rattle.partial_words.specs.Announcement.{announcement_size}
 use Rattle.partial_words.specs.VacatedList.{list_block, list_size}
+use Rattle.partial_words.specs.Record.{pairs_size}
 use Rattle.partial_active.specs.declared.get_set.Stage.{Stage}
 use Rattle.partial_active.specs.declared.get_set.Stage.TheVariants.{Head, ListLen, ListLow, ListHigh, Counter, Slot, Len, Index, Claim, Write, Publish, Done}
 use Rattle.partial_active.specs.Found.{IsFor}
@@ -105,8 +106,8 @@ pub record HasNext (p : Pair) (words : ℕ) : Type 0 where
 abbrev pub goes_at : Stage → Pair → Type 0
 goes_at Head p = Unit {0}
 goes_at (ListLen at) p = (p.1.read ≡ []) × (p.1.next ≡ []) × (list_base p.0.sizes ≤ at) × (at < list_end p.0.sizes)
-goes_at (ListLow at left) p = IsReading p left × (at + 2 * left ≤ list_end p.0.sizes)
-goes_at (ListHigh at left lo) p = IsReading p left × (at + 2 * left ≤ list_end p.0.sizes + 1) × IsNextLow p.0.sizes p.1.read lo
+goes_at (ListLow at left) p = IsReading p left × (at + pairs_size left ≤ list_end p.0.sizes)
+goes_at (ListHigh at left lo) p = IsReading p left × (at + pairs_size left ≤ list_end p.0.sizes + 1) × IsNextLow p.0.sizes p.1.read lo
 goes_at Counter p = HasRead p.0.sizes p.1.read × (p.1.next ≡ [])
 goes_at (Slot slot) p = IsAtSlot p slot
 goes_at (Len slot at) p = IsAtSlot p slot × (pool_base p.0.sizes ≤ at) × (at < pool_end p.0.sizes)

@@ -3,12 +3,13 @@
 
 ghost use Rattle.std.specs.Prelude.{◌≡◌, ◌+◌, ◌*◌, ◌<◌, ◌≤◌, ◌↔◌, [], IsSome, IsTrue};
 ghost use Rattle.partial_words.specs.Layout.{IsLayout, list_base, list_end, pool_base, pool_end};
+ghost use Rattle.partial_words.specs.Record.{pairs_size};
 
 mod loops;
 mod plain;
 
 use crate::found::Found;
-use partial_words::{Sizes, Step, list_size};
+use partial_words::{Sizes, Step, indices_word, intervals_word, list_size, next_word};
 use std::marker::Model;
 
 /// The stage of a getSet: the step that is due, and what it needs. `at` is the number of the word.
@@ -189,7 +190,7 @@ impl GetSet {
             Stage::ListLen { at } => self.after_list_len(at, x),
             Stage::ListLow { at, left } => {
                 self.stage = Stage::ListHigh {
-                    at: at + 1,
+                    at: next_word(u64::from(at)) as u32,
                     left,
                     lo: x as u32,
                 };
@@ -233,7 +234,7 @@ impl GetSet {
             Stage::Counter
         } else {
             Stage::ListLow {
-                at: at + 1,
+                at: intervals_word(at),
                 left: x as u32,
             }
         };
@@ -244,7 +245,7 @@ impl GetSet {
     fn after_interval(&mut self, found: &mut Found, at: u32, left: u32, lo: u32, x: u32)
         requires layout { IsLayout self.old.sizes }
         requires reading { IsReading (self.old, found.old) left }
-        requires words { at + 2 * left ≤ list_end self.old.sizes + 1 }
+        requires words { at + pairs_size left ≤ list_end self.old.sizes + 1 }
         requires low { IsNextLow self.old.sizes found.old.read lo }
         requires high { (lo ≤ x) × (x < self.old.sizes.slots) }
         requires sizes { IsFor self.old.sizes found.old }
@@ -255,7 +256,7 @@ impl GetSet {
             Stage::Counter
         } else {
             Stage::ListLow {
-                at: at + 1,
+                at: next_word(u64::from(at)) as u32,
                 left: left - 1,
             }
         };
@@ -311,7 +312,7 @@ impl GetSet {
         } else {
             self.stage = Stage::Index {
                 slot,
-                at: at + 1,
+                at: indices_word(at),
                 left: x as u32,
             };
         }
@@ -334,7 +335,7 @@ impl GetSet {
         } else {
             self.stage = Stage::Index {
                 slot,
-                at: at + 1,
+                at: next_word(u64::from(at)) as u32,
                 left: left - 1,
             };
         }

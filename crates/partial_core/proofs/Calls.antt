@@ -4,6 +4,7 @@ use Rattle.std.proofs.lemmas.Bool.{false≢true, cond_both}
 use Rattle.partial_model.specs.declared.history.Applied.{Applied}
 use Rattle.partial_model.specs.declared.history.Opening.{Opening}
 use Rattle.partial_words.specs.Layout.{Layout, IsLayout}
+use Rattle.partial_words.specs.Announcement.{announcement_size}
 use Rattle.partial_machine.specs.declared.stage.Reply.TheVariants as reply
 use Rattle.partial_machine.specs.declared.stage.Stage.{Stage}
 use Rattle.partial_machine.specs.declared.stage.Stage.TheVariants.{Idle, ReadBegun, UpdateBegun, ScanBegun, StoringAnnouncement, Finished}
@@ -63,7 +64,8 @@ module _ (z : Layout) (o : Opening) (words : List ℕ) (hs : List Holding) (log 
       (λ (t : CoreState). Knows z o words hs log begun k.at since k.at t)
       (λ expected. (record { called = ap (λ (d : CoreState). d.stage) (sym is) ∙ e; expected = expected; stamp = yet.component (subst (λ (y : Layout). c.component < y.m) sizes may.0) }, tt))
       (λ other. tt)
-  first_on since s k ScanBegun is sizes e none may possible yet = cond_both (fits_pool s.sizes (1 + length s.asked) k.answer) (at_stage s (StoringAnnouncement k.answer 0)) (pool_refused s)
+  first_on since s k ScanBegun is sizes e none may possible yet = cond_both (fits_pool s.sizes (announcement_size (length s.asked)) k.answer) (at_stage s (StoringAnnouncement k.answer 0))
+      (pool_refused s)
       (λ (t : CoreState). Knows z o words hs log begun k.at since k.at t)
       (λ fits. record { called = ap (λ (d : CoreState). d.stage) (sym is) ∙ e; asked = ap (λ (d : CoreState). d.asked) is })
       (λ refused. tt)

@@ -8,10 +8,10 @@ use Rattle.partial_model.specs.declared.call.Call.TheVariants as call
 use Rattle.partial_model.specs.declared.call.Refused.TheVariants as refused
 use Rattle.partial_model.specs.Notes.{MayBeRefused}
 use Rattle.partial_words.specs.declared.step.Step.TheVariants.{Store, Add}
-use Rattle.partial_words.specs.Layout.{Layout, pool_counter, pool_end}
+use Rattle.partial_words.specs.Layout.{Layout, pool_counter, pool_end, greatest_record}
 use Rattle.partial_words.specs.Step.{words_after}
-use Rattle.partial_words.specs.Announcement.{announcement_block}
-use Rattle.partial_words.specs.Record.{record_block}
+use Rattle.partial_words.specs.Announcement.{announcement_block, announcement_size}
+use Rattle.partial_words.specs.Record.{record_block, plain_record_size, full_record_size}
 use Rattle.partial_words.proofs.RecordLemmas.{length-record_block}
 use Rattle.partial_machine.specs.declared.stage.Change.{Change}
 use Rattle.partial_machine.specs.declared.stage.Stage.{Stage}
@@ -37,9 +37,10 @@ use Rattle.partial_core.proofs.Reading.{begun_here}
 use Rattle.partial_core.proofs.StoredFacts.{length_record}
 
 -- how many words a record has, by its pairs
-length_block : (prev value view : ℕ) (pairs : List (ℕ × ℕ)) → length (record_block prev value view pairs) ≡ cond (length pairs == 0) 3 (4 + 2 * length pairs)
+length_block : (prev value view : ℕ) (pairs : List (ℕ × ℕ)) → length (record_block prev value view pairs) ≡ cond (length pairs == 0) plain_record_size (full_record_size (length pairs))
 length_block prev value view [] = refl
-length_block prev value view (p ∷ pairs) = length-record_block prev value view p pairs ∙ sym (ap (λ b. cond b 3 (4 + 2 * length (p ∷ pairs))) (ne_eqb (length (p ∷ pairs)) 0 (λ e. omega (arith, e))))
+length_block prev value view (p ∷ pairs) = length-record_block prev value view p pairs
+    ∙ sym (ap (λ b. cond b plain_record_size (full_record_size (length (p ∷ pairs)))) (ne_eqb (length (p ∷ pairs)) 0 (λ e. omega (arith, e))))
 
 length_of_map : (f : ℕ → ℕ × ℕ) (js : List ℕ) → length (map f js) ≡ length js
 length_of_map f [] = refl
@@ -77,7 +78,7 @@ module _ (z : Layout) (o : Opening) (words : List ℕ) (before : List Part) (x :
       (claims_are_kept z o words (holdings before) h (holdings after) log Pool block memory free none (omega (arith, room, end, counts)))
 
   -- past its end: the port is marked
-  refusal_keeps : (h : Holding) (size : ℕ) → LawfulWords z o words (holdings before ++ h ∷ holdings after) log → h.pool_spent ≡ false → size ≤ 4 + 2 * z.m → fits_pool s.sizes size a ≡ false →
+  refusal_keeps : (h : Holding) (size : ℕ) → LawfulWords z o words (holdings before ++ h ∷ holdings after) log → h.pool_spent ≡ false → size ≤ greatest_record z → fits_pool s.sizes size a ≡ false →
       IsKept z o words (holdings before) h (holdings after) log (words_after words (Add (pool_counter z) size)) (record h { pool_spent = true }) log
   refusal_keeps h size memory unmarked few over =
       let past = ltb-false (a + size) (pool_end s.sizes + 1) over in
@@ -106,7 +107,7 @@ module _ (z : Layout) (o : Opening) (words : List ℕ) (before : List Part) (x :
           let sound = sound_at z o words before x after log w (ClaimingRecord c old) e in
           let all = sound_here z o words before x after log w in
           let sizes = sizes_here z o words before x after log w in
-          let few : record_size s ≤ 4 + 2 * z.m = subst (λ (y : Layout). record_size s ≤ 4 + 2 * y.m) sizes (size_few s all.indices.few).1 in
+          let few : record_size s ≤ greatest_record z = subst (λ (y : Layout). record_size s ≤ greatest_record y) sizes (size_few s all.indices.few).1 in
           let keeps = kept_here (ClaimingRecord c old) e (words_after words (Add (pool_counter z) (record_size s))) (holding_at (pool_refused s) (joined_since x))
           (refusal_keeps (holding_in s (ClaimingRecord c old) (joined_since x)) (record_size s) (memory_at z o words before x after log w (ClaimingRecord c old) e) sound.2 few over) in
           let g = going z o words before x after log w (ClaimingRecord c old) e refl refl in
@@ -123,19 +124,19 @@ module _ (z : Layout) (o : Opening) (words : List ℕ) (before : List Part) (x :
           may_refuse (Some t) below = ((below, tt), tt)
 
   -- a scan claims the words of its announcement
-  pub announcement_claimed : s.stage ≡ ScanBegun → LeadsAt z o words before x after log s ScanBegun (Add (pool_counter z) (1 + length s.asked))
-  announcement_claimed e = either (fits_pool s.sizes (1 + length s.asked) a) refl
+  pub announcement_claimed : s.stage ≡ ScanBegun → LeadsAt z o words before x after log s ScanBegun (Add (pool_counter z) (announcement_size (length s.asked)))
+  announcement_claimed e = either (fits_pool s.sizes (announcement_size (length s.asked)) a) refl
     where
-      due : step_at s ScanBegun ≡ Some (Add (pool_counter z) (1 + length s.asked))
-      due = ap (λ (y : Layout). Some (Add (pool_counter y) (1 + length s.asked))) (sizes_here z o words before x after log w)
+      due : step_at s ScanBegun ≡ Some (Add (pool_counter z) (announcement_size (length s.asked)))
+      due = ap (λ (y : Layout). Some (Add (pool_counter y) (announcement_size (length s.asked)))) (sizes_here z o words before x after log w)
 
-      either : (b : Bool) → fits_pool s.sizes (1 + length s.asked) a ≡ b → LeadsAt z o words before x after log s ScanBegun (Add (pool_counter z) (1 + length s.asked))
+      either : (b : Bool) → fits_pool s.sizes (announcement_size (length s.asked)) a ≡ b → LeadsAt z o words before x after log s ScanBegun (Add (pool_counter z) (announcement_size (length s.asked)))
       either true fits =
           let t = at_stage s (StoringAnnouncement a 0) in
-          let keeps = kept_here ScanBegun e (words_after words (Add (pool_counter z) (1 + length s.asked))) (holding_at t (joined_since x))
-          (claim_keeps (holding_in s ScanBegun (joined_since x)) (1 + length s.asked) (announcement_block s.asked) (memory_at z o words before x after log w ScanBegun e) refl
+          let keeps = kept_here ScanBegun e (words_after words (Add (pool_counter z) (announcement_size (length s.asked)))) (holding_at t (joined_since x))
+          (claim_keeps (holding_in s ScanBegun (joined_since x)) (announcement_size (length s.asked)) (announcement_block s.asked) (memory_at z o words before x after log w ScanBegun e) refl
           refl (omega arith) fits) in
-          quiet z o words before x after log w ScanBegun (Add (pool_counter z) (1 + length s.asked)) t (holding_at t (joined_since x)) e due
+          quiet z o words before x after log w ScanBegun (Add (pool_counter z) (announcement_size (length s.asked))) t (holding_at t (joined_since x)) e due
           (ap (λ (b : Bool). cond b (at_stage s (StoringAnnouncement a 0)) (pool_refused s)) fits) refl counter_inside pool_possible refl keeps (λ ks is. tt) refl refl
       either false over =
           let t = pool_refused s in
@@ -143,13 +144,13 @@ module _ (z : Layout) (o : Opening) (words : List ℕ) (before : List Part) (x :
           let all = sound_here z o words before x after log w in
           let sizes = sizes_here z o words before x after log w in
           let few : length s.asked ≤ z.m = subst (λ (y : Layout). length s.asked ≤ y.m) sizes all.asked.few in
-          let keeps = kept_here ScanBegun e (words_after words (Add (pool_counter z) (1 + length s.asked))) (holding_at t (joined_since x))
-          (refusal_keeps (holding_in s ScanBegun (joined_since x)) (1 + length s.asked) (memory_at z o words before x after log w ScanBegun e) sound.1 (omega (arith, few)) over) in
+          let keeps = kept_here ScanBegun e (words_after words (Add (pool_counter z) (announcement_size (length s.asked)))) (holding_at t (joined_since x))
+          (refusal_keeps (holding_in s ScanBegun (joined_since x)) (announcement_size (length s.asked)) (memory_at z o words before x after log w ScanBegun e) sound.1 (omega (arith, few)) over) in
           let begun = begun_here z o words before x after log w ScanBegun e refl in
           let called : x.begun.stage ≡ ScanBegun = ap (λ (d : CoreState). d.stage) (sym begun) ∙ e in
           let k = known_here z o words before x after log w in
           let may = subst (is_sound_at x.begun) called k.sound.stage in
-          quiet z o words before x after log w ScanBegun (Add (pool_counter z) (1 + length s.asked)) t (holding_at t (joined_since x)) e due
+          quiet z o words before x after log w ScanBegun (Add (pool_counter z) (announcement_size (length s.asked))) t (holding_at t (joined_since x)) e due
           (ap (λ (b : Bool). cond b (at_stage s (StoringAnnouncement a 0)) (pool_refused s)) over) refl counter_inside pool_possible refl keeps (λ ks is. tt) refl
           (record { none = refl; call = call.Scan x.begun.asked; made = ap (call_at x.begun) called; may = (names_all x.begun.sizes.m x.begun.asked k.sound.asked.each, may.0) })
 
@@ -187,7 +188,7 @@ module _ (z : Layout) (o : Opening) (words : List ℕ) (before : List Part) (x :
 
       either : (b : Bool) → (k == length s.asked) ≡ b → LeadsAt z o words before x after log s (StoringAnnouncement at k) (Store (at + k) (slice_index (announcement_block s.asked) k))
       either true last =
-          let all : 1 + length s.asked ≡ k + 1 = let is = eqb-true k (length s.asked) last in omega (arith, is) in
+          let all : announcement_size (length s.asked) ≡ k + 1 = let is = eqb-true k (length s.asked) last in omega (arith, is) in
           quiet z o words before x after log w (StoringAnnouncement at k) (Store (at + k) (slice_index (announcement_block s.asked) k)) (begin_joining s at)
           (record (holding_in s (StoringAnnouncement at k) (joined_since x)) { own = Some (record { space = Pool; at = at; words = announcement_block s.asked; stored = k + 1 }) }) e refl
           (ap (λ (b : Bool). cond b (begin_joining s at) (at_stage s (StoringAnnouncement at (k + 1)))) last) refl inside refl

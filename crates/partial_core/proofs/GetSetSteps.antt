@@ -7,10 +7,12 @@ use Rattle.partial_model.specs.declared.history.Opening.{Opening}
 use Rattle.partial_intervals.specs.Intervals.{Ranges, highest}
 use Rattle.partial_words.specs.declared.step.Step.{Step}
 use Rattle.partial_words.specs.declared.step.Step.TheVariants.{Load, Store, Exchange, Add}
-use Rattle.partial_words.specs.Layout.{Layout, list_counter, list_end, list_head}
+use Rattle.partial_words.specs.Layout.{Layout, list_counter, list_end, list_head, greatest_list}
 use Rattle.partial_words.specs.Step.{answer_of, words_after, word_of}
-use Rattle.partial_words.specs.VacatedList.{list_block}
+use Rattle.partial_words.specs.VacatedList.{list_block, list_size, intervals_word}
 use Rattle.partial_words.proofs.RecordLemmas.{length-pairs}
+use Rattle.partial_words.specs.Record.{next_word}
+use Rattle.partial_words.specs.Announcement.{indices_word}
 use Rattle.partial_active.specs.GetSet as finding
 use Rattle.partial_active.specs.Found.{begins_at}
 use Rattle.partial_active.specs.IndexSet.{with_index}
@@ -127,11 +129,12 @@ calm_load y head n Head p a e = (
   cond_both (eqb a 0) Counter (ListLen a)
       (λ stage. IsCalm p.0.lists_spent (record p.0 { head = a; stage = stage }, record p.1 { indices = []; read = []; next = [] })) (λ f. (refl, refl)) (λ f. (refl, refl)),
 )
-calm_load y head n (ListLen at) p a e = (refl, cond_both (eqb a 0) Counter (ListLow (at + 1) a) (λ stage. IsCalm p.0.lists_spent (finding.in_stage p stage)) (λ f. (refl, refl)) (λ f. (refl, refl)))
+calm_load y head n (ListLen at) p a e =
+    (refl, cond_both (eqb a 0) Counter (ListLow (intervals_word at) a) (λ stage. IsCalm p.0.lists_spent (finding.in_stage p stage)) (λ f. (refl, refl)) (λ f. (refl, refl)))
 calm_load y head n (ListLow at left) p a e = (refl, (refl, refl))
 calm_load y head n (ListHigh at left lo) p a e = (
   refl,
-  cond_both (eqb left 1) Counter (ListLow (at + 1) (left - 1))
+  cond_both (eqb left 1) Counter (ListLow (next_word at) (left - 1))
       (λ stage. IsCalm p.0.lists_spent (record p.0 { stage = stage }, record p.1 { read = p.1.read ++ (lo, a) ∷ [] })) (λ f. (refl, refl)) (λ f. (refl, refl)),
 )
 calm_load y head n Counter p a e = (refl, calm_come (record p.0 { end = min a p.0.sizes.slots; passed = 0 }, p.1) 0)
@@ -144,12 +147,12 @@ calm_load y head n (Slot slot) p a e = (
 )
 calm_load y head n (Len slot at) p a e = (
   refl,
-  cond_both (eqb a 0) (finding.come_to p (slot + 1)) (finding.in_stage p (Index slot (at + 1) a)) (IsCalm p.0.lists_spent)
+  cond_both (eqb a 0) (finding.come_to p (slot + 1)) (finding.in_stage p (Index slot (indices_word at) a)) (IsCalm p.0.lists_spent)
       (λ f. calm_come p (slot + 1)) (λ f. (refl, refl)),
 )
 calm_load y head n (Index slot at left) p a e =
     let q : finding.Pair = (p.0, record p.1 { indices = with_index p.1.indices a }) in
-    (refl, cond_both (eqb left 1) (finding.come_to q (slot + 1)) (finding.in_stage q (Index slot (at + 1) (left - 1))) (IsCalm p.0.lists_spent) (λ f. calm_come q (slot + 1)) (λ f. (refl, refl)))
+    (refl, cond_both (eqb left 1) (finding.come_to q (slot + 1)) (finding.in_stage q (Index slot (next_word at) (left - 1))) (IsCalm p.0.lists_spent) (λ f. calm_come q (slot + 1)) (λ f. (refl, refl)))
 calm_load y head n (Claim count) p a e = absurd cc
 calm_load y head n (Write at k count word) p a e = absurd cc
 calm_load y head n (Publish at) p a e = absurd cc
@@ -252,7 +255,7 @@ module _ (z : Layout) (o : Opening) (words : List ℕ) (before : List Part) (x :
       keeps_here (λ hs same. yet hs) refl (silent a)
 
   -- how many words the next list has
-  block_length : (next : Ranges) → length (list_block next) ≡ 1 + 2 * length next
+  block_length : (next : Ranges) → length (list_block next) ≡ list_size (length next)
   block_length next = let pairs = length-pairs next in omega (arith, pairs)
 
   -- the list that the getSet writes, with so many of its words stored
@@ -287,7 +290,7 @@ module _ (z : Layout) (o : Opening) (words : List ℕ) (before : List Part) (x :
       length_is : length (list_block s.found.next) ≡ count
       length_is = let long = block_length s.found.next in let counts = has.count in omega (arith, long, counts)
 
-      few : count ≤ z.slots + 2
+      few : count ≤ greatest_list z
       few =
           let counts = has.count in
           let most = length_normal s.found.next s.get_set.sizes.slots has.next has.within in

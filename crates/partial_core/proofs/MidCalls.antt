@@ -9,6 +9,7 @@ use Rattle.partial_model.specs.History.{stamp_of}
 use Rattle.partial_words.specs.declared.step.Step.{Step}
 use Rattle.partial_words.specs.declared.step.Step.TheVariants.{Load, Store, Exchange, Add}
 use Rattle.partial_words.specs.Layout.{Layout}
+use Rattle.partial_words.specs.Record.{view_word}
 use Rattle.partial_active.specs.Join.{join_after, join_step}
 use Rattle.partial_active.specs.declared.join.JoinStage.{JoinStage}
 use Rattle.partial_active.specs.declared.join.JoinStage.TheVariants.{Claiming, Storing, Joined as JoinedIn, Spent}
@@ -93,7 +94,7 @@ view_finished z o words hs log indices low high last y Done p inside e knows =
 -- each step of an embedded scan is a load
 pub view_loads : (y : Layout) (indices last : List ℕ) (stage : ViewStage) → IsSome (viewing.step_at y indices last stage) → (n : ℕ) × (viewing.step_at y indices last stage ≡ Some (Load n))
 view_loads y indices last (Collect k) due = (slice_index indices k, refl)
-view_loads y indices last (View stamp) due = (stamp + 2, refl)
+view_loads y indices last (View stamp) due = (view_word stamp, refl)
 view_loads y indices last (Len at) due = (at, refl)
 view_loads y indices last (Index at left) due = (at, refl)
 view_loads y indices last (PairValue at left index) due = (at, refl)

@@ -12,6 +12,7 @@ use Rattle.partial_words.specs.Step.{word_of, words_after}
 use Rattle.partial_words.specs.Announcement.{announcement_block, announcement_size}
 use Rattle.partial_words.specs.VacatedList.{list_block}
 use Rattle.partial_words.proofs.RecordLemmas.{length-pairs}
+use Rattle.partial_words.specs.Record.{value_word}
 use Rattle.partial_active.specs.Orderly.{Orderly, IsSlotMove, IsSlotOf, IsHeadOf, slot_at}
 use Rattle.partial_state.specs.Views.{Joined, IsHead}
 use Rattle.partial_state.specs.Holdings.Space.{Pool, Lists}
@@ -215,7 +216,7 @@ module _ (z : Layout) (o : Opening) (words : List ℕ) (before : List Part) (x :
   touches_at : (t : Stage) (step : Step) → s.stage ≡ t → step_at s t ≡ Some step → Touches z words (own_at s t) step
   touches_at Idle step e due = let bad : None ≡ Some step = due in absurd cc
   touches_at (ReadBegun j) step e due = touches_same z words None (Load j) step due (inl (j, refl))
-  touches_at (LoadingValue stamp) step e due = touches_same z words None (Load (stamp + 1)) step due (inl (stamp + 1, refl))
+  touches_at (LoadingValue stamp) step e due = touches_same z words None (Load (value_word stamp)) step due (inl (value_word stamp, refl))
   touches_at (UpdateBegun c) step e due = touches_same z words None (Load c.component) step due (inl (c.component, refl))
   touches_at (GettingSet c old) step e due = let sound = sound_at z o words before x after log w (GettingSet c old) e in set_touches z s.get_set.sizes words s.get_set.head s.get_set.stage
       (getting s) step (sound.2 ∙ sizes) sound.1.stage due
@@ -232,7 +233,8 @@ module _ (z : Layout) (o : Opening) (words : List ℕ) (before : List Part) (x :
   touches_at (Exchanging c old at) step e due =
       let below : c.component < z.m = of_size (λ (y : Layout). c.component < y.m) (sound_at z o words before x after log w (Exchanging c old at) e).0.0 in
       touches_same z words (own_at s (Exchanging c old at)) (Exchange c.component old at) step due (inr (inl (omega (arith, below))))
-  touches_at ScanBegun step e due = touches_same z words None (Add (pool_counter s.sizes) (1 + length s.asked)) step due (inr (inl (let m = ap (λ (l : Layout). l.m) sizes in omega (arith, m))))
+  touches_at ScanBegun step e due = touches_same z words None (Add (pool_counter s.sizes) (announcement_size (length s.asked))) step due
+      (inr (inl (let m = ap (λ (l : Layout). l.m) sizes in omega (arith, m))))
   touches_at (StoringAnnouncement at k) step e due =
       let sound = sound_at z o words before x after log w (StoringAnnouncement at k) e in
       let less = sound.3 in

@@ -9,6 +9,7 @@ use Rattle.partial_model.specs.declared.history.Applied.{Applied}
 use Rattle.partial_model.specs.declared.history.Opening.{Opening}
 use Rattle.partial_model.specs.Outcome.{places_by, places_written}
 use Rattle.partial_words.specs.Layout.{Layout, IsLayout}
+use Rattle.partial_words.specs.Record.{view_word}
 use Rattle.partial_machine.specs.Machine.{CoreState, advance}
 use Rattle.partial_machine.specs.Bounds.{most_steps}
 use Rattle.partial_machine.specs.Steps.{Run}
@@ -168,7 +169,7 @@ lawful_records_are_within z o words parts log w =
       history = w.memory.history;
       agrees = w.memory.agrees;
       initial = λ j below. (omega (arith, stamps), omega (arith, below, count, stamps, pool));
-      entries = all_weaker (IsEntry z words) (λ (e : Applied). (z.m ≤ e.stamp) × (e.stamp + 2 < length words))
+      entries = all_weaker (IsEntry z words) (λ (e : Applied). (z.m ≤ e.stamp) × (view_word e.stamp < length words))
           (λ e entry. let above = entry.above in let within = entry.within in (omega (arith, above), omega (arith, within, count))) log w.memory.entries;
     }
 

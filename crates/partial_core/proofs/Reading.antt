@@ -14,6 +14,7 @@ use Rattle.partial_words.specs.declared.step.Step.{Step}
 use Rattle.partial_words.specs.declared.step.Step.TheVariants.{Load}
 use Rattle.partial_words.specs.Layout.{Layout}
 use Rattle.partial_words.proofs.ChainLemmas.{value_behind_stamp}
+use Rattle.partial_words.specs.Record.{value_word}
 use Rattle.partial_embedded.specs.Embedded as viewing
 use Rattle.partial_machine.specs.declared.stage.Change.{Change}
 use Rattle.partial_machine.specs.declared.stage.Reply.TheVariants as reply
@@ -81,7 +82,7 @@ module _ (z : Layout) (o : Opening) (words : List ℕ) (before : List Part) (x :
       (at_sizes (λ y. IsRecord y (get_or words j 0)) (component_record j below)) refl refl refl
 
   -- the value behind the stamp that a read has loaded
-  pub value_loaded : (stamp : ℕ) → (core_of x).stage ≡ LoadingValue stamp → LeadsAt z o words before x after log (core_of x) (LoadingValue stamp) (Load (stamp + 1))
+  pub value_loaded : (stamp : ℕ) → (core_of x).stage ≡ LoadingValue stamp → LeadsAt z o words before x after log (core_of x) (LoadingValue stamp) (Load (value_word stamp))
   value_loaded stamp e =
       let g = going z o words before x after log w (LoadingValue stamp) e refl refl in
       let known = g.knows in
@@ -92,12 +93,12 @@ module _ (z : Layout) (o : Opening) (words : List ℕ) (before : List Part) (x :
       let begun_below : j < z.m = begun_at (ReadBegun j) known.1 (λ y. j < y.m) (λ h. h) in
       let values = w.memory.values in
       let below : j < length o.values = omega (arith, begun_below, values) in
-      let a = get_or words (stamp + 1) 0 in
+      let a = get_or words (value_word stamp) 0 in
       let n : Noted = record { call = call.Read j; answer = answer.Read a stamp; note = Some (note.Saw first) } in
       let s = standing z o words hs log w.memory first stamp (subst (IsWithin o log first) (sym known.2) (stamp_within o log first j below)) in
-      let value : a ≡ value_of o (take first log) j = ap (λ m. get_or words (m + 1) 0) known.2 ∙ value_behind_stamp o words log j first w.memory.agrees below in
-      load_ends z o words before x after log w (LoadingValue stamp) (stamp + 1) (at_stage (core_of x) (Finished (reply.Read a stamp))) e refl refl refl
-      (standing_word z o words hs log w.memory stamp 1 (omega arith) s) tt refl
+      let value : a ≡ value_of o (take first log) j = ap (λ m. get_or words (value_word m) 0) known.2 ∙ value_behind_stamp o words log j first w.memory.agrees below in
+      load_ends z o words before x after log w (LoadingValue stamp) (value_word stamp) (at_stage (core_of x) (Finished (reply.Read a stamp))) e refl refl refl
+      (standing_word z o words hs log w.memory stamp (value_word 0) (omega arith) s) tt refl
       n refl (below, ((omega (arith, order, inside), value, known.2), g.low)) (omega (arith, order, inside)) refl
       (record {
         call = call.Read j;

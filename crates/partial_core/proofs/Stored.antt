@@ -8,6 +8,7 @@ use Rattle.partial_words.specs.declared.step.Step.{Step}
 use Rattle.partial_words.specs.declared.step.Step.TheVariants.{Store}
 use Rattle.partial_words.specs.Layout.{Layout, pool_end}
 use Rattle.partial_words.specs.Step.{words_after}
+use Rattle.partial_words.specs.Record.{prev_of, prev_word, view_word, plain_record_size}
 use Rattle.partial_machine.specs.declared.stage.Change.{Change}
 use Rattle.partial_machine.specs.declared.stage.Stage.{Stage}
 use Rattle.partial_machine.specs.declared.stage.Stage.TheVariants.{StoringRecord, Exchanging}
@@ -48,7 +49,7 @@ finds_all hs low indices finds =
 
 -- what an update has viewed, in words in which the entries' records are the same
 viewed_then : (z : Layout) (o : Opening) (words words' : List ℕ) (hs : List Holding) (log : List Applied) (first : ℕ) (s : CoreState) → first ≤ length log →
-    ((q : ℕ) (d : Applied) (n : ℕ) → slice_get log q ≡ Some d → n < 3 → get_or words' (d.stamp + n) 0 ≡ get_or words (d.stamp + n) 0) → IsViewed z o words hs log first s →
+    ((q : ℕ) (d : Applied) (n : ℕ) → slice_get log q ≡ Some d → n < plain_record_size → get_or words' (d.stamp + n) 0 ≡ get_or words (d.stamp + n) 0) → IsViewed z o words hs log first s →
     HasViewed o words' log first s
 viewed_then z o words words' hs log first s inside same viewed = elim viewed.1 [
   | inl nothing ↦ record {
@@ -60,9 +61,9 @@ viewed_then z o words words' hs log first s inside same viewed = elim viewed.1 [
     borrowed = λ stamp some.
         let known = finished.1 stamp some in
         let third : IsThird words log s.found.indices first (scanning s) stamp = known.0 in
-        let at : (n : ℕ) → n < 3 → get_or words' (stamp + n) 0 ≡ get_or words (stamp + n) 0 = λ n lt. subst (λ t. get_or words' (t + n) 0 ≡ get_or words (t + n) 0) third.is
+        let at : (n : ℕ) → n < plain_record_size → get_or words' (stamp + n) 0 ≡ get_or words (stamp + n) 0 = λ n lt. subst (λ t. get_or words' (t + n) 0 ≡ get_or words (t + n) 0) third.is
         (same third.place third.entry n third.stands lt) in
-        let prev : get_or words' stamp 0 ≡ get_or words stamp 0 = ap (λ n. get_or words' n 0) (omega arith) ∙ at 0 (omega arith) ∙ ap (λ n. get_or words n 0) (omega arith) in
+        let prev : prev_of words' stamp ≡ prev_of words stamp = ap (λ n. get_or words' n 0) (omega arith) ∙ at (prev_word 0) (omega arith) ∙ ap (λ n. get_or words n 0) (omega arith) in
         let now : IsThird words' log s.found.indices first (scanning s) stamp = record {
           borrowed = third.borrowed;
           three = third.three;
@@ -75,7 +76,7 @@ viewed_then z o words words' hs log first s inside same viewed = elim viewed.1 [
           component = third.component;
           begun = subst (IsBegunSince log first) (sym prev) third.begun;
         } in
-        (now, known.1 ∙ sym (at 2 (omega arith)));
+        (now, known.1 ∙ sym (at (view_word 0) (omega arith)));
   }
 ]
 
@@ -130,7 +131,7 @@ module _ (z : Layout) (o : Opening) (words : List ℕ) (before : List Part) (x :
   hs = holdings before ++ held ∷ holdings after
 
   -- the store leaves the words of the entries' records
-  entry_stays : (q : ℕ) (d : Applied) (n : ℕ) → slice_get log q ≡ Some d → n < 3 → get_or words' (d.stamp + n) 0 ≡ get_or words (d.stamp + n) 0
+  entry_stays : (q : ℕ) (d : Applied) (n : ℕ) → slice_get log q ≡ Some d → n < plain_record_size → get_or words' (d.stamp + n) 0 ≡ get_or words (d.stamp + n) 0
   entry_stays q d n is few =
       let memory = memory_at z o words before x after log w (StoringRecord c old at k) e in
       let size = three_words words d.stamp in

@@ -10,7 +10,7 @@ use Rattle.partial_model.specs.declared.history.Opening.{Opening}
 use Rattle.partial_model.specs.History.{stamp_of, value_of}
 use Rattle.partial_model.proofs.HistoryLemmas.{place_below}
 use Rattle.partial_words.specs.Layout.{Layout}
-use Rattle.partial_words.specs.Record.{record_block, view_block, StandsAt, ReadsBackRecord, prev_of, view_of}
+use Rattle.partial_words.specs.Record.{record_block, view_block, StandsAt, ReadsBackRecord, prev_of, view_of, own_view, plain_record_size, full_record_size}
 use Rattle.partial_words.proofs.RecordLemmas.{length-record_block, reads_back}
 use Rattle.partial_active.specs.IndexSet.{has_index}
 use Rattle.partial_machine.specs.declared.stage.Change.{Change}
@@ -32,12 +32,13 @@ use Rattle.partial_knowledge.specs.Scans.{HasValues, IsThird}
 use Rattle.partial_knowledge.proofs.Chains.{stamp_within, begun_within}
 use Rattle.partial_model.proofs.NotesLemmas.{AllByRecursion-get}
 
-length_by : (f : Option ℕ) (js : List ℕ) (value : ℕ → ℕ) (old v view : ℕ) → length (record_block old v view (option_map_or (λ _. []) f (map (λ j. (j, value j)) js))) ≡ option_map_or (λ _. 3) f
-    (cond (length js == 0) 3 (4 + 2 * length js))
+length_by : (f : Option ℕ) (js : List ℕ) (value : ℕ → ℕ) (old v view : ℕ) → length (record_block old v view (option_map_or (λ _. []) f (map (λ j. (j, value j)) js)))
+    ≡ option_map_or (λ _. plain_record_size) f
+    (cond (length js == 0) plain_record_size (full_record_size (length js)))
 length_by (Some n) js value old v view = refl
 length_by None [] value old v view = refl
-length_by None (j ∷ js) value old v view = length-record_block old v view (j, value j) (map (λ j. (j, value j)) js) ∙ ap (λ n. 4 + 2 * n) (length-map (j ∷ js) (λ j. (j, value j)))
-    ∙ sym (ap (λ (b : Bool). cond b 3 (4 + 2 * length (j ∷ js))) (ne_eqb (length (j ∷ js)) 0 (λ e. omega (arith, e))))
+length_by None (j ∷ js) value old v view = length-record_block old v view (j, value j) (map (λ j. (j, value j)) js) ∙ ap (λ n. full_record_size n) (length-map (j ∷ js) (λ j. (j, value j)))
+    ∙ sym (ap (λ (b : Bool). cond b plain_record_size (full_record_size (length (j ∷ js)))) (ne_eqb (length (j ∷ js)) 0 (λ e. omega (arith, e))))
 
 -- so many words has the record that an update writes
 pub length_record : (s : CoreState) (c : Change) (old at : ℕ) → length (record_words s c old at) ≡ record_size s
@@ -66,11 +67,11 @@ no_pairs value [] e = refl
 no_pairs value (j ∷ js) e = absurd (omega (arith, e))
 
 -- a record with pairs has the words of its view behind the first three
-behind_three : (old v view : ℕ) (ps : List (ℕ × ℕ)) → 0 < length ps → length (record_block old v view ps) ≡ 3 + length (view_block ps)
+behind_three : (old v view : ℕ) (ps : List (ℕ × ℕ)) → 0 < length ps → length (record_block old v view ps) ≡ plain_record_size + length (view_block ps)
 behind_three old v view [] some = absurd (omega (arith, some))
 behind_three old v view (p ∷ ps) some = omega arith
 
-view_stands : (words : List ℕ) (at old v view : ℕ) (ps : List (ℕ × ℕ)) → 0 < length ps → StandsAt words at (record_block old v view ps) → StandsAt words (at + 3) (view_block ps)
+view_stands : (words : List ℕ) (at old v view : ℕ) (ps : List (ℕ × ℕ)) → 0 < length ps → StandsAt words at (record_block old v view ps) → StandsAt words (own_view at) (view_block ps)
 view_stands words at old v view [] some stands = absurd (omega (arith, some))
 view_stands words at old v view (p ∷ ps) some stands = λ k lt.
     let h = stands (suc (suc (suc k))) (omega (arith, lt)) in
@@ -79,7 +80,7 @@ view_stands words at old v view (p ∷ ps) some stands = λ k lt.
 
 -- a view stands behind the record of an entry, or is none
 abbrev IsOwned : List Applied → ℕ → Type 0
-IsOwned log v = (v ≡ 0) ⊎ ((k : ℕ) × (e : Applied) × (slice_get log k ≡ Some e) × (v ≡ e.stamp + 3))
+IsOwned log v = (v ≡ 0) ⊎ ((k : ℕ) × (e : Applied) × (slice_get log k ≡ Some e) × (v ≡ own_view e.stamp))
 
 -- an entry's view is of such a kind
 entry_owned : (log : List Applied) (k : ℕ) (e : Applied) (v : ℕ) → slice_get log k ≡ Some e → IsViewOf log e.stamp v → IsOwned log v
@@ -88,7 +89,7 @@ entry_owned log k e v is (inr (inl own)) = inr (k, e, is, own)
 entry_owned log k e v is (inr (inr its)) = inr its
 
 -- a record's view that is none or its own, and one that it shares
-own_or_none : (log : List Applied) (at v : ℕ) (b : Bool) → v ≡ cond b 0 (at + 3) → IsViewOf log at v
+own_or_none : (log : List Applied) (at v : ℕ) (b : Bool) → v ≡ cond b 0 (own_view at) → IsViewOf log at v
 own_or_none log at v true e = inl e
 own_or_none log at v false e = inr (inl e)
 
@@ -196,14 +197,15 @@ module _ (z : Layout) (o : Opening) (words : List ℕ) (before : List Holding) (
     count_is : length pairs ≡ length s.found.indices
     count_is = length-map s.found.indices (λ j. (j, get_or s.rows.values j 0))
 
-    view_is : (b : Bool) → (length s.found.indices == 0) ≡ b → view_of words at ≡ cond b 0 (at + 3)
-    view_is b e = let r = reads in r.view ∙ ap (λ (f : Option ℕ). option_map_or (λ _. s.embedded.view) f (cond (length s.found.indices == 0) 0 (at + 3))) none ∙ ap (λ (t : Bool). cond t 0 (at + 3)) e
+    view_is : (b : Bool) → (length s.found.indices == 0) ≡ b → view_of words at ≡ cond b 0 (own_view at)
+    view_is b e = let r = reads in r.view ∙ ap (λ (f : Option ℕ). option_map_or (λ _. s.embedded.view) f (cond (length s.found.indices == 0) 0 (own_view at))) none
+        ∙ ap (λ (t : Bool). cond t 0 (own_view at)) e
 
     length_is : length (record_words s c old at) ≡ length (record_block old c.value (view_at s at) pairs)
     length_is = ap (λ (ps : List (ℕ × ℕ)). length (record_block old c.value (view_at s at) ps)) pairs_are
 
-    own_view : (length s.found.indices == 0) ≡ false → IsView z words us (at + 3) pairs
-    own_view e =
+    own_stands : (length s.found.indices == 0) ≡ false → IsView z words us (own_view at) pairs
+    own_stands e =
         let count = count_is in
         let not_none = eqb-false (length s.found.indices) 0 e in
         let some : 0 < length pairs = let positive = not_zero (length s.found.indices) not_none in omega (arith, count, positive) in
@@ -221,7 +223,7 @@ module _ (z : Layout) (o : Opening) (words : List ℕ) (before : List Holding) (
           components = all_map (λ (q : ℕ × ℕ). q.0 < z.m) (λ j. (j, get_or s.rows.values j 0)) s.found.indices (each_index (λ j. j < z.m) s.found.indices each);
           distinct = subst (IsDistinct nat_eq) (sym (firsts (λ j. get_or s.rows.values j 0) s.found.indices)) distinct;
           stands = view_stands words at old c.value (view_at s at) pairs some (subst (λ (ps : List (ℕ × ℕ)). StandsAt words at (record_block old c.value (view_at s at) ps)) pairs_are stands);
-          apart = parts_apart us (record { at = at + 3; size = length (view_block pairs) }) (block_of block) (omega arith) (omega (arith, size, total)) apart_own;
+          apart = parts_apart us (record { at = own_view at; size = length (view_block pairs) }) (block_of block) (omega arith) (omega (arith, size, total)) apart_own;
         }
       where
         not_zero : (k : ℕ) → k ≢ 0 → 0 < k
@@ -230,7 +232,7 @@ module _ (z : Layout) (o : Opening) (words : List ℕ) (before : List Holding) (
 
     shown_by : (b : Bool) → (length s.found.indices == 0) ≡ b → HasPairs z words us at pairs
     shown_by true e = inl (view_is true e, no_pairs (λ j. get_or s.rows.values j 0) s.found.indices (eqb-true (length s.found.indices) 0 e))
-    shown_by false e = inr (subst (λ v. IsView z words us v pairs) (sym (view_is false e)) (own_view e))
+    shown_by false e = inr (subst (λ v. IsView z words us v pairs) (sym (view_is false e)) (own_stands e))
 
     shown : HasPairs z words us at pairs
     shown = shown_by (length s.found.indices == 0) refl
@@ -249,16 +251,18 @@ module _ (z : Layout) (o : Opening) (words : List ℕ) (before : List Holding) (
         let empty = no_pairs (λ j. get_or s.rows.values j 0) s.found.indices (eqb-true (length s.found.indices) 0 e) in
         let view = view_is true e in
         length_is ∙ ap (λ (ps : List (ℕ × ℕ)). length (record_block old c.value (view_at s at) ps)) empty ∙
-        sym (ap (λ (t : Bool). cond t (4 + 2 * get_or words (at + 3) 0) 3) (ne_eqb (view_of words at) (at + 3) (λ same. omega (arith, view, same))))
+        sym (ap (λ (t : Bool). cond t (full_record_size (get_or words (own_view at) 0)) plain_record_size) (ne_eqb (view_of words at) (own_view at) (λ same. omega (arith, view, same))))
     size_by false e =
-        let v = own_view e in
-        let len : get_or words (at + 3) 0 ≡ length pairs = ap (λ i. get_or words i 0) (omega arith) ∙ (v.stands 0 (omega arith)).1 in
+        let v = own_stands e in
+        let len : get_or words (own_view at) 0 ≡ length pairs = ap (λ i. get_or words i 0) (omega arith) ∙ (v.stands 0 (omega arith)).1 in
         let count = count_is in
         let not_none = eqb-false (length s.found.indices) 0 e in
-        let record_is : length (record_words s c old at) ≡ 4 + 2 * length pairs =
-        length_record s c old at ∙ ap (λ (f : Option ℕ). option_map_or (λ _. 3) f (cond (length s.found.indices == 0) 3 (4 + 2 * length s.found.indices))) none ∙
-        ap (λ (t : Bool). cond t 3 (4 + 2 * length s.found.indices)) e ∙ ap (λ k. 4 + 2 * k) (sym count) in
-        record_is ∙ ap (λ k. 4 + 2 * k) (sym len) ∙ sym (ap (λ (t : Bool). cond t (4 + 2 * get_or words (at + 3) 0) 3) (eq-eqb (view_of words at) (at + 3) (view_is false e)))
+        let record_is : length (record_words s c old at) ≡ full_record_size (length pairs) =
+        length_record s c old at
+        ∙ ap (λ (f : Option ℕ). option_map_or (λ _. plain_record_size) f (cond (length s.found.indices == 0) plain_record_size (full_record_size (length s.found.indices)))) none ∙
+        ap (λ (t : Bool). cond t plain_record_size (full_record_size (length s.found.indices))) e ∙ ap (λ k. full_record_size k) (sym count) in
+        record_is ∙ ap (λ k. full_record_size k) (sym len)
+        ∙ sym (ap (λ (t : Bool). cond t (full_record_size (get_or words (own_view at) 0)) plain_record_size) (eq-eqb (view_of words at) (own_view at) (view_is false e)))
 
     shows_own : Shows
     shows_own = record {
@@ -287,7 +291,7 @@ module _ (z : Layout) (o : Opening) (words : List ℕ) (before : List Holding) (
     three_long = ap (λ (ps : List (ℕ × ℕ)). length (record_block old c.value (view_at s at) ps)) bare
 
     view_same : view_of words at ≡ view_of words third.entry.stamp
-    view_same = let r = reads in r.view ∙ ap (λ (f : Option ℕ). option_map_or (λ _. s.embedded.view) f (cond (length s.found.indices == 0) 0 (at + 3))) some ∙ shared ∙
+    view_same = let r = reads in r.view ∙ ap (λ (f : Option ℕ). option_map_or (λ _. s.embedded.view) f (cond (length s.found.indices == 0) 0 (own_view at))) some ∙ shared ∙
         ap (view_of words) (sym third.is)
 
     theirs : HasFreshView z o words (unpublished hs) log third.place third.entry.stamp
@@ -314,7 +318,7 @@ module _ (z : Layout) (o : Opening) (words : List ℕ) (before : List Holding) (
     owned : IsOwned log (view_of words third.entry.stamp)
     owned = let fresh = theirs in entry_owned log third.place third.entry (view_of words third.entry.stamp) third.stands fresh.owner
 
-    view_elsewhere : view_of words at ≢ at + 3
+    view_elsewhere : view_of words at ≢ own_view at
     view_elsewhere e = elim owned [
       | inl none ↦ let same = view_same in omega (arith, e, same, none)
       | inr its ↦ let same = view_same in let is = its.3 in elsewhere its.0 its.1 its.2 (omega (arith, e, same, is))
@@ -330,7 +334,7 @@ module _ (z : Layout) (o : Opening) (words : List ℕ) (before : List Holding) (
         let P : Holding → Type 0 = λ v. IfJoined v (λ l j. Covers z words (unpublished hs) log third.entry.stamp j) in
         let others : AllByRecursion P (before ++ after) = all_append P before after (all_before P before h after covering) (all_after P before h after covering) in
         record {
-          size = three_long ∙ sym (ap (λ (t : Bool). cond t (4 + 2 * get_or words (at + 3) 0) 3) (ne_eqb (view_of words at) (at + 3) view_elsewhere));
+          size = three_long ∙ sym (ap (λ (t : Bool). cond t (full_record_size (get_or words (own_view at) 0)) plain_record_size) (ne_eqb (view_of words at) (own_view at) view_elsewhere));
           fresh = record {
             pairs = fresh.pairs;
             shown = shown_here fresh.pairs fresh.shown;

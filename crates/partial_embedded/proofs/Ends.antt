@@ -3,6 +3,7 @@ use Rattle.std.proofs.Common.{ℕ, zero, suc, ◌≡◌, ◌+◌, ◌-◌, ◌<�
 use Rattle.std.specs.Prelude.{nat_lt}
 use Rattle.std.proofs.lemmas.Bool.{ltb-false}
 use Rattle.std.proofs.lemmas.List.{length_push}
+use Rattle.partial_words.specs.Record.{pairs_word, next_word}
 use Rattle.partial_embedded.specs.declared.embedded.Stage.{Stage}
 use Rattle.partial_embedded.specs.declared.embedded.Stage.TheVariants.{Collect, View, Len, Index, PairValue, Value, Done}
 use Rattle.partial_embedded.specs.Embedded.{Pair, GoTogether, goes_at, fresh, advance, advance_at, is_first, differs, was_changed, noted, borrow, after_view, at_stage, with_value, pairs_from, IsPossibleAt}
@@ -136,10 +137,10 @@ module _ (indices : List ℕ) (p : Pair) (x : ℕ) (xs : List ℕ) where
   step_ends (View stamp) goes possible w t =
       let q : Pair = (after_view p.0 x, p.1) in
       view_or q ((x == 0) || p.0.shares) (Len x) (first_view q stamp w.0 w.1 refl refl refl) (λ v. v)
-  step_ends (Len at) goes possible w t = pairs_end p (at + 1) x (x == 0) (more_view (at_stage p (pairs_from (at + 1) x)) w refl refl refl)
-  step_ends (Index at left) goes possible w t = more_view (at_stage p (PairValue (at + 1) left x)) w refl refl refl
-  step_ends (PairValue at left index) goes possible w t = pairs_end (with_value p index x) (at + 1) (left - 1) (left - 1 == 0)
-      (more_view (at_stage (with_value p index x) (pairs_from (at + 1) (left - 1))) w refl refl refl)
+  step_ends (Len at) goes possible w t = pairs_end p (pairs_word at) x (x == 0) (more_view (at_stage p (pairs_from (pairs_word at) x)) w refl refl refl)
+  step_ends (Index at left) goes possible w t = more_view (at_stage p (PairValue (next_word at) left x)) w refl refl refl
+  step_ends (PairValue at left index) goes possible w t = pairs_end (with_value p index x) (next_word at) (left - 1) (left - 1 == 0)
+      (more_view (at_stage (with_value p index x) (pairs_from (next_word at) (left - 1))) w refl refl refl)
   step_ends (Value k) goes possible w t = value_ends k goes.0 w.0 w.1 (nat_lt (k + 1) (length indices)) refl
   step_ends Done goes possible w t = absurd possible
 

@@ -6,6 +6,7 @@ use Rattle.std.proofs.lemmas.Bool.Decides.{eqb_tells}
 use Rattle.std.proofs.Math.Nat.{mul-le-mul_left}
 use Rattle.std.specs.Prelude.{nat_lt}
 use Rattle.partial_words.specs.Layout.{Layout, pool_base, pool_end}
+use Rattle.partial_words.specs.Record.{pairs_word, next_word, view_size, pairs_size}
 use Rattle.partial_embedded.specs.declared.embedded.Stage.{Stage}
 use Rattle.partial_embedded.specs.declared.embedded.Stage.TheVariants.{Collect, View, Len, Index, PairValue, Value, Done}
 use Rattle.partial_embedded.specs.Embedded.{EmbeddedState, RowsState, Pair, IsFor, ArePositions, AreLoaded, IsRecord, GoTogether, IsPossible, IsPossibleAt, goes_at, left_at, left_of, count_true, changes, future, is_first, differs, was_changed, noted, borrow, go_on, after_collect, after_load, after_view, at_stage, with_value, pairs_from, advance, advance_at, most_steps, fresh}
@@ -105,7 +106,7 @@ module _ (indices : List ℕ) (p : Pair) (k x : ℕ) (w : GoTogether indices p) 
   at_here : goes_at indices p (Collect k)
   at_here = subst (goes_at indices p) stage w.stage
 
-  left_here : left_of indices p ≡ length indices - k + length indices * future (length indices) p + 2 * p.0.sizes.m + 2
+  left_here : left_of indices p ≡ length indices - k + length indices * future (length indices) p + view_size p.0.sizes.m + 1
   left_here = ap (left_at (length indices) p) stage
 
   within_last : k < length p.1.last
@@ -230,8 +231,8 @@ module _ (indices : List ℕ) (p : Pair) (x : ℕ) (w : GoTogether indices p) wh
           (elim possible [ inl zero' ↦ absurd (false≢true (sym (neither (x == 0) p.0.shares c).0 ∙ eq-eqb x 0 zero')) | inr h ↦ h ]) (omega arith)
 
   -- so many pairs left
-  pairs_kept : (s : Stage) (rows : RowsState) (at left : ℕ) → p.0.stage ≡ s → IsFor p.0.sizes rows → pool_base p.0.sizes ≤ at → left ≤ p.0.sizes.m → at + 2 * left ≤ pool_end p.0.sizes →
-      2 * left < left_at (length indices) p s → Keeps indices p (at_stage (p.0, rows) (pairs_from at left))
+  pairs_kept : (s : Stage) (rows : RowsState) (at left : ℕ) → p.0.stage ≡ s → IsFor p.0.sizes rows → pool_base p.0.sizes ≤ at → left ≤ p.0.sizes.m → at + pairs_size left ≤ pool_end p.0.sizes →
+      pairs_size left < left_at (length indices) p s → Keeps indices p (at_stage (p.0, rows) (pairs_from at left))
   pairs_kept s rows at left e for base few room fewer = either (left == 0) refl
     where
       before : left_of indices p ≡ left_at (length indices) p s
@@ -242,28 +243,28 @@ module _ (indices : List ℕ) (p : Pair) (x : ℕ) (w : GoTogether indices p) wh
       either false c = let l = before in let some = eqb-false left 0 c in record
           { together = record { positions = w.positions; rows = for; collects = w.collects; stage = (omega (arith, some), few, room, base) }; fewer = omega (arith, l, fewer) }
 
-  len_kept : (at : ℕ) → p.0.stage ≡ Len at → IsPossibleAt p.0.sizes (Len at) x → Keeps indices p (at_stage p (pairs_from (at + 1) x))
-  len_kept at e possible = let few = possible.0 in let room = possible.1 in pairs_kept (Len at) p.1 (at + 1) x e w.rows (let base = (here (Len at) e).0 in omega (arith, base)) few
+  len_kept : (at : ℕ) → p.0.stage ≡ Len at → IsPossibleAt p.0.sizes (Len at) x → Keeps indices p (at_stage p (pairs_from (pairs_word at) x))
+  len_kept at e possible = let few = possible.0 in let room = possible.1 in pairs_kept (Len at) p.1 (pairs_word at) x e w.rows (let base = (here (Len at) e).0 in omega (arith, base)) few
       (omega (arith, room)) (omega (arith, few))
 
-  index_kept : (at left : ℕ) → p.0.stage ≡ Index at left → x < p.0.sizes.m → Keeps indices p (at_stage p (PairValue (at + 1) left x))
+  index_kept : (at left : ℕ) → p.0.stage ≡ Index at left → x < p.0.sizes.m → Keeps indices p (at_stage p (PairValue (next_word at) left x))
   index_kept at left e below =
       let h = here (Index at left) e in
       let some = h.0 in
       let room = h.2 in
-      stays (Index at left) (PairValue (at + 1) left x) (record p.0 { stage = PairValue (at + 1) left x }) e refl refl refl
+      stays (Index at left) (PairValue (next_word at) left x) (record p.0 { stage = PairValue (next_word at) left x }) e refl refl refl
       (h.0, h.1, omega (arith, room), below, let base = h.3 in omega (arith, base)) (omega (arith, some))
 
   values_for : (j : ℕ) → IsFor p.0.sizes (with_value p j x).1
   values_for j = record { last = w.rows.last; changed = w.rows.changed; values = length-set p.1.values j x ∙ w.rows.values }
 
-  pair_kept : (at left index : ℕ) → p.0.stage ≡ PairValue at left index → Keeps indices p (at_stage (with_value p index x) (pairs_from (at + 1) (left - 1)))
+  pair_kept : (at left index : ℕ) → p.0.stage ≡ PairValue at left index → Keeps indices p (at_stage (with_value p index x) (pairs_from (next_word at) (left - 1)))
   pair_kept at left index e =
       let h = here (PairValue at left index) e in
       let some = h.0 in
       let few = h.1 in
       let room = h.2 in
-      pairs_kept (PairValue at left index) (with_value p index x).1 (at + 1) (left - 1) e (values_for index) (let base = h.4 in omega (arith, base)) (omega (arith, few))
+      pairs_kept (PairValue at left index) (with_value p index x).1 (next_word at) (left - 1) e (values_for index) (let base = h.4 in omega (arith, base)) (omega (arith, few))
       (omega (arith, some, room)) (omega (arith, some))
 
   value_kept : (k : ℕ) → p.0.stage ≡ Value k → Keeps indices p (at_stage (with_value p (get_or indices k 0) x) (cond (nat_lt (k + 1) (length indices)) (Value (k + 1)) Done))

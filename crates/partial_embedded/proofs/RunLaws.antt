@@ -3,6 +3,7 @@ use Rattle.std.proofs.Common.{ℕ, ◌≡◌, ◌+◌, ◌<◌, ◌≤◌, Bool,
 use Rattle.partial_words.specs.declared.step.Step.{Step}
 use Rattle.partial_words.specs.declared.step.Step.TheVariants.{Load}
 use Rattle.partial_words.specs.Layout.{Layout}
+use Rattle.partial_words.specs.Record.{view_word}
 use Rattle.partial_embedded.specs.declared.embedded.Stage.{Stage}
 use Rattle.partial_embedded.specs.declared.embedded.Stage.TheVariants.{Collect, View, Len, Index, PairValue, Value, Done}
 use Rattle.partial_embedded.specs.Embedded.{Pair, RowsState, GoTogether, goes_at, fresh, advance, step_at, left_of}
@@ -43,7 +44,7 @@ makes_few_collects s shares indices rows xs q w =
 loads_at : (s : Layout) (indices : List ℕ) (q : Pair) (stage : Stage) (step : Step) → q.0.sizes ≡ s → goes_at indices q stage → step_at q.0.sizes indices q.1.last stage ≡ Some step → (w : ℕ) ×
     (step ≡ Load w) × (w < s.m → IsOfPosition indices w)
 loads_at s indices q (Collect k) step is goes due = (get_or indices k 0, cc, λ below. (k, goes.0, refl))
-loads_at s indices q (View stamp) step is goes due = let base = goes.0 in let same = ap (λ (l : Layout). l.m) is in (stamp + 2, cc, λ below. absurd (omega (arith, base, below, same)))
+loads_at s indices q (View stamp) step is goes due = let base = goes.0 in let same = ap (λ (l : Layout). l.m) is in (view_word stamp, cc, λ below. absurd (omega (arith, base, below, same)))
 loads_at s indices q (Len at) step is goes due = let base = goes.0 in let same = ap (λ (l : Layout). l.m) is in (at, cc, λ below. absurd (omega (arith, base, below, same)))
 loads_at s indices q (Index at left) step is goes due = let base = goes.3 in let same = ap (λ (l : Layout). l.m) is in (at, cc, λ below. absurd (omega (arith, base, below, same)))
 loads_at s indices q (PairValue at left index) step is goes due = let base = goes.4 in let same = ap (λ (l : Layout). l.m) is in (at, cc, λ below. absurd (omega (arith, base, below, same)))

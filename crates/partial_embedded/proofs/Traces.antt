@@ -7,6 +7,7 @@ use Rattle.std.proofs.lemmas.List.{get_or_append_left}
 use Rattle.std.proofs.Math.Nat.{mul-le-mul_left}
 use Rattle.std.proofs.Math.Seq.{get_or-append_seam}
 use Rattle.partial_words.specs.Layout.{Layout}
+use Rattle.partial_words.specs.Record.{pairs_word, next_word}
 use Rattle.partial_embedded.specs.declared.embedded.Stage.{Stage}
 use Rattle.partial_embedded.specs.declared.embedded.Stage.TheVariants.{Collect, View, Len, Index, PairValue, Value, Done}
 use Rattle.partial_embedded.specs.Embedded.{Pair, RowsState, GoTogether, goes_at, fresh, advance, advance_at, is_first, differs, was_changed, noted, borrow, go_on, after_collect, after_load, after_view, at_stage, with_value, pairs_from, IsPossibleAt}
@@ -297,9 +298,10 @@ module _ (indices : List ℕ) (p : Pair) (x : ℕ) (xs : List ℕ) (w : GoTogeth
       (advance_at indices p s x).0.stage
   step_traced (Collect k) goes possible t = collect_traced k goes.0 t
   step_traced (View stamp) goes possible t = done_or (after_view p.0 x, p.1) (xs ++ x ∷ []) ((x == 0) || p.0.shares) (Len x) tt
-  step_traced (Len at) goes possible t = done_or (at_stage p (pairs_from (at + 1) x)) (xs ++ x ∷ []) (x == 0) (Index (at + 1) x) tt
+  step_traced (Len at) goes possible t = done_or (at_stage p (pairs_from (pairs_word at) x)) (xs ++ x ∷ []) (x == 0) (Index (pairs_word at) x) tt
   step_traced (Index at left) goes possible t = tt
-  step_traced (PairValue at left index) goes possible t = done_or (at_stage (with_value p index x) (pairs_from (at + 1) (left - 1))) (xs ++ x ∷ []) (left - 1 == 0) (Index (at + 1) (left - 1)) tt
+  step_traced (PairValue at left index) goes possible t = done_or (at_stage (with_value p index x) (pairs_from (next_word at) (left - 1))) (xs ++ x ∷ []) (left - 1 == 0)
+      (Index (next_word at) (left - 1)) tt
   step_traced (Value k) goes possible t = value_traced (at_stage (with_value p (get_or indices k 0) x) (cond (nat_lt (k + 1) (length indices)) (Value (k + 1)) Done)) (xs ++ x ∷ []) k
       (nat_lt (k + 1) (length indices))
   step_traced Done goes possible t = absurd possible

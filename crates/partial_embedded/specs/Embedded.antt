@@ -4,7 +4,7 @@ use Rattle.std.specs.Prelude.{ℕ, ◌≡◌, ◌+◌, ◌-◌, ◌*◌, ◌<◌
 use Rattle.partial_words.specs.declared.step.Step.{Step}
 use Rattle.partial_words.specs.declared.step.Step.TheVariants.{Load}
 use Rattle.partial_words.specs.Layout.{Layout, component_word, pool_base, pool_end}
-use Rattle.partial_words.specs.Record.{plain_record_size, view_size, value_word, view_word}
+use Rattle.partial_words.specs.Record.{plain_record_size, view_size, value_word, view_word, pairs_size, pairs_word, next_word}
 use Rattle.partial_embedded.specs.declared.embedded.Stage.{Stage}
 use Rattle.partial_embedded.specs.declared.embedded.Stage.TheVariants.{Collect, View, Len, Index, PairValue, Value, Done}
 
@@ -113,9 +113,9 @@ with_value p j x = (p.0, record p.1 { values = slice_set p.1.values j x })
 abbrev pub advance_at : List ℕ → Pair → Stage → ℕ → Pair
 advance_at indices p (Collect k) x = after_load (length indices) p k x
 advance_at indices p (View stamp) x = (after_view p.0 x, p.1)
-advance_at indices p (Len at) x = at_stage p (pairs_from (at + 1) x)
-advance_at indices p (Index at left) x = at_stage p (PairValue (at + 1) left x)
-advance_at indices p (PairValue at left index) x = at_stage (with_value p index x) (pairs_from (at + 1) (left - 1))
+advance_at indices p (Len at) x = at_stage p (pairs_from (pairs_word at) x)
+advance_at indices p (Index at left) x = at_stage p (PairValue (next_word at) left x)
+advance_at indices p (PairValue at left index) x = at_stage (with_value p index x) (pairs_from (next_word at) (left - 1))
 advance_at indices p (Value k) x =
     at_stage (with_value p (slice_index indices k) x) (if nat_lt (k + 1) (length indices) then Value (k + 1) else Done)
 advance_at indices p Done x = p
@@ -142,17 +142,17 @@ changes r rows = count_true r rows.changed
 abbrev pub future : ℕ → Pair → ℕ
 future r p = if is_first p then r + 1 else if p.0.moved then r - changes r p.1 + 1 else r - changes r p.1
 
--- the greatest number of steps of an embedded scan of r positions
+-- the greatest number of steps of an embedded scan of r positions: its collects, and the loads of a view and of what refers to it
 abbrev pub most_steps : Layout → ℕ → ℕ
-most_steps s r = r * (r + 2) + 2 * s.m + 2
+most_steps s r = r * (r + 2) + view_size s.m + 1
 
 -- how many steps are left at most at a stage
 abbrev pub left_at : ℕ → Pair → Stage → ℕ
-left_at r p (Collect k) = r - k + r * future r p + 2 * p.0.sizes.m + 2
-left_at r p (View stamp) = 2 * p.0.sizes.m + 2
-left_at r p (Len at) = 2 * p.0.sizes.m + 1
-left_at r p (Index at left) = 2 * left
-left_at r p (PairValue at left index) = 2 * left - 1
+left_at r p (Collect k) = r - k + r * future r p + view_size p.0.sizes.m + 1
+left_at r p (View stamp) = view_size p.0.sizes.m + 1
+left_at r p (Len at) = view_size p.0.sizes.m
+left_at r p (Index at left) = pairs_size left
+left_at r p (PairValue at left index) = pairs_size left - 1
 left_at r p (Value k) = r - k
 left_at r p Done = 0
 
@@ -177,9 +177,10 @@ goes_at indices p (Collect k) =
     × AreLoaded p.0.sizes p.1 (if is_first p then k else length indices)
 goes_at indices p (View stamp) = IsRecord p.0.sizes stamp
 goes_at indices p (Len at) = (pool_base p.0.sizes ≤ at) × (at < pool_end p.0.sizes)
-goes_at indices p (Index at left) = (0 < left) × (left ≤ p.0.sizes.m) × (at + 2 * left ≤ pool_end p.0.sizes) × (pool_base p.0.sizes ≤ at)
+goes_at indices p (Index at left) = (0 < left) × (left ≤ p.0.sizes.m) × (at + pairs_size left ≤ pool_end p.0.sizes)
+    × (pool_base p.0.sizes ≤ at)
 goes_at indices p (PairValue at left index) =
-    (0 < left) × (left ≤ p.0.sizes.m) × (at + 2 * left ≤ pool_end p.0.sizes + 1) × (index < p.0.sizes.m) × (pool_base p.0.sizes ≤ at)
+    (0 < left) × (left ≤ p.0.sizes.m) × (at + pairs_size left ≤ pool_end p.0.sizes + 1) × (index < p.0.sizes.m) × (pool_base p.0.sizes ≤ at)
 goes_at indices p (Value k) = (k < length indices) × AreLoaded p.0.sizes p.1 (length indices)
 goes_at indices p Done = ⊤
 

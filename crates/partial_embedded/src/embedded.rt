@@ -8,7 +8,7 @@ mod collects;
 mod loops;
 
 use crate::rows::Rows;
-use partial_words::{Sizes, Step, value_word, view_word};
+use partial_words::{Sizes, Step, next_word, pairs_word, value_word, view_word};
 use std::marker::Model;
 
 /// The stage of an embedded scan: the load that is due, and what it needs. `at` is the number of the word.
@@ -208,17 +208,17 @@ impl Embedded {
                 x,
             ),
             Stage::View { .. } => self.after_view(x),
-            Stage::Len { at } => self.stage = pairs_from(at + 1, x),
+            Stage::Len { at } => self.stage = pairs_from(pairs_word(at), x),
             Stage::Index { at, left } => {
                 self.stage = Stage::PairValue {
-                    at: at + 1,
+                    at: next_word(at),
                     left,
                     index: x as u32,
                 };
             }
             Stage::PairValue { at, left, index } => {
                 values[index as usize] = x;
-                self.stage = pairs_from(at + 1, left - 1);
+                self.stage = pairs_from(next_word(at), left - 1);
             }
             Stage::Value { position } => self.after_value(values, indices, position, x),
             Stage::Done => {}

@@ -19,7 +19,7 @@ use Rattle.partial_core.proofs.Steps.{holding_in, memory_at, sizes_here, sound_a
 
 abbrev pub IsApart : Layout → Step → Type 0
 IsApart z (Load w) = ⊤
-IsApart z (Store w v) = z.m + 4 ≤ w
+IsApart z (Store w v) = slot_word z 0 ≤ w
 IsApart z (Exchange w old new) = ((w < z.m) × (old < seal) × (new < seal)) ⊎ (w ≡ list_head z)
 IsApart z (Add w n) = (w ≡ slot_counter z) ⊎ (w ≡ list_counter z) ⊎ ((w ≡ pool_counter z) × (n ≤ greatest_record z))
 

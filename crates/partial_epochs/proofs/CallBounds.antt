@@ -1,5 +1,5 @@
 -- Each step of a call leaves fewer steps, so a call makes few.
-use Rattle.partial_epochs.proofs.Common.{ℕ, zero, suc, ◌≡◌, ◌+◌, ◌*◌, ◌-◌, ◌<◌, ◌≤◌, ◌==◌, Bool, true, false, cond, Option, Some, None, List, [], ◌∷◌, length, refl, sym, ap, subst, arith, inl, inr, ◌∙◌, nat_lt, list_all, Call, Noted, indices_of, IsLayout, Layout, first_free, Step, most_steps, steps_left, CoreState, reply_of, call_of, IsSound, Reply, Plan, Port, Beside, MayMove, Makes, LawfulMemory, Act, ChangeLeads, Changing, next_arena, next_component, next_load, next_pass, next_port, next_set, passes, CallStep, Doing, IsCallOf, IsUpdate, Leads, MayAct, Run, after_step, answered, begun, changed, ran, round, started}
+use Rattle.partial_epochs.proofs.Common.{ℕ, zero, suc, ◌≡◌, ◌+◌, ◌*◌, ◌-◌, ◌<◌, ◌≤◌, ◌==◌, Bool, true, false, cond, Option, Some, None, List, [], ◌∷◌, length, refl, sym, ap, subst, arith, inl, inr, ◌∙◌, nat_lt, list_all, Call, Noted, indices_of, IsLayout, Layout, first_free, Step, most_steps, steps_left, CoreState, reply_of, call_of, IsSound, Reply, Plan, Port, Beside, MayMove, Makes, LawfulMemory, Act, ChangeLeads, Changing, next_arena, next_component, next_load, next_pass, next_port, next_set, passes, CallStep, Doing, IsCallOf, IsUpdate, Leads, MayAct, Run, after_step, answered, begun, changed, ran, round, started, last_loads}
 use Rattle.partial_model.specs.declared.call.Call.TheVariants as call
 use Rattle.partial_machine.proofs.Laws.{makes_few_steps}
 use Rattle.partial_machine.specs.declared.stage.Reply.TheVariants as reply
@@ -50,9 +50,9 @@ module _ (e : Plan) where
   port_next : (n x q : ℕ) → change_left e (next_port e n x q) ≤ 3 * (e.ports - q) + 1 + arenas_left e n x
   port_next n x q = by (nat_lt q e.ports)
     where
-      by : (b : Bool) → change_left e (cond b (changing.Changing.LoadsPort n x q) (next_load (3 * e.sizes.m))) ≤ 3 * (e.ports - q) + 1 + arenas_left e n x
+      by : (b : Bool) → change_left e (cond b (changing.Changing.LoadsPort n x q) (next_load (last_loads e))) ≤ 3 * (e.ports - q) + 1 + arenas_left e n x
       by true = omega arith
-      by false = let rest = load_next (3 * e.sizes.m) in omega (arith, rest)
+      by false = let rest = load_next (last_loads e) in omega (arith, rest)
 
   set_next : (i : ℕ) → change_left e (next_set e i) ≤ first_free e.sizes + e.sizes.m - i + 5
   set_next i = by (nat_lt i (first_free e.sizes + e.sizes.m))

@@ -1,5 +1,5 @@
 -- How a step of a call ends a change of epoch, and what it adds and where its port is then.
-use Rattle.partial_epochs.proofs.Common.{ℕ, zero, suc, ◌≡◌, ◌≢◌, ◌+◌, ◌*◌, ◌<◌, ◌≤◌, ◌==◌, ◌⊎◌, Bool, true, false, cond, Option, Some, None, List, [], refl, sym, ap, subst, ◌∙◌, inl, inr, arith, ⊤, nat_lt, Applied, Call, Noted, CoreState, reply_of, Reply, first_free, Place, Plan, epoch_limit, Port, Beside, MayAdd, Move, is_applied, Act, ChangeLeads, Changing, IsHere, Refusal, next_arena, next_component, next_load, next_pass, next_port, next_set, passes, CallsStayLawful, ActLeads, CallStep, Doing, IsUpdate, Leads, Run, after_step, answered, begun, changed, ran, round, started, Moves, Sees, Answered, Changes, Judges, LoadsWord, Looks, Refused, Runs, Starts, Tells, Arrived, EndsPass, LoadsComponent, LoadsLast, LoadsPort, LooksFirst, Publishes, Refuses, SetsWord, TakesArena}
+use Rattle.partial_epochs.proofs.Common.{ℕ, zero, suc, ◌≡◌, ◌≢◌, ◌+◌, ◌*◌, ◌<◌, ◌≤◌, ◌==◌, ◌⊎◌, Bool, true, false, cond, Option, Some, None, List, [], refl, sym, ap, subst, ◌∙◌, inl, inr, arith, ⊤, nat_lt, Applied, Call, Noted, CoreState, reply_of, Reply, first_free, Place, Plan, epoch_limit, Port, Beside, MayAdd, Move, is_applied, Act, ChangeLeads, Changing, IsHere, Refusal, next_arena, next_component, next_load, next_pass, next_port, next_set, passes, CallsStayLawful, ActLeads, CallStep, Doing, IsUpdate, Leads, Run, after_step, answered, begun, changed, ran, round, started, Moves, Sees, Answered, Changes, Judges, LoadsWord, Looks, Refused, Runs, Starts, Tells, Arrived, EndsPass, LoadsComponent, LoadsLast, LoadsPort, LooksFirst, Publishes, Refuses, SetsWord, TakesArena, last_loads}
 use Rattle.partial_machine.specs.declared.stage.Reply.TheVariants as reply
 use Rattle.partial_epochs.specs.EveryStep as every
 use Rattle.partial_epochs.specs.Changing as changing
@@ -53,9 +53,9 @@ module _ (e : Plan) where
   port_going : (n x q : ℕ) → IsGoing (next_port e n x q)
   port_going n x q = by (nat_lt q e.ports)
     where
-      by : (b : Bool) → IsGoing (cond b (LoadsPort n x q) (next_load (3 * e.sizes.m)))
+      by : (b : Bool) → IsGoing (cond b (LoadsPort n x q) (next_load (last_loads e)))
       by true = tt
-      by false = load_going (3 * e.sizes.m)
+      by false = load_going (last_loads e)
 
   set_going : (i : ℕ) → IsGoing (next_set e i)
   set_going i = by (nat_lt i (first_free e.sizes + e.sizes.m))

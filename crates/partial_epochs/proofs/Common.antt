@@ -13,7 +13,7 @@ pub use Rattle.partial_model.proofs.AllLemmas.{all_at, all_weaker, all_take, all
 pub use Rattle.partial_model.proofs.ListLemmas.{some_same}
 pub use Rattle.partial_words.specs.declared.step.Step.{Step}
 pub use Rattle.partial_words.specs.declared.step.Step.TheVariants.{Load, Store, Exchange, Add}
-pub use Rattle.partial_words.specs.Layout.{Layout, IsLayout, slot_counter, slot_word, list_base, list_head, list_counter, pool_counter, greatest_record, first_free, total, pool_base, initial_record, pool_end}
+pub use Rattle.partial_words.specs.Layout.{Layout, IsLayout, slot_counter, slot_word, list_base, list_head, list_counter, pool_counter, greatest_record, first_free, total, pool_base, initial_record, pool_end, initial_words}
 pub use Rattle.partial_machine.specs.Machine.{CoreState, record_size, step_at, step_of, reply_of, advance, advance_at, after_joining, at_stage, begin_getting, expects, fits_pool, getting, pool_refused, scanning, with_getting, with_scanning}
 pub use Rattle.partial_machine.specs.Calls.{is_begun, call_of, answer_for, is_at_rest}
 pub use Rattle.partial_machine.specs.Sound.{IsSound, is_sound_at}
@@ -42,7 +42,7 @@ pub use Rattle.partial_epochs.specs.Epochs.{Beside, IsArena, IsFinished, IsNew, 
 pub use Rattle.partial_epochs.specs.EveryStep.{MayMove, MayAdd, Move, is_applied, EveryStepStaysLawful, IsPlacedBy, MemoriesOpenLawful, MoveLeads, moved_words, since_behind}
 pub use Rattle.partial_epochs.specs.EveryStep.Move.{Makes, Seals, PassesSealed, LooksAsOwner, StoresMark, LoadsCurrent, ExchangesMark, Takes, Gives, FindsElsewhere, LoadsMark, Puts, Sets, Notes}
 pub use Rattle.partial_epochs.specs.Notes.{LawfulMemory, IsAside, having_seen, noting, one_history, ExpectedOne, IsEpochHistory, LawfulNotes, MayNote, NotesStayLawful, Reached, public_answer, public_call, public_note, public_noted, seen_of, EpochsFitOneHistory, PublicStampsAreUnique, public_of, ArrivalsKeepNotes, AsidesStayLawful, GlanceLeads, GlancesStayLawful, IsSight, PublishesKeepNotes, SightLeads, SightsStayLawful}
-pub use Rattle.partial_epochs.specs.Changing.{Act, ChangeLeads, Changing, next_arena, next_component, next_load, next_pass, next_port, next_set, passes, IsHere, Refusal}
+pub use Rattle.partial_epochs.specs.Changing.{Act, ChangeLeads, Changing, next_arena, next_component, next_load, next_pass, next_port, next_set, passes, IsHere, Refusal, last_loads}
 pub use Rattle.partial_epochs.specs.Calls.{CallStep, Doing, IsCallOf, IsUpdate, Leads, MayAct, Run, after_step, answered, begun, changed, ran, round, started, CallsStayLawful, ActLeads}
 pub use Rattle.partial_epochs.specs.Changing.Act.{Moves, Sees}
 pub use Rattle.partial_epochs.specs.Calls.Doing.{Answered, Changes, Judges, LoadsWord, Looks, Refused, Runs, Starts, Tells}

@@ -1,7 +1,7 @@
 -- What the words of an epoch tell last, and that it stays.
 use Rattle.partial_epochs.proofs.Common.{ℕ, ◌≡◌, ◌≢◌, ◌+◌, ◌<◌, ◌≤◌, ◌==◌, ◌⊎◌, ◌++◌, Bool, true, false, cond, Option, Some, None, List, [], ◌∷◌, length, take, get_or, refl, sym, ap, subst, ◌∙◌, inl, inr, arith, AllByRecursion, option_map_or, eqb_tells, take_all, Applied, Opening, initial_stamp, stamp_of, value_of, stamp_all, total, lawful_records_are_within, list_of, Plan, IsSealed, arena_words, base, component_words, plain, unsealed, history_of, opening_behind, Port, Stands, Beside, IsStanding, LawfulEpochs, ComponentsNameRecords, LastWordsAreFinal, TellTheLast, read_stamp, behind_both}
 use Rattle.partial_model.specs.History.{last_from}
-use Rattle.partial_words.specs.Record.{value_word}
+use Rattle.partial_words.specs.Record.{value_word, view_word}
 use Rattle.partial_words.proofs.ChainLemmas.{records_within, value_behind_stamp}
 use Rattle.partial_core.specs.Lawful as one
 use Rattle.partial_epochs.proofs.Continue.{epochs_continue, history_took, reads_tell_all_epochs}
@@ -73,11 +73,11 @@ module _ (e : Plan) (words : List ℕ) (ports : ℕ → Port) (b : Beside) (k j 
       stamp_all (λ n. e.sizes.m ≤ n) (opening_behind e.opening (ports k).before) j s.epoch.log
       (weaker s.epoch.log r.entries) (r.initial j inside).0
     where
-      weaker : (h : List Applied) → AllByRecursion (λ (a : Applied). (e.sizes.m ≤ a.stamp) × (a.stamp + 2 < length bw)) h → AllByRecursion (λ (a : Applied). e.sizes.m ≤ a.stamp) h
+      weaker : (h : List Applied) → AllByRecursion (λ (a : Applied). (e.sizes.m ≤ a.stamp) × (view_word a.stamp < length bw)) h → AllByRecursion (λ (a : Applied). e.sizes.m ≤ a.stamp) h
       weaker [] all = tt
       weaker (a ∷ h) all = (all.0.0, weaker h all.1)
 
-  pub within : get_or bw j 0 + 2 < total e.sizes
+  pub within : view_word (get_or bw j 0) < total e.sizes
   within =
       let l = long in
       let c = lawful.memory.count in
@@ -91,12 +91,13 @@ module _ (e : Plan) (words : List ℕ) (ports : ℕ → Port) (b : Beside) (k j 
       let from = above in
       let up = within in
       let is = is_raw in
-      let v : ℕ = unsealed raw + 1 in
-      let there : get_or bw (unsealed raw + 1) 0 ≡ plain e (unsealed raw + 1) (get_or words (base e x + (unsealed raw + 1)) 0) = plain_at e words x (unsealed raw + 1) (omega (arith, up, is)) in
+      let v : ℕ = value_word (unsealed raw) in
+      let there : get_or bw (value_word (unsealed raw)) 0 ≡ plain e (value_word (unsealed raw)) (get_or words (base e x + value_word (unsealed raw)) 0) =
+      plain_at e words x (value_word (unsealed raw)) (omega (arith, up, is)) in
       let values = w.plan.values in
-      sym (there ∙ plain_other e words x (unsealed raw + 1) (get_or words (base e x + (unsealed raw + 1)) 0) (omega (arith, at, from)))
+      sym (there ∙ plain_other e words x (value_word (unsealed raw)) (get_or words (base e x + value_word (unsealed raw)) 0) (omega (arith, at, from)))
       ∙ ap (λ n. get_or bw (n + 1) 0) named
-      ∙ ap (λ (h : List Applied). get_or bw (stamp_of (opening_behind e.opening (ports k).before) h j + 1) 0) (sym (take_all (length s.epoch.log) s.epoch.log (omega arith)))
+      ∙ ap (λ (h : List Applied). get_or bw (value_word (stamp_of (opening_behind e.opening (ports k).before) h j)) 0) (sym (take_all (length s.epoch.log) s.epoch.log (omega arith)))
       ∙ value_behind_stamp (opening_behind e.opening (ports k).before) bw s.epoch.log j (length s.epoch.log) lawful.memory.agrees (omega (arith, l, inside))
       ∙ ap (λ (h : List Applied). value_of (opening_behind e.opening (ports k).before) h j) (take_all (length s.epoch.log) s.epoch.log (omega arith))
       ∙ sym (epochs_continue e.opening s.epoch.log (ports k).before j (omega (arith, values, inside))).value

@@ -9,6 +9,7 @@ use Rattle.partial_epochs.proofs.Places.{below_whole}
 use Rattle.partial_epochs.proofs.Present.{by_seal, standing}
 use Rattle.partial_epochs.proofs.Slots.{awaits, awaits_same, counted, one, pool_small}
 use Rattle.partial_epochs.proofs.Worded.{Words, worded}
+use Rattle.partial_words.specs.Announcement.{least_announcement}
 
 or_none : (b c : Bool) → c ≡ false → (b || c) ≡ b
 or_none true c e = refl
@@ -122,8 +123,8 @@ module _ (e : Plan) (words : List ℕ) (ports : ℕ → Port) (b : Beside) (k : 
   -- what the step leaves of the counters of slots and of pool words, in a memory of these sizes
   abbrev Counts : Layout → Bool → Bool → Type 0
   Counts z before behind =
-      2 * (get_or (words_after bw step) (slot_counter z) 0 + one behind) + get_or bw (pool_counter z) 0
-      ≤ 2 * (get_or bw (slot_counter z) 0 + one before) + get_or (words_after bw step) (pool_counter z) 0
+      least_announcement * (get_or (words_after bw step) (slot_counter z) 0 + one behind) + get_or bw (pool_counter z) 0
+      ≤ least_announcement * (get_or bw (slot_counter z) 0 + one before) + get_or (words_after bw step) (pool_counter z) 0
 
   counts : Counts e.sizes (awaits_slot (r.part k)) (awaits_slot leads.y)
   counts =
@@ -146,7 +147,7 @@ module _ (e : Plan) (words : List ℕ) (ports : ℕ → Port) (b : Beside) (k : 
       (subst (λ (l : Layout). pool_counter l < length bw) (sym back) pool_there) (subst (λ (l : Layout). get_or bw (slot_counter l) 0 < 2 ^ 32) (sym back) slots_small)
       (subst (λ (l : Layout). get_or bw (pool_counter l) 0 < 2 ^ 32) (sym back) small) (answer_of bw step) step due (subst (λ (l : Layout). IsApart l step) (sym back) apart))))
 
-  slots_then : first_free e.sizes + 2 * (get_or (words_after bw step) (slot_counter e.sizes) 0 + count (λ q. awaits_slot (put k leads.y r.part q)) 0 e.ports)
+  slots_then : first_free e.sizes + least_announcement * (get_or (words_after bw step) (slot_counter e.sizes) 0 + count (λ q. awaits_slot (put k leads.y r.part q)) 0 e.ports)
       ≤ get_or (words_after bw step) (pool_counter e.sizes) 0
   slots_then =
       let was = arena.slots in
@@ -190,7 +191,8 @@ module _ (e : Plan) (words : List ℕ) (ports : ℕ → Port) (b : Beside) (k : 
           reserve = subst (λ (l : List ℕ). get_or l (pool_counter e.sizes) 0 ≤ e.limit + greatest_record e.sizes * count (put k over' r.over) 0 e.ports) (sym h.arena)
               (subst (λ (v : Bool). get_or (words_after bw step) (pool_counter e.sizes) 0 ≤ e.limit + greatest_record e.sizes * count (put k v r.over) 0 e.ports) (sym same_over)
               (reserved_by e bw r.over k below there arena.reserve step apart claim));
-          slots = subst (λ (l : List ℕ). first_free e.sizes + 2 * (get_or l (slot_counter e.sizes) 0 + count (λ q. awaits_slot (put k leads.y r.part q)) 0 e.ports) ≤ get_or l (pool_counter e.sizes) 0)
+          slots = subst (λ (l : List ℕ). first_free e.sizes + least_announcement * (get_or l (slot_counter e.sizes) 0 + count (λ q. awaits_slot (put k leads.y r.part q)) 0 e.ports)
+              ≤ get_or l (pool_counter e.sizes) 0)
               (sym h.arena) slots_then;
         }
 

@@ -1,5 +1,5 @@
 -- A change of epoch that finds no arena has found each one taken in each of its passes.
-use Rattle.partial_epochs.proofs.Common.{ℕ, zero, suc, ◌≡◌, ◌≢◌, ◌+◌, ◌*◌, ◌<◌, ◌≤◌, ◌==◌, ◌⊎◌, Bool, true, false, cond, Option, Some, None, List, refl, sym, ap, subst, ◌∙◌, inl, inr, arith, ⊤, nat_lt, cases_lt, eqb_tells, Call, CoreState, reply_of, Reply, first_free, Place, Plan, Port, Act, ChangeLeads, Changing, next_arena, next_component, next_load, next_pass, next_port, next_set, passes, Sees, Arrived, EndsPass, GivesBack, GivesUp, LoadsComponent, LoadsLast, LoadsPort, LooksAgain, LooksFirst, Publishes, PutsPort, Refuses, SealsComponent, SetsWord, TakesArena, CallStep, Doing, Leads, Run, after_step, answered, changed, ran, round, Answered, Changes, Judges, LoadsWord, Looks, Refused, Runs, Starts, Tells}
+use Rattle.partial_epochs.proofs.Common.{ℕ, zero, suc, ◌≡◌, ◌≢◌, ◌+◌, ◌*◌, ◌<◌, ◌≤◌, ◌==◌, ◌⊎◌, Bool, true, false, cond, Option, Some, None, List, refl, sym, ap, subst, ◌∙◌, inl, inr, arith, ⊤, nat_lt, cases_lt, eqb_tells, Call, CoreState, reply_of, Reply, first_free, Place, Plan, Port, Act, ChangeLeads, Changing, next_arena, next_component, next_load, next_pass, next_port, next_set, passes, Sees, Arrived, EndsPass, GivesBack, GivesUp, LoadsComponent, LoadsLast, LoadsPort, LooksAgain, LooksFirst, Publishes, PutsPort, Refuses, SealsComponent, SetsWord, TakesArena, CallStep, Doing, Leads, Run, after_step, answered, changed, ran, round, Answered, Changes, Judges, LoadsWord, Looks, Refused, Runs, Starts, Tells, last_loads}
 use Rattle.partial_model.specs.declared.call.Call.TheVariants as call
 use Rattle.partial_machine.specs.declared.stage.Reply.TheVariants as reply
 use Rattle.partial_epochs.specs.Changing.Changing.{ExchangesMark, LoadsCurrent, LooksAsOwner, StoresMark}
@@ -219,9 +219,9 @@ module _ (e : Plan) where
     port_ahead : (n0 x0 q : ℕ) → IsAhead n0 x0 → Ahead (next_port e n0 x0 q) ⊎ Late (next_port e n0 x0 q)
     port_ahead n0 x0 q ahead = by (nat_lt q e.ports)
       where
-        by : (b : Bool) → Ahead (cond b (LoadsPort n0 x0 q) (next_load (3 * e.sizes.m))) ⊎ Late (cond b (LoadsPort n0 x0 q) (next_load (3 * e.sizes.m)))
+        by : (b : Bool) → Ahead (cond b (LoadsPort n0 x0 q) (next_load (last_loads e))) ⊎ Late (cond b (LoadsPort n0 x0 q) (next_load (last_loads e)))
         by true = inl ahead
-        by false = inr (load_late (3 * e.sizes.m))
+        by false = inr (load_late (last_loads e))
 
     -- a step goes on with the arena ahead, or finds it taken, or leaves the passes
     abbrev Next : Changing → Act → Changing → Type 0

@@ -1,8 +1,8 @@
 -- An arena that was used before opens lawful again once the words below the first free one are set: what stands behind them doesn't matter.
-use Rattle.partial_epochs.proofs.Common.{ℕ, zero, suc, ◌≡◌, ◌+◌, ◌-◌, ◌*◌, ◌/◌, ◌%◌, ◌<◌, ◌≤◌, ◌==◌, ◌++◌, Bool, true, false, cond, List, [], ◌∷◌, length, get_or, Some, None, IfSome, refl, sym, ap, subst, inl, inr, arith, ◌∙◌, AllByRecursion, nat_tests, Opening, Noted, places_written, Layout, slot_counter, list_head, pool_counter, list_counter, slot_word, list_base, pool_base, total, initial_record, Holding, EachTwo, HaveOtherPorts, HaveOtherSlots, announcements, unpublished, IsTied, LawfulWords, IsKnown, notes_by, holdings, fresh_parts, OpensOver, OpensOverLawful}
+use Rattle.partial_epochs.proofs.Common.{ℕ, zero, suc, ◌≡◌, ◌+◌, ◌-◌, ◌*◌, ◌/◌, ◌%◌, ◌<◌, ◌≤◌, ◌==◌, ◌++◌, Bool, true, false, cond, List, [], ◌∷◌, length, get_or, Some, None, IfSome, refl, sym, ap, subst, inl, inr, arith, ◌∙◌, AllByRecursion, nat_tests, Opening, Noted, places_written, Layout, slot_counter, list_head, pool_counter, list_counter, slot_word, list_base, pool_base, total, initial_record, Holding, EachTwo, HaveOtherPorts, HaveOtherSlots, announcements, unpublished, IsTied, LawfulWords, IsKnown, notes_by, holdings, fresh_parts, OpensOver, OpensOverLawful, initial_words, first_free, initial_stamp}
 use Rattle.std.proofs.Common.{slice_index}
 use Rattle.partial_model.specs.History.{last_from}
-use Rattle.partial_words.specs.Record.{view_word, view_of}
+use Rattle.partial_words.specs.Record.{view_word, view_of, prev_of, value_word, plain_record_size}
 use Rattle.partial_words.specs.Chain.{Agrees, opening_word, initial_record_word, links_from}
 use Rattle.partial_machine.proofs.Laws.{rests_are_sound}
 use Rattle.partial_state.specs.Views.{Block, AreApart}
@@ -14,9 +14,10 @@ use Rattle.partial_core.proofs.Opened.{hold_nothing, fresh_known, fresh_notes}
 -- the view of the initial record of component j is the empty one
 view_opens : (s : Layout) (o : Opening) (words : List ℕ) (j : ℕ) → OpensOver s o words → j < s.m → view_of words (initial_record s j) ≡ 0
 view_opens s o words j opens below =
-    let pool : 3 * s.m ≤ s.pool = opens.sizes.pool.0 in
-    let at : view_word (initial_record s j) ≡ pool_base s + (3 * j + 2) = omega arith in
-    ap (slice_index words) at ∙ opens.each (pool_base s + (3 * j + 2)) (omega (arith, pool, below)) (inr (omega arith)) ∙ opening_record s o.values (3 * j + 2) (omega (arith, below))
+    let pool : initial_words s ≤ s.pool = opens.sizes.pool.0 in
+    let at : view_word (initial_record s j) ≡ pool_base s + view_word (plain_record_size * j) = omega arith in
+    ap (slice_index words) at ∙ opens.each (pool_base s + view_word (plain_record_size * j)) (omega (arith, pool, below)) (inr (omega arith))
+    ∙ opening_record s o.values (view_word (plain_record_size * j)) (omega (arith, below))
     ∙ initial_view o.values j
 
 -- component j of an opening names its initial record, which holds its value and has none before it
@@ -24,22 +25,23 @@ opening_agrees : (s : Layout) (o : Opening) (words : List ℕ) → OpensOver s o
 unfolding last_from links_from
 opening_agrees s o words opens j below =
     let in' : j < s.m = omega (arith, opens.values, below) in
-    let pool : 3 * s.m ≤ s.pool = opens.sizes.pool.0 in
-    let named : slice_index words j ≡ pool_base s + 3 * j = opens.each j (omega arith) (inl (omega (arith, in'))) ∙ opening_component s o.values j in' in
-    let prev : slice_index words (pool_base s + 3 * j) ≡ 0 = opens.each (pool_base s + 3 * j) (omega arith) (inr (omega arith)) ∙ opening_record s o.values (3 * j) (omega arith)
+    let pool : initial_words s ≤ s.pool = opens.sizes.pool.0 in
+    let named : slice_index words j ≡ initial_record s j = opens.each j (omega arith) (inl (omega (arith, in'))) ∙ opening_component s o.values j in' in
+    let prev : prev_of words (initial_record s j) ≡ 0 = opens.each (initial_record s j) (omega arith) (inr (omega arith)) ∙ opening_record s o.values (plain_record_size * j) (omega arith)
     ∙ initial_prev o.values j in
-    let value : slice_index words (pool_base s + (3 * j + 1)) ≡ slice_index o.values j = opens.each (pool_base s + (3 * j + 1)) (omega arith) (inr (omega arith))
-    ∙ opening_record s o.values (3 * j + 1)
+    let value : slice_index words (pool_base s + value_word (plain_record_size * j)) ≡ slice_index o.values j =
+    opens.each (pool_base s + value_word (plain_record_size * j)) (omega arith) (inr (omega arith))
+    ∙ opening_record s o.values (value_word (plain_record_size * j))
     (omega arith) ∙ initial_value o.values j in
-    let stamp : o.first + 3 * j ≡ pool_base s + 3 * j = ap (λ n. n + 3 * j) opens.stamps in
-    let next : slice_index words j + 1 ≡ pool_base s + (3 * j + 1) = omega (arith, named) in
+    let stamp : initial_stamp o j ≡ initial_record s j = ap (λ n. n + plain_record_size * j) opens.stamps in
+    let next : value_word (slice_index words j) ≡ pool_base s + value_word (plain_record_size * j) = omega (arith, named) in
     let count : length words ≡ total s = opens.count in
     (named ∙ sym stamp, (record { stamp = stamp ∙ sym named; within = omega (arith, named, count, pool, in'); value = ap (slice_index words) next ∙ value }, ap (slice_index words) named ∙ prev))
 
 opening_is_lawful : (z : Layout) (o : Opening) (words : List ℕ) (n : ℕ) → OpensOver z o words → n ≤ 64 → LawfulWords z o words (idle_holdings 0 n) []
 opening_is_lawful z o words n opens few =
     let some = opens.sizes.slots.0 in
-    let pool : get_or words (pool_counter z) 0 ≡ pool_base z + 3 * z.m = opens.each (pool_counter z) (omega (arith, some)) (inl (omega (arith, some))) ∙ pool_opens z o.values in
+    let pool : get_or words (pool_counter z) 0 ≡ first_free z = opens.each (pool_counter z) (omega (arith, some)) (inl (omega (arith, some))) ∙ pool_opens z o.values in
     let slots : get_or words (slot_counter z) 0 ≡ 0 = opens.each (slot_counter z) (omega (arith, some)) (inl (omega (arith, some))) ∙ slot_opens z o.values some in
     let head : get_or words (list_head z) 0 ≡ 0 = opens.each (list_head z) (omega (arith, some)) (inl (omega (arith, some))) ∙ list_opens z o.values some in
     let lists : get_or words (list_counter z) 0 ≡ list_base z = opens.each (list_counter z) (omega (arith, some)) (inl (omega (arith, some))) ∙ lists_open z o.values some in
@@ -59,7 +61,7 @@ opening_is_lawful z o words n opens few =
       initial = λ j below. view_opens z o words j opens below;
       entries = tt;
       tied = idle_all (IsTied z words) (λ p. record { own = tt; pool_marked = λ m. cc; slots_marked = λ m. cc; lists_marked = λ m. cc }) 0 n;
-      apart = subst (λ (l : List Block). EachTwo AreApart (record { at = pool_base z; size = 3 * z.m } ∷ l)) (sym blocks) (tt, tt);
+      apart = subst (λ (l : List Block). EachTwo AreApart (record { at = pool_base z; size = initial_words z } ∷ l)) (sym blocks) (tt, tt);
       fresh = λ k e s. let bad : None ≡ Some e = s in cc;
       covering = tt;
       due = idle_all (λ h. IfSome h.due _) (λ p. tt) 0 n;

@@ -1,5 +1,5 @@
 -- Where the words of control and of arenas stand.
-use Rattle.partial_epochs.proofs.Common.{ℕ, ◌≡◌, ◌≢◌, ◌+◌, ◌-◌, ◌*◌, ◌<◌, ◌≤◌, ◌⊎◌, Bool, false, cond, List, ap, ◌∙◌, inl, inr, arith, nat_lt, slice_index, mul-le-mul_right, cases_lt, lt-ltb, total, first_free, not_below, Plan, Place, packed, base, span, whole, control_words, control_size, arena_words, component_words, carried_words, carried_word, plain, set_word, arena_limit}
+use Rattle.partial_epochs.proofs.Common.{ℕ, ◌≡◌, ◌≢◌, ◌+◌, ◌-◌, ◌*◌, ◌<◌, ◌≤◌, ◌⊎◌, Bool, false, cond, List, ap, ◌∙◌, inl, inr, arith, nat_lt, slice_index, mul-le-mul_right, cases_lt, lt-ltb, total, first_free, not_below, Plan, Place, packed, base, span, whole, control_words, control_size, arena_words, component_words, carried_words, carried_word, plain, set_word, arena_limit, initial_words}
 use Rattle.partial_epochs.proofs.Lists.{same_of}
 
 -- arenas lie one behind the other
@@ -20,7 +20,7 @@ pub below_whole : (e : Plan) (x i : ℕ) → x < e.arenas → i < span e → bas
 below_whole e x i below inside = let up = bases_up e x e.arenas below in omega (arith, up, inside)
 
 -- the words that are set lie in the arena
-pub set_place : (e : Plan) (x i : ℕ) → 3 * e.sizes.m ≤ e.sizes.pool → i < first_free e.sizes + e.sizes.m → (j : ℕ) × (j < span e) × (set_word e x i ≡ base e x + j)
+pub set_place : (e : Plan) (x i : ℕ) → initial_words e.sizes ≤ e.sizes.pool → i < first_free e.sizes + e.sizes.m → (j : ℕ) × (j < span e) × (set_word e x i ≡ base e x + j)
 set_place e x i room low = elim (cases_lt i (first_free e.sizes)) [
   | inl below ↦ (i, omega (arith, below, room), ap (λ (c : Bool). cond c (base e x + i) (base e x + total e.sizes + (i - first_free e.sizes))) (lt-ltb i (first_free e.sizes) below))
   | inr from ↦ (

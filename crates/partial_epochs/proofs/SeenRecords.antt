@@ -1,6 +1,7 @@
 -- What a port has seen of its epoch it finds in the words of its arena.
 use Rattle.partial_epochs.proofs.Common.{ℕ, ◌≡◌, ◌+◌, ◌<◌, ◌≤◌, List, length, take, get_or, sym, ap, subst, ◌∙◌, arith, Applied, Opening, stamp_of, value_of, stamp_all, take_within, total, RecordsAreWithin, lawful_records_are_within, list_of, Plan, arena_words, base, opening_behind, Port, Beside, IsStanding, LawfulEpochs, IsSeenRecord, SeenRecordsStay}
 use Rattle.partial_words.proofs.ChainLemmas.{value_behind_stamp}
+use Rattle.partial_words.specs.Record.{value_word, view_word}
 use Rattle.partial_core.specs.Lawful as one
 use Rattle.partial_epochs.proofs.Continue.{all_taken, carried_there, epoch_behind}
 use Rattle.partial_epochs.proofs.Places.{below_whole}
@@ -38,30 +39,30 @@ module _ (e : Plan) (words : List ℕ) (ports : ℕ → Port) (b : Beside) (k j 
     taken : take n (ports k).part.seen ≡ take n s.epoch.log
     taken = ap (take n) begins ∙ take_within n (length seen) s.epoch.log few
 
-    lies : (e.sizes.m ≤ at) × (at + 2 < length bw)
-    lies = subst (λ (h : List Applied). (e.sizes.m ≤ stamp_of o h j) × (stamp_of o h j + 2 < length bw)) (sym taken)
-        (stamp_all (λ i. (e.sizes.m ≤ i) × (i + 2 < length bw)) o j (take n s.epoch.log)
-        (all_taken (λ (a : Applied). (e.sizes.m ≤ a.stamp) × (a.stamp + 2 < length bw)) s.epoch.log n facts.entries) (facts.initial j inside))
+    lies : (e.sizes.m ≤ at) × (view_word at < length bw)
+    lies = subst (λ (h : List Applied). (e.sizes.m ≤ stamp_of o h j) × (view_word (stamp_of o h j) < length bw)) (sym taken)
+        (stamp_all (λ i. (e.sizes.m ≤ i) × (view_word i < length bw)) o j (take n s.epoch.log)
+        (all_taken (λ (a : Applied). (e.sizes.m ≤ a.stamp) × (view_word a.stamp < length bw)) s.epoch.log n facts.entries) (facts.initial j inside))
 
     arena_is : x < e.arenas
     arena_is = (w.control.places k below).arena
 
-    stands_there : base e x + (at + 1) < length words
+    stands_there : base e x + value_word at < length words
     stands_there =
         let up = lies.1 in
         let c = count in
         let all = w.count in
-        let low = below_whole e x (at + 1) arena_is (omega (arith, up, c)) in
+        let low = below_whole e x (value_word at) arena_is (omega (arith, up, c)) in
         omega (arith, low, all)
 
-    read : get_or words (base e x + (at + 1)) 0 ≡ value_of o (take n seen) j
+    read : get_or words (base e x + value_word at) 0 ≡ value_of o (take n seen) j
     read =
         let from = lies.0 in
         let up = lies.1 in
         let c = count in
         let values = facts.values in
-        sym (plain_at e words x (at + 1) (omega (arith, up, c)) ∙ plain_other e words x (at + 1) (get_or words (base e x + (at + 1)) 0) (omega (arith, from)))
-        ∙ ap (λ (h : List Applied). get_or bw (stamp_of o h j + 1) 0) taken
+        sym (plain_at e words x (value_word at) (omega (arith, up, c)) ∙ plain_other e words x (value_word at) (get_or words (base e x + value_word at) 0) (omega (arith, from)))
+        ∙ ap (λ (h : List Applied). get_or bw (value_word (stamp_of o h j)) 0) taken
         ∙ value_behind_stamp o bw s.epoch.log j n facts.agrees (omega (arith, values, inside))
         ∙ ap (λ (h : List Applied). value_of o h j) (sym taken)
 

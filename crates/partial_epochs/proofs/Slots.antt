@@ -1,6 +1,6 @@
 -- Each slot that is claimed, or that a port has yet to claim, follows two words claimed of the pool.
 use Rattle.partial_epochs.proofs.Common.{ℕ, ◌≡◌, ◌+◌, ◌*◌, ◌%◌, ◌^◌, ◌<◌, ◌≤◌, ◌==◌, ◌⊎◌, Bool, true, false, cond, Option, Some, None, List, length, get_or, refl, sym, ap, subst, ◌∙◌, inl, inr, arith, ⊤, nat_lt, is_some, option_map_or, get_or-set_same, get_or-set_other, mul-le-mul_left, some_same, Step, Load, Store, Exchange, Add, Layout, IsLayout, list_counter, pool_counter, pool_end, slot_counter, slot_word, greatest_record, words_after, CoreState, advance, advance_at, after_joining, at_stage, begin_getting, expects, fits_pool, getting, pool_refused, record_size, scanning, step_at, step_of, with_getting, with_scanning, is_at_rest, is_begun, IsSound, is_sound_at, IsMachineOf, Part, core_of, Plan, count, Epoch, IsArena, IsPlan, awaits_at, awaits_slot, is_claiming}
-use Rattle.partial_words.specs.Announcement.{announcement_size}
+use Rattle.partial_words.specs.Announcement.{announcement_size, least_announcement}
 use Rattle.partial_active.specs.Join.{join_after, join_step}
 use Rattle.partial_active.specs.declared.join.JoinStage.{JoinStage}
 use Rattle.partial_active.specs.declared.join.JoinStage.TheVariants.{Claiming, Storing, Joined, Spent}
@@ -84,7 +84,8 @@ module _ (z : Layout) (sizes : IsLayout z) (words : List ℕ) (slots_there : slo
   -- what a step leaves of the two counters
   abbrev pub Counted : Bool → Bool → List ℕ → Type 0
   Counted before behind words' =
-      2 * (get_or words' (slot_counter z) 0 + one behind) + get_or words (pool_counter z) 0 ≤ 2 * (get_or words (slot_counter z) 0 + one before) + get_or words' (pool_counter z) 0
+      least_announcement * (get_or words' (slot_counter z) 0 + one behind) + get_or words (pool_counter z) 0
+      ≤ least_announcement * (get_or words (slot_counter z) 0 + one before) + get_or words' (pool_counter z) 0
 
   counted_same : (words' : List ℕ) (b : Bool) → get_or words' (slot_counter z) 0 ≡ get_or words (slot_counter z) 0 → get_or words' (pool_counter z) 0 ≡ get_or words (pool_counter z) 0 →
       Counted b false words'

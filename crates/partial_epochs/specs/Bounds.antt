@@ -6,7 +6,7 @@ use Rattle.partial_words.specs.Layout.{first_free}
 use Rattle.partial_machine.specs.Bounds.{most_of_update, most_steps}
 use Rattle.partial_epochs.specs.Layout.{Plan}
 use Rattle.partial_epochs.specs.Ports.{Port}
-use Rattle.partial_epochs.specs.Changing.{Changing, passes}
+use Rattle.partial_epochs.specs.Changing.{Changing, last_loads, passes}
 use Rattle.partial_epochs.specs.Changing.Changing.{LooksFirst}
 use Rattle.partial_epochs.specs.Calls.{Doing, Run, begun, round}
 use Rattle.partial_epochs.specs.Calls.Doing.{Changes}
@@ -22,7 +22,7 @@ pass_steps e = e.arenas * arena_steps e + 1
 -- what a port makes that has a free arena: three loads for each component, the stores, the exchange of the current word, the store that
 -- gives the arena back, and the three steps of entering
 abbrev pub opening_steps : Plan → ℕ
-opening_steps e = 3 * e.sizes.m + (first_free e.sizes + e.sizes.m) + 5
+opening_steps e = last_loads e + (first_free e.sizes + e.sizes.m) + 5
 
 -- a change of epoch: a look, two steps for each component, three passes for each port, and the next epoch's opening
 abbrev pub most_of_change : Plan → ℕ

@@ -71,9 +71,13 @@ abbrev pub next_load : ℕ → Changing
 next_load zero = SetsWord 0
 next_load (suc i) = LoadsLast i
 
+-- of each component the record, the value and the carried stamp are loaded
+abbrev pub last_loads : Plan → ℕ
+last_loads e = 3 * e.sizes.m
+
 -- port q is the next one to be found elsewhere, or all are
 abbrev pub next_port : Plan → ℕ → ℕ → ℕ → Changing
-next_port e n x q = if nat_lt q e.ports then LoadsPort n x q else next_load (3 * e.sizes.m)
+next_port e n x q = if nat_lt q e.ports then LoadsPort n x q else next_load (last_loads e)
 
 -- word i is the next one to be set, or all are
 abbrev pub next_set : Plan → ℕ → Changing

@@ -10,6 +10,7 @@ use Rattle.partial_machine.specs.declared.stage.Stage.TheVariants.{StoringAnnoun
 use Rattle.partial_machine.specs.Machine.{CoreState}
 use Rattle.partial_core.specs.Part.{Part, core_of, port_of, fresh_part}
 use Rattle.partial_words.specs.Chain.{opening_word}
+use Rattle.partial_words.specs.Announcement.{least_announcement}
 use Rattle.partial_core.specs.Lawful.{Lawful}
 use Rattle.partial_core.specs.Lawful as one
 use Rattle.partial_epochs.specs.Lists.{list_of, count}
@@ -95,8 +96,9 @@ pub record IsArena (e : Plan) (words components carried : List ℕ) (r : Epoch) 
   pub sealed : finished → (j : ℕ) → j < e.sizes.m → IsSealed (slice_index components j)
   -- claims that end past the limit are those of ports that make no more
   pub reserve : slice_index words (pool_counter e.sizes) ≤ e.limit + greatest_record e.sizes * count r.over 0 e.ports
-  -- two words of the pool were claimed for each slot that is claimed, and for each that a port has yet to claim
-  pub slots : first_free e.sizes + 2 * (slice_index words (slot_counter e.sizes) + count (λ k. awaits_slot (r.part k)) 0 e.ports)
+  -- the words of an announcement were claimed for each slot that is claimed, and for each that a port has yet to claim
+  pub slots : first_free e.sizes + least_announcement * (slice_index words (slot_counter e.sizes)
+      + count (λ k. awaits_slot (r.part k)) 0 e.ports)
       ≤ slice_index words (pool_counter e.sizes)
 
 -- a port that stands in an epoch has its own part there

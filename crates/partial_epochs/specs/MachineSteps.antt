@@ -1,12 +1,13 @@
 -- The steps of a port's machine, made in the arena where the port stands.
 use Rattle.std.specs.Prelude.{ℕ, ◌+◌, ◌*◌, ◌<◌, ◌≤◌, ◌==◌, nat_lt, Bool, List, [], slice_index, ◌++◌, length, ◌≡◌, ◌≢◌, ◌⊎◌, ⊤, Some, false, ◌&&◌, ◌||◌}
-use Rattle.partial_words.specs.Layout.{pool_counter, pool_end, greatest_record}
+use Rattle.partial_words.specs.Layout.{pool_counter, pool_end, greatest_record, initial_words}
 use Rattle.partial_words.specs.declared.step.Step.{Step}
 use Rattle.partial_words.specs.declared.step.Step.TheVariants.{Exchange, Add}
 use Rattle.std.specs.List.{AllByRecursion}
 use Rattle.partial_model.specs.declared.history.Applied.{Applied}
 use Rattle.partial_core.specs.Part.{IsMachineOf}
 use Rattle.partial_words.specs.Step.{answer_of, word_of, words_after}
+use Rattle.partial_words.specs.Announcement.{least_announcement}
 use Rattle.partial_model.specs.declared.call.Refused.{Refused}
 use Rattle.partial_machine.specs.declared.stage.Reply.TheVariants as reply
 use Rattle.partial_machine.specs.Machine.{CoreState, advance, reply_of, step_of}
@@ -83,9 +84,9 @@ ClaimsHaveRoom = (e : Plan) (words : List ℕ) (ports : ℕ → Port) (b : Besid
     (ports k).control.entering ≡ Stands → (ports k).over ≡ false →
     slice_index (arena_words e words (ports k).control.here.arena) (pool_counter e.sizes) + greatest_record e.sizes ≤ pool_end e.sizes
 
--- there is a slot for each two words of the pool behind the initial records
+-- the pool behind the initial records has no room for more announcements than there are slots
 abbrev pub HaveSlots : Plan → Type 0
-HaveSlots e = e.sizes.pool ≤ 2 * e.sizes.slots + 3 * e.sizes.m
+HaveSlots e = e.sizes.pool ≤ least_announcement * e.sizes.slots + initial_words e.sizes
 
 -- no machine of a port that stands is marked for the pool, nor for the slots
 abbrev pub MarksNeverCome : Type 0

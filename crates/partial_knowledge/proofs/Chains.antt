@@ -8,8 +8,8 @@ use Rattle.partial_model.specs.declared.history.Opening.{Opening}
 use Rattle.partial_model.specs.History.{IsHistory, initial_stamp, stamp_of, last_entry}
 use Rattle.partial_model.proofs.HistoryLemmas.{last_from-push, last_at, overtaken_at}
 use Rattle.partial_model.proofs.StampsStay.{take_within, in_whole, distinct_at, stamp_told}
-use Rattle.partial_words.specs.Layout.{Layout, pool_base, pool_end, pool_counter}
-use Rattle.partial_words.specs.Record.{prev_of}
+use Rattle.partial_words.specs.Layout.{Layout, pool_base, pool_end, pool_counter, initial_words}
+use Rattle.partial_words.specs.Record.{prev_of, plain_record_size}
 use Rattle.partial_words.specs.Chain.{Agrees}
 use Rattle.partial_words.proofs.ChainLemmas.{prev_before_entry}
 use Rattle.partial_state.specs.Views.{Block, AreApart, IsApartFrom, IsWithin, IsBegunSince}
@@ -121,9 +121,9 @@ apart_part (b ∷ us) at size from count low high apart = (
 -- a record of the history lies in the pool, below the counter, and no block that isn't published shares a word with it
 pub record IsStanding (z : Layout) (words : List ℕ) (hs : List Holding) (stamp : ℕ) : Type 0 where
   pub above : pool_base z ≤ stamp
-  pub within : stamp + 3 ≤ pool_end z
-  pub below : stamp + 3 ≤ get_or words (pool_counter z) 0
-  pub apart : IsApartFrom (unpublished hs) (record { at = stamp; size = 3 })
+  pub within : stamp + plain_record_size ≤ pool_end z
+  pub below : stamp + plain_record_size ≤ get_or words (pool_counter z) 0
+  pub apart : IsApartFrom (unpublished hs) (record { at = stamp; size = plain_record_size })
 
 module _ (z : Layout) (o : Opening) (words : List ℕ) (hs : List Holding) (log : List Applied) (w : LawfulWords z o words hs log) where
   pub standing : (n stamp : ℕ) → IsWithin o log n stamp → IsStanding z words hs stamp
@@ -136,13 +136,14 @@ module _ (z : Layout) (o : Opening) (words : List ℕ) (hs : List Holding) (log 
       let stamps = w.stamps in
       let low = w.pool_low in
       let pool = w.sizes.pool.0 in
-      let free : IsApartFrom (unpublished hs) (record { at = pool_base z; size = 3 * z.m }) = all_back (AreApart (record { at = pool_base z; size = 3 * z.m })) (announcements hs) (unpublished hs)
-      (all_back (AreApart (record { at = pool_base z; size = 3 * z.m })) (map (λ (e : Applied). block_at words e.stamp) log) (announcements hs ++ unpublished hs) blocks.0) in
+      let free : IsApartFrom (unpublished hs) (record { at = pool_base z; size = initial_words z }) =
+      all_back (AreApart (record { at = pool_base z; size = initial_words z })) (announcements hs) (unpublished hs)
+      (all_back (AreApart (record { at = pool_base z; size = initial_words z })) (map (λ (e : Applied). block_at words e.stamp) log) (announcements hs ++ unpublished hs) blocks.0) in
       record {
         above = omega (arith, is, stamps);
         within = omega (arith, is, stamps, below, values, pool);
         below = omega (arith, is, stamps, below, values, low);
-        apart = apart_part (unpublished hs) (pool_base z) (3 * z.m) stamp 3 (omega (arith, is, stamps)) (omega (arith, is, stamps, below, values)) free;
+        apart = apart_part (unpublished hs) (pool_base z) (initial_words z) stamp plain_record_size (omega (arith, is, stamps)) (omega (arith, is, stamps, below, values)) free;
       }
   standing n stamp (inr entry) =
       let blocks = w.apart in
@@ -159,11 +160,12 @@ module _ (z : Layout) (o : Opening) (words : List ℕ) (hs : List Holding) (log 
         above = omega (arith, is, above);
         within = omega (arith, is, within);
         below = omega (arith, is, below);
-        apart = apart_part (unpublished hs) e.stamp ((block_at words e.stamp).size) stamp 3 (omega (arith, is)) (let three = three_words words e.stamp in omega (arith, is, three)) free;
+        apart = apart_part (unpublished hs) e.stamp ((block_at words e.stamp).size) stamp plain_record_size (omega (arith, is))
+            (let three = three_words words e.stamp in omega (arith, is, three)) free;
       }
 
   -- each of its words may be loaded
-  pub standing_word : (stamp i : ℕ) → i < 3 → IsStanding z words hs stamp → IsReadable z words hs (stamp + i)
+  pub standing_word : (stamp i : ℕ) → i < plain_record_size → IsStanding z words hs stamp → IsReadable z words hs (stamp + i)
   standing_word stamp i lt s =
       let above = s.above in
       let within = s.within in
@@ -171,7 +173,7 @@ module _ (z : Layout) (o : Opening) (words : List ℕ) (hs : List Holding) (log 
         omega (arith, lt, within),
         λ far. record {
           claimed = inr (omega (arith, above), omega (arith, lt, below));
-          apart = apart_part (unpublished hs) stamp 3 (stamp + i) 1 (omega arith)
+          apart = apart_part (unpublished hs) stamp plain_record_size (stamp + i) 1 (omega arith)
               (omega (arith, lt)) s.apart;
         },
       )

@@ -11,7 +11,7 @@ use Rattle.partial_model.proofs.HistoryLemmas.{place_below}
 use Rattle.partial_model.proofs.StampsStay.{stamps_never_return}
 use Rattle.partial_words.specs.declared.step.Step.TheVariants.{Load}
 use Rattle.partial_words.specs.Layout.{Layout, list_base, pool_end}
-use Rattle.partial_words.specs.Record.{prev_of, view_of, view_block, view_size}
+use Rattle.partial_words.specs.Record.{prev_of, view_of, view_block, view_size, view_word, pairs_word, next_word, pair_index_word, pair_value_word, value_word}
 use Rattle.partial_words.proofs.ChainLemmas.{value_behind_stamp}
 use Rattle.partial_words.proofs.BlockLemmas.{list_reads_back}
 use Rattle.partial_words.proofs.RecordLemmas.{length-pairs}
@@ -39,9 +39,9 @@ got (y ∷ xs) zero x d e = let is : y ≡ x = cc in is
 got (y ∷ xs) (suc i) x d e = got xs i x d e
 
 -- a word of a view may be loaded
-view_word : (z : Layout) (words : List ℕ) (hs : List Holding) (at i : ℕ) (pairs : List (ℕ × ℕ)) → IsView z words (unpublished hs) at pairs → i < length (view_block pairs) →
+view_readable : (z : Layout) (words : List ℕ) (hs : List Holding) (at i : ℕ) (pairs : List (ℕ × ℕ)) → IsView z words (unpublished hs) at pairs → i < length (view_block pairs) →
     IsReadable z words hs (at + i)
-view_word z words hs at i pairs view lt =
+view_readable z words hs at i pairs view lt =
     let above = view.above in
     let within = view.within in
     let below = view.below in (
@@ -256,7 +256,7 @@ module _ (o : Opening) (words : List ℕ) (hs : List Holding) (log : List Applie
 
 -- two views at one word have the same pairs
 same_pairs : (words : List ℕ) (z : Layout) (hs : List Holding) (at : ℕ) (pairs : List (ℕ × ℕ)) (i : ℕ) (c v : ℕ) → IsView z words (unpublished hs) at pairs → slice_get pairs i ≡ Some (c, v) →
-    (get_or words (at + 1 + 2 * i) 0 ≡ c) × (get_or words (at + 2 + 2 * i) 0 ≡ v)
+    (get_or words (pair_index_word at i) 0 ≡ c) × (get_or words (pair_value_word at i) 0 ≡ v)
 same_pairs words z hs at pairs i c v view stands =
     let back = (list_reads_back words at pairs view.stands).each i (0, 0) (place_below pairs i (c, v) stands) in
     let is = back ∙ got pairs i (c, v) (0, 0) stands in
@@ -338,7 +338,7 @@ module _ (o : Opening) (words : List ℕ) (hs : List Holding) (log : List Applie
   view_here stamp pairs some (inr view) = view
 
   pub step_len : (at t x : ℕ) → knows_at p.0.sizes o words hs log indices low high (Len at) p → x ≡ get_or words at 0 → ((x ≤ p.0.sizes.m) × (at + view_size x ≤ pool_end p.0.sizes)) ×
-      Knows_at t (at_stage p (pairs_from (at + 1) x))
+      Knows_at t (at_stage p (pairs_from (pairs_word at) x))
   unfolding Knows_at
   step_len at t x knows is =
       let stamp = knows.0 in
@@ -352,7 +352,7 @@ module _ (o : Opening) (words : List ℕ) (hs : List Holding) (log : List Applie
       let within = view.within in
       let size = length-pairs f.pairs in (
         (omega (arith, count, few), omega (arith, count, within, size, at_is)),
-        cond_both (x == 0) Done (Index (at + 1) x) (λ stage. Knows p.0.sizes o words hs log indices low t (at_stage p stage))
+        cond_both (x == 0) Done (Index (pairs_word at) x) (λ stage. Knows p.0.sizes o words hs log indices low t (at_stage p stage))
             (λ e.
             let none = eqb-true x 0 e in
             let all : Loads p.0.sizes o words hs log indices low (at_stage p Done) 0 =
@@ -365,7 +365,7 @@ module _ (o : Opening) (words : List ℕ) (hs : List Holding) (log : List Applie
             (λ e.
             let some = eqb-false x 0 e in (
               knows.5,
-              (stamp, third_on stamp (at_stage p (Index (at + 1) x)) refl refl third, view_is, f.pairs, 0, omega (arith, count), none_loaded stamp p.1 third f),
+              (stamp, third_on stamp (at_stage p (Index (pairs_word at) x)) refl refl third, view_is, f.pairs, 0, omega (arith, count), none_loaded stamp p.1 third f),
               omega (arith, at_is, view_is),
               omega (arith, some),
             )),
@@ -373,7 +373,7 @@ module _ (o : Opening) (words : List ℕ) (hs : List Holding) (log : List Applie
 
   -- the word of the pair that is next
   next_pair : (left : ℕ) (l : Loads p.0.sizes o words hs log indices low p left) → 0 < left → p.0.view ≢ 0 → (pair : ℕ × ℕ) × (slice_get l.3 l.4 ≡ Some pair) ×
-      (get_or words (p.0.view + 1 + 2 * l.4) 0 ≡ pair.0) × (get_or words (p.0.view + 2 + 2 * l.4) 0 ≡ pair.1) × (pair.0 < p.0.sizes.m)
+      (get_or words (pair_index_word p.0.view l.4) 0 ≡ pair.0) × (get_or words (pair_value_word p.0.view l.4) 0 ≡ pair.1) × (pair.0 < p.0.sizes.m)
   next_pair left l some shown =
       let sum = l.5 in
       let pair = element_at l.3 l.4 (omega (arith, sum, some)) in
@@ -381,8 +381,8 @@ module _ (o : Opening) (words : List ℕ) (hs : List Holding) (log : List Applie
       let read = same_pairs words p.0.sizes hs (view_of words l.0) l.3 l.4 pair.0.0 pair.0.1 view pair.1 in (
         pair.0,
         pair.1,
-        ap (λ n. get_or words (n + 1 + 2 * l.4) 0) l.2 ∙ read.0,
-        ap (λ n. get_or words (n + 2 + 2 * l.4) 0) l.2 ∙ read.1,
+        ap (λ n. get_or words (pair_index_word n l.4) 0) l.2 ∙ read.0,
+        ap (λ n. get_or words (pair_value_word n l.4) 0) l.2 ∙ read.1,
         AllByRecursion-get (λ (q : ℕ × ℕ). q.0 < p.0.sizes.m) l.3 l.4 pair.0 view.components pair.1,
       )
 
@@ -391,7 +391,7 @@ module _ (o : Opening) (words : List ℕ) (hs : List Holding) (log : List Applie
   view_shown left l some none = let sum = l.5 in let no = no_pairs l.3 l.0 (sym l.2 ∙ none) l.6.shown in omega (arith, sum, some, no)
 
   pub step_index : (at left t x : ℕ) → knows_at p.0.sizes o words hs log indices low high (Index at left) p → x ≡ get_or words at 0 → (x < p.0.sizes.m) ×
-      Knows_at t (at_stage p (PairValue (at + 1) left x))
+      Knows_at t (at_stage p (PairValue (next_word at) left x))
   unfolding Knows_at
   step_index at left t x knows is =
       let l = knows.1 in
@@ -401,7 +401,7 @@ module _ (o : Opening) (words : List ℕ) (hs : List Holding) (log : List Applie
         subst (λ n. n < p.0.sizes.m) (sym index) next.4,
         (
           knows.0,
-          (l.0, third_on l.0 (at_stage p (PairValue (at + 1) left x)) refl refl l.1, l.2, l.3, l.4, l.5, l.6),
+          (l.0, third_on l.0 (at_stage p (PairValue (next_word at) left x)) refl refl l.1, l.2, l.3, l.4, l.5, l.6),
           omega (arith, at_is),
           knows.3,
           (next.0.1, next.1 ∙ ap (λ n. Some (n, next.0.1)) (sym index)),
@@ -409,7 +409,7 @@ module _ (o : Opening) (words : List ℕ) (hs : List Holding) (log : List Applie
       )
 
   pub step_pair : (at left index t x : ℕ) → index < length p.1.values → knows_at p.0.sizes o words hs log indices low high (PairValue at left index) p → x ≡ get_or words at 0 →
-      Knows_at t (at_stage (with_value p index x) (pairs_from (at + 1) (left - 1)))
+      Knows_at t (at_stage (with_value p index x) (pairs_from (next_word at) (left - 1)))
   unfolding Knows_at
   step_pair at left index t x room knows is =
       let l = knows.1 in
@@ -419,7 +419,7 @@ module _ (o : Opening) (words : List ℕ) (hs : List Holding) (log : List Applie
       let pair = knows.4 in
       let view = view_here l.0 l.3 (λ none. view_shown left l some (l.2 ∙ none)) l.6.shown in
       let read = same_pairs words p.0.sizes hs (view_of words l.0) l.3 l.4 index pair.0 view pair.1 in
-      let value : x ≡ pair.0 = is ∙ ap (λ n. get_or words n 0) at_is ∙ ap (λ n. get_or words (n + 2 + 2 * l.4) 0) l.2 ∙ read.1 in
+      let value : x ≡ pair.0 = is ∙ ap (λ n. get_or words n 0) at_is ∙ ap (λ n. get_or words (pair_value_word n l.4) 0) l.2 ∙ read.1 in
       let h = l.6 in
       let fresh_here : pair.0 ≡ value_of o (take h.prefix log) index = AllByRecursion-get (λ (q : ℕ × ℕ). q.1 ≡ value_of o (take h.prefix log) q.0) l.3 l.4 (index, pair.0) h.fresh pair.1 in
       let next : HasLoaded p.0.sizes o words hs log low l.1.place (with_value p index x).1 l.0 l.3 (l.4 + 1) = record {
@@ -436,7 +436,7 @@ module _ (o : Opening) (words : List ℕ) (hs : List Holding) (log : List Applie
           ]
         ];
       } in
-      cond_both (left - 1 == 0) Done (Index (at + 1) (left - 1)) (λ stage. Knows p.0.sizes o words hs log indices low t (at_stage (with_value p index x) stage))
+      cond_both (left - 1 == 0) Done (Index (next_word at) (left - 1)) (λ stage. Knows p.0.sizes o words hs log indices low t (at_stage (with_value p index x) stage))
       (λ e.
       let none = eqb-true (left - 1) 0 e in (
         λ nothing. let bad : None ≡ Some l.0 = sym nothing ∙ l.1.borrowed in absurd cc,
@@ -447,7 +447,7 @@ module _ (o : Opening) (words : List ℕ) (hs : List Holding) (log : List Applie
       (λ e.
       let more = eqb-false (left - 1) 0 e in (
         knows.0,
-        (l.0, third_on l.0 (at_stage (with_value p index x) (Index (at + 1) (left - 1))) refl refl l.1, l.2, l.3, l.4 + 1, omega (arith, sum, some), next),
+        (l.0, third_on l.0 (at_stage (with_value p index x) (Index (next_word at) (left - 1))) refl refl l.1, l.2, l.3, l.4 + 1, omega (arith, sum, some), next),
         omega (arith, at_is),
         omega (arith, more),
       ))
@@ -489,14 +489,14 @@ module _ (o : Opening) (words : List ℕ) (hs : List Holding) (log : List Applie
       let here = goes.0 in
       let below = together.positions.components k here in
       (omega (arith, is, below), λ far. absurd (omega (arith, is, below, far)))
-  readable_at (View stamp) n e goes knows = let is : stamp + 2 ≡ n = cc in subst (IsReadable p.0.sizes words hs) is
-      (standing_word p.0.sizes o words hs log w stamp 2 (omega arith) (third_stands o words hs log indices low high p w together order stamp knows))
+  readable_at (View stamp) n e goes knows = let is : view_word stamp ≡ n = cc in subst (IsReadable p.0.sizes words hs) is
+      (standing_word p.0.sizes o words hs log w stamp (view_word 0) (omega arith) (third_stands o words hs log indices low high p w together order stamp knows))
   readable_at (Len at) n e goes knows =
       let is : at ≡ n = cc in
       let f = third_fresh o words hs log indices low high p w together order knows.0 knows.1 in
       let at_is = knows.3 in
       let view = view_here o words hs log indices low high p w together order knows.0 f.pairs (λ none. knows.4 (at_is ∙ none)) f.shown in
-      subst (IsReadable p.0.sizes words hs) (omega (arith, is, at_is)) (view_word p.0.sizes words hs (view_of words knows.0) 0 f.pairs view (omega arith))
+      subst (IsReadable p.0.sizes words hs) (omega (arith, is, at_is)) (view_readable p.0.sizes words hs (view_of words knows.0) 0 f.pairs view (omega arith))
   readable_at (Index at left) n e goes knows =
       let is : at ≡ n = cc in
       let l = knows.1 in
@@ -506,7 +506,7 @@ module _ (o : Opening) (words : List ℕ) (hs : List Holding) (log : List Applie
       let view_is = l.2 in
       let view = view_here o words hs log indices low high p w together order l.0 l.3 (λ none. view_shown o words hs log indices low high p w together order left l some (view_is ∙ none)) l.6.shown in
       subst (IsReadable p.0.sizes words hs) (omega (arith, is, at_is, view_is))
-      (view_word p.0.sizes words hs (view_of words l.0) (1 + 2 * l.4) l.3 view (let size = length-pairs l.3 in omega (arith, sum, some, size)))
+      (view_readable p.0.sizes words hs (view_of words l.0) (pair_index_word 0 l.4) l.3 view (let size = length-pairs l.3 in omega (arith, sum, some, size)))
   readable_at (PairValue at left index) n e goes knows =
       let is : at ≡ n = cc in
       let l = knows.1 in
@@ -516,14 +516,14 @@ module _ (o : Opening) (words : List ℕ) (hs : List Holding) (log : List Applie
       let view_is = l.2 in
       let view = view_here o words hs log indices low high p w together order l.0 l.3 (λ none. view_shown o words hs log indices low high p w together order left l some (view_is ∙ none)) l.6.shown in
       subst (IsReadable p.0.sizes words hs) (omega (arith, is, at_is, view_is))
-      (view_word p.0.sizes words hs (view_of words l.0) (2 + 2 * l.4) l.3 view (let size = length-pairs l.3 in omega (arith, sum, some, size)))
+      (view_readable p.0.sizes words hs (view_of words l.0) (pair_value_word 0 l.4) l.3 view (let size = length-pairs l.3 in omega (arith, sum, some, size)))
   readable_at (Value k) n e goes knows =
       let is : slice_index p.1.last k + 1 ≡ n = cc in
       let here = goes.0 in
       let below : slice_index indices k < length o.values = let b = together.positions.components k here in let values = w.values in omega (arith, b, values) in
       let within : IsWithin o log knows.prefix (slice_index p.1.last k) = subst (IsWithin o log knows.prefix) (sym (knows.stamps k here))
       (stamp_within o log knows.prefix (slice_index indices k) below) in
-      subst (IsReadable p.0.sizes words hs) is (standing_word p.0.sizes o words hs log w (slice_index p.1.last k) 1 (omega arith)
+      subst (IsReadable p.0.sizes words hs) is (standing_word p.0.sizes o words hs log w (slice_index p.1.last k) (value_word 0) (omega arith)
       (standing p.0.sizes o words hs log w knows.prefix (slice_index p.1.last k) within))
   readable_at Done n e goes knows = absurd cc
 
@@ -550,7 +550,7 @@ module _ (o : Opening) (words : List ℕ) (hs : List Holding) (log : List Applie
       (subst (IsWithin o log (length log)) (sym stamp) (stamp_within o log (length log) (slice_index indices k) below)) in
       (s.above, s.within)
   possible_at (View stamp) n e goes knows l =
-      let is : stamp + 2 ≡ n = cc in
+      let is : view_word stamp ≡ n = cc in
       let f = third_fresh o words hs log indices low high p w together order stamp knows in
       subst (λ m. IsPossibleAt p.0.sizes (View stamp) (slice_index words m)) is (view_reference stamp f.pairs f.shown)
   possible_at (Len at) n e goes knows l = let is : n ≡ at = cc in (step_len o words hs log indices low high p w together order at high (slice_index words n) knows (ap (λ m. get_or words m 0) is)).0
@@ -571,7 +571,7 @@ module _ (o : Opening) (words : List ℕ) (hs : List Holding) (log : List Applie
       let stamp : k.answer ≡ stamp_of o (take k.at log) (slice_index indices i) = subst (λ m. k.answer ≡ stamp_of o (take k.at log) m) (sym is) (l.component (omega (arith, is, component))) in
       step_collect o words hs log indices low high p w together order i k.answer k.at at knows after l.within stamp
   on_at (View stamp) n k at e goes knows l after =
-      let is : stamp + 2 ≡ n = cc in
+      let is : view_word stamp ≡ n = cc in
       let s = third_stands o words hs log indices low high p w together order stamp knows in
       let above = s.above in
       step_view o words hs log indices low high p w together order stamp k.at k.answer knows (still n k (omega (arith, is, above)) l ∙ ap (λ m. get_or words m 0) (sym is))

@@ -8,8 +8,8 @@ use Rattle.partial_words.specs.declared.step.Step.{Step}
 use Rattle.partial_words.specs.declared.step.Step.TheVariants.{Load, Store, Exchange, Add}
 use Rattle.partial_words.specs.Layout.{Layout, IsLayout, slot_counter, list_head, slot_word, list_base}
 use Rattle.partial_words.specs.Record.{StandsAt}
-use Rattle.partial_words.specs.VacatedList.{list_block}
-use Rattle.partial_words.specs.Announcement.{announcement_block}
+use Rattle.partial_words.specs.VacatedList.{list_block, list_size, low_word, high_word}
+use Rattle.partial_words.specs.Announcement.{announcement_block, announcement_size, announced_word}
 use Rattle.partial_words.proofs.RecordLemmas.{length-pairs}
 use Rattle.partial_active.specs.declared.get_set.Stage.{Stage}
 use Rattle.partial_active.specs.declared.get_set.Stage.TheVariants.{Head, ListLen, ListLow, ListHigh, Counter, Slot, Len, Index, Claim, Write, Publish, Done}
@@ -63,7 +63,7 @@ module _ (z : Layout) (o : Opening) (words : List ℕ) (hs : List Holding) (log 
       let to = p.whole.to in
       let start = p.whole.from in
       let below = p.below in
-      let size : length (list_block list) ≡ 1 + 2 * length list = let pairs = length-pairs list in omega (arith, pairs) in (
+      let size : length (list_block list) ≡ list_size (length list) = let pairs = length-pairs list in omega (arith, pairs) in (
         omega (arith, lt, to, size),
         λ far. record {
           claimed = inl (omega (arith, lt, to, size), omega (arith, lt, below));
@@ -71,12 +71,12 @@ module _ (z : Layout) (o : Opening) (words : List ℕ) (hs : List Holding) (log 
         },
       )
 
-  announced_word : (at i : ℕ) (named : List ℕ) → IsAnnounced z words (unpublished hs) at named → i < 1 + length named → IsReadable z words hs (at + i)
-  announced_word at i named p lt =
+  announced_readable : (at i : ℕ) (named : List ℕ) → IsAnnounced z words (unpublished hs) at named → i < announcement_size (length named) → IsReadable z words hs (at + i)
+  announced_readable at i named p lt =
       let to = p.whole.to in
       let above = p.above in
       let below = p.below in
-      (omega (arith, lt, to), λ far. record { claimed = inr (omega (arith, above), omega (arith, lt, below)); apart = apart_word (unpublished hs) at (1 + length named) i lt p.apart })
+      (omega (arith, lt, to), λ far. record { claimed = inr (omega (arith, above), omega (arith, lt, below)); apart = apart_word (unpublished hs) at (announcement_size (length named)) i lt p.apart })
 
 module _ (o : Opening) (words : List ℕ) (hs : List Holding) (log : List Applied) (low : ℕ) (p : Pair) (w : LawfulWords p.0.sizes o words hs log) where
   layout : IsLayout p.0.sizes
@@ -137,7 +137,7 @@ module _ (o : Opening) (words : List ℕ) (hs : List Holding) (log : List Applie
   told_at Done k goes knows due f possible = absurd (false≢true due)
 
   -- the next interval lies within the list that is being read
-  unread : (from left : ℕ) (list : Ranges) → HasReadSo Here from list p.1.read left → 0 < left → 2 + 2 * length p.1.read < length (list_block list)
+  unread : (from left : ℕ) (list : Ranges) → HasReadSo Here from list p.1.read left → 0 < left → high_word 0 (length p.1.read) < length (list_block list)
   unread from left list r some = let sum = r.sum in let pairs = length-pairs list in omega (arith, pairs, sum, some)
 
   -- the words that are to be loaded
@@ -148,18 +148,18 @@ module _ (o : Opening) (words : List ℕ) (hs : List Holding) (log : List Applie
   readable_at (ListLow at left) n e goes knows =
       let is : at ≡ n = cc in
       subst (IsReadable p.0.sizes words hs) (let place = knows.3 in omega (arith, is, place))
-      (list_word p.0.sizes o words hs log low w knows.0 (1 + 2 * length p.1.read) knows.1 knows.2.stands
+      (list_word p.0.sizes o words hs log low w knows.0 (low_word 0 (length p.1.read)) knows.1 knows.2.stands
       (let far = unread knows.0 left knows.1 knows.2 goes.0.some in omega (arith, far)))
   readable_at (ListHigh at left lo) n e goes knows =
       let is : at ≡ n = cc in
       subst (IsReadable p.0.sizes words hs) (let place = knows.3 in omega (arith, is, place))
-      (list_word p.0.sizes o words hs log low w knows.0 (2 + 2 * length p.1.read) knows.1 knows.2.stands
+      (list_word p.0.sizes o words hs log low w knows.0 (high_word 0 (length p.1.read)) knows.1 knows.2.stands
       (unread knows.0 left knows.1 knows.2 goes.0.some))
   readable_at Counter n e goes knows = let is : slot_counter p.0.sizes ≡ n = cc in let some = layout.slots.0 in (omega (arith, is, some), λ far. absurd (omega (arith, is, some, far)))
   readable_at (Slot slot) n e goes knows = let is : slot_word p.0.sizes slot ≡ n = cc in let less = goes.below in let bound =
       goes.walking.end_within in (omega (arith, is, less, bound), λ far. absurd (omega (arith, is, less, bound, far)))
   readable_at (Len slot at) n e goes knows = let is : at ≡ n = cc in subst (IsReadable p.0.sizes words hs) (omega (arith, is))
-      (announced_word p.0.sizes o words hs log low w at 0 knows.1.0 knows.1.1.0 (omega arith))
+      (announced_readable p.0.sizes o words hs log low w at 0 knows.1.0 knows.1.1.0 (omega arith))
   readable_at (Index slot at left) n e goes knows =
       let is : at ≡ n = cc in
       let r = knows.1.3 in
@@ -167,7 +167,7 @@ module _ (o : Opening) (words : List ℕ) (hs : List Holding) (log : List Applie
       let sum = r.sum in
       let some = goes.1 in
       subst (IsReadable p.0.sizes words hs) (omega (arith, is, place))
-      (announced_word p.0.sizes o words hs log low w knows.1.0 (1 + knows.1.2) knows.1.1 r.shown.0 (omega (arith, sum, some)))
+      (announced_readable p.0.sizes o words hs log low w knows.1.0 (announced_word 0 knows.1.2) knows.1.1 r.shown.0 (omega (arith, sum, some)))
   readable_at stage n e goes knows = absurd cc
 
   -- what the words answer now is possible

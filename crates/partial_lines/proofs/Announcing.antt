@@ -7,19 +7,19 @@ abbrev either : CoreState → ℕ → ℕ → Bool → CoreState
 either s at k b = cond b (begin_joining s at) (at_stage s (StoringAnnouncement at k))
 
 pub storing : (s d : CoreState) (at k : ℕ) → d ≡ announcing s at k → k < announcement_size (length s.asked) → d ≡ at_stage s (StoringAnnouncement at k)
-storing s d at k is less = is ∙ ap (either s at k) (ne_eqb k (1 + length s.asked) (λ e. omega (arith, e, less)))
+storing s d at k is less = is ∙ ap (either s at k) (ne_eqb k (announcement_size (length s.asked)) (λ e. omega (arith, e, less)))
 
 -- all are stored
 pub joining : (s d : CoreState) (at k : ℕ) → d ≡ announcing s at k → k ≡ announcement_size (length s.asked) → d ≡ begin_joining s at
-joining s d at k is all = is ∙ ap (either s at k) (eq-eqb k (1 + length s.asked) all)
+joining s d at k is all = is ∙ ap (either s at k) (eq-eqb k (announcement_size (length s.asked)) all)
 
 module _ (s d : CoreState) (at k : ℕ) (storing : d ≡ at_stage s (StoringAnnouncement at k)) where
   pub store_due : (word : ℕ) → word ≡ slice_index (announcement_block s.asked) k → step_of d ≡ Some (Store (at + k) word)
   store_due word e = ap step_of storing ∙ ap (λ v. Some (Store (at + k) v)) (sym e)
 
-  same_end : (b : Bool) → (k == length s.asked) ≡ b → b ≡ (k + 1 == 1 + length s.asked)
-  same_end true e = let last = eqb-true k (length s.asked) e in sym (eq-eqb (k + 1) (1 + length s.asked) (omega (arith, last)))
-  same_end false e = let more = eqb-false k (length s.asked) e in sym (ne_eqb (k + 1) (1 + length s.asked) (λ e'. more (omega (arith, e'))))
+  same_end : (b : Bool) → (k == length s.asked) ≡ b → b ≡ (k + 1 == announcement_size (length s.asked))
+  same_end true e = let last = eqb-true k (length s.asked) e in sym (eq-eqb (k + 1) (announcement_size (length s.asked)) (omega (arith, last)))
+  same_end false e = let more = eqb-false k (length s.asked) e in sym (ne_eqb (k + 1) (announcement_size (length s.asked)) (λ e'. more (omega (arith, e'))))
 
   pub store_then : (v : CoreState) (a : ℕ) → v ≡ advance d a → v ≡ announcing s at (k + 1)
   store_then v a then = then ∙ ap (λ (t : CoreState). advance t a) storing ∙ ap (either s at (k + 1)) (same_end (k == length s.asked) refl)

@@ -16,7 +16,7 @@ use crate::embedded::scan_found;
 use crate::get_set::SetSteps;
 use crate::makes::Makes;
 use partial_core::{Change, Core};
-use partial_words::{Step, plain_record_size, value_word, view_word};
+use partial_words::{Step, plain_record_size, prev_word, value_word, view_word};
 
 /// Makes an update that has loaded `old` as its component's record, from its getSet up to the exchange of the
 /// component, and returns the reference of its record. The exchange of `old` for it is due then, and the caller
@@ -71,7 +71,7 @@ fn write_plain<M: Makes>(lines: &mut M, core: &mut Core, change: Change, old: u6
         core.mark_pool();
         return None;
     }
-    lines.make(Step::Store(at as u32, old));
+    lines.make(Step::Store(prev_word(at) as u32, old));
     lines.make(Step::Store(value_word(at) as u32, change.value));
     lines.make(Step::Store(view_word(at) as u32, 0));
     Some(at)

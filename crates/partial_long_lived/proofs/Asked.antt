@@ -1,5 +1,5 @@
 -- The steps of a change of epoch, as its code asks for them.
-use Rattle.partial_long_lived.proofs.Common.{ℕ, ◌≡◌, ◌≢◌, ◌+◌, ◌-◌, ◌*◌, ◌%◌, ◌^◌, ◌<◌, ◌≤◌, ◌==◌, Bool, cond, Option, Some, IfSome, List, [], sym, ap, subst, ◌∙◌, inl, inr, arith, lt-ltb, either, Me, Allows, TableId, first_free, list_base, pool_base, opening_word, Place, Plan, arena_limit, at_word, base, entering_mark, marked, own_word, packed, seal, set_word, Owned, Port, Stands, next_place, passing, below_whole, set_place, About, Stand, IsKept, Seated, one_of, plan_of, bare, shape_plan, Goes, IsOne, tells, IsHeld, port_at, Gives, LoadsPort, PassesSealed, Publishes, PutsPort, Seals, Sets, Takes, passed_at, unpacked, IsIdle, IsCarriedStamp, IsInitialValue, IsRight, IsSetting, MayPutPort, OfOwned, Owns, PutsBy, SetsLists, SetsNext, TakesBy, Works}
+use Rattle.partial_long_lived.proofs.Common.{ℕ, ◌≡◌, ◌≢◌, ◌+◌, ◌-◌, ◌*◌, ◌%◌, ◌^◌, ◌<◌, ◌≤◌, ◌==◌, Bool, cond, Option, Some, IfSome, List, [], sym, ap, subst, ◌∙◌, inl, inr, arith, lt-ltb, either, Me, Allows, TableId, first_free, list_base, pool_base, opening_word, Place, Plan, arena_limit, at_word, base, entering_mark, marked, own_word, packed, seal, set_word, Owned, Port, Stands, next_place, passing, below_whole, set_place, About, Stand, IsKept, Seated, one_of, plan_of, bare, shape_plan, Goes, IsOne, tells, IsHeld, port_at, Gives, LoadsPort, PassesSealed, Publishes, PutsPort, Seals, Sets, Takes, passed_at, unpacked, IsIdle, IsCarriedStamp, IsInitialValue, IsRight, IsSetting, MayPutPort, OfOwned, Owns, PutsBy, SetsLists, SetsNext, TakesBy, Works, initial_words}
 use Rattle.partial_long_lived.proofs.Changes.{may_give, may_load_port, may_pass, may_put, may_seal, may_take}
 use Rattle.partial_long_lived.proofs.Sets.{may_set_over_lists, may_set_same, may_set_stamp, may_set_value}
 use Rattle.partial_long_lived.proofs.Publishes.{may_publish}
@@ -116,7 +116,7 @@ module _ (table : TableId) (about : About) (s : Stand) (h : IsHeld table about s
   pub set_there : (y i w : ℕ) → y < about.arenas → i < first_free about.sizes + about.sizes.m → w ≡ set_word (shape_plan s.shape bare) y i → w < table.words
   set_there y i w low inside is =
       let at = set_is y i w is in
-      let plan = subst (λ (a : About). a.sizes.m * 3 ≤ a.sizes.pool) h.own (let pool = h.known.plan.sizes.pool.0 in omega (arith, pool)) in
+      let plan = subst (λ (a : About). initial_words a.sizes ≤ a.sizes.pool) h.own (let pool = h.known.plan.sizes.pool.0 in omega (arith, pool)) in
       let place = set_place e y i (omega (arith, plan)) inside in
       let there = place.2 in
       let up = below_whole e y place.0 low place.1 in

@@ -15,7 +15,7 @@ pub use Rattle.partial_model.specs.Notes.{LegalNotes, IsEntryFor, IsLegal, Noted
 pub use Rattle.partial_model.specs.Outcome.{places_written, EachOnce, places_by, wrote}
 pub use Rattle.partial_model.proofs.AllLemmas.{all_after, all_append, all_at, all_back, all_before, all_front, all_weaker, all_join}
 pub use Rattle.partial_model.proofs.NotesLemmas.{AllByRecursion-get, LegalNotes-last, legal_notes_are_shown, LegalNotes-push, LegalNotes-grows}
-pub use Rattle.partial_words.specs.Layout.{Layout, first_free, list_base, pool_base, IsLayout, greatest_record, pool_end, list_counter, list_head, pool_counter, slot_counter, slot_word, total, initial_record}
+pub use Rattle.partial_words.specs.Layout.{Layout, first_free, list_base, pool_base, IsLayout, greatest_record, pool_end, list_counter, list_head, pool_counter, slot_counter, slot_word, total, initial_record, initial_words}
 pub use Rattle.partial_machine.specs.Machine.{CoreState, fresh, advance_at, at_stage, begin_getting, lists_spent, overtaken, reply_of, step_at, step_of, advance, after_joining, begin_joining, expects, fits_pool, getting, pool_refused, record_size, with_getting, scanned_values, reply_at}
 pub use Rattle.partial_machine.specs.Sound.{AreComponents, IsSound, is_sound_at, IsRecord}
 pub use Rattle.partial_core.specs.Part.{IsBetween, IsMarkedLike, core_of, Part, first_at}

@@ -1,6 +1,7 @@
 -- The words of the current arena tell the last values.
 use Rattle.partial_long_lived.proofs.Common.{ℕ, ◌≡◌, ◌+◌, ◌<◌, ◌≤◌, List, length, take, get_or, sym, ap, subst, ◌∙◌, arith, take_all, Applied, Opening, stamp_of, value_of, all_weaker, stamp_all, total, lawful_records_are_within, list_of, Plan, arena_words, base, unsealed, opening_behind, Port, Beside, LawfulEpochs, one_history, epochs_continue, current_is, below_whole, HaveLast, arena_now, component_now, value_now}
 use Rattle.partial_words.proofs.ChainLemmas.{records_within, value_behind_stamp}
+use Rattle.partial_words.specs.Record.{view_word, value_word}
 use Rattle.partial_core.specs.Lawful as one
 use Rattle.partial_epochs.proofs.Worded.{plain_at, plain_component, plain_other}
 
@@ -41,9 +42,9 @@ module _ (e : Plan) (words : List ℕ) (ports : ℕ → Port) (b : Beside) (w : 
     above =
         let r = lawful_records_are_within e.sizes o inner lawful.0 b.log lawful.1 in
         stamp_all (λ n. e.sizes.m ≤ n) o j b.log
-        (all_weaker (λ (a : Applied). (e.sizes.m ≤ a.stamp) × (a.stamp + 2 < length inner)) (λ (a : Applied). e.sizes.m ≤ a.stamp) (λ a h. h.0) b.log r.entries) (r.initial j inside).0
+        (all_weaker (λ (a : Applied). (e.sizes.m ≤ a.stamp) × (view_word a.stamp < length inner)) (λ (a : Applied). e.sizes.m ≤ a.stamp) (λ a h. h.0) b.log r.entries) (r.initial j inside).0
 
-    within : unsealed raw + 2 < total e.sizes
+    within : view_word (unsealed raw) < total e.sizes
     within =
         let long = lawful.1.memory.values in
         let count = lawful.1.memory.count in
@@ -51,7 +52,7 @@ module _ (e : Plan) (words : List ℕ) (ports : ℕ → Port) (b : Beside) (w : 
         let same = plain_at e words b.arena j (omega (arith, inside)) ∙ plain_component e words b.arena j raw inside in
         omega (arith, r, count, same)
 
-    value : get_or words (base e b.arena + (unsealed raw + 1)) 0 ≡ value_of e.opening (one_history b) j
+    value : get_or words (base e b.arena + value_word (unsealed raw)) 0 ≡ value_of e.opening (one_history b) j
     value =
         let long = lawful.1.memory.values in
         let at = named in
@@ -59,11 +60,11 @@ module _ (e : Plan) (words : List ℕ) (ports : ℕ → Port) (b : Beside) (w : 
         let up = within in
         let values = w.plan.values in
         let all : take (length b.log) b.log ≡ b.log = take_all (length b.log) b.log (omega arith) in
-        let here = plain_at e words b.arena (unsealed raw + 1) (omega (arith, up)) in
-        let other = plain_other e words b.arena (unsealed raw + 1) (get_or words (base e b.arena + (unsealed raw + 1)) 0) (omega (arith, at, from)) in
+        let here = plain_at e words b.arena (value_word (unsealed raw)) (omega (arith, up)) in
+        let other = plain_other e words b.arena (value_word (unsealed raw)) (get_or words (base e b.arena + value_word (unsealed raw)) 0) (omega (arith, at, from)) in
         sym (here ∙ other)
         ∙ ap (λ n. get_or inner (n + 1) 0) named
-        ∙ ap (λ (h : List Applied). get_or inner (stamp_of o h j + 1) 0) (sym all)
+        ∙ ap (λ (h : List Applied). get_or inner (value_word (stamp_of o h j)) 0) (sym all)
         ∙ value_behind_stamp o inner b.log j (length b.log) lawful.1.memory.agrees (omega (arith, long, inside))
         ∙ ap (λ (h : List Applied). value_of o h j) all
         ∙ sym (epochs_continue e.opening b.log b.before j (omega (arith, values, inside))).value
@@ -79,7 +80,7 @@ module _ (e : Plan) (words : List ℕ) (ports : ℕ → Port) (b : Beside) (w : 
     value_there : value_now e words j < length words
     value_there =
         let up = within in
-        let low = below_whole e b.arena (unsealed raw + 1) w.control.place.arena (omega (arith, up)) in
+        let low = below_whole e b.arena (value_word (unsealed raw)) w.control.place.arena (omega (arith, up)) in
         subst (λ x. base e x + (unsealed (get_or words (base e x + j) 0) + 1) < length words) (sym arena_is) (let all = w.count in omega (arith, low, all))
 
   pub have_last : HaveLast e words

@@ -3,6 +3,7 @@ use Rattle.partial_long_lived.proofs.Common.{ℕ, ◌≡◌, ◌≢◌, ◌+◌,
 use Rattle.partial_model.specs.declared.call.Call.TheVariants as call
 use Rattle.partial_model.specs.declared.call.Answer.TheVariants as answer
 use Rattle.partial_model.specs.declared.call.Note.TheVariants as note
+use Rattle.partial_model.specs.History.{initial_stamp}
 use Rattle.partial_epochs.proofs.NotesStay.{places_both}
 
 distinct_front : (h rest : List Applied) → HaveDistinctStamps (h ++ rest) → HaveDistinctStamps h
@@ -14,7 +15,7 @@ pub begin_history : (o : Opening) (h rest : List Applied) → IsHistory o (h ++ 
 begin_history o h rest w = record {
   components = all_front (λ (e : Applied). e.component < length o.values) h rest w.components;
   distinct = distinct_front h rest w.distinct;
-  not_initial = all_front (λ (e : Applied). (j : ℕ) → j < length o.values → e.stamp ≢ o.first + 3 * j) h rest w.not_initial;
+  not_initial = all_front (λ (e : Applied). (j : ℕ) → j < length o.values → e.stamp ≢ initial_stamp o j) h rest w.not_initial;
 }
 
 -- what is written stands within a history in which the notes are legal

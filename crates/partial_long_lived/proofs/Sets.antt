@@ -6,20 +6,21 @@ use Rattle.partial_long_lived.proofs.Begins.{here_is}
 use Rattle.partial_long_lived.proofs.Changes.{store_at}
 use Rattle.partial_long_lived.proofs.Control.{time_aside}
 use Rattle.partial_long_lived.proofs.Kept.{allowed, begun_grows, none_grown}
+use Rattle.partial_words.specs.Record.{value_word, plain_record_size}
 
 -- a word of an opening that is the same whatever the values are
-same_word : (s : Layout) (l : List ℕ) (i : ℕ) → (i < pool_base s) ⊎ ((i - pool_base s) % 3 ≢ 1) → opening_word s l i ≡ opening_word s [] i
+same_word : (s : Layout) (l : List ℕ) (i : ℕ) → (i < pool_base s) ⊎ ((i - pool_base s) % plain_record_size ≢ value_word 0) → opening_word s l i ≡ opening_word s [] i
 same_word s l i free = ap (λ t. cond (nat_lt i s.m) (initial_record s i) (cond (i == pool_counter s) (first_free s) (cond (i == list_counter s) (list_base s) t))) (by free)
   where
     rest : List ℕ → ℕ
     rest l = cond (nat_lt i (first_free s)) (initial_record_word l (i - pool_base s)) 0
 
-    by : (i < pool_base s) ⊎ ((i - pool_base s) % 3 ≢ 1) → cond (nat_lt i (pool_base s)) 0 (rest l) ≡ cond (nat_lt i (pool_base s)) 0 (rest [])
+    by : (i < pool_base s) ⊎ ((i - pool_base s) % plain_record_size ≢ value_word 0) → cond (nat_lt i (pool_base s)) 0 (rest l) ≡ cond (nat_lt i (pool_base s)) 0 (rest [])
     by (inl below) = ap (λ c. cond c 0 (rest l)) (lt-ltb i (pool_base s) below) ∙ sym (ap (λ c. cond c 0 (rest [])) (lt-ltb i (pool_base s) below))
-    by (inr ne) = (elim (eqb_tells ((i - pool_base s) % 3) 1) [
+    by (inr ne) = (elim (eqb_tells ((i - pool_base s) % plain_record_size) (value_word 0)) [
       | inl same ↦ absurd (ne same.1)
       | inr other ↦ ap (λ t. cond (nat_lt i (pool_base s)) 0 (cond (nat_lt i (first_free s)) t 0))
-          (ap (λ c. cond c (get_or l ((i - pool_base s) / 3) 0) 0) other.0 ∙ sym (ap (λ c. cond c (get_or [] ((i - pool_base s) / 3) 0) 0) other.0))
+          (ap (λ c. cond c (get_or l ((i - pool_base s) / plain_record_size) 0) 0) other.0 ∙ sym (ap (λ c. cond c (get_or [] ((i - pool_base s) / plain_record_size) 0) 0) other.0))
     ])
 
 pub unlike : (n m : ℕ) → n ≢ m → (n == m) ≡ false
@@ -29,14 +30,14 @@ pub alike : (n m : ℕ) → n ≡ m → (n == m) ≡ true
 alike n m is = elim (eqb_tells n m) [ inl same ↦ same.0 | inr other ↦ absurd (other.1 is) ]
 
 -- the value word of an initial record
-value_word : (s : Layout) (l : List ℕ) (j i : ℕ) → j < s.m → i ≡ pool_base s + 3 * j + 1 → opening_word s l i ≡ get_or l j 0
-value_word s l j i low is =
+value_opens : (s : Layout) (l : List ℕ) (j i : ℕ) → j < s.m → i ≡ value_word (initial_record s j) → opening_word s l i ≡ get_or l j 0
+value_opens s l j i low is =
     ap (λ c. cond c (initial_record s i) others) (not_below i s.m (omega (arith, is)))
     ∙ ap (λ c. cond c (first_free s) lists) (unlike i (pool_counter s) (omega (arith, is)))
     ∙ ap (λ c. cond c (list_base s) pool) (unlike i (list_counter s) (omega (arith, is)))
     ∙ ap (λ c. cond c 0 records) (not_below i (pool_base s) (omega (arith, is)))
     ∙ ap (λ c. cond c (initial_record_word l (i - pool_base s)) 0) (lt-ltb i (first_free s) (omega (arith, is, low)))
-    ∙ ap (λ c. cond c (get_or l ((i - pool_base s) / 3) 0) 0) (alike ((i - pool_base s) % 3) 1 (omega (arith, is)))
+    ∙ ap (λ c. cond c (get_or l ((i - pool_base s) / plain_record_size) 0) 0) (alike ((i - pool_base s) % plain_record_size) (value_word 0) (omega (arith, is)))
     ∙ ap (λ k. get_or l k 0) (omega (arith, is))
   where
     records : ℕ
@@ -57,11 +58,11 @@ module _ (e : Plan) (b : Beside) (i j : ℕ) where
   next_below low = ap (λ c. cond c (opening_word e.sizes (opening_behind e.opening (b.log ∷ b.before)).values i) (carried_behind e.opening (b.log ∷ b.before) (i - first_free e.sizes)))
       (lt-ltb i (first_free e.sizes) low)
 
-  next_value : length e.opening.values ≡ e.sizes.m → j < e.sizes.m → i ≡ pool_base e.sizes + 3 * j + 1 → next_word e b i ≡ value_of (opening_behind e.opening b.before) b.log j
+  next_value : length e.opening.values ≡ e.sizes.m → j < e.sizes.m → i ≡ value_word (initial_record e.sizes j) → next_word e b i ≡ value_of (opening_behind e.opening b.before) b.log j
   next_value long low is =
       let o : Opening = opening_behind e.opening b.before in
       let n = many e.opening b.before in
-      next_below (omega (arith, low, is)) ∙ value_word e.sizes (list_of (value_of o b.log) 0 (length o.values)) j i low is
+      next_below (omega (arith, low, is)) ∙ value_opens e.sizes (list_of (value_of o b.log) 0 (length o.values)) j i low is
       ∙ at_of (value_of o b.log) 0 (length o.values) j (omega (arith, low, n, long)) ∙ ap (value_of o b.log) (omega arith)
 
   next_stamp : i ≡ first_free e.sizes + j → next_word e b i ≡ carried_behind e.opening (b.log ∷ b.before) j
@@ -158,7 +159,7 @@ module _ {S : Type 0} (a : About) (slots id : ℕ) (me : Me S (List Seated)) (on
 
   -- a word that is the same whatever the values are
   pub may_set_same : (o : Owned) (v : ℕ) → x.port.control.owned ≡ Some o → o.clean ≡ a.ports → a.sizes.m ≤ x.port.passed → o.set < first_free a.sizes →
-      (o.set < pool_base a.sizes) ⊎ ((o.set - pool_base a.sizes) % 3 ≢ 1) → v ≡ opening_word a.sizes [] o.set →
+      (o.set < pool_base a.sizes) ⊎ ((o.set - pool_base a.sizes) % plain_record_size ≢ value_word 0) → v ≡ opening_word a.sizes [] o.set →
       Allows (IsKept a) slots id me (set_word e o.arena o.set) (λ n. v) (tells (Sets o (o.set + 1)) me)
   may_set_same o v owned clean passed low free is = may_set_word o v (o.set + 1) owned clean (omega arith) (omega (arith, low)) passed (λ i from up. absurd (omega (arith, from, up)))
       (λ b long found before. is ∙ sym (same_word a.sizes (opening_behind a.opening (b.log ∷ b.before)).values o.set free) ∙ sym (next_below e b o.set 0 low))
@@ -172,7 +173,7 @@ module _ {S : Type 0} (a : About) (slots id : ℕ) (me : Me S (List Seated)) (on
 
   -- the value that the port has found last of component j, in its initial record
   pub may_set_value : (o : Owned) (f : Found) → x.port.control.owned ≡ Some o → o.clean ≡ a.ports → a.sizes.m ≤ x.port.passed → x.found ≡ Some f →
-      o.set ≡ pool_base a.sizes + 3 * f.component + 1 → f.component < a.sizes.m →
+      o.set ≡ value_word (initial_record a.sizes f.component) → f.component < a.sizes.m →
       Allows (IsKept a) slots id me (set_word e o.arena o.set) (λ n. f.value) (tells (Sets o (o.set + 1)) me)
   may_set_value o f owned clean passed found at inside = may_set_word o f.value (o.set + 1) owned clean (omega arith) (omega (arith, at, inside)) passed (λ i from up. absurd (omega (arith, from, up)))
       (λ b long final before.

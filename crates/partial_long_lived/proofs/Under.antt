@@ -103,7 +103,7 @@ claim_step a c s x over sound sizes due spare was at is = elim (claimed_from c x
   | inl new ↦
       let stage = new.2 in
       let step : Add (pool_counter c.sizes) (record_size c) ≡ s = some_same (sym (ap (step_at c) stage) ∙ due) in
-      let few : record_size c ≤ 4 + 2 * c.sizes.m = (size_few c sound.indices.few).1 in
+      let few : record_size c ≤ greatest_record c.sizes = (size_few c sound.indices.few).1 in
       let m = ap (λ (z : Layout). z.m) sizes in
       let counter = ap (λ (z : Layout). pool_counter z) sizes in
       let none = spare (ap before_claim stage) in

@@ -1,9 +1,10 @@
 -- Sizes that a long-lived memory may have.
 use Rattle.std.specs.Prelude.{ℕ, ◌≡◌, ◌+◌, ◌*◌, ◌≤◌}
-use Rattle.partial_words.specs.Layout.{Layout, IsLayout, first_free, greatest_record, pool_end}
+use Rattle.partial_words.specs.Layout.{Layout, IsLayout, first_free, greatest_record, pool_end, initial_words}
+use Rattle.partial_words.specs.Announcement.{least_announcement}
 
 -- The sizes of an arena are in range, there are 1 to 64 ports and twice as many arenas, above the limit there is room for the greatest claim of
--- each port, and there is a slot for each two words of the pool.
+-- each port, and the pool has no room for more announcements than there are slots.
 pub record IsSized (sizes : Layout) (ports arenas limit : ℕ) : Type 0 where
   pub layout : IsLayout sizes
   pub some : 1 ≤ ports
@@ -11,4 +12,4 @@ pub record IsSized (sizes : Layout) (ports arenas limit : ℕ) : Type 0 where
   pub twice : arenas ≡ 2 * ports
   pub opens : first_free sizes ≤ limit
   pub room : limit + greatest_record sizes * ports ≤ pool_end sizes
-  pub slots : sizes.pool ≤ 2 * sizes.slots + 3 * sizes.m
+  pub slots : sizes.pool ≤ least_announcement * sizes.slots + initial_words sizes

@@ -1,8 +1,9 @@
 //! How the owner of an arena sets its words to those with which the next epoch begins.
 
 ghost use Rattle.std.specs.Prelude.{◌≡◌, ◌+◌, ◌*◌, ◌<◌, ◌≤◌, []};
-ghost use Rattle.partial_words.specs.Layout.{first_free, list_base, pool_base, slot_word};
+ghost use Rattle.partial_words.specs.Layout.{first_free, list_base, pool_base, slot_word, initial_record};
 ghost use Rattle.partial_words.specs.Chain.{opening_word};
+ghost use Rattle.partial_words.specs.Record.{plain_record_size};
 ghost use Rattle.partial_long_lived.specs.Inner.Held.{IsHeld, port_at};
 ghost use Rattle.partial_long_lived.specs.Inner.Changing.{HasPassed, IsRight, Stays, Works};
 
@@ -10,7 +11,7 @@ use crate::change_plays::{SetLists, SetWord};
 use crate::find::{find_stamp, find_value};
 use crate::rule::Words;
 use crate::stand::Stand;
-use partial_words::{Sizes, value_word, view_word};
+use partial_words::{Sizes, prev_word, value_word, view_word};
 
 /// Sets all words of the arena.
 pub fn fill(words: &Words, stand: &mut Stand, arena: u32)
@@ -88,17 +89,18 @@ fn front_word(sizes: &Sizes, word: u32) -> u64
 // Sets the initial record of a component.
 fn fill_record(words: &Words, stand: &mut Stand, arena: u32, component: u32)
     requires held { IsHeld words.now.table_id words.now.key stand.old }
-    requires works { Works stand.old arena words.now.key.ports (pool_base words.now.key.sizes + 3 * component) }
+    requires works { Works stand.old arena words.now.key.ports (initial_record words.now.key.sizes component) }
     requires inside { arena < words.now.key.arenas }
     requires within { component < words.now.key.sizes.m }
     requires sealed { words.now.key.sizes.m ≤ (port_at stand.old).port.passed }
     ensures held { IsHeld words.now.table_id words.now.key stand.new }
     ensures stays { Stays stand.old stand.new }
     ensures passed { HasPassed stand.old stand.new }
-    ensures works { Works stand.new arena words.now.key.ports (pool_base words.now.key.sizes + 3 * component + 3) }
+    ensures works { Works stand.new arena words.now.key.ports
+        (initial_record words.now.key.sizes component + plain_record_size) }
 {
     let at = stand.shape.sizes.initial_record(component);
-    set_word(words, stand, arena, at, 0);
+    set_word(words, stand, arena, prev_word(u64::from(at)) as u32, 0);
     let value = find_value(words, stand, component);
     set_word(words, stand, arena, value_word(u64::from(at)) as u32, value);
     set_word(words, stand, arena, view_word(u64::from(at)) as u32, 0);

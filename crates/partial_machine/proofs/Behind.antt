@@ -8,8 +8,9 @@ use Rattle.partial_model.specs.declared.call.Refused.TheVariants as refused
 use Rattle.partial_intervals.specs.Intervals.{highest}
 use Rattle.partial_words.specs.declared.step.Step.{Step}
 use Rattle.partial_words.specs.declared.step.Step.TheVariants.{Store, Add}
-use Rattle.partial_words.specs.Layout.{Layout, IsLayout, slot_counter, slot_word, pool_counter, list_counter, list_end, pool_end}
-use Rattle.partial_words.specs.Announcement.{announcement_size}
+use Rattle.partial_words.specs.Layout.{Layout, IsLayout, slot_counter, slot_word, pool_counter, list_counter, list_end, pool_end, greatest_record}
+use Rattle.partial_words.specs.Announcement.{announcement_size, indices_word}
+use Rattle.partial_words.specs.Record.{next_word}
 use Rattle.partial_active.specs.IndexSet.{with_index}
 use Rattle.partial_active.specs.Found.{begins_at}
 use Rattle.partial_active.specs.Join.{join_step, join_after, advance_join}
@@ -131,7 +132,7 @@ module _ (s : CoreState) (x : ℕ) (w : IsSound s) where
   here t e = subst (is_sound_at s) e w.stage
 
   -- a claim of pool words that went past the end
-  pool_after : (t : Stage) (size : ℕ) → s.stage ≡ t → step_at s t ≡ Some (Add (pool_counter s.sizes) size) → size ≤ 4 + 2 * s.sizes.m → s.pool_spent ≡ false → fits_pool s.sizes size x ≡ false →
+  pool_after : (t : Stage) (size : ℕ) → s.stage ≡ t → step_at s t ≡ Some (Add (pool_counter s.sizes) size) → size ≤ greatest_record s.sizes → s.pool_spent ≡ false → fits_pool s.sizes size x ≡ false →
       After s x (pool_refused s)
   pool_after t size e due few unmarked past = record {
     ahead = refl;
@@ -240,11 +241,12 @@ marks_lists (set.Slot slot) p x = inl (cond_both (eqb x 0) (finding.come_to p (s
     (λ e. same_come_to p (slot + 1))
     (λ other. cond_both (eqb x 1) (finding.come_to (finding.note_slot p slot) (slot + 1)) (finding.in_stage p (set.Len slot x)) (λ (q : finding.Pair). q.0.lists_spent ≡ p.0.lists_spent)
     (λ e. same_come_to (finding.note_slot p slot) (slot + 1)) (λ e. refl)))
-marks_lists (set.Len slot at) p x = inl (cond_both (eqb x 0) (finding.come_to p (slot + 1)) (finding.in_stage p (set.Index slot (at + 1) x)) (λ (q : finding.Pair). q.0.lists_spent ≡ p.0.lists_spent)
+marks_lists (set.Len slot at) p x =
+    inl (cond_both (eqb x 0) (finding.come_to p (slot + 1)) (finding.in_stage p (set.Index slot (indices_word at) x)) (λ (q : finding.Pair). q.0.lists_spent ≡ p.0.lists_spent)
     (λ e. same_come_to p (slot + 1)) (λ e. refl))
 marks_lists (set.Index slot at left) p x =
     let q : finding.Pair = (p.0, record p.1 { indices = with_index p.1.indices x }) in
-    inl (cond_both (eqb left 1) (finding.come_to q (slot + 1)) (finding.in_stage q (set.Index slot (at + 1) (left - 1))) (λ (r : finding.Pair). r.0.lists_spent ≡ p.0.lists_spent)
+    inl (cond_both (eqb left 1) (finding.come_to q (slot + 1)) (finding.in_stage q (set.Index slot (next_word at) (left - 1))) (λ (r : finding.Pair). r.0.lists_spent ≡ p.0.lists_spent)
     (λ e. same_come_to q (slot + 1)) (λ e. refl))
 marks_lists (set.Claim words) p x = by (ltb (list_end p.0.sizes) (x + words)) refl
   where

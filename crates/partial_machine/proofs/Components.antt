@@ -8,6 +8,9 @@ use Rattle.partial_model.specs.declared.call.Call.TheVariants as call
 use Rattle.partial_words.specs.declared.step.Step.{Step}
 use Rattle.partial_words.specs.declared.step.Step.TheVariants.{Load, Store}
 use Rattle.partial_words.specs.Layout.{Layout, IsLayout, slot_word}
+use Rattle.partial_words.specs.Record.{next_word}
+use Rattle.partial_words.specs.Announcement.{indices_word}
+use Rattle.partial_words.specs.VacatedList.{intervals_word}
 use Rattle.partial_active.specs.Join.{advance_join, join_step}
 use Rattle.partial_active.specs.declared.join.JoinStage.{JoinStage}
 use Rattle.partial_active.specs.declared.join.JoinStage.TheVariants.{Claiming, Storing, Joined, Spent}
@@ -100,11 +103,11 @@ module _ (z : Layout) (p : finding.Pair) (x : ℕ) (same : p.0.sizes ≡ z) wher
       by (inl none) = absurd (eqb-false x 0 e none)
       by (inr there) = let above = there.0 in omega (arith, above)
 
-  list_behind : (at : ℕ) → z.m ≤ at → (b : Bool) → is_behind z (cond b set.Counter (set.ListLow (at + 1) x))
+  list_behind : (at : ℕ) → z.m ≤ at → (b : Bool) → is_behind z (cond b set.Counter (set.ListLow (intervals_word at) x))
   list_behind at behind true = tt
   list_behind at behind false = omega (arith, behind)
 
-  interval_behind : (at left : ℕ) → z.m ≤ at → (b : Bool) → is_behind z (cond b set.Counter (set.ListLow (at + 1) left))
+  interval_behind : (at left : ℕ) → z.m ≤ at → (b : Bool) → is_behind z (cond b set.Counter (set.ListLow (next_word at) left))
   interval_behind at left behind true = tt
   interval_behind at left behind false = omega (arith, behind)
 
@@ -119,11 +122,12 @@ module _ (z : Layout) (p : finding.Pair) (x : ℕ) (same : p.0.sizes ≡ z) wher
       by (inr (inl vacated)) = absurd (eqb-false x 1 f vacated)
       by (inr (inr there)) = let above = there.0 in omega (arith, above)
 
-  len_behind : (slot at : ℕ) → z.m ≤ at → (b : Bool) → is_behind z (cond b (finding.come_to p (slot + 1)) (finding.in_stage p (set.Index slot (at + 1) x))).0.stage
+  len_behind : (slot at : ℕ) → z.m ≤ at → (b : Bool) → is_behind z (cond b (finding.come_to p (slot + 1)) (finding.in_stage p (set.Index slot (indices_word at) x))).0.stage
   len_behind slot at behind true = comes_behind z p (slot + 1)
   len_behind slot at behind false = omega (arith, behind)
 
-  index_behind : (q : finding.Pair) (slot at left : ℕ) → z.m ≤ at → (b : Bool) → is_behind z (cond b (finding.come_to q (slot + 1)) (finding.in_stage q (set.Index slot (at + 1) left))).0.stage
+  index_behind : (q : finding.Pair) (slot at left : ℕ) → z.m ≤ at → (b : Bool) →
+      is_behind z (cond b (finding.come_to q (slot + 1)) (finding.in_stage q (set.Index slot (next_word at) left))).0.stage
   index_behind q slot at left behind true = comes_behind z q (slot + 1)
   index_behind q slot at left behind false = omega (arith, behind)
 

@@ -3,14 +3,14 @@ use Rattle.std.proofs.Common.{ℕ, ◌≡◌, ◌*◌, ◌/◌, ◌%◌, ◌<◌
 use Rattle.std.proofs.lemmas.List.{length-map}
 use Rattle.std.proofs.Math.ListN as lists
 use Rattle.std.specs.List.{flat_map}
-use Rattle.partial_words.specs.Record.{pair_words}
+use Rattle.partial_words.specs.Record.{pair_words, pairs_size}
 use Rattle.partial_words.proofs.RecordLemmas.{word_even, word_odd}
 
-module _ (value : ℕ → ℕ) (l : List ℕ) (k : ℕ) (within : k < 2 * length l) where
+module _ (value : ℕ → ℕ) (l : List ℕ) (k : ℕ) (within : k < pairs_size (length l)) where
   abbrev pub pairs : List (ℕ × ℕ)
   pairs = map (λ j. (j, value j)) l
 
-  inside : k < 2 * length pairs
+  inside : k < pairs_size (length pairs)
   inside = let same : length pairs ≡ length l = length-map l (λ j. (j, value j)) in omega (arith, within, same)
 
   here : get_or pairs (k / 2) (0, value 0) ≡ (get_or l (k / 2) 0, value (get_or l (k / 2) 0))

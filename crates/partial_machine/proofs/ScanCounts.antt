@@ -5,6 +5,8 @@ use Rattle.std.specs.Prelude.{nat_lt, IsSome}
 use Rattle.std.specs.Option.{option_map_or}
 use Rattle.partial_words.specs.declared.step.Step.{Step}
 use Rattle.partial_words.specs.Layout.{IsLayout}
+use Rattle.partial_words.specs.Announcement.{announcement_size}
+use Rattle.partial_words.specs.Record.{pairs_word, next_word, view_size, pairs_size}
 use Rattle.partial_active.specs.Join.{join_after, join_left, join_step, advance_join}
 use Rattle.partial_active.specs.declared.join.JoinStage.{JoinStage}
 use Rattle.partial_active.specs.declared.join.JoinStage.TheVariants.{Claiming, Storing, Joined, Spent}
@@ -26,10 +28,10 @@ abbrev pub counted_at : ℕ → viewing.Pair → ℕ → ℕ → ViewStage → T
 counted_at r p made n (Collect k) = (made + r ≡ r * p.0.collects + k) × (p.0.borrowed ≡ None)
 counted_at r p made n (View stamp) = (made ≤ r * p.0.collects) × IsSome p.0.borrowed
 counted_at r p made n (Len at) = (made ≤ r * p.0.collects + 1) × IsSome p.0.borrowed
-counted_at r p made n (Index at left) = (made + 2 * left ≤ r * p.0.collects + 2 + 2 * n) × IsSome p.0.borrowed
-counted_at r p made n (PairValue at left index) = (made + 2 * left ≤ r * p.0.collects + 3 + 2 * n) × IsSome p.0.borrowed
+counted_at r p made n (Index at left) = (made + pairs_size left ≤ r * p.0.collects + view_size n + 1) × IsSome p.0.borrowed
+counted_at r p made n (PairValue at left index) = (made + pairs_size left ≤ r * p.0.collects + view_size n + 2) × IsSome p.0.borrowed
 counted_at r p made n (Value k) = (made ≡ r * p.0.collects + k) × (p.0.borrowed ≡ None)
-counted_at r p made n Done = (p.0.borrowed ≡ None → made ≡ r * p.0.collects + r) × (IsSome p.0.borrowed → made ≤ r * p.0.collects + 2 + 2 * n)
+counted_at r p made n Done = (p.0.borrowed ≡ None → made ≡ r * p.0.collects + r) × (IsSome p.0.borrowed → made ≤ r * p.0.collects + view_size n + 1)
 
 never : {P : Type 0} (o : Option ℕ) → o ≡ None → IsSome o → P
 never o none some = absurd (false≢true (subst IsSome none some))
@@ -55,7 +57,7 @@ module _ (indices : List ℕ) (p : viewing.Pair) (made n x : ℕ) (w : viewing.G
   view_counted stamp h false = let few = h.0 in (omega (arith, few), h.1)
 
   pairs_counted : (at left more : ℕ) (v : viewing.Pair) → v.0.collects ≡ p.0.collects → v.0.borrowed ≡ p.0.borrowed → IsSome p.0.borrowed →
-      made + 1 + 2 * left ≤ length indices * p.0.collects + 2 + 2 * (n + more) → (b : Bool) → let u = viewing.at_stage v (cond b Done (Index at left)) in counted_at (length indices) u
+      made + 1 + pairs_size left ≤ length indices * p.0.collects + view_size (n + more) + 1 → (b : Bool) → let u = viewing.at_stage v (cond b Done (Index at left)) in counted_at (length indices) u
       (made + 1) (n + more) u.0.stage
   pairs_counted at left more v same borrowed some few true =
       let times : length indices * v.0.collects ≡ length indices * p.0.collects = ap (λ c. length indices * c) same in
@@ -78,9 +80,9 @@ module _ (indices : List ℕ) (p : viewing.Pair) (made n x : ℕ) (w : viewing.G
   step_counted (Collect k) goes possible h = load_counted k goes.0 h (viewing.differs p k x && viewing.was_changed p k) (nat_lt (k + 1) (length indices))
       (viewing.is_first p || (viewing.noted p k x).0.moved) refl
   step_counted (View stamp) goes possible h = view_counted stamp h ((x == 0) || p.0.shares)
-  step_counted (Len at) goes possible h = let few = h.0 in pairs_counted (at + 1) x x p refl refl h.1 (omega (arith, few)) (x == 0)
+  step_counted (Len at) goes possible h = let few = h.0 in pairs_counted (pairs_word at) x x p refl refl h.1 (omega (arith, few)) (x == 0)
   step_counted (Index at left) goes possible h = let few = h.0 in (omega (arith, few), h.1)
-  step_counted (PairValue at left index) goes possible h = let few = h.0 in let some = goes.0 in pairs_counted (at + 1) (left - 1) 0 (viewing.with_value p index x) refl refl h.1
+  step_counted (PairValue at left index) goes possible h = let few = h.0 in let some = goes.0 in pairs_counted (next_word at) (left - 1) 0 (viewing.with_value p index x) refl refl h.1
       (omega (arith, few, some)) (left - 1 == 0)
   step_counted (Value k) goes possible h = value_counted k goes.0 h (nat_lt (k + 1) (length indices)) refl
   step_counted Done goes possible h = absurd possible
@@ -191,7 +193,7 @@ module _ (s : CoreState) (layout : IsLayout s.sizes) (w : IsSound s) (made n x :
   made_on (ClaimingRecord c old) e possible h = absurd h
   made_on (StoringRecord c old at k) e possible h = absurd h
   made_on (Exchanging c old at) e possible h = absurd h
-  made_on ScanBegun e possible h = claimed e h (fits_pool s.sizes (1 + length s.asked) x)
+  made_on ScanBegun e possible h = claimed e h (fits_pool s.sizes (announcement_size (length s.asked)) x)
   made_on (StoringAnnouncement at k) e possible h = stored at k h (k == length s.asked) refl
   made_on Joining e possible h = joined e h
   made_on Scanning e possible h = scanned e possible h

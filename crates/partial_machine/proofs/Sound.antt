@@ -6,7 +6,9 @@ use Rattle.std.specs.Prelude.{IsTrue, nat_lt}
 use Rattle.std.specs.Option.{option_map_or}
 use Rattle.partial_model.specs.declared.call.Refused.TheVariants as refused
 use Rattle.partial_words.specs.declared.step.Step.{Step}
-use Rattle.partial_words.specs.Layout.{Layout, IsLayout, pool_end}
+use Rattle.partial_words.specs.Layout.{Layout, IsLayout, pool_end, greatest_record}
+use Rattle.partial_words.specs.Record.{plain_record_size, full_record_size}
+use Rattle.partial_words.specs.Announcement.{announcement_size}
 use Rattle.partial_active.specs.Found.{IsFor as AreBuffersFor}
 use Rattle.partial_active.specs.Join.{fits_join, join_step, join_after, join_left, step_of_join, advance_join}
 use Rattle.partial_active.specs.declared.join.JoinStage.{JoinStage}
@@ -37,12 +39,13 @@ pub record Keeps (s q : CoreState) : Type 0 where
   pub positions : q.asked ≡ s.asked
 
 -- a record has 3 words, or those of its pairs
-size_by : (o : Option ℕ) (b : Bool) (n m : ℕ) → n ≤ m → let z = option_map_or (λ _. 3) o (cond b 3 (4 + 2 * n)) in (3 ≤ z) × (z ≤ 4 + 2 * m)
+size_by : (o : Option ℕ) (b : Bool) (n m : ℕ) → n ≤ m → let z = option_map_or (λ _. plain_record_size) o (cond b plain_record_size (full_record_size n)) in (plain_record_size ≤ z)
+    × (z ≤ full_record_size m)
 size_by (Some v) b n m few = (omega arith, omega arith)
 size_by None true n m few = (omega arith, omega arith)
 size_by None false n m few = (omega arith, omega (arith, few))
 
-pub size_few : (s : CoreState) → length s.found.indices ≤ s.sizes.m → (3 ≤ record_size s) × (record_size s ≤ 4 + 2 * s.sizes.m)
+pub size_few : (s : CoreState) → length s.found.indices ≤ s.sizes.m → (plain_record_size ≤ record_size s) × (record_size s ≤ greatest_record s.sizes)
 size_few s few = size_by s.embedded.borrowed (length s.found.indices == 0) (length s.found.indices) s.sizes.m few
 
 -- fewer positions, fewer steps
@@ -219,11 +222,11 @@ module _ (s : CoreState) (layout : IsLayout s.sizes) (w : IsSound s) where
       let not_last = eqb-false (k + 1) (record_size s) more in
       staying (StoringRecord c old at k) (StoringRecord c old at (k + 1)) e (h.0, h.1, omega (arith, within, not_last)) (omega (arith, within))
 
-  announcement_claimed : (x : ℕ) → s.stage ≡ ScanBegun → IsPoolCount s.sizes x → (b : Bool) → fits_pool s.sizes (1 + length s.asked) x ≡ b →
+  announcement_claimed : (x : ℕ) → s.stage ≡ ScanBegun → IsPoolCount s.sizes x → (b : Bool) → fits_pool s.sizes (announcement_size (length s.asked)) x ≡ b →
       Keeps s (cond b (at_stage s (StoringAnnouncement x 0)) (pool_refused s))
   announcement_claimed x e possible true fits =
       let h = here ScanBegun e in
-      staying ScanBegun (StoringAnnouncement x 0) e (h.0, h.2, in_pool s.sizes (1 + length s.asked) x possible fits, omega arith) (omega arith)
+      staying ScanBegun (StoringAnnouncement x 0) e (h.0, h.2, in_pool s.sizes (announcement_size (length s.asked)) x possible fits, omega arith) (omega arith)
   announcement_claimed x e possible false past = refused_pool ScanBegun e (omega arith)
 
   announcement_stored : (at k : ℕ) → s.stage ≡ StoringAnnouncement at k → (b : Bool) → (k == length s.asked) ≡ b → Keeps s (cond b (begin_joining s at) (at_stage s (StoringAnnouncement at (k + 1))))
@@ -286,7 +289,7 @@ module _ (s : CoreState) (layout : IsLayout s.sizes) (w : IsSound s) where
   kept_at (ClaimingRecord c old) x e possible = record_claimed c old x e possible (fits_pool s.sizes (record_size s) x) refl
   kept_at (StoringRecord c old at k) x e possible = record_stored c old at k e (k + 1 == record_size s) refl
   kept_at (Exchanging c old at) x e possible = staying (Exchanging c old at) (Finished (cond (x == old) (reply.Applied at) (overtaken c x))) e tt (omega arith)
-  kept_at ScanBegun x e possible = announcement_claimed x e possible (fits_pool s.sizes (1 + length s.asked) x) refl
+  kept_at ScanBegun x e possible = announcement_claimed x e possible (fits_pool s.sizes (announcement_size (length s.asked)) x) refl
   kept_at (StoringAnnouncement at k) x e possible = announcement_stored at k e (k == length s.asked) refl
   kept_at Joining x e possible = joining_kept x e
   kept_at Scanning x e possible = scanning_kept x e possible

@@ -2,7 +2,8 @@
 use Rattle.std.specs.Prelude.{ℕ, ◌+◌, ◌*◌, ◌-◌, [], length}
 use Rattle.partial_model.specs.declared.call.Call.{Call}
 use Rattle.partial_model.specs.declared.call.Call.TheVariants as call
-use Rattle.partial_words.specs.Layout.{Layout}
+use Rattle.partial_words.specs.Layout.{Layout, greatest_record}
+use Rattle.partial_words.specs.Announcement.{announcement_size}
 use Rattle.partial_active.specs.Join.{join_left}
 use Rattle.partial_active.specs.GetSet as finding
 use Rattle.partial_embedded.specs.Embedded as viewing
@@ -12,7 +13,7 @@ use Rattle.partial_machine.specs.Machine.{CoreState, scanning, record_size}
 
 -- an update: the load of its component, a getSet, an embedded scan of all components at most, a claim, the stores, an exchange
 abbrev pub most_of_update : Layout → ℕ
-most_of_update z = finding.most_steps z + viewing.most_steps z z.m + 2 * z.m + 7
+most_of_update z = finding.most_steps z + viewing.most_steps z z.m + greatest_record z + 3
 
 -- a call; a scan of no position makes none
 abbrev pub most_steps : Layout → Call → ℕ
@@ -24,7 +25,7 @@ most_steps z (call.UpdateIf j x v) = most_of_update z
 
 -- the steps of an update behind its getSet and its embedded scan at most: a claim, the stores, an exchange
 abbrev pub write_left : Layout → ℕ
-write_left z = 2 * z.m + 6
+write_left z = greatest_record z + 2
 
 -- how many steps a call makes at most from a stage on
 abbrev pub left_at : CoreState → Stage → ℕ
@@ -38,7 +39,7 @@ left_at s (ClaimingRecord c old) = record_size s + 2
 left_at s (StoringRecord c old at k) = record_size s - k + 1
 left_at s (Exchanging c old at) = 1
 left_at s ScanBegun = length s.asked + 5 + viewing.most_steps s.sizes (length s.asked)
-left_at s (StoringAnnouncement at k) = length s.asked + 1 - k + 3 + viewing.most_steps s.sizes (length s.asked)
+left_at s (StoringAnnouncement at k) = announcement_size (length s.asked) - k + 3 + viewing.most_steps s.sizes (length s.asked)
 left_at s Joining = join_left s.join.stage + viewing.most_steps s.sizes (length s.asked) + 1
 left_at s Scanning = viewing.left_of s.asked (scanning s) + 1
 left_at s Leaving = 1

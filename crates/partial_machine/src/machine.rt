@@ -3,7 +3,7 @@
 ghost use Rattle.std.specs.Prelude.{◌≡◌, ◌≢◌, ◌<◌, ◌≤◌, ◌+◌, ◌*◌, ◌==◌, ◌↔◌, ◌∷◌, map, length, slice_index, nat_lt, if◌then◌else◌, IsTrue, IfOk, OnOk, IfErr, MatchOption, None};
 ghost use Rattle.std.specs.List.{flat_map, list_all};
 ghost use Rattle.std.specs.Vec.{vec_capacity};
-ghost use Rattle.partial_words.specs.Record.{pair_words};
+ghost use Rattle.partial_words.specs.Record.{pair_words, pairs_size, plain_record_size};
 ghost use Rattle.partial_machine.specs.declared.stage.Stage.TheVariants.{Idle, ReadBegun, UpdateBegun, GettingSet, Viewing, ClaimingRecord, StoringRecord, Exchanging, ScanBegun, StoringAnnouncement, Joining, Scanning, Leaving, Finished};
 ghost use Rattle.partial_machine.specs.declared.stage.Reply.TheVariants as reply;
 ghost use Rattle.partial_machine.specs.Machine.{overtaken, CoreState};
@@ -18,7 +18,7 @@ use partial_embedded::{Embedded, Rows};
 use partial_model::{Answer, Call, Refused, Sequence};
 use partial_words::{
     Sizes, Step, announcement_block_word, announcement_size, full_record_size, own_view,
-    plain_record_size, value_word,
+    pairs_word, plain_record_size, prev_word, value_word, view_word,
 };
 use std::alloc::{AllocError, Global};
 use std::marker::Model;
@@ -293,7 +293,7 @@ impl Core {
     #[inline(always)]
     pub fn record_size(&self) -> u64
         ensures value { result ≡ record_size self.now }
-        ensures least { 3 ≤ result }
+        ensures least { plain_record_size ≤ result }
     {
         let pairs = self.found.indices().len() as u64;
         match self.embedded.borrowed() {
@@ -311,12 +311,16 @@ impl Core {
         requires within { k < record_size self.now }
         ensures { result ≡ slice_index (record_words self.now change old at) k }
     {
-        match k {
-            0 => old,
-            1 => change.value,
-            2 => self.view_at(at),
-            3 => self.found.indices().len() as u64,
-            _ => self.pair_word(k - 4),
+        if k == prev_word(0) {
+            old
+        } else if k == value_word(0) {
+            change.value
+        } else if k == view_word(0) {
+            self.view_at(at)
+        } else if k == own_view(0) {
+            self.found.indices().len() as u64
+        } else {
+            self.pair_word(k - pairs_word(own_view(0)))
         }
     }
 
@@ -336,7 +340,7 @@ impl Core {
     // Word k of the pairs of an update that borrows no view, in their order.
     #[inline(always)]
     fn pair_word(&self, k: u64) -> u64
-        requires { k < 2 * length self.now.found.indices }
+        requires { k < pairs_size (length self.now.found.indices) }
         ensures { result ≡ slice_index (flat_map pair_words
             (map (λ j. (j, slice_index self.now.rows.values j)) self.now.found.indices)) k }
     {

@@ -4,7 +4,7 @@ ghost use Rattle.std.specs.Prelude.{◌≡◌, ◌<◌, ◌^◌, length, IfOk};
 ghost use Rattle.std.specs.Slots.{slots_len, slots_items, IsFull};
 ghost use Rattle.partial_memory.specs.Closing.{AreLinks, HaveChain, HaveRecords, Holds};
 
-use partial_words::{Link, value_word};
+use partial_words::{Link, prev_word, value_word};
 use std::alloc::{AllocError, Global};
 
 /// What a memory held when it was closed. It takes memory for the values and the records alone.
@@ -19,7 +19,7 @@ pub struct Closed {
 /// The words of a table that threads no longer share.
 pub type ClosedWords = atomic_table::Closed<(), Global>;
 
-// Collects the records of a component from the newest on. The first word of each names the one before it.
+// Collects the records of a component from the newest on. Each names the one before it.
 fn chain(alloc: Global, words: &ClosedWords, newest: u64) -> Result<Vec<Link>, AllocError>
     requires full { IsFull words.now.words × (slots_len words.now.words < 2 ^ 32) }
     requires count { slots_len words.now.words ≡ length (slots_items words.now.words) }
@@ -31,7 +31,7 @@ fn chain(alloc: Global, words: &ClosedWords, newest: u64) -> Result<Vec<Link>, A
     while at != 0 {
         let value = words.word(value_word(at) as usize);
         links.push(Link { stamp: at, value })?;
-        at = words.word(at as usize);
+        at = words.word(prev_word(at) as usize);
     }
     Ok(links)
 }

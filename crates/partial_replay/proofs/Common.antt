@@ -32,7 +32,7 @@ pub use Rattle.partial_machine.proofs.Laws.{due_is_unreplied, rests_are_sound, c
 pub use Rattle.partial_model.proofs.HistoryLemmas.{opening_is, place_below, LastAt, last_at, last_entry-passed, stamp_all, last_entry-found}
 pub use Rattle.partial_text.specs.PlanText.{PlanView, IsPlan, IsCall, IsEntry}
 pub use Rattle.partial_words.specs.Chain.{AreOpeningWords, Agrees, opening_word}
-pub use Rattle.partial_words.specs.Record.{value_of, view_word, prev_of}
+pub use Rattle.partial_words.specs.Record.{value_of, view_word, prev_of, value_word}
 pub use Rattle.partial_words.specs.Step.{Leads, words_after, answer_of, word_of, Answers}
 pub use Rattle.partial_words.specs.declared.step.Step.{Step}
 pub use Rattle.partial_machine.specs.Sound.{IsSound, AreComponents}

@@ -1,5 +1,5 @@
 -- A step of a port keeps a replay's state lawful.
-use Rattle.partial_replay.proofs.Common.{ℕ, ◌≡◌, ◌+◌, ◌<◌, ◌≤◌, ◌++◌, Bool, true, false, cond, List, [], ◌∷◌, length, Option, Some, None, IfSome, MatchOption, slice_get, inr, refl, sym, ◌∙◌, ap, subst, arith, length-append, append-nil, length-map, Applied, Opening, Call, Refused, Note, Called, Noted, LegalNotes, IsLegal, MayBeRefused, seen_by, shown_by, place_of, Fits, IsTrueOf, places_written, wrote, places_written-append, AllByRecursion-push, AllByRecursion-weaker, LegalNotes-last, Step, Event, Layout, Answers, Leads, answer_of, words_after, Reply, Idle, CoreState, at_stage, scanned_values, advance, step_of, reply_of, IsSound, rests_are_sound, steps_left, most_steps, Part, Kept, core_of, port_of, IsBetween, IsMarkedLike, first_at, is_begun, is_at_rest, call_of, answer_for, Port, UnderWay, ends_of, notes_in, IsUnderWay, PortFits, AreWithin, HasValues, MayAnswer, one_step_more, ended_call, GoesOn, Ends, AreFew, IsNoteFrom, IsLeastFrom, view_word, lawful_records_are_within, initial_stamp, AllByRecursion}
+use Rattle.partial_replay.proofs.Common.{ℕ, ◌≡◌, ◌+◌, ◌<◌, ◌≤◌, ◌++◌, Bool, true, false, cond, List, [], ◌∷◌, length, Option, Some, None, IfSome, MatchOption, slice_get, inr, refl, sym, ◌∙◌, ap, subst, arith, length-append, append-nil, length-map, Applied, Opening, Call, Refused, Note, Called, Noted, LegalNotes, IsLegal, MayBeRefused, seen_by, shown_by, place_of, Fits, IsTrueOf, places_written, wrote, places_written-append, AllByRecursion-push, AllByRecursion-weaker, LegalNotes-last, Step, Event, Layout, Answers, Leads, answer_of, words_after, Reply, Idle, CoreState, at_stage, scanned_values, advance, step_of, reply_of, IsSound, rests_are_sound, steps_left, most_steps, Part, Kept, core_of, port_of, IsBetween, IsMarkedLike, first_at, is_begun, is_at_rest, call_of, answer_for, Port, UnderWay, ends_of, notes_in, IsUnderWay, PortFits, AreWithin, HasValues, MayAnswer, one_step_more, ended_call, GoesOn, Ends, AreFew, IsNoteFrom, IsLeastFrom, view_word, lawful_records_are_within, initial_stamp, AllByRecursion, value_word}
 use Rattle.std.specs.Prelude.{is_some}
 use Rattle.partial_model.specs.declared.call.Answer.TheVariants as answer
 use Rattle.partial_model.specs.declared.call.Call.TheVariants as call
@@ -32,9 +32,9 @@ pub lawful_within : (z : Layout) (o : Opening) (words : List ℕ) (parts : List 
 lawful_within z o words parts log w =
     let r = lawful_records_are_within z o words parts log w in
     let values = r.values in
-    let own : AllByRecursion (λ (e : Applied). e.stamp + 1 < length words) log = AllByRecursion-weaker (λ (e : Applied). (z.m ≤ e.stamp) × (view_word e.stamp < length words))
-    (λ (e : Applied). e.stamp + 1 < length words) (λ e both. let within = both.1 in omega (arith, within)) log r.entries in
-    let first : (j : ℕ) → j < length o.values → initial_stamp o j + 1 < length words = λ j below. let within = r.initial j (omega (arith, below, values)) in omega (arith, within) in
+    let own : AllByRecursion (λ (e : Applied). value_word e.stamp < length words) log = AllByRecursion-weaker (λ (e : Applied). (z.m ≤ e.stamp) × (view_word e.stamp < length words))
+    (λ (e : Applied). value_word e.stamp < length words) (λ e both. let within = both.1 in omega (arith, within)) log r.entries in
+    let first : (j : ℕ) → j < length o.values → value_word (initial_stamp o j) < length words = λ j below. let within = r.initial j (omega (arith, below, values)) in omega (arith, within) in
     record {
       components = has_records o words log r.agrees own first;
       entries = has_record o words log r.agrees own (r.history).components first;

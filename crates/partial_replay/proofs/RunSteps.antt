@@ -1,5 +1,5 @@
 -- A turn of a port among the others.
-use Rattle.partial_replay.proofs.Common.{ℕ, zero, suc, ◌≡◌, ◌+◌, ◌-◌, ◌*◌, ◌<◌, ◌≤◌, ◌==◌, ◌++◌, Bool, true, false, cond, not, List, [], ◌∷◌, length, get_or, set, Option, Some, None, MatchOption, MatchBool, nat_lt, ◌^◌, slice_get, Result, Ok, Err, OnOk, refl, sym, ◌∙◌, ap, subst, arith, length-append, get_or-set_other, mul-le-mul, mul-suc, option_map_or, is_some, IsSome, false≢true, ltb-true, append-nil, length_push, Applied, Opening, Call, Called, LegalNotes-grows, AllByRecursion-get, AllByRecursion-push, Step, Event, Layout, IsLayout, Leads, answer_of, words_after, value_of, view_word, Reply, Idle, CoreState, reply_of, steps_left, most_of_update, most_steps, Part, port_of, IsBetween, answer_for, IsServed, steps_stay_lawful, lawful_machines_are_ready, lawful_records_are_within, Port, UnderWay, KeepsMade, IsExchangeWithin, AreWithin, notes_in, IsUnderWay, PortFits, core_behind, entry_at, one_step_more, ended_call, GoesOn, Ends, StepMade, MayStep, KeepsFit, AreStartedBut, ArePlans, PortsFit, IsRunOf, left_for, left_of, left_at, AllByRecursion, place_below}
+use Rattle.partial_replay.proofs.Common.{ℕ, zero, suc, ◌≡◌, ◌+◌, ◌-◌, ◌*◌, ◌<◌, ◌≤◌, ◌==◌, ◌++◌, Bool, true, false, cond, not, List, [], ◌∷◌, length, get_or, set, Option, Some, None, MatchOption, MatchBool, nat_lt, ◌^◌, slice_get, Result, Ok, Err, OnOk, refl, sym, ◌∙◌, ap, subst, arith, length-append, get_or-set_other, mul-le-mul, mul-suc, option_map_or, is_some, IsSome, false≢true, ltb-true, append-nil, length_push, Applied, Opening, Call, Called, LegalNotes-grows, AllByRecursion-get, AllByRecursion-push, Step, Event, Layout, IsLayout, Leads, answer_of, words_after, value_of, view_word, Reply, Idle, CoreState, reply_of, steps_left, most_of_update, most_steps, Part, port_of, IsBetween, answer_for, IsServed, steps_stay_lawful, lawful_machines_are_ready, lawful_records_are_within, Port, UnderWay, KeepsMade, IsExchangeWithin, AreWithin, notes_in, IsUnderWay, PortFits, core_behind, entry_at, one_step_more, ended_call, GoesOn, Ends, StepMade, MayStep, KeepsFit, AreStartedBut, ArePlans, PortsFit, IsRunOf, left_for, left_of, left_at, AllByRecursion, place_below, value_word}
 use Rattle.std.proofs.Math.Nat.{mul-le-mul_left}
 use Rattle.partial_model.specs.declared.call.Call.TheVariants as call
 use Rattle.partial_words.specs.declared.step.Step.TheVariants.{Load, Store, Exchange, Add}
@@ -152,7 +152,7 @@ adds z words port (Exchange w old at) within above = record { entry = by (nat_lt
         ∙ ap (λ (c : Bool). cond c (record { port = port; component = w; value = value_of words at; stamp = at } ∷ []) []) eb in
         let behind = above (record { port = port; component = w; value = value_of words at; stamp = at }) one in
         let below = ltb-true w z.m ea in
-        let same : value_of (words_after words (Exchange w old at)) at ≡ value_of words at = get_or-set_other words w (at + 1) (cond (get_or words w 0 == old) at (get_or words w 0)) 0
+        let same : value_of (words_after words (Exchange w old at)) at ≡ value_of words at = get_or-set_other words w (value_word at) (cond (get_or words w 0 == old) at (get_or words w 0)) 0
         (λ h. omega (arith, behind, below, h)) in
         ap (λ v. cond (nat_lt w z.m) (cond (get_or words w 0 == old) (record { port = port; component = w; value = v; stamp = at } ∷ []) []) []) same
 

@@ -1,5 +1,5 @@
 -- The search for the place of a scan: what is marked at each place, and that the least place is found.
-use Rattle.partial_replay.proofs.Common.{ℕ, zero, suc, ◌≡◌, ◌≢◌, ◌+◌, ◌-◌, ◌<◌, ◌≤◌, ◌==◌, ◌++◌, ◌⊎◌, Bool, true, false, not, cond, List, [], ◌∷◌, length, map, take, get_or, set, count_by, Option, Some, None, slice_get, refl, sym, ◌∙◌, ap, subst, inl, inr, get_or-set_other, arith, AllByRecursion, option_map_or, false≢true, cases_eq, cases_lt, eq-eqb, eqb-true, length-set, get_or-set_same, get_or-map, length-map, sum_by-cons, get_or_from_slice_get, slice_get_within, Applied, Opening, last_entry, initial_stamp, stamp_of, last_entry-passed, stamp_all, AllByRecursion-get, position_below, Agrees, prev_of, value_of, values_after, values_now, differs, marks_before, AreMarked, AllHave, AreWanted, AreMarksOf, HasRecord, HasRecords, IsLeft, IsEmpty, IsLeast, ShowsValues}
+use Rattle.partial_replay.proofs.Common.{ℕ, zero, suc, ◌≡◌, ◌≢◌, ◌+◌, ◌-◌, ◌<◌, ◌≤◌, ◌==◌, ◌++◌, ◌⊎◌, Bool, true, false, not, cond, List, [], ◌∷◌, length, map, take, get_or, set, count_by, Option, Some, None, slice_get, refl, sym, ◌∙◌, ap, subst, inl, inr, get_or-set_other, arith, AllByRecursion, option_map_or, false≢true, cases_eq, cases_lt, eq-eqb, eqb-true, length-set, get_or-set_same, get_or-map, length-map, sum_by-cons, get_or_from_slice_get, slice_get_within, Applied, Opening, last_entry, initial_stamp, stamp_of, last_entry-passed, stamp_all, AllByRecursion-get, position_below, Agrees, prev_of, value_of, values_after, values_now, differs, marks_before, AreMarked, AllHave, AreWanted, AreMarksOf, HasRecord, HasRecords, IsLeft, IsEmpty, IsLeast, ShowsValues, value_word}
 use Rattle.std.proofs.lemmas.Grind.{same_number_lists}
 use Rattle.std.proofs.Math.Seq.{take-length}
 use Rattle.partial_words.proofs.ChainLemmas.{value_behind_stamp, prev_before_entry}
@@ -309,22 +309,23 @@ wanted_below o wanted components values below w j v wants =
     subst (λ n. n < length o.values) at.2 (position_below components (length o.values) at.0 below at.1)
 
 -- where the records of the history and the initial ones lie within the words, so does all that the search reads
-pub has_records : (o : Opening) (words : List ℕ) (h : List Applied) → Agrees o words h → AllByRecursion (λ (e : Applied). e.stamp + 1 < length words) h →
-    ((j : ℕ) → j < length o.values → initial_stamp o j + 1 < length words) → HasRecords words (length o.values)
+pub has_records : (o : Opening) (words : List ℕ) (h : List Applied) → Agrees o words h → AllByRecursion (λ (e : Applied). value_word e.stamp < length words) h →
+    ((j : ℕ) → j < length o.values → value_word (initial_stamp o j) < length words) → HasRecords words (length o.values)
 has_records o words h agrees own first j below =
-    let within = stamp_all (λ n. n + 1 < length words) o j h own (first j below) in
+    let within = stamp_all (λ n. value_word n < length words) o j h own (first j below) in
     (omega (arith, first j below), omega (arith, (agrees j below).0, within))
 
-pub has_record : (o : Opening) (words : List ℕ) (h : List Applied) → Agrees o words h → AllByRecursion (λ (e : Applied). e.stamp + 1 < length words) h →
-    AllByRecursion (λ (e : Applied). e.component < length o.values) h → ((j : ℕ) → j < length o.values → initial_stamp o j + 1 < length words) → (k : ℕ) (e : Applied) → slice_get h k ≡ Some e →
+pub has_record : (o : Opening) (words : List ℕ) (h : List Applied) → Agrees o words h → AllByRecursion (λ (e : Applied). value_word e.stamp < length words) h →
+    AllByRecursion (λ (e : Applied). e.component < length o.values) h → ((j : ℕ) → j < length o.values → value_word (initial_stamp o j) < length words) → (k : ℕ) (e : Applied) → slice_get h k
+    ≡ Some e →
     HasRecord words (length o.values) e
 has_record o words h agrees own components first k e stands =
     let below : e.component < length o.values = AllByRecursion-get (λ (f : Applied). f.component < length o.values) h k e components stands in
-    let at : e.stamp + 1 < length words = AllByRecursion-get (λ (f : Applied). f.stamp + 1 < length words) h k e own stands in
-    let before = stamp_all (λ n. n + 1 < length words) o e.component (take k h) (front h k own) (first e.component below) in
+    let at : value_word e.stamp < length words = AllByRecursion-get (λ (f : Applied). value_word f.stamp < length words) h k e own stands in
+    let before = stamp_all (λ n. value_word n < length words) o e.component (take k h) (front h k own) (first e.component below) in
     record { component = below; own = omega (arith, at); before = omega (arith, prev_before_entry o words h k e agrees below stands, before) }
   where
-    front : (l : List Applied) (n : ℕ) → AllByRecursion (λ (f : Applied). f.stamp + 1 < length words) l → AllByRecursion (λ (f : Applied). f.stamp + 1 < length words) (take n l)
+    front : (l : List Applied) (n : ℕ) → AllByRecursion (λ (f : Applied). value_word f.stamp < length words) l → AllByRecursion (λ (f : Applied). value_word f.stamp < length words) (take n l)
     front l zero all = tt
     front [] (suc n) all = tt
     front (x ∷ l) (suc n) all = (all.0, front l n all.1)

@@ -1,5 +1,5 @@
 -- The steps by which a block is claimed and written, and by which a list is published.
-use Rattle.partial_state.proofs.Common.{ℕ, ◌≡◌, ◌≢◌, ◌+◌, ◌*◌, ◌<◌, ◌≤◌, ◌==◌, ◌++◌, ◌^◌, ◌%◌, Bool, true, false, cond, List, ◌∷◌, length, get_or, set, Some, None, refl, sym, ◌∙◌, ap, subst, inl, inr, arith, get_or-set_other, get_or-set_same, length-set, cases_lt, Applied, Opening, Layout, slot_counter, list_head, pool_counter, list_counter, slot_word, list_base, list_end, pool_end, total, length-pairs, Block, AreApart, IsApartFrom, IsPublishedList, IsHead, Own, Holding, Space, first_of, end_of, counter_of, block_of, unpublished, blocks_in, others_of, EachTwo, pool_marks, list_marks, Pool, Lists, LawfulWords, IsOwn, IsTied, IsDue, IsKept, ClaimsAreKept, StoresAreKept, PublishingsAreKept}
+use Rattle.partial_state.proofs.Common.{ℕ, ◌≡◌, ◌≢◌, ◌+◌, ◌*◌, ◌<◌, ◌≤◌, ◌==◌, ◌++◌, ◌^◌, ◌%◌, Bool, true, false, cond, List, ◌∷◌, length, get_or, set, Some, None, refl, sym, ◌∙◌, ap, subst, inl, inr, arith, get_or-set_other, get_or-set_same, length-set, cases_lt, Applied, Opening, Layout, slot_counter, list_head, pool_counter, list_counter, slot_word, list_base, list_end, pool_end, total, length-pairs, Block, AreApart, IsApartFrom, IsPublishedList, IsHead, Own, Holding, Space, first_of, end_of, counter_of, block_of, unpublished, blocks_in, others_of, EachTwo, pool_marks, list_marks, Pool, Lists, LawfulWords, IsOwn, IsTied, IsDue, IsKept, ClaimsAreKept, StoresAreKept, PublishingsAreKept, greatest_record, greatest_list}
 use Rattle.partial_words.specs.VacatedList.{list_block}
 use Rattle.partial_state.proofs.ListLemmas.{all_at, all_weaker, two_take, two_put}
 use Rattle.partial_state.proofs.Frames.{IsClaimedBlock, word_at, apart_turns, head_moves}
@@ -23,11 +23,11 @@ module _ (z : Layout) (o : Opening) (words : List ℕ) (before : List Holding) (
     claimed : List ℕ
     claimed = set words (counter_of z space) ((get_or words (counter_of z space) 0 + length block) % 2 ^ 64)
 
-    counter_low : (s : Space) → z.m + 2 ≤ counter_of z s
+    counter_low : (s : Space) → pool_counter z ≤ counter_of z s
     counter_low Pool = omega arith
     counter_low Lists = omega arith
 
-    counter_high : (s : Space) → counter_of z s ≤ z.m + 3
+    counter_high : (s : Space) → counter_of z s ≤ list_counter z
     counter_high Pool = omega arith
     counter_high Lists = omega arith
 
@@ -105,9 +105,10 @@ module _ (z : Layout) (o : Opening) (words : List ℕ) (before : List Holding) (
           slot_words = slot_words;
           counts = λ l below inside. omega (arith, below, slots);
           head = head_stays z o words claimed before h h' after log w m (other (list_head z) (λ e. omega (arith, e, least)));
-          pool_high = pool_stays before h h' after (get_or claimed (pool_counter z) 0) (pool_end z) (4 + 2 * z.m) refl (pool.1 ((4 + 2 * z.m) * pool_marks (before ++ h ∷ after)) w.pool_high);
+          pool_high = pool_stays before h h' after (get_or claimed (pool_counter z) 0) (pool_end z) (greatest_record z) refl
+              (pool.1 (greatest_record z * pool_marks (before ++ h ∷ after)) w.pool_high);
           slots_high = slots_stay before h h' after (get_or claimed (slot_counter z) 0) z.slots refl (let high = w.slots_high in omega (arith, slots, high));
-          lists_high = lists_stay before h h' after (get_or claimed (list_counter z) 0) (list_end z) (z.slots + 2) refl (lists.1 ((z.slots + 2) * list_marks (before ++ h ∷ after)) w.lists_high);
+          lists_high = lists_stay before h h' after (get_or claimed (list_counter z) 0) (list_end z) (greatest_list z) refl (lists.1 (greatest_list z * list_marks (before ++ h ∷ after)) w.lists_high);
         })
 
 pub claims_are_kept : ClaimsAreKept
@@ -187,9 +188,9 @@ stores_are_kept z o words before h after log b w is idle more =
       slot_words = slot_words;
       counts = λ l inside room. omega (arith, inside, slots);
       head = head_stays z o words words' before h h' after log w m (low (list_head z) (omega arith));
-      pool_high = pool_stays before h h' after (get_or words' (pool_counter z) 0) (pool_end z) (4 + 2 * z.m) refl (let high = w.pool_high in omega (arith, pool, high));
+      pool_high = pool_stays before h h' after (get_or words' (pool_counter z) 0) (pool_end z) (greatest_record z) refl (let high = w.pool_high in omega (arith, pool, high));
       slots_high = slots_stay before h h' after (get_or words' (slot_counter z) 0) z.slots refl (let high = w.slots_high in omega (arith, slots, high));
-      lists_high = lists_stay before h h' after (get_or words' (list_counter z) 0) (list_end z) (z.slots + 2) refl (let high = w.lists_high in omega (arith, lists, high));
+      lists_high = lists_stay before h h' after (get_or words' (list_counter z) 0) (list_end z) (greatest_list z) refl (let high = w.lists_high in omega (arith, lists, high));
     })
 
 -- a block that is published is apart from all that aren't
@@ -262,9 +263,9 @@ publishings_are_kept z o words before h after log old at list w idle is normal h
       counts = λ l inside room. omega (arith, inside, slots);
       head = subst (IsHead z words' (unpublished (before ++ h' ∷ after))) (sym now)
           (either z words' (unpublished (before ++ h' ∷ after)) (get_or words n 0 == old) at (get_or words n 0) (inr (list, published)) head);
-      pool_high = pool_stays before h h' after (get_or words' (pool_counter z) 0) (pool_end z) (4 + 2 * z.m) refl (let high = w.pool_high in omega (arith, pool, high));
+      pool_high = pool_stays before h h' after (get_or words' (pool_counter z) 0) (pool_end z) (greatest_record z) refl (let high = w.pool_high in omega (arith, pool, high));
       slots_high = slots_stay before h h' after (get_or words' (slot_counter z) 0) z.slots refl (let high = w.slots_high in omega (arith, slots, high));
-      lists_high = lists_stay before h h' after (get_or words' (list_counter z) 0) (list_end z) (z.slots + 2) refl (let high = w.lists_high in omega (arith, lists, high));
+      lists_high = lists_stay before h h' after (get_or words' (list_counter z) 0) (list_end z) (greatest_list z) refl (let high = w.lists_high in omega (arith, lists, high));
     })
   where
     either : (z : Layout) (words : List ℕ) (us : List Block) (t : Bool) (x y : ℕ) → IsHead z words us x → IsHead z words us y → IsHead z words us (cond t x y)

@@ -1,11 +1,12 @@
 -- The blocks of the words, with one port's holding in the place of another.
-use Rattle.partial_state.proofs.Common.{ℕ, ◌≡◌, ◌+◌, ◌*◌, ◌++◌, List, [], ◌∷◌, length, map, Option, Some, None, refl, sym, ◌∙◌, ap, cons_option, option_map, Applied, Layout, pool_base, Block, Joined, Own, Holding, block_of, block_at, announcements, unpublished, blocks_in, joined_in}
+use Rattle.partial_state.proofs.Common.{ℕ, ◌≡◌, ◌+◌, ◌*◌, ◌++◌, List, [], ◌∷◌, length, map, Option, Some, None, refl, sym, ◌∙◌, ap, cons_option, option_map, Applied, Layout, pool_base, Block, Joined, Own, Holding, block_of, block_at, announcements, unpublished, blocks_in, joined_in, initial_words}
 use Rattle.partial_state.proofs.ListLemmas.{Adds, adds_behind, adds_before}
 use Rattle.partial_state.proofs.HoldingLemmas.{filter_split}
+use Rattle.partial_words.specs.Announcement.{announcement_size}
 
 -- the block of an announcement
 abbrev pub announcement_of : Joined → Block
-announcement_of j = record { at = j.at; size = 1 + length j.indices }
+announcement_of j = record { at = j.at; size = announcement_size (length j.indices) }
 
 module _ (before : List Holding) (h : Holding) (after : List Holding) where
   pub unpublished_is : (f : Option Own) → h.own ≡ f → unpublished (before ++ h ∷ after) ≡ unpublished before ++ cons_option (option_map block_of f) (unpublished after)
@@ -34,7 +35,7 @@ module _ (before : List Holding) (h h' : Holding) (after : List Holding) where
 -- the blocks of both, where one has one more that isn't published, or one more announcement
 module _ (z : Layout) (words : List ℕ) (hs hs' : List Holding) (log : List Applied) where
   abbrev initial : List Block
-  initial = record { at = pool_base z; size = 3 * z.m } ∷ []
+  initial = record { at = pool_base z; size = initial_words z } ∷ []
 
   abbrev entries : List Block
   entries = map (λ e. block_at words e.stamp) log

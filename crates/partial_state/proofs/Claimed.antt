@@ -1,5 +1,5 @@
 -- The blocks of lawful words: all their words are claimed, and those that are published are apart from the others.
-use Rattle.partial_state.proofs.Common.{ℕ, ◌≡◌, ◌+◌, ◌*◌, ◌<◌, ◌≤◌, ◌==◌, ◌++◌, Bool, true, false, cond, List, [], ◌∷◌, length, map, get_or, Option, Some, None, IfSome, MatchOption, slice_get, refl, ◌∙◌, ap, subst, inl, inr, arith, AllByRecursion, cons_option, option_map, eqb-true, Applied, Opening, Layout, pool_counter, slot_word, pool_base, view_of, view_len, length-pairs, Block, AreApart, Joined, HasPairs, IsAnnounced, IsApartFrom, Claimed, Holding, Space, first_of, end_of, counter_of, block_of, block_at, announcements, unpublished, blocks_in, joined_in, EachTwo, Pool, Lists, LawfulWords, IsOwn, IsTied, IsClaim, IsEntry, IsPublished, AllByRecursion-get, all_where}
+use Rattle.partial_state.proofs.Common.{ℕ, ◌≡◌, ◌+◌, ◌*◌, ◌<◌, ◌≤◌, ◌==◌, ◌++◌, Bool, true, false, cond, List, [], ◌∷◌, length, map, get_or, Option, Some, None, IfSome, MatchOption, slice_get, refl, ◌∙◌, ap, subst, inl, inr, arith, AllByRecursion, cons_option, option_map, eqb-true, Applied, Opening, Layout, pool_counter, slot_word, pool_base, view_of, view_len, length-pairs, Block, AreApart, Joined, HasPairs, IsAnnounced, IsApartFrom, Claimed, Holding, Space, first_of, end_of, counter_of, block_of, block_at, announcements, unpublished, blocks_in, joined_in, EachTwo, Pool, Lists, LawfulWords, IsOwn, IsTied, IsClaim, IsEntry, IsPublished, AllByRecursion-get, all_where, own_view, plain_record_size, full_record_size, initial_words}
 use Rattle.partial_state.proofs.ListLemmas.{all_append, all_back, all_map, all_unmap, all_weaker, two_back, two_across}
 use Rattle.partial_state.proofs.Frames.{IsClaimedBlock, announcement_claimed, block_published}
 use Rattle.partial_state.proofs.HoldingLemmas.{if_some, if_all, all_unpublished}
@@ -10,22 +10,22 @@ pub match_some : {A : Type 0} (P : Type 0) (Q : A → Type 0) (f : Option A) (a 
 match_some P Q f a e w = let h : MatchOption (Some a) P Q = subst (λ (f : Option _). MatchOption f P Q) e w in h
 
 -- a record of the history with its view lies below the pool's counter
-entry_below : (z : Layout) (words : List ℕ) (us : List Block) (stamp : ℕ) (pairs : List (ℕ × ℕ)) → HasPairs z words us stamp pairs → stamp + 3 ≤ get_or words (pool_counter z) 0 →
+entry_below : (z : Layout) (words : List ℕ) (us : List Block) (stamp : ℕ) (pairs : List (ℕ × ℕ)) → HasPairs z words us stamp pairs → stamp + plain_record_size ≤ get_or words (pool_counter z) 0 →
     stamp + (block_at words stamp).size ≤ get_or words (pool_counter z) 0
-entry_below z words us stamp pairs shown low = either (view_of words stamp == stamp + 3) refl shown
+entry_below z words us stamp pairs shown low = either (view_of words stamp == own_view stamp) refl shown
   where
-    sized : (b : Bool) (n : ℕ) → stamp + 3 ≤ get_or words (pool_counter z) 0 → (b ≡ true → stamp + (4 + 2 * n) ≤ get_or words (pool_counter z) 0) →
-        stamp + cond b (4 + 2 * n) 3 ≤ get_or words (pool_counter z) 0
+    sized : (b : Bool) (n : ℕ) → stamp + plain_record_size ≤ get_or words (pool_counter z) 0 → (b ≡ true → stamp + full_record_size n ≤ get_or words (pool_counter z) 0) →
+        stamp + cond b (full_record_size n) plain_record_size ≤ get_or words (pool_counter z) 0
     sized true n low f = f refl
     sized false n low f = low
 
-    either : (b : Bool) → (view_of words stamp == stamp + 3) ≡ b → HasPairs z words us stamp pairs → stamp + (block_at words stamp).size ≤ get_or words (pool_counter z) 0
-    either b e (inl h) = sized (view_of words stamp == stamp + 3) (view_len words (stamp + 3)) low
-        (λ t. let is = eqb-true (view_of words stamp) (stamp + 3) t in let none = h.0 in absurd (omega (arith, is, none)))
-    either b e (inr h) = sized (view_of words stamp == stamp + 3) (view_len words (stamp + 3)) low (λ t.
-        let is : view_of words stamp ≡ stamp + 3 = eqb-true (view_of words stamp) (stamp + 3) t in
+    either : (b : Bool) → (view_of words stamp == own_view stamp) ≡ b → HasPairs z words us stamp pairs → stamp + (block_at words stamp).size ≤ get_or words (pool_counter z) 0
+    either b e (inl h) = sized (view_of words stamp == own_view stamp) (view_len words (own_view stamp)) low
+        (λ t. let is = eqb-true (view_of words stamp) (own_view stamp) t in let none = h.0 in absurd (omega (arith, is, none)))
+    either b e (inr h) = sized (view_of words stamp == own_view stamp) (view_len words (own_view stamp)) low (λ t.
+        let is : view_of words stamp ≡ own_view stamp = eqb-true (view_of words stamp) (own_view stamp) t in
         let first : get_or words (view_of words stamp + 0) 0 ≡ length pairs = (h.stands 0 (omega arith)).1 in
-        let count : get_or words (stamp + 3) 0 ≡ length pairs = ap (λ n. get_or words n 0) (omega (arith, is)) ∙ first in
+        let count : get_or words (own_view stamp) 0 ≡ length pairs = ap (λ n. get_or words n 0) (omega (arith, is)) ∙ first in
         let below = h.below in
         let long = length-pairs pairs in
         omega (arith, is, count, below, long))
@@ -63,9 +63,9 @@ module _ (z : Layout) (o : Opening) (words : List ℕ) (hs : List Holding) (log 
       all_back (AreApart (block_at words e.stamp)) (announcements hs) (unpublished hs)
       (AllByRecursion-get (λ (e : Applied). AllByRecursion (AreApart (block_at words e.stamp)) (announcements hs ++ unpublished hs)) log k e each s)
 
-  pub initial_free : IsApartFrom (unpublished hs) (record { at = pool_base z; size = 3 * z.m })
+  pub initial_free : IsApartFrom (unpublished hs) (record { at = pool_base z; size = initial_words z })
   initial_free =
-      let b : Block = record { at = pool_base z; size = 3 * z.m } in
+      let b : Block = record { at = pool_base z; size = initial_words z } in
       all_back (AreApart b) (announcements hs) (unpublished hs) (all_back (AreApart b) (map (λ e. block_at words e.stamp) log) (announcements hs ++ unpublished hs) w.apart.0)
 
   -- all words of blocks are claimed
@@ -102,6 +102,6 @@ module _ (z : Layout) (o : Opening) (words : List ℕ) (hs : List Holding) (log 
   pub entry_published : (k : ℕ) (e : Applied) (n : ℕ) → slice_get log k ≡ Some e → n < (block_at words e.stamp).size → IsPublished z words (unpublished hs) (e.stamp + n)
   entry_published k e n s below = block_published z words (unpublished hs) (block_at words e.stamp) (e.stamp + n) (entry_claimed k e s) (entry_free k e s) (omega arith) (omega (arith, below))
 
-  pub initial_published : (n : ℕ) → n < 3 * z.m → IsPublished z words (unpublished hs) (pool_base z + n)
-  initial_published n below = block_published z words (unpublished hs) (record { at = pool_base z; size = 3 * z.m }) (pool_base z + n) (inr (omega arith, w.pool_low)) initial_free
+  pub initial_published : (n : ℕ) → n < initial_words z → IsPublished z words (unpublished hs) (pool_base z + n)
+  initial_published n below = block_published z words (unpublished hs) (record { at = pool_base z; size = initial_words z }) (pool_base z + n) (inr (omega arith, w.pool_low)) initial_free
       (omega arith) (omega (arith, below))

@@ -7,9 +7,9 @@ pub use Rattle.std.proofs.lemmas.List.{length_push, take_all, take-append-le}
 pub use Rattle.std.proofs.lemmas.Bool.Decides.{nat_tests, eqb_tells}
 pub use Rattle.partial_model.specs.declared.history.Applied.{Applied}
 pub use Rattle.partial_model.specs.declared.history.Opening.{Opening}
-pub use Rattle.partial_words.specs.Layout.{Layout, slot_counter, list_head, pool_counter, list_counter, slot_word, list_base, list_end, pool_end, total, pool_base, initial_record, IsLayout}
+pub use Rattle.partial_words.specs.Layout.{Layout, slot_counter, list_head, pool_counter, list_counter, slot_word, list_base, list_end, pool_end, total, pool_base, initial_record, IsLayout, greatest_record, greatest_list, initial_words, first_free}
 pub use Rattle.partial_words.proofs.RecordLemmas.{length-pairs}
-pub use Rattle.partial_words.specs.Record.{view_of, view_len, view_word, prev_of, value_of, StandsAt, view_block}
+pub use Rattle.partial_words.specs.Record.{view_of, view_len, view_word, prev_of, value_of, StandsAt, view_block, own_view, plain_record_size, full_record_size, value_word, prev_word}
 pub use Rattle.partial_model.proofs.NotesLemmas.{AllByRecursion-get, slice_get_last, distinct_push, slice_get_grows, AllByRecursion-push}
 pub use Rattle.partial_model.proofs.AllLemmas.{all_where}
 pub use Rattle.partial_model.specs.History.{IsHistory, stamp_of, initial_stamp}

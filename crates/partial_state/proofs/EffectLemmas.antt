@@ -1,5 +1,5 @@
 -- What a step changes, and that lawful words stay lawful by it and what was loaded true.
-use Rattle.partial_state.proofs.Common.{ℕ, ◌≡◌, ◌≢◌, ◌+◌, ◌*◌, ◌<◌, ◌≤◌, ◌⊎◌, ◌++◌, List, [], ◌∷◌, length, get_or, Option, Some, None, IfSome, IsSomeAnd, MatchOption, slice_get, refl, sym, ◌∙◌, ap, subst, inl, inr, arith, AllByRecursion, ne_eqb, cases_lt, Applied, Opening, IsHistory, stamp_of, place_below, Layout, slot_counter, list_head, pool_counter, list_counter, slot_word, list_end, pool_end, initial_record, view_word, prev_of, value_of, view_of, Agrees, Block, AreApart, Joined, HasFreshView, IsWithin, Covers, IsAnnounced, IsHead, Claimed, Own, Due, Holding, block_of, block_at, unpublished, blocks_in, others_of, IfJoined, joined_in, EachTwo, HaveOtherPorts, HaveOtherSlots, pool_marks, slot_marks, list_marks, Pool, LawfulWords, IsOwn, IsTied, IsClaimedIn, IsClaim, CoversAll, IsDue, IsEntry, Kept, IsLoaded, IsKept, AllByRecursion-get, all_where}
+use Rattle.partial_state.proofs.Common.{ℕ, ◌≡◌, ◌≢◌, ◌+◌, ◌*◌, ◌<◌, ◌≤◌, ◌⊎◌, ◌++◌, List, [], ◌∷◌, length, get_or, Option, Some, None, IfSome, IsSomeAnd, MatchOption, slice_get, refl, sym, ◌∙◌, ap, subst, inl, inr, arith, AllByRecursion, ne_eqb, cases_lt, Applied, Opening, IsHistory, stamp_of, place_below, Layout, slot_counter, list_head, pool_counter, list_counter, slot_word, list_end, pool_end, initial_record, view_word, prev_of, value_of, view_of, Agrees, Block, AreApart, Joined, HasFreshView, IsWithin, Covers, IsAnnounced, IsHead, Claimed, Own, Due, Holding, block_of, block_at, unpublished, blocks_in, others_of, IfJoined, joined_in, EachTwo, HaveOtherPorts, HaveOtherSlots, pool_marks, slot_marks, list_marks, Pool, LawfulWords, IsOwn, IsTied, IsClaimedIn, IsClaim, CoversAll, IsDue, IsEntry, Kept, IsLoaded, IsKept, AllByRecursion-get, all_where, greatest_record, greatest_list, prev_word, value_word}
 use Rattle.partial_state.proofs.ListLemmas.{all_at, all_before, all_after, all_join, all_weaker, two_before, two_after, two_join, length_same}
 use Rattle.partial_state.proofs.Frames.{Frame, Grows, within_more, within_grows, published_moves, announced_moves, head_moves, slot_moves, fresh_moves, covers_moves, covers_newer}
 use Rattle.partial_state.proofs.HoldingLemmas.{own_far, if_some, if_some_at, some_found, found_some, joined_weaker, HaveOtherBlocks, blocks_turn, ports_turn, slots_turn, others_split, block_stays, three_words}
@@ -30,9 +30,9 @@ pub record Changes (z : Layout) (o : Opening) (words words' : List ℕ) (before 
   -- the port has joined just now, or it has what it had
   pub joined : (h'.claimed ≡ h.claimed) ⊎ IfJoined h' (λ l j. length log ≤ j.since)
   pub head : IsHead z words' (unpublished (before ++ h' ∷ after)) (get_or words' (list_head z) 0)
-  pub pool_high : get_or words' (pool_counter z) 0 ≤ pool_end z + (4 + 2 * z.m) * pool_marks (before ++ h' ∷ after)
+  pub pool_high : get_or words' (pool_counter z) 0 ≤ pool_end z + greatest_record z * pool_marks (before ++ h' ∷ after)
   pub slots_high : get_or words' (slot_counter z) 0 ≤ z.slots + slot_marks (before ++ h' ∷ after)
-  pub lists_high : get_or words' (list_counter z) 0 ≤ list_end z + (z.slots + 2) * list_marks (before ++ h' ∷ after)
+  pub lists_high : get_or words' (list_counter z) 0 ≤ list_end z + greatest_list z * list_marks (before ++ h' ∷ after)
 
 -- the port joined now, or has what it had: what holds of those joined before it, and of those since
 pub joined_moves : (h h' : Holding) (n : ℕ) (P Q : ℕ → Joined → Type 0) → ((l : ℕ) (j : Joined) → P l j → Q l j) → ((l : ℕ) (j : Joined) → n ≤ j.since → Q l j) → (h'.claimed ≡ h.claimed) ⊎
@@ -50,9 +50,9 @@ pub due_moves : (z : Layout) (o : Opening) (words words' : List ℕ) (v v' : Hol
 due_moves z o words words' v v' others others' log log' d f g own unjoined named same covers w =
     let size = three_words words d.at in
     let none : d.at ≡ d.at + 0 = omega arith in
-    let prev : prev_of words' d.at ≡ prev_of words d.at = ap (λ n. get_or words' n 0) none ∙ same 0 (omega (arith, size)) ∙ ap (λ n. get_or words n 0) (sym none) in
-    let view : view_of words' d.at ≡ view_of words d.at = same 2 (omega (arith, size)) in
-    let value : value_of words' d.at ≡ value_of words d.at = same 1 (omega (arith, size)) in
+    let prev : prev_of words' d.at ≡ prev_of words d.at = ap (λ n. get_or words' n 0) none ∙ same (prev_word 0) (omega (arith, size)) ∙ ap (λ n. get_or words n 0) (sym none) in
+    let view : view_of words' d.at ≡ view_of words d.at = same (view_word 0) (omega (arith, size)) in
+    let value : value_of words' d.at ≡ value_of words d.at = same (value_word 0) (omega (arith, size)) in
     let block : block_at words' d.at ≡ block_at words d.at = block_stays words words' d.at same in
     let found = some_found (λ (b : Own). (b.space ≡ Pool) × (block_of b ≡ block_at words d.at) × (b.stored ≡ length b.words)) v.own w.own in
     let more = g.more in
@@ -178,7 +178,7 @@ module _ (z : Layout) (o : Opening) (words words' : List ℕ) (before : List Hol
       let below = entry.below in
       let more = c.moves.pool in
       let prev = entry_prev z o words words' before h h' after log w c.moves k e s in
-      let view = entry_three z o words words' before h h' after log w c.moves k e 2 s (omega arith) in
+      let view = entry_three z o words words' before h h' after log w c.moves k e (view_word 0) s (omega arith) in
       let within = place_below log k e s in
       record {
         entry = record { above = entry.above; within = entry.within; below = omega (arith, below, more) };

@@ -2,7 +2,7 @@
 use Rattle.partial_state.proofs.Common.{ℕ, ◌≡◌, ◌+◌, ◌<◌, ◌≤◌, ◌⊎◌, List, length, take, get_or, slice_get, Some, refl, sym, ◌∙◌, ap, subst, inl, inr, arith, cases_lt, Applied, Opening, place_below, Layout, slot_counter, pool_counter, list_counter, slot_word, list_base, list_end, pool_base, StandsAt, view_block, prev_of, view_of, length-pairs, IsViewOf, Block, AreApart, Joined, HasFreshView, HasPairs, IsView, IsWithin, IsBegunSince, Covers, Names, IsAnnounced, IsPublishedList, IsApartFrom, IsHead, IsPublished, IsSlotAnswer}
 use Rattle.partial_intervals.specs.Intervals.{Ranges}
 use Rattle.partial_model.specs.History.{value_of}
-use Rattle.partial_words.specs.Announcement.{announcement_block}
+use Rattle.partial_words.specs.Announcement.{announcement_block, announcement_size}
 use Rattle.partial_words.specs.VacatedList.{list_block}
 use Rattle.partial_state.proofs.ListLemmas.{all_weaker}
 
@@ -77,7 +77,7 @@ pub view_claimed : (z : Layout) (words : List ℕ) (us : List Block) (at : ℕ) 
 view_claimed z words us at pairs w = let above = w.above in inr (omega (arith, above), w.below)
 
 pub announcement_claimed : (z : Layout) (words : List ℕ) (us : List Block) (at : ℕ) (indices : List ℕ) → IsAnnounced z words us at indices →
-    IsClaimedBlock z words (record { at = at; size = 1 + length indices })
+    IsClaimedBlock z words (record { at = at; size = announcement_size (length indices) })
 announcement_claimed z words us at indices w = let above = w.above in let below = w.below in inr (omega (arith, above), omega (arith, below))
 
 pub list_claimed : (z : Layout) (words : List ℕ) (us : List Block) (at : ℕ) (list : Ranges) → IsPublishedList z words us at list →
@@ -153,12 +153,12 @@ module _ (z : Layout) (words words' : List ℕ) (us us' : List Block) (f : Frame
 
   pub announced_moves : (at : ℕ) (indices : List ℕ) → IsAnnounced z words us at indices → IsAnnounced z words' us' at indices
   announced_moves at indices w =
-      let block : Block = record { at = at; size = 1 + length indices } in
+      let block : Block = record { at = at; size = announcement_size (length indices) } in
       let above = w.above in
       let below = w.below in
       let more = f.pool in
       let claimed = announcement_claimed z words us at indices w in
-      let size : length (announcement_block indices) ≡ 1 + length indices = omega arith in
+      let size : length (announcement_block indices) ≡ announcement_size (length indices) = omega arith in
       let a = w.whole in
       record {
         whole = record {

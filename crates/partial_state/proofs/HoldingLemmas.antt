@@ -1,5 +1,5 @@
 -- Holdings with one in the place of another: their blocks, the other ports' ones, and how many are marked.
-use Rattle.partial_state.proofs.Common.{ℕ, suc, ◌≡◌, ◌≢◌, ◌+◌, ◌*◌, ◌<◌, ◌≤◌, ◌==◌, ◌++◌, Bool, true, false, cond, List, [], ◌∷◌, length, filter_map, get_or, Option, Some, None, IfSome, IsSomeAnd, refl, sym, ◌∙◌, ap, subst, inl, inr, arith, AllByRecursion, cons_option, option_map, ne_eqb, view_of, view_len, Layout, list_base, IsOwn, Pool, Lists, Block, AreApart, Joined, Own, Holding, Space, first_of, EachTwo, IfJoined, block_of, block_at, unpublished, others_of, pool_marks, slot_marks, list_marks, HaveOtherPorts, HaveOtherSlots}
+use Rattle.partial_state.proofs.Common.{ℕ, suc, ◌≡◌, ◌≢◌, ◌+◌, ◌*◌, ◌<◌, ◌≤◌, ◌==◌, ◌++◌, Bool, true, false, cond, List, [], ◌∷◌, length, filter_map, get_or, Option, Some, None, IfSome, IsSomeAnd, refl, sym, ◌∙◌, ap, subst, inl, inr, arith, AllByRecursion, cons_option, option_map, ne_eqb, view_of, view_len, Layout, list_base, IsOwn, Pool, Lists, Block, AreApart, Joined, Own, Holding, Space, first_of, EachTwo, IfJoined, block_of, block_at, unpublished, others_of, pool_marks, slot_marks, list_marks, HaveOtherPorts, HaveOtherSlots, own_view, plain_record_size, full_record_size, view_word}
 
 -- what holds of the value in an option
 pub if_some : {A : Type 0} (P Q : A → Type 0) (found : Option A) → ((a : A) → found ≡ Some a → P a → Q a) → IfSome found P → IfSome found Q
@@ -151,11 +151,11 @@ pub lists_are : (hs : List Holding) → list_marks hs ≡ marks (λ h. h.lists_s
 lists_are [] = refl
 lists_are (h ∷ hs) = ap (λ n. cond h.lists_spent 1 0 + n) (lists_are hs)
 
--- a record has at least three words
-pub three_words : (words : List ℕ) (stamp : ℕ) → 3 ≤ (block_at words stamp).size
-three_words words stamp = least (view_of words stamp == stamp + 3) (view_len words (stamp + 3))
+-- a record has at least the words of a plain one
+pub three_words : (words : List ℕ) (stamp : ℕ) → plain_record_size ≤ (block_at words stamp).size
+three_words words stamp = least (view_of words stamp == own_view stamp) (view_len words (own_view stamp))
   where
-    least : (b : Bool) (n : ℕ) → 3 ≤ cond b (4 + 2 * n) 3
+    least : (b : Bool) (n : ℕ) → plain_record_size ≤ cond b (full_record_size n) plain_record_size
     least true n = omega arith
     least false n = omega arith
 
@@ -164,17 +164,20 @@ pub block_stays : (words words' : List ℕ) (stamp : ℕ) → ((n : ℕ) → n <
     block_at words' stamp ≡ block_at words stamp
 block_stays words words' stamp same =
     let size = three_words words stamp in
-    let view : view_of words' stamp ≡ view_of words stamp = same 2 (omega (arith, size)) in
-    ap (λ (v : ℕ). record { at = stamp; size = cond (v == stamp + 3) (4 + 2 * view_len words' (stamp + 3)) 3 }) view ∙ either words words' stamp same (view_of words stamp == stamp + 3) refl
+    let view : view_of words' stamp ≡ view_of words stamp = same (view_word 0) (omega (arith, size)) in
+    ap (λ (v : ℕ). record { at = stamp; size = cond (v == own_view stamp) (full_record_size (view_len words' (own_view stamp))) plain_record_size }) view
+    ∙ either words words' stamp same (view_of words stamp == own_view stamp) refl
   where
     either : (words words' : List ℕ) (stamp : ℕ) → ((n : ℕ) → n < (block_at words stamp).size → get_or words' (stamp + n) 0 ≡ get_or words (stamp + n) 0) → (b : Bool) →
-        (view_of words stamp == stamp + 3) ≡ b → ◌≡◌ {A = Block} (record { at = stamp; size = cond (view_of words stamp == stamp + 3) (4 + 2 * view_len words' (stamp + 3)) 3 }) (block_at words stamp)
+        (view_of words stamp == own_view stamp) ≡ b →
+        ◌≡◌ {A = Block} (record { at = stamp; size = cond (view_of words stamp == own_view stamp) (full_record_size (view_len words' (own_view stamp))) plain_record_size }) (block_at words stamp)
     either words words' stamp same true e =
-        let inside : 3 < (block_at words stamp).size = subst (λ (t : Bool). 3 < cond t (4 + 2 * view_len words (stamp + 3)) 3) (sym e) (omega arith) in
-        ap (λ (n : ℕ). record { at = stamp; size = cond (view_of words stamp == stamp + 3) (4 + 2 * n) 3 }) (same 3 inside)
+        let inside : plain_record_size < (block_at words stamp).size = subst (λ (t : Bool). plain_record_size < cond t (full_record_size (view_len words (own_view stamp))) plain_record_size) (sym e)
+        (omega arith) in
+        ap (λ (n : ℕ). record { at = stamp; size = cond (view_of words stamp == own_view stamp) (full_record_size n) plain_record_size }) (same plain_record_size inside)
     either words words' stamp same false e =
-        ap (λ (t : Bool). record { at = stamp; size = cond t (4 + 2 * view_len words' (stamp + 3)) 3 }) e ∙
-        sym (ap (λ (t : Bool). record { at = stamp; size = cond t (4 + 2 * view_len words (stamp + 3)) 3 }) e)
+        ap (λ (t : Bool). record { at = stamp; size = cond t (full_record_size (view_len words' (own_view stamp))) plain_record_size }) e ∙
+        sym (ap (λ (t : Bool). record { at = stamp; size = cond t (full_record_size (view_len words (own_view stamp))) plain_record_size }) e)
 
 -- a port's own block lies behind the slots
 pub own_far : (z : Layout) (words : List ℕ) (b : Own) → IsOwn z words b → list_base z ≤ b.at

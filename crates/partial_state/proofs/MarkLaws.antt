@@ -1,5 +1,5 @@
 -- The steps that change no block and no slot: an exchange comes to be due, a block is given up, and claims that are refused.
-use Rattle.partial_state.proofs.Common.{ℕ, ◌≡◌, ◌≢◌, ◌+◌, ◌*◌, ◌<◌, ◌≤◌, ◌++◌, ◌^◌, ◌%◌, true, List, ◌∷◌, get_or, set, Option, Some, None, IfSome, refl, sym, ◌∙◌, ap, subst, arith, get_or-set_other, get_or-set_same, length-set, eq-eqb, Applied, Layout, slot_counter, list_head, pool_counter, list_counter, slot_word, list_base, list_end, pool_end, Block, AreApart, Own, Holding, block_of, blocks_in, others_of, joined_in, EachTwo, IsTied, IsDue, DuesAreKept, DropsAreKept, PoolRefusalsAreKept, ListRefusalsAreKept, SlotRefusalsAreKept}
+use Rattle.partial_state.proofs.Common.{ℕ, ◌≡◌, ◌≢◌, ◌+◌, ◌*◌, ◌<◌, ◌≤◌, ◌++◌, ◌^◌, ◌%◌, true, List, ◌∷◌, get_or, set, Option, Some, None, IfSome, refl, sym, ◌∙◌, ap, subst, arith, get_or-set_other, get_or-set_same, length-set, eq-eqb, Applied, Layout, slot_counter, list_head, pool_counter, list_counter, slot_word, list_base, list_end, pool_end, Block, AreApart, Own, Holding, block_of, blocks_in, others_of, joined_in, EachTwo, IsTied, IsDue, DuesAreKept, DropsAreKept, PoolRefusalsAreKept, ListRefusalsAreKept, SlotRefusalsAreKept, greatest_record, greatest_list}
 use Rattle.partial_state.proofs.ListLemmas.{all_at, two_take}
 use Rattle.partial_state.proofs.Frames.{apart_turns}
 use Rattle.partial_state.proofs.HoldingLemmas.{others_gone}
@@ -47,9 +47,9 @@ drops_are_kept z o words before h after log w =
       slot_words = λ l room. refl;
       counts = λ l below room. below;
       head = head_stays z o words words before h h' after log w m refl;
-      pool_high = pool_stays before h h' after (get_or words (pool_counter z) 0) (pool_end z) (4 + 2 * z.m) refl w.pool_high;
+      pool_high = pool_stays before h h' after (get_or words (pool_counter z) 0) (pool_end z) (greatest_record z) refl w.pool_high;
       slots_high = slots_stay before h h' after (get_or words (slot_counter z) 0) z.slots refl w.slots_high;
-      lists_high = lists_stay before h h' after (get_or words (list_counter z) 0) (list_end z) (z.slots + 2) refl w.lists_high;
+      lists_high = lists_stay before h h' after (get_or words (list_counter z) 0) (list_end z) (greatest_list z) refl w.lists_high;
     })
 
 -- where neither blocks nor announcements change
@@ -76,9 +76,9 @@ dues_are_kept z o words before h after log d w due =
       slot_words = λ l room. refl;
       counts = λ l below room. below;
       head = head_stays z o words words before h h' after log w m refl;
-      pool_high = pool_stays before h h' after (get_or words (pool_counter z) 0) (pool_end z) (4 + 2 * z.m) refl w.pool_high;
+      pool_high = pool_stays before h h' after (get_or words (pool_counter z) 0) (pool_end z) (greatest_record z) refl w.pool_high;
       slots_high = slots_stay before h h' after (get_or words (slot_counter z) 0) z.slots refl w.slots_high;
-      lists_high = lists_stay before h h' after (get_or words (list_counter z) 0) (list_end z) (z.slots + 2) refl w.lists_high;
+      lists_high = lists_stay before h h' after (get_or words (list_counter z) 0) (list_end z) (greatest_list z) refl w.lists_high;
     })
 
 pub pool_refusals_are_kept : PoolRefusalsAreKept
@@ -126,9 +126,9 @@ pool_refusals_are_kept z o words before h after log size w unmarked small past =
       slot_words = slot_words;
       counts = λ l below room. omega (arith, below, slots);
       head = head_stays z o words words' before h h' after log w m (other (list_head z) (λ e. omega (arith, e)));
-      pool_high = pool_rises before h h' after (get_or words' (pool_counter z) 0) (pool_end z) (4 + 2 * z.m) unmarked refl (omega (arith, now, high, small));
+      pool_high = pool_rises before h h' after (get_or words' (pool_counter z) 0) (pool_end z) (greatest_record z) unmarked refl (omega (arith, now, high, small));
       slots_high = slots_stay before h h' after (get_or words' (slot_counter z) 0) z.slots refl (let high = w.slots_high in omega (arith, slots, high));
-      lists_high = lists_stay before h h' after (get_or words' (list_counter z) 0) (list_end z) (z.slots + 2) refl (let high = w.lists_high in omega (arith, lists, high));
+      lists_high = lists_stay before h h' after (get_or words' (list_counter z) 0) (list_end z) (greatest_list z) refl (let high = w.lists_high in omega (arith, lists, high));
     })
 
 pub list_refusals_are_kept : ListRefusalsAreKept
@@ -177,9 +177,9 @@ list_refusals_are_kept z o words before h after log size w unmarked small past =
       slot_words = slot_words;
       counts = λ l below room. omega (arith, below, slots);
       head = head_stays z o words words' before h h' after log w m (other (list_head z) (λ e. omega (arith, e)));
-      pool_high = pool_stays before h h' after (get_or words' (pool_counter z) 0) (pool_end z) (4 + 2 * z.m) refl (let high = w.pool_high in omega (arith, pool, high));
+      pool_high = pool_stays before h h' after (get_or words' (pool_counter z) 0) (pool_end z) (greatest_record z) refl (let high = w.pool_high in omega (arith, pool, high));
       slots_high = slots_stay before h h' after (get_or words' (slot_counter z) 0) z.slots refl (let high = w.slots_high in omega (arith, slots, high));
-      lists_high = lists_rise before h h' after (get_or words' (list_counter z) 0) (list_end z) (z.slots + 2) unmarked refl (omega (arith, now, high, small));
+      lists_high = lists_rise before h h' after (get_or words' (list_counter z) 0) (list_end z) (greatest_list z) unmarked refl (omega (arith, now, high, small));
     })
 
 pub slot_refusals_are_kept : SlotRefusalsAreKept
@@ -227,7 +227,7 @@ slot_refusals_are_kept z o words before h after log w unmarked past =
       slot_words = slot_words;
       counts = λ l below room. omega (arith, room, past);
       head = head_stays z o words words' before h h' after log w m (other (list_head z) (λ e. omega (arith, e)));
-      pool_high = pool_stays before h h' after (get_or words' (pool_counter z) 0) (pool_end z) (4 + 2 * z.m) refl (let high = w.pool_high in omega (arith, pool, high));
+      pool_high = pool_stays before h h' after (get_or words' (pool_counter z) 0) (pool_end z) (greatest_record z) refl (let high = w.pool_high in omega (arith, pool, high));
       slots_high = slots_rise before h h' after (get_or words' (slot_counter z) 0) z.slots unmarked refl (omega (arith, now, high));
-      lists_high = lists_stay before h h' after (get_or words' (list_counter z) 0) (list_end z) (z.slots + 2) refl (let high = w.lists_high in omega (arith, lists, high));
+      lists_high = lists_stay before h h' after (get_or words' (list_counter z) 0) (list_end z) (greatest_list z) refl (let high = w.lists_high in omega (arith, lists, high));
     })

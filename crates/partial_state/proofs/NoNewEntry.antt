@@ -1,5 +1,5 @@
 -- The steps that add nothing to the history, and what most steps leave as it was.
-use Rattle.partial_state.proofs.Common.{ℕ, ◌≡◌, ◌≢◌, ◌+◌, ◌*◌, ◌<◌, ◌≤◌, ◌⊎◌, ◌++◌, ◌^◌, ◌%◌, true, false, List, ◌∷◌, length, get_or, Option, None, IfSome, IsSomeAnd, refl, sym, ◌∙◌, ap, subst, inl, inr, arith, eq-eqb, Applied, Opening, place_below, Layout, IsLayout, slot_counter, list_head, pool_counter, list_counter, slot_word, list_base, list_end, pool_end, Block, AreApart, Covers, IsHead, Claimed, Own, Due, Holding, block_of, block_at, unpublished, blocks_in, others_of, IfJoined, joined_in, EachTwo, HaveOtherSlots, pool_marks, slot_marks, list_marks, Pool, LawfulWords, IsOwn, IsTied, IsClaim, IsDue, IsKept}
+use Rattle.partial_state.proofs.Common.{ℕ, ◌≡◌, ◌≢◌, ◌+◌, ◌*◌, ◌<◌, ◌≤◌, ◌⊎◌, ◌++◌, ◌^◌, ◌%◌, true, false, List, ◌∷◌, length, get_or, Option, None, IfSome, IsSomeAnd, refl, sym, ◌∙◌, ap, subst, inl, inr, arith, eq-eqb, Applied, Opening, place_below, Layout, IsLayout, slot_counter, list_head, pool_counter, list_counter, slot_word, list_base, list_end, pool_end, Block, AreApart, Covers, IsHead, Claimed, Own, Due, Holding, block_of, block_at, unpublished, blocks_in, others_of, IfJoined, joined_in, EachTwo, HaveOtherSlots, pool_marks, slot_marks, list_marks, Pool, LawfulWords, IsOwn, IsTied, IsClaim, IsDue, IsKept, greatest_record, greatest_list}
 use Rattle.std.proofs.Math.Nat.{mul-le-mul_left}
 use Rattle.partial_state.proofs.ListLemmas.{all_at, all_weaker}
 use Rattle.partial_state.proofs.Frames.{Frame, stays, head_moves, covers_moves}
@@ -20,9 +20,9 @@ pub record Quiet (z : Layout) (o : Opening) (words words' : List ℕ) (before : 
   pub owners : (v : Holding) → IfSome v.claimed (IsClaim z words (before ++ h ∷ after) log) → HaveOtherSlots h v → HaveOtherSlots h' v
   pub joined : (h'.claimed ≡ h.claimed) ⊎ IfJoined h' (λ l j. length log ≤ j.since)
   pub head : IsHead z words' (unpublished (before ++ h' ∷ after)) (get_or words' (list_head z) 0)
-  pub pool_high : get_or words' (pool_counter z) 0 ≤ pool_end z + (4 + 2 * z.m) * pool_marks (before ++ h' ∷ after)
+  pub pool_high : get_or words' (pool_counter z) 0 ≤ pool_end z + greatest_record z * pool_marks (before ++ h' ∷ after)
   pub slots_high : get_or words' (slot_counter z) 0 ≤ z.slots + slot_marks (before ++ h' ∷ after)
-  pub lists_high : get_or words' (list_counter z) 0 ≤ list_end z + (z.slots + 2) * list_marks (before ++ h' ∷ after)
+  pub lists_high : get_or words' (list_counter z) 0 ≤ list_end z + greatest_list z * list_marks (before ++ h' ∷ after)
 
 pub quiet : (z : Layout) (o : Opening) (words words' : List ℕ) (before : List Holding) (h h' : Holding) (after : List Holding) (log : List Applied) → LawfulWords z o words (before ++ h ∷ after) log →
     Quiet z o words words' before h h' after log → IsKept z o words before h after log words' h' log
@@ -80,13 +80,13 @@ module _ (before : List Holding) (h h' : Holding) (after : List Holding) where
 
 -- the counters stay far below 2 ^ 64
 module _ (z : Layout) (o : Opening) (words : List ℕ) (hs : List Holding) (log : List Applied) (w : LawfulWords z o words hs log) where
-  pub pool_bound : get_or words (pool_counter z) 0 ≤ pool_end z + 64 * (4 + 2 * z.m)
+  pub pool_bound : get_or words (pool_counter z) 0 ≤ pool_end z + 64 * greatest_record z
   pool_bound =
       let few = marks_few (λ (v : Holding). v.pool_spent) hs in
       let is = pool_is hs in
       let all = w.few in
       let high = w.pool_high in
-      let bound : (4 + 2 * z.m) * pool_marks hs ≤ (4 + 2 * z.m) * 64 = mul-le-mul_left (4 + 2 * z.m) (omega (arith, few, is, all)) in
+      let bound : greatest_record z * pool_marks hs ≤ greatest_record z * 64 = mul-le-mul_left (greatest_record z) (omega (arith, few, is, all)) in
       omega (arith, bound, high)
 
   pub slots_bound : get_or words (slot_counter z) 0 ≤ z.slots + 64
@@ -97,16 +97,16 @@ module _ (z : Layout) (o : Opening) (words : List ℕ) (hs : List Holding) (log 
       let high = w.slots_high in
       omega (arith, few, is, all, high)
 
-  pub lists_bound : get_or words (list_counter z) 0 ≤ list_end z + 64 * (z.slots + 2)
+  pub lists_bound : get_or words (list_counter z) 0 ≤ list_end z + 64 * greatest_list z
   lists_bound =
       let few = marks_few (λ (v : Holding). v.lists_spent) hs in
       let is = lists_are hs in
       let all = w.few in
       let high = w.lists_high in
-      let bound : (z.slots + 2) * list_marks hs ≤ (z.slots + 2) * 64 = mul-le-mul_left (z.slots + 2) (omega (arith, few, is, all)) in
+      let bound : greatest_list z * list_marks hs ≤ greatest_list z * 64 = mul-le-mul_left (greatest_list z) (omega (arith, few, is, all)) in
       omega (arith, bound, high)
 
-pub fits_word : (z : Layout) (n : ℕ) → IsLayout z → n ≤ pool_end z + 65 * (4 + 2 * z.m) + 65 * (z.slots + 2) → n % 2 ^ 64 ≡ n
+pub fits_word : (z : Layout) (n : ℕ) → IsLayout z → n ≤ pool_end z + 65 * greatest_record z + 65 * greatest_list z → n % 2 ^ 64 ≡ n
 fits_word z n s most = let m = s.components.1 in let l = s.slots.1 in let t = s.lists in let p = s.pool.1 in omega arith
 
 -- what stays where the port's claim does
@@ -176,9 +176,9 @@ pub record Calm (z : Layout) (o : Opening) (words words' : List ℕ) (before : L
   pub slot_words : (l : ℕ) → l < z.slots → get_or words' (slot_word z l) 0 ≡ get_or words (slot_word z l) 0
   pub counts : (l : ℕ) → l < get_or words' (slot_counter z) 0 → l < z.slots → l < get_or words (slot_counter z) 0
   pub head : IsHead z words' (unpublished (before ++ h' ∷ after)) (get_or words' (list_head z) 0)
-  pub pool_high : get_or words' (pool_counter z) 0 ≤ pool_end z + (4 + 2 * z.m) * pool_marks (before ++ h' ∷ after)
+  pub pool_high : get_or words' (pool_counter z) 0 ≤ pool_end z + greatest_record z * pool_marks (before ++ h' ∷ after)
   pub slots_high : get_or words' (slot_counter z) 0 ≤ z.slots + slot_marks (before ++ h' ∷ after)
-  pub lists_high : get_or words' (list_counter z) 0 ≤ list_end z + (z.slots + 2) * list_marks (before ++ h' ∷ after)
+  pub lists_high : get_or words' (list_counter z) 0 ≤ list_end z + greatest_list z * list_marks (before ++ h' ∷ after)
 
 pub calm : (z : Layout) (o : Opening) (words words' : List ℕ) (before : List Holding) (h h' : Holding) (after : List Holding) (log : List Applied) → LawfulWords z o words (before ++ h ∷ after) log →
     Calm z o words words' before h h' after log → IsKept z o words before h after log words' h' log

@@ -1,5 +1,5 @@
 -- Words as they open are lawful.
-use Rattle.partial_state.proofs.Common.{ℕ, zero, suc, ◌≡◌, ◌+◌, ◌*◌, ◌<◌, ◌≤◌, ◌++◌, false, List, [], ◌∷◌, length, get_or, Some, None, IfSome, refl, sym, ap, subst, inl, arith, ◌∙◌, AllByRecursion, nat_tests, Layout, slot_counter, list_head, pool_counter, list_counter, slot_word, list_base, pool_base, opening_word, Block, AreApart, Holding, EachTwo, HaveOtherPorts, HaveOtherSlots, announcements, unpublished, IsTied, idle_holdings, OpeningIsLawful}
+use Rattle.partial_state.proofs.Common.{ℕ, zero, suc, ◌≡◌, ◌+◌, ◌*◌, ◌<◌, ◌≤◌, ◌++◌, false, List, [], ◌∷◌, length, get_or, Some, None, IfSome, refl, sym, ap, subst, inl, arith, ◌∙◌, AllByRecursion, nat_tests, Layout, slot_counter, list_head, pool_counter, list_counter, slot_word, list_base, pool_base, opening_word, Block, AreApart, Holding, EachTwo, HaveOtherPorts, HaveOtherSlots, announcements, unpublished, IsTied, idle_holdings, OpeningIsLawful, initial_words, first_free}
 use Rattle.partial_words.proofs.LayoutLemmas.{opening_agrees, view_opens}
 
 -- ports that hold nothing
@@ -35,7 +35,7 @@ pub none_announced : (p n : ℕ) → announcements (idle_holdings p n) ≡ []
 none_announced p zero = refl
 none_announced p (suc n) = none_announced (p + 1) n
 
-pub pool_opens : (z : Layout) (initial : List ℕ) → opening_word z initial (pool_counter z) ≡ pool_base z + 3 * z.m
+pub pool_opens : (z : Layout) (initial : List ℕ) → opening_word z initial (pool_counter z) ≡ first_free z
 pool_opens z initial = grind (arith, nat_tests)
 
 pub slot_opens : (z : Layout) (initial : List ℕ) → 1 ≤ z.slots → opening_word z initial (slot_counter z) ≡ 0
@@ -53,7 +53,7 @@ slots_open z initial l below = grind (arith, nat_tests)
 pub opening_is_lawful : OpeningIsLawful
 opening_is_lawful z o words n opens few =
     let some = opens.sizes.slots.0 in
-    let pool : get_or words (pool_counter z) 0 ≡ pool_base z + 3 * z.m = opens.words.each (pool_counter z) (omega (arith, some)) ∙ pool_opens z o.values in
+    let pool : get_or words (pool_counter z) 0 ≡ first_free z = opens.words.each (pool_counter z) (omega (arith, some)) ∙ pool_opens z o.values in
     let slots : get_or words (slot_counter z) 0 ≡ 0 = opens.words.each (slot_counter z) (omega (arith, some)) ∙ slot_opens z o.values some in
     let head : get_or words (list_head z) 0 ≡ 0 = opens.words.each (list_head z) (omega (arith, some)) ∙ list_opens z o.values some in
     let lists : get_or words (list_counter z) 0 ≡ list_base z = opens.words.each (list_counter z) (omega (arith, some)) ∙ lists_open z o.values some in
@@ -73,7 +73,7 @@ opening_is_lawful z o words n opens few =
       initial = λ j below. view_opens z o words j opens below;
       entries = tt;
       tied = idle_all (IsTied z words) (λ p. record { own = tt; pool_marked = λ m. cc; slots_marked = λ m. cc; lists_marked = λ m. cc }) 0 n;
-      apart = subst (λ (l : List Block). EachTwo AreApart (record { at = pool_base z; size = 3 * z.m } ∷ l)) (sym blocks) (tt, tt);
+      apart = subst (λ (l : List Block). EachTwo AreApart (record { at = pool_base z; size = initial_words z } ∷ l)) (sym blocks) (tt, tt);
       fresh = λ k e s. let bad : None ≡ Some e = s in cc;
       covering = tt;
       due = idle_all (λ h. IfSome h.due _) (λ p. tt) 0 n;

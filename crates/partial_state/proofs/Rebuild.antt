@@ -1,5 +1,5 @@
 -- Lawful words with one port's holding in the place of another, and with other words.
-use Rattle.partial_state.proofs.Common.{ℕ, ◌≡◌, ◌≢◌, ◌+◌, ◌*◌, ◌<◌, ◌≤◌, ◌++◌, List, [], ◌∷◌, length, map, get_or, Option, Some, IfSome, slice_get, sym, ◌∙◌, ap, subst, arith, AllByRecursion, Applied, Opening, initial_stamp, Layout, slot_counter, pool_counter, list_counter, slot_word, list_base, pool_base, prev_of, Agrees, IsLink, IsChain, chain_of, Block, AreApart, Own, Holding, Space, counter_of, block_of, block_at, announcements, unpublished, blocks_in, EachTwo, Pool, Lists, LawfulWords, IsOwn, IsTied, IsEntry, AllByRecursion-get, all_where}
+use Rattle.partial_state.proofs.Common.{ℕ, ◌≡◌, ◌≢◌, ◌+◌, ◌*◌, ◌<◌, ◌≤◌, ◌++◌, List, [], ◌∷◌, length, map, get_or, Option, Some, IfSome, slice_get, sym, ◌∙◌, ap, subst, arith, AllByRecursion, Applied, Opening, initial_stamp, Layout, slot_counter, pool_counter, list_counter, slot_word, list_base, pool_base, prev_of, Agrees, IsLink, IsChain, chain_of, Block, AreApart, Own, Holding, Space, counter_of, block_of, block_at, announcements, unpublished, blocks_in, EachTwo, Pool, Lists, LawfulWords, IsOwn, IsTied, IsEntry, AllByRecursion-get, all_where, initial_words, first_free, value_word, value_of, prev_word, plain_record_size}
 use Rattle.partial_words.specs.declared.record.Link.{Link}
 use Rattle.partial_words.proofs.ChainLemmas.{chain_all}
 use Rattle.partial_state.proofs.ListLemmas.{all_at, all_before, all_after, all_join, two_before, two_after, map_same}
@@ -94,20 +94,20 @@ module _ (z : Layout) (words words' : List ℕ) (h h' : Holding) (m : Moves z wo
       marked_moves v (if_some (IsOwn z words) (IsOwn z words') v.own (λ b e own. own_moves b (if_some_at (λ b. IfSome h.own (λ c. AreApart (block_of b) (block_of c))) v.own b e other) own) w.own) w
 
 -- a record whose words stay
-link_stays : (words words' : List ℕ) → length words' ≡ length words → (at : ℕ) (l : Link) → get_or words' (at + 1) 0 ≡ get_or words (at + 1) 0 → IsLink words at l → IsLink words' at l
+link_stays : (words words' : List ℕ) → length words' ≡ length words → (at : ℕ) (l : Link) → value_of words' at ≡ value_of words at → IsLink words at l → IsLink words' at l
 link_stays words words' count at l same c = record { stamp = c.stamp; within = let within = c.within in omega (arith, count, within); value = same ∙ c.value }
 
 -- a chain whose words stay
 pub chain_stays : (words words' : List ℕ) → length words' ≡ length words → (at : ℕ) (links : List Link) →
-    AllByRecursion (λ l. (get_or words' l.stamp 0 ≡ get_or words l.stamp 0) × (get_or words' (l.stamp + 1) 0 ≡ get_or words (l.stamp + 1) 0)) links → IsChain words at links → IsChain words' at links
+    AllByRecursion (λ l. (prev_of words' l.stamp ≡ prev_of words l.stamp) × (value_of words' l.stamp ≡ value_of words l.stamp)) links → IsChain words at links → IsChain words' at links
 chain_stays words words' count at [] all c = c
 chain_stays words words' count at (l ∷ []) all c =
-    let both : (get_or words' at 0 ≡ get_or words at 0) × (get_or words' (at + 1) 0 ≡ get_or words (at + 1) 0) =
-    subst (λ n. (get_or words' n 0 ≡ get_or words n 0) × (get_or words' (n + 1) 0 ≡ get_or words (n + 1) 0)) c.0.stamp all.0 in
+    let both : (prev_of words' at ≡ prev_of words at) × (value_of words' at ≡ value_of words at) =
+    subst (λ n. (prev_of words' n ≡ prev_of words n) × (value_of words' n ≡ value_of words n)) c.0.stamp all.0 in
     (link_stays words words' count at l both.1 c.0, both.0 ∙ c.1)
 chain_stays words words' count at (l ∷ k ∷ ls) all c =
-    let both : (get_or words' at 0 ≡ get_or words at 0) × (get_or words' (at + 1) 0 ≡ get_or words (at + 1) 0) =
-    subst (λ n. (get_or words' n 0 ≡ get_or words n 0) × (get_or words' (n + 1) 0 ≡ get_or words (n + 1) 0)) c.0.stamp all.0 in
+    let both : (prev_of words' at ≡ prev_of words at) × (value_of words' at ≡ value_of words at) =
+    subst (λ n. (prev_of words' n ≡ prev_of words n) × (value_of words' n ≡ value_of words n)) c.0.stamp all.0 in
     (link_stays words words' count at l both.1 c.0, subst (λ n. IsChain words' n (k ∷ ls)) (sym both.0) (chain_stays words words' count (prev_of words at) (k ∷ ls) all.1 c.1))
 
 module _ (z : Layout) (o : Opening) (words words' : List ℕ) (before : List Holding) (h h' : Holding) (after : List Holding) (log : List Applied) (w : LawfulWords z o words (before ++ h ∷ after) log)
@@ -126,28 +126,30 @@ module _ (z : Layout) (o : Opening) (words words' : List ℕ) (before : List Hol
       (λ c is a. part_apart (word_at (e.stamp + n)) (block_at words e.stamp) (block_of c) (omega arith) (omega (arith, below)) a)
       (from_own b (entry_free z o words (before ++ h ∷ after) log w k e s)))
 
-  pub entry_three : (k : ℕ) (e : Applied) (n : ℕ) → slice_get log k ≡ Some e → n < 3 → get_or words' (e.stamp + n) 0 ≡ get_or words (e.stamp + n) 0
+  pub entry_three : (k : ℕ) (e : Applied) (n : ℕ) → slice_get log k ≡ Some e → n < plain_record_size → get_or words' (e.stamp + n) 0 ≡ get_or words (e.stamp + n) 0
   entry_three k e n s below = let size = three_words words e.stamp in entry_word k e n s (omega (arith, size, below))
 
-  pub entry_prev : (k : ℕ) (e : Applied) → slice_get log k ≡ Some e → get_or words' e.stamp 0 ≡ get_or words e.stamp 0
-  entry_prev k e s = let none : e.stamp ≡ e.stamp + 0 = omega arith in ap (λ n. get_or words' n 0) none ∙ entry_three k e 0 s (omega arith) ∙ ap (λ n. get_or words n 0) (sym none)
+  pub entry_prev : (k : ℕ) (e : Applied) → slice_get log k ≡ Some e → prev_of words' e.stamp ≡ prev_of words e.stamp
+  entry_prev k e s = let none : prev_word e.stamp ≡ e.stamp + prev_word 0 = omega arith in ap (λ n. get_or words' n 0) none ∙ entry_three k e (prev_word 0) s (omega arith)
+      ∙ ap (λ n. get_or words n 0) (sym none)
 
-  pub initial_word : (n : ℕ) → pool_base z ≤ n → n < pool_base z + 3 * z.m → get_or words' n 0 ≡ get_or words n 0
+  pub initial_word : (n : ℕ) → pool_base z ≤ n → n < first_free z → get_or words' n 0 ≡ get_or words n 0
   initial_word n from to =
-      let b : Block = record { at = pool_base z; size = 3 * z.m } in
-      m.same n (omega (arith, from)) (if_some (λ c. AreApart (record { at = pool_base z; size = 3 * z.m }) (block_of c)) (λ c. AreApart (word_at n) (block_of c)) h.own
-      (λ c is a. part_apart (word_at n) (record { at = pool_base z; size = 3 * z.m }) (block_of c) from (omega (arith, to)) a) (from_own b (initial_free z o words (before ++ h ∷ after) log w)))
+      let b : Block = record { at = pool_base z; size = initial_words z } in
+      m.same n (omega (arith, from)) (if_some (λ c. AreApart (record { at = pool_base z; size = initial_words z }) (block_of c)) (λ c. AreApart (word_at n) (block_of c)) h.own
+      (λ c is a. part_apart (word_at n) (record { at = pool_base z; size = initial_words z }) (block_of c) from (omega (arith, to)) a)
+      (from_own b (initial_free z o words (before ++ h ∷ after) log w)))
 
   -- the chains stay
   pub chain_moves : (j : ℕ) → j < length o.values → IsChain words' (get_or words j 0) (chain_of o j log)
   chain_moves j below =
       let base = w.stamps in
       let values = w.values in
-      let P : ℕ → Type 0 = λ s. (get_or words' s 0 ≡ get_or words s 0) × (get_or words' (s + 1) 0 ≡ get_or words (s + 1) 0) in
+      let P : ℕ → Type 0 = λ s. (prev_of words' s ≡ prev_of words s) × (value_of words' s ≡ value_of words s) in
       chain_stays words words' m.count (get_or words j 0) (chain_of o j log)
-      (chain_all P o j log (all_where (λ (e : Applied). P e.stamp) log (λ k e s. (entry_prev k e s, entry_three k e 1 s (omega arith)))) (
+      (chain_all P o j log (all_where (λ (e : Applied). P e.stamp) log (λ k e s. (entry_prev k e s, entry_three k e (value_word 0) s (omega arith)))) (
         initial_word (initial_stamp o j) (omega (arith, base)) (omega (arith, base, values, below)),
-        initial_word (initial_stamp o j + 1) (omega (arith, base))
+        initial_word (value_word (initial_stamp o j)) (omega (arith, base))
             (omega (arith, base, values, below)),
       ))
       (w.agrees j below).1
@@ -164,7 +166,7 @@ module _ (z : Layout) (o : Opening) (words words' : List ℕ) (before : List Hol
       (all_where (λ (e : Applied). block_at words' e.stamp ≡ block_at words e.stamp) log (λ k e s. block_stays words words' e.stamp (λ n below. entry_word k e n s below)))
 
   pub blocks_stay : (hs : List Holding) → EachTwo AreApart (blocks_in z words hs log) → EachTwo AreApart (blocks_in z words' hs log)
-  blocks_stay hs two = subst (λ (l : List Block). EachTwo AreApart (record { at = pool_base z; size = 3 * z.m } ∷ (l ++ (announcements hs ++ unpublished hs)))) (sym entries_stay) two
+  blocks_stay hs two = subst (λ (l : List Block). EachTwo AreApart (record { at = pool_base z; size = initial_words z } ∷ (l ++ (announcements hs ++ unpublished hs)))) (sym entries_stay) two
 
   -- what the ports of the other holdings own is apart from what the port owns
   pub own_before : AllByRecursion (HaveOtherBlocks h) before

@@ -1,6 +1,6 @@
 -- The steps on slots: a claim, a join and a leave.
-use Rattle.partial_state.proofs.Common.{ℕ, ◌≡◌, ◌≢◌, ◌+◌, ◌*◌, ◌<◌, ◌≤◌, ◌++◌, ◌^◌, ◌%◌, ◌∷◌, length, get_or, set, Option, Some, None, IfSome, IsSomeAnd, refl, sym, ◌∙◌, ap, subst, inl, inr, arith, get_or-set_other, get_or-set_same, length-set, AllByRecursion, eqb_tells, slot_counter, list_head, pool_counter, list_counter, slot_word, list_base, list_end, pool_end, Block, AreApart, Joined, IsAnnounced, IsApartFrom, Claimed, Own, Holding, block_of, unpublished, blocks_in, others_of, joined_in, Pool, IsOwn, IsTied, IsClaim, IsDue, SlotClaimsAreKept, JoinsAreKept, LeavesAreKept}
-use Rattle.partial_words.specs.Announcement.{announcement_block}
+use Rattle.partial_state.proofs.Common.{ℕ, ◌≡◌, ◌≢◌, ◌+◌, ◌*◌, ◌<◌, ◌≤◌, ◌++◌, ◌^◌, ◌%◌, ◌∷◌, length, get_or, set, Option, Some, None, IfSome, IsSomeAnd, refl, sym, ◌∙◌, ap, subst, inl, inr, arith, get_or-set_other, get_or-set_same, length-set, AllByRecursion, eqb_tells, slot_counter, list_head, pool_counter, list_counter, slot_word, list_base, list_end, pool_end, Block, AreApart, Joined, IsAnnounced, IsApartFrom, Claimed, Own, Holding, block_of, unpublished, blocks_in, others_of, joined_in, Pool, IsOwn, IsTied, IsClaim, IsDue, SlotClaimsAreKept, JoinsAreKept, LeavesAreKept, greatest_record, greatest_list}
+use Rattle.partial_words.specs.Announcement.{announcement_block, announcement_size}
 use Rattle.partial_state.proofs.ListLemmas.{all_at, two_take, two_put}
 use Rattle.partial_state.proofs.Frames.{apart_turns}
 use Rattle.partial_state.proofs.Claimed.{unpublished_two}
@@ -70,9 +70,9 @@ slot_claims_are_kept z o words before h after log w unclaimed room =
           (λ d e claim. let below = claim.below in λ is. omega (arith, is, below)) k;
       joined = inr tt;
       head = head_stays z o words words' before h h' after log w m (other (list_head z) (λ e. omega (arith, e)));
-      pool_high = pool_stays before h h' after (get_or words' (pool_counter z) 0) (pool_end z) (4 + 2 * z.m) refl (let high = w.pool_high in omega (arith, pool, high));
+      pool_high = pool_stays before h h' after (get_or words' (pool_counter z) 0) (pool_end z) (greatest_record z) refl (let high = w.pool_high in omega (arith, pool, high));
       slots_high = slots_stay before h h' after (get_or words' (slot_counter z) 0) z.slots refl (omega (arith, now, room));
-      lists_high = lists_stay before h h' after (get_or words' (list_counter z) 0) (list_end z) (z.slots + 2) refl (let high = w.lists_high in omega (arith, lists, high));
+      lists_high = lists_stay before h h' after (get_or words' (list_counter z) 0) (list_end z) (greatest_list z) refl (let high = w.lists_high in omega (arith, lists, high));
     })
 
 pub leaves_are_kept : LeavesAreKept
@@ -124,15 +124,15 @@ leaves_are_kept z o words before h after log slot j w is =
       owners = λ v k other. tt;
       joined = inr tt;
       head = head_stays z o words words' before h h' after log w m (other (list_head z) (λ e. omega (arith, e)));
-      pool_high = pool_stays before h h' after (get_or words' (pool_counter z) 0) (pool_end z) (4 + 2 * z.m) refl (let high = w.pool_high in omega (arith, pool, high));
+      pool_high = pool_stays before h h' after (get_or words' (pool_counter z) 0) (pool_end z) (greatest_record z) refl (let high = w.pool_high in omega (arith, pool, high));
       slots_high = slots_stay before h h' after (get_or words' (slot_counter z) 0) z.slots refl (let high = w.slots_high in omega (arith, slots, high));
-      lists_high = lists_stay before h h' after (get_or words' (list_counter z) 0) (list_end z) (z.slots + 2) refl (let high = w.lists_high in omega (arith, lists, high));
+      lists_high = lists_stay before h h' after (get_or words' (list_counter z) 0) (list_end z) (greatest_list z) refl (let high = w.lists_high in omega (arith, lists, high));
     })
 
 pub joins_are_kept : JoinsAreKept
 joins_are_kept z o words before h after log slot at indices w is idle owned few each =
     let c : Claimed = record { slot = slot; joined = None } in
-    let b : Own = record { space = Pool; at = at; words = announcement_block indices; stored = 1 + length indices } in
+    let b : Own = record { space = Pool; at = at; words = announcement_block indices; stored = announcement_size (length indices) } in
     let j : Joined = record { at = at; indices = indices; since = length log } in
     let h' : Holding = record h { own = None; claimed = Some (record { slot = slot; joined = Some (record { at = at; indices = indices; since = length log }) }) } in
     let between : Holding = record h { own = None } in
@@ -169,7 +169,7 @@ joins_are_kept z o words before h after log slot at indices w is idle owned few 
     let above = own.above in
     let within = own.within in
     let below = own.below in
-    let size : length (announcement_block indices) ≡ 1 + length indices = omega arith in
+    let size : length (announcement_block indices) ≡ announcement_size (length indices) = omega arith in
     let same : block_of b ≡ announcement_of j = ap (λ n. record { at = at; size = n }) size in
     let taken = two_take AreApart apart_turns (block_of b) (blocks_in z words (before ++ between ∷ after) log) (blocks_in z words (before ++ h ∷ after) log)
     (own_block_added z words (before ++ h ∷ after) (before ++ between ∷ after) log (block_of b) (announced_same before h between after refl)
@@ -207,7 +207,7 @@ joins_are_kept z o words before h after log slot at indices w is idle owned few 
       owners = λ v k other. if_some_at (λ c. IfSome v.claimed (λ d. c.slot ≢ d.slot)) h.claimed c is other;
       joined = inr (let late : length log ≤ length log = omega arith in late);
       head = head_stays z o words words' before h h' after log w m (other (list_head z) (λ e. omega (arith, e)));
-      pool_high = pool_stays before h h' after (get_or words' (pool_counter z) 0) (pool_end z) (4 + 2 * z.m) refl (let high = w.pool_high in omega (arith, pool, high));
+      pool_high = pool_stays before h h' after (get_or words' (pool_counter z) 0) (pool_end z) (greatest_record z) refl (let high = w.pool_high in omega (arith, pool, high));
       slots_high = slots_stay before h h' after (get_or words' (slot_counter z) 0) z.slots refl (let high = w.slots_high in omega (arith, slots, high));
-      lists_high = lists_stay before h h' after (get_or words' (list_counter z) 0) (list_end z) (z.slots + 2) refl (let high = w.lists_high in omega (arith, lists, high));
+      lists_high = lists_stay before h h' after (get_or words' (list_counter z) 0) (list_end z) (greatest_list z) refl (let high = w.lists_high in omega (arith, lists, high));
     })

@@ -1,5 +1,5 @@
 -- A won exchange of a component: its record is published, and the history gains its entry.
-use Rattle.partial_state.proofs.Common.{ℕ, ◌≡◌, ◌≢◌, ◌+◌, ◌*◌, ◌<◌, ◌≤◌, ◌==◌, ◌++◌, Bool, true, false, cond, List, [], ◌∷◌, length, map, get_or, set, Option, Some, None, IfSome, slice_get, refl, sym, ◌∙◌, ap, subst, inl, inr, arith, append_assoc, get_or-set_other, get_or-set_same, length-set, AllByRecursion, option_map, eq-eqb, eqb-true, eqb-false, eqb_tells, length_push, take-append-le, Applied, Opening, IsHistory, initial_stamp, stamp_of, stamp_of-push, distinct_push, slice_get_grows, AllByRecursion-push, AllByRecursion-get, Layout, slot_counter, list_head, pool_counter, list_counter, slot_word, list_end, pool_base, pool_end, prev_of, view_of, IsLink, IsChain, chain_of, Block, AreApart, Joined, HasFreshView, Covers, IsWithin, Claimed, Own, Due, Holding, Space, first_of, end_of, counter_of, block_of, block_at, announcements, unpublished, blocks_in, others_of, IfJoined, joined_in, EachTwo, HaveOtherPorts, Pool, LawfulWords, IsOwn, IsTied, IsDue, IsKept, WinsAreKept, all_where}
+use Rattle.partial_state.proofs.Common.{ℕ, ◌≡◌, ◌≢◌, ◌+◌, ◌*◌, ◌<◌, ◌≤◌, ◌==◌, ◌++◌, Bool, true, false, cond, List, [], ◌∷◌, length, map, get_or, set, Option, Some, None, IfSome, slice_get, refl, sym, ◌∙◌, ap, subst, inl, inr, arith, append_assoc, get_or-set_other, get_or-set_same, length-set, AllByRecursion, option_map, eq-eqb, eqb-true, eqb-false, eqb_tells, length_push, take-append-le, Applied, Opening, IsHistory, initial_stamp, stamp_of, stamp_of-push, distinct_push, slice_get_grows, AllByRecursion-push, AllByRecursion-get, Layout, slot_counter, list_head, pool_counter, list_counter, slot_word, list_end, pool_base, pool_end, prev_of, view_of, IsLink, IsChain, chain_of, Block, AreApart, Joined, HasFreshView, Covers, IsWithin, Claimed, Own, Due, Holding, Space, first_of, end_of, counter_of, block_of, block_at, announcements, unpublished, blocks_in, others_of, IfJoined, joined_in, EachTwo, HaveOtherPorts, Pool, LawfulWords, IsOwn, IsTied, IsDue, IsKept, WinsAreKept, all_where, initial_words, first_free, greatest_record, greatest_list, view_word, value_word, plain_record_size, value_of}
 use Rattle.partial_words.proofs.ChainLemmas.{chain_cons, links_from-push}
 use Rattle.partial_state.proofs.ListLemmas.{all_at, all_front, all_back, all_join, all_weaker, all_unmap, two_before, two_after, two_take, two_put, Adds, adds_behind, found_before, found_last}
 use Rattle.partial_state.proofs.Frames.{Frame, Grows, apart_turns, fresh_moves, covers_moves}
@@ -24,7 +24,7 @@ unjoined_if P None e = tt
 unjoined_if P (Some c) e = subst (λ (j : Option Joined). IfSome j (P c.slot)) (sym e) tt
 
 -- where a block of a port's own lies in the pool
-pub own_in_pool : (z : Layout) (words : List ℕ) (b : Own) → b.space ≡ Pool → IsOwn z words b → (pool_base z + 3 * z.m ≤ b.at) × (b.at + length b.words ≤ pool_end z) ×
+pub own_in_pool : (z : Layout) (words : List ℕ) (b : Own) → b.space ≡ Pool → IsOwn z words b → (first_free z ≤ b.at) × (b.at + length b.words ≤ pool_end z) ×
     (b.at + length b.words ≤ get_or words (pool_counter z) 0)
 own_in_pool z words b e w = (
   subst (λ (s : Space). first_of z s ≤ b.at) e w.above,
@@ -60,7 +60,7 @@ module _ (z : Layout) (o : Opening) (words : List ℕ) (before : List Holding) (
     pub own : Own
     pub here : h.own ≡ Some own
     pub block : block_of own ≡ block_at words d.at
-    pub far : pool_base z + 3 * z.m ≤ d.at
+    pub far : first_free z ≤ d.at
     pub within : d.at + (block_at words d.at).size ≤ pool_end z
     pub below : d.at + (block_at words d.at).size ≤ get_or words (pool_counter z) 0
 
@@ -76,7 +76,7 @@ module _ (z : Layout) (o : Opening) (words : List ℕ) (before : List Holding) (
       let l = in'.2 in
       record { own = b; here = found.1; block = found.2.1; far = omega (arith, a, at); within = omega (arith, t, at, size); below = omega (arith, l, at, size) }
 
-  three : 3 ≤ (block_at words d.at).size
+  three : plain_record_size ≤ (block_at words d.at).size
   three = three_words words d.at
 
   inside : d.component < z.m
@@ -166,7 +166,7 @@ module _ (z : Layout) (o : Opening) (words : List ℕ) (before : List Holding) (
       let stamp : stamp_of o longer i ≡ at = stamp_of-push o log entry i ∙ ap (λ (b : Bool). cond b at (stamp_of o log i)) same in
       let chain : chain_of o i longer ≡ record { stamp = at; value = d.value } ∷ chain_of o i log = links_from-push (record { stamp = initial_stamp o i; value = get_or o.values i 0 } ∷ []) i log
       entry ∙ ap (λ (b : Bool). cond b (record { stamp = at; value = d.value } ∷ chain_of o i log) (chain_of o i log)) same in
-      let value : get_or exchanged (at + 1) 0 ≡ d.value = higher (at + 1) (omega (arith, far)) ∙ due.value in
+      let value : value_of exchanged at ≡ d.value = higher (value_word at) (omega (arith, far)) ∙ due.value in
       let prev : get_or exchanged at 0 ≡ old = higher at (omega (arith, far)) ∙ due.prev in
       let count : length exchanged ≡ length words = moves.count in
       let size = three in
@@ -227,7 +227,7 @@ module _ (z : Layout) (o : Opening) (words : List ℕ) (before : List Holding) (
   prev_now = let far = published.far in higher d.at (omega (arith, far))
 
   view_now : view_of exchanged d.at ≡ view_of words d.at
-  view_now = let far = published.far in higher (d.at + 2) (omega (arith, far))
+  view_now = let far = published.far in higher (view_word d.at) (omega (arith, far))
 
   new : IsNew z o exchanged holdings_after longer (length log) entry
   new =
@@ -254,7 +254,7 @@ module _ (z : Layout) (o : Opening) (words : List ℕ) (before : List Holding) (
   blocks_now =
       let far = published.far in
       let E = map (λ (e : Applied). block_at words e.stamp) log in
-      let initial : List Block = record { at = pool_base z; size = 3 * z.m } ∷ [] in
+      let initial : List Block = record { at = pool_base z; size = initial_words z } ∷ [] in
       let rest = announcements holdings_after ++ unpublished holdings_after in
       let block : block_at exchanged d.at ≡ block_at words d.at = block_stays words exchanged d.at (λ n below. higher (d.at + n) (omega (arith, far))) in
       let entries : map (λ (e : Applied). block_at exchanged e.stamp) longer ≡ E ++ block_at words d.at ∷ [] =
@@ -292,9 +292,9 @@ module _ (z : Layout) (o : Opening) (words : List ℕ) (before : List Holding) (
         owners = λ v k s. s;
         joined = inl refl;
         head = head_stays z o words exchanged before h behind after log w moves (higher (list_head z) (omega arith));
-        pool_high = pool_stays before h behind after (get_or exchanged (pool_counter z) 0) (pool_end z) (4 + 2 * z.m) refl (let high = w.pool_high in omega (arith, pool, high));
+        pool_high = pool_stays before h behind after (get_or exchanged (pool_counter z) 0) (pool_end z) (greatest_record z) refl (let high = w.pool_high in omega (arith, pool, high));
         slots_high = slots_stay before h behind after (get_or exchanged (slot_counter z) 0) z.slots refl (let high = w.slots_high in omega (arith, slots, high));
-        lists_high = lists_stay before h behind after (get_or exchanged (list_counter z) 0) (list_end z) (z.slots + 2) refl (let high = w.lists_high in omega (arith, lists, high));
+        lists_high = lists_stay before h behind after (get_or exchanged (list_counter z) 0) (list_end z) (greatest_list z) refl (let high = w.lists_high in omega (arith, lists, high));
       })
 
 pub wins_are_kept : WinsAreKept

@@ -1,7 +1,7 @@
 -- The text of a plan is read as the plan.
 use Rattle.partial_text.proofs.Common.{◌≡◌, ℕ, ◌+◌, ◌*◌, ◌^◌, ◌<◌, ◌≤◌, Bool, true, false, cond, eqb, leb, ltb, ◌&&◌, List, [], ◌∷◌, ◌++◌, length, map, drop, codes, Result, Ok, Err, refl, sym, ap, subst, ◌∙◌, append_assoc, eq-eqb, arith, decimal, flat_map, AllByRecursion, bytes_eq, ne_eqb, le-leb, lt-ltb, le-ltb, append-nil, length-append, length-map, flat_map-map, bytes_eq-Decides, Call, PlanError, until, from, onto_first, pieces, ◌>>=◌, PlanView, field, number_field, sizes_line, initial_line, call_text, next_call, port_line, entry_text, rest_text, steps_line, ended, plan_text, IsCall, IsEntry, IsPlan, Tail, greatest, greatest_index, fields_of, number_at, in_range, is_cut, call_texts, is_nil, is_rest, is_end, tail_at}
 use Rattle.partial_model.specs.declared.call.Call.TheVariants as call
-use Rattle.partial_words.specs.Layout.{Layout, IsLayout}
+use Rattle.partial_words.specs.Layout.{Layout, IsLayout, initial_words}
 use Rattle.partial_text.specs.declared.fault.Cause.TheVariants as cause
 use Rattle.partial_text.specs.declared.fault.PlanError.TheVariants as plan
 use Rattle.partial_text.specs.Judging.{sizes_from, sizes_at, initial_at, update_from, scan_from, read_from, update_if_from, call_at, calls_at, port_at, entry_at, entries_at, line_at, more_ports, last_at, lines_judged, judged}
@@ -208,7 +208,7 @@ in_range_again : (s : Layout) → IsLayout s → in_range s ≡ Ok s
 in_range_again s fits =
     let a = both_and (leb 1 s.m) (leb s.m 65536) (le-leb 1 s.m fits.components.0) (le-leb s.m 65536 fits.components.1) in
     let b = both_and (leb 1 s.slots) (leb s.slots 65536) (le-leb 1 s.slots fits.slots.0) (le-leb s.slots 65536 fits.slots.1) in
-    let d = both_and (leb (3 * s.m) s.pool) (leb s.pool 4194304) (le-leb (3 * s.m) s.pool fits.pool.0) (le-leb s.pool 4194304 fits.pool.1) in
+    let d = both_and (leb (initial_words s) s.pool) (leb s.pool 4194304) (le-leb (initial_words s) s.pool fits.pool.0) (le-leb s.pool 4194304 fits.pool.1) in
     rw (a, b, le-leb s.lists 65536 fits.lists, d) refl
 
 sizes_from_again : (s : Layout) → IsLayout s → sizes_from (decimal s.m ∷ decimal s.slots ∷ decimal s.lists ∷ decimal s.pool ∷ []) ≡ Ok s

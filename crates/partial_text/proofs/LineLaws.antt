@@ -1,7 +1,7 @@
 -- Each line is read exactly from its text.
 use Rattle.partial_text.proofs.Common.{◌≡◌, ℕ, ◌*◌, ◌^◌, ◌<◌, ◌≤◌, Bool, true, false, cond, eqb, leb, ltb, ◌&&◌, List, [], ◌∷◌, ◌++◌, length, map, drop, codes, Ok, Err, refl, sym, ap, subst, ◌∙◌, append_assoc, ◌⊎◌, inl, inr, arith, decimal, ok_or, flat_map, AllByRecursion, bytes_eq, eqb-true, leb-true, ltb-true, append-nil, length-map, bytes_eq-Decides, until, from, ◌>>=◌, field, sizes_line, initial_line, entry_text, rest_text, IsEntry, greatest, greatest_index, fields_of, exactly_four, number_at, numbers_at, in_range, is_nil, is_rest}
 use Rattle.std.proofs.lemmas.Fmt.{decimal_nonempty}
-use Rattle.partial_words.specs.Layout.{Layout, IsLayout}
+use Rattle.partial_words.specs.Layout.{Layout, IsLayout, initial_words}
 use Rattle.partial_words.specs.declared.sizes.SizeError.TheVariants as size
 use Rattle.partial_text.specs.declared.fault.Cause.TheVariants as cause
 use Rattle.partial_text.specs.declared.fault.PlanError.TheVariants as plan
@@ -16,16 +16,16 @@ in_range_ok s t e =
     let a = if_ok (leb 1 s.m && leb s.m 65536) _ (plan.Size size.Components) t e in
     let b = if_ok (leb 1 s.slots && leb s.slots 65536) _ (plan.Size size.Slots) t a.1 in
     let c = if_ok (leb s.lists 65536) _ (plan.Size size.Lists) t b.1 in
-    let d = if_ok (leb (3 * s.m) s.pool && leb s.pool 4194304) (Ok s) (plan.Size size.Pool) t c.1 in
+    let d = if_ok (leb (initial_words s) s.pool && leb s.pool 4194304) (Ok s) (plan.Size size.Pool) t c.1 in
     let p = and_both (leb 1 s.m) (leb s.m 65536) a.0 in
     let q = and_both (leb 1 s.slots) (leb s.slots 65536) b.0 in
-    let r = and_both (leb (3 * s.m) s.pool) (leb s.pool 4194304) d.0 in (
+    let r = and_both (leb (initial_words s) s.pool) (leb s.pool 4194304) d.0 in (
       ok_is s t d.1,
       record {
         components = (leb-true 1 s.m p.0, leb-true s.m 65536 p.1);
         slots = (leb-true 1 s.slots q.0, leb-true s.slots 65536 q.1);
         lists = leb-true s.lists 65536 c.0;
-        pool = (leb-true (3 * s.m) s.pool r.0, leb-true s.pool 4194304 r.1);
+        pool = (leb-true (initial_words s) s.pool r.0, leb-true s.pool 4194304 r.1);
       },
     )
 

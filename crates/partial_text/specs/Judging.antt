@@ -4,7 +4,7 @@ use Rattle.std.specs.Option.{ok_or, option_map}
 use Rattle.std.specs.Str.{bytes_eq}
 use Rattle.partial_model.specs.declared.call.Call.{Call}
 use Rattle.partial_model.specs.declared.call.Call.TheVariants as call
-use Rattle.partial_words.specs.Layout.{Layout}
+use Rattle.partial_words.specs.Layout.{Layout, initial_words}
 use Rattle.partial_words.specs.declared.sizes.SizeError.TheVariants as size
 use Rattle.partial_text.specs.declared.fault.Cause.TheVariants as cause
 use Rattle.partial_text.specs.declared.fault.PlanError.{PlanError}
@@ -65,7 +65,8 @@ numbers_at line most found (f ∷ fs) = do
 abbrev pub in_range : Layout → Result Layout PlanError
 in_range s =
     if nat_le 1 s.m && nat_le s.m 65536 then (if nat_le 1 s.slots && nat_le s.slots 65536 then
-    (if nat_le s.lists 65536 then (if nat_le (3 * s.m) s.pool && nat_le s.pool 4194304 then Ok s else Err (plan.Size size.Pool)) else
+    (if nat_le s.lists 65536 then
+    (if nat_le (initial_words s) s.pool && nat_le s.pool 4194304 then Ok s else Err (plan.Size size.Pool)) else
     Err (plan.Size size.Lists)) else Err (plan.Size size.Slots)) else Err (plan.Size size.Components)
 
 unfoldable pub sizes_from : List (List ℕ) → Result Layout PlanError

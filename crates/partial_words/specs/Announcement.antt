@@ -10,6 +10,14 @@ announcement_block indices = length indices ∷ indices
 abbrev pub announcement_size : ℕ → ℕ
 announcement_size n = 1 + n
 
+-- how many words an announcement has at least: one of one index
+abbrev pub least_announcement : ℕ
+least_announcement = 2
+
+-- the first word of the indices of the announcement at that place
+abbrev pub indices_word : ℕ → ℕ
+indices_word at = at + 1
+
 -- the word of index k of the announcement at that place
 abbrev pub announced_word : ℕ → ℕ → ℕ
 announced_word at k = at + 1 + k

@@ -27,6 +27,10 @@ plain_record_size = 3
 abbrev pub full_record_size : ℕ → ℕ
 full_record_size n = 4 + 2 * n
 
+-- the word of a record that refers to the record before it
+abbrev pub prev_word : ℕ → ℕ
+prev_word at = at
+
 -- the word of the value of the record at that place
 abbrev pub value_word : ℕ → ℕ
 value_word at = at + 1
@@ -38,6 +42,18 @@ view_word at = at + 2
 -- the place of a view of its own, behind its three words
 abbrev pub own_view : ℕ → ℕ
 own_view at = at + 3
+
+-- how many words n pairs have
+abbrev pub pairs_size : ℕ → ℕ
+pairs_size n = 2 * n
+
+-- the first word of the pairs of the view at that place
+abbrev pub pairs_word : ℕ → ℕ
+pairs_word at = at + 1
+
+-- the word behind that one, of pairs or of indices that are read word by word
+abbrev pub next_word : ℕ → ℕ
+next_word at = at + 1
 
 -- the word of the index of pair k of the view at that place
 abbrev pub pair_index_word : ℕ → ℕ → ℕ

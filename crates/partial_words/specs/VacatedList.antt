@@ -11,6 +11,10 @@ list_block intervals = length intervals ∷ flat_map pair_words intervals
 abbrev pub list_size : ℕ → ℕ
 list_size n = 1 + 2 * n
 
+-- the first word of the intervals of the list at that place
+abbrev pub intervals_word : ℕ → ℕ
+intervals_word at = at + 1
+
 -- the word of the lowest slot of interval k of the list at that place
 abbrev pub low_word : ℕ → ℕ → ℕ
 low_word at k = at + 1 + 2 * k

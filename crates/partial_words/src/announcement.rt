@@ -1,7 +1,7 @@
 //! The words of an announcement: the indices of the components that a scan asks for.
 
 ghost use Rattle.std.specs.Prelude.{◌≡◌, ◌+◌, ◌^◌, ◌<◌, length, slice_index};
-ghost use Rattle.partial_words.specs.Announcement.{announcement_block, announcement_size, announced_word, announced_len, announced};
+ghost use Rattle.partial_words.specs.Announcement.{announcement_block, announcement_size, announced_word, announced_len, announced, indices_word, least_announcement};
 
 /// How many words an announcement of so many indices has.
 pub fn announcement_size(indices: u64) -> u64
@@ -9,6 +9,23 @@ pub fn announcement_size(indices: u64) -> u64
     ensures { result ≡ announcement_size indices }
 {
     1 + indices
+}
+
+/// How many words an announcement has at least: one of one index.
+#[inline(always)]
+pub fn least_announcement() -> u64
+    ensures { result ≡ least_announcement }
+{
+    announcement_size(1)
+}
+
+/// The number of the first word of the indices of the announcement at word `at`.
+#[inline(always)]
+pub fn indices_word(at: u32) -> u32
+    requires { indices_word at < 2 ^ 32 }
+    ensures { result ≡ indices_word at }
+{
+    at + 1
 }
 
 /// Word `k` of an announcement: the number of its indices, then the indices.

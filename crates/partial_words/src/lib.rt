@@ -9,15 +9,18 @@ pub mod record;
 pub mod sizes;
 pub mod step;
 
-pub use announcement::{announced, announced_len, announcement_block_word, announcement_size};
+pub use announcement::{
+    announced, announced_len, announcement_block_word, announcement_size, indices_word,
+    least_announcement,
+};
 pub use law::{
     announcements_read_back, last_entries_head_chains, lists_read_back, opening_words_agree,
     records_lie_within, records_read_back, regions_are_apart,
 };
-pub use list::{interval, list_block_word, list_len, list_size};
+pub use list::{interval, intervals_word, list_block_word, list_len, list_size};
 pub use record::{
-    Link, full_record_size, own_view, plain_record_size, prev_of, record_block_word, value_of,
-    value_word, view_len, view_of, view_pair, view_size, view_word,
+    Link, full_record_size, next_word, own_view, pairs_word, plain_record_size, prev_of, prev_word,
+    record_block_word, value_of, value_word, view_len, view_of, view_pair, view_size, view_word,
 };
 pub use sizes::{SizeError, Sizes};
 pub use step::{Event, Step};

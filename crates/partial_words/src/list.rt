@@ -1,7 +1,7 @@
 //! The words of a list of vacated slots.
 
 ghost use Rattle.std.specs.Prelude.{◌≡◌, ◌+◌, ◌*◌, ◌^◌, ◌<◌, length, slice_index};
-ghost use Rattle.partial_words.specs.VacatedList.{list_block, list_size, high_word, list_len, interval};
+ghost use Rattle.partial_words.specs.VacatedList.{list_block, list_size, high_word, intervals_word, list_len, interval};
 
 use partial_intervals::Intervals;
 
@@ -11,6 +11,15 @@ pub fn list_size(intervals: u64) -> u64
     ensures { result ≡ list_size intervals }
 {
     1 + 2 * intervals
+}
+
+/// The number of the first word of the intervals of the list at word `at`.
+#[inline(always)]
+pub fn intervals_word(at: u32) -> u32
+    requires { intervals_word at < 2 ^ 32 }
+    ensures { result ≡ intervals_word at }
+{
+    at + 1
 }
 
 /// Word `k` of a list: the number of its intervals, then the lowest and the highest slot of each.

@@ -3,7 +3,7 @@
 
 ghost use Rattle.std.specs.Prelude.{◌≡◌, ◌+◌, ◌*◌, ◌^◌, ◌<◌, length, slice_index};
 ghost use Rattle.std.specs.List.{flat_map};
-ghost use Rattle.partial_words.specs.Record.{pair_words, record_block, view_size, plain_record_size, full_record_size, value_word, view_word, own_view, pair_value_word, prev_of, value_of, view_of, view_len, view_pair};
+ghost use Rattle.partial_words.specs.Record.{pair_words, record_block, view_size, plain_record_size, full_record_size, next_word, pairs_word, prev_word, value_word, view_word, own_view, pair_value_word, prev_of, value_of, view_of, view_len, view_pair};
 
 /// A record of a component's chain.
 #[derive(Clone, Copy, Debug, PartialEq, Eq)]
@@ -23,6 +23,15 @@ const VALUE: usize = 1;
 const VIEW: usize = 2;
 
 const OWN_VIEW: usize = 3;
+
+/// The number of the word of the record at word `at` that holds the reference of the record before it.
+#[inline(always)]
+pub fn prev_word(at: u64) -> u64
+    requires { own_view at < 2 ^ 64 }
+    ensures { result ≡ prev_word at }
+{
+    at + PREV as u64
+}
 
 /// The number of the word that holds the value of the record at word `at`.
 #[inline(always)]
@@ -49,6 +58,24 @@ pub fn own_view(at: u64) -> u64
     ensures { result ≡ own_view at }
 {
     at + OWN_VIEW as u64
+}
+
+/// The number of the first word of the pairs of the view at word `at`.
+#[inline(always)]
+pub fn pairs_word(at: u64) -> u64
+    requires { pairs_word at < 2 ^ 64 }
+    ensures { result ≡ pairs_word at }
+{
+    next_word(at)
+}
+
+/// The number of the word behind that one, of pairs or of indices that are read word by word.
+#[inline(always)]
+pub fn next_word(at: u64) -> u64
+    requires { next_word at < 2 ^ 64 }
+    ensures { result ≡ next_word at }
+{
+    at + 1
 }
 
 /// How many words a view of so many pairs has.

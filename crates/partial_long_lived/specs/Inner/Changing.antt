@@ -1,8 +1,9 @@
 -- What the parts of a change of epoch leave of a port.
 use Rattle.std.specs.Prelude.{ℕ, ◌≡◌, ◌≢◌, ◌+◌, ◌-◌, ◌*◌, ◌%◌, ◌<◌, ◌≤◌, ◌⊎◌, Bool, true, false, IfSome, List, [], Option, None, Some}
 use Rattle.partial_model.specs.declared.history.Applied.{Applied}
-use Rattle.partial_words.specs.Layout.{Layout, first_free, pool_base}
+use Rattle.partial_words.specs.Layout.{Layout, first_free, pool_base, initial_record}
 use Rattle.partial_words.specs.Chain.{opening_word}
+use Rattle.partial_words.specs.Record.{value_word, plain_record_size}
 use Rattle.partial_epochs.specs.Layout.{arena_limit, entering_mark, epoch_limit}
 use Rattle.partial_epochs.specs.Ports.{Owned}
 use Rattle.partial_epochs.specs.Ports.Entering.{Stands}
@@ -138,7 +139,7 @@ HasCleared x n Ended s = Owns s x × IsPast s
 -- v is what each opening has in word i, whatever its values are
 pub record IsSetting (z : Layout) (v i : ℕ) : Type 0 where
   pub within : i < first_free z
-  pub free : (i < pool_base z) ⊎ ((i - pool_base z) % 3 ≢ 1)
+  pub free : (i < pool_base z) ⊎ ((i - pool_base z) % plain_record_size ≢ value_word 0)
   pub is : v ≡ opening_word z [] i
 
 -- v is the value that has been found, and word i that of its initial record
@@ -146,7 +147,7 @@ pub record IsInitialValue (z : Layout) (found : Option Found) (v i : ℕ) : Type
   pub f : Found
   pub found_is : found ≡ Some f
   pub inside : f.component < z.m
-  pub at : i ≡ pool_base z + 3 * f.component + 1
+  pub at : i ≡ value_word (initial_record z f.component)
   pub is : v ≡ f.value
 
 -- v is the stamp that has been found, and word i that of the stamp that is carried

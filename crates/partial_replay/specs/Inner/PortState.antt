@@ -17,7 +17,7 @@ use Rattle.partial_words.specs.declared.step.Step.TheVariants.{Exchange}
 use Rattle.partial_words.specs.declared.step.Event.{Event}
 use Rattle.partial_words.specs.Layout.{Layout}
 use Rattle.partial_words.specs.Step.{word_of, answer_of, words_after}
-use Rattle.partial_words.specs.Record.{value_of}
+use Rattle.partial_words.specs.Record.{value_of, value_word}
 use Rattle.partial_machine.specs.declared.stage.Reply.{Reply}
 use Rattle.partial_machine.specs.declared.stage.Stage.TheVariants.{Idle}
 use Rattle.partial_machine.specs.Machine.{CoreState, at_stage, advance, fresh, step_of, reply_of}
@@ -149,7 +149,7 @@ pub record StepMade (calls : List Call) (words words' : List ℕ) (trace trace' 
 
 -- a record to be exchanged lies in the words
 abbrev pub IsExchangeWithin : ℕ → List ℕ → Step → Type 0
-IsExchangeWithin m words (Exchange j old at) = j < m → at + 1 < length words
+IsExchangeWithin m words (Exchange j old at) = j < m → value_word at < length words
 IsExchangeWithin m words _ = ⊤
 
 -- the call is a scan of components that are there, and each has a value

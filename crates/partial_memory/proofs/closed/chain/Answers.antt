@@ -19,17 +19,25 @@ word-value-requires c =
     let is = c.value_word.ensures in
     (omega (arith, within, same, is), c.requires.full.0)
 
+pub prev_word-requires : goal.prev_word-requires
+prev_word-requires c =
+    let within = (walked_within _ _ _ _ _ c.loop-at.invariant.walked c.loop-at-test.true c.requires.chain.1).0 in
+    let same = c.requires.count in
+    let small = c.requires.full.1 in
+    omega (arith, within, same, small)
+
 pub word-at-requires : goal.word-at-requires
 word-at-requires c =
     let within = (walked_within _ _ _ _ _ c.loop-at.invariant.walked c.loop-at-test.true c.requires.chain.1).0 in
     let same = c.requires.count in
-    (omega (arith, within, same), c.requires.full.0)
+    let is = c.prev_word.ensures in
+    (omega (arith, within, same, is), c.requires.full.0)
 
 pub loop-at-preserved : goal.loop-at-preserved
 loop-at-preserved c =
     let words = slots_items c.args.words.now.words in
     let value = sym (elem_or words c.value_word.result _ c.word-value.ensures) ∙ ap (λ k. get_or words k 0) c.value_word.ensures in
-    let prev = elem_or words c.loop-at.at _ c.word-at.ensures in
+    let prev = sym (ap (λ k. get_or words k 0) c.prev_word.ensures) ∙ elem_or words c.prev_word.result _ c.word-at.ensures in
     let more = walked_more words _ _ _ (record { stamp = c.loop-at.at; value = c.word-value.result }) c.loop-at.invariant.walked c.loop-at-test.true refl value in
     record { walked = subst (λ l. Walked words c.args.newest l c.word-at.result) (sym c.in_ok-push.ensures.items) (subst (Walked words c.args.newest _) prev more) }
 
